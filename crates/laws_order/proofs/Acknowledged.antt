@@ -1,5 +1,5 @@
 -- How many contents an observer has counted as acknowledged is V(A) of the link, while that is in state 7 or 8.
-use Rattle.laws_order.proofs.Vocabulary.{◌≡◌, ℕ, ◌+◌, ◌-◌, ◌%◌, ◌<◌, ◌≤◌, ◌==◌, ◌&&◌, ◌||◌, not, Bool, true, false, cond, List, [], ◌∷◌, ◌++◌, get_or, Option, Some, None, refl, sym, ap, ◌∙◌, subst, arith, eq-eqb, eqb-true, and_parts, append-nil, append_assoc, true≢false, all-left, nowhere, get_or-replicate, ◌⊎◌, inl, inr, fold, list_any, get_or-set_same, fold-append, Control, Sabme, Disc, Ua, Dm, Frmr, Parts, Service, place_of-is, State, TeiAssigned, AwaitingEstablishment, AwaitingRelease, Established, TimerRecovery, Terms, received, overlong, cleared, Link, is_multiple_frame, Config, IsInRange, Answer, refused, PoolFull, Line, fresh_line, link_of, place_in, terms, terms_in_range, line_at, has_lines, by_room, is_overlong, is_faulty, by_frame, state_after, event-follows, after, Goes, event-goes, off-fresh, fresh, at, Tally, no_tally, tallies, tally_of}
+use Rattle.laws_order.proofs.Vocabulary.{◌≡◌, ℕ, ◌+◌, ◌-◌, ◌%◌, ◌<◌, ◌≤◌, ◌==◌, ◌&&◌, ◌||◌, not, Bool, true, false, cond, List, [], ◌∷◌, ◌++◌, get_or, Option, Some, None, refl, sym, ap, ◌∙◌, subst, arith, eq-eqb, eqb-true, and_parts, append-nil, append_assoc, true≢false, all-left, nowhere, get_or-replicate, ◌⊎◌, inl, inr, fold, list_any, get_or-set_same, fold-append, Control, Parts, Service, place_of-is, State, AwaitingEstablishment, Terms, received, overlong, Link, is_multiple_frame, Config, IsInRange, Answer, refused, PoolFull, Line, fresh_line, link_of, place_in, terms, terms_in_range, line_at, has_lines, by_room, is_overlong, by_frame, state_after, event-follows, after, Goes, event-goes, off-fresh, fresh, at, Tally, no_tally, tallies, tally_of}
 use Rattle.model_link.specs.Deliveries.{restarts}
 use Rattle.model_link.specs.Events as link
 use Rattle.model_link.specs.Events.{frame}
@@ -31,7 +31,7 @@ use Rattle.laws_trace.proofs.SeenAs.{IsSeenAs, seen-before, up-number}
 use Rattle.laws_trace.proofs.TimersAreTimely.{config-now, sound-now}
 use Rattle.laws_trace.proofs.WaitedBegins.{moments-both, after-both}
 use Rattle.laws_trace.specs.News.{brings, is_sabme}
-use Rattle.laws_trace.specs.Observer.{View, at_first, steps, views, view_of}
+use Rattle.laws_trace.specs.Observer.{View, steps, views, view_of}
 use Rattle.laws_trace.specs.Trace.{is_up}
 use Rattle.laws_order.proofs.Down.{stays-down}
 
@@ -47,31 +47,7 @@ Begins here ct to =
     ((states.is_sabme ct && state_number to == 7) || ((states.is_agreement ct && states.comes_to 7 here to) || false)) ≡ (not (up_in here) || is_sabme ct)
 
 by-frame : (here : State) (command : Bool) (ct : Control) → Begins here ct (by_frame here command ct)
-by-frame TeiAssigned command (Sabme p) up = refl
-by-frame TeiAssigned command other up = absurd (true≢false (sym up))
-by-frame AwaitingEstablishment command (Ua true) up = refl
-by-frame AwaitingEstablishment command (Ua false) up = absurd (true≢false (sym up))
-by-frame AwaitingEstablishment command (Dm true) up = absurd (true≢false (sym up))
-by-frame AwaitingEstablishment command (Dm false) up = absurd (true≢false (sym up))
-by-frame AwaitingEstablishment command other up = absurd (true≢false (sym up))
-by-frame AwaitingRelease command (Ua true) up = absurd (true≢false (sym up))
-by-frame AwaitingRelease command (Ua false) up = absurd (true≢false (sym up))
-by-frame AwaitingRelease command (Dm true) up = absurd (true≢false (sym up))
-by-frame AwaitingRelease command (Dm false) up = absurd (true≢false (sym up))
-by-frame AwaitingRelease command other up = absurd (true≢false (sym up))
-by-frame Established command (Disc p) up = absurd (true≢false (sym up))
-by-frame Established command (Dm true) up = refl
-by-frame Established command (Dm false) up = absurd (true≢false (sym up))
-by-frame Established command (Frmr f) up = absurd (true≢false (sym up))
-by-frame Established command (Ua true) up = refl
-by-frame Established command (Ua false) up = refl
-by-frame Established command other up = refl
-by-frame TimerRecovery command (Disc p) up = absurd (true≢false (sym up))
-by-frame TimerRecovery command (Dm f) up = absurd (true≢false (sym up))
-by-frame TimerRecovery command (Frmr f) up = absurd (true≢false (sym up))
-by-frame TimerRecovery command (Ua true) up = refl
-by-frame TimerRecovery command (Ua false) up = refl
-by-frame TimerRecovery command other up = refl
+by-frame here command ct up = grind arith
 
 -- V(A) goes on in states 7 and 8, and else begins with 0.
 abbrev pub gone_on : Bool → Link → Link → ℕ
@@ -88,8 +64,7 @@ module _ (t : Terms) (k : Link) where
   Stays e = up_in (after t e k).state ≡ true → restarts t e k ≡ (not (up_in k.state) || sabme_of e)
 
   too-long : (u : Bool) → up_in k.state ≡ u → up_in (cond (u && true) AwaitingEstablishment k.state) ≡ true → ⊥
-  too-long true was up = true≢false (sym up)
-  too-long false was up = true≢false (sym up ∙ was)
+  too-long u was up = grind arith
 
   frame-begins : (f : Parts) → Stays (received (frame f))
   frame-begins f up =
@@ -101,26 +76,20 @@ module _ (t : Terms) (k : Link) where
       to = by_frame k.state f.address.command f.control
 
       by-fault : (b : Bool) → Begins k.state f.control (cond b AwaitingEstablishment to)
-      by-fault true up = absurd (true≢false (sym up))
-      by-fault false up = by-frame k.state f.address.command f.control up
+      by-fault b up = grind (arith, by-frame)
 
       by-length : (long : Bool) → let e = received (cond long overlong (frame f)) in
           up_in (state_after t e k) ≡ true → states.numbers_begin e k.state (state_after t e k) ≡ (not (up_in k.state) || is_sabme f.control)
-      by-length true up = absurd (too-long (up_in k.state) refl up)
-      by-length false up = by-fault (up_in k.state && is_faulty (frame f) k) up
+      by-length long up = grind (arith, too-long, by-fault, k)
 
   other-begins : (e : link.Event) → (up_in k.state ≡ false → up_in (after t e k).state ≡ false) → (restarts t e k ≡ true → ⊥) → sabme_of e ≡ false → Stays e
   other-begins e down never none up = go (up_in k.state) refl (restarts t e k) refl
     where
       go : (u : Bool) → up_in k.state ≡ u → (b : Bool) → restarts t e k ≡ b → b ≡ (not u || sabme_of e)
-      go false was b is = absurd (true≢false (sym up ∙ down was))
-      go true was true is = absurd (never is)
-      go true was false is = sym none
+      go u was b is = grind arith
 
   begins : (e : link.Event) → Stays e
-  begins (received (frame f)) up = frame-begins f up
-  begins cleared up = absurd (true≢false (sym up ∙ ap is_multiple_frame (event-follows t cleared k).leaves.state))
-  begins other up = other-begins other (λ down. stays-down t k down other tt) (establishes t k other) refl up
+  begins e up = grind (arith, frame-begins, event-follows, k, other-begins, stays-down, establishes)
 
   module _ (s : IsSound t k) (small : t.k ≤ 127) (e : link.Event) where
     abbrev next : Link
@@ -138,11 +107,7 @@ module _ (t : Terms) (k : Link) where
         is b so = (event-done t k s e).comes.acknowledged ∙ ap (λ b. a_by b (empties t e k)) (begins e up ∙ so)
 
         on : (empty : Bool) → next.a ≡ a_by false empty → next.a ≡ k.a + steps (k.a % 128) (next.a % 128)
-        on true still = let same : next.a ≡ k.a = still in stepped k.a next.a 0 (omega (arith, same)) (omega arith)
-        on false went =
-            let few : k.a + acknowledged t e k ≤ k.s = acknowledged-went t e k s.ordered in
-            let window : k.s ≤ k.a + t.k = s.within in
-            stepped k.a next.a (acknowledged t e k) went (omega (arith, few, window, small))
+        on empty still = grind (arith, stepped, k, acknowledged-went)
 
         go : (u : Bool) → up_in k.state ≡ u → (z : Bool) → sabme_of e ≡ z → next.a ≡ cond (u && not z) (k.a + steps (k.a % 128) (next.a % 128)) 0
         go false was z anew = is true (ap (λ u. not u || sabme_of e) was)
@@ -154,9 +119,7 @@ still-goes : (k : Link) → up_in k.state ≡ true → k.a ≡ gone_on false k k
 still-goes k up = stepped k.a k.a 0 (omega arith) (omega arith) ∙ sym (ap (λ u. cond (u && true) (k.a + steps (k.a % 128) (k.a % 128)) 0) up)
 
 same-goes : (k x : Link) (anew : Bool) → x ≡ k → anew ≡ false → up_in x.state ≡ true → x.a ≡ gone_on anew k x
-same-goes k x anew is none up =
-    subst (λ y. y.a ≡ gone_on anew k y) (sym is)
-    (still-goes k (sym (ap (λ (y : Link). up_in y.state) is) ∙ up) ∙ ap (λ b. gone_on b k k) (sym none))
+same-goes k x anew is none up = grind (arith, still-goes)
 
 -- ---- a line, and a card
 
@@ -231,15 +194,11 @@ module _ (c : Config) (number : ℕ) (ranged : IsInRange c) (within : number < c
 
   then-is : (before : List Event) (e : Event) → tally_of c service tei number (before ++ e ∷ []) ≡ tallies c service tei number (tally_of c service tei number before) (with_event before e)
   unfolding moments
-  then-is before e =
-      ap (fold (tallies c service tei number) no_tally) (moments-both (cards.fresh c) before (e ∷ []))
-      ∙ fold-append (tallies c service tei number) no_tally (moments (cards.fresh c) before) (with_event before e ∷ [])
+  then-is before e = grind (arith, moments-both, fold-append)
 
   view-then : (before : List Event) (e : Event) → view_of c service tei number (before ++ e ∷ []) ≡ views c service tei number (view_of c service tei number before) (with_event before e)
   unfolding moments
-  view-then before e =
-      ap (fold (views c service tei number) at_first) (moments-both (cards.fresh c) before (e ∷ []))
-      ∙ fold-append (views c service tei number) at_first (moments (cards.fresh c) before) (with_event before e ∷ [])
+  view-then before e = grind (arith, moments-both, fold-append)
 
   line-then : (before : List Event) (e : Event) → its_link (before ++ e ∷ []) ≡ link_of service tei (line_at number (machine.after e (after_all (cards.fresh c) before)))
   unfolding after_all

@@ -1,5 +1,5 @@
 -- Two ends that are in step to whoever watches them face each other as links do.
-use Rattle.laws_order.proofs.Vocabulary.{is_some, has_tei, on-line, LineTold, ◌≡◌, ℕ, zero, suc, ◌+◌, ◌-◌, ◌<◌, ◌≤◌, ◌==◌, true, false, IsTrue, List, [], ◌∷◌, ◌++◌, map, length, take, drop, slice_get, Option, Some, None, refl, sym, ap, ◌∙◌, subst, arith, length-drop, true≢false, All-append, All-cons, All-nil, option_map, option_map_or, unwrap_or, Control, Information, ReceiveReady, ReceiveNotReady, Reject, Service, Parts, ControlFrame, State, TeiAssigned, AwaitingRelease, Terms, T200, Link, is_multiple_frame, frame_of, state_number, Direction, frames_of, Carried, Means, Piece, Rising, Config, IsInRange, Line, link_in, link_of, place_in, terms, line_at, fresh_is_sound, frames_always_sound, Station, Wire, Act, requests, times_out, gives, takes, loses, turned, happens, Doing, station, assigned, calling, came, hears, expiry, request, next, Assign, Event, at, state_here, of_link_on, Past, Known, known, said_by, IsOfStep, AreOfStep, IsInStep, FaceInStep, kept_by}
+use Rattle.laws_order.proofs.Vocabulary.{is_some, has_tei, on-line, LineTold, ◌≡◌, ℕ, zero, suc, ◌+◌, ◌-◌, ◌<◌, ◌≤◌, ◌==◌, true, false, IsTrue, List, [], ◌∷◌, ◌++◌, map, length, take, drop, slice_get, Option, Some, None, refl, sym, ap, ◌∙◌, subst, arith, length-drop, true≢false, All-append, All-cons, All-nil, option_map, option_map_or, unwrap_or, Control, Service, Parts, ControlFrame, State, TeiAssigned, AwaitingRelease, Terms, T200, Link, is_multiple_frame, frame_of, state_number, Direction, frames_of, Carried, Means, Piece, Rising, Config, IsInRange, Line, link_in, link_of, place_in, terms, line_at, fresh_is_sound, frames_always_sound, Station, Wire, Act, requests, times_out, gives, takes, loses, turned, happens, Doing, station, assigned, calling, came, hears, expiry, request, next, Assign, Event, at, state_here, of_link_on, Past, Known, known, said_by, IsOfStep, AreOfStep, IsInStep, FaceInStep, kept_by}
 use Rattle.std.proofs.lemmas.List.{length-take}
 use Rattle.std.specs.Prelude.{min}
 use Rattle.std.proofs.lemmas.List.{drop-drop}
@@ -133,9 +133,7 @@ module _ (service : Service) (tei : ℕ) where
           ∙ all-wait c p.events s.line p.line.0 p.at_lines p.line.1 service tei placed.0 placed.1
 
   pub known-is : (s : Station) (p : Past s) → is_multiple_frame (link_here service tei s).state ≡ true → known service tei s p ≡ known_of (link_here service tei s)
-  known-is s p up =
-      subst (λ card. known service tei s p ≡ known_of (link_of service tei (line_at s.line card))) (sym p.is)
-      (line-known s p (subst (λ card. is_multiple_frame (link_of service tei (line_at s.line card)).state ≡ true) p.is up))
+  known-is s p up = grind (arith, line-known)
 
   -- what `Card::state` tells
   pub up-here : (s : Station) → option_map_or is_up (state_here service tei s) false ≡ is_multiple_frame (link_here service tei s).state
@@ -143,16 +141,13 @@ module _ (service : Service) (tei : ℕ) where
     where
       go : (o : Option ℕ) → let l = line_at s.line s.card in
           option_map_or is_up (option_map (state_in l service) o) false ≡ is_multiple_frame (option_map_or (link_in l service) o fresh_link).state
-      go None = refl
-      go (Some place) = up-number (link_in (line_at s.line s.card) service place).state
+      go o = grind (arith, up-number)
 
   six-is : (state : State) → (state_number state == 6) ≡ true → state ≡ AwaitingRelease
-  six-is AwaitingRelease e = refl
-  six-is other e = absurd (true≢false (sym e))
+  six-is state e = grind arith
 
   four-is : (state : State) → (state_number state == 4) ≡ true → state ≡ TeiAssigned
-  four-is TeiAssigned e = refl
-  four-is other e = absurd (true≢false (sym e))
+  four-is state e = grind arith
 
   pub six-here : (s : Station) → state_here service tei s ≡ Some 6 → (link_here service tei s).state ≡ AwaitingRelease
   six-here s = go (place_in (line_at s.line s.card) tei)
@@ -207,30 +202,14 @@ some-kept r a k kept low = let size : length (take k kept) ≡ min k (length kep
 
 module _ (k : ℕ) (l : Link) (small : k ≤ 127) where
   piece-of : (r m : ℕ) → m ≤ l.a + k → (octets : List ℕ) (control : Control) → IsOfStep k (known_of l) r octets control → Piece l.contents (l.a + k) m (l.a + k) octets control
-  piece-of r m high octets (Information ns nr p) h =
-      let x = h.0 in
-      let place = x.0 in
-      let inside : place < k = x.2 in
-      record {
-        number = l.a + place;
-        is_seq = x.1;
-        near = omega (arith, small, high);
-        below = omega (arith, inside);
-        same = sym (get-dropped l.a l.contents place) ∙ x.3;
-        next = omega (arith, inside);
-      }
-  piece-of r m high octets (ReceiveReady nr pf) h = tt
-  piece-of r m high octets (ReceiveNotReady nr pf) h = tt
-  piece-of r m high octets (Reject nr pf) h = tt
-  piece-of r m high octets other h = h
+  piece-of r m high octets control h = grind (arith, get-dropped)
 
   carried-of : (low m : ℕ) → m ≤ l.a + k → (fs : List Parts) → AreOfStep k (known_of l) low fs → Carried l.contents (l.a + k) m fs
   carried-of low m high [] h = high
   carried-of low m high (f ∷ fs) (r, up, x, h) = (l.a + k, high, piece-of r m high f.info f.control x, carried-of r (l.a + k) (omega arith) fs h)
 
 means-of : (k : ℕ) (n : Known) (r : ℕ) (octets : List ℕ) (control : Control) → IsOfStep k n r octets control → Means r control
-means-of k n r octets (Information ns nr p) h = h.1
-means-of k n r octets other h = h
+means-of k n r octets control h = grind arith
 
 rising-of : (k : ℕ) (n : Known) (low : ℕ) (fs : List Parts) → AreOfStep k n low fs → Rising low n.told fs
 rising-of k n low [] h = h

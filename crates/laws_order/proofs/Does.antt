@@ -1,11 +1,10 @@
 -- What an event of a line is to the link of a service with a TEI that is in state 7 or 8.
-use Rattle.laws_order.proofs.Vocabulary.{◌≡◌, ℕ, ◌==◌, ◌&&◌, ◌||◌, not, Bool, true, false, cond, IsTrue, List, [], ◌∷◌, ◌++◌, Option, Some, None, Ok, refl, sym, ap, ◌∙◌, subst, eq-eqb, true≢false, ◌⊎◌, inl, inr, All, fold, is_some, option_to_list, unwrap_or, list_any, option_or, option_map_or, All-head, All-tail, Ui, Note, Service, Parts, reading, sapi_of, information_of, State, Established, TimerRecovery, Terms, Link, is_multiple_frame, address_at, Config, hears, expiry, request, next, Answer, heard_side, Line, link_in, link_of, place_in, terms, aim_of, refusal, accepted, is_up, is_up_in, notes_of, contents_in, up_by_note, link_is_up, is_up_of, of_link, is_granted, IsBy, timer_of, link-grants, not-refused, same-sapi, sapi-is, known-up, data_asked, is_for, frame_in, is_own, seen, is_ui, unless, granted-data, data-noted, no-data, frames_given, is_at_link, HasOne, IsForeign, HasNone, event-goes, read-again, frames_by, fresh, Event, is_of_link, of_link_in, data_noted, data_granted, ends_by_note, ends_by, of_link_on}
+use Rattle.laws_order.proofs.Vocabulary.{arith, ◌≡◌, ℕ, ◌==◌, ◌&&◌, ◌||◌, not, Bool, true, false, cond, IsTrue, List, [], ◌∷◌, ◌++◌, Option, Ok, refl, sym, ap, ◌∙◌, subst, eq-eqb, true≢false, ◌⊎◌, inl, inr, All, fold, is_some, option_to_list, unwrap_or, list_any, option_or, option_map_or, All-head, All-tail, Ui, Note, Service, Parts, reading, sapi_of, information_of, State, Terms, Link, is_multiple_frame, address_at, Config, hears, expiry, request, next, Answer, heard_side, Line, link_in, link_of, terms, aim_of, accepted, is_up_in, notes_of, contents_in, up_by_note, link_is_up, is_up_of, of_link, is_granted, IsBy, timer_of, link-grants, not-refused, same-sapi, sapi-is, known-up, is_for, frame_in, is_own, seen, is_ui, unless, granted-data, data-noted, no-data, frames_given, is_at_link, HasOne, IsForeign, HasNone, event-goes, read-again, frames_by, fresh, Event, is_of_link, of_link_in, data_noted, data_granted, ends_by_note, ends_by, of_link_on}
 use Rattle.laws_trace.proofs.DataAsked.{elsewhere}
 use Rattle.model_bits.specs.Stream as stream
 use Rattle.lapd_frame.specs.declared.notes.Note.TheVariants as notes
 use Rattle.model_link.specs.Events as link
 use Rattle.model_link.specs.Machine as links
-use Rattle.model_link.specs.Requests as requests
 use Rattle.model_line.specs.Machine as lines
 use Rattle.model_line.specs.Request.{Data}
 use Rattle.model_line.specs.Sound as line_sound
@@ -18,12 +17,10 @@ module _ (service : Service) (tei : ℕ) where
   Falls up ns = fold (up_by_note service tei) up ns ≡ false → up ≡ true → list_any (ends_by_note service tei) ns ≡ true
 
   up-on : (own : Bool) (ns : List Note) → Falls true ns → fold (up_by_note service tei) (cond own true true) ns ≡ false → (own || list_any (ends_by_note service tei) ns) ≡ true
-  up-on true ns rest h = refl
-  up-on false ns rest h = rest h refl
+  up-on own ns rest h = grind arith
 
   down-on : (own : Bool) (ns : List Note) → Falls true ns → fold (up_by_note service tei) (cond own false true) ns ≡ false → (own || list_any (ends_by_note service tei) ns) ≡ true
-  down-on true ns rest h = refl
-  down-on false ns rest h = rest h refl
+  down-on own ns rest h = grind arith
 
   behind : (b : Bool) (ns : List Note) → list_any (ends_by_note service tei) ns ≡ true → (b || list_any (ends_by_note service tei) ns) ≡ true
   behind b ns h = ap (λ x. b || x) h ∙ or-true b
@@ -44,22 +41,17 @@ module _ (service : Service) (tei : ℕ) where
 
   -- a link in state 7 or 8 is up, and one that begins is not
   state-up : (state : State) (k : Link) → is_multiple_frame state ≡ true → is_up_in state k ≡ true
-  state-up Established k up = refl
-  state-up TimerRecovery k up = refl
-  state-up other k up = absurd (true≢false (sym up))
+  state-up state k up = grind arith
 
   was-up : (l : Line) (o : Option ℕ) → is_multiple_frame (option_map_or (link_in l service) o fresh).state ≡ true → option_map_or (link_is_up service l) o false ≡ true
-  was-up l None up = absurd (true≢false (sym up))
-  was-up l (Some place) up = state-up (link_in l service place).state (link_in l service place) up
+  was-up l o up = grind (arith, state-up)
 
   is-down : (l : Line) (o : Option ℕ) → option_map_or (link_in l service) o fresh ≡ fresh → option_map_or (link_is_up service l) o false ≡ false
-  is-down l None new = refl
-  is-down l (Some place) new = ap is_up new
+  is-down l o new = grind arith
 
   pub fresh-ends : (l l' : Line) (ns : List Note) → is_multiple_frame (link_of service tei l).state ≡ true → link_of service tei l' ≡ fresh
       → fold (up_by_note service tei) (is_up_of service tei l) ns ≡ is_up_of service tei l' → list_any (ends_by_note service tei) ns ≡ true
-  fresh-ends l l' ns up new known =
-      falls ns (ap (λ b. fold (up_by_note service tei) b ns) (sym (was-up l (place_in l tei) up)) ∙ known ∙ is-down l' (place_in l' tei) new) refl
+  fresh-ends l l' ns up new known = grind (arith, falls, was-up, is-down)
 
 module _ (c : Config) (service : Service) (tei : ℕ) where
   abbrev pub Own : Terms
@@ -67,8 +59,7 @@ module _ (c : Config) (service : Service) (tei : ℕ) where
 
   -- Frames of other links and of TEI management, and unit data, are none of the link.
   unit-none : (b : Bool) (f : Parts) → cond {A = List Parts} (b && false) (f ∷ []) [] ≡ []
-  unit-none true f = refl
-  unit-none false f = refl
+  unit-none b f = grind arith
 
   foreign : (frame : List ℕ) → IsForeign c service tei frame → of_link_in service tei (reading c.side frame) ≡ []
   foreign frame (inl x) =
@@ -153,8 +144,7 @@ module _ (c : Config) (service : Service) (tei : ℕ) where
 
   -- what is delivered is told
   by-delivered : (d u o : Option (List ℕ)) → o ≡ option_or d u → cond (is_some d) (option_to_list o) [] ≡ option_to_list d
-  by-delivered None u o e = refl
-  by-delivered (Some x) u o e = ap option_to_list e
+  by-delivered d u o e = grind (arith, option_to_list)
 
   module _ (ranged : line_sound.IsInRange c) (l : Line) (s : line_sound.IsSound c l) (e : Event) (up : IsTrue (is_multiple_frame (link_of service tei l).state)) where
     abbrev a : Answer
@@ -168,12 +158,7 @@ module _ (c : Config) (service : Service) (tei : ℕ) where
 
     -- no event of the link
     asked-none : (e : Event) → is_at_link service tei (aim_of c e l) ≡ false → asked_in service tei e (lines.answer c e l) ≡ []
-    asked-none (request r) away = go (is_granted (lines.answer c (request r) l)) refl
-      where
-        go : (b : Bool) → is_granted (lines.answer c (request r) l) ≡ b → cond b (data_asked service tei r) [] ≡ []
-        go true g = elsewhere c l service tei r g away
-        go false g = refl
-    asked-none other away = refl
+    asked-none e away = grind (arith, elsewhere)
 
     ended-does : k' ≡ fresh → Does k k' e a
     ended-does new = inl (
@@ -208,31 +193,10 @@ module _ (c : Config) (service : Service) (tei : ℕ) where
       state-one ev is = ap (λ (y : Link). y.state) (x.is ∙ ap (λ ev. links.after Own ev k) is)
 
       fallen-one : (ev : link.Event) → x.event ≡ ev → Fallen Own ev k → Does k k' e a
-      fallen-one ev is h = inl (
-        ends-one (subst (λ ev. Ended Own (links.told Own ev k).notes) (sym is) h.0),
-        ap is_multiple_frame (state-one ev is) ∙ h.1,
-      )
+      fallen-one ev is h = grind (arith, ends-one, Ended, state-one)
 
       granted-one : (ev : link.Event) → IsBy c e a service tei ev → IsKind e ev → asked_in service tei e a ≡ accepted Own ev k
-      granted-one (link.received (link.frame f)) by kind = ap (λ e'. asked_in service tei e' a) kind.1
-      granted-one (link.expired timer) by kind = ap (λ e'. asked_in service tei e' a) kind
-      granted-one link.offer by kind = ap (λ e'. asked_in service tei e' a) kind
-      granted-one (link.requested asked full) by kind =
-          ap (λ e'. asked_in service tei e' a) kind
-          ∙ ap (λ b. cond b (data_asked service tei (of_link service tei asked)) []) by.1
-          ∙ sym (granted-data service tei Own k full asked room)
-        where
-          its : k ≡ link_in l service x.place
-          its = ap (λ o. option_map_or (link_in l service) o fresh) x.placed
-
-          room : (contents : List ℕ) → asked ≡ link.Data contents → requests.refusal Own k full (link.Data contents) ≡ None
-          room contents is =
-              let named : e ≡ request (Data service tei contents) = kind ∙ ap (λ r. request (of_link service tei r)) is in
-              let none : refusal c false (Data service tei contents) l ≡ None =
-              not-refused c (Data service tei contents) l (subst (λ e'. is_granted (lines.answer c e' l) ≡ true) named by.1) in
-              ap (λ b. requests.refusal Own k b (link.Data contents)) by.2 ∙ ap (λ y. requests.refusal Own y false (link.Data contents)) its
-              ∙ link-grants c service tei x.place contents l x.placed none
-      granted-one other by kind = absurd kind
+      granted-one ev by kind = grind (arith, asked_in, granted-data, not-refused, link-grants)
 
       malformed-one : (x.event ≡ link.received link.undefined) ⊎ (x.event ≡ link.received link.wrong_size) ⊎ (x.event ≡ link.received link.overlong) → Does k k' e a
       malformed-one (inl is) = fallen-one (link.received link.undefined) is (undefined-falls Own k up)
@@ -257,14 +221,7 @@ module _ (c : Config) (service : Service) (tei : ℕ) where
           }))
 
       unit-one : (f : Parts) → x.event ≡ link.received (link.frame f) → is_ui f.control ≡ true → (octets : List ℕ) → e ≡ hears (stream.frame octets) → Does k k' e a
-      unit-one f is ui octets heard =
-          let y = unit-data-stays Own k f ui in
-          inr (inl (record {
-            is = x.is ∙ ap (λ ev. links.after Own ev k) is ∙ y.0;
-            noted = noted-one ∙ ap (λ ev. option_to_list (links.told Own ev k).delivered) is ∙ ap option_to_list y.1;
-            granted = granted-is service tei e a ∙ ap (λ e'. asked_in service tei e' a) heard;
-            frames = ap (of_link_on service tei c.side) (same-frames a ∙ x.begins ∙ ap (λ ev. frames_given c Own ev k) is);
-          }))
+      unit-one f is ui octets heard = grind (arith, unit-data-stays, noted-one, option_to_list, granted-is, asked_in, same-frames, frames_given)
 
       release-one : (full : Bool) → x.event ≡ link.requested link.Release full → e ≡ request (of_link service tei link.Release) → is_granted a ≡ true → Does k k' e a
       release-one full asked is g = inl (

@@ -169,8 +169,7 @@ releases-are-told service tei w hs p is all quiet many = go (releases-end servic
       where
         too-few : Bounded service tei (t200s service tei hs w) (link_here service tei w.near).repeats (terms w.near.card.config service tei).n200
             → IsToldAtLast service tei (news service tei (seen_near hs w))
-        too-few (inl zero) = absurd (omega (arith, many, zero))
-        too-few (inr low) = absurd (omega (arith, many, low))
+        too-few o = grind arith
     go (inr told) = told
 
 pub both-are-told : BothAreTold

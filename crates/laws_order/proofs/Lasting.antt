@@ -1,5 +1,5 @@
 -- Two cards of which one end, the far one, lasts in its establishment, whatever has become of the near one's: what goes to it.
-use Rattle.laws_order.proofs.Vocabulary.{◌≡◌, ℕ, zero, suc, ◌+◌, ◌<◌, ◌≤◌, false, List, [], ◌∷◌, ◌++◌, length, take, Option, Some, None, refl, sym, ap, ◌∙◌, arith, append-nil, inl, inr, slice_get, option_to_list, slice_get_within, Control, Information, ReceiveReady, ReceiveNotReady, Reject, Sabme, Disc, Ui, Ua, Dm, Frmr, Xid, Parts, carries-next, Carries, Piece, Carried, Means, Rising, Advance, HasNumber, is_ui}
+use Rattle.laws_order.proofs.Vocabulary.{◌≡◌, ℕ, zero, suc, ◌+◌, ◌<◌, ◌≤◌, false, List, [], ◌∷◌, ◌++◌, length, take, Option, Some, None, refl, sym, ap, ◌∙◌, arith, append-nil, inl, inr, slice_get, option_to_list, slice_get_within, Control, Information, ReceiveReady, ReceiveNotReady, Reject, Sabme, Disc, Parts, carries-next, Carries, Piece, Carried, Means, Rising, Advance, HasNumber, is_ui}
 use Rattle.laws_order.proofs.Down.{Speaks, Unheeded}
 use Rattle.laws_order.proofs.Putting.{Each, Answered, Reporting}
 
@@ -19,41 +19,20 @@ pub speaks-report : Reporting Speaks
 speaks-report = record { ready = λ nr pf. tt; not_ready = λ nr pf. tt; reject = λ nr pf. tt }
 
 pub calls-plain : (control : Control) → Calls control → is_ui control ≡ false
-calls-plain (ReceiveReady nr pf) h = refl
-calls-plain (ReceiveNotReady nr pf) h = refl
-calls-plain (Reject nr pf) h = refl
-calls-plain (Sabme p) h = refl
-calls-plain (Disc p) h = refl
-calls-plain other h = absurd h
+calls-plain control h = grind arith
 
 pub speaks-plain : (control : Control) → Speaks control → is_ui control ≡ false
-speaks-plain (Information ns nr p) h = refl
-speaks-plain (ReceiveReady nr pf) h = refl
-speaks-plain (ReceiveNotReady nr pf) h = refl
-speaks-plain (Reject nr pf) h = refl
-speaks-plain other h = absurd h
+speaks-plain control h = grind arith
 
 -- What speaks is answered by reports alone, and is not heeded by a link in states 4 to 6.
 pub speaks-answered : (P : Control → Type 0) (control : Control) → Speaks control → Answered P control
-speaks-answered P (Information ns nr p) h = tt
-speaks-answered P (ReceiveReady nr pf) h = tt
-speaks-answered P (ReceiveNotReady nr pf) h = tt
-speaks-answered P (Reject nr pf) h = tt
-speaks-answered P other h = absurd h
+speaks-answered P control h = grind arith
 
 pub speaks-unheeded : (control : Control) → Speaks control → Unheeded control
-speaks-unheeded (Information ns nr p) h = tt
-speaks-unheeded (ReceiveReady nr pf) h = tt
-speaks-unheeded (ReceiveNotReady nr pf) h = tt
-speaks-unheeded (Reject nr pf) h = tt
-speaks-unheeded other h = absurd h
+speaks-unheeded control h = grind arith
 
 means-speaks : (m : ℕ) (control : Control) → Means m control → Speaks control
-means-speaks m (Information ns nr p) h = tt
-means-speaks m (ReceiveReady nr pf) h = tt
-means-speaks m (ReceiveNotReady nr pf) h = tt
-means-speaks m (Reject nr pf) h = tt
-means-speaks m other h = absurd h
+means-speaks m control h = grind arith
 
 pub rising-speaks : (a r : ℕ) (fs : List Parts) → Rising a r fs → Each Speaks fs
 rising-speaks a r [] h = tt
@@ -75,25 +54,14 @@ Brought contents high r (f ∷ fs) = (top : ℕ) × (r ≤ top) × Brings conten
 
 module _ (contents : List (List ℕ)) (high : ℕ) where
   piece-brings : (r top : ℕ) (octets : List ℕ) (control : Control) → Piece contents high r top octets control → Brings contents high r top octets control
-  piece-brings r top octets (Information ns nr p) h = h
-  piece-brings r top octets (ReceiveReady nr pf) h = tt
-  piece-brings r top octets (ReceiveNotReady nr pf) h = tt
-  piece-brings r top octets (Reject nr pf) h = tt
-  piece-brings r top octets other h = absurd h
+  piece-brings r top octets control h = grind arith
 
   pub carried-brought : (r : ℕ) (fs : List Parts) → Carried contents high r fs → Brought contents high r fs
   carried-brought r [] h = tt
   carried-brought r (f ∷ fs) (top, up, piece, h) = (top, up, piece-brings r top f.info f.control piece, carried-brought top fs h)
 
   brings-lower : (r r' top : ℕ) (octets : List ℕ) (control : Control) → r' ≤ r → Brings contents high r top octets control → Brings contents high r' top octets control
-  brings-lower r r' top octets (Information ns nr p) le h =
-      record { number = h.number; is_seq = h.is_seq; near = omega (arith, h.near); below = h.below; same = h.same; next = h.next }
-  brings-lower r r' top octets (Ui p) le h = absurd h
-  brings-lower r r' top octets (Ua f) le h = absurd h
-  brings-lower r r' top octets (Dm f) le h = absurd h
-  brings-lower r r' top octets (Frmr f) le h = absurd h
-  brings-lower r r' top octets (Xid pf) le h = absurd h
-  brings-lower r r' top octets other le h = tt
+  brings-lower r r' top octets control le h = grind arith
 
   pub brought-lower : (r r' : ℕ) (fs : List Parts) → r' ≤ r → Brought contents high r fs → Brought contents high r' fs
   brought-lower r r' [] le h = tt
@@ -107,12 +75,7 @@ module _ (contents : List (List ℕ)) (high : ℕ) where
   brought-front r (f ∷ fs) gs (top, up, piece, h) = (top, up, piece, brought-front top fs gs h)
 
   calls-brings : (r top : ℕ) (octets : List ℕ) (control : Control) → Calls control → Brings contents high r top octets control
-  calls-brings r top octets (ReceiveReady nr pf) h = tt
-  calls-brings r top octets (ReceiveNotReady nr pf) h = tt
-  calls-brings r top octets (Reject nr pf) h = tt
-  calls-brings r top octets (Sabme p) h = tt
-  calls-brings r top octets (Disc p) h = tt
-  calls-brings r top octets other h = absurd h
+  calls-brings r top octets control h = grind arith
 
   pub brought-more : (r : ℕ) (fs gs : List Parts) → Brought contents high r fs → Each Calls gs → Brought contents high r (fs ++ gs)
   brought-more r [] [] h k = tt
@@ -120,12 +83,7 @@ module _ (contents : List (List ℕ)) (high : ℕ) where
   brought-more r (f ∷ fs) gs (top, up, piece, h) k = (top, up, piece, brought-more top fs gs h k)
 
   brings-plain : (r top : ℕ) (octets : List ℕ) (control : Control) → Brings contents high r top octets control → is_ui control ≡ false
-  brings-plain r top octets (Ui p) h = absurd h
-  brings-plain r top octets (Ua f) h = absurd h
-  brings-plain r top octets (Dm f) h = absurd h
-  brings-plain r top octets (Frmr f) h = absurd h
-  brings-plain r top octets (Xid pf) h = absurd h
-  brings-plain r top octets other h = refl
+  brings-plain r top octets control h = grind arith
 
   pub brought-plain : (r : ℕ) (fs : List Parts) → Brought contents high r fs → Each (λ control. is_ui control ≡ false) fs
   brought-plain r [] h = tt
@@ -145,12 +103,7 @@ pub record Takes (contents : List (List ℕ)) (top r r' : ℕ) (d : Option (List
   pub delivered : take r contents ++ option_to_list d ≡ take r' contents
 
 pub kept-so : (contents : List (List ℕ)) (r r' top : ℕ) (d : Option (List ℕ)) → r ≤ top → r ≤ length contents → r' ≡ r → d ≡ None → Takes contents top r r' d
-kept-so contents r r' top d up accepted still none = record {
-  up = omega (arith, still);
-  to = omega (arith, still, up);
-  accepted = omega (arith, still, accepted);
-  delivered = ap (λ o. take r contents ++ option_to_list o) none ∙ append-nil (take r contents) ∙ ap (λ i. take i contents) (sym still);
-}
+kept-so contents r r' top d up accepted still none = grind (arith, option_to_list, append-nil)
 
 numbered : (contents : List (List ℕ)) (a k r top : ℕ) (octets : List ℕ) (control : Control) → k ≤ 127 → a ≤ r → Brings contents (a + k) r top octets control
     → HasNumber r control → (slice_get contents r ≡ Some octets) × (r + 1 ≤ top)

@@ -1,10 +1,9 @@
 -- Two cards whose links face each other: where anything that happens at one of them leads.
-use Rattle.laws_order.proofs.Vocabulary.{◌≡◌, ℕ, Bool, true, false, cond, List, [], ◌∷◌, ◌++◌, drop, get_or, Result, Ok, Err, refl, sym, ap, ◌∙◌, subst, append-nil, ◌⊎◌, inl, inr, get_or-set_other, ReadFault, Service, Parts, other_side, reading, Link, End, Joined, joined-turned, done-at, came, Config, hears, expiry, request, next, heard_side, fresh_line, link_of, line_at, after_is_sound, by_room, Seen, seen, Station, Wire, requests, times_out, gives, takes, loses, answered, happens, with_first_lost, Event, is_of_link, of_link_in, of_link_at, Deed, acts, disturbed, elsewhere, IsNotOf, IsElsewhere, IsPossibleAt, elsewhere_on, befalling, seen_by, data_noted, data_granted, of_link_on}
+use Rattle.laws_order.proofs.Vocabulary.{arith, ◌≡◌, ℕ, Bool, true, false, cond, List, [], ◌∷◌, ◌++◌, drop, Result, Ok, Err, refl, sym, ap, ◌∙◌, subst, append-nil, ◌⊎◌, inl, inr, get_or-set_other, ReadFault, Service, Parts, other_side, reading, Link, End, Joined, joined-turned, done-at, came, Config, hears, expiry, request, next, heard_side, link_of, line_at, after_is_sound, by_room, Seen, seen, Station, Wire, requests, times_out, gives, takes, loses, answered, happens, with_first_lost, Event, is_of_link, of_link_in, of_link_at, Deed, acts, disturbed, elsewhere, IsNotOf, IsElsewhere, IsPossibleAt, elsewhere_on, befalling, seen_by, data_noted, data_granted, of_link_on}
 use Rattle.laws_wire.specs.Wire.{comes}
 use Rattle.model_bits.specs.Stream as stream
 use Rattle.model_link.specs.Events as link
 use Rattle.model_link.specs.TwoEnds as two
-use Rattle.model_line.specs.Machine as lines
 use Rattle.model_card.specs.Event as card
 use Rattle.model_card.specs.Machine.{after}
 use Rattle.laws_order.proofs.Does.{Has, Does, IsKind}
@@ -179,11 +178,7 @@ module _ (service : Service) (tei : ℕ) where
 
   -- Nothing happens to the end, or a frame of its way is lost, or something happens at another line.
   unchanged : (w : Wire) (dn dm : List (List ℕ)) → Pair service tei w dn dm → Led service tei w w dn dm []
-  unchanged w dn dm h = record {
-    pair = record { near = h.near; far = h.far; sides = h.sides; joined = subst (λ ds. Joined (facing service tei w.near ds) (facing service tei w.far dm)) (sym (append-nil dn)) h.joined };
-    granted = sym (append-nil (link_here service tei w.near).contents);
-    other = refl;
-  }
+  unchanged w dn dm h = grind (arith, facing, append-nil, link_here)
 
   loses-led : (near far : Station) (way : List (List ℕ)) (dn dm : List (List ℕ)) → let w : Wire = record { near = record near { way = way }; far = far } in
       Pair service tei w dn dm → Led service tei w (record w { near = with_first_lost w.near }) dn dm []
@@ -214,9 +209,7 @@ module _ (service : Service) (tei : ℕ) where
 
   -- another line
   pub other-line : (s : Station) (e : card.Event) → IsElsewhere s e → line_at s.line (after e s.card) ≡ line_at s.line s.card
-  other-line s e is =
-      by_room (λ ls a. get_or ls s.line (fresh_line s.card.config) ≡ line_at s.line s.card) e s.card (λ full. refl)
-      (λ room. get_or-set_other s.card.lines e.line s.line (lines.after s.card.config e.what (line_at e.line s.card)) (fresh_line s.card.config) (λ same. is.1 (sym same)))
+  other-line s e is = grind (arith, by_room, get_or-set_other)
 
   elsewhere-led : (w : Wire) (dn dm : List (List ℕ)) (e : card.Event) → IsElsewhere w.near e → Pair service tei w dn dm
       → Led service tei w (record w { near = elsewhere_on e w.near }) dn dm []
@@ -238,8 +231,7 @@ module _ (service : Service) (tei : ℕ) where
 
   -- Whatever happens at the near end.
   pub not-heard : (c : Config) (what : stream.Event) → IsNotOf service tei c what → NotHeard c (hears what)
-  not-heard c (stream.frame heard) is octets e = let same : heard ≡ octets = cc e in ap (of_link_at service tei (heard_side c)) (sym same) ∙ is
-  not-heard c other is octets e = cc e
+  not-heard c what is octets e = grind arith
 
   pub near-led : (deed : Deed) (w : Wire) (dn dm : List (List ℕ)) → IsPossibleAt service tei w.near deed → Pair service tei w dn dm
       → let t = seen_by deed w in Falls service tei (befalling deed w) t ⊎ Led service tei w (befalling deed w) dn dm t

@@ -1,13 +1,12 @@
 -- An event of a link in state 7 or 8 leaves it there, or a note ends the establishment or renews it.
-use Rattle.laws_order.proofs.Vocabulary.{◌≡◌, ℕ, ◌==◌, ◌&&◌, ◌||◌, not, Bool, true, false, cond, IsTrue, List, [], ◌∷◌, ◌++◌, length, Some, None, refl, sym, ap, ◌∙◌, subst, eq-eqb, true≢false, ◌⊎◌, inl, inr, nat_lt, list_any, list_any-append, Control, Information, ReceiveReady, ReceiveNotReady, Reject, Sabme, Disc, Ui, Dm, Frmr, ErrorCode, Note, Parts, Seq, State, TeiAssigned, AwaitingEstablishment, AwaitingRelease, Established, TimerRecovery, LinkTimer, T200, T203, Terms, Link, is_multiple_frame, may_repeat, Received, received, undefined, wrong_size, overlong, expired, requested, offer, cleared, Release, Course, runs, takes_contents, as_heard, is_overlong, is_invalid, receipt_of, is_faulty, by_frame, by_received, by_expiry, by_request, state_after, is_anew, error, establish_indication, numbered_as, final_as, told_by, told_by_frame, told_malformed, told_expired, told_cleared, event-follows, service-same, is_own, is_ui, after, told, begun, ends_by_note}
+use Rattle.laws_order.proofs.Vocabulary.{arith, ◌≡◌, ℕ, ◌==◌, ◌&&◌, ◌||◌, not, Bool, true, false, cond, IsTrue, List, [], ◌∷◌, ◌++◌, Some, None, refl, sym, ap, ◌∙◌, subst, eq-eqb, ◌⊎◌, inl, inr, nat_lt, list_any, list_any-append, Control, Information, ReceiveReady, ReceiveNotReady, Reject, Sabme, Disc, Ui, Dm, Frmr, ErrorCode, Note, Parts, Seq, State, AwaitingEstablishment, Established, TimerRecovery, LinkTimer, Terms, Link, is_multiple_frame, Received, received, undefined, wrong_size, overlong, requested, Release, Course, as_heard, is_invalid, receipt_of, is_faulty, by_frame, by_received, by_expiry, by_request, state_after, is_anew, error, establish_indication, numbered_as, final_as, told_by, told_by_frame, told_malformed, told_expired, told_cleared, event-follows, service-same, is_own, is_ui, after, told, begun, ends_by_note}
 use Rattle.lapd_frame.specs.declared.notes.ErrorCode.TheVariants as code
 use Rattle.lapd_frame.specs.declared.notes.Note.TheVariants as notes
 use Rattle.model_link.specs.Events.{Event, frame, Request}
 use Rattle.model_link.specs.Machine
 
 pub or-true : (b : Bool) → (b || true) ≡ true
-or-true true = refl
-or-true false = refl
+or-true b = grind arith
 
 module _ (t : Terms) where
   abbrev pub Ended : List Note → Type 0
@@ -23,9 +22,7 @@ module _ (t : Terms) where
   error-ends why anew = one-ends (notes.Error t.service t.tei why) (ap (λ b. b && is_anew why) own ∙ anew)
 
   behind : (xs ys : List Note) → Ended ys → Ended (xs ++ ys)
-  behind xs ys h =
-      list_any-append (ends_by_note t.service t.tei) xs ys ∙ ap (λ b. list_any (ends_by_note t.service t.tei) xs || b) h
-      ∙ or-true (list_any (ends_by_note t.service t.tei) xs)
+  behind xs ys h = grind (arith, list_any-append, or-true)
 
   before : (xs ys : List Note) → Ended xs → Ended (xs ++ ys)
   before xs ys h = list_any-append (ends_by_note t.service t.tei) xs ys ∙ ap (λ b. b || list_any (ends_by_note t.service t.tei) ys) h
@@ -36,8 +33,7 @@ module _ (t : Terms) where
   -- an invalid N(R) is an error
   numbered : (xs : List Note) (to : State) (b : Bool) → IsTrue (is_multiple_frame to)
       → let now = cond b AwaitingEstablishment to in Leaves (xs ++ numbered_as t now) now
-  numbered xs to true up = inl (behind xs (error t code.J) (error-ends code.J refl))
-  numbered xs to false up = inr up
+  numbered xs to b up = grind (arith, behind, error-ends)
 
   module _ (l : Link) (octets : List ℕ) (taken : Bool) where
     abbrev By : State → Bool → Control → Type 0
@@ -52,39 +48,20 @@ module _ (t : Terms) where
     indicated = cond (l.s == l.a) [] (establish_indication t)
 
     in-7 : (command : Bool) (control : Control) → By Established command control
-    in-7 command (Information ns nr p) = numbered data_told Established (is_invalid l (Some nr)) refl
-    in-7 command (ReceiveReady nr pf) = numbered (final_as t false (not command && pf)) Established (is_invalid l (Some nr)) refl
-    in-7 command (ReceiveNotReady nr pf) = numbered (final_as t false (not command && pf)) Established (is_invalid l (Some nr)) refl
-    in-7 command (Reject nr pf) = numbered (final_as t false (not command && pf)) Established (is_invalid l (Some nr)) refl
-    in-7 command (Sabme p) = inl (before (error t code.F) indicated (error-ends code.F refl))
-    in-7 command (Disc p) = inl (one-ends (notes.ReleaseIndication t.service t.tei) own)
-    in-7 command (Dm true) = inl (error-ends code.B refl)
-    in-7 command (Dm false) = inl (error-ends code.E refl)
-    in-7 command (Frmr f) = inl (error-ends code.K refl)
-    in-7 command other = inr refl
+    in-7 command control = grind (arith, numbered, before, error-ends, one-ends, own)
 
     -- in state 8 a response with F=1 leads back to state 7
     information-up : (command : Bool) (ns nr : Seq) (p : Bool) → IsTrue (is_multiple_frame (by_frame TimerRecovery command (Information ns nr p)))
-    information-up true ns nr p = refl
-    information-up false ns nr p = refl
+    information-up command ns nr p = grind arith
 
     ready-up : (command pf : Bool) (nr : Seq) → IsTrue (is_multiple_frame (by_frame TimerRecovery command (ReceiveReady nr pf)))
-    ready-up true true nr = refl
-    ready-up true false nr = refl
-    ready-up false true nr = refl
-    ready-up false false nr = refl
+    ready-up command pf nr = grind arith
 
     busy-up : (command pf : Bool) (nr : Seq) → IsTrue (is_multiple_frame (by_frame TimerRecovery command (ReceiveNotReady nr pf)))
-    busy-up true true nr = refl
-    busy-up true false nr = refl
-    busy-up false true nr = refl
-    busy-up false false nr = refl
+    busy-up command pf nr = grind arith
 
     reject-up : (command pf : Bool) (nr : Seq) → IsTrue (is_multiple_frame (by_frame TimerRecovery command (Reject nr pf)))
-    reject-up true true nr = refl
-    reject-up true false nr = refl
-    reject-up false true nr = refl
-    reject-up false false nr = refl
+    reject-up command pf nr = grind arith
 
     in-8 : (command : Bool) (control : Control) → By TimerRecovery command control
     in-8 command (Information ns nr p) = numbered data_told (by_frame TimerRecovery command (Information ns nr p)) (is_invalid l (Some nr)) (information-up command ns nr p)
@@ -102,25 +79,14 @@ module _ (t : Terms) where
     in-8 b other = inr refl
 
     in-state : (here : State) → IsTrue (is_multiple_frame here) → (command : Bool) (control : Control) → By here command control
-    in-state Established up command control = in-7 command control
-    in-state TimerRecovery up command control = in-8 command control
-    in-state other up command control = absurd (true≢false (sym up))
+    in-state here up command control = grind (arith, in-7, in-8)
 
   malformed : (here : State) → IsTrue (is_multiple_frame here) → (why : ErrorCode) → is_anew why ≡ true → Ended (told_malformed here t why)
-  malformed Established up why anew = error-ends why anew
-  malformed TimerRecovery up why anew = error-ends why anew
-  malformed other up why anew = absurd (true≢false (sym up))
+  malformed here up why anew = grind (arith, error-ends)
 
   expires : (here : State) → IsTrue (is_multiple_frame here) → (timer : LinkTimer) (again ran : Bool)
       → let now = cond ran (by_expiry here timer again) here in Leaves (told_expired here t now) now
-  expires Established up timer again true = inr refl
-  expires Established up timer again false = inr refl
-  expires TimerRecovery up T200 true true = inr refl
-  expires TimerRecovery up T200 false true = inl (error-ends code.I refl)
-  expires TimerRecovery up T203 true true = inr refl
-  expires TimerRecovery up T203 false true = inr refl
-  expires TimerRecovery up timer again false = inr refl
-  expires other up timer again ran = absurd (true≢false (sym up))
+  expires here up timer again ran = grind (arith, error-ends)
 
   abbrev pub IsNoRelease : Event → Type 0
   IsNoRelease (requested Release full) = ⊥
@@ -128,16 +94,10 @@ module _ (t : Terms) where
 
   asked : (here : State) → IsTrue (is_multiple_frame here) → (request : Request) (full : Bool) → IsNoRelease (requested request full)
       → IsTrue (is_multiple_frame (by_request here request))
-  asked TeiAssigned up request full other = absurd (true≢false (sym up))
-  asked AwaitingEstablishment up request full other = absurd (true≢false (sym up))
-  asked AwaitingRelease up request full other = absurd (true≢false (sym up))
-  asked any up Release full other = absurd other
-  asked any up rest full other = refl
+  asked here up request full other = grind arith
 
   clears : (here : State) → IsTrue (is_multiple_frame here) → Ended (told_cleared here t)
-  clears Established up = one-ends (notes.ReleaseIndication t.service t.tei) own
-  clears TimerRecovery up = one-ends (notes.ReleaseIndication t.service t.tei) own
-  clears other up = absurd (true≢false (sym up))
+  clears here up = grind (arith, one-ends, own)
 
   -- An event ends it, and leaves it in state 4, 5 or 6.
   abbrev pub Fallen : Event → Link → Type 0
@@ -148,24 +108,13 @@ module _ (t : Terms) where
     Goes e = Leaves (told_by t e l (state_after t e l)) (state_after t e l)
 
     heard : (f : Parts) (long : Bool) → Goes (received (cond long overlong (frame f)))
-    heard f true = inl (malformed l.state up code.O refl)
-    heard f false = in-state l f.info (takes_contents (received (frame f)) l) l.state up f.address.command f.control
+    heard f long = grind (arith, malformed, in-state)
 
     by-event : (e : Event) → IsNoRelease e → Goes (as_heard t e)
-    by-event (received (frame f)) may = heard f (is_overlong t f.control f.info)
-    by-event (received undefined) may = inl (malformed l.state up code.L refl)
-    by-event (received wrong_size) may = inl (malformed l.state up code.N refl)
-    by-event (received overlong) may = inl (malformed l.state up code.O refl)
-    by-event (expired timer) may = expires l.state up timer (may_repeat t l) (runs timer l.running)
-    by-event (requested request full) may = inr (asked l.state up request full may)
-    by-event offer may = inr up
-    by-event cleared may = inl (clears l.state up)
+    by-event e may = grind (arith, heard, malformed, expires, asked, clears)
 
     pub event-leaves : (e : Event) → IsNoRelease e → Leaves (told t e l).notes (after t e l).state
-    event-leaves e may =
-        let x = (event-follows t e l).leaves in
-        subst (λ ns. Leaves ns (after t e l).state) (sym x.tells)
-        (subst (λ to. Leaves (told_by t (as_heard t e) l to) to) (sym x.state) (by-event e may))
+    event-leaves e may = grind (arith, event-follows, by-event)
 
     -- What the grammar does not have, or was too long, ends it, and so does a release.
     malformed-falls : (r : Received) (why : ErrorCode) → is_anew why ≡ true → as_heard t (received r) ≡ received r → is_faulty r l ≡ true
@@ -191,32 +140,20 @@ module _ (t : Terms) where
     -- So do SABME and DISC.
     by-sabme : (here : State) → IsTrue (is_multiple_frame here) → (command : Bool) (octets : List ℕ) (p taken : Bool) (to : State)
         → Ended (told_by_frame here t command octets (Sabme p) taken l to)
-    by-sabme Established up command octets p taken to = before (error t code.F) (cond (l.s == l.a) [] (establish_indication t)) (error-ends code.F refl)
-    by-sabme TimerRecovery up command octets p taken to = before (error t code.F) (cond (l.s == l.a) [] (establish_indication t)) (error-ends code.F refl)
-    by-sabme other up command octets p taken to = absurd (true≢false (sym up))
+    by-sabme here up command octets p taken to = grind (arith, before, error-ends)
 
     pub sabme-ends : (f : Parts) (p : Bool) → Ended (told t (received (frame (record f { control = Sabme p }))) l).notes
-    sabme-ends f p =
-        subst Ended (sym (event-follows t (received (frame (record f { control = Sabme p }))) l).leaves.tells)
-        (by-sabme l.state up f.address.command f.info p false (after t (received (frame (record f { control = Sabme p }))) l).state)
+    sabme-ends f p = grind (arith, event-follows, by-sabme)
 
     by-disc : (here : State) → IsTrue (is_multiple_frame here) → (command : Bool) (octets : List ℕ) (p taken : Bool) (to : State)
         → Ended (told_by_frame here t command octets (Disc p) taken l to)
-    by-disc Established up command octets p taken to = one-ends (notes.ReleaseIndication t.service t.tei) own
-    by-disc TimerRecovery up command octets p taken to = one-ends (notes.ReleaseIndication t.service t.tei) own
-    by-disc other up command octets p taken to = absurd (true≢false (sym up))
+    by-disc here up command octets p taken to = grind (arith, one-ends, own)
 
     pub disc-ends : (f : Parts) (p : Bool) → Ended (told t (received (frame (record f { control = Disc p }))) l).notes
-    disc-ends f p =
-        subst Ended (sym (event-follows t (received (frame (record f { control = Disc p }))) l).leaves.tells)
-        (by-disc l.state up f.address.command f.info p false (after t (received (frame (record f { control = Disc p }))) l).state)
+    disc-ends f p = grind (arith, event-follows, by-disc)
 
     pub release-falls : (full : Bool) → is_multiple_frame (after t (requested Release full) l).state ≡ false
-    release-falls full = ap is_multiple_frame (event-follows t (requested Release full) l).leaves.state ∙ by-state l.state up
-      where
-        by-state : (here : State) → IsTrue (is_multiple_frame here) → is_multiple_frame (by_request here Release) ≡ false
-        by-state Established up = refl
-        by-state other up = refl
+    release-falls full = grind (arith, event-follows)
 
   -- UI leaves a link as it was, and delivers no contents of an I-frame.
   module _ (l : Link) where
@@ -224,16 +161,13 @@ module _ (t : Terms) where
     Same c = (c.link ≡ l) × (c.delivered ≡ None)
 
     either : (b : Bool) (u v : Course) → Same u → Same v → Same (cond b u v)
-    either true u v x y = x
-    either false u v x y = y
+    either b u v x y = grind arith
 
     ui-stays : (here : State) (b : Bool) (octets : List ℕ) (p : Bool) → Same (Machine.frame_in here t b octets (Ui p) (begun l))
-    ui-stays TeiAssigned b octets p = either (nat_lt t.n201 (length octets)) _ _ (refl, refl) (refl, refl)
-    ui-stays other b octets p = either (nat_lt t.n201 (length octets)) _ _ (refl, refl) (refl, refl)
+    ui-stays here b octets p = grind (arith, either, nat_lt)
 
     ui-only : (here : State) (b : Bool) (octets : List ℕ) (control : Control) → is_ui control ≡ true → Same (Machine.frame_in here t b octets control (begun l))
-    ui-only here b octets (Ui p) is = ui-stays here b octets p
-    ui-only here b octets other is = absurd (true≢false (sym is))
+    ui-only here b octets control is = grind (arith, ui-stays)
 
     pub unit-data-stays : (f : Parts) → is_ui f.control ≡ true → Same (Machine.course t (received (frame f)) l)
     unit-data-stays f is = ui-only l.state f.address.command f.info f.control is

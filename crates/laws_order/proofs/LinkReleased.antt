@@ -1,5 +1,5 @@
 -- What each event tells of a link in state 6, and in state 4.
-use Rattle.laws_order.proofs.Vocabulary.{◌≡◌, ℕ, ◌||◌, Bool, true, false, cond, List, [], ◌∷◌, refl, sym, ap, ◌∙◌, subst, ◌⊎◌, inl, inr, filter, nat_lt, length, list_any, Control, Sabme, Ui, Ua, Dm, Xid, Note, State, TeiAssigned, AwaitingRelease, LinkTimer, T200, T203, Terms, received, overlong, Release, expired, requested, offer, cleared, Link, may_repeat, runs, as_heard, is_overlong, by_frame, by_expiry, by_request, state_after, told_in_4, told_in_6, unasked, told_by, told_expired, told_requested, event-follows, is_data_of, own-is, after, told, is_news, begins_by_note}
+use Rattle.laws_order.proofs.Vocabulary.{arith, ◌≡◌, ℕ, Bool, true, false, cond, List, [], ◌∷◌, refl, ◌⊎◌, filter, nat_lt, list_any, Control, Ua, Dm, Xid, Note, State, TeiAssigned, AwaitingRelease, LinkTimer, Terms, received, Release, requested, cleared, Link, as_heard, by_frame, by_expiry, by_request, state_after, told_in_4, told_in_6, unasked, told_by, told_expired, told_requested, event-follows, is_data_of, own-is, after, told, is_news, begins_by_note}
 use Rattle.lapd_frame.specs.declared.notes.ErrorCode.TheVariants as code
 use Rattle.lapd_frame.specs.declared.notes.Note.TheVariants as notes
 use Rattle.model_link.specs.Events.{Event, frame, Request, Establish}
@@ -50,45 +50,28 @@ module _ (t : Terms) where
   gives-up = record { news = rw (own-is t.service t.tei) refl; no_data = refl }
 
   unasked-silent : (f : Bool) → Tells (unasked t f) []
-  unasked-silent true = record { news = rw (own-is t.service t.tei) refl; no_data = refl }
-  unasked-silent false = record { news = rw (own-is t.service t.tei) refl; no_data = refl }
+  unasked-silent f = grind (arith, own-is)
 
   unit-silent : (b : Bool) → Tells (cond b [] (notes.Unit t.service t.tei ∷ [])) []
-  unit-silent true = silent
-  unit-silent false = record { news = refl; no_data = refl }
+  unit-silent b = grind (arith, silent)
 
   xid-silent : Tells (notes.Xid t.service t.tei ∷ []) []
   xid-silent = record { news = refl; no_data = refl }
 
   frame-6 : (command : Bool) (octets : List ℕ) (control : Control) → In6 (Confirms control) (told_in_6 t octets control) (by_frame AwaitingRelease command control)
-  frame-6 command octets (Ua true) = inr (refl, inl (confirms, tt))
-  frame-6 command octets (Ua false) = inl (refl, unasked-silent false)
-  frame-6 command octets (Dm true) = inr (refl, inl (confirms, tt))
-  frame-6 command octets (Ui p) = inl (refl, unit-silent (nat_lt t.n201 (length octets)))
-  frame-6 command octets (Xid pf) = inl (refl, xid-silent)
-  frame-6 command octets other = inl (refl, silent)
+  frame-6 command octets control = grind (arith, confirms, unasked-silent, unit-silent, nat_lt, xid-silent, silent)
 
   frame-4 : (command : Bool) (octets : List ℕ) (control : Control) → Begins (told_in_4 t octets control) ⊎ In4 (told_in_4 t octets control) (by_frame TeiAssigned command control)
-  frame-4 command octets (Sabme p) = inl (ap (λ b. b || false) (own-is t.service t.tei))
-  frame-4 command octets (Ua f) = inr (refl, unasked-silent f)
-  frame-4 command octets (Ui p) = inr (refl, unit-silent (nat_lt t.n201 (length octets)))
-  frame-4 command octets (Xid pf) = inr (refl, xid-silent)
-  frame-4 command octets other = inr (refl, silent)
+  frame-4 command octets control = grind (arith, own-is, unasked-silent, unit-silent, nat_lt, xid-silent, silent)
 
   expired-6 : (timer : LinkTimer) (again ran : Bool) → let to = cond ran (by_expiry AwaitingRelease timer again) AwaitingRelease in In6 ⊥ (told_expired AwaitingRelease t to) to
-  expired-6 T200 true true = inl (refl, silent)
-  expired-6 T200 false true = inr (refl, inr gives-up)
-  expired-6 T203 true true = inl (refl, silent)
-  expired-6 T203 false true = inl (refl, silent)
-  expired-6 timer again false = inl (refl, silent)
+  expired-6 timer again ran = grind (arith, silent, gives-up)
 
   asked-6 : (request : Request) → In6 ⊥ (told_requested AwaitingRelease t request) (by_request AwaitingRelease request)
-  asked-6 Establish = inl (refl, silent)
-  asked-6 other = inl (refl, silent)
+  asked-6 request = grind (arith, silent)
 
   expired-4 : (timer : LinkTimer) (again ran : Bool) → let to = cond ran (by_expiry TeiAssigned timer again) TeiAssigned in In4 (told_expired TeiAssigned t to) to
-  expired-4 timer again true = (refl, silent)
-  expired-4 timer again false = (refl, silent)
+  expired-4 timer again ran = grind (arith, silent)
 
   abbrev pub AsksNothing : Event → Type 0
   AsksNothing (requested Establish full) = ⊥
@@ -96,9 +79,7 @@ module _ (t : Terms) where
   AsksNothing other = Unit {0}
 
   asked-4 : (request : Request) (full : Bool) → AsksNothing (requested request full) → In4 (told_requested TeiAssigned t request) (by_request TeiAssigned request)
-  asked-4 Establish full none = absurd none
-  asked-4 Release full none = absurd none
-  asked-4 other full none = (refl, silent)
+  asked-4 request full none = grind (arith, silent)
 
   module _ (l : Link) where
     abbrev Now : Event → List Note
@@ -119,35 +100,13 @@ module _ (t : Terms) where
 
     -- of a link of which the state is known
     known-6 : (x : Link) → x.state ≡ AwaitingRelease → (e : Event) → In6 (ConfirmsAt e) (Told x e (To x e)) (To x e)
-    known-6 x is (received (frame f)) = go (is_overlong t f.control f.info)
-      where
-        go : (long : Bool) → let e = received (cond long overlong (frame f)) in In6 (Confirms f.control) (told_by t e x (state_after t e x)) (state_after t e x)
-        go true = rw is (inl (refl, silent))
-        go false = rw is (frame-6 f.address.command f.info f.control)
-    known-6 x is (expired timer) = rw is (expired-6 timer (may_repeat t x) (runs timer x.running))
-    known-6 x is (requested request full) = rw is (asked-6 request)
-    known-6 x is offer = inl (is, silent)
-    known-6 x is cleared = rw is (inr (refl, inl (confirms, tt)))
-    known-6 x is other = rw is (inl (refl, silent))
+    known-6 x is e = grind (arith, silent, frame-6, expired-6, asked-6, confirms)
 
     known-4 : (x : Link) → x.state ≡ TeiAssigned → (e : Event) → AsksNothing e → Begins (Told x e (To x e)) ⊎ In4 (Told x e (To x e)) (To x e)
-    known-4 x is (received (frame f)) none = go (is_overlong t f.control f.info)
-      where
-        go : (long : Bool) → let e = received (cond long overlong (frame f)) in
-            Begins (told_by t e x (state_after t e x)) ⊎ In4 (told_by t e x (state_after t e x)) (state_after t e x)
-        go true = rw is (inr (refl, silent))
-        go false = rw is (frame-4 f.address.command f.info f.control)
-    known-4 x is (expired timer) none = rw is (inr (expired-4 timer (may_repeat t x) (runs timer x.running)))
-    known-4 x is (requested request full) none = rw is (inr (asked-4 request full none))
-    known-4 x is offer none = inr (is, silent)
-    known-4 x is other none = rw is (inr (refl, silent))
+    known-4 x is e none = grind (arith, silent, frame-4, expired-4, asked-4)
 
     pub in-6 : l.state ≡ AwaitingRelease → (e : Event) → In6 (ConfirmsAt e) (Now e) (after t e l).state
-    in-6 is e =
-        subst (λ ns. In6 (ConfirmsAt e) ns (after t e l).state) (sym (tells e ∙ ap (λ to. told_by t (as_heard t e) l to) (leads e)))
-        (subst (In6 (ConfirmsAt e) (Told l e (To l e))) (sym (leads e)) (known-6 l is e))
+    in-6 is e = grind (arith, tells, leads, known-6)
 
     pub in-4 : l.state ≡ TeiAssigned → (e : Event) → AsksNothing e → Begins (Now e) ⊎ In4 (Now e) (after t e l).state
-    in-4 is e none =
-        subst (λ ns. Begins ns ⊎ In4 ns (after t e l).state) (sym (tells e ∙ ap (λ to. told_by t (as_heard t e) l to) (leads e)))
-        (subst (λ to. Begins (Told l e (To l e)) ⊎ In4 (Told l e (To l e)) to) (sym (leads e)) (known-4 l is e none))
+    in-4 is e none = grind (arith, tells, leads, known-4)

@@ -1,5 +1,5 @@
 -- The far end lasts in its establishment, and that of the near end is over: what happens at the near end.
-use Rattle.laws_order.proofs.Vocabulary.{◌≡◌, ℕ, ◌+◌, ◌≤◌, false, IsTrue, List, [], ◌∷◌, ◌++◌, length, take, sym, ap, ◌∙◌, subst, true≢false, ◌⊎◌, inl, inr, Control, Service, Parts, other_side, reading, State, AwaitingEstablishment, Link, is_multiple_frame, frames_of, came, Config, hears, expiry, request, next, heard_side, link_of, terms, after_is_sound, Station, Wire, requests, times_out, gives, takes, loses, happens, Event, of_link_at, Deed, acts, disturbed, elsewhere, IsElsewhere, IsPossibleAt, elsewhere_on, befalling, of_link_on}
+use Rattle.laws_order.proofs.Vocabulary.{arith, ◌≡◌, ℕ, ◌+◌, ◌≤◌, false, IsTrue, List, [], ◌∷◌, ◌++◌, length, take, sym, ap, ◌∙◌, subst, true≢false, ◌⊎◌, inl, inr, Control, Service, Parts, other_side, reading, State, Link, is_multiple_frame, frames_of, came, Config, hears, expiry, request, next, heard_side, link_of, terms, after_is_sound, Station, Wire, requests, times_out, gives, takes, loses, happens, Event, of_link_at, Deed, acts, disturbed, elsewhere, IsElsewhere, IsPossibleAt, elsewhere_on, befalling, of_link_on}
 use Rattle.model_bits.specs.Stream as stream
 use Rattle.model_card.specs.Event as card
 use Rattle.laws_order.proofs.Down.{Speaks}
@@ -10,8 +10,7 @@ use Rattle.laws_order.proofs.Putting.{Each, Awaited, each-back}
 use Rattle.laws_order.proofs.Saying.{Grown, NotUi, HeardIs, on_line, station-down, station-goes}
 
 all-awaited : (to : State) → Awaited Calls to
-all-awaited AwaitingEstablishment = tt
-all-awaited other = tt
+all-awaited to = grind arith
 
 module _ (service : Service) (tei : ℕ) where
   abbrev line_of : Station → List Parts
@@ -127,17 +126,7 @@ module _ (service : Service) (tei : ℕ) where
         r = (link_here service tei far).r
 
         less : Brought contents (a + k) r (line_of (record near { way = rest })) → Lasts (record { near = record near { way = rest }; far = far }) dm
-        less line = record {
-          near = record { sound = h.near.sound; within = h.near.within };
-          far = h.far;
-          sides = h.sides;
-          up = h.up;
-          line = line;
-          low = h.low;
-          speech = h.speech;
-          delivered = h.delivered;
-          accepted = h.accepted;
-        }
+        less line = grind arith
 
         go : IsFirst near octets rest → Lasts (record { near = record near { way = rest }; far = far }) dm
         go (other_first none same) = less (subst (Brought contents (a + k) r) same h.line)

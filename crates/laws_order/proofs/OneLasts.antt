@@ -1,5 +1,5 @@
 -- The far end lasts in its establishment, and that of the near end is over: what happens at the far end.
-use Rattle.laws_order.proofs.Vocabulary.{◌≡◌, ℕ, ◌+◌, ◌≤◌, cond, IsTrue, List, [], ◌∷◌, ◌++◌, length, take, Option, None, refl, sym, ap, ◌∙◌, subst, append-nil, true≢false, inl, inr, arith, option_to_list, Seq, seq, is_seq, Control, Information, ReceiveReady, ReceiveNotReady, Reject, Sabme, Disc, Service, Parts, other_side, State, AwaitingEstablishment, AwaitingRelease, Terms, Link, is_multiple_frame, frames_of, Means, frame-taken, came, hears, expiry, request, next, link_of, terms, after_is_sound, Seen, seen, offer-tells_nothing, frames_given, Station, Wire, requests, times_out, gives, takes, loses, answered, happens, frames_by, turned, twice-other, flat_map-append, Event, of_link_in, of_link_at, Deed, acts, disturbed, elsewhere, IsElsewhere, IsPossibleAt, elsewhere_on, befalling, seen_by, data_noted, StaysEstablished, of_link_on}
+use Rattle.laws_order.proofs.Vocabulary.{◌≡◌, ℕ, ◌+◌, ◌≤◌, cond, IsTrue, List, [], ◌∷◌, ◌++◌, length, take, Option, None, refl, sym, ap, ◌∙◌, subst, append-nil, true≢false, inl, inr, arith, option_to_list, Seq, seq, is_seq, Control, Information, ReceiveReady, ReceiveNotReady, Reject, Sabme, Disc, Service, Parts, other_side, State, Terms, Link, is_multiple_frame, frames_of, Means, frame-taken, came, hears, expiry, request, next, link_of, terms, after_is_sound, Seen, seen, offer-tells_nothing, frames_given, Station, Wire, requests, times_out, gives, takes, loses, answered, happens, frames_by, turned, twice-other, flat_map-append, Event, of_link_in, of_link_at, Deed, acts, disturbed, elsewhere, IsElsewhere, IsPossibleAt, elsewhere_on, befalling, seen_by, data_noted, StaysEstablished, of_link_on}
 use Rattle.model_link.specs.Events as link
 use Rattle.model_link.specs.Machine as links
 use Rattle.model_card.specs.Event as card
@@ -15,9 +15,7 @@ use Rattle.laws_order.proofs.Putting.{Each, AnsweredAt, Awaited, each-back, each
 use Rattle.laws_order.proofs.Saying.{NotUi, each-as, event-grows, on_line}
 
 none-awaited : (to : State) → IsTrue (is_multiple_frame to) → Awaited Speaks to
-none-awaited AwaitingEstablishment up = absurd (true≢false (sym up))
-none-awaited AwaitingRelease up = absurd (true≢false (sym up))
-none-awaited other up = tt
+none-awaited to up = grind arith
 
 -- Each N(R) means its value.
 its-value : (nr : Seq) → nr ≡ seq nr.value
@@ -240,8 +238,7 @@ module _ (service : Service) (tei : ℕ) where
         }
 
         go : IsFirst service tei far octets rest → Last (record { near = near; far = record far { way = rest } }) dm
-        go (other_first none same) = less (subst (Each Speaks) same h.speech)
-        go (its_first f one more) = let speech : Each Speaks (f ∷ line_of (record far { way = rest })) = subst (Each Speaks) more h.speech in less speech.1
+        go o = grind (arith, other_first, less, Each, Speaks, its_first)
 
     far-elsewhere : (w : Wire) (dm : List (List ℕ)) (e : card.Event) → IsElsewhere w.far e → Last w dm → Last (record w { far = elsewhere_on e w.far }) dm
     far-elsewhere w dm e is h =

@@ -1,5 +1,5 @@
 -- Whole runs of two cards whose links face each other.
-use Rattle.laws_order.proofs.Vocabulary.{◌≡◌, ℕ, suc, ◌+◌, ◌<◌, ◌≤◌, false, List, [], ◌∷◌, ◌++◌, take, drop, refl, sym, ap, ◌∙◌, subst, append-nil, append_assoc, true≢false, ◌⊎◌, inl, inr, All, list_any, All-nil, All-cons, All-head, All-tail, list_any-append, Service, other_side, Link, is_multiple_frame, joined-turned, rising-low, Config, terms, Seen, IsFront, Station, Wire, requests, times_out, gives, takes, loses, turned, twice-other, flat_map-append, Deed, acts, disturbed, elsewhere, IsNotOf, IsPossibleAt, befalling, Happening, by_near, by_far, IsPossible, seen_by, seen_near, seen_far, noted_in, granted_in, data_noted, data_granted, ends_by, StaysEstablished, Past, Known, known, FaceInStep, kept_by, DeliveredInOrder, or_parts}
+use Rattle.laws_order.proofs.Vocabulary.{arith, ◌≡◌, ℕ, suc, ◌+◌, ◌≤◌, false, List, [], ◌∷◌, ◌++◌, take, drop, refl, sym, ap, ◌∙◌, subst, append-nil, append_assoc, true≢false, ◌⊎◌, inl, inr, All, list_any, All-nil, All-cons, All-head, All-tail, list_any-append, Service, other_side, Link, is_multiple_frame, joined-turned, rising-low, terms, Seen, IsFront, Station, Wire, turned, twice-other, flat_map-append, Deed, IsPossibleAt, befalling, Happening, by_near, by_far, IsPossible, seen_by, seen_near, seen_far, noted_in, granted_in, data_noted, data_granted, ends_by, StaysEstablished, Past, Known, known, FaceInStep, kept_by, DeliveredInOrder, or_parts}
 use Rattle.laws_wire.specs.Wire.{with_first_of}
 use Rattle.model_link.proofs.Direction.{line_of}
 use Rattle.laws_order.proofs.Beginning.{had, begins-pair, kept-is}
@@ -18,26 +18,13 @@ same-place : (s : Station) → StaysAt s s
 same-place s = record { config = refl; line = refl }
 
 first-place : (way : List (List ℕ)) (s : Station) → StaysAt s (with_first_of way s)
-first-place [] s = same-place s
-first-place (octets ∷ rest) s = record { config = refl; line = refl }
+first-place way s = grind (arith, same-place)
 
 pub near-place : (deed : Deed) (w : Wire) → StaysAt w.near (befalling deed w).near
-near-place (acts (requests r)) w = record { config = refl; line = refl }
-near-place (acts (times_out timer)) w = record { config = refl; line = refl }
-near-place (acts gives) w = record { config = refl; line = refl }
-near-place (acts takes) w = first-place w.far.way w.near
-near-place (acts loses) w = record { config = refl; line = refl }
-near-place (disturbed what) w = record { config = refl; line = refl }
-near-place (elsewhere e) w = record { config = refl; line = refl }
+near-place deed w = grind (arith, first-place)
 
 pub far-place : (deed : Deed) (w : Wire) → StaysAt w.far (befalling deed w).far
-far-place (acts (requests r)) w = same-place w.far
-far-place (acts (times_out timer)) w = same-place w.far
-far-place (acts gives) w = same-place w.far
-far-place (acts takes) w = record { config = refl; line = refl }
-far-place (acts loses) w = same-place w.far
-far-place (disturbed what) w = same-place w.far
-far-place (elsewhere e) w = same-place w.far
+far-place deed w = grind (arith, same-place)
 
 both-parts : (n : ℕ) (xs : List (List ℕ)) → xs ≡ take n xs ++ drop n xs
 both-parts (suc n) (x ∷ xs) = ap (λ ys. x ∷ ys) (both-parts n xs)
@@ -45,16 +32,13 @@ both-parts other any = refl
 
 module _ (service : Service) (tei : ℕ) where
   possible-at : (s s' : Station) → StaysAt s s' → (deed : Deed) → IsPossibleAt service tei s deed → IsPossibleAt service tei s' deed
-  possible-at s s' at (acts act) is = tt
-  possible-at s s' at (disturbed what) is = subst (λ c. IsNotOf service tei c what) (sym at.config) is
-  possible-at s s' at (elsewhere e) is = (subst (λ (c : Config). e.line < c.lines) (sym at.config) is.0, λ same. is.1 (same ∙ at.line))
+  possible-at s s' at deed is = grind arith
 
   abbrev pub IsOpen : Wire → Happening → Type 0
   IsOpen w h = IsPossible service tei w h
 
   pub still-possible : (w w' : Wire) → StaysAt w.near w'.near → StaysAt w.far w'.far → (h : Happening) → IsOpen w h → IsOpen w' h
-  still-possible w w' near far (by_near deed) is = possible-at w.near w'.near near deed is
-  still-possible w w' near far (by_far deed) is = possible-at w.far w'.far far deed is
+  still-possible w w' near far h is = grind (arith, possible-at)
 
   pub all-possible : (w w' : Wire) → StaysAt w.near w'.near → StaysAt w.far w'.far → (hs : List Happening) → All (IsOpen w) hs → All (IsOpen w') hs
   all-possible w w' near far [] all = All-nil (IsOpen w')
@@ -63,12 +47,7 @@ module _ (service : Service) (tei : ℕ) where
       (all-possible w w' near far hs (All-tail (IsOpen w) h hs all))
 
   pub turned-pair : (w : Wire) (dn dm : List (List ℕ)) → Pair service tei w dn dm → Pair service tei (turned w) dm dn
-  turned-pair w dn dm h = record {
-    near = h.far;
-    far = h.near;
-    sides = sym (ap other_side h.sides ∙ twice-other w.near.card.config.side);
-    joined = joined-turned (facing service tei w.near dn) (facing service tei w.far dm) h.joined;
-  }
+  turned-pair w dn dm h = grind (arith, twice-other, joined-turned, facing)
 
   abbrev contents_at : Station → List (List ℕ)
   contents_at s = (link_here service tei s).contents
@@ -94,13 +73,7 @@ module _ (service : Service) (tei : ℕ) where
   front-before : (d : List (List ℕ)) (t t' : List Seen) (cs cs' : List (List ℕ)) (u u' : List Seen) → cs' ≡ cs ++ data_granted service tei u
       → IsFront ((d ++ data_noted service tei t) ++ data_noted service tei t') (cs' ++ data_granted service tei u')
       → IsFront (d ++ data_noted service tei (t ++ t')) (cs ++ data_granted service tei (u ++ u'))
-  front-before d t t' cs cs' u u' e h = record {
-    rest = h.rest;
-    whole_is =
-        ap (λ xs. cs ++ xs) (granted-append u u') ∙ sym (append_assoc cs (data_granted service tei u) (data_granted service tei u'))
-        ∙ ap (λ xs. xs ++ data_granted service tei u') (sym e) ∙ h.whole_is
-        ∙ ap (λ xs. xs ++ h.rest) (append_assoc d (data_noted service tei t) (data_noted service tei t') ∙ ap (λ xs. d ++ xs) (sym (noted-append t t')));
-  }
+  front-before d t t' cs cs' u u' e h = grind (arith, granted-append, append_assoc, noted-append)
 
   pub both-stay : (t u : List Seen) → StaysEstablished service tei (t ++ u) → StaysEstablished service tei t × StaysEstablished service tei u
   both-stay t u h = or_parts (list_any (ends_by service tei) t) (list_any (ends_by service tei) u) (sym (list_any-append (ends_by service tei) t u) ∙ h)
@@ -110,8 +83,7 @@ module _ (service : Service) (tei : ℕ) where
 
   -- What happens at one end leaves the link at the other.
   pub other-link : (deed : Deed) (w : Wire) → link_here service tei (befalling deed w).far ≡ link_here service tei w.far
-  other-link (acts (requests r)) w = refl
-  other-link other w = refl
+  other-link deed w = grind arith
 
   -- where the near end's establishment is over
   module _ (contents : List (List ℕ)) (a k : ℕ) (small : k ≤ 127) where
@@ -143,20 +115,7 @@ module _ (service : Service) (tei : ℕ) where
   -- as both ends are up
   pub pair-lasts : (w : Wire) (dn dm : List (List ℕ)) → (h : Pair service tei w dn dm)
       → Lasts service tei (contents_at w.near) (link_here service tei w.near).a (terms w.near.card.config service tei).k h.joined.near_ranges.k_high w dm
-  pair-lasts w dn dm h =
-      let n = facing service tei w.near dn in
-      let m = facing service tei w.far dm in
-      record {
-        near = h.near;
-        far = h.far;
-        sides = h.sides;
-        up = h.joined.far_up;
-        line = carried-brought n.link.contents (n.link.a + n.terms.k) m.link.r (line_of n) h.joined.there.carried;
-        low = rising-low n.link.a m.link.r (line_of m) h.joined.there.rising;
-        speech = rising-speaks n.link.a m.link.r (line_of m) h.joined.there.rising;
-        delivered = h.joined.there.delivered;
-        accepted = h.joined.there.accepted;
-      }
+  pair-lasts w dn dm h = grind (arith, facing, carried-brought, line_of, rising-low, rising-speaks)
 
   abbrev IsInOrder : List Happening → Wire → List (List ℕ) → Type 0
   IsInOrder hs w dm = IsFrontOf dm (seen_far hs w) w.near (seen_near hs w)
@@ -270,8 +229,7 @@ module _ (service : Service) (tei : ℕ) where
   far-is (by_far deed ∷ hs) w = ap (λ t. seen_by deed (turned w) ++ t) (far-is hs (turned (befalling deed (turned w))))
 
   one-swapped : (w : Wire) (h : Happening) → IsOpen w h → IsOpen (turned w) (swapped h)
-  one-swapped w (by_near deed) is = is
-  one-swapped w (by_far deed) is = is
+  one-swapped w h is = grind arith
 
   possible-swapped : (w : Wire) (hs : List Happening) → All (IsOpen w) hs → All (IsOpen (turned w)) (all_swapped hs)
   possible-swapped w [] all = All-nil (IsOpen (turned w))

@@ -1,7 +1,6 @@
 -- Two cards whose links face each other: what each thing that happens makes of the two ends.
-use Rattle.laws_order.proofs.Vocabulary.{◌≡◌, ℕ, ◌+◌, ◌<◌, ◌==◌, ◌&&◌, not, Bool, true, false, cond, IsTrue, List, [], ◌∷◌, ◌++◌, map, length, take, get_or, set, Option, Some, None, IfSome, refl, sym, ap, ◌∙◌, subst, arith, append-nil, eq-eqb, true≢false, inl, inr, All, option_to_list, unwrap_or, nat_lt, list_any, option_map_or, get_or-set_same, All-nil, All-cons, All-head, Control, Information, ReceiveReady, ReceiveNotReady, Reject, PoolFull, Service, Parts, other_side, sapi_of, reading-again, place_of-is, Terms, LinkTimer, Link, is_multiple_frame, frame_of, Given, End, with_link, with_sent, frame_given, frames_of, given_is_frame, Joined, done-at, Means, Rising, came, is_too_short, Config, Line, fresh_line, link_in, link_of, place_in, terms, sound_in, terms_in_range, line_at, after_is_sound, has_lines, by_room, accepted, Seen, seen, is_ui, offer-tells_nothing, frames_given, Station, Wire, answered, happens, frames_by, flat_map-append, fresh, Event, at, is_of_link, of_link_in, of_link_at, data_noted, data_granted, ends_by, of_link_on, line_of, is_some, Refusal, State, Established, TimerRecovery, Release, SetBusy, ClearBusy, received, expired, requested, offer, course, Course, event-delivers, Up, still, set_busy_up, clear_busy_up, at-first, offer-gave, frame-taken, none-delivered, after, begun, contents_of}
+use Rattle.laws_order.proofs.Vocabulary.{◌≡◌, ℕ, ◌+◌, ◌<◌, ◌==◌, ◌&&◌, not, Bool, true, false, cond, IsTrue, List, [], ◌∷◌, ◌++◌, map, get_or, set, Option, Some, None, IfSome, refl, sym, ap, ◌∙◌, subst, arith, append-nil, eq-eqb, true≢false, inl, inr, All, option_to_list, unwrap_or, nat_lt, list_any, option_map_or, get_or-set_same, All-nil, All-cons, All-head, Control, PoolFull, Service, Parts, other_side, sapi_of, reading-again, place_of-is, Terms, LinkTimer, Link, is_multiple_frame, frame_of, Given, End, with_link, with_sent, frame_given, frames_of, given_is_frame, Joined, done-at, Means, Rising, came, Config, Line, fresh_line, link_in, link_of, place_in, terms, sound_in, terms_in_range, line_at, after_is_sound, has_lines, by_room, accepted, Seen, seen, is_ui, offer-tells_nothing, frames_given, Station, Wire, answered, happens, frames_by, flat_map-append, fresh, Event, at, is_of_link, of_link_in, of_link_at, data_noted, data_granted, ends_by, of_link_on, line_of, is_some, Refusal, State, Release, SetBusy, ClearBusy, received, expired, requested, offer, course, Course, event-delivers, Up, still, set_busy_up, clear_busy_up, at-first, offer-gave, frame-taken, none-delivered, after, begun, contents_of}
 use Rattle.model_bits.specs.Stream as stream
-use Rattle.model_bits.specs.declared.heard.Cause.TheVariants as cause
 use Rattle.model_link.specs.Events as link
 use Rattle.model_link.specs.Machine as links
 use Rattle.model_link.specs.Sound as link_sound
@@ -27,9 +26,7 @@ module _ (t : Terms) (l : Link) where
 
   -- a request
   released : (here : State) → IsTrue (is_multiple_frame here) → IsTrue (is_multiple_frame (Requests.release_in here t (begun l)).link.state) → ⊥
-  released Established was up = true≢false (sym up)
-  released TimerRecovery was up = true≢false (sym up)
-  released other was up = true≢false (sym was)
+  released here was up = grind arith
 
   granted : IsTrue (is_multiple_frame l.state) → (request : Request) → IsTrue (is_multiple_frame (Requests.granted t request (begun l)).link.state)
       → Grows (contents_of request) (Requests.granted t request (begun l))
@@ -42,8 +39,7 @@ module _ (t : Terms) (l : Link) where
   asked : IsTrue (is_multiple_frame l.state) → (request : Request) (o : Option Refusal)
       → IsTrue (is_multiple_frame (elim o as (λ o. Course) [ None ↦ Requests.granted t request (begun l) | Some _ ↦ begun l ]).link.state)
       → Grows (cond (is_some o) [] (contents_of request)) (elim o as (λ o. Course) [ None ↦ Requests.granted t request (begun l) | Some _ ↦ begun l ])
-  asked was request None up = granted was request up
-  asked was request (Some why) up = (sym (append-nil l.contents), refl)
+  asked was request o up = grind (arith, granted, append-nil)
 
   pub request-grows : IsTrue (is_multiple_frame l.state) → (request : Request) (full : Bool) → IsTrue (is_multiple_frame (after t (requested request full) l).state)
       → ((after t (requested request full) l).contents ≡ l.contents ++ accepted t (requested request full) l) × ((after t (requested request full) l).r ≡ l.r)
@@ -74,23 +70,14 @@ link_here service tei s = link_of service tei (line_of s)
 
 -- The frame that comes is the one that was given, where it comes whole.
 pub whole-is : (n201 : ℕ) (octets heard : List ℕ) → came n201 octets ≡ stream.frame heard → heard ≡ octets
-whole-is n201 octets heard e = go (is_too_short octets) (nat_lt (n201 + 4) (length octets)) e
-  where
-    go : (short long : Bool) → cond short (stream.dropped cause.Short) (cond long (stream.overlong (take 4 octets)) (stream.frame octets)) ≡ stream.frame heard → heard ≡ octets
-    go true long e = cc e
-    go false true e = cc e
-    go false false e = cc e
+whole-is n201 octets heard e = grind (arith, nat_lt)
 
 -- What goes between two links that face each other is no unit data.
 abbrev pub IsPlain : Parts → Type 0
 IsPlain f = is_ui f.control ≡ false
 
 means-plain : (m : ℕ) (control : Control) → Means m control → is_ui control ≡ false
-means-plain m (Information ns nr p) h = refl
-means-plain m (ReceiveReady nr pf) h = refl
-means-plain m (ReceiveNotReady nr pf) h = refl
-means-plain m (Reject nr pf) h = refl
-means-plain m other h = absurd h
+means-plain m control h = grind arith
 
 amid : (xs ys zs : List Parts) (a r : ℕ) → Rising a r ((xs ++ ys) ++ zs) → All IsPlain ys
 amid [] [] zs a r h = All-nil IsPlain
@@ -210,9 +197,7 @@ module _ (service : Service) (tei : ℕ) where
 
     -- it leaves the link
     pub leaves-still : (dn : List (List ℕ)) (m : End) → LeavesIt c service tei k (link_here service tei (happens e s)) e (answered e s) → Joined (facing s dn) m → Still dn m
-    leaves-still dn m x h =
-        subst (λ n. Joined n m)
-        (sym (same-end dn k (way_here s) dn x.is (way-then ∙ ap (λ fs. way_here s ++ fs) x.frames ∙ append-nil (way_here s)) (ap (λ ds. dn ++ ds) x.noted ∙ append-nil dn))) h
+    leaves-still dn m x h = grind (arith, same-end, way-then, append-nil)
 
     pub leaves-granted : LeavesIt c service tei k (link_here service tei (happens e s)) e (answered e s) → Granted
     leaves-granted x = ap (λ (y : Link). y.contents) x.is ∙ sym (ap (λ cs. k.contents ++ cs) x.granted ∙ append-nil k.contents)
@@ -227,17 +212,10 @@ module _ (service : Service) (tei : ℕ) where
 
       -- that gives no frame
       pub linked : (dn : List (List ℕ)) (m : End) (ev : link.Event) → x.event ≡ ev → frames_given c Own ev k ≡ [] → Joined (with_link ev (facing s dn)) m → Still dn m
-      linked dn m ev is none h =
-          subst (λ n. Joined n m)
-          (sym (same-end dn (links.after Own ev k) (way_here s) (dn ++ option_to_list (links.told Own ev k).delivered)
-          (x.is ∙ ap (λ ev. links.after Own ev k) is)
-          (way-then ∙ ap (λ fs. way_here s ++ of_link_on service tei c.side fs) (x.frames ∙ ap (λ ev. frames_given c Own ev k) is ∙ none) ∙ append-nil (way_here s))
-          (ap (λ ds. dn ++ ds) (x.noted ∙ ap (λ ev. option_to_list (links.told Own ev k).delivered) is)))) h
+      linked dn m ev is none h = grind (arith, same-end, option_to_list, way-then, frames_given, append-nil)
 
       pub granted-by : (ev : link.Event) → x.event ≡ ev → (links.after Own ev k).contents ≡ k.contents ++ accepted Own ev k → Granted
-      granted-by ev is h =
-          ap (λ (y : Link). y.contents) (x.is ∙ ap (λ ev. links.after Own ev k) is) ∙ h
-          ∙ sym (ap (λ cs. k.contents ++ cs) (x.granted ∙ ap (λ ev. accepted Own ev k) is))
+      granted-by ev is h = grind arith
 
       pub up-by : (ev : link.Event) → x.event ≡ ev → IsTrue (is_multiple_frame (links.after Own ev k).state)
       up-by ev is = subst (λ ev. IsTrue (is_multiple_frame (links.after Own ev k).state)) is up-then

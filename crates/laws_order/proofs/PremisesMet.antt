@@ -37,21 +37,11 @@ told-in-order w h hs x all stays = (delivered-in-order Call 0 w h.near h.far hs 
 
 call-looks : Looks Call faces
 unfolding lines.after lines.answer lines.takes_slot reading header_of control_of unnumbered_of supervisory_of teis.course teis.refusal seq distance_of named doing_all
-call-looks = record {
-  near = record { up = refl; said = leb-true 0 0 refl; kept = leb-true 0 0 refl };
-  far = record { up = refl; said = leb-true 0 0 refl; kept = leb-true 0 0 refl };
-  near_side = refl;
-  far_side = refl;
-}
+call-looks = grind (arith, leb-true)
 
 packet-looks : Looks Packet faces
 unfolding lines.after lines.answer lines.takes_slot reading header_of control_of unnumbered_of supervisory_of teis.course teis.refusal seq distance_of named doing_all
-packet-looks = record {
-  near = record { up = refl; said = leb-true 0 0 refl; kept = leb-true 0 0 refl };
-  far = record { up = refl; said = leb-true 0 0 refl; kept = leb-true 0 0 refl };
-  near_side = refl;
-  far_side = refl;
-}
+packet-looks = grind (arith, leb-true)
 
 packet-in-step : FaceInStep Packet 0 faces (known Packet 0 faces.near pasts.near) (known Packet 0 faces.far pasts.far)
 packet-in-step = looks-so Packet faces pasts packet-looks
@@ -112,12 +102,7 @@ acts-possible w other only = absurd only
 -- and in the midst of data: where something is received that is not acknowledged, and the N(R) on the other way is from before
 owing-looks : Looks Call owes
 unfolding lines.after lines.answer lines.takes_slot reading header_of control_of unnumbered_of supervisory_of teis.course teis.refusal seq distance_of named doing_all happening_all
-owing-looks = record {
-  near = record { up = refl; said = leb-true 0 0 refl; kept = leb-true 1 1 refl };
-  far = record { up = refl; said = (0, leb-true 0 0 refl, ((0, refl, leb-true 1 7 refl, refl), refl), leb-true 0 1 refl); kept = leb-true 0 1 refl };
-  near_side = refl;
-  far_side = refl;
-}
+owing-looks = grind (arith, leb-true)
 
 more-in-order : FarInOrder owes (all-happened sends_one tt faces pasts) sends_more
 more-in-order = told-in-order owes (all-happened sends_one tt faces pasts) sends_more owing-looks (acts-possible owes sends_more tt) more_far_stays
@@ -128,12 +113,7 @@ own_busy = by_far (acts (requests (SetBusy Call 0))) ∷ []
 
 busy-looks : Looks Call busy_waits
 unfolding lines.after lines.answer lines.takes_slot reading header_of control_of unnumbered_of supervisory_of teis.course teis.refusal seq distance_of named doing_all happening_all
-busy-looks = record {
-  near = record { up = refl; said = leb-true 0 0 refl; kept = leb-true 0 0 refl };
-  far = record { up = refl; said = (0, leb-true 0 0 refl, refl, leb-true 0 0 refl); kept = leb-true 0 0 refl };
-  near_side = refl;
-  far_side = refl;
-}
+busy-looks = grind (arith, leb-true)
 
 cleared-in-order : FarInOrder busy_waits (all-happened own_busy tt faces pasts) clears
 cleared-in-order = told-in-order busy_waits (all-happened own_busy tt faces pasts) clears busy-looks (acts-possible busy_waits clears tt) cleared_stays
@@ -141,12 +121,7 @@ cleared-in-order = told-in-order busy_waits (all-happened own_busy tt faces past
 -- and where one end recovers, in state 8
 asking-looks : Looks Call enquires
 unfolding lines.after lines.answer lines.takes_slot reading header_of control_of unnumbered_of supervisory_of teis.course teis.refusal seq distance_of named doing_all happening_all
-asking-looks = record {
-  near = record { up = refl; said = (0, leb-true 0 0 refl, refl, leb-true 0 0 refl); kept = leb-true 0 0 refl };
-  far = record { up = refl; said = leb-true 0 0 refl; kept = leb-true 0 0 refl };
-  near_side = refl;
-  far_side = refl;
-}
+asking-looks = grind (arith, leb-true)
 
 asked-in-order : FarInOrder enquires (all-happened asks_state tt faces pasts) recovers
 asked-in-order = told-in-order enquires (all-happened asks_state tt faces pasts) recovers asking-looks (acts-possible enquires recovers tt) recovered_stays
@@ -154,21 +129,7 @@ asked-in-order = told-in-order enquires (all-happened asks_state tt faces pasts)
 -- and where I-frames are on their way behind UA
 early-looks : Looks Call early
 unfolding lines.after lines.answer lines.takes_slot reading header_of control_of unnumbered_of supervisory_of teis.course teis.refusal seq distance_of named doing_all happening_all
-early-looks = record {
-  near = record { up = refl; said = leb-true 0 0 refl; kept = leb-true 0 0 refl };
-  far = record {
-    up = refl;
-    said = (
-      0,
-      leb-true 0 0 refl,
-      ((0, refl, leb-true 1 7 refl, refl), refl),
-      (0, leb-true 0 0 refl, ((1, refl, leb-true 2 7 refl, refl), refl), leb-true 0 0 refl),
-    );
-    kept = leb-true 0 2 refl;
-  };
-  near_side = refl;
-  far_side = refl;
-}
+early-looks = grind (arith, leb-true)
 
 early-pasts : Pasts early
 early-pasts = past-all _ (calling Call 0 user 0 network 0) called

@@ -1,6 +1,6 @@
 -- What an event of a link puts behind the control frames that wait, and what an offer gives: of each frame a predicate holds that holds of
 -- supervisory frames, of the answers to what is heard, and of the command that the state awaits the answer to.
-use Rattle.laws_order.proofs.Vocabulary.{◌≡◌, ℕ, suc, ◌+◌, ◌&&◌, ◌||◌, not, Bool, true, false, cond, IsTrue, List, [], ◌∷◌, ◌++◌, take, refl, sym, ap, ◌∙◌, append-nil, append_assoc, true≢false, slice_get, unwrap_or, nat_lt, length, Seq, seq, Control, Information, ReceiveReady, ReceiveNotReady, Reject, Sabme, Disc, Ua, Dm, Parts, State, TeiAssigned, AwaitingEstablishment, AwaitingRelease, Established, TimerRecovery, ControlFrame, Terms, received, undefined, wrong_size, overlong, expired, requested, offer, cleared, SetBusy, ClearBusy, Link, is_multiple_frame, frame_of, outstanding, course, given_of, Course, frame_given, frames_of, is_overlong, as_heard, moves, receipt_as, is_next, is_taken, to_information, to_sabme, to_disc, answers_up, answers_to, answers, is_time, command_in, commands, put, room, event-follows, after, begun}
+use Rattle.laws_order.proofs.Vocabulary.{arith, ◌≡◌, ℕ, suc, ◌+◌, ◌&&◌, ◌||◌, not, Bool, true, false, cond, IsTrue, List, [], ◌∷◌, ◌++◌, take, refl, sym, ap, ◌∙◌, append-nil, append_assoc, slice_get, unwrap_or, nat_lt, length, Seq, seq, Control, Information, ReceiveReady, ReceiveNotReady, Reject, Sabme, Disc, Ua, Dm, Parts, State, AwaitingEstablishment, AwaitingRelease, ControlFrame, Terms, received, undefined, wrong_size, overlong, expired, requested, offer, cleared, Link, is_multiple_frame, frame_of, outstanding, course, given_of, Course, frame_given, frames_of, is_overlong, as_heard, moves, receipt_as, to_information, to_sabme, to_disc, answers_up, answers_to, answers, is_time, command_in, commands, put, room, event-follows, after, begun}
 use Rattle.model_link.specs.Events.{Event, frame}
 use Rattle.model_link.specs.Offers
 use Rattle.model_link.specs.Words
@@ -61,57 +61,38 @@ module _ (P : Control → Type 0) where
   waits-take other any h = tt
 
   either : (b : Bool) (xs ys : List ControlFrame) → EachWaits P xs → EachWaits P ys → EachWaits P (cond b xs ys)
-  either true xs ys x y = x
-  either false xs ys x y = y
+  either b xs ys x y = grind arith
 
   module _ (reports : Reporting P) (l : Link) where
     receipt : (own : Bool) (r : ℕ) (pf : Bool) → P (receipt_as own r pf)
-    receipt true r pf = reports.not_ready (seq r) pf
-    receipt false r pf = reports.ready (seq r) pf
+    receipt own r pf = grind arith
 
     to-information : (next p : Bool) → EachWaits P (to_information next p l)
-    to-information next p =
-        either (not l.own_busy && (not next && not l.rejecting)) _ _ (reports.reject (seq l.r) p, tt)
-        (either p _ _ (receipt l.own_busy (cond (is_taken next l) (l.r + 1) l.r) true, tt) tt)
+    to-information next p = grind (arith, either, receipt)
 
     to-supervisory : (b : Bool) → EachWaits P (cond b (record { command = false; control = receipt_as l.own_busy l.r true } ∷ []) [])
     to-supervisory b = either b _ _ (receipt l.own_busy l.r true, tt) tt
 
     answers-up : (command : Bool) (control : Control) → EachWaits P (answers_up command control l)
-    answers-up command (Information ns nr p) = to-information (is_next ns l) p
-    answers-up command (ReceiveReady nr p) = to-supervisory (command && p)
-    answers-up command (ReceiveNotReady nr p) = to-supervisory (command && p)
-    answers-up command (Reject nr p) = to-supervisory (command && p)
-    answers-up command other = tt
+    answers-up command control = grind (arith, to-information, to-supervisory)
 
     by-sabme : (here : State) (p : Bool) → P (Ua p) × P (Dm p) → P (to_sabme here p)
-    by-sabme AwaitingRelease p h = h.1
-    by-sabme other p h = h.0
+    by-sabme here p h = grind arith
 
     by-disc : (here : State) (p : Bool) → P (Ua p) × P (Dm p) → P (to_disc here p)
-    by-disc TeiAssigned p h = h.1
-    by-disc AwaitingEstablishment p h = h.1
-    by-disc other p h = h.0
+    by-disc here p h = grind arith
 
     when-up : (command : Bool) (control : Control) → EachWaits P (cond (is_multiple_frame l.state) (answers_up command control l) [])
     when-up command control = either (is_multiple_frame l.state) _ _ (answers-up command control) tt
 
     answers-to : (command : Bool) (control : Control) → Answered P control → EachWaits P (answers_to command control l)
-    answers-to command (Sabme p) h = (by-sabme l.state p h, tt)
-    answers-to command (Disc p) h = (by-disc l.state p h, tt)
-    answers-to command other h = when-up command other
+    answers-to command control h = grind (arith, by-sabme, by-disc, when-up)
 
     its-answers : (e : Event) → AnsweredAt P e → EachWaits P (answers e l)
-    its-answers (received (frame f)) h = answers-to f.address.command f.control h
-    its-answers (requested SetBusy full) h = either (is_multiple_frame l.state && not l.own_busy) _ _ (receipt true l.r false, tt) tt
-    its-answers (requested ClearBusy full) h = either (is_multiple_frame l.state && l.own_busy) _ _ (receipt false l.r false, tt) tt
-    its-answers other h = tt
+    its-answers e h = grind (arith, answers-to, either, receipt)
 
     its-command : (to : State) → Awaited P to → EachWaits P (command_in to l)
-    its-command AwaitingEstablishment h = (h, tt)
-    its-command AwaitingRelease h = (h, tt)
-    its-command TimerRecovery h = (receipt l.own_busy l.r true, tt)
-    its-command other h = tt
+    its-command to h = grind (arith, receipt)
 
     is-put : (e : Event) (to : State) → AnsweredAt P e → Awaited P to → EachWaits P (put e l to)
     is-put e to h a = waits-append (answers e l) (commands e l to) (its-answers e h) (either (moves l.state to || is_time e l) (command_in to l) [] (its-command to a) tt)
@@ -132,8 +113,7 @@ module _ (P : Control → Type 0) where
       IsPut other = Unit {0}
 
       heard-so : (f : Parts) (long : Bool) → Answered P f.control → AnsweredAt P (received (cond long overlong (frame f)))
-      heard-so f true h = tt
-      heard-so f false h = h
+      heard-so f long h = grind arith
 
       pub waits-more : (e : Event) → IsPut e → AnsweredAt P e → Awaited P (after t e l).state → Grows (after t e l).waiting
       waits-more (received (frame f)) is h a =
@@ -164,16 +144,10 @@ module _ (P : Control → Type 0) where
       }
 
       none : Gives (begun l)
-      none = record {
-        news = [];
-        line = λ way. ap (λ xs. xs ++ frames_of t l.waiting) (append-nil way) ∙ sym (append-nil (way ++ frames_of t l.waiting));
-        are = tt;
-      }
+      none = grind (arith, frames_of, append-nil)
 
       is-up : (here : State) (a b d : Bool) → (((Offers.is_established here && a) && b) && d) ≡ true → IsTrue (is_multiple_frame here)
-      is-up Established a b d e = refl
-      is-up TimerRecovery a b d e = refl
-      is-up other a b d e = absurd (true≢false (sym e))
+      is-up here a b d e = grind arith
 
       abbrev information : Parts
       information = record (frame_of t (Offers.next_information l)) { info = unwrap_or (slice_get l.contents l.s) [] }

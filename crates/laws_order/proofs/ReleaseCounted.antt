@@ -1,7 +1,6 @@
 -- An end that releases its link counts in RC the expiries of T200, until it is told.
-use Rattle.laws_order.proofs.Vocabulary.{◌≡◌, ℕ, ◌+◌, ◌≤◌, Bool, true, false, cond, List, [], ◌∷◌, ◌++◌, get_or, set, Option, Some, None, refl, sym, ap, ◌∙◌, subst, arith, true≢false, ◌⊎◌, inl, inr, All, filter, length, nat_lt, ltb-true, get_or-set_same, All-head, Note, Service, TeiAssigned, AwaitingRelease, Terms, LinkTimer, T200, T203, Link, runs, Config, hears, expiry, Line, fresh_line, link_of, place_in, terms, line_at, wants_room, has_lines, by_room, repeats_left, as_heard, is_clearing, moves, by_expiry, IsTimedIn, is_time, event-follows, timed-after, IsBy, Seen, is_own, none-ticks, own-is, Goes, event-goes, expired_of, off-fresh, nothing_yet, Station, Wire, happens, fresh, Event, at, line_of, Happening, by_near, by_far, IsPossible, happening, seen_at_near, seen_near, is_t200, t200_by, t200s, news}
+use Rattle.laws_order.proofs.Vocabulary.{◌≡◌, ℕ, ◌+◌, ◌≤◌, Bool, true, false, cond, List, [], ◌∷◌, ◌++◌, get_or, set, Option, Some, None, refl, sym, ap, ◌∙◌, subst, arith, ◌⊎◌, inl, inr, All, filter, length, nat_lt, ltb-true, get_or-set_same, All-head, Note, Service, TeiAssigned, AwaitingRelease, Terms, LinkTimer, T200, T203, Link, runs, Config, hears, Line, fresh_line, link_of, place_in, terms, line_at, wants_room, has_lines, by_room, as_heard, is_clearing, is_time, event-follows, timed-after, IsBy, Seen, none-ticks, own-is, Goes, event-goes, expired_of, off-fresh, nothing_yet, Station, Wire, happens, fresh, Event, at, line_of, Happening, IsPossible, happening, seen_at_near, seen_near, is_t200, t200_by, t200s, news}
 use Rattle.model_bits.specs.Stream as stream
-use Rattle.lapd_frame.specs.declared.timers.Timer.TheVariants as timers
 use Rattle.model_link.specs.Events as link
 use Rattle.model_link.specs.Machine as links
 use Rattle.model_line.specs.Machine as lines
@@ -17,11 +16,7 @@ pub record Counted (t : Terms) (l l' : Link) (n : ℕ) : Type 0 where
   pub below : (n ≡ 0) ⊎ (n + l.repeats ≤ t.n200)
 
 uncounted : (t : Terms) (l l' : Link) (n : ℕ) → l.running ≡ Some T200 → l' ≡ l → n ≡ 0 → Counted t l l' n
-uncounted t l l' n runs same none = record {
-  running = ap (λ (y : Link). y.running) same ∙ runs;
-  repeats = let was : l'.repeats ≡ l.repeats = ap (λ (y : Link). y.repeats) same in omega (arith, was, none);
-  below = inl none;
-}
+uncounted t l l' n runs same none = grind arith
 
 abbrev times : link.Event → ℕ
 times (link.expired T200) = 1
@@ -32,52 +27,22 @@ module _ (t : Terms) (l : Link) (is : l.state ≡ AwaitingRelease) (runs-on : l.
   l' e = links.after t e l
 
   keeps-running : (e : link.Event) → (l' e).state ≡ AwaitingRelease → (l' e).running ≡ Some T200
-  keeps-running e stays =
-      subst (λ s. IsTimedIn s (l' e)) stays (timed-after t e l (record { timer = subst (λ s. IsTimedIn s l) (sym is) runs-on })).timer
+  keeps-running e stays = grind (arith, timed-after, t)
 
   abbrev left : Bool → ℕ
   left time = cond time (l.repeats + 1) l.repeats
 
   repeats-so : (e : link.Event) → (l' e).state ≡ AwaitingRelease → is_clearing (as_heard t e) ≡ false → (l' e).repeats ≡ left (is_time (as_heard t e) l)
-  repeats-so e stays heard =
-      (event-follows t e l).leaves.repeats ∙ ap (repeats_left (as_heard t e) l) stays
-      ∙ ap (λ b. cond b 0 (cond (moves l.state AwaitingRelease) 0 (left (is_time (as_heard t e) l)))) heard
-      ∙ ap (λ s. cond (moves s AwaitingRelease) 0 (left (is_time (as_heard t e) l))) is
+  repeats-so e stays heard = grind (arith, event-follows, t)
 
   unexpired : (e : link.Event) → (l' e).state ≡ AwaitingRelease → is_clearing (as_heard t e) ≡ false → is_time (as_heard t e) l ≡ false → times e ≡ 0 → Counted t l (l' e) (times e)
-  unexpired e stays heard time none = record {
-    running = keeps-running e stays;
-    repeats = let same : (l' e).repeats ≡ l.repeats = repeats-so e stays heard ∙ ap left time in omega (arith, same, none);
-    below = inl none;
-  }
+  unexpired e stays heard time none = grind (arith, keeps-running, repeats-so)
 
   expires : (again : Bool) → nat_lt l.repeats t.n200 ≡ again → (l' (link.expired T200)).state ≡ AwaitingRelease → Counted t l (l' (link.expired T200)) 1
-  expires again few stays = record {
-    running = keeps-running (link.expired T200) stays;
-    repeats = let more : (l' (link.expired T200)).repeats ≡ l.repeats + 1 = repeats-so (link.expired T200) stays refl ∙ ap (λ o. left (runs T200 o)) runs-on in omega (arith, more);
-    below = go again few;
-  }
-    where
-      leads : (l' (link.expired T200)).state ≡ by_expiry AwaitingRelease T200 (nat_lt l.repeats t.n200)
-      leads =
-          (event-follows t (link.expired T200) l).leaves.state ∙ ap (λ o. cond (runs T200 o) (by_expiry l.state T200 (nat_lt l.repeats t.n200)) l.state) runs-on
-          ∙ ap (λ s. by_expiry s T200 (nat_lt l.repeats t.n200)) is
-
-      go : (again : Bool) → nat_lt l.repeats t.n200 ≡ again → (◌≡◌ {A = ℕ} 1 0) ⊎ (1 + l.repeats ≤ t.n200)
-      go true few = let less = ltb-true l.repeats t.n200 few in inr (omega (arith, less))
-      go false none = let wrong : TeiAssigned ≡ AwaitingRelease = sym (leads ∙ ap (by_expiry AwaitingRelease T200) none) ∙ stays in absurd (cc wrong)
+  expires again few stays = grind (arith, keeps-running, repeats-so, nat_lt, event-follows, t, ltb-true)
 
   link-counts : (e : link.Event) → (l' e).state ≡ AwaitingRelease → Counted t l (l' e) (times e)
-  link-counts (link.received (link.frame f)) stays = unexpired (link.received (link.frame f)) stays refl refl refl
-  link-counts (link.received link.undefined) stays = unexpired (link.received link.undefined) stays refl refl refl
-  link-counts (link.received link.wrong_size) stays = unexpired (link.received link.wrong_size) stays refl refl refl
-  link-counts (link.received link.overlong) stays = unexpired (link.received link.overlong) stays refl refl refl
-  link-counts (link.expired T200) stays = expires (nat_lt l.repeats t.n200) refl stays
-  link-counts (link.expired T203) stays = unexpired (link.expired T203) stays refl refl refl
-  link-counts (link.requested asked full) stays = unexpired (link.requested asked full) stays refl refl refl
-  link-counts link.offer stays = unexpired link.offer stays refl refl refl
-  link-counts link.cleared stays =
-      let wrong : TeiAssigned ≡ AwaitingRelease = sym (event-follows t link.cleared l).leaves.state ∙ stays in absurd (cc wrong)
+  link-counts e stays = grind (arith, unexpired, expires, nat_lt, event-follows, t)
 
 module _ (service : Service) (tei : ℕ) where
   abbrev count_of : Event → ℕ
@@ -89,17 +54,13 @@ module _ (service : Service) (tei : ℕ) where
   its-t200 other = false
 
   by-own : (b : Bool) → b ≡ its-t200 (cond b (Some T200) None)
-  by-own true = refl
-  by-own false = refl
+  by-own b = grind arith
 
   by-other : (b : Bool) → false ≡ its-t200 (cond b (Some T203) None)
-  by-other true = refl
-  by-other false = refl
+  by-other b = grind arith
 
   t200-is : (e : Event) → is_t200 service tei e ≡ its-t200 (expired_of service tei e)
-  t200-is (expiry (timers.T200 of by)) = by-own (is_own service tei of by)
-  t200-is (expiry (timers.T203 of by)) = by-other (is_own service tei of by)
-  t200-is other = refl
+  t200-is e = grind (arith, by-own, by-other)
 
   none-counted : (e : Event) → expired_of service tei e ≡ None → count_of e ≡ 0
   none-counted e none = ap (λ b. length (cond {A = List Event} b (e ∷ []) [])) (t200-is e ∙ ap its-t200 none)
@@ -116,17 +77,10 @@ module _ (service : Service) (tei : ℕ) where
     k' = link_of service tei (lines.after c e l)
 
     faulty : (octets : List ℕ) (A B : Type 0) → ((e ≡ hears (stream.frame octets)) × A) ⊎ ((e ≡ hears (stream.overlong octets)) × B) → count_of e ≡ 0
-    faulty octets A B (inl x) = ap count_of x.0
-    faulty octets A B (inr x) = ap count_of x.0
+    faulty octets A B o = grind arith
 
     count-is : (ev : link.Event) → IsBy c e (lines.answer c e l) service tei ev → count_of e ≡ times ev
-    count-is (link.received (link.frame f)) by = ap count_of by.by
-    count-is (link.expired T200) by = ap count_of by ∙ ap (λ b. length (cond {A = List Event} b (expiry (timers.T200 service tei) ∷ []) [])) (own-is service tei)
-    count-is (link.expired T203) by = ap count_of by
-    count-is (link.requested asked full) by = ap count_of by.0
-    count-is link.offer by = ap count_of by
-    count-is link.cleared by = absurd by
-    count-is other by = faulty by.octets _ _ by.by
+    count-is ev by = grind (arith, own-is, faulty)
 
     line-counts : k.state ≡ AwaitingRelease → k.running ≡ Some T200 → k'.state ≡ AwaitingRelease → Counted Own k k' (count_of e)
     line-counts is runs-on stays = go (event-goes c e l service tei s)
@@ -163,8 +117,7 @@ module _ (service : Service) (tei : ℕ) where
     -- what finds the pool full is no expiry
     full-none : (e : Event) → wants_room (at s.line e) s.card ≡ true → count_of e ≡ 0
     unfolding lines.takes_slot
-    full-none (expiry timer) full = absurd (true≢false (sym full))
-    full-none other full = refl
+    full-none e full = grind arith
 
     abbrev Then : Line → Type 0
     Then x = (link_of service tei x).state ≡ AwaitingRelease → Counted (terms conf service tei) Was (link_of service tei x) (count_of e)
@@ -194,17 +147,13 @@ module _ (service : Service) (tei : ℕ) where
   )
 
   t200-at : (h : Happening) (w : Wire) → t200_by service tei h w ≡ length (filter (is_t200 service tei) (events_at service tei h w))
-  t200-at (by_near deed) w = refl
-  t200-at (by_far deed) w = refl
+  t200-at h w = grind arith
 
   abbrev pub Bounded : ℕ → ℕ → ℕ → Type 0
   Bounded n r most = (n ≡ 0) ⊎ (n + r ≤ most)
 
   add : (n m r r' most most' : ℕ) → r' ≡ n + r → most' ≡ most → Bounded n r most → Bounded m r' most' → Bounded (n + m) r most
-  add n m r r' most most' e same (inl a) (inl b) = inl (omega (arith, a, b))
-  add n m r r' most most' e same (inl a) (inr b) = inr (omega (arith, e, same, a, b))
-  add n m r r' most most' e same (inr a) (inl b) = inr (omega (arith, a, b))
-  add n m r r' most most' e same (inr a) (inr b) = inr (omega (arith, e, same, b))
+  add n m r r' most most' e same o x = grind arith
 
   abbrev IsOpen : Wire → Happening → Type 0
   IsOpen w h = IsPossible service tei w h

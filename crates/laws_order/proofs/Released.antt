@@ -1,5 +1,5 @@
 -- What an end is told of its link in state 6, and in state 4, whatever happens at it and at the other end.
-use Rattle.laws_order.proofs.Vocabulary.{◌≡◌, ℕ, List, [], ◌∷◌, ◌++◌, refl, sym, ap, ◌∙◌, subst, append-nil, ◌⊎◌, inl, inr, All, list_any, All-head, All-tail, list_any-append, Note, Service, State, TeiAssigned, AwaitingRelease, Link, came, hears, expiry, request, next, link_of, after_is_sound, Seen, seen, Station, Wire, requests, times_out, gives, takes, loses, answered, happens, turned, flat_map-append, Event, line_of, Deed, acts, disturbed, elsewhere, befalling, Happening, by_near, by_far, IsPossible, happening, IsPossibleAt, events_here, seen_by, seen_at_near, seen_near, data_noted, news_in, news, begins_by, BeginsNothing, IsToldOfRelease, ReleasesEnd, ReleasedIsOver, or_parts}
+use Rattle.laws_order.proofs.Vocabulary.{arith, ◌≡◌, ℕ, List, [], ◌∷◌, ◌++◌, refl, sym, ap, ◌∙◌, subst, append-nil, ◌⊎◌, inl, inr, All, list_any, All-head, All-tail, list_any-append, Note, Service, State, TeiAssigned, AwaitingRelease, Link, came, hears, expiry, request, next, link_of, after_is_sound, Seen, seen, Station, Wire, requests, times_out, gives, takes, loses, answered, happens, turned, flat_map-append, Event, line_of, Deed, acts, disturbed, elsewhere, befalling, Happening, by_near, by_far, IsPossible, happening, IsPossibleAt, events_here, seen_by, seen_at_near, seen_near, data_noted, news_in, news, begins_by, BeginsNothing, IsToldOfRelease, ReleasesEnd, ReleasedIsOver, or_parts}
 use Rattle.laws_order.proofs.Beginning.{past-well, six-here, four-here}
 use Rattle.laws_order.proofs.Leading.{other-line}
 use Rattle.laws_order.proofs.Ordered.{noted-append, near-place, far-place, all-possible}
@@ -98,9 +98,7 @@ module _ (service : Service) (tei : ℕ) where
           never (subst (λ s. Confirmless service tei w.near.card.config e (line_of s)) it (All-head (λ e. Confirmless service tei w.near.card.config e (line_of w'.near)) e [] mine))
 
       go : SixAt service tei w.near well e (line_of (happens e w.near)) (answered e w.near) → StepSix w w' t es
-      go (inl x) = inl (to-state AwaitingRelease x.0, one-is t [] (seen e (answered e w.near)) shown x.1)
-      go (inr (to, inl x)) = inr (to-state TeiAssigned to, inl (one-is t (Confirm service tei) (seen e (answered e w.near)) shown x.0, none-of x.1))
-      go (inr (to, inr x)) = inr (to-state TeiAssigned to, inr (one-is t (GivenUp service tei) (seen e (answered e w.near)) shown x))
+      go o = grind (arith, to-state, one-is, Confirm, none-of, GivenUp)
 
   abbrev IsOpen : Wire → Happening → Type 0
   IsOpen w h = IsPossible service tei w h

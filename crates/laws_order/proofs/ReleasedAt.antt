@@ -1,5 +1,5 @@
 -- What one event at an end tells of its link in state 6, and in state 4.
-use Rattle.laws_order.proofs.Vocabulary.{◌≡◌, ℕ, ◌&&◌, ◌||◌, not, Bool, true, false, cond, List, [], ◌∷◌, get_or, set, Option, Some, None, refl, sym, ap, ◌∙◌, subst, arith, append-nil, true≢false, ◌⊎◌, inl, inr, filter, option_to_list, list_any, get_or-set_same, Control, Ua, Dm, H, Note, Refusal, PoolFull, Service, TeiAssigned, AwaitingRelease, Terms, Link, state_number, Config, hears, request, next, Answer, refused, gave, Line, fresh_line, has_tei, link_of, place_in, terms, line_at, has_lines, by_room, notes_of, contents_in, is_data_of, of_link, deactivates, is_granted, IsBy, is-off, seen, is_ui, unless, no-data, on-line, own-is, leaving-due, none-filtered, others-silent, due, HasOne, HasNone, IsGivenUp, event-goes, off-fresh, Station, answered, happens, fresh, Request, at, line_of, data_noted, is_unasked, is_news, news, begins_by_note, begins_by_request, begins_by, BeginsNothing}
+use Rattle.laws_order.proofs.Vocabulary.{◌≡◌, ℕ, Bool, true, false, cond, List, [], ◌∷◌, get_or, set, Option, Some, None, refl, sym, ap, ◌∙◌, subst, arith, append-nil, true≢false, ◌⊎◌, inl, inr, filter, option_to_list, list_any, get_or-set_same, Control, H, Note, Refusal, PoolFull, Service, TeiAssigned, AwaitingRelease, Terms, Link, state_number, Config, request, Answer, refused, Line, fresh_line, has_tei, link_of, place_in, terms, line_at, has_lines, by_room, notes_of, contents_in, deactivates, is_granted, IsBy, is-off, seen, is_ui, unless, no-data, on-line, own-is, leaving-due, none-filtered, others-silent, due, HasOne, HasNone, IsGivenUp, event-goes, off-fresh, Station, answered, happens, fresh, Request, at, line_of, data_noted, is_news, news, begins_by_note, begins_by_request, begins_by, BeginsNothing}
 use Rattle.lapd_frame.specs.declared.notes.Note.TheVariants as notes
 use Rattle.model_link.specs.Events as link
 use Rattle.model_link.specs.Machine as links
@@ -20,14 +20,10 @@ abbrev Unconfirming : Control → Type 0
 Unconfirming control = Confirms control → ⊥
 
 ui-unconfirming : (control : Control) → is_ui control ≡ true → Unconfirming control
-ui-unconfirming (Ua f) is h = true≢false (sym is)
-ui-unconfirming (Dm f) is h = true≢false (sym is)
-ui-unconfirming other is h = h
+ui-unconfirming control is h = grind arith
 
 speaks-unconfirming : (control : Control) → Speaks control → Unconfirming control
-speaks-unconfirming (Ua f) is h = is
-speaks-unconfirming (Dm f) is h = is
-speaks-unconfirming other is h = h
+speaks-unconfirming control is h = grind arith
 
 module _ (service : Service) (tei : ℕ) where
   abbrev News : List Note → List Note
@@ -35,12 +31,7 @@ module _ (service : Service) (tei : ℕ) where
 
   -- What the trace takes for news has all of it.
   fewer : (n : Note) → trace.is_news service tei n ≡ false → is_news service tei n ≡ false
-  fewer (notes.EstablishIndication of by) h = h
-  fewer (notes.EstablishConfirm of by) h = h
-  fewer (notes.ReleaseIndication of by) h = h
-  fewer (notes.ReleaseConfirm of by) h = h
-  fewer (notes.Error of by why) h = ap (λ b. b && not (is_unasked why)) h
-  fewer other h = refl
+  fewer n h = grind arith
 
   of-news : (ns : List Note) → News ns ≡ News (filter (trace.is_news service tei) ns)
   of-news [] = refl
@@ -48,8 +39,7 @@ module _ (service : Service) (tei : ℕ) where
     where
       go : News ns ≡ News (filter (trace.is_news service tei) ns) → (b : Bool) → trace.is_news service tei n ≡ b
           → cond (is_news service tei n) (n ∷ News ns) (News ns) ≡ News (cond b (n ∷ filter (trace.is_news service tei) ns) (filter (trace.is_news service tei) ns))
-      go rest true is = ap (λ xs. cond (is_news service tei n) (n ∷ xs) xs) rest
-      go rest false is = ap (λ b. cond b (n ∷ News ns) (News ns)) (fewer n is) ∙ rest
+      go rest b is = grind (arith, fewer)
 
   -- An answer tells this of the link, and no data.
   pub record Says (a : Answer) (ns : List Note) : Type 0 where
@@ -76,26 +66,16 @@ module _ (service : Service) (tei : ℕ) where
 
   -- What is seen of an answer.
   news-is : (e : Event) (a : Answer) → Fits e a → news service tei (seen e a) ≡ News (notes_of a)
-  news-is next (told t) f = absurd f
-  news-is next (refused why) f = absurd f
-  news-is next (gave None) f = refl
-  news-is next (gave (Some frame)) f = refl
-  news-is other (told t) f = append-nil (News t.notes)
-  news-is other any f = refl
+  news-is e a f = grind (arith, append-nil)
 
   none-news : (e : Event) (why : Refusal) → news service tei (seen e (refused why)) ≡ []
-  none-news (hears what) why = refl
-  none-news other why = refl
+  none-news e why = grind arith
 
   asked-begins : (r : Request) (a : Answer) → is_granted a ≡ true → begins_by_request service tei r ≡ true → list_any (begins_by service tei) (seen (request r) a) ≡ true
-  asked-begins r (told t) g h = ap (λ b. b || (list_any (begins_by_note service tei) t.notes || false)) h
-  asked-begins r other g h = absurd (true≢false (sym g))
+  asked-begins r a g h = grind arith
 
   noted-begins : (e : Event) (a : Answer) → Fits e a → list_any (begins_by_note service tei) (notes_of a) ≡ true → list_any (begins_by service tei) (seen e a) ≡ true
-  noted-begins (request r) (told t) f h = ap (λ b. begins_by_request service tei r || (b || false)) h ∙ or-true (begins_by_request service tei r)
-  noted-begins next (told t) f h = absurd f
-  noted-begins other (told t) f h = ap (λ b. b || false) h
-  noted-begins e other f h = absurd (true≢false (sym h))
+  noted-begins e a f h = grind (arith, or-true)
 
   -- One event of a line.
   module _ (c : Config) (ranged : line_sound.IsInRange c) (l : Line) (s : line_sound.IsSound c l) (e : Event) where
@@ -121,10 +101,7 @@ module _ (service : Service) (tei : ℕ) where
     Quietly = list_any (begins_by service tei) (seen e a) ≡ false
 
     by-notes : (ns its : List Note) → notes_of a ≡ ns → Tells Own ns its → Says a its
-    by-notes ns its is x = record {
-      news = ap News is ∙ x.news;
-      no_data = ap (λ b. cond b (option_to_list (contents_in a)) []) (ap (list_any (is_data_of service tei)) is ∙ x.no_data);
-    }
+    by-notes ns its is x = grind (arith, option_to_list)
 
     -- no event of the link
     module _ (x : HasNone c service tei e l l' a) where
@@ -138,8 +115,7 @@ module _ (service : Service) (tei : ℕ) where
       new-state is = ap (λ (y : Link). y.state) is
 
       either-new : k ≡ fresh → (k' ≡ k) ⊎ (k' ≡ fresh) → k'.state ≡ TeiAssigned
-      either-new was (inl same) = new-state (same ∙ was)
-      either-new was (inr new) = new-state new
+      either-new was o = grind (arith, new-state)
 
       off-says : place_in l tei ≡ None → Four k' a
       off-says off = (
@@ -204,15 +180,7 @@ module _ (service : Service) (tei : ℕ) where
           go (inr (to, inr y)) = inr (state-is ∙ to, inr (by-notes _ GivenUp x.notes y))
 
       asks-nothing : Quietly → (ev : link.Event) → IsBy c e a service tei ev → AsksNothing Own ev
-      asks-nothing quiet (link.requested link.Establish full) by = begun (of_link service tei link.Establish) by.0 by.1 (own-is service tei)
-        where
-          begun : (r : Request) → e ≡ request r → is_granted a ≡ true → begins_by_request service tei r ≡ true → ⊥
-          begun r is g own = true≢false (sym (asked-begins r a g own) ∙ sym (ap (λ e. list_any (begins_by service tei) (seen e a)) is) ∙ quiet)
-      asks-nothing quiet (link.requested link.Release full) by = begun (of_link service tei link.Release) by.0 by.1 (own-is service tei)
-        where
-          begun : (r : Request) → e ≡ request r → is_granted a ≡ true → begins_by_request service tei r ≡ true → ⊥
-          begun r is g own = true≢false (sym (asked-begins r a g own) ∙ sym (ap (λ e. list_any (begins_by service tei) (seen e a)) is) ∙ quiet)
-      asks-nothing quiet other by = tt
+      asks-nothing quiet ev by = grind (arith, own-is, asked-begins)
 
       one-four : Quietly → k.state ≡ TeiAssigned → Four k' a
       one-four quiet is = go (in-4 Own k is x.event (asks-nothing quiet x.event x.by))
@@ -230,12 +198,7 @@ module _ (service : Service) (tei : ℕ) where
       deactivated = ap (deactivates service tei) x.by.0 ∙ own-is service tei
 
       ended-six : k.state ≡ AwaitingRelease → Six Cause k' a
-      ended-six is = go (in-6 Own k is link.cleared)
-        where
-          go : In6 Own (ConfirmsAt link.cleared) (links.told Own link.cleared k).notes (links.after Own link.cleared k).state → Six Cause k' a
-          go (inl y) = let wrong : AwaitingRelease ≡ TeiAssigned = sym y.0 in absurd (cc wrong)
-          go (inr (to, inl y)) = inr (ended-state, inl (by-notes _ Confirm x.notes y.0, λ none. true≢false (sym deactivated ∙ none.active)))
-          go (inr (to, inr y)) = inr (ended-state, inr (by-notes _ GivenUp x.notes y))
+      ended-six is = grind (arith, in-6, In6, ConfirmsAt, ended-state, by-notes, deactivated)
 
       ended-four : Quietly → k.state ≡ TeiAssigned → Four k' a
       ended-four quiet is = go (in-4 Own k is link.cleared tt)
@@ -277,9 +240,7 @@ module _ (service : Service) (tei : ℕ) where
     shows a f ns x = (news-is e a f ∙ x.news, noted-is service tei e a f ∙ x.no_data)
 
     six-shows : (l : Line) (a : Answer) → Fits e a → Six (Confirmless conf e l → ⊥) (link_of service tei l) a → SixAt l a
-    six-shows l a f (inl x) = inl (x.0, shows a f [] x.1)
-    six-shows l a f (inr (to, inl x)) = inr (to, inl (shows a f Confirm x.0, x.1))
-    six-shows l a f (inr (to, inr x)) = inr (to, inr (shows a f GivenUp x))
+    six-shows l a f o = grind (arith, shows)
 
     pub station-six : (link_here service tei s).state ≡ AwaitingRelease → SixAt (line_of (happens e s)) (answered e s)
     station-six is =

@@ -1,6 +1,6 @@
 -- The line from a station: the frames of the link that are on their way, and then those that wait; and what an event adds to it, in any
 -- state of the link.
-use Rattle.laws_order.proofs.Vocabulary.{◌≡◌, ℕ, ◌==◌, ◌&&◌, not, Bool, true, false, cond, IsTrue, List, [], ◌∷◌, ◌++◌, get_or, set, refl, sym, ap, ◌∙◌, subst, arith, append-nil, append_assoc, eq-eqb, true≢false, ◌⊎◌, inl, inr, All, option_map_or, get_or-set_same, All-nil, All-cons, Seq, Control, Information, ReceiveReady, ReceiveNotReady, Reject, Sabme, Disc, Ui, Service, Parts, sapi_of, place_of-is, Terms, Link, is_multiple_frame, frame_given, frames_of, frames-append, given_is_frame, Config, hears, Answer, heard_side, Line, fresh_line, link_in, link_of, terms, sound_in, terms_in_range, line_at, has_lines, by_room, event-follows, IsBy, sapi-is, is_for, is_ui, frames_given, Goes, event-goes, Station, answered, happens, frames_by, flat_map-append, fresh, Event, at, is_of_link, of_link_in, of_link_at, of_link_on}
+use Rattle.laws_order.proofs.Vocabulary.{◌≡◌, ℕ, ◌==◌, ◌&&◌, not, Bool, true, false, cond, IsTrue, List, [], ◌∷◌, ◌++◌, get_or, set, refl, sym, ap, ◌∙◌, subst, arith, append-nil, append_assoc, eq-eqb, ◌⊎◌, inl, inr, All, option_map_or, get_or-set_same, All-nil, All-cons, Seq, Control, Information, Service, Parts, sapi_of, place_of-is, Terms, Link, is_multiple_frame, frame_given, frames_of, frames-append, given_is_frame, Config, hears, Answer, heard_side, Line, fresh_line, link_in, link_of, terms, sound_in, terms_in_range, line_at, has_lines, by_room, event-follows, IsBy, sapi-is, is_for, is_ui, frames_given, Goes, event-goes, Station, answered, happens, frames_by, flat_map-append, fresh, Event, at, is_of_link, of_link_in, of_link_at, of_link_on}
 use Rattle.model_bits.specs.Stream as stream
 use Rattle.model_link.specs.Events as link
 use Rattle.model_link.specs.Machine as links
@@ -32,17 +32,10 @@ each-as P Q x [] h = tt
 each-as P Q x (f ∷ fs) h = (x f.control h.0, each-as P Q x fs h.1)
 
 ui-answered : (P : Control → Type 0) (control : Control) → is_ui control ≡ true → Answered P control
-ui-answered P (Sabme p) is = absurd (true≢false (sym is))
-ui-answered P (Disc p) is = absurd (true≢false (sym is))
-ui-answered P other is = tt
+ui-answered P control is = grind arith
 
 ui-unheeded : (control : Control) → is_ui control ≡ true → Unheeded control
-ui-unheeded (Ui p) is = tt
-ui-unheeded (Information ns nr p) is = tt
-ui-unheeded (ReceiveReady nr pf) is = tt
-ui-unheeded (ReceiveNotReady nr pf) is = tt
-ui-unheeded (Reject nr pf) is = tt
-ui-unheeded other is = absurd (true≢false (sym is))
+ui-unheeded control is = grind arith
 
 offer-stays : (t : Terms) (k : Link) → (links.after t link.offer k).state ≡ k.state
 offer-stays t k = (event-follows t link.offer k).leaves.state
@@ -134,10 +127,7 @@ module _ (c : Config) (service : Service) (tei : ℕ) where
     unheeded heard other by = tt
 
     is-down : is_multiple_frame k.state ≡ false → HeardIs Unheeded e → Goes c service tei e l (lines.after c e l) a → is_multiple_frame k'.state ≡ false
-    is-down down heard (inl x) =
-        elim (x.is) [ inl same ↦ ap (λ (y : Link). is_multiple_frame y.state) same ∙ down | inr new ↦ ap (λ (y : Link). is_multiple_frame y.state) new ]
-    is-down down heard (inr (inl x)) = ap (λ (y : Link). is_multiple_frame y.state) x.is ∙ stays-down Own k down x.event (unheeded heard x.event x.by)
-    is-down down heard (inr (inr x)) = ap (λ (y : Link). is_multiple_frame y.state) x.is
+    is-down down heard o = grind (arith, stays-down, unheeded)
 
     pub line-down : is_multiple_frame k.state ≡ false → HeardIs Unheeded e → is_multiple_frame k'.state ≡ false
     line-down down heard = is-down down heard (event-goes c e l service tei s)
@@ -154,17 +144,10 @@ module _ (c : Config) (service : Service) (tei : ℕ) where
       none-cleared ev by is = subst (IsBy c e a service tei) is by
 
       new-goes : Ours (frames_by a) ≡ [] → k' ≡ fresh → line_on (way ++ Ours (frames_by a)) k' ≡ way
-      new-goes none new =
-          ap (λ (y : Link). (way ++ Ours (frames_by a)) ++ frames_of Own y.waiting) new ∙ append-nil (way ++ Ours (frames_by a))
-          ∙ ap (λ fs. way ++ fs) none ∙ append-nil way
+      new-goes none new = grind (arith, frames_of, append-nil)
 
       same-goes : Ours (frames_by a) ≡ [] → k' ≡ k → Goes-on
-      same-goes none same = inl (record {
-        news = [];
-        is = ap (λ (y : Link). (way ++ Ours (frames_by a)) ++ frames_of Own y.waiting) same
-            ∙ ap (λ fs. (way ++ fs) ++ frames_of Own k.waiting) none ∙ ap (λ w. w ++ frames_of Own k.waiting) (append-nil way) ∙ sym (append-nil (line_on way k));
-        are = tt;
-      })
+      same-goes none same = grind (arith, frames_of, append-nil)
 
       pub line-goes : HeardIs (Answered P) e → Awaited P k'.state → (IsTrue (is_multiple_frame k'.state) → (ns nr : Seq) (p : Bool) → P (Information ns nr p))
           → Each NotUi (frames_of Own k.waiting) → Goes-on
@@ -177,8 +160,7 @@ module _ (c : Config) (service : Service) (tei : ℕ) where
               none = ap Ours (same-frames a) ∙ all-foreign c service tei _ x.begins
 
               either : (k' ≡ k) ⊎ (k' ≡ fresh) → Goes-on
-              either (inl same) = same-goes none same
-              either (inr new) = inr (new-goes none new)
+              either o = grind (arith, same-goes, none, new-goes)
           go (inr (inl x)) =
               let at = (place_of-is l.management.places tei x.place x.placed).1 in
               let sound = subst (link_sound.IsSound Own) (sym (ap (λ o. option_map_or (link_in l service) o fresh) x.placed)) (sound_in c ranged l s service tei x.place at) in
@@ -224,11 +206,7 @@ module _ (service : Service) (tei : ℕ) where
 
       -- nothing happens where the pool is full
       full-goes : (way : List Parts) (k : Link) → Grown P (way ++ frames_of (terms c service tei) k.waiting) ((way ++ []) ++ frames_of (terms c service tei) k.waiting)
-      full-goes way k = record {
-        news = [];
-        is = ap (λ w. w ++ frames_of (terms c service tei) k.waiting) (append-nil way) ∙ sym (append-nil (way ++ frames_of (terms c service tei) k.waiting));
-        are = tt;
-      }
+      full-goes way k = grind (arith, frames_of, append-nil)
 
       pub station-goes : HeardIs c service tei (Answered P) e → Awaited P (link_here service tei (happens e s)).state
           → (IsTrue (is_multiple_frame (link_here service tei (happens e s)).state) → (ns nr : Seq) (p : Bool) → P (Information ns nr p))

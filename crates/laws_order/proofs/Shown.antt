@@ -1,5 +1,5 @@
 -- What is seen of an event with its answer, of the link of a service with a TEI.
-use Rattle.laws_order.proofs.Vocabulary.{◌≡◌, ℕ, ◌||◌, Bool, true, false, cond, List, [], Some, None, refl, sym, ap, ◌∙◌, true≢false, append-nil, option_to_list, list_any, Refusal, Service, Config, hears, expiry, request, next, Answer, refused, gave, Line, notes_of, contents_in, is_data_of, is_granted, data_asked, frame_in, seen, frames_by, Request, data_noted, data_granted, ends_by_note, ends_by_request, ends_by}
+use Rattle.laws_order.proofs.Vocabulary.{arith, ◌≡◌, ℕ, Bool, true, cond, List, [], append-nil, option_to_list, list_any, Refusal, Service, Config, request, next, Answer, refused, Line, notes_of, contents_in, is_data_of, is_granted, data_asked, frame_in, seen, frames_by, Request, data_noted, data_granted, ends_by_note, ends_by_request, ends_by}
 use Rattle.model_line.specs.Event.{Event, told}
 use Rattle.model_line.specs.Machine as lines
 use Rattle.laws_order.proofs.LinkEnds.{or-true}
@@ -12,64 +12,37 @@ Fits other any = Unit {0}
 
 pub fits : (c : Config) (e : Event) (l : Line) → Fits e (lines.answer c e l)
 unfolding lines.answer
-fits c (hears what) l = tt
-fits c other l = tt
+fits c e l = grind arith
 
 pub same-frames : (a : Answer) → frames_by a ≡ frame_in a
-same-frames (told t) = refl
-same-frames (refused why) = refl
-same-frames (gave None) = refl
-same-frames (gave (Some frame)) = refl
+same-frames a = grind arith
 
 module _ (service : Service) (tei : ℕ) where
   abbrev pub noted_by : Answer → List (List ℕ)
   noted_by a = cond (list_any (is_data_of service tei) (notes_of a)) (option_to_list (contents_in a)) []
 
   pub noted-is : (e : Event) (a : Answer) → Fits e a → data_noted service tei (seen e a) ≡ noted_by a
-  noted-is next (told t) f = absurd f
-  noted-is next (refused why) f = absurd f
-  noted-is next (gave None) f = refl
-  noted-is next (gave (Some frame)) f = refl
-  noted-is other (told t) f = append-nil (noted_by (told t))
-  noted-is other any f = refl
+  noted-is e a f = grind (arith, append-nil)
 
   abbrev pub asked_in : Event → Answer → List (List ℕ)
   asked_in (request r) a = cond (is_granted a) (data_asked service tei r) []
   asked_in other a = []
 
   pub granted-is : (e : Event) (a : Answer) → data_granted service tei (seen e a) ≡ asked_in e a
-  granted-is (hears what) (told t) = refl
-  granted-is (hears what) (refused why) = refl
-  granted-is (hears what) (gave frame) = refl
-  granted-is (expiry timer) (told t) = refl
-  granted-is (expiry timer) (refused why) = refl
-  granted-is (expiry timer) (gave frame) = refl
-  granted-is (request r) (told t) = append-nil (data_asked service tei r)
-  granted-is (request r) (refused why) = refl
-  granted-is (request r) (gave frame) = refl
-  granted-is next (told t) = refl
-  granted-is next (refused why) = refl
-  granted-is next (gave None) = refl
-  granted-is next (gave (Some frame)) = refl
+  granted-is e a = grind (arith, append-nil)
 
   abbrev Notes : Answer → Bool
   Notes a = list_any (ends_by_note service tei) (notes_of a)
 
   pub ends-is : (e : Event) (a : Answer) → Fits e a → Notes a ≡ true → list_any (ends_by service tei) (seen e a) ≡ true
-  ends-is (request r) (told t) f h = ap (λ b. ends_by_request service tei r || (b || false)) h ∙ or-true (ends_by_request service tei r)
-  ends-is next (told t) f h = absurd f
-  ends-is other (told t) f h = ap (λ b. b || false) h
-  ends-is e other f h = absurd (true≢false (sym h))
+  ends-is e a f h = grind (arith, or-true)
 
   pub request-ends : (r : Request) (a : Answer) → is_granted a ≡ true → ends_by_request service tei r ≡ true → list_any (ends_by service tei) (seen (request r) a) ≡ true
-  request-ends r (told t) g h = ap (λ b. b || (Notes (told t) || false)) h
-  request-ends r other g h = absurd (true≢false (sym g))
+  request-ends r a g h = grind arith
 
   -- of a request that finds the pool full nothing is seen
   pub none-noted : (e : Event) (why : Refusal) → data_noted service tei (seen e (refused why)) ≡ []
-  none-noted (hears what) why = refl
-  none-noted other why = refl
+  none-noted e why = grind arith
 
   pub none-granted : (e : Event) (why : Refusal) → data_granted service tei (seen e (refused why)) ≡ []
-  none-granted (hears what) why = refl
-  none-granted other why = refl
+  none-granted e why = grind arith

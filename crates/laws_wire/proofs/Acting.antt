@@ -1,5 +1,5 @@
 -- What happens at one end of a wire whose link is up, where frames are lost and timers expire.
-use Rattle.laws_wire.proofs.Vocabulary.{◌≡◌, ℕ, IsTrue, List, [], ◌∷◌, ◌++◌, drop, refl, sym, ap, subst, ◌∙◌, ◌⊎◌, inl, inr, append-nil, Service, Timer, Parts, spelling, ControlFrame, LinkTimer, is_multiple_frame, course, IsInRange, End, with_link, with_sent, frames_of, Config, LineTold, expiry, request, next, at_timer, aim_of_expiry, Line, place_in, event-follows, IsSound, Course, line_of, Data, Station, happens, with_first_lost, comes}
+use Rattle.laws_wire.proofs.Vocabulary.{arith, ◌≡◌, ℕ, IsTrue, List, [], ◌∷◌, ◌++◌, drop, refl, sym, ap, subst, ◌∙◌, ◌⊎◌, inl, inr, append-nil, Service, Timer, Parts, spelling, ControlFrame, LinkTimer, is_multiple_frame, course, IsInRange, End, with_link, with_sent, frames_of, Config, LineTold, expiry, request, next, at_timer, aim_of_expiry, Line, place_in, event-follows, IsSound, Course, line_of, Data, Station, happens, with_first_lost, comes}
 use Rattle.model_link.specs.Events as link
 use Rattle.model_link.specs.TwoEnds as two_ends
 use Rattle.laws_wire.proofs.Asking.{with_more}
@@ -21,11 +21,7 @@ pub record First (f : Parts) (rest first line : List Parts) : Type 0 where
 
 pub which : (f : Parts) (rest first line : List Parts) → f ∷ rest ≡ first ++ line → First f rest first line ⊎ Before f rest first line
 which f rest [] line e = inl (record { none = refl; is = sym e })
-which f rest (g ∷ gs) line e =
-    let whole : f ∷ rest ≡ g ∷ (gs ++ line) = e in
-    let head : g ≡ f = cc in
-    let tail : rest ≡ gs ++ line = cc in
-    inr (record { others = gs; is = ap (λ x. x ∷ gs) head; behind = tail })
+which f rest (g ∷ gs) line e = grind arith
 
 module _ (service : Service) (tei place : ℕ) (past : List LineTold) (c : Config) where
   abbrev Its : Station → End → Type 0
@@ -151,9 +147,7 @@ module _ (service : Service) (tei place : ℕ) (past : List LineTold) (c : Confi
                 },
               );
             }
-        go (inr x) = record {
-          lost = inr (x.others, x.is, record { n = n'; near = near; at = record { held = held; up = h.up; line = now ∙ x.behind; joint = record { there = h.joint.there; back = h.joint.back } } });
-        }
+        go (inr x) = grind (arith, n', held, now)
 
   -- it takes the first frame of the other's line
   pub up-hears : (d : Config) → Face c d → (s : Station) (n m : End) (f : Parts) (first near far : List Parts) → UpAt s n m first near (f ∷ far) → IsCarried d service tei f

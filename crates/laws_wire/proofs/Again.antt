@@ -1,7 +1,7 @@
 -- Where no turn is left the two cards face each other again.
-use Rattle.laws_wire.proofs.Vocabulary.{◌≡◌, ℕ, ◌<◌, ◌||◌, [], length, Some, None, option_map, sym, ap, subst, ◌∙◌, arith, Service, Link, state_number, End, Config, state_in, has_lines, line_sound, next, gave, Steady, Station, Wire, IsStill, answered, Face, Speaks, own_link, AreOpposite}
+use Rattle.laws_wire.proofs.Vocabulary.{◌≡◌, ℕ, ◌<◌, ◌||◌, [], length, None, option_map, sym, ap, subst, ◌∙◌, arith, Service, Link, End, Config, has_lines, line_sound, next, gave, Steady, Station, Wire, IsStill, answered, Face, Speaks, own_link, AreOpposite}
 use Rattle.laws_link.specs.two.Rounds.{HasArrived}
-use Rattle.laws_wire.specs.Facing.{line_of, is_busy}
+use Rattle.laws_wire.specs.Facing.{is_busy}
 use Rattle.laws_wire.proofs.Alone.{link-is, still-alone}
 use Rattle.laws_wire.proofs.Run.{arrived, none-given, way-empty}
 use Rattle.laws_wire.proofs.Standing.{Stands}
@@ -14,9 +14,7 @@ none-less a s k e e' less = omega (arith, e, e', less)
 module _ (service : Service) (tei : ℕ) where
   -- the link of a station that stands for an end
   its-link : (c : Config) (place : ℕ) (past : Past) (s : Station) (n : End) → Holds c service tei place past s n → own_link service tei s ≡ n.link
-  its-link c place past s n h =
-      let own : Stands s.card.config service tei place s n = subst (λ k. Stands k service tei place s n) (sym h.stands.config) h.stands in
-      link-is service tei place s (line_sound s.card s.line (has_lines s.card own.sound) own.within) own.speaks.placed ∙ own.speaks.link
+  its-link c place past s n h = grind (arith, Stands, link-is, line_sound, has_lines)
 
   speaks : (c d : Config) (p q : ℕ) (past other : Past) (s u : Station) (n m : End) → Holds c service tei p past s n → Holds d service tei q other u m → Steady n
       → HasArrived n.link.contents n m → answered next s ≡ gave None → s.way ≡ [] → Speaks service tei s u
@@ -27,9 +25,7 @@ module _ (service : Service) (tei : ℕ) where
       let there = its-link d q other u m k in
       record {
         card = (own.sound, own.within);
-        state =
-            ap (option_map (state_in (line_of s) service)) own.speaks.placed ∙ ap (λ (l : Link). Some (state_number l.state)) own.speaks.link
-            ∙ ap (λ x. Some (state_number x)) steady.state;
+        state = grind (arith, option_map);
         free = ap is_busy here ∙ ap (λ b. b || n.link.peer_busy) steady.own_busy ∙ steady.peer_busy;
         alone = still-alone service tei p s sound own.speaks.placed none way;
         received = ap (λ (l : Link). l.r) there ∙ got.received ∙ sym got.sent ∙ sym (ap (λ (l : Link). l.s) here);

@@ -1,9 +1,9 @@
 -- Where all frames that are left at a station are those of one link, nothing else waits there.
-use Rattle.laws_wire.proofs.Vocabulary.{◌≡◌, ◌≢◌, ℕ, zero, suc, ◌+◌, ◌<◌, ◌≤◌, List, [], ◌∷◌, length, Option, Some, None, option_map, refl, sym, ap, subst, ◌∙◌, arith, ⊎_elim, cases_eq, option_map_or, place_of-is, Service, fresh, given, none-waits, number_within, service_at-number, next, gave, Line, link_number, link_count, link_at, link_in, place_in, terms, terms_at, Taken, next_of, taken, nothing-to_send, Station, answered, own_link}
+use Rattle.laws_wire.proofs.Vocabulary.{◌≡◌, ◌≢◌, ℕ, zero, suc, ◌+◌, ◌<◌, ◌≤◌, List, [], ◌∷◌, length, Option, Some, None, option_map, refl, sym, ap, ◌∙◌, arith, ⊎_elim, cases_eq, option_map_or, place_of-is, Service, fresh, given, none-waits, number_within, service_at-number, next, gave, Line, link_number, link_count, link_at, link_in, place_in, terms_at, Taken, next_of, taken, nothing-to_send, Station, answered, own_link}
 use Rattle.std.proofs.lemmas.List.Sums.{sum_by-cons}
 use Rattle.std.specs.List.{range_with_len, sum_by}
 use Rattle.laws_line.proofs.Exact.{exactly-none, to-nothing}
-use Rattle.laws_line.specs.Drains.{frames_to_go, link_to_go, to_go_at_link}
+use Rattle.laws_line.specs.Drains.{frames_to_go, to_go_at_link}
 use Rattle.laws_wire.proofs.Answered.{gives-taken}
 use Rattle.laws_wire.specs.Facing.{line_of, frames_at, own_frames_at}
 use Rattle.model_line.specs.Sound.{IsSound}
@@ -11,10 +11,7 @@ use Rattle.model_line.specs.Sound.{IsSound}
 -- a sum is no less than one, or two, of what it adds
 one-of : (f : ℕ → ℕ) (a k n : ℕ) → a ≤ n → n < a + k → f n ≤ sum_by f (range_with_len a k)
 one-of f a zero n low high = absurd (omega (arith, low, high))
-one-of f a (suc k) n low high =
-    let sum = sum_by-cons f a (range_with_len (a + 1) k) in
-    ⊎_elim (λ same. let is : f n ≡ f a = ap f same in omega (arith, is, sum))
-    (λ other. let rest = one-of f (a + 1) k n (omega (arith, low, other)) (omega (arith, high)) in omega (arith, rest, sum)) (cases_eq n a)
+one-of f a (suc k) n low high = grind (arith, one-of f (a + 1) k n, sum_by-cons, cases_eq)
 
 two-of : (f : ℕ → ℕ) (a k n j : ℕ) → j ≢ n → a ≤ n → n < a + k → a ≤ j → j < a + k → f n + f j ≤ sum_by f (range_with_len a k)
 two-of f a zero n j apart low high low' high' = absurd (omega (arith, low, high))
@@ -42,8 +39,7 @@ none-long [] e = refl
 none-long (x ∷ xs) e = absurd (omega (arith, e))
 
 none-taken : (o : Option Taken) → gave (option_map next_of o) ≡ gave None → o ≡ None
-none-taken None e = refl
-none-taken (Some t) e = absurd (cc)
+none-taken o e = grind arith
 
 module _ (service : Service) (tei place : ℕ) (s : Station) (sound : IsSound s.card.config (line_of s)) (placed : place_in (line_of s) tei ≡ Some place) where
   abbrev l : Line
@@ -62,10 +58,7 @@ module _ (service : Service) (tei place : ℕ) (s : Station) (sound : IsSound s.
   few = let within = (place_of-is l.management.places tei place placed).0 in number_within place s.card.config.terminals service (omega (arith, within, sound.places))
 
   own-to-go : each number ≡ length (own_link service tei s).waiting + own_frames_at service tei s
-  own-to-go =
-      let as-here : link_to_go (terms s.card.config service tei) (link_in l service place) ≡ length (own_link service tei s).waiting + own_frames_at service tei s =
-      subst (λ x. link_to_go (terms s.card.config service tei) x ≡ length (own_link service tei s).waiting + own_frames_at service tei s) link-is (omega arith) in
-      ap (λ y. link_to_go (terms s.card.config y tei) (link_at number l)) (service_at-number place service) ∙ as-here
+  own-to-go = grind (arith, link-is, service_at-number)
 
   own-part : each number ≤ sum_by each (range_with_len 0 (link_count s.card.config))
   own-part = one-of each 0 (link_count s.card.config) number (omega arith) (omega (arith, few))

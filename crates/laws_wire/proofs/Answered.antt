@@ -1,8 +1,7 @@
 -- What an event leaves as it was at a station.
-use Rattle.laws_wire.proofs.Vocabulary.{◌≡◌, Bool, true, false, cond, ℕ, List, [], ◌++◌, Option, None, Some, option_map, refl, ap, ◌∙◌, append-nil, Refusal, PoolFull, Timer, came, hears, expiry, request, next, Answer, refused, gave, unless_refused_told, of_request, Request, taken, next_of, line_at, at, wants_room, Event, told, drop, Wire, acting, takes, with_first_of, with_first_lost, sym}
+use Rattle.laws_wire.proofs.Vocabulary.{arith, ◌≡◌, ℕ, List, [], option_map, refl, ap, ◌∙◌, append-nil, Timer, came, hears, expiry, request, next, Answer, gave, Request, taken, next_of, line_at, Event, told, drop, Wire, acting, takes, with_first_of, with_first_lost, sym}
 use Rattle.model_line.specs.Machine as lines
-use Rattle.model_line.specs.Refusal.{refusal}
-use Rattle.laws_wire.specs.Wire.{Station, answered, happens, comes, frames_by, unless_refused, contents_in}
+use Rattle.laws_wire.specs.Wire.{Station, answered, happens, comes, unless_refused, contents_in}
 
 -- A call for the next frame gives what is taken at the line, and tells nothing.
 pub gives-taken : (s : Station) → answered next s ≡ gave (option_map next_of (taken s.card.config (line_at s.line s.card)))
@@ -24,22 +23,14 @@ expires-way timer s = append-nil s.way
 
 pub asks-way : (r : Request) (s : Station) → (happens (request r) s).way ≡ s.way
 unfolding lines.answer
-asks-way r s = by-answer (wants_room (at s.line (request r)) s.card) (refusal s.card.config false r (line_at s.line s.card))
-  where
-    by-answer : (full : Bool) (why : Option Refusal)
-        → s.way ++ frames_by (cond full (refused PoolFull) (unless_refused_told why (of_request s.card.config r (line_at s.line s.card)))) ≡ s.way
-    by-answer true why = append-nil s.way
-    by-answer false None = append-nil s.way
-    by-answer false (Some why) = append-nil s.way
+asks-way r s = grind (arith, append-nil)
 
 -- What asks for nothing is granted nothing.
 none-granted : (a : Answer) → unless_refused a [] ≡ []
-none-granted (told t) = refl
-none-granted other = refl
+none-granted a = grind arith
 
 pub same-granted : (e : Event) (s : Station) → contents_in e ≡ [] → (happens e s).granted ≡ s.granted
-same-granted e s none =
-    ap (λ contents. s.granted ++ unless_refused (answered e s) contents) none ∙ ap (λ contents. s.granted ++ contents) (none-granted (answered e s)) ∙ append-nil s.granted
+same-granted e s none = grind (arith, none-granted, append-nil)
 
 pub gives-granted : (s : Station) → (happens next s).granted ≡ s.granted
 gives-granted s = same-granted next s refl

@@ -1,5 +1,5 @@
 -- Two ends in state 7: layer 3 of one asks to send more contents, and the request is granted.
-use Rattle.laws_wire.proofs.Vocabulary.{◌≡◌, ℕ, zero, suc, ◌+◌, ◌-◌, ◌*◌, ◌<◌, ◌≤◌, Bool, false, List, [], ◌∷◌, ◌++◌, length, take, Option, None, Some, refl, sym, ap, subst, ◌∙◌, inl, inr, append-nil, arith, length-append, slice_get, All-nil, All-cons, All-append, Refusal, Parts, Terms, Link, requested, granted, begun, End, with_link, sound-after, load, weight_at, Informs, Lane, lane-order, Steady, unwrap_or, refusal, Course, IsSound, Direction}
+use Rattle.laws_wire.proofs.Vocabulary.{◌≡◌, ℕ, zero, suc, ◌+◌, ◌-◌, ◌*◌, ◌<◌, ◌≤◌, Bool, false, List, [], ◌∷◌, ◌++◌, length, take, None, refl, sym, ap, subst, ◌∙◌, inl, inr, append-nil, arith, length-append, slice_get, All-nil, All-cons, All-append, Parts, Terms, Link, requested, End, with_link, sound-after, load, weight_at, Informs, Lane, lane-order, Steady, unwrap_or, refusal, IsSound, Direction}
 use Rattle.model_link.specs.Events.{Data}
 
 -- contents at a place below what was there stay
@@ -24,9 +24,7 @@ module _ (t : Terms) (cs more : List (List ℕ)) where
 
   pub lane-asked : (r s lo hi : ℕ) (owed : Bool) (way : List Parts) → s ≤ length cs → Lane t cs r s lo hi owed way → Lane t (cs ++ more) r s lo hi owed way
   lane-asked r s lo hi owed [] high h = h
-  lane-asked r s lo hi owed (f ∷ fs) high (v, low, inl (here, rest)) =
-      let order = lane-order t cs (r + 1) s v hi owed fs rest in
-      (v, low, inl (informs-asked r v f (omega (arith, order, high)) here, lane-asked (r + 1) s v hi owed fs high rest))
+  lane-asked r s lo hi owed (f ∷ fs) high (v, low, inl (here, rest)) = grind (arith, lane-asked (r + 1) s v hi owed fs high rest, lane-order, informs-asked)
   lane-asked r s lo hi owed (f ∷ fs) high (v, low, inr (here, rest)) = (v, low, inr (here, lane-asked r s v hi owed fs high rest))
 
 -- An end that has more to send.
@@ -34,12 +32,7 @@ abbrev pub with_more : List ℕ → End → End
 with_more octets n = record n { link = record n.link { contents = n.link.contents ++ octets ∷ [] } }
 
 pub asked-form : (octets : List ℕ) (n : End) → refusal n.terms n.link false (Data octets) ≡ None → with_link (requested (Data octets) false) n ≡ with_more octets n
-asked-form octets n e =
-    ap (λ (o : Option Refusal). having (elim o [ None ↦ granted n.terms (Data octets) (begun n.link) | Some _ ↦ begun n.link ])) e
-    ∙ ap (λ ds. record (with_more octets n) { delivered = ds }) (append-nil n.delivered)
-  where
-    having : Course → End
-    having c = record n { link = c.link; delivered = n.delivered ++ Rattle.std.specs.Prelude.option_to_list c.delivered }
+asked-form octets n e = grind (arith, append-nil)
 
 four-more : (len s w p more : ℕ) → s ≤ len → more ≡ len + 1 → 4 * (more - s) + w + p ≡ (4 * (len - s) + w + p) + 4
 four-more len s w p more low e = omega (arith, low, e)

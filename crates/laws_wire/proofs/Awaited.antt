@@ -1,6 +1,6 @@
 -- What is awaited at a station is awaited at the end for which it stands: there a T200 that is long enough is timely, N200 is used up as
 -- its expiry tells, and it runs as its expiry is answered.
-use Rattle.laws_wire.proofs.Vocabulary.{◌≡◌, ℕ, zero, suc, ◌<◌, Bool, true, false, cond, not, ◌||◌, IsTrue, List, [], ◌∷◌, ◌++◌, length, map, Option, None, Some, option_map, refl, sym, ap, subst, ◌∙◌, true≢false, All, flat_map, list_any, option_map_or, nat_lt, ltb-true, lt-ltb, All-nil, All-cons, All-append, All-head, All-tail, All-weaker, Seq, Control, Information, ReceiveReady, ReceiveNotReady, Reject, Service, Parts, spelling, State, TeiAssigned, AwaitingEstablishment, AwaitingRelease, Established, TimerRecovery, ControlFrame, LinkTimer, Terms, Link, fresh, frame_of, state_number, is_multiple_frame, course, begun, given_of, is_running, runs, Course, T200, T203, End, frame_given, with_sent, Config, LineTold, next, link_in, state_in, state_of, terms, awaits_answer, is_enquiry, is_answer, supervisory_bit, HasNo, Station, answered, happens, told_by, tells_nothing, expiry, is_error, TellNoError, bit_of, is_poll, is_final, giving, NoneGoes, IsNoneOpen, awaits_in, awaits_reply, IsLongEnough, MayRepeat, is_any_order, runs_t200, All-drop, Answer, BadTei, NoLink, Refusal, Rests, arith, frames_by, front_rest, gave, gives_one, is_on-at, le-ltb, link_of, list_any_none, place_of-is, queue_of, seq, told, told_of_link, of_aim, at_timer, place_in, unwrap_or, ◌-◌, ◌≤◌}
+use Rattle.laws_wire.proofs.Vocabulary.{◌≡◌, ℕ, zero, suc, ◌<◌, Bool, true, false, cond, not, ◌||◌, IsTrue, List, [], ◌∷◌, ◌++◌, length, map, Option, None, Some, option_map, refl, sym, ap, subst, ◌∙◌, true≢false, All, flat_map, list_any, option_map_or, nat_lt, ltb-true, lt-ltb, All-nil, All-cons, All-append, All-head, All-tail, Seq, Control, Information, ReceiveReady, Service, Parts, spelling, State, TeiAssigned, Established, ControlFrame, LinkTimer, Terms, Link, fresh, frame_of, state_number, is_multiple_frame, course, begun, given_of, is_running, runs, Course, T200, End, frame_given, with_sent, Config, next, link_in, state_in, state_of, terms, awaits_answer, is_enquiry, is_answer, supervisory_bit, HasNo, Station, answered, happens, told_by, expiry, is_error, TellNoError, bit_of, is_poll, is_final, giving, NoneGoes, IsNoneOpen, awaits_in, awaits_reply, IsLongEnough, MayRepeat, is_any_order, runs_t200, All-drop, Answer, BadTei, NoLink, Refusal, Rests, arith, frames_by, front_rest, gave, gives_one, is_on-at, le-ltb, link_of, list_any_none, place_of-is, queue_of, seq, told, told_of_link, of_aim, at_timer, place_in, unwrap_or, ◌-◌, ◌≤◌}
 use Rattle.lapd_frame.specs.declared.timers.Timer.TheVariants as timers
 use Rattle.model_link.specs.Events as link
 use Rattle.model_link.specs.Machine as links
@@ -21,25 +21,17 @@ use Rattle.laws_wire.proofs.Standing.{IsCarried, Stands, link-ranges, gives-fram
 -- ---- of two links less is asked
 
 no-bit : (control : Control) → bit_of control ≡ false → supervisory_bit control ≡ false
-no-bit (ReceiveReady nr pf) e = e
-no-bit (ReceiveNotReady nr pf) e = e
-no-bit (Reject nr pf) e = e
-no-bit other e = refl
+no-bit control e = grind arith
 
 no-enquiry : (command : Bool) (control : Control) → is_poll command control ≡ false → is_enquiry command control ≡ false
-no-enquiry true control e = no-bit control e
-no-enquiry false control e = refl
+no-enquiry command control e = grind (arith, no-bit)
 
 no-answer : (command : Bool) (control : Control) → is_final command control ≡ false → is_answer command control ≡ false
-no-answer true control e = refl
-no-answer false control e = no-bit control e
+no-answer command control e = grind (arith, no-bit)
 
 less : (asked more : Bool → Control → Bool) → ((command : Bool) (control : Control) → more command control ≡ false → asked command control ≡ false) → (n : End) → HasNo more n
     → HasNo asked n
-less asked more weaker n h = record {
-  waiting = All-weaker (λ (f : ControlFrame). more f.command f.control ≡ false) (λ (f : ControlFrame). asked f.command f.control ≡ false) (λ f. weaker f.command f.control) n.link.waiting h.waiting;
-  way = All-weaker (λ (f : Parts). more f.address.command f.control ≡ false) (λ (f : Parts). asked f.address.command f.control ≡ false) (λ f. weaker f.address.command f.control) n.way h.way;
-}
+less asked more weaker n h = grind arith
 
 pub record NoneOpen (n m : End) : Type 0 where
   pub commands : HasNo is_poll n
@@ -63,75 +55,33 @@ module _ (t : Terms) (l : Link) where
   HasOrders c = is_any_order (orders_for t l.running c.started c.link.running) ≡ true
 
   none-ordered : (r : Option LinkTimer) → is_any_order (orders_for t r None r) ≡ false
-  none-ordered None = refl
-  none-ordered (Some T200) = refl
-  none-ordered (Some T203) = refl
+  none-ordered r = grind arith
 
   stop-ordered : (r : Option LinkTimer) → runs T200 r ≡ true → is_any_order (orders_for t r None None) ≡ true
-  stop-ordered None e = absurd (true≢false (sym e))
-  stop-ordered (Some T200) e = refl
-  stop-ordered (Some T203) e = absurd (true≢false (sym e))
+  stop-ordered r e = grind arith
 
   either-ordered : (b : Bool) (c d : Course) → HasOrders c → HasOrders d → HasOrders (cond b c d)
-  either-ordered true c d x y = x
-  either-ordered false c d x y = y
-
-  ordered-in : (here : State) → (here ≡ TeiAssigned → ⊥) → is_running T200 l ≡ true → HasOrders (links.expired_in here T200 t (begun l))
-  ordered-in TeiAssigned up e = absurd (up refl)
-  ordered-in AwaitingEstablishment up e = either-ordered (nat_lt l.repeats t.n200) _ _ refl (stop-ordered l.running e)
-  ordered-in AwaitingRelease up e = either-ordered (nat_lt l.repeats t.n200) _ _ refl (stop-ordered l.running e)
-  ordered-in Established up e = refl
-  ordered-in TimerRecovery up e = either-ordered (nat_lt l.repeats t.n200) _ _ refl refl
+  either-ordered b c d x y = grind arith
 
   ordered-as : (l.state ≡ TeiAssigned → ⊥) → (b : Bool) → is_running T200 l ≡ b
       → let c = cond b (links.expire_running T200 t (begun l)) (begun l) in is_any_order (orders_for t l.running c.started c.link.running) ≡ b
-  ordered-as up true e = ordered-in l.state up e
-  ordered-as up false e = none-ordered l.running
+  ordered-as up b e = grind (arith, either-ordered, nat_lt, stop-ordered, none-ordered)
 
   -- and tells an error where N200 is used up
   taken : (b : Bool) (c d : Course) → b ≡ true → list_any is_error c.notes ≡ false → list_any is_error (cond b c d).notes ≡ false
-  taken true c d e h = h
-  taken false c d e h = absurd (true≢false (sym e))
+  taken b c d e h = grind arith
 
   passed : (b : Bool) (c d : Course) → b ≡ false → HasError d.notes → HasError (cond b c d).notes
-  passed true c d e h = absurd (true≢false e)
-  passed false c d e h = h
-
-  fair-in : (here : State) → (awaits_answer here ≡ true → nat_lt l.repeats t.n200 ≡ true) → list_any is_error (links.expired_in here T200 t (begun l)).notes ≡ false
-  fair-in AwaitingEstablishment few = taken (nat_lt l.repeats t.n200) _ _ (few refl) refl
-  fair-in AwaitingRelease few = taken (nat_lt l.repeats t.n200) _ _ (few refl) refl
-  fair-in TimerRecovery few = taken (nat_lt l.repeats t.n200) _ _ (few refl) refl
-  fair-in TeiAssigned few = refl
-  fair-in Established few = refl
-
-  error-in : (here : State) → awaits_answer here ≡ true → nat_lt l.repeats t.n200 ≡ false → HasError (links.expired_in here T200 t (begun l)).notes
-  error-in AwaitingEstablishment awaits over = passed (nat_lt l.repeats t.n200) _ _ over refl
-  error-in AwaitingRelease awaits over = passed (nat_lt l.repeats t.n200) _ _ over refl
-  error-in TimerRecovery awaits over = passed (nat_lt l.repeats t.n200) _ _ over refl
-  error-in other awaits over = absurd (true≢false (sym awaits))
+  passed b c d e h = grind arith
 
   few-tell : (awaits_answer l.state ≡ true → l.repeats < t.n200) → list_any is_error expires.notes ≡ false
-  few-tell few = go (is_running T200 l)
-    where
-      go : (b : Bool) → list_any is_error (cond b (links.expire_running T200 t (begun l)) (begun l)).notes ≡ false
-      go true = fair-in l.state (λ awaits. lt-ltb l.repeats t.n200 (few awaits))
-      go false = refl
+  few-tell few = grind (arith, taken, nat_lt, lt-ltb)
 
   told-few : awaits_answer l.state ≡ true → is_running T200 l ≡ true → list_any is_error expires.notes ≡ false → l.repeats < t.n200
-  told-few awaits running fair = go (nat_lt l.repeats t.n200) refl
-    where
-      go : (b : Bool) → nat_lt l.repeats t.n200 ≡ b → l.repeats < t.n200
-      go true e = ltb-true l.repeats t.n200 e
-      go false e =
-          let error = ap (λ b. list_any is_error (cond b (links.expire_running T200 t (begun l)) (begun l)).notes) running ∙ error-in l.state awaits e in
-          absurd (true≢false (sym error ∙ fair))
+  told-few awaits running fair = grind (arith, nat_lt, ltb-true, passed)
 
 said-fair : (c : Course) → list_any is_error c.notes ≡ false → TellNoError (said_by c)
-said-fair c h = go (tells_nothing (heard_by c))
-  where
-    go : (b : Bool) → TellNoError (cond b [] (heard_by c ∷ []))
-    go true = All-nil (λ (t : LineTold). list_any is_error t.notes ≡ false)
-    go false = All-cons (λ (t : LineTold). list_any is_error t.notes ≡ false) (heard_by c) [] h (All-nil (λ (t : LineTold). list_any is_error t.notes ≡ false))
+said-fair c h = grind (arith, heard_by)
 
 fair-said : (c : Course) → TellNoError (said_by c) → list_any is_error c.notes ≡ false
 fair-said c h = go (list_any is_error c.notes) refl
@@ -155,8 +105,7 @@ module _ (of : Bool → Control → Bool) (i : (ns nr : Seq) → of true (Inform
     gives : All IsNot (frame_given t (given_of t l c c.sent))
 
   either-gives : (t : Terms) (l : Link) (b : Bool) (c d : Course) → Gives t l c → Gives t l d → Gives t l (cond b c d)
-  either-gives t l true c d x y = x
-  either-gives t l false c d x y = y
+  either-gives t l b c d x y = grind arith
 
   offers-none : (t : Terms) (l : Link) (ws : List ControlFrame) → All IsNone ws → All IsNone l.waiting → Gives t l (offers.offer_among t ws (begun l))
   offers-none t l (f ∷ fs) h w = record { waiting = All-tail IsNone f fs h; gives = All-cons IsNot _ [] (All-head IsNone f fs h) (All-nil IsNot) }
@@ -175,8 +124,7 @@ module _ (of : Bool → Control → Bool) (i : (ns nr : Seq) → of true (Inform
 -- ---- a station, and the end for which it stands
 
 awaits-number : (here : State) → awaits_in (Some (state_number here)) ≡ awaits_answer here
-awaits-number TeiAssigned = refl
-awaits-number other = refl
+awaits-number here = grind arith
 
 two-pass : (a b : Bool) (x y : Refusal) → a ≡ false → b ≡ false → cond a (Some x) (cond b (Some y) None) ≡ None
 two-pass a b x y e e' = rw (e, e') refl
@@ -273,11 +221,7 @@ module _ (service : Service) (tei : ℕ) (c : Config) (place : ℕ) (s : Station
       ∙ read-again service tei s.card.config given (all-behind (IsCarried s.card.config service tei) n.way given (gives-stands service tei place s n own).carried)
 
   pub gives-first : (of : Control → Bool) (f : ControlFrame) (fs : List ControlFrame) → n.link.waiting ≡ f ∷ fs → gives_one of s ≡ (of f.control || false)
-  gives-first of f fs e =
-      let t = n.terms in
-      let l = n.link in
-      ap (list_any (λ (x : Parts). of x.control)) gives-reads
-      ∙ ap (λ ws. let c = offers.offer_among t ws (begun l) in list_any (λ (x : Parts). of x.control) (frame_given t (given_of t l c c.sent))) e
+  gives-first of f fs e = grind (arith, gives-reads)
 
   -- it rests where it is in state 7 and keeps nothing
   pub rests-here : n.link.state ≡ Established → queue_of n.link ≡ [] → Rests service tei s
@@ -296,9 +240,7 @@ module _ (service : Service) (tei : ℕ) (c : Config) (place : ℕ) (s : Station
 
   -- its T200 expires
   its-answer : t200 service tei s ≡ told (told_of_link (links.told n.terms (link.expired T200) n.link))
-  its-answer =
-      answers-t200 service tei s place h.speaks.placed
-      ∙ (λ i. told (told_of_link (links.told ((ap (λ k. terms k service tei) h.config ∙ sym h.terms) i) (link.expired T200) (h.speaks.link i))))
+  its-answer = grind (arith, answers-t200)
 
   pub may-there : MayRepeat service tei s → awaits_answer n.link.state ≡ true → is_running T200 n.link ≡ true → n.link.repeats < n.terms.n200
   may-there may awaits running =
@@ -315,14 +257,10 @@ module _ (service : Service) (tei : ℕ) (c : Config) (place : ℕ) (s : Station
 
 -- what waits, or is on its way, first
 pub waits-first : (asked : Bool → Control → Bool) (n : End) (f : ControlFrame) (fs : List ControlFrame) → n.link.waiting ≡ f ∷ fs → asked f.command f.control ≡ true → HasNo asked n → ⊥
-waits-first asked n f fs first is h =
-    let all = subst (All (λ (g : ControlFrame). asked g.command g.control ≡ false)) first h.waiting in
-    true≢false (sym is ∙ All-head (λ (g : ControlFrame). asked g.command g.control ≡ false) f fs all)
+waits-first asked n f fs first is h = grind arith
 
 pub goes-first : (asked : Bool → Control → Bool) (n : End) (f : Parts) (fs : List Parts) → n.way ≡ f ∷ fs → asked f.address.command f.control ≡ true → HasNo asked n → ⊥
-goes-first asked n f fs first is h =
-    let all = subst (All (λ (g : Parts). asked g.address.command g.control ≡ false)) first h.way in
-    true≢false (sym is ∙ All-head (λ (g : Parts). asked g.address.command g.control ≡ false) f fs all)
+goes-first asked n f fs first is h = grind arith
 
 pub gives-none-of : (of : Control → Bool) (s : Station) → answered next s ≡ gave None → gives_one of s ≡ false
 gives-none-of of s e = ap (λ a. list_any (λ (x : Parts). of x.control) (flat_map (read_as s.card.config) (frames_by a))) e

@@ -1,5 +1,5 @@
 -- Two cards that have just begun: each has the TEI assigned, and one is asked to establish.
-use Rattle.laws_wire.proofs.Vocabulary.{◌≡◌, ℕ, zero, suc, ◌<◌, ◌≤◌, true, false, not, cond, List, [], ◌∷◌, ◌++◌, length, get_or, set, replicate, Option, Some, None, is_some, refl, sym, ap, subst, ◌∙◌, append-nil, arith, nat_lt, option_map_or, le-ltb, lt-ltb, get_or-set_same, length-replicate, All-nil, BadTei, NoLink, WrongState, TeiTaken, TableFull, Service, Call, Packet, empty, Places, is_on, free_place, join_at, put_on, join, is_on-at, place_of-is, table-put, table-empty, Link, fresh, serves, End, with_link, Config, Effect, at_management, of_aim, of_change, told_of_management, request, Line, fresh_line, link_number, terms, terms_at, link_at, link_of, link_in, link_count, has_tei, unless_refused, unless_refused_told, Assign, fresh_gives_nothing, ranges_of, Card, line_at, wants_room, after_is_sound, fresh_is_sound, by-two, has-place, Event, nothing, told, Establish, Station, answered, happens, told_by, station, assigned}
+use Rattle.laws_wire.proofs.Vocabulary.{◌≡◌, ℕ, zero, suc, ◌<◌, ◌≤◌, true, false, not, List, [], ◌∷◌, ◌++◌, length, get_or, set, replicate, Some, None, is_some, refl, sym, ap, subst, ◌∙◌, append-nil, arith, nat_lt, option_map_or, le-ltb, lt-ltb, get_or-set_same, length-replicate, All-nil, BadTei, NoLink, WrongState, TeiTaken, TableFull, Service, Call, Packet, empty, Places, is_on, free_place, join_at, put_on, join, is_on-at, place_of-is, table-put, table-empty, Link, fresh, serves, End, with_link, Config, Effect, of_change, told_of_management, request, Line, fresh_line, link_number, terms, terms_at, link_at, link_of, link_in, link_count, has_tei, unless_refused, Assign, fresh_gives_nothing, ranges_of, Card, line_at, wants_room, after_is_sound, fresh_is_sound, by-two, has-place, Event, nothing, told, Establish, Station, answered, happens, told_by, station, assigned}
 use Rattle.lapd_tei.specs.Events as teis
 use Rattle.lapd_tei.specs.Words.{Course, begun as tei_begun}
 use Rattle.model_link.specs.Events as link
@@ -40,8 +40,7 @@ abbrev frees : ℕ → Places
 frees n = replicate n None
 
 free-is : (n : ℕ) → 1 ≤ n → free_place (frees n) ≡ Some 0
-free-is zero some = absurd (omega (arith, some))
-free-is (suc k) some = ap (λ b. cond {A = Option ℕ} b (Some 0) None) (lt-ltb 0 (length (frees (suc k))) (omega arith))
+free-is n some = grind (arith, lt-ltb)
 
 module _ (tei n : ℕ) (some : 1 ≤ n) where
   joined : teis.course (teis.assign tei) (empty n) ≡ join tei 0 (tei_begun (empty n))
@@ -71,15 +70,11 @@ module _ (service : Service) (tei : ℕ) (c : Config) (ranged : line_sound.IsInR
 
   after-is : lines.after c (request (Assign tei)) l ≡ on_line.line
   unfolding lines.after
-  after-is =
-      ap (λ o. (of_aim c (unless_refused o (at_management (teis.assign tei))) l).line) none
-      ∙ ap (λ x. (with_course x).line) (joined tei c.terminals some-terminals)
+  after-is = grind (arith, none, joined, some-terminals)
 
   answer-is : lines.answer c (request (Assign tei)) l ≡ told nothing
   unfolding lines.answer
-  answer-is =
-      ap (λ o. unless_refused_told o (of_aim c (unless_refused o (at_management (teis.assign tei))) l)) none
-      ∙ ap (λ x. told (with_course x).told) (joined tei c.terminals some-terminals)
+  answer-is = grind (arith, none, joined, some-terminals)
 
   links-fresh : (number : ℕ) → link_at number on_line.line ≡ fresh
   links-fresh number = set-fresh (set l.links (link_number 0 Call) fresh) (link_number 0 Packet) number (λ k. set-fresh l.links (link_number 0 Call) k (all-fresh (link_count c)))
@@ -113,9 +108,7 @@ module _ (service : Service) (tei : ℕ) (c : Config) (ranged : line_sound.IsInR
 
     next-line : line_at line (assigned c line tei).card ≡ on_line.line
     unfolding lines.takes_slot
-    next-line =
-        get_or-set_same m.lines line (lines.after c its (line_at line m)) l (let many : length m.lines ≡ c.lines = length-replicate c.lines l in omega (arith, many, within))
-        ∙ ap (lines.after c its) same-line ∙ after-is
+    next-line = grind (arith, get_or-set_same, length-replicate, same-line, after-is)
 
     told-nothing : answered its first ≡ told nothing
     unfolding lines.takes_slot

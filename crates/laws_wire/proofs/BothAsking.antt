@@ -1,6 +1,6 @@
 -- What is done in a call. Layer 3 asks for the establishment of the link: in state 4 it is granted, and in any other state it is
 -- refused, which changes nothing.
-use Rattle.laws_wire.proofs.Vocabulary.{◌≡◌, ℕ, ◌≤◌, Bool, true, false, true≢false, not, cond, List, [], ◌∷◌, ◌++◌, Option, None, Some, refl, sym, ap, subst, ◌∙◌, ◌⊎◌, inl, inr, append-nil, nat_lt, option_map_or, le-ltb, Refusal, BadTei, NoLink, WrongState, Service, is_on-at, place_of-is, not_not, Terms, Link, fresh, is_down, End, with_link, Config, request, Line, link_in, link_of, has_tei, terms, unless_refused_told, of_request, bad_tei, no_link, wrong_state, Request, line_at, wants_room, is_granted, passed, Event, Establish, Data, Station, Wire, happens, answered, requests, times_out, gives, takes, loses, Doing, at_near, at_far, IsTalkOf, IsTalk, IsCall, IsCallOf, calls_back}
+use Rattle.laws_wire.proofs.Vocabulary.{arith, ◌≡◌, ℕ, ◌≤◌, Bool, true, false, true≢false, not, cond, List, [], ◌∷◌, ◌++◌, Option, None, Some, refl, sym, ap, subst, ◌∙◌, ◌⊎◌, append-nil, nat_lt, option_map_or, le-ltb, Refusal, BadTei, NoLink, WrongState, Service, is_on-at, place_of-is, not_not, Terms, Link, fresh, is_down, End, with_link, Config, request, Line, link_in, link_of, has_tei, terms, unless_refused_told, of_request, bad_tei, no_link, wrong_state, Request, line_at, wants_room, is_granted, passed, Event, Establish, Data, Station, Wire, happens, answered, requests, Doing, at_near, at_far, IsTalk, IsCall, IsCallOf, calls_back}
 use Rattle.model_link.specs.Events as link
 use Rattle.model_line.specs.Machine as lines
 use Rattle.model_line.specs.Refusal.{refusal}
@@ -18,34 +18,14 @@ module _ (service : Service) (tei : ℕ) where
     far_calls : k ≡ at_far (requests (Establish service tei)) → Kind k
 
   asks-so : (P : Request → Type 0) → P (Establish service tei) → ((s : Service) (x : ℕ) (octets : List ℕ) → (s ≡ service) × (x ≡ tei) → P (Data s x octets)) → (r : Request) → IsCallOf service tei (requests r) → P r
-  asks-so P establish contents (Establish s x) is = subst (λ s'. P (Establish s' x)) (sym is.0) (subst (λ x'. P (Establish service x')) (sym is.1) establish)
-  asks-so P establish contents (Data s x octets) is = contents s x octets is
-  asks-so P establish contents other is = absurd is
+  asks-so P establish contents r is = grind arith
 
   pub kind : (k : Doing) → IsCall service tei k → Kind k
-  kind (at_near (requests r)) is = asks-so (λ r. Kind (at_near (requests r))) (near_calls refl) (λ s x octets same. talks same) r is
-  kind (at_near gives) is = talks tt
-  kind (at_near takes) is = talks tt
-  kind (at_near (times_out timer)) is = absurd is
-  kind (at_near loses) is = absurd is
-  kind (at_far (requests r)) is = asks-so (λ r. Kind (at_far (requests r))) (far_calls refl) (λ s x octets same. talks same) r is
-  kind (at_far gives) is = talks tt
-  kind (at_far takes) is = talks tt
-  kind (at_far (times_out timer)) is = absurd is
-  kind (at_far loses) is = absurd is
+  kind k is = grind (arith, asks-so)
 
   -- talk calls nobody
-  data-calls_not : (r : Request) → IsTalkOf service tei (requests r) → (w : Wire) → calls_back (at_far (requests r)) w ≡ false
-  data-calls_not (Data s x octets) is w = refl
-  data-calls_not other is w = absurd is
-
   pub talk-calls_not : (k : Doing) → IsTalk service tei k → (w : Wire) → calls_back k w ≡ false
-  talk-calls_not (at_near act) is w = refl
-  talk-calls_not (at_far (requests r)) is w = data-calls_not r is w
-  talk-calls_not (at_far gives) is w = refl
-  talk-calls_not (at_far takes) is w = refl
-  talk-calls_not (at_far (times_out timer)) is w = refl
-  talk-calls_not (at_far loses) is w = refl
+  talk-calls_not k is w = grind arith
 
 -- ---- the link is asked for
 
@@ -91,12 +71,10 @@ module _ (service : Service) (tei place : ℕ) (c : Config) (first : Past) (s : 
   refuses up = record { same = by-line (asks-stands service tei place s n own (Establish service tei) link.Establish (λ l. refl)); none = ap is_granted answer-is ∙ by-answer why refl }
     where
       by-line : (happens asks s ≡ s) ⊎ Granted service tei place s n own (Establish service tei) link.Establish (λ l. refl) (happens asks s) → happens asks s ≡ s
-      by-line (inl same) = same
-      by-line (inr x) = absurd (not-served up x.none)
+      by-line o = grind (arith, not-served)
 
       by-answer : (o : Option Refusal) → why ≡ o → is_granted (unless_refused_told o (of_request s.card.config (Establish service tei) l)) ≡ false
-      by-answer None e = absurd (not-served up e)
-      by-answer (Some x) e = refl
+      by-answer o e = grind (arith, not-served)
 
 -- ---- in state 4
 

@@ -133,9 +133,7 @@ module _ (service : Service) (tei : ℕ) where
             pair = h.pair;
             is = refl;
           }));
-          price =
-              lower _ weight (1 + one_up h.m) (granted_of w) _ (one-at-most (frames_by (answered next w.far))) (h.is ∙ omega arith)
-              (ap (λ xs. length w.near.granted + length xs) (gives-granted w.far));
+          price = grind (arith, lower, granted_of, one-at-most, gives-granted);
         }
 
     from-answered-far : (act : Act) → IsTalkOf service tei act → (w : Wire) (weight : ℕ) → IsAnswered w weight → Stepped w (turned (acting act (turned w))) weight (if is_turn_of act (turned w) then 1 else 0)
@@ -228,9 +226,7 @@ module _ (service : Service) (tei : ℕ) where
             pair = turned-pair (with_sent m) (end t caller []) x.pair;
             is = refl;
           }));
-          price =
-              given-price _ weight (weight_at (end t caller [])) (weight_at m) (weight_at (with_sent m)) (length w.far.granted) _ (length w.near.granted) h.is
-              (subst (λ b. b + weight_at (with_sent m) ≤ weight_at m) (sym turn-is) x.price) (ap length (gives-granted w.far));
+          price = grind (arith, given-price, end, caller, gives-granted);
         }
 
     from-awaited-far : (act : Act) → IsTalkOf service tei act → (w : Wire) (weight : ℕ) → IsAwaited w weight → Stepped w (turned (acting act (turned w))) weight (if is_turn_of act (turned w) then 1 else 0)

@@ -1,19 +1,14 @@
 -- The premises of the law are met by the worked call in which SABMEs cross: so each was told all, and the two face each other.
-use Rattle.laws_wire.proofs.Vocabulary.{[], ◌∷◌, refl, All, Call, reading, header_of, control_of, unnumbered_of, supervisory_of, distance_of, named, seq, Data, requests, at_near, at_far, doing_all, turns, IsStill, IsCall, both_call, ComesThrough, Face, user, network, begins}
+use Rattle.laws_wire.proofs.Vocabulary.{arith, refl, All, Call, reading, header_of, control_of, unnumbered_of, supervisory_of, distance_of, named, seq, doing_all, turns, IsStill, IsCall, both_call, ComesThrough, Face, user, network, begins}
 use Rattle.lapd_tei.specs.Events as teis
 use Rattle.model_line.specs.Machine as lines
-use Rattle.laws_wire.specs.BothWorked.{asks, both_send}
+use Rattle.laws_wire.specs.BothWorked.{both_send}
 use Rattle.laws_wire.proofs.Delivering.{calls-face}
 use Rattle.laws_wire.proofs.PremisesMet.{can, all-of}
 use Rattle.laws_wire.proofs.Run.{calls-come-through}
 
 pub called : All (IsCall Call 0) both_send
-called =
-    let near : IsCall Call 0 (at_near asks) = (refl, refl) in
-    let far : IsCall Call 0 (at_far asks) = (refl, refl) in
-    let first : IsCall Call 0 (at_far (requests (Data Call 0 (0xAB ∷ [])))) = (refl, refl) in
-    let second : IsCall Call 0 (at_near (requests (Data Call 0 (0xCD ∷ [])))) = (refl, refl) in
-    all-of (IsCall Call 0) both_send (near, (tt, (far, (tt, (tt, (tt, (tt, (tt, (first, (far, (tt, (tt, (tt, (tt, (second, (tt, (tt, (tt, (tt, tt)))))))))))))))))))
+called = grind (arith, all-of)
 
 pub still : IsStill (doing_all both_send begins)
 unfolding lines.after lines.answer lines.takes_slot reading header_of control_of unnumbered_of supervisory_of teis.course teis.refusal seq distance_of named doing_all turns

@@ -1,5 +1,5 @@
 -- Two cards that face each other deliver what layer 3 hands over.
-use Rattle.laws_wire.proofs.Vocabulary.{◌≡◌, ℕ, ◌+◌, ◌*◌, ◌≤◌, ◌||◌, Bool, true, false, cond, List, [], ◌++◌, length, map, take, drop, Option, Some, None, option_map, refl, sym, ap, subst, ◌∙◌, append-nil, append_assoc, length-append, map-append, take-append-drop, arith, All, All-nil, if◌then◌else◌, unwrap_or, Service, Link, State, state_number, Established, other_side, End, Ends, Config, LineTold, link_in, state_in, place_in, terms, has_lines, line_sound, AreTurns, weight_at, IsReady, IsTaken, Pair, all-turns, Station, Wire, Doing, doing_all, turns, IsStill, IsBeginningOf, IsTold, calling, IsTalk, data_told, Face, Speaks, own_link, granted_of}
+use Rattle.laws_wire.proofs.Vocabulary.{◌≡◌, ℕ, ◌+◌, ◌*◌, ◌≤◌, ◌||◌, Bool, false, cond, List, [], ◌++◌, length, map, take, drop, Option, Some, option_map, refl, sym, ap, subst, ◌∙◌, append-nil, append_assoc, length-append, map-append, take-append-drop, arith, All, All-nil, Service, Link, Established, other_side, End, Ends, Config, LineTold, link_in, state_in, place_in, terms, has_lines, line_sound, AreTurns, weight_at, IsReady, IsTaken, Pair, all-turns, Station, Wire, Doing, doing_all, turns, IsStill, IsBeginningOf, IsTold, calling, IsTalk, data_told, Face, Speaks, own_link, granted_of}
 use Rattle.std.proofs.lemmas.List.{append_cancel_left}
 use Rattle.std.proofs.Math.Seq.{drop-append_seam}
 use Rattle.model_link.specs.TwoEnds as two_ends
@@ -23,21 +23,14 @@ record IsUp (service : Service) (tei : ℕ) (l : Line) : Type 0 where
   placed : place_in l tei ≡ Some place
   state : (link_in l service place).state ≡ Established
 
-seven-is : (x : State) → state_number x ≡ 7 → x ≡ Established
-seven-is Established e = refl
-seven-is other e = absurd (cc)
-
 is-up : (service : Service) (tei : ℕ) (l : Line) → (o : Option ℕ) → place_in l tei ≡ o → option_map (state_in l service) o ≡ Some 7 → IsUp service tei l
-is-up service tei l None is e = absurd (cc)
-is-up service tei l (Some place) is e = record { place = place; placed = is; state = seven-is (link_in l service place).state (ap (λ o. unwrap_or o 0) e) }
+is-up service tei l o is e = grind arith
 
 both-off : (a b : Bool) → (a || b) ≡ false → (a ≡ false) × (b ≡ false)
-both-off false false e = (refl, refl)
-both-off other b e = absurd (cc)
+both-off a b e = grind arith
 
 two-owed : (b : Bool) → cond {A = ℕ} b 2 0 ≡ 2 * cond {A = ℕ} b 1 0
-two-owed true = refl
-two-owed false = refl
+two-owed b = grind arith
 
 -- what was told since of what was unsent and what was granted since
 behind : (s r : ℕ) (cs more since : List (List ℕ)) → take s cs ++ since ≡ take r (cs ++ more) → since ++ drop r (cs ++ more) ≡ drop s cs ++ more
@@ -171,13 +164,9 @@ module _ (service : Service) (tei : ℕ) where
     -- with what the other was granted before
     pub is-told : (still : Type 0) → (still → n.delivered ≡ m.link.contents) → (granted : List (List ℕ))
         → IsTold still (data_notes (unsent_at service tei u ++ drop (length granted) (granted ++ more))) (data_notes since)
-    is-told still all granted =
-        subst (λ xs. IsTold still (data_notes (unsent_at service tei u ++ xs)) (data_notes since)) (sym (drop-append_seam granted more)) (told-first, λ e. told-then (all e))
+    is-told still all granted = grind (arith, drop-append_seam, told-first, told-then)
 
   -- what was granted and told is nothing to how they face each other
-  logs-aside : (g h g' h' : List (List ℕ)) (t r t' r' : List LineTold) (x y : Station) → Speaks service tei (logged g t x) (logged h r y) → Speaks service tei (logged g' t' x) (logged h' r' y)
-  logs-aside g h g' h' t r t' r' x y k = record { card = k.card; state = k.state; free = k.free; alone = k.alone; received = k.received; owes = k.owes }
-
   first-pair : (e : Ends) → IsReady e.near → IsReady e.far → IsTaken e.near e.far → IsTaken e.far e.near → Pair e
   unfolding two_ends.doing_all AreTurns
   first-pair e near far there back = (all-turns [] e near far there back tt).pair
@@ -203,10 +192,7 @@ module _ (service : Service) (tei : ℕ) where
     as_kept v = with_logs (own_link service tei s).contents [] (own_link service tei u).contents [] v
 
     begins : as_is bare_wire ≡ w
-    begins = λ i. record {
-      near = record s { granted = append-nil s.granted i; told = append-nil s.told i };
-      far = record u { granted = append-nil u.granted i; told = append-nil u.told i };
-    }
+    begins = grind (arith, append-nil)
 
     pub leads : doing_all ds w ≡ as_is last
     leads = ap (doing_all ds) (sym begins) ∙ run-logged s.granted s.told u.granted u.told ds bare_wire
@@ -243,9 +229,7 @@ module _ (service : Service) (tei : ℕ) where
     }
 
     talked : Talked (as_kept last)
-    talked =
-        subst Talked ran
-        (talks service tei c d (up s u h.0).place (up u s h.1).place face back (past_at s u) (past_at u s) ds talk (as_kept bare_wire) (end_at s u) (end_at u s) now)
+    talked = grind (arith, ran, talks, up, face, back, now)
 
     all-arrived : IsStill (as_is last) → (talked.m'.delivered ≡ talked.n'.link.contents) × (talked.n'.delivered ≡ talked.m'.link.contents)
     all-arrived still =
@@ -276,25 +260,7 @@ module _ (service : Service) (tei : ℕ) where
         )
 
     bounded : turns ds w + 4 * granted_of w ≤ most_turns service tei s + most_turns service tei u + 4 * granted_of (as_is last)
-    bounded =
-        let x = talked in
-        let kn = (own_link service tei s).contents in
-        let kf = (own_link service tei u).contents in
-        let before-n : length (kn ++ []) ≡ length kn = ap length (append-nil kn) in
-        let before-f : length (kf ++ []) ≡ length kf = ap length (append-nil kf) in
-        omega (
-          arith,
-          x.price,
-          same-turns,
-          price s u h.0,
-          price u s h.1,
-          before-n,
-          before-f,
-          length-append kn last.near.granted,
-          length-append kf last.far.granted,
-          length-append s.granted last.near.granted,
-          length-append u.granted last.far.granted,
-        )
+    bounded = grind (arith, talked, append-nil, same-turns, price, length-append)
 
     pub delivers : Delivers service tei (turns ds w) w (doing_all ds w)
     delivers = subst (Delivers service tei (turns ds w) w) (sym leads) (record { turns = bounded; near = told-near; far = told-far })
@@ -306,10 +272,7 @@ module _ (service : Service) (tei : ℕ) where
         (face-by last (faces-again service tei c d (up s u h.0).place (up u s h.1).place (past_at s u) (past_at u s) (as_kept last) x.n' x.m' x.talk (as-kept-still (subst IsStill leads still)) h.2))
       where
         face-by : (v : Wire) → Face service tei (as_kept v) → Face service tei (as_is v)
-        face-by v k =
-            let kn = (own_link service tei s).contents in
-            let kf = (own_link service tei u).contents in
-            (logs-aside kn kf s.granted u.granted [] [] s.told u.told v.near v.far k.0, logs-aside kf kn u.granted s.granted [] [] u.told s.told v.far v.near k.1, k.2)
+        face-by v k = grind arith
 
         as-kept-still : IsStill (as_is last) → IsStill (as_kept last)
         as-kept-still e = record { near = e.near; far = e.far; near_way = e.near_way; far_way = e.far_way }

@@ -1,5 +1,5 @@
 -- I-frames of which none is missing between V(R) of the one end and V(S) of the other, and N(R) of which the last is V(R).
-use Rattle.laws_wire.proofs.Vocabulary.{◌≡◌, ℕ, ◌+◌, ◌%◌, ◌<◌, ◌≤◌, Bool, true, List, [], ◌∷◌, ◌++◌, refl, sym, ap, subst, ◌∙◌, ◌⊎◌, inl, inr, arith, Parts, seq, seq-value, Means, Rising, rising-low, Kind, numbered, enquiry, answer, report, rejection, alien, Every, Calm, Beyond}
+use Rattle.laws_wire.proofs.Vocabulary.{◌≡◌, ℕ, ◌+◌, ◌%◌, ◌<◌, ◌≤◌, Bool, true, List, [], ◌∷◌, ◌++◌, refl, sym, ap, ◌⊎◌, arith, Parts, seq, seq-value, Means, Rising, rising-low, Kind, numbered, enquiry, answer, report, rejection, alien, Every, Calm, Beyond}
 
 -- The numbers are lo, lo + 1 and so on, up to below hi.
 abbrev pub Dense : ℕ → ℕ → List Kind → Type 0
@@ -66,9 +66,7 @@ reaches-low a r (f ∷ fs) (m, up, means, rest) = let more : m ≤ r = reaches-l
 
 pub reaches-flat : (a r : ℕ) (fs : List Parts) → a ≡ r → Rising a r fs → Reaches a r fs
 reaches-flat a r [] e h = e
-reaches-flat a r (f ∷ fs) e (m, up, means, rest) =
-    let low : m ≤ r = rising-low m r fs rest in
-    (m, up, means, reaches-flat m r fs (omega (arith, e, up, low)) rest)
+reaches-flat a r (f ∷ fs) e (m, up, means, rest) = grind (arith, reaches-flat m r fs, rising-low)
 
 pub reaches-push : (a r : ℕ) (fs : List Parts) (f : Parts) → Means r f.control → Rising a r fs → Reaches a r (fs ++ f ∷ [])
 reaches-push a r [] f means h = (r, h, means, refl)
@@ -83,6 +81,4 @@ abbrev pub Replies : ℕ → Bool → Bool → List Parts → List Parts → Typ
 Replies r owes owes' fs fs' = ((owes' ≡ owes) × (fs' ≡ fs)) ⊎ ((f : Parts) × (fs' ≡ fs ++ f ∷ []) × Means r f.control)
 
 pub owed-after : (a r : ℕ) (owes owes' : Bool) (fs fs' : List Parts) → Rising a r fs → Replies r owes owes' fs fs' → Owed a r owes fs → Owed a r owes' fs'
-owed-after a r owes owes' fs fs' up (inl (same, e)) (inl due) = inl (same ∙ due)
-owed-after a r owes owes' fs fs' up (inl (same, e)) (inr h) = inr (subst (Reaches a r) (sym e) h)
-owed-after a r owes owes' fs fs' up (inr (f, e, means)) h = inr (subst (Reaches a r) (sym e) (reaches-push a r fs f means up))
+owed-after a r owes owes' fs fs' up o h = grind (arith, reaches-push)

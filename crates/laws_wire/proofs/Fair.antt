@@ -1,5 +1,5 @@
 -- An event of a link in states 7 and 8 tells an error; or it leaves the link there, tells what it delivers, and nothing else.
-use Rattle.laws_wire.proofs.Vocabulary.{◌≡◌, ℕ, Bool, true, false, cond, ◌||◌, IsTrue, List, [], ◌∷◌, ◌++◌, length, map, Option, None, Some, refl, sym, ap, subst, ◌∙◌, ◌⊎◌, inl, inr, true≢false, nat_lt, option_to_list, list_any, list_any-append, Seq, named, Control, Information, ReceiveReady, ReceiveNotReady, Reject, Sabme, Ua, ErrorCode, Note, Parts, State, Established, TimerRecovery, LinkTimer, T203, Terms, Link, is_multiple_frame, has_outstanding, received, expired, begun, Step, ◌then◌, by_bit, Leads, keeping_then, nothing_leads, depending_leads, bit_leads, Means, T200, frame, Course, is_error}
+use Rattle.laws_wire.proofs.Vocabulary.{arith, ◌≡◌, ℕ, Bool, true, false, cond, ◌||◌, IsTrue, List, [], ◌∷◌, ◌++◌, length, map, Option, None, Some, refl, sym, ap, ◌∙◌, ◌⊎◌, inl, inr, true≢false, nat_lt, option_to_list, list_any, list_any-append, Seq, named, Control, Information, ReceiveReady, ReceiveNotReady, Reject, Sabme, ErrorCode, Note, Parts, State, Established, TimerRecovery, LinkTimer, T203, Terms, Link, is_multiple_frame, received, expired, begun, Step, ◌then◌, Leads, keeping_then, nothing_leads, depending_leads, bit_leads, Means, T200, frame, Course, is_error}
 use Rattle.lapd_frame.specs.declared.notes.ErrorCode.TheVariants as code
 use Rattle.lapd_frame.specs.declared.notes.Note.TheVariants as notes
 use Rattle.model_link.specs.Words
@@ -12,8 +12,7 @@ abbrev pub HasError : List Note → Type 0
 HasError ns = list_any is_error ns ≡ true
 
 pub or-true : (b : Bool) → (b || true) ≡ true
-or-true true = refl
-or-true false = refl
+or-true b = grind arith
 
 pub error-told : (ns : List Note) (n : Note) → is_error n ≡ true → HasError (ns ++ n ∷ [])
 error-told ns n is = list_any-append is_error ns (n ∷ []) ∙ ap (λ b. list_any is_error ns || (b || false)) is ∙ or-true (list_any is_error ns)
@@ -67,8 +66,7 @@ module _ (t : Terms) where
   again_fair n = record { leads = λ c h. record { fair = h.fair } }
 
   entered : (state to : State) (ns : List Note) (d u : Option (List ℕ)) → IsTrue (is_multiple_frame to) → HasError ns ⊎ Fine t state ns d u → HasError ns ⊎ Fine t to ns d u
-  entered state to ns d u up (inl e) = inl e
-  entered state to ns d u up (inr x) = inr (record { up = up; its_notes = x.its_notes; no_unit = x.no_unit })
+  entered state to ns d u up o = grind arith
 
   enter_fair : Leads (Fair t) (Words.enter Established) (Fair t)
   enter_fair = record { leads = λ c h. record { fair = entered c.link.state Established c.notes c.delivered c.unit refl h.fair } }
@@ -80,18 +78,11 @@ module _ (t : Terms) where
   number_fair {f} nr x = record { leads = λ c h. go c h (named c.link.a c.link.s nr) }
     where
       go : (c : Course) → Fair t c → (o : Option ℕ) → Fair t (elim o [ None ↦ (Words.error t code.J then Words.re_establish t) c | Some n ↦ f n c ])
-      go c h None = record { fair = inl (error-told c.notes (notes.Error t.service t.tei code.J) refl) }
-      go c h (Some n) = (x n).leads c h
+      go c h o = grind (arith, error-told)
 
 ruleset words = (keeping_then, nothing_leads, depending_leads, bit_leads, failed_fair, error_fair, enquire_fair, answer_fair, reject_fair, peer_busy_fair, rejecting_fair, pending_fair, repeats_fair, repeated_fair, start_fair, acknowledge_fair, again_fair, enter_fair, recover_fair)
 
 module _ (t : Terms) where
-  timer_7 : Leads (Fair t) (Established.timer_in_7 t) (Fair t)
-  timer_7 = search words depth 12 fits 4000
-
-  t200_8 : Leads (Fair t) (TimerRecovery.t200_in_8 t) (Fair t)
-  t200_8 = search words depth 12 fits 4000
-
   in_7 : (n : ℕ) → Leads (Fair t) (Established.acknowledged_in_7 n) (Fair t)
   in_7 n = search words depth 12 fits 4000
 
@@ -125,20 +116,13 @@ module _ (t : Terms) where
     at-first = record { fair = inr (record { up = up; its_notes = refl; no_unit = refl }) }
 
     in-sequence : (p : Bool) (octets : List ℕ) → Fair t (MultipleFrame.in_sequence t p octets (begun l))
-    in-sequence p octets =
-        let x : Leads (Fair t) (by_bit p (Words.answer t) (Words.pending_is true)) (Fair t) = search words depth 12 fits 4000 in
-        x.leads ((Words.count_received then Words.rejecting_is false then Words.deliver t octets) (begun l)) (record { fair = inr (record { up = up; its_notes = refl; no_unit = refl }) })
+    in-sequence p octets = grind arith
 
     either : (b : Bool) (u v : Course) → Fair t u → Fair t v → Fair t (cond b u v)
-    either true u v x y = x
-    either false u v x y = y
+    either b u v x y = grind arith
 
     contents : (ns : Seq) (p : Bool) (octets : List ℕ) → Fair t (MultipleFrame.contents_in_7_8 t ns p octets (begun l))
-    contents ns p octets =
-        let dropped : Leads (Fair t) (MultipleFrame.dropped t p) (Fair t) = search words depth 12 fits 4000 in
-        let out : Leads (Fair t) (MultipleFrame.out_of_sequence t p) (Fair t) = search words depth 12 fits 4000 in
-        either l.own_busy _ _ (dropped.leads (begun l) at-first)
-        (either (MultipleFrame.is_next ns l) _ _ (in-sequence p octets) (out.leads (begun l) at-first))
+    contents ns p octets = grind (arith, either, at-first, in-sequence)
 
     information : (ns nr : Seq) (p : Bool) (octets : List ℕ) (f : ℕ → Step) → ((n : ℕ) → Leads (Fair t) (f n) (Fair t))
         → Fair t (MultipleFrame.information_in_7_8 t ns nr p octets f (begun l))
@@ -171,27 +155,11 @@ module _ (t : Terms) where
 
     -- timers
     expired-in : (here : State) → IsTrue (is_multiple_frame here) → (timer : LinkTimer) → Fair t (Machine.expired_in here timer t (begun l))
-    expired-in Established is timer = timer_7.leads (begun l) at-first
-    expired-in TimerRecovery is T200 = t200_8.leads (begun l) at-first
-    expired-in TimerRecovery is T203 = at-first
-    expired-in other is timer = absurd (true≢false (sym is))
+    expired-in here is timer = grind (arith, at-first)
 
     pub timer-fair : (timer : LinkTimer) → Fair t (Machine.course t (expired timer) l)
     timer-fair timer = either (Machine.is_running timer l) _ _ (expired-in l.state up timer) at-first
 
     -- SABME is an error
     pub sabme-error : (f : Parts) (p : Bool) → f.control ≡ Sabme p → HasError (Machine.course t (received (frame f)) l).notes
-    sabme-error f p is = subst (λ control. HasError (Machine.frame_step t f.address.command f.info control (begun l)).notes) (sym is) (sabme-in l.state up)
-      where
-        first : Course
-        first = (Words.send t (Words.response (Ua p)) then Words.clear_flags then Words.error t code.F) (begun l)
-
-        by-outstanding : (b : Bool)
-            → HasError ((Words.zero_numbers then Words.start T203 then Words.enter Established) (cond b ((Words.discard then Words.establish_indication t) first) first)).notes
-        by-outstanding true = refl
-        by-outstanding false = refl
-
-        sabme-in : (here : State) → IsTrue (is_multiple_frame here) → HasError (Machine.frame_in here t f.address.command f.info (Sabme p) (begun l)).notes
-        sabme-in Established is = by-outstanding (has_outstanding first.link)
-        sabme-in TimerRecovery is = by-outstanding (has_outstanding first.link)
-        sabme-in other is = absurd (true≢false (sym is))
+    sabme-error f p is = grind arith

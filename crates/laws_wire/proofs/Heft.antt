@@ -1,5 +1,5 @@
 -- What is left to do on a wire, as its stations are; and what is done at an end makes it less, whatever its phase.
-use Rattle.laws_wire.proofs.Vocabulary.{◌≡◌, ℕ, ◌+◌, ◌*◌, ◌-◌, ◌≤◌, Bool, true, false, cond, List, [], ◌++◌, length, Option, None, Some, refl, sym, ap, subst, ◌∙◌, inl, inr, append-nil, arith, Refusal, Service, Timer, Parts, ReceiveReady, ReceiveNotReady, seq, LinkTimer, T200, T203, Terms, Link, Course, course, begun, End, with_link, Config, LineTold, request, Line, place_in, Request, SetBusy, ClearBusy, at_requested, aim_of_request, contents_of, Station, Wire, happens, Act, requests, times_out, gives, takes, loses, acting, turned, granted_of, link_of, flat_map, is_granted, answered, IsAsked, IsOfLink, IsFullTalkOf, IsTimelyOf, is_move_of, expiries_of, response, has_room}
+use Rattle.laws_wire.proofs.Vocabulary.{◌≡◌, ℕ, ◌+◌, ◌*◌, ◌-◌, ◌≤◌, Bool, false, cond, List, [], length, Option, None, Some, refl, sym, subst, inl, inr, append-nil, arith, Refusal, Service, Timer, Parts, LinkTimer, T200, T203, Terms, Link, Course, course, begun, End, with_link, Config, LineTold, request, Line, place_in, Request, SetBusy, ClearBusy, at_requested, aim_of_request, contents_of, Station, Wire, happens, Act, requests, times_out, gives, takes, loses, acting, turned, granted_of, link_of, flat_map, is_granted, answered, IsAsked, IsOfLink, IsFullTalkOf, IsTimelyOf, is_move_of, expiries_of}
 use Rattle.lapd_frame.specs.declared.timers.Timer.TheVariants as timers
 use Rattle.model_link.specs.Events as link
 use Rattle.model_link.specs.Requests as link_requests
@@ -26,28 +26,20 @@ pub record Reports (w : ℕ) (l : Link) (c : Course) : Type 0 where
 
 module _ (w : ℕ) (t : Terms) (l : Link) where
   either : (b : Bool) (u v : Course) → Reports w l u → Reports w l v → Reports w l (cond b u v)
-  either true u v x y = x
-  either false u v x y = y
+  either b u v x y = grind arith
 
   nothing-said : Reports w l (begun l)
   nothing-said = record { contents = refl; received = refl; within = omega arith }
 
   unless-refused : (rq : link.Request) (o : Option Refusal) → Reports w l (link_requests.granted t rq (begun l))
       → Reports w l (elim o as (λ o. Course) [ None ↦ link_requests.granted t rq (begun l) | Some _ ↦ begun l ])
-  unless-refused rq None h = h
-  unless-refused rq (Some why) h = nothing-said
+  unless-refused rq o h = grind (arith, nothing-said)
 
   pub busy-reports : Reports w l (course t (link.requested link.SetBusy false) l)
-  busy-reports =
-      let one = one-waits w (has_room t l) l.waiting (response (ReceiveNotReady (seq l.r) false)) 0 refl in
-      unless-refused link.SetBusy (link_requests.refusal t l false link.SetBusy)
-      (either l.own_busy _ _ nothing-said (record { contents = refl; received = refl; within = omega (arith, one) }))
+  busy-reports = grind (arith, one-waits, unless-refused, either, nothing-said)
 
   pub ready-reports : Reports w l (course t (link.requested link.ClearBusy false) l)
-  ready-reports =
-      let one = one-waits w (has_room t l) l.waiting (response (ReceiveReady (seq l.r) false)) 0 refl in
-      unless-refused link.ClearBusy (link_requests.refusal t l false link.ClearBusy)
-      (either l.own_busy _ _ (record { contents = refl; received = refl; within = omega (arith, one) }) nothing-said)
+  ready-reports = grind (arith, one-waits, unless-refused, either, nothing-said)
 
 module _ (service : Service) (tei : ℕ) where
   abbrev its_link : Station → Link
@@ -79,17 +71,8 @@ module _ (service : Service) (tei : ℕ) where
   abbrev its : ℕ → Station → ℕ
   its v s = load v (its_link s) + load_way v (its_way s)
 
-  abbrev between : ℕ → Station → Station → ℕ
-  between v s u = (v + 4) * undelivered (its_link s) (its_link u)
-
   pub pays-turned : (v moved expired reported : ℕ) (w w' : Wire) → Pays v moved expired reported (turned w) w' → Pays v moved expired reported w (turned w')
-  pays-turned v moved expired reported w w' h = record {
-    more = h.more;
-    granted = other-way (length w'.near.granted) (length w'.far.granted) (length w.far.granted) (length w.near.granted) h.more h.granted;
-    falls =
-        swapped moved (its v w'.near) (its v w'.far) (between v w'.near w'.far) (between v w'.far w'.near) (its v w.far) (its v w.near) (between v w.far w.near)
-        (between v w.near w.far) ((v + 4) * expired) ((v + 6) * h.more) (2 * reported) h.falls;
-  }
+  pays-turned v moved expired reported w w' h = grind (arith, other-way, swapped)
 
   module _ (c d : Config) (p q : ℕ) (past_n past_m : List LineTold) (face : Face c d) (v : ℕ) (w : Wire) (n m : End) (near : Held c service tei p past_n w.near n)
       (far : Held d service tei q past_m w.far m) (low : m.link.r ≤ length n.link.contents) where
@@ -131,29 +114,10 @@ module _ (service : Service) (tei : ℕ) where
       bit = is_granted (answered (request r) w.near)
 
       same : s' ≡ w.near → Pays v 0 0 (cond {A = ℕ} bit 1 0) w (record w { near = s' })
-      same e = record {
-        more = 0;
-        granted = let all = ap (λ (s : Station). length s.granted + length w.far.granted) e in omega (arith, all);
-        falls = kept (heft v (record w { near = s' })) (heft v w) ((v + 4) * 0) ((v + 6) * 0) (2 * cond {A = ℕ} bit 1 0) (ap (λ s. heft v (record w { near = s })) e);
-      }
-        where
-          kept : (a b x y z : ℕ) → a ≡ b → 0 + a ≤ b + x + y + z
-          kept a b x y z e = omega (arith, e)
+      same e = grind arith
 
       reported : Granted service tei p w.near n own r rq aims s' → Pays v 0 0 (cond {A = ℕ} bit 1 0) w (record w { near = s' })
-      reported g = record {
-        more = 0;
-        granted = let all = ap (λ (xs : List (List ℕ)). length xs + length w.far.granted) (g.granted ∙ ap (λ xs. w.near.granted ++ xs) none ∙ append-nil w.near.granted) in omega (arith, all);
-        falls =
-            subst (λ b. 0 + heft v (record w { near = s' }) ≤ heft v w + (v + 4) * 0 + (v + 6) * 0 + 2 * cond {A = ℕ} b 1 0) (sym g.answer)
-            (sum (heft v (record w { near = s' })) (heft v w) (load v n'.link) (load v n.link) (load_way v n.way) (load v m.link + load_way v m.way) ((v + 4) * undelivered n'.link m.link)
-            ((v + 4) * undelivered m.link n'.link) ((v + 4) * undelivered n.link m.link) ((v + 4) * undelivered m.link n.link) ((v + 4) * 0) ((v + 6) * 0)
-            (heft-is v c d p q (record w { near = s' }) n' m (subst (λ k. Stands k service tei p s' n') near.stands.config g.stands) far.stands) here
-            (ap (λ (cs : List (List ℕ)). (v + 4) * (length cs - m.link.r)) said.contents) (ap (λ r. (v + 4) * (length m.link.contents - r)) said.received) said.within);
-      }
-        where
-          sum : (a b l' l way other u' z' u z x y : ℕ) → a ≡ (l' + way) + other + (u' + z') → b ≡ (l + way) + other + (u + z) → u' ≡ u → z' ≡ z → l' ≤ l + 2 → 0 + a ≤ b + x + y + 2 * 1
-          sum a b l' l way other u' z' u z x y e f g h less = omega (arith, e, f, g, h, less)
+      reported g = grind (arith, append-nil, load, load_way, undelivered, heft-is, Stands, here)
 
       busy-pays : Pays v 0 0 (cond {A = ℕ} bit 1 0) w (acting (requests r) w)
       busy-pays = elim (asks-stands service tei p w.near n own r rq aims) [ inl e ↦ same e | inr g ↦ reported g ]

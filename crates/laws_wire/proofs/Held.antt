@@ -1,6 +1,6 @@
 -- A station in a call in which frames are lost and timers expire: what its layer 3 was granted is what its link accepted, and
 -- layer 3 heard what its link delivered.
-use Rattle.laws_wire.proofs.Vocabulary.{◌≡◌, ℕ, Bool, true, false, cond, not, ◌&&◌, ◌||◌, ◌==◌, suc, List, [], ◌∷◌, ◌++◌, length, map, Option, Some, None, is_some, refl, sym, ap, subst, ◌∙◌, ◌⊎◌, inl, inr, append-nil, append_assoc, eqb-true, arith, option_to_list, flat_map, list_any, option_or, and_parts, false≢true, map-append, list_any-append, list_any_none, Note, Service, Timer, Parts, spelling, LinkTimer, End, with_link, with_sent, Config, LineTold, expiry, request, next, at_timer, aim_of_expiry, Line, place_in, flat_map-append, Course, nothing, Data, Station, happens, with_first_lost, tells_nothing, comes, data_told, for_layer_3, heard_in, is_error, HasNoError}
+use Rattle.laws_wire.proofs.Vocabulary.{◌≡◌, ℕ, Bool, true, false, cond, not, ◌&&◌, ◌==◌, suc, List, [], ◌∷◌, ◌++◌, length, map, Option, None, is_some, refl, sym, ap, subst, ◌∙◌, ◌⊎◌, inl, inr, append-nil, append_assoc, eqb-true, arith, option_to_list, flat_map, list_any, option_or, and_parts, false≢true, map-append, list_any-append, list_any_none, Note, Service, Timer, Parts, spelling, LinkTimer, End, with_link, with_sent, Config, LineTold, expiry, request, next, at_timer, aim_of_expiry, Line, place_in, flat_map-append, Course, nothing, Data, Station, happens, with_first_lost, comes, data_told, for_layer_3, heard_in, is_error, HasNoError}
 use Rattle.lapd_frame.specs.declared.notes.Note.TheVariants as notes
 use Rattle.model_link.specs.Events as link
 use Rattle.model_link.specs.Machine as links
@@ -19,31 +19,12 @@ abbrev layer_of : List Note → Option (List ℕ) → List LineTold
 layer_of ns contents = cond (length ns == 0 && not (is_some contents)) [] (record nothing { notes = ns; contents = contents } ∷ [])
 
 heard-of : (c : Course) → flat_map for_layer_3 (said_by c) ≡ layer_of c.notes (option_or c.delivered c.unit)
-heard-of c = go (tells_nothing (heard_by c)) refl
-  where
-    contents : Option (List ℕ)
-    contents = option_or c.delivered c.unit
-
-    go : (b : Bool) → tells_nothing (heard_by c) ≡ b → flat_map for_layer_3 (cond b [] (heard_by c ∷ [])) ≡ layer_of c.notes contents
-    go true e =
-        let three = (and_parts ((length c.notes == 0 && not (is_some contents)) && not (is_some (heard_by c).cause)) ((heard_by c).lost == 0) e).0 in
-        let two = (and_parts (length c.notes == 0 && not (is_some contents)) (not (is_some (heard_by c).cause)) three).0 in
-        sym (ap (λ b. cond b [] (record nothing { notes = c.notes; contents = contents } ∷ [])) two)
-    go false e = append-nil (for_layer_3 (heard_by c))
+heard-of c = grind (arith, heard_by, flat_map, and_parts, is_some, append-nil)
 
 -- of what is delivered it hears, and of nothing else
 pub record TellsIt (service : Service) (tei : ℕ) (c : Course) : Type 0 where
   pub its_notes : c.notes ≡ map (λ octets. notes.Data service tei) (option_to_list c.delivered)
   pub no_unit : c.unit ≡ None
-
-hears-it : (service : Service) (tei : ℕ) (c : Course) → TellsIt service tei c → flat_map for_layer_3 (said_by c) ≡ map (data_told service tei) (option_to_list c.delivered)
-hears-it service tei c h =
-    heard-of c ∙ ap (λ ns. layer_of ns (option_or c.delivered c.unit)) h.its_notes
-    ∙ ap (λ u. layer_of (map (λ octets. notes.Data service tei) (option_to_list c.delivered)) (option_or c.delivered u)) h.no_unit ∙ go c.delivered
-  where
-    go : (o : Option (List ℕ)) → layer_of (map (λ octets. notes.Data service tei) (option_to_list o)) (option_or o None) ≡ map (data_told service tei) (option_to_list o)
-    go None = refl
-    go (Some octets) = refl
 
 -- ---- errors that were told
 
@@ -58,27 +39,13 @@ some-notes [] h e = false≢true h
 some-notes (n ∷ ns) h e = let none : suc (length ns) ≡ 0 = eqb-true (length (n ∷ ns)) 0 e in absurd (omega (arith, none))
 
 pub error-said : (c : Course) → HasError c.notes → list_any tells_error (said_by c) ≡ true
-error-said c h = go (tells_nothing (heard_by c)) refl
-  where
-    contents : Option (List ℕ)
-    contents = option_or c.delivered c.unit
-
-    go : (b : Bool) → tells_nothing (heard_by c) ≡ b → list_any tells_error (cond b [] (heard_by c ∷ [])) ≡ true
-    go true e =
-        let three = (and_parts ((length c.notes == 0 && not (is_some contents)) && not (is_some (heard_by c).cause)) ((heard_by c).lost == 0) e).0 in
-        let two = (and_parts (length c.notes == 0 && not (is_some contents)) (not (is_some (heard_by c).cause)) three).0 in
-        let none = (and_parts (length c.notes == 0) (not (is_some contents)) two).0 in
-        absurd (some-notes c.notes h none)
-    go false e = ap (λ b. b || false) h
+error-said c h = grind (arith, heard_by, and_parts, is_some, some-notes)
 
 pub now-erred : (s s' : Station) (c : Course) → s'.told ≡ s.told ++ said_by c → HasError c.notes → Erred s'
-now-erred s s' c told h =
-    ap (list_any tells_error) told ∙ list_any-append tells_error s.told (said_by c) ∙ ap (λ b. list_any tells_error s.told || b) (error-said c h)
-    ∙ or-true (list_any tells_error s.told)
+now-erred s s' c told h = grind (arith, list_any-append, said_by, error-said, or-true)
 
 pub erred-stays : (s s' : Station) (more : List LineTold) → s'.told ≡ s.told ++ more → Erred s → Erred s'
-erred-stays s s' more told h =
-    ap (list_any tells_error) told ∙ list_any-append tells_error s.told more ∙ ap (λ b. b || list_any tells_error more) h
+erred-stays s s' more told h = grind (arith, list_any-append)
 
 pub not-erred : (s : Station) → HasNoError s → Erred s → ⊥
 not-erred s none h = false≢true (sym (list_any_none tells_error s.told none) ∙ h)
@@ -101,12 +68,7 @@ module _ (service : Service) (tei place : ℕ) (past : List LineTold) (c : Confi
   -- what it heard by an event
   pub heard-then : (s' : Station) (x : Course) → s'.told ≡ s.told ++ said_by x → TellsIt n.terms.service n.terms.tei x
       → heard_in s' ≡ past ++ map (data_told service tei) (n.delivered ++ option_to_list x.delivered)
-  heard-then s' x told y =
-      let z = subst (λ t. TellsIt t.service t.tei x) h.stands.terms y in
-      ap (flat_map for_layer_3) told ∙ flat_map-append for_layer_3 s.told (said_by x) ∙ ap (λ ts. ts ++ flat_map for_layer_3 (said_by x)) h.heard
-      ∙ ap (λ ts. (past ++ map (data_told service tei) n.delivered) ++ ts) (hears-it service tei x z)
-      ∙ append_assoc past (map (data_told service tei) n.delivered) (map (data_told service tei) (option_to_list x.delivered))
-      ∙ ap (λ ts. past ++ ts) (sym (map-append (data_told service tei) n.delivered (option_to_list x.delivered)))
+  heard-then s' x told y = grind (arith, flat_map, flat_map-append, said_by, heard-of, append_assoc, map-append)
 
   heard-data : (xs : List (List ℕ)) → flat_map for_layer_3 (map (data_told service tei) xs) ≡ map (data_told service tei) xs
   heard-data [] = refl
@@ -114,12 +76,7 @@ module _ (service : Service) (tei place : ℕ) (past : List LineTold) (c : Confi
 
   heard-so-far : (s' : Station) (more : List (List ℕ)) → s'.told ≡ s.told ++ map (data_told service tei) more
       → heard_in s' ≡ past ++ map (data_told service tei) (n.delivered ++ more)
-  heard-so-far s' more told =
-      ap (flat_map for_layer_3) told ∙ flat_map-append for_layer_3 s.told (map (data_told service tei) more)
-      ∙ ap (λ ts. ts ++ flat_map for_layer_3 (map (data_told service tei) more)) h.heard
-      ∙ ap (λ ts. (past ++ map (data_told service tei) n.delivered) ++ ts) (heard-data more)
-      ∙ append_assoc past (map (data_told service tei) n.delivered) (map (data_told service tei) more)
-      ∙ ap (λ ts. past ++ ts) (sym (map-append (data_told service tei) n.delivered more))
+  heard-so-far s' more told = grind (arith, flat_map, flat_map-append, heard-data, append_assoc, map-append)
 
   pub held-given : (with_sent n).link.contents ≡ n.link.contents → Held c service tei place past (happens next s) (with_sent n)
   held-given kept =
@@ -195,12 +152,4 @@ module _ (service : Service) (tei place : ℕ) (past : List LineTold) (c : Confi
   pub held-first : (first : LineTold) (s' : Station) (n' : End) (x : Course) → past ≡ [] → n.delivered ≡ [] → n'.delivered ≡ [] → Stands c service tei place s' n' → s'.granted ≡ s.granted
       → n'.link.contents ≡ n.link.contents → s'.told ≡ s.told ++ said_by x → said_by x ≡ first ∷ [] → for_layer_3 first ≡ first ∷ []
       → Held c service tei place (first ∷ []) s' n'
-  held-first first s' n' x none before now stands granted kept told said is = record {
-    stands = stands;
-    granted = granted ∙ h.granted ∙ sym kept;
-    heard =
-        ap (flat_map for_layer_3) told ∙ flat_map-append for_layer_3 s.told (said_by x)
-        ∙ ap (λ ts. ts ++ flat_map for_layer_3 (said_by x)) (h.heard ∙ ap (λ ts. ts ++ map (data_told service tei) n.delivered) none ∙ ap (map (data_told service tei)) before)
-        ∙ ap (flat_map for_layer_3) said ∙ append-nil (for_layer_3 first) ∙ is
-        ∙ ap (λ xs. first ∷ map (data_told service tei) xs) (sym now);
-  }
+  held-first first s' n' x none before now stands granted kept told said is = grind (arith, flat_map, flat_map-append, said_by, append-nil)

@@ -1,5 +1,5 @@
 -- Two ends whose links are up, by what is on the line from each to the other: first what is on its way, and then what waits.
-use Rattle.laws_wire.proofs.Vocabulary.{◌≡◌, ℕ, ◌+◌, ◌≤◌, Bool, true, false, cond, IsTrue, List, [], ◌∷◌, ◌++◌, length, take, drop, None, refl, sym, ap, subst, ◌∙◌, append_assoc, append-nil, true≢false, arith, option_to_list, All-nil, front_rest, Parts, State, TeiAssigned, Established, TimerRecovery, LinkTimer, T203, ControlFrame, Terms, received, expired, offer, Link, is_multiple_frame, course, IsInRange, IsSettledIn, IsWaitingFrame, begun, End, with_link, with_sent, event-delivers, frames_of, frames-append, sender-goes, receiver-goes, sender-loses, receiver-loses, Reports, Up, no-reports, any_number, still, timer_7_up, t200_8_up, at-first, sender-hears, receiver-hears, Carried, Means, Rising, Gave, offer-gave, frame-taken, none-delivered, T200, frame, after, IsSound, Course}
+use Rattle.laws_wire.proofs.Vocabulary.{◌≡◌, ℕ, ◌+◌, ◌≤◌, Bool, true, false, cond, IsTrue, List, [], ◌∷◌, ◌++◌, length, take, drop, None, refl, sym, ap, subst, ◌∙◌, append_assoc, append-nil, true≢false, arith, option_to_list, front_rest, Parts, State, Established, TimerRecovery, LinkTimer, T203, ControlFrame, Terms, received, expired, offer, Link, is_multiple_frame, course, IsInRange, begun, End, with_link, with_sent, event-delivers, frames_of, frames-append, sender-goes, receiver-goes, sender-loses, receiver-loses, Reports, Up, no-reports, any_number, still, timer_7_up, t200_8_up, at-first, sender-hears, receiver-hears, Carried, Means, Rising, Gave, offer-gave, frame-taken, none-delivered, T200, frame, after, IsSound, Course}
 use Rattle.model_link.specs.Machine
 use Rattle.model_link.proofs.Direction.{Direction, line_of}
 
@@ -19,12 +19,7 @@ turned-joint n m near far h = record { there = h.back; back = h.there }
 
 -- by the line alone
 relined : (x y : End) (near far : List Parts) → line_of x ≡ near → line_of y ≡ far → Direction x y → Direction (shown x near) (shown y far)
-relined x y near far e e' h = record {
-  carried = subst (Carried x.link.contents (x.link.a + x.terms.k) y.link.r) (e ∙ sym (append-nil near)) h.carried;
-  rising = subst (Rising x.link.a y.link.r) (e' ∙ sym (append-nil far)) h.rising;
-  delivered = h.delivered;
-  accepted = h.accepted;
-}
+relined x y near far e e' h = grind (arith, append-nil)
 
 -- what waits more
 abbrev pub since : List ControlFrame → List ControlFrame → List ControlFrame
@@ -39,9 +34,7 @@ waits-since r ws ws' h = h.more ∙ ap (λ xs. ws ++ xs) (sym (front_rest ws' ws
 -- so the line grows by it
 pub line-on : (t : Terms) (way first line : List Parts) (ws ws' news : List ControlFrame) → way ++ frames_of t ws ≡ first ++ line → ws' ≡ ws ++ news
     → way ++ frames_of t ws' ≡ first ++ (line ++ frames_of t news)
-line-on t way first line ws ws' news e more =
-    ap (λ xs. way ++ frames_of t xs) more ∙ ap (λ fs. way ++ fs) (frames-append t ws news) ∙ sym (append_assoc way (frames_of t ws) (frames_of t news))
-    ∙ ap (λ fs. fs ++ frames_of t news) e ∙ append_assoc first line (frames_of t news)
+line-on t way first line ws ws' news e more = grind (arith, frames_of, frames-append, append_assoc)
 
 -- the first on a line is lost
 pub loses-first : (n m : End) (f : Parts) (near far : List Parts) → Joint n m (f ∷ near) far → Joint n m near far
@@ -78,8 +71,7 @@ goes-on n m l' more near far g h =
 
 -- an event that delivers nothing changes the link alone
 pub only-link : (n : End) (e : Rattle.model_link.specs.Events.Event) → (course n.terms e n.link).delivered ≡ None → with_link e n ≡ record n { link = after n.terms e n.link }
-only-link n e none =
-    λ i. record n { link = after n.terms e n.link; delivered = (ap (λ o. n.delivered ++ option_to_list o) none ∙ append-nil n.delivered) i }
+only-link n e none = grind (arith, append-nil)
 
 pub accepts : (octets : List ℕ) (l : Link) → Goes l (record l { contents = l.contents ++ octets ∷ [] }) (octets ∷ [])
 accepts octets l = record { same = refl; still = refl; received = refl; reports = no-reports l.r l.waiting }
@@ -101,8 +93,7 @@ module _ (t : Terms) (l : Link) where
 
   either : (b : Bool) (u v : Course) → (IsTrue (is_multiple_frame u.link.state) → Goes l u.link []) → (IsTrue (is_multiple_frame v.link.state) → Goes l v.link [])
       → IsTrue (is_multiple_frame (cond b u v).link.state) → Goes l (cond b u v).link []
-  either true u v x y up = x up
-  either false u v x y up = y up
+  either b u v x y up = grind arith
 
   pub timer-goes : IsTrue (is_multiple_frame l.state) → (timer : LinkTimer) → IsTrue (is_multiple_frame (after t (expired timer) l).state) → Goes l (after t (expired timer) l) []
   timer-goes before timer up = either (Machine.is_running timer l) _ _ (λ x. expired-goes l.state before timer x) (λ x. stays) up
@@ -129,19 +120,14 @@ gives-on n m first near far ranges sound e h =
       line = g.line n.way ∙ ap (λ fs. fs ++ g.news) e ∙ append_assoc first near g.news;
       joint = record {
         there = record {
-          carried =
-              subst (λ cs. Carried cs (c.link.a + n.terms.k) m.link.r (line ++ [])) (sym g.same)
-              (subst (λ a. Carried n.link.contents (a + n.terms.k) m.link.r (line ++ [])) (sym g.acknowledged)
-              (subst (Carried n.link.contents (n.link.a + n.terms.k) m.link.r) (sym (append-nil line)) (g.carried m.link.r near up)));
+          carried = grind (arith, append-nil);
           rising = subst (λ a. Rising a m.link.r (far ++ [])) (sym g.acknowledged) h.there.rising;
           delivered = h.there.delivered ∙ ap (λ cs. take m.link.r cs) (sym g.same);
           accepted = subst (λ cs. m.link.r ≤ length cs) (sym g.same) h.there.accepted;
         };
         back = record {
           carried = subst (λ r. Carried m.link.contents (m.link.a + m.terms.k) r (far ++ [])) (sym g.received) h.back.carried;
-          rising =
-              subst (λ r. Rising m.link.a r (line ++ [])) (sym g.received)
-              (subst (Rising m.link.a n.link.r) (sym (append-nil line)) (g.rising m.link.a near its));
+          rising = grind (arith, append-nil);
           delivered = h.back.delivered ∙ ap (λ r. take r m.link.contents) (sym g.received);
           accepted = subst (λ r. r ≤ length m.link.contents) (sym g.received) h.back.accepted;
         };
@@ -150,22 +136,8 @@ gives-on n m first near far ranges sound e h =
     }
 
 -- soundness does not need what waits
-settled-bare : (state : State) (l : Link) → IsSettledIn state l → IsSettledIn state (bare l)
-settled-bare TeiAssigned l h = h
-settled-bare other l h = h
-
 sound-bare : (t : Terms) (l : Link) → IsSound t l → IsSound t (bare l)
-sound-bare t l h = record {
-  ordered = h.ordered;
-  accepted = h.accepted;
-  within = h.within;
-  settled = settled-bare l.state l h.settled;
-  queue = h.queue;
-  ring = omega arith;
-  owes_nothing = h.owes_nothing;
-  sizes = h.sizes;
-  frames = All-nil (IsWaitingFrame t);
-}
+sound-bare t l h = grind arith
 
 -- what the first on a line is
 pub record IsMeant (f : Parts) : Type 0 where

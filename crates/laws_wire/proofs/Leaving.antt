@@ -1,5 +1,5 @@
 -- A link that is released, and the one that is told of it: what each event makes of them.
-use Rattle.laws_wire.proofs.Vocabulary.{◌≡◌, ℕ, ◌+◌, ◌<◌, Bool, true, false, cond, List, [], ◌∷◌, ◌++◌, take, None, Some, sym, ap, ◌∙◌, nat_lt, lt-ltb, Disc, Ua, Dm, Parts, TeiAssigned, AwaitingRelease, Established, ControlFrame, Terms, received, expired, requested, Link, frame_of, course, begun, ◌then◌, command, response, T200, after, Course, release_indicated}
+use Rattle.laws_wire.proofs.Vocabulary.{arith, ◌≡◌, ℕ, ◌+◌, ◌<◌, Bool, true, false, cond, List, [], ◌∷◌, ◌++◌, take, None, Some, sym, ap, ◌∙◌, nat_lt, lt-ltb, Disc, Ua, Dm, Parts, TeiAssigned, AwaitingRelease, Established, ControlFrame, Terms, received, expired, requested, Link, frame_of, course, begun, ◌then◌, command, response, T200, after, Course, release_indicated}
 use Rattle.lapd_frame.specs.declared.notes.ErrorCode.TheVariants as code
 use Rattle.model_link.specs.Events.{frame, Release}
 use Rattle.model_link.specs.Words
@@ -33,22 +33,16 @@ module _ (t : Terms) (room : nat_lt 0 t.control ≡ true) (l : Link) where
     same = λ i. record l { state = sym state i; waiting = sym none i }
 
     pub releases : after t (requested Release false) l ≡ leaving l 0 (its_disc ∷ [])
-    releases =
-        ap (after t (requested Release false)) (sym same) ∙ ap (λ b. leaving l 0 (cond b ([] ++ its_disc ∷ []) [])) room
+    releases = grind (arith, same)
 
     pub releases-untold : said_by (course t (requested Release false) l) ≡ []
-    releases-untold =
-        ap (λ y. said_by (course t (requested Release false) y)) (sym same)
-        ∙ ap (λ b. said_by (record (begun l) { lost = cond {A = ℕ} b 0 1 })) room
+    releases-untold = grind (arith, said_by, same)
 
     pub hears-disc : (u : Terms) → after t (received (frame (disc u))) l ≡ gone l (response (Ua true) ∷ [])
-    hears-disc u =
-        ap (after t (received (frame (disc u)))) (sym same) ∙ ap (λ b. gone l (cond b ([] ++ response (Ua true) ∷ []) [])) room
+    hears-disc u = grind (arith, same)
 
     pub told-disc : (u : Terms) → said_by (course t (received (frame (disc u))) l) ≡ release_indicated t.service t.tei ∷ []
-    told-disc u =
-        ap (λ y. said_by (course t (received (frame (disc u))) y)) (sym same)
-        ∙ ap (λ b. said_by (record (begun l) { notes = Rattle.lapd_frame.specs.declared.notes.Note.TheVariants.ReleaseIndication t.service t.tei ∷ []; lost = cond {A = ℕ} b 0 1 })) room
+    told-disc u = grind (arith, said_by, same)
 
   -- DISC again
   module _ (k : ℕ) where

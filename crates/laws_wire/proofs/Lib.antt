@@ -80,7 +80,7 @@ pub mod Heft
 pub mod UaWeighs
 pub mod UaMoves
 pub mod UaKnown
-pub mod LooseRounds
+pub mod RoundsKeep
 pub mod UaSettled
 pub mod UaRings
 pub mod UaSettles

@@ -1,8 +1,6 @@
 -- A line on which one link alone has anything to say.
-use Rattle.laws_wire.proofs.Vocabulary.{◌≡◌, ◌≢◌, ℕ, false, ◌<◌, ◌==◌, List, [], ◌∷◌, get_or, set, slice_get, Option, Some, None, option_map, Ok, refl, sym, ap, subst, ◌∙◌, ◌⊎◌, inl, inr, arith, ⊎_elim, if◌then◌else◌, All, option_map_or, option_or, cases_eq, get_or-set_same, get_or-set_other, All-head, All-tail, Service, Call, Packet, Timer, Parts, reading, sapi_of, service_of, IsAt, place_of-is, Terms, LinkTimer, Link, fresh, Given, Config, Aim, at_link, told_of_link, of_aim, hears, expiry, request, next, at_timer, aim_of_expiry, Line, link_number, service_at, place_at, tei_at, terms, terms_at, link_at, link_in, link_count, place_in, unless_refused, unless_refused_told, of_heard, of_request, management_sapi, group_tei, drop_for, at_place, to_service, addressed, message_of, aim_of_heard, aim_of_reading, heard_side, at_side, Taken, with_message, with_unit, unit_taken, with_given_frame, link_taken, first_taken, taken, Request, at_requested, aim_of_request, IsSoundAt, came, place_at-number, service_at-number, number_within, round_below, IsSilent, none-waits, sends-none, nothing-given, nothing-to_send, silent-stays, told}
-use Rattle.std.specs.Option.{unwrap_or}
+use Rattle.laws_wire.proofs.Vocabulary.{◌≡◌, ◌≢◌, ℕ, false, ◌<◌, ◌==◌, List, [], ◌∷◌, set, slice_get, Option, Some, None, option_map, Ok, refl, sym, ap, subst, ◌∙◌, ◌⊎◌, inl, arith, ⊎_elim, if◌then◌else◌, All, option_map_or, option_or, cases_eq, get_or-set_same, get_or-set_other, All-head, All-tail, Service, Timer, Parts, reading, sapi_of, service_of, IsAt, place_of-is, Terms, LinkTimer, Link, Given, Config, Aim, at_link, told_of_link, of_aim, hears, expiry, request, next, at_timer, aim_of_expiry, Line, link_number, service_at, place_at, tei_at, terms, terms_at, link_at, link_in, link_count, place_in, unless_refused, of_heard, of_request, management_sapi, group_tei, drop_for, at_place, to_service, addressed, message_of, aim_of_heard, aim_of_reading, heard_side, at_side, Taken, with_given_frame, link_taken, first_taken, taken, Request, at_requested, aim_of_request, IsSoundAt, came, place_at-number, service_at-number, number_within, round_below, IsSilent, none-waits, sends-none, nothing-given, nothing-to_send, silent-stays, told}
 use Rattle.model_bits.specs.Stream as stream
-use Rattle.lapd_tei.specs.Messages.{frame_of as message_frame}
 use Rattle.model_link.specs.Events as link
 use Rattle.model_link.specs.Machine as links
 use Rattle.model_link.specs.Sound as link_sound
@@ -33,9 +31,7 @@ module _ (c : Config) (service : Service) (tei place : ℕ) (l : Line) (s : IsSo
   few = let within = (place_of-is l.management.places tei place h.placed).0 in number_within place c.terminals service (omega (arith, within, s.places))
 
   own-terms : terms_at c number l ≡ t
-  own-terms =
-      ap (λ y. terms c y (unwrap_or (tei_at (place_at number) l) 0)) (service_at-number place service)
-      ∙ ap (λ p. terms c service (unwrap_or (tei_at p l) 0)) (place_at-number place service) ∙ ap (λ o. terms c service (unwrap_or o 0)) at
+  own-terms = grind (arith, service_at-number, place_at-number, at)
 
   -- the number leads to the link and its terms
   own-place : tei_at (place_at number) l ≡ Some tei
@@ -49,18 +45,11 @@ module _ (c : Config) (service : Service) (tei place : ℕ) (l : Line) (s : IsSo
       let sound = own link_sound.IsSound (subst (IsSoundAt c number (link_at number l)) own-place (s.links number few)) in
       nothing-to_send t x (sends-none t x sound (own IsSilent ((none-waits c l s none).links number few tei own-place)))
 
-  own-taken : link_taken c l number ≡ option_map (with_given_frame c l number t) (links.given t x)
-  own-taken =
-      ap (λ u. option_map (with_given_frame c l number u) (links.given u (link_at number l))) own-terms
-      ∙ ap (λ y. option_map (with_given_frame c l number t) (links.given t y)) h.link
-
   other-taken : (n : ℕ) → n < link_count c → n ≢ number → link_taken c l n ≡ None
   other-taken n low other = ap (λ o. option_map (with_given_frame c l n (terms_at c n l)) o) (h.silent n low other)
 
   by-round : taken c l ≡ first_taken c l (round c l)
-  by-round =
-      ap (λ ms. option_or (option_map (with_message l) (option_map (message_frame c.side) (slice_get ms 0))) (option_or (unit_taken c l) (first_taken c l (round c l)))) h.messages
-      ∙ ap (λ us. option_or (option_map (with_unit c l) (slice_get us 0)) (first_taken c l (round c l))) h.units
+  by-round = grind (arith, option_map, slice_get)
 
   first-is : (ns : List ℕ) → All (λ n. n < link_count c) ns → (o : Option Taken) → link_taken c l number ≡ o → (first_taken c l ns ≡ None) ⊎ (first_taken c l ns ≡ o)
   first-is [] all o is = inl refl
@@ -73,36 +62,19 @@ module _ (c : Config) (service : Service) (tei place : ℕ) (l : Line) (s : IsSo
     where
       passed : (n : ℕ) → link_taken c l n ≡ None → (o : Option Taken) → (first_taken c l ns ≡ None) ⊎ (first_taken c l ns ≡ o)
           → (option_or (link_taken c l n) (first_taken c l ns) ≡ None) ⊎ (option_or (link_taken c l n) (first_taken c l ns) ≡ o)
-      passed n none o (inl e) = inl (ap (λ q. option_or q (first_taken c l ns)) none ∙ e)
-      passed n none o (inr e) = inr (ap (λ q. option_or q (first_taken c l ns)) none ∙ e)
+      passed n none o x = grind arith
 
       by-own : (o : Option Taken) → link_taken c l n ≡ o → (first_taken c l ns ≡ None) ⊎ (first_taken c l ns ≡ o)
           → (option_or (link_taken c l n) (first_taken c l ns) ≡ None) ⊎ (option_or (link_taken c l n) (first_taken c l ns) ≡ o)
-      by-own None own rest = passed n own None rest
-      by-own (Some u) own rest = inr (ap (λ q. option_or q (first_taken c l ns)) own)
+      by-own o own rest = grind (arith, passed)
 
   -- so what is taken is what it gives
   pub takes-own : taken c l ≡ option_map (with_given_frame c l number t) (links.given t x)
-  takes-own =
-      ⊎_elim
-      (λ none.
-      let nothing : taken c l ≡ None = by-round ∙ none in
-      nothing ∙ sym (ap (option_map (with_given_frame c l number t)) (none-given nothing)))
-      (λ its. by-round ∙ its ∙ own-taken)
-      (first-is (round c l) (round_below c l) (link_taken c l number) refl)
+  takes-own = grind (arith, by-round, option_map, none-given, own-terms, first-is, round_below)
 
   -- the line with another link in its place
   pub with-own : (y : Link) (l' : Line) → l'.management ≡ l.management → l'.units ≡ l.units → l'.links ≡ set l.links number y → Speaks c service tei place y l'
-  with-own y l' management units its = record {
-    placed = ap (λ m. Rattle.lapd_tei.specs.Machine.place tei m) management ∙ h.placed;
-    messages = ap (λ m. m.waiting) management ∙ h.messages;
-    units = units ∙ h.units;
-    silent = λ n low other.
-        ap (λ m. links.given (terms c (service_at n) (unwrap_or (get_or m.places (place_at n) None) 0)) (link_at n l')) management
-        ∙ ap (λ ls. links.given (terms_at c n l) (get_or ls n fresh)) its
-        ∙ ap (links.given (terms_at c n l)) (get_or-set_other l.links number n y fresh other) ∙ h.silent n low other;
-    link = ap (λ ls. get_or ls number fresh) its ∙ get_or-set_same l.links number y fresh (let small = few in omega (arith, small, s.count));
-  }
+  with-own y l' management units its = grind (arith, get_or-set_other, get_or-set_same, few)
 
   -- the next frame is called for
   pub goes-on : Speaks c service tei place (links.after t link.offer x) (lines.after c next l)
@@ -110,10 +82,7 @@ module _ (c : Config) (service : Service) (tei place : ℕ) (l : Line) (s : IsSo
   goes-on = go (links.given t x) refl
     where
       go : (o : Option Given) → links.given t x ≡ o → Speaks c service tei place (links.after t link.offer x) (option_map_or line_of (taken c l) l)
-      go None none =
-          let nothing : taken c l ≡ None = takes-own ∙ ap (λ o. option_map (with_given_frame c l number t) o) none in
-          subst (λ y. Speaks c service tei place y (option_map_or line_of (taken c l) l)) (sym (silent-stays t x (nothing-given t x none)))
-          (subst (λ o. Speaks c service tei place x (option_map_or line_of o l)) (sym nothing) h)
+      go None none = grind (arith, takes-own, option_map, silent-stays, nothing-given)
       go (Some g) some =
           let own = with_given_frame c l number t g in
           let is : taken c l ≡ Some own = takes-own ∙ ap (λ o. option_map (with_given_frame c l number t) o) some in
@@ -130,8 +99,7 @@ module _ (c : Config) (service : Service) (tei place : ℕ) (l : Line) (s : IsSo
     by-sapi : (y : Service) (tei' : ℕ) (mm : Aim)
         → (if sapi_of y == management_sapi then (if tei' == group_tei then mm else drop_for Rattle.model_bits.specs.declared.heard.Cause.TheVariants.Tei) else to_service l tei' (link.frame parts) (service_of (sapi_of y)))
         ≡ at_place y tei' (link.frame parts) (place_in l tei')
-    by-sapi Call tei' mm = refl
-    by-sapi Packet tei' mm = refl
+    by-sapi y tei' mm = grind arith
 
     its-address : (mm : Aim) → addressed l parts.address (link.frame parts) mm ≡ at_link service tei place event
     its-address mm =
@@ -174,9 +142,7 @@ module _ (c : Config) (service : Service) (tei place : ℕ) (l : Line) (s : IsSo
 
     pub asks-told : lines.answer c (request r) l ≡ told (told_of_link (links.told t asks x))
     unfolding lines.answer
-    asks-told =
-        ap (λ o. unless_refused_told o (of_request c r l)) granted ∙ ap (λ aim. told (of_aim c aim l).told) aims-at
-        ∙ ap (λ y. told (told_of_link (links.told t asks y))) h.link
+    asks-told = grind (arith, aims-at)
 
   -- a timer of it expires
   module _ (timer : Timer) (its : LinkTimer) (aims : aim_of_expiry timer l ≡ at_timer service tei its (place_in l tei)) where

@@ -1,6 +1,6 @@
 -- What a link has to send, in turns, where w turns go again at most: what waits, what is unsent, an acknowledgement that is owed,
 -- a REJ that may still be sent, and in state 8 what the answer may bring back.
-use Rattle.laws_wire.proofs.Vocabulary.{◌≡◌, ℕ, ◌+◌, ◌-◌, ◌*◌, ◌<◌, ◌≤◌, Bool, true, false, cond, not, ◌&&◌, List, [], ◌∷◌, ◌++◌, length, refl, ap, arith, nat_lt, and_parts, ltb-true, Control, Information, ReceiveReady, ReceiveNotReady, Reject, Sabme, Parts, seq, State, TimerRecovery, ControlFrame, Terms, Link, unsent, offer, course, given_of, begun, frame_given, Course}
+use Rattle.laws_wire.proofs.Vocabulary.{◌≡◌, ℕ, ◌+◌, ◌-◌, ◌*◌, ◌≤◌, Bool, true, false, cond, ◌&&◌, List, [], ◌∷◌, ◌++◌, length, refl, arith, nat_lt, and_parts, ltb-true, Control, Information, ReceiveReady, ReceiveNotReady, Reject, Sabme, Parts, State, TimerRecovery, ControlFrame, Terms, Link, unsent, offer, course, given_of, begun, frame_given, Course}
 use Rattle.model_link.specs.Offers
 use Rattle.model_link.specs.Words
 
@@ -55,14 +55,10 @@ way-append w (f ∷ fs) gs =
 -- a frame more waits, where there is room
 pub one-waits : (w : ℕ) (b : Bool) (ws : List ControlFrame) (f : ControlFrame) (n : ℕ) → brings w f.command f.control ≡ n
     → load_waiting w (cond b (ws ++ f ∷ []) ws) ≤ load_waiting w ws + (2 + n)
-one-waits w true ws f n e =
-    let more : load_waiting w (ws ++ f ∷ []) ≡ load_waiting w ws + (2 + brings w f.command f.control + 0) = waiting-append w ws (f ∷ []) in
-    omega (arith, more, e)
-one-waits w false ws f n e = omega arith
+one-waits w b ws f n e = grind (arith, waiting-append)
 
 pub ready-brings : (w : ℕ) (c own_busy : Bool) (l : Link) → l.own_busy ≡ own_busy → brings w c (Words.ready_to_receive true l) ≡ answer_to (c && true)
-ready-brings w c true l e = ap (λ b. brings w c (cond b (ReceiveNotReady (seq l.r) true) (ReceiveReady (seq l.r) true))) e
-ready-brings w c false l e = ap (λ b. brings w c (cond b (ReceiveNotReady (seq l.r) true) (ReceiveReady (seq l.r) true))) e
+ready-brings w c own_busy l e = grind arith
 
 -- ---- what is given goes to the way
 
@@ -74,34 +70,23 @@ module _ (w : ℕ) (t : Terms) (l : Link) where
     pub falls : load w c.link + (load_way w (frame_given t (given_of t l c c.sent)) + length (frame_given t (given_of t l c c.sent))) ≤ load w l
 
   either : (b : Bool) (u v : Course) → Gives u → Gives v → Gives (cond b u v)
-  either true u v x y = x
-  either false u v x y = y
+  either b u v x y = grind arith
 
   tested : (b : Bool) (u v : Course) → (b ≡ true → Gives u) → (b ≡ false → Gives v) → Gives (cond b u v)
-  tested true u v x y = x refl
-  tested false u v x y = y refl
+  tested b u v x y = grind arith
 
   information : Offers.may_send_information t l ≡ true → Gives (Offers.send_information (begun l))
-  information e =
-      let parts = and_parts (Offers.is_established l.state && not l.peer_busy && nat_lt (l.s - l.a) t.k) (nat_lt l.s (length l.contents)) e in
-      let some : l.s < length l.contents = ltb-true l.s (length l.contents) parts.1 in
-      either (Offers.is_awaiting_acknowledgement (Offers.with_one_sent l)) _ _
-      (record { contents = refl; received = refl; falls = omega (arith, some) })
-      (record { contents = refl; received = refl; falls = omega (arith, some) })
+  information e = grind (arith, and_parts, nat_lt, ltb-true, either)
 
   acknowledgement : l.pending ≡ true → Gives (Offers.send_acknowledgement (begun l))
-  acknowledgement e =
-      let due : owes l.pending ≡ 2 = ap owes e in
-      record { contents = refl; received = refl; falls = omega (arith, due) }
+  acknowledgement e = grind arith
 
   idle : Gives (begun l)
   idle = record { contents = refl; received = refl; falls = omega arith }
 
   offered : (ws : List ControlFrame) → l.waiting ≡ ws → Gives (Offers.offer_among t ws (begun l))
   offered [] e = tested (Offers.may_send_information t l) _ _ information (λ x. tested l.pending _ _ acknowledgement (λ y. idle))
-  offered (f ∷ fs) e =
-      let all : load_waiting w l.waiting ≡ 2 + brings w f.command f.control + load_waiting w fs = ap (load_waiting w) e in
-      record { contents = refl; received = refl; falls = omega (arith, all) }
+  offered (f ∷ fs) e = grind arith
 
   pub offer-gives : Gives (course t offer l)
   offer-gives = offered l.waiting refl

@@ -1,5 +1,5 @@
 -- A timer that expires lets a link send w turns more, and an enquiry and its answer; or an error is told.
-use Rattle.laws_wire.proofs.Vocabulary.{◌≡◌, ℕ, ◌+◌, ◌<◌, ◌≤◌, Bool, true, false, cond, refl, sym, ap, ◌∙◌, ◌⊎◌, inl, inr, true≢false, lt-ltb, arith, Sabme, Disc, State, AwaitingEstablishment, AwaitingRelease, Established, TimerRecovery, LinkTimer, Terms, Link, may_repeat, expired, course, begun, ◌then◌, awaits_answer, T200, Course}
+use Rattle.laws_wire.proofs.Vocabulary.{◌≡◌, ℕ, ◌+◌, ◌<◌, ◌≤◌, Bool, true, cond, refl, ap, ◌∙◌, ◌⊎◌, inr, lt-ltb, arith, Sabme, Disc, State, AwaitingEstablishment, AwaitingRelease, Established, TimerRecovery, LinkTimer, Terms, Link, may_repeat, expired, course, begun, ◌then◌, awaits_answer, T200, Course}
 use Rattle.model_link.specs.Machine
 use Rattle.model_link.specs.Words
 use Rattle.model_link.specs.Established
@@ -16,41 +16,26 @@ module _ (w : ℕ) (t : Terms) (l : Link) where
   Fair c = HasError c.notes ⊎ Expires c
 
   either : (b : Bool) (u v : Course) → Fair u → Fair v → Fair (cond b u v)
-  either true u v x y = x
-  either false u v x y = y
+  either b u v x y = grind arith
 
   idle : Expires (begun l)
   idle = record { contents = refl; received = refl; within = omega arith }
 
   -- a command goes again
   sabme-again : Expires ((Words.send t (Words.command (Sabme true)) then Words.repeated then Words.start T200) (begun l))
-  sabme-again =
-      let one = one-waits w (Words.has_room t l) l.waiting (Words.command (Sabme true)) 2 refl in
-      record { contents = refl; received = refl; within = omega (arith, one) }
+  sabme-again = grind (arith, one-waits)
 
   disc-again : Expires ((Words.send t (Words.command (Disc true)) then Words.repeated then Words.start T200) (begun l))
-  disc-again =
-      let one = one-waits w (Words.has_room t l) l.waiting (Words.command (Disc true)) 0 refl in
-      record { contents = refl; received = refl; within = omega (arith, one) }
+  disc-again = grind (arith, one-waits)
 
   asks-first : Expires (Established.timer_in_7 t (begun l))
-  asks-first =
-      let l' = Words.with_repeats 0 l in
-      let one = one-waits w (Words.has_room t l') l.waiting (Words.command (Words.ready_to_receive true l')) 2 (ready-brings w true l.own_busy l' refl) in
-      record { contents = refl; received = refl; within = omega (arith, one) }
+  asks-first = grind (arith, one-waits, ready-brings)
 
   asks-again : l.state ≡ TimerRecovery → Expires ((Words.enquire t then Words.repeated then Words.start T200) (begun l))
-  asks-again at =
-      let one = one-waits w (Words.has_room t l) l.waiting (Words.command (Words.ready_to_receive true l)) 2 (ready-brings w true l.own_busy l refl) in
-      let pays : back w l.state ≡ w = ap (back w) at in
-      record { contents = refl; received = refl; within = omega (arith, one, pays) }
+  asks-again at = grind (arith, one-waits, ready-brings, back)
 
   by-state : (here : State) → l.state ≡ here → (timer : LinkTimer) → Fair (Machine.expired_in here timer t (begun l))
-  by-state AwaitingEstablishment at T200 = either (may_repeat t l) _ _ (inr sabme-again) (inl refl)
-  by-state AwaitingRelease at T200 = either (may_repeat t l) _ _ (inr disc-again) (inl refl)
-  by-state Established at timer = inr asks-first
-  by-state TimerRecovery at T200 = either (may_repeat t l) _ _ (inr (asks-again at)) (inl refl)
-  by-state other at any = inr idle
+  by-state here at timer = grind (arith, either, sabme-again, disc-again, asks-first, asks-again, idle)
 
   pub timer-expires : (timer : LinkTimer) → Fair (course t (expired timer) l)
   timer-expires timer = either (Machine.is_running timer l) _ _ (by-state l.state refl timer) (inr idle)
@@ -60,12 +45,10 @@ module _ (w : ℕ) (t : Terms) (l : Link) where
   May timer = timer ≡ T200 → awaits_answer l.state ≡ true → Machine.is_running T200 l ≡ true → l.repeats < t.n200
 
   first : (b : Bool) (u v : Course) → b ≡ true → Expires u → Expires (cond b u v)
-  first true u v e x = x
-  first false u v e x = absurd (true≢false (sym e))
+  first b u v e x = grind arith
 
   if-runs : (b : Bool) (u v : Course) → (b ≡ true → Expires u) → Expires v → Expires (cond b u v)
-  if-runs true u v x y = x refl
-  if-runs false u v x y = y
+  if-runs b u v x y = grind arith
 
   repeats : May T200 → (here : State) → l.state ≡ here → awaits_answer here ≡ true → Machine.is_running T200 l ≡ true → may_repeat t l ≡ true
   repeats may here at awaits run = lt-ltb l.repeats t.n200 (may refl (ap awaits_answer at ∙ awaits) run)

@@ -1,38 +1,18 @@
 -- What layer 3 was granted and told before changes nothing of what happens.
-use Rattle.laws_wire.proofs.Vocabulary.{◌≡◌, ℕ, ◌+◌, List, [], ◌∷◌, ◌++◌, refl, ap, ◌∙◌, append_assoc, if◌then◌else◌, LineTold, Event, Station, Wire, happens, with_first_of, with_first_lost, Act, requests, times_out, gives, takes, loses, Doing, at_near, at_far, acting, turned, doing, is_turn, is_turn_of}
+use Rattle.laws_wire.proofs.Vocabulary.{arith, ◌≡◌, ℕ, ◌+◌, List, [], ◌∷◌, ◌++◌, refl, ap, ◌∙◌, append_assoc, LineTold, Event, Station, Wire, happens, Act, Doing, at_near, at_far, acting, turned, doing, is_turn}
 unfoldable use Rattle.laws_wire.specs.Wire.{doing_all, turns}
-use Rattle.laws_wire.specs.Wire.{answered, told_by, contents_in, unless_refused}
-use Rattle.model_line.specs.Event.{request, expiry, next, hears}
-use Rattle.model_line.specs.Came.{came}
 
 abbrev pub logged : List (List ℕ) → List LineTold → Station → Station
 logged granted told s = record s { granted = granted ++ s.granted; told = told ++ s.told }
 
 happens-logged : (granted : List (List ℕ)) (told : List LineTold) (e : Event) (s : Station) → happens e (logged granted told s) ≡ logged granted told (happens e s)
-happens-logged granted told e s =
-    λ i. record (happens e s) {
-      granted = append_assoc granted s.granted (unless_refused (answered e s) (contents_in e)) i;
-      told = append_assoc told s.told (told_by (answered e s)) i;
-    }
-
-first-logged : (granted : List (List ℕ)) (told : List LineTold) (way : List (List ℕ)) (s : Station) → with_first_of way (logged granted told s) ≡ logged granted told (with_first_of way s)
-first-logged granted told [] s = refl
-first-logged granted told (octets ∷ more) s = happens-logged granted told (hears (came s.card.config.n201 octets)) s
+happens-logged granted told e s = grind (arith, append_assoc)
 
 abbrev pub with_logs : List (List ℕ) → List LineTold → List (List ℕ) → List LineTold → Wire → Wire
 with_logs near_granted near_told far_granted far_told w = record { near = logged near_granted near_told w.near; far = logged far_granted far_told w.far }
 
 acting-logged : (gn : List (List ℕ)) (tn : List LineTold) (gf : List (List ℕ)) (tf : List LineTold) (act : Act) (w : Wire) → acting act (with_logs gn tn gf tf w) ≡ with_logs gn tn gf tf (acting act w)
-acting-logged gn tn gf tf (requests r) w = λ i. record { near = happens-logged gn tn (request r) w.near i; far = logged gf tf w.far }
-acting-logged gn tn gf tf (times_out timer) w = λ i. record { near = happens-logged gn tn (expiry timer) w.near i; far = logged gf tf w.far }
-acting-logged gn tn gf tf gives w = λ i. record { near = happens-logged gn tn next w.near i; far = logged gf tf w.far }
-acting-logged gn tn gf tf takes w = λ i. record { near = first-logged gn tn w.far.way w.near i; far = logged gf tf (with_first_lost w.far) }
-acting-logged gn tn gf tf loses w = refl
-
-turn-logged : (gn : List (List ℕ)) (tn : List LineTold) (gf : List (List ℕ)) (tf : List LineTold) (act : Act) (w : Wire) → is_turn_of act (with_logs gn tn gf tf w) ≡ is_turn_of act w
-turn-logged gn tn gf tf gives w = refl
-turn-logged gn tn gf tf takes w = refl
-turn-logged gn tn gf tf other w = refl
+acting-logged gn tn gf tf act w = grind (arith, append_assoc, happens-logged)
 
 module _ (gn : List (List ℕ)) (tn : List LineTold) (gf : List (List ℕ)) (tf : List LineTold) where
   abbrev L : Wire → Wire
@@ -43,8 +23,7 @@ module _ (gn : List (List ℕ)) (tn : List LineTold) (gf : List (List ℕ)) (tf 
   one-logged (at_far act) w = ap turned (acting-logged gf tf gn tn act (turned w))
 
   same-turn : (d : Doing) (w : Wire) → is_turn d (L w) ≡ is_turn d w
-  same-turn (at_near act) w = turn-logged gn tn gf tf act w
-  same-turn (at_far act) w = turn-logged gf tf gn tn act (turned w)
+  same-turn d w = grind arith
 
   pub run-logged : (ds : List Doing) (w : Wire) → doing_all ds (L w) ≡ L (doing_all ds w)
   unfolding doing_all
@@ -54,6 +33,4 @@ module _ (gn : List (List ℕ)) (tn : List LineTold) (gf : List (List ℕ)) (tf 
   pub turns-logged : (ds : List Doing) (w : Wire) → turns ds (L w) ≡ turns ds w
   unfolding turns
   turns-logged [] w = refl
-  turns-logged (d ∷ ds) w =
-      ap (λ b. (if b then 1 else 0) + turns ds (doing d (L w))) (same-turn d w)
-      ∙ ap (λ n. (if is_turn d w then 1 else 0) + n) (ap (turns ds) (one-logged d w) ∙ turns-logged ds (doing d w))
+  turns-logged (d ∷ ds) w = grind (arith, turns-logged ds (doing d w), same-turn, one-logged)

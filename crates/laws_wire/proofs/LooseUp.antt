@@ -1,5 +1,5 @@
 -- Two stations that are up, either of which may be busy, where each timer is timely: both stay up, whatever is lost.
-use Rattle.laws_wire.proofs.Vocabulary.{◌≡◌, ℕ, Bool, true, false, cond, List, [], ◌∷◌, ◌++◌, length, drop, map, Option, None, Some, refl, sym, ap, subst, ◌∙◌, ◌⊎◌, inl, inr, append-nil, Refusal, Service, Timer, TimerRecovery, Terms, LinkTimer, T203, Link, course, begun, End, with_link, with_sent, offer-gave, Config, LineTold, request, Line, place_in, Request, at_requested, aim_of_request, awaits_answer, IsMildRequest, CanRepeat, HasNothingToSend, nothing-given, runs, T200, Course, Data, SetBusy, ClearBusy, Station, Wire, happens, Act, requests, times_out, gives, takes, loses, acting, turned, IsStill, contents_of, data_told, heard_in, IsTimelyOf, runs_t200, IsAsked, IsFullTalkOf, Rests}
+use Rattle.laws_wire.proofs.Vocabulary.{arith, ◌≡◌, ℕ, Bool, false, cond, List, [], ◌∷◌, ◌++◌, length, drop, map, Option, None, Some, refl, sym, ap, subst, ◌∙◌, ◌⊎◌, inl, inr, append-nil, Refusal, Service, Timer, TimerRecovery, Terms, LinkTimer, T203, Link, course, begun, End, with_link, with_sent, offer-gave, Config, LineTold, request, Line, place_in, Request, at_requested, aim_of_request, awaits_answer, IsMildRequest, CanRepeat, HasNothingToSend, nothing-given, runs, T200, Course, Data, SetBusy, ClearBusy, Station, Wire, happens, Act, requests, times_out, gives, takes, loses, acting, turned, IsStill, contents_of, data_told, heard_in, IsTimelyOf, runs_t200, IsAsked, IsFullTalkOf, Rests}
 use Rattle.lapd_frame.specs.declared.timers.Timer.TheVariants as timers
 use Rattle.model_link.specs.Events as link
 use Rattle.model_link.specs.Requests as requests
@@ -27,26 +27,20 @@ drop-all (x ∷ xs) = drop-all xs
 
 module _ (t : Terms) (l : Link) where
   either : (b : Bool) (u v : Course) → Mute l u → Mute l v → Mute l (cond b u v)
-  either true u v x y = x
-  either false u v x y = y
+  either b u v x y = grind arith
 
   nothing-asked : Mute l (begun l)
   nothing-asked = record { contents = refl; notes = refl; delivered = refl; unit = refl }
 
   unless-refused : (rq : link.Request) (o : Option Refusal) → Mute l (requests.granted t rq (begun l))
       → Mute l (elim o as (λ o. Course) [ None ↦ requests.granted t rq (begun l) | Some _ ↦ begun l ])
-  unless-refused rq None h = h
-  unless-refused rq (Some why) h = nothing-asked
+  unless-refused rq o h = grind (arith, nothing-asked)
 
   pub busy-mute : Mute l (course t (link.requested link.SetBusy false) l)
-  busy-mute =
-      unless-refused link.SetBusy (requests.refusal t l false link.SetBusy)
-      (either l.own_busy _ _ nothing-asked (record { contents = refl; notes = refl; delivered = refl; unit = refl }))
+  busy-mute = grind (arith, unless-refused, either, nothing-asked)
 
   pub ready-mute : Mute l (course t (link.requested link.ClearBusy false) l)
-  ready-mute =
-      unless-refused link.ClearBusy (requests.refusal t l false link.ClearBusy)
-      (either l.own_busy _ _ (record { contents = refl; notes = refl; delivered = refl; unit = refl }) nothing-asked)
+  ready-mute = grind (arith, unless-refused, either, nothing-asked)
 
 module _ (service : Service) (tei : ℕ) where
   -- the requests of a call
@@ -118,10 +112,7 @@ module _ (service : Service) (tei : ℕ) where
         x = course n.terms (link.requested rq false) n.link
 
         tells : TellsIt n.terms.service n.terms.tei x
-        tells = record {
-          its_notes = mute.notes ∙ ap (λ o. map (λ octets. Rattle.lapd_frame.specs.declared.notes.Note.TheVariants.Data n.terms.service n.terms.tei) (Rattle.std.specs.Prelude.option_to_list o)) (sym mute.delivered);
-          no_unit = mute.unit;
-        }
+        tells = grind arith
 
         go : (s' ≡ s) ⊎ Granted service tei place s n own r rq aims s' → (s' ≡ s) ⊎ Held c service tei place past s' n'
         go (inl same) = inl same

@@ -1,5 +1,5 @@
 -- The second phase of such a call: one end still rings, and the other is up.
-use Rattle.laws_wire.proofs.Vocabulary.{◌≡◌, ℕ, true, List, [], ◌∷◌, ◌++◌, map, refl, sym, ap, subst, ◌∙◌, ◌⊎◌, inl, inr, append-nil, option_to_list, All-head, Service, Parts, spelling, Terms, course, IsInRange, End, with_link, frames_of, Config, terms, Station, Wire, with_first_of, with_first_lost, Act, requests, times_out, gives, takes, loses, acting, turned, comes, confirmed, indicated, IsRoughTalkOf}
+use Rattle.laws_wire.proofs.Vocabulary.{arith, ◌≡◌, ℕ, true, List, [], ◌∷◌, ◌++◌, map, refl, sym, ap, subst, ◌∙◌, ◌⊎◌, inl, inr, append-nil, option_to_list, All-head, Service, Parts, spelling, Terms, course, IsInRange, End, with_link, frames_of, Config, terms, Station, Wire, with_first_of, with_first_lost, Act, requests, times_out, gives, takes, loses, acting, turned, comes, confirmed, indicated, IsRoughTalkOf}
 use Rattle.model_link.specs.Events as link
 use Rattle.laws_wire.proofs.Answered.{takes-granted}
 use Rattle.laws_wire.proofs.Acting.{Acted, up-asks, up-expires, up-gives, up-loses}
@@ -24,8 +24,7 @@ module _ (service : Service) (tei : ℕ) (c d : Config) (p q : ℕ) (face : Face
 
   module _ (w : Wire) (h : IsHalf service tei c d p q w) where
     half-with : (s : Station) → StillRings service tei c p s → Leads (record w { near = s })
-    half-with s x =
-        as-half service tei c d p q _ (record { repeats = x.repeats; waiting = x.waiting; way = x.way; near = x.held; sabmes = x.sabmes; m = h.m; first = h.first; line = h.line; is_ua = h.is_ua; far = h.far })
+    half-with s x = grind (arith, as-half)
 
     half-or : (s : Station) → StillRings service tei c p s ⊎ Erred s → Leads (record w { near = s })
     half-or s (inl x) = half-with s x
@@ -35,8 +34,7 @@ module _ (service : Service) (tei : ℕ) (c d : Config) (p q : ℕ) (face : Face
     caller_end = end t (ringing h.repeats h.waiting) h.way
 
     acted-half : (w' : Wire) (first : List Parts) → UaOrNone service tei c d p q first → Held c service tei p [] w'.near caller_end → Acted service tei q (indicated service tei ∷ []) d w'.far (end t caller []) first [] → Leads w'
-    acted-half w' first is near x =
-        as-half service tei c d p q w' (record { repeats = h.repeats; waiting = h.waiting; way = h.way; near = near; sabmes = h.sabmes; m = x.n; first = first; line = x.near; is_ua = is; far = x.at })
+    acted-half w' first is near x = grind (arith, as-half)
 
     -- the first frame on the way of the other, where it is not UA
     unheard-by : (f : Parts) (fs : List Parts) → h.m.way ≡ f ∷ fs → IsMeant f → h.first ≡ [] → Acted service tei q (indicated service tei ∷ []) d (with_first_lost w.far) (end t caller []) h.first []
@@ -87,11 +85,7 @@ module _ (service : Service) (tei : ℕ) (c d : Config) (p q : ℕ) (face : Face
 
     -- what was before the line
     only-ua : (f : Parts) (others : List Parts) → h.first ≡ f ∷ others → (f ≡ ua u) × (others ≡ [])
-    only-ua f others e = go h.is_ua
-      where
-        go : UaOrNone service tei c d p q h.first → (f ≡ ua u) × (others ≡ [])
-        go (inl none) = let wrong : [] ≡ f ∷ others = sym none ∙ e in absurd (cc)
-        go (inr is) = let same : f ∷ others ≡ ua u ∷ [] = sym e ∙ is in let head : f ≡ ua u = cc in let tail : others ≡ [] = cc in (head, tail)
+    only-ua f others e = grind (arith, UaOrNone, ua)
 
     half-takes : (way : List Parts) → h.m.way ≡ way → Leads (acting takes w)
     half-takes [] e = no-take service tei c d p q w (empty service tei d q _ w.far h.m h.far.held e) (as-half service tei c d p q w h)

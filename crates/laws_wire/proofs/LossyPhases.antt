@@ -1,6 +1,6 @@
 -- A call in which frames are lost and timers expire: SABME goes as often as T200 expires; then the other end is up, and UA may be on
 -- its way, or lost; and then both are up, and SABME may still be on its way. Or an error was told.
-use Rattle.laws_wire.proofs.Vocabulary.{◌≡◌, ℕ, List, [], ◌∷◌, map, refl, sym, ap, subst, ◌∙◌, ◌⊎◌, inl, inr, All, All-head, Service, Timer, Parts, spelling, ControlFrame, Terms, LinkTimer, fresh, End, Config, LineTold, at_timer, aim_of_expiry, Line, place_in, terms, Request, Data, Station, Wire, requests, takes, loses, acting, turned, confirmed, indicated, IsOfLink, IsRoughTalkOf}
+use Rattle.laws_wire.proofs.Vocabulary.{arith, ◌≡◌, ℕ, List, [], ◌∷◌, map, refl, sym, ap, subst, ◌∙◌, ◌⊎◌, inl, inr, All, All-head, Service, Timer, Parts, spelling, ControlFrame, Terms, LinkTimer, fresh, End, Config, LineTold, at_timer, aim_of_expiry, Line, place_in, terms, Request, Data, Station, Wire, requests, takes, loses, acting, turned, confirmed, indicated, IsOfLink, IsRoughTalkOf}
 use Rattle.lapd_frame.specs.declared.timers.Timer.TheVariants as timers
 use Rattle.model_link.specs.declared.timers.LinkTimer.TheVariants as link_timer
 use Rattle.laws_wire.proofs.Acting.{UpAt}
@@ -17,8 +17,7 @@ made w s = record { near = w.near; far = s }
 module _ (service : Service) (tei : ℕ) where
   -- the requests and timers of a call
   pub for-data : (P : Request → Type 0) → ((octets : List ℕ) → P (Data service tei octets)) → (r : Request) → IsRoughTalkOf service tei (requests r) → P r
-  for-data P own (Data s t octets) is = subst (λ s'. P (Data s' t octets)) (sym is.0) (subst (λ t'. P (Data service t' octets)) (sym is.1) (own octets))
-  for-data P own other is = absurd is
+  for-data P own r is = grind arith
 
   abbrev pub Aims : Timer → LinkTimer → Type 0
   Aims timer its = (l : Line) → aim_of_expiry timer l ≡ at_timer service tei its (place_in l tei)

@@ -70,10 +70,7 @@ module _ (service : Service) (tei : ℕ) (c d : Config) (p q : ℕ) (face : Face
           (taken-told service tei q [] d w.far (end u fresh []) h.far c back call its_way.1) (told-of-sabme u ru t) refl
 
       first-joint : Joint (end u answering []) (end t caller []) [] []
-      first-joint = record {
-        there = record { carried = omega arith; rising = omega arith; delivered = refl; accepted = omega arith };
-        back = record { carried = omega arith; rising = omega arith; delivered = refl; accepted = omega arith };
-      }
+      first-joint = grind arith
 
       answers : Leads (turned (acting takes (turned w)))
       answers =

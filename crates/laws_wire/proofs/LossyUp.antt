@@ -1,5 +1,5 @@
 -- The third phase of such a call: both ends are up.
-use Rattle.laws_wire.proofs.Vocabulary.{◌≡◌, ℕ, true, List, [], ◌∷◌, ◌++◌, drop, refl, sym, ap, subst, ◌∙◌, ◌⊎◌, inl, inr, All, All-nil, All-head, All-tail, Service, Parts, spelling, Terms, course, IsInRange, End, frames_of, Config, terms, Station, Wire, with_first_of, with_first_lost, Act, requests, times_out, gives, takes, loses, acting, turned, comes, confirmed, indicated, IsRoughTalkOf}
+use Rattle.laws_wire.proofs.Vocabulary.{arith, ◌≡◌, ℕ, true, List, [], ◌∷◌, ◌++◌, drop, refl, sym, ap, subst, ◌∙◌, ◌⊎◌, inl, inr, All, All-nil, All-head, All-tail, Service, Parts, spelling, Terms, course, IsInRange, End, frames_of, Config, terms, Station, Wire, with_first_of, with_first_lost, Act, requests, times_out, gives, takes, loses, acting, turned, comes, confirmed, indicated, IsRoughTalkOf}
 use Rattle.model_link.specs.Events as link
 use Rattle.model_link.specs.TwoEnds as two_ends
 use Rattle.laws_wire.proofs.Acting.{which, UpAt, Acted, ranges, up-asks, up-expires, up-gives, up-loses, up-hears}
@@ -20,17 +20,7 @@ module _ (service : Service) (tei : ℕ) (c d : Config) (p q : ℕ) (face : Face
 
   -- one end went on, and the other stays where it is
   up-near : (w : Wire) (h : IsUp service tei c d p q w) (s : Station) (first : List Parts) → All (IsSabme t) first → Acted service tei p (confirmed service tei ∷ []) c s h.m first h.here → Leads (record w { near = s })
-  up-near w h s first all x =
-      as-up service tei c d p q (record w { near = s }) (record {
-        n = x.n;
-        m = h.m;
-        first = first;
-        there = x.near;
-        here = h.here;
-        sabmes = all;
-        near = x.at;
-        far = record { held = h.far.held; up = h.far.up; line = h.far.line; joint = turned-joint x.n h.m x.near h.here x.at.joint };
-      })
+  up-near w h s first all x = grind (arith, as-up, turned-joint)
 
   up-near_or : (w : Wire) (h : IsUp service tei c d p q w) (s : Station) → Acted service tei p (confirmed service tei ∷ []) c s h.m h.first h.here ⊎ Erred s → Leads (record w { near = s })
   up-near_or w h s (inl x) = up-near w h s h.first h.sabmes x

@@ -1,6 +1,5 @@
 -- The premises of the laws are met: by the worked conversation, after which no turn is left, and by one that loses frames.
-use Rattle.laws_wire.proofs.Vocabulary.{◌≡◌, false, List, [], ◌∷◌, refl, sym, subst, arith, All, list_any, All-nil, All-cons, Call, reading, header_of, control_of, unnumbered_of, supervisory_of, distance_of, named, seq, LineTold, Data, requests, times_out, Doing, at_near, at_far, doing_all, turns, IsStill, CanCall, IsCall, confirmed, indicated, data_told, all_told, IsBeginningOf, IsRoughTalk, is_error, heard_in, HasNoError, Face, user, network, begins, talks}
-use Rattle.lapd_frame.specs.declared.timers.Timer.TheVariants.{T200}
+use Rattle.laws_wire.proofs.Vocabulary.{◌≡◌, false, List, [], ◌∷◌, refl, sym, subst, arith, All, list_any, All-nil, All-cons, Call, reading, header_of, control_of, unnumbered_of, supervisory_of, distance_of, named, seq, LineTold, Doing, doing_all, turns, IsStill, CanCall, IsCall, confirmed, indicated, data_told, all_told, IsBeginningOf, IsRoughTalk, is_error, heard_in, HasNoError, Face, user, network, begins, talks}
 use Rattle.lapd_tei.specs.Events as teis
 use Rattle.model_line.specs.Machine as lines
 use Rattle.laws_wire.specs.WorkedLosing.{loses_two}
@@ -19,10 +18,7 @@ all-of P [] h = All-nil P
 all-of P (d ∷ ds) h = All-cons P d ds h.0 (all-of P ds h.1)
 
 pub talk : All (IsCall Call 0) talks
-talk =
-    let first : IsCall Call 0 (at_far (requests (Data Call 0 (0xAB ∷ [])))) = (refl, refl) in
-    let second : IsCall Call 0 (at_near (requests (Data Call 0 (0xCD ∷ 0xEF ∷ [])))) = (refl, refl) in
-    all-of (IsCall Call 0) talks (tt, (tt, (first, (tt, (tt, (tt, (second, (tt, (tt, (tt, (tt, (tt, (tt, (tt, tt))))))))))))))
+talk = grind (arith, all-of)
 
 pub still : IsStill (doing_all talks begins)
 unfolding lines.after lines.answer lines.takes_slot reading header_of control_of unnumbered_of supervisory_of teis.course teis.refusal seq distance_of named doing_all turns
@@ -34,10 +30,7 @@ face = calls-face Call user network 0 0 0 talks can talk still
 
 -- a call that loses two frames, and in which no error is told
 pub rough : All (IsRoughTalk Call 0) loses_two
-rough =
-    let sends : IsRoughTalk Call 0 (at_near (requests (Data Call 0 (0xAB ∷ [])))) = (refl, refl) in
-    let expires : IsRoughTalk Call 0 (at_near (times_out (T200 Call 0))) = (refl, refl) in
-    all-of (IsRoughTalk Call 0) loses_two (tt, (tt, (expires, (tt, (tt, (tt, (tt, (sends, (tt, (tt, (expires, (tt, (tt, (tt, (tt, (tt, (tt, (tt, (tt, tt)))))))))))))))))))
+rough = grind (arith, all-of)
 
 abbrev pub IsFair : LineTold → Type 0
 IsFair t = list_any is_error t.notes ≡ false
@@ -54,9 +47,7 @@ pub fair-near : HasNoError (doing_all loses_two begins).near
 fair-near = subst (All IsFair) (sym told-near) (All-cons IsFair (confirmed Call 0) [] refl (All-nil IsFair))
 
 pub fair-far : HasNoError (doing_all loses_two begins).far
-fair-far =
-    subst (All IsFair) (sym told-far)
-    (All-cons IsFair (indicated Call 0) (data_told Call 0 (0xAB ∷ []) ∷ []) refl (All-cons IsFair (data_told Call 0 (0xAB ∷ [])) [] refl (All-nil IsFair)))
+fair-far = grind (arith, told-far)
 
 -- so the law says of it what was told
 pub in-order : IsBeginningOf (all_told Call 0 (confirmed Call 0) (doing_all loses_two begins).far) (heard_in (doing_all loses_two begins).near)

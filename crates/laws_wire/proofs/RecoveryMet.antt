@@ -1,40 +1,25 @@
 -- The premises of the law on what is lost are met: by the worked call in which SABME is lost, and then an I-frame of each end.
-use Rattle.laws_wire.proofs.Vocabulary.{◌≡◌, ◌≢◌, ℕ, ◌+◌, ◌≤◌, false, List, [], ◌∷◌, length, map, refl, sym, ap, subst, ◌∙◌, arith, All, All-nil, All-cons, Call, reading, header_of, control_of, unnumbered_of, supervisory_of, distance_of, named, seq, LineTold, Data, Wire, requests, times_out, gives, loses, at_near, at_far, acting, doing_all, turns, IsStill, confirmed, indicated, data_told, heard_in, IsRoughTalk, is_poll, is_final, IsNoneOpen, MayRepeat, StayTimely, with_t200_expired, HasNoErrors, BothMayRepeat, HasMissing, HasArrived, StayStill, user, network, begins, loses_three, lost, recovered, Bool, Control, NoneGoes, Parts, Station, flat_map, giving, happens, next, suc, zero, Option, None, Some, gave, option_map, option_map_or, next_of, Taken, taken, answered, line_at, set, set-get_or, fresh_line, frames_by, told_by, append-nil, ◌++◌}
+use Rattle.laws_wire.proofs.Vocabulary.{◌≡◌, ◌≢◌, ℕ, ◌+◌, ◌≤◌, List, [], ◌∷◌, length, map, refl, sym, ap, subst, ◌∙◌, arith, All, All-nil, All-cons, Call, reading, header_of, control_of, unnumbered_of, supervisory_of, distance_of, named, seq, LineTold, Wire, times_out, gives, loses, at_near, acting, doing_all, turns, IsStill, confirmed, indicated, data_told, heard_in, IsRoughTalk, is_poll, is_final, IsNoneOpen, MayRepeat, StayTimely, with_t200_expired, HasNoErrors, BothMayRepeat, HasMissing, HasArrived, StayStill, user, network, begins, loses_three, lost, recovered, Bool, Control, NoneGoes, Station, flat_map, giving, happens, next, suc, zero, Option, None, gave, option_map, next_of, Taken, answered, set-get_or, append-nil}
 use Rattle.lapd_frame.specs.declared.timers.Timer.TheVariants.{T200}
 use Rattle.lapd_tei.specs.Events as teis
 use Rattle.model_line.specs.Machine as lines
-use Rattle.model_line.specs.Taken.{line_of}
-use Rattle.laws_wire.specs.Facing.{read_as}
-use Rattle.laws_wire.specs.Wire.{unless_refused}
 use Rattle.laws_wire.proofs.PremisesMet.{can, IsFair, all-of}
 use Rattle.laws_wire.proofs.StillIsTimely.{still-is-enough}
 use Rattle.laws_wire.proofs.TimelyRun.{what-is-lost-arrives}
 
 pub rough : All (IsRoughTalk Call 0) loses_three
-rough =
-    let near : IsRoughTalk Call 0 (at_near (requests (Data Call 0 (0xAB ∷ [])))) = (refl, refl) in
-    let far : IsRoughTalk Call 0 (at_far (requests (Data Call 0 (0xCD ∷ [])))) = (refl, refl) in
-    let expires : IsRoughTalk Call 0 (at_near (times_out (T200 Call 0))) = (refl, refl) in
-    all-of (IsRoughTalk Call 0) loses_three (tt, (tt, (expires, (tt, (tt, (tt, (tt, (near, (tt, (tt, (far, (tt, (tt, tt)))))))))))))
+rough = grind (arith, all-of)
 
 pub none-told : All IsFair []
 none-told = All-nil IsFair
 
 -- an end that has nothing to give stays as it is, and so none of its frames goes
 none-taken : (o : Option Taken) → gave (option_map next_of o) ≡ gave None → o ≡ None
-none-taken None e = refl
-none-taken (Some t) e = absurd (cc)
+none-taken o e = grind arith
 
 stays : (s : Station) → answered next s ≡ gave None → happens next s ≡ s
 unfolding lines.after lines.answer lines.takes_slot
-stays s e =
-    let l = line_at s.line s.card in
-    let none = none-taken (taken s.card.config l) e in
-    let same = ap (λ o. set s.card.lines s.line (option_map_or line_of o l)) none ∙ set-get_or s.card.lines s.line (fresh_line s.card.config) in
-    let way = ap (λ a. s.way ++ frames_by a) e ∙ append-nil s.way in
-    let granted = ap (λ a. s.granted ++ unless_refused a []) e ∙ append-nil s.granted in
-    let told = ap (λ a. s.told ++ told_by a) e ∙ append-nil s.told in
-    (λ i. record { card = record s.card { lines = same i }; line = s.line; way = way i; granted = granted i; told = told i })
+stays s e = grind (arith, none-taken, set-get_or, append-nil)
 
 goes-on : (k : ℕ) (s : Station) → happens next s ≡ s → giving k s ≡ s
 unfolding giving
@@ -42,9 +27,7 @@ goes-on zero s e = refl
 goes-on (suc k) s e = ap (giving k) e ∙ goes-on k s e
 
 none-goes : (of : Bool → Control → Bool) (s : Station) → answered next s ≡ gave None → s.way ≡ [] → NoneGoes of s
-none-goes of s e empty = λ k.
-    subst (λ (way : List (List ℕ)). All (λ (f : Parts). of f.address.command f.control ≡ false) (flat_map (read_as s.card.config) way)) (sym (ap (λ (x : Station). x.way) (goes-on k s (stays s e)) ∙ empty))
-    (All-nil (λ (f : Parts). of f.address.command f.control ≡ false))
+none-goes of s e empty = grind (arith, flat_map, goes-on, stays)
 
 pub still-open : (w : Wire) → IsStill w → IsNoneOpen w.near w.far
 still-open w h = record { commands = none-goes is_poll w.near h.near h.near_way; responses = none-goes is_final w.far h.far h.far_way }
@@ -78,16 +61,7 @@ lost-far = refl
 
 pub timely : StayTimely loses_three begins
 unfolding doing_all StayTimely
-timely = (
-  tt,
-  (
-    tt,
-    (
-      (λ awaits. silent-open, silent-may),
-      (tt, ((tt, tt), ((tt, tt), (tt, (tt, (tt, (tt, ((tt, tt), ((tt, tt), ((tt, heard-it (heard_in lost.near) (confirmed Call 0) lost-near), tt)))))))))),
-    ),
-  ),
-)
+timely = grind (arith, silent-open, silent-may, heard-it, lost-near)
 
 pub still : IsStill lost
 unfolding lines.after lines.answer lines.takes_slot reading header_of control_of unnumbered_of supervisory_of teis.course teis.refusal seq distance_of named doing_all turns
@@ -96,8 +70,7 @@ still = record { near = refl; far = refl; near_way = refl; far_way = refl }
 -- one note is missing at each end
 pub one-missing : (first : LineTold) (x : List ℕ) (granted : List (List ℕ)) (heard : List LineTold) → granted ≡ x ∷ [] → heard ≡ first ∷ []
     → length (first ∷ map (data_told Call 0) granted) ≤ length heard + 1
-one-missing first x granted heard e e' =
-    subst (λ xs. length (first ∷ map (data_told Call 0) xs) ≤ length heard + 1) (sym e) (subst (λ hs. 2 ≤ length hs + 1) (sym e') (omega arith))
+one-missing first x granted heard e e' = grind arith
 
 near-granted : lost.near.granted ≡ (0xAB ∷ []) ∷ []
 unfolding lines.after lines.answer lines.takes_slot reading header_of control_of unnumbered_of supervisory_of teis.course teis.refusal seq distance_of named doing_all turns
@@ -108,10 +81,7 @@ unfolding lines.after lines.answer lines.takes_slot reading header_of control_of
 far-granted = refl
 
 missing : HasMissing Call 0 1 lost
-missing = (
-  one-missing (confirmed Call 0) (0xCD ∷ []) lost.far.granted (heard_in lost.near) far-granted lost-near,
-  one-missing (indicated Call 0) (0xAB ∷ []) lost.near.granted (heard_in lost.far) near-granted lost-far,
-)
+missing = grind (arith, one-missing, far-granted, lost-near, near-granted, lost-far)
 
 -- in state 7 N200 counts nothing
 pub may : BothMayRepeat Call 0 lost

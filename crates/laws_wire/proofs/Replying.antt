@@ -1,5 +1,5 @@
 -- What an end that was never busy answers, puts and gives: which N(R) it has, and what is owed.
-use Rattle.laws_wire.proofs.Vocabulary.{◌≡◌, ℕ, ◌+◌, Bool, true, false, cond, ◌&&◌, IsTrue, List, [], ◌∷◌, ◌++◌, length, Option, None, Some, refl, sym, ap, subst, ◌∙◌, append_assoc, append-nil, ◌⊎◌, inl, inr, true≢false, nat_lt, slice_get, Seq, seq, named, Information, ReceiveReady, ReceiveNotReady, Reject, Parts, State, Established, TimerRecovery, LinkTimer, T203, ControlFrame, Terms, Link, is_multiple_frame, frame_of, may_repeat, expired, offer, Step, begun, frame_given, frames_of, frames-append, Means, c-7, c-8, enquiry, kind_of, unwrap_or, T200, Course}
+use Rattle.laws_wire.proofs.Vocabulary.{arith, ◌≡◌, ℕ, ◌+◌, Bool, true, false, cond, ◌&&◌, IsTrue, List, [], ◌∷◌, ◌++◌, refl, sym, ap, ◌∙◌, append_assoc, append-nil, ◌⊎◌, inl, inr, true≢false, nat_lt, slice_get, Seq, seq, Information, ReceiveReady, Reject, Parts, State, Established, TimerRecovery, LinkTimer, ControlFrame, Terms, Link, is_multiple_frame, frame_of, expired, offer, Step, begun, frame_given, frames_of, frames-append, Means, c-7, c-8, enquiry, kind_of, unwrap_or, T200, Course}
 use Rattle.lapd_frame.specs.declared.notes.ErrorCode.TheVariants as code
 use Rattle.model_link.specs.Words
 use Rattle.model_link.specs.MultipleFrame
@@ -15,12 +15,7 @@ IsUpIn c = IsTrue (is_multiple_frame c.link.state)
 -- one frame more waits
 pub line-push : (t : Terms) (way : List Parts) (ws ws' : List ControlFrame) (f : ControlFrame) → ws' ≡ ws ++ f ∷ []
     → way ++ frames_of t ws' ≡ (way ++ frames_of t ws) ++ frame_of t f ∷ []
-line-push t way ws ws' f e =
-    ap (λ ws. way ++ frames_of t ws) e ∙ ap (λ fs. way ++ fs) (frames-append t ws (f ∷ [])) ∙ sym (append_assoc way (frames_of t ws) (frame_of t f ∷ []))
-
-ready-means : (b : Bool) (r : ℕ) (pf : Bool) → Means r (cond b (ReceiveNotReady (seq r) pf) (ReceiveReady (seq r) pf))
-ready-means true r pf = refl
-ready-means false r pf = refl
+line-push t way ws ws' f e = grind (arith, frames_of, frames-append, append_assoc)
 
 -- An enquiry waits, the last, and the state is 8.
 pub record Enquired (t : Terms) (l l' : Link) : Type 0 where
@@ -37,66 +32,29 @@ module _ (t : Terms) (l : Link) where
   abbrev its_enquiry : ControlFrame
   its_enquiry = Words.command (Words.ready_to_receive true l)
 
-  enquiry-kind : (b : Bool) → kind_of true (cond b (ReceiveNotReady (seq l.r) true) (ReceiveReady (seq l.r) true)) ≡ enquiry
-  enquiry-kind true = refl
-  enquiry-kind false = refl
-
   enquires : (l' : Link) → Words.has_room t l ≡ true → l'.state ≡ TimerRecovery → l'.s ≡ l.s → l'.a ≡ l.a → l'.r ≡ l.r
       → l'.waiting ≡ cond (Words.has_room t l) (l.waiting ++ its_enquiry ∷ []) l.waiting → Enquired t l l'
-  enquires l' room state s a r waits = record {
-    state = state;
-    s = s;
-    a = a;
-    r = r;
-    frame = its_enquiry;
-    waits = waits ∙ ap (λ b. cond b (l.waiting ++ its_enquiry ∷ []) l.waiting) room;
-    kind = enquiry-kind l.own_busy;
-    means = ready-means l.own_busy l.r true;
-  }
+  enquires l' room state s a r waits = grind arith
 
   abbrev pub Expired : Link → Type 0
   Expired l' = (l' ≡ l) ⊎ Enquired t l l'
 
   again : Words.has_room t l ≡ true → l.state ≡ TimerRecovery → (b : Bool) → IsUpIn (cond b (Words.start T200 (Words.repeated (Words.enquire t (begun l)))) (MultipleFrame.failed t code.I (begun l)))
       → Expired (cond b (Words.start T200 (Words.repeated (Words.enquire t (begun l)))) (MultipleFrame.failed t code.I (begun l))).link
-  again room here true up = inr (enquires _ room here refl refl refl refl)
-  again room here false up = absurd (true≢false (sym up))
+  again room here b up = grind (arith, enquires)
 
   expires-in : Words.has_room t l ≡ true → (here : State) → l.state ≡ here → IsTrue (is_multiple_frame here) → (timer : LinkTimer)
       → IsUpIn (Machine.expired_in here timer t (begun l)) → Expired (Machine.expired_in here timer t (begun l)).link
-  expires-in room Established e before timer up = inr (enquires _ room refl refl refl refl refl)
-  expires-in room TimerRecovery e before T200 up = again room e (may_repeat t l) up
-  expires-in room TimerRecovery e before T203 up = inl refl
-  expires-in room other e before timer up = absurd (true≢false (sym before))
+  expires-in room here e before timer up = grind (arith, enquires, again)
 
   pub expires-so : IsTrue (is_multiple_frame l.state) → (timer : LinkTimer) → (Machine.is_running timer l ≡ true → Words.has_room t l ≡ true)
       → IsUpIn (Machine.course t (expired timer) l) → Expired (Machine.after t (expired timer) l)
-  expires-so before timer room up = go (Machine.is_running timer l) refl up
-    where
-      go : (b : Bool) → Machine.is_running timer l ≡ b → IsUpIn (cond b (Machine.expire_running timer t (begun l)) (begun l))
-          → Expired (cond b (Machine.expire_running timer t (begun l)) (begun l)).link
-      go true is up = expires-in (room is) l.state refl before timer up
-      go false is up = inl refl
+  expires-so before timer room up = grind (arith, expires-in)
 
   -- where it runs in state 7, or T200 in 8, it is so
-  asks-in : Words.has_room t l ≡ true → (here : State) → l.state ≡ here → IsTrue (is_multiple_frame here) → IsUpIn (Machine.expired_in here T200 t (begun l))
-      → Enquired t l (Machine.expired_in here T200 t (begun l)).link
-  asks-in room Established e before up = enquires _ room refl refl refl refl refl
-  asks-in room TimerRecovery e before up = go (may_repeat t l) up
-    where
-      go : (b : Bool) → IsUpIn (cond b (Words.start T200 (Words.repeated (Words.enquire t (begun l)))) (MultipleFrame.failed t code.I (begun l)))
-          → Enquired t l (cond b (Words.start T200 (Words.repeated (Words.enquire t (begun l)))) (MultipleFrame.failed t code.I (begun l))).link
-      go true up = enquires _ room e refl refl refl refl
-      go false up = absurd (true≢false (sym up))
-  asks-in room other e before up = absurd (true≢false (sym before))
-
   pub asks-so : IsTrue (is_multiple_frame l.state) → Machine.is_running T200 l ≡ true → Words.has_room t l ≡ true
       → IsUpIn (Machine.course t (expired T200) l) → Enquired t l (Machine.after t (expired T200) l)
-  asks-so before running room up = go (Machine.is_running T200 l) running up
-    where
-      go : (b : Bool) → b ≡ true → IsUpIn (cond b (Machine.expire_running T200 t (begun l)) (begun l)) → Enquired t l (cond b (Machine.expire_running T200 t (begun l)) (begun l)).link
-      go true is up = asks-in room l.state refl before up
-      go false is up = absurd (true≢false (sym is))
+  asks-so before running room up = grind (arith, enquires)
 
   -- an offer
   abbrev Says : Course → Type 0
@@ -104,12 +62,10 @@ module _ (t : Terms) (l : Link) where
       ((way ++ frame_given t (Machine.given_of t l c c.sent)) ++ frames_of t c.link.waiting)
 
   pub at-end : (way : List Parts) (f : Parts) (ws : List ControlFrame) → ws ≡ [] → (way ++ f ∷ []) ++ frames_of t ws ≡ (way ++ frames_of t ws) ++ f ∷ []
-  at-end way f [] e = append-nil (way ++ f ∷ []) ∙ sym (ap (λ xs. xs ++ f ∷ []) (append-nil way))
-  at-end way f (w ∷ ws) e = absurd (cc)
+  at-end way f ws e = grind (arith, append-nil)
 
   either-says : (b : Bool) (u v : Course) → Says u → Says v → Says (cond b u v)
-  either-says true u v x y = x
-  either-says false u v x y = y
+  either-says b u v x y = grind arith
 
   abbrev information : Parts
   information = record (frame_of t (Offers.next_information l)) { info = unwrap_or (slice_get l.contents l.s) [] }
@@ -130,16 +86,10 @@ module _ (t : Terms) (l : Link) where
   -- ---- what it hears
 
   by-number : (P : Link → Type 0) (nr : Seq) (f : ℕ → Step) (c : Course) → ((n : ℕ) → P (f n c).link) → IsUpIn (Words.by_number t nr f c) → P (Words.by_number t nr f c).link
-  by-number P nr f c x up = go (named c.link.a c.link.s nr) up
-    where
-      go : (o : Option ℕ) → IsUpIn (elim o as (λ o. Course) [ None ↦ Words.re_establish t (Words.error t code.J c) | Some n ↦ f n c ])
-          → P (elim o as (λ o. Course) [ None ↦ Words.re_establish t (Words.error t code.J c) | Some n ↦ f n c ]).link
-      go None up = absurd (true≢false (sym up))
-      go (Some n) up = x n
+  by-number P nr f c x up = grind arith
 
   either : (P : Link → Type 0) (b : Bool) (u v : Course) → P u.link → P v.link → P (cond b u v).link
-  either P true u v x y = x
-  either P false u v x y = y
+  either P b u v x y = grind arith
 
   -- what is owed, V(R) and what waits stay
   pub record Same (l' : Link) : Type 0 where
@@ -148,23 +98,16 @@ module _ (t : Terms) (l : Link) where
     pub waiting : l'.waiting ≡ l.waiting
 
   in-7 : (c : Course) → Same c.link → (n : ℕ) → Same (Established.acknowledged_in_7 n c).link
-  in-7 c h n =
-      either Same (Established.is_all_sent n c.link) _ _ (record { pending = h.pending; r = h.r; waiting = h.waiting })
-      (either Same (Established.is_beyond_acknowledged n c.link) _ _ (record { pending = h.pending; r = h.r; waiting = h.waiting }) h)
+  in-7 c h n = grind (arith, either)
 
   same-7 : (busy b pf : Bool) → (b && pf) ≡ false → Same (c-7 t l busy b pf).link
-  same-7 busy true true e = absurd (true≢false e)
-  same-7 busy true false e = record { pending = refl; r = refl; waiting = refl }
-  same-7 busy false true e = record { pending = refl; r = refl; waiting = refl }
-  same-7 busy false false e = record { pending = refl; r = refl; waiting = refl }
+  same-7 busy b pf e = grind arith
 
   same-8 : (busy b pf : Bool) → (b && pf) ≡ false → Same (c-8 t l busy b pf).link
-  same-8 busy true true e = absurd (true≢false e)
-  same-8 busy b other e = record { pending = refl; r = refl; waiting = refl }
+  same-8 busy b pf e = grind arith
 
   in-8 : (timer : LinkTimer) (final : Bool) (c : Course) → Same c.link → (n : ℕ) → Same (TimerRecovery.acknowledged_in_8 timer final n c).link
-  in-8 timer true c h n = record { pending = h.pending; r = h.r; waiting = h.waiting }
-  in-8 timer false c h n = record { pending = h.pending; r = h.r; waiting = h.waiting }
+  in-8 timer final c h n = grind arith
 
   -- RR and REJ that ask nothing
   pub ready-same : IsTrue (is_multiple_frame l.state) → (b pf : Bool) (nr : Seq) (octets : List ℕ) → (b && pf) ≡ false
@@ -174,22 +117,12 @@ module _ (t : Terms) (l : Link) where
       go : (here : State) → IsTrue (is_multiple_frame here) → IsUpIn (Machine.frame_in here t b octets (ReceiveReady nr pf) (begun l))
           → Same (Machine.frame_in here t b octets (ReceiveReady nr pf) (begun l)).link
       go Established before up = by-number Same nr Established.acknowledged_in_7 (c-7 t l false b pf) (in-7 (c-7 t l false b pf) (same-7 false b pf e)) up
-      go TimerRecovery before up =
-          by-number Same nr (TimerRecovery.acknowledged_in_8 T203 (MultipleFrame.is_final b pf)) (c-8 t l false b pf)
-          (in-8 T203 (MultipleFrame.is_final b pf) (c-8 t l false b pf) (same-8 false b pf e)) up
+      go TimerRecovery before up = grind (arith, by-number, c-8, in-8, same-8)
       go other before up = absurd (true≢false (sym before))
 
   pub reject-same : IsTrue (is_multiple_frame l.state) → (nr : Seq) (octets : List ℕ)
       → IsUpIn (Machine.frame_step t false octets (Reject nr false) (begun l)) → Same (Machine.frame_step t false octets (Reject nr false) (begun l)).link
-  reject-same before nr octets up = go l.state before up
-    where
-      go : (here : State) → IsTrue (is_multiple_frame here) → IsUpIn (Machine.frame_in here t false octets (Reject nr false) (begun l))
-          → Same (Machine.frame_in here t false octets (Reject nr false) (begun l)).link
-      go Established before up =
-          by-number Same nr Established.acknowledged_by_rej_in_7 (c-7 t l false false false) (λ n. record { pending = refl; r = refl; waiting = refl }) up
-      go TimerRecovery before up =
-          by-number Same nr (TimerRecovery.acknowledged_in_8 T203 false) (c-8 t l false false false) (λ n. record { pending = refl; r = refl; waiting = refl }) up
-      go other before up = absurd (true≢false (sym before))
+  reject-same before nr octets up = grind (arith, by-number, c-7, c-8)
 
   -- an enquiry is answered
   abbrev its_answer : ControlFrame
@@ -204,18 +137,7 @@ module _ (t : Terms) (l : Link) where
 
   pub enquiry-answered : IsTrue (is_multiple_frame l.state) → Words.has_room t l ≡ true → (nr : Seq) (octets : List ℕ)
       → IsUpIn (Machine.frame_step t true octets (ReceiveReady nr true) (begun l)) → Answers (Machine.frame_step t true octets (ReceiveReady nr true) (begun l)).link
-  enquiry-answered before room nr octets up = go l.state before up
-    where
-      go : (here : State) → IsTrue (is_multiple_frame here) → IsUpIn (Machine.frame_in here t true octets (ReceiveReady nr true) (begun l))
-          → Answers (Machine.frame_in here t true octets (ReceiveReady nr true) (begun l)).link
-      go Established before up =
-          let c = c-7 t l false true true in
-          by-number Answers nr Established.acknowledged_in_7 c
-          (λ n. either Answers (Established.is_all_sent n c.link) _ _ (answered room _ refl refl)
-          (either Answers (Established.is_beyond_acknowledged n c.link) _ _ (answered room _ refl refl) (answered room _ refl refl))) up
-      go TimerRecovery before up =
-          by-number Answers nr (TimerRecovery.acknowledged_in_8 T203 false) (c-8 t l false true true) (λ n. answered room _ refl refl) up
-      go other before up = absurd (true≢false (sym before))
+  enquiry-answered before room nr octets up = grind (arith, c-7, by-number, either, answered, c-8)
 
   -- the next I-frame is taken
   pub record Next (l' : Link) : Type 0 where
@@ -227,33 +149,11 @@ module _ (t : Terms) (l : Link) where
     contents = MultipleFrame.contents_in_7_8 t ns false octets (begun l)
 
     taken : Next contents.link
-    taken =
-        let in-order = MultipleFrame.in_sequence t false octets (begun l) in
-        let other = MultipleFrame.out_of_sequence t false (begun l) in
-        let dropped = MultipleFrame.dropped t false (begun l) in
-        subst (λ b. Next (cond b dropped (cond (MultipleFrame.is_next ns l) in-order other)).link) (sym own)
-        (subst (λ b. Next (cond b in-order other).link) (sym next) (record { r = refl; pending = refl }))
+    taken = grind arith
 
     fitting : (b : Bool) (u v : Course) → (IsUpIn u → ⊥) → (IsUpIn v → Next v.link) → IsUpIn (cond b u v) → Next (cond b u v).link
-    fitting true u v x y up = absurd (x up)
-    fitting false u v x y up = y up
-
-    next-by : (f : ℕ → Step) → ((n : ℕ) → Next (f n contents).link) → IsUpIn (MultipleFrame.information_in_7_8 t ns nr false octets f (begun l))
-        → Next (MultipleFrame.information_in_7_8 t ns nr false octets f (begun l)).link
-    next-by f x up = fitting (nat_lt t.n201 (length octets)) _ _ (λ u. true≢false (sym u)) (λ u. by-number Next nr f contents x u) up
-
-    next-7 : (n : ℕ) → Next (Established.acknowledged_by_information_in_7 n contents).link
-    next-7 n =
-        either Next contents.link.peer_busy _ _ (record { r = taken.r; pending = taken.pending })
-        (either Next (Established.is_all_sent n contents.link) _ _ (record { r = taken.r; pending = taken.pending })
-        (either Next (Established.is_beyond_acknowledged n contents.link) _ _ (record { r = taken.r; pending = taken.pending }) taken))
+    fitting b u v x y up = grind arith
 
     pub next-taken : IsTrue (is_multiple_frame l.state) → (b : Bool) → IsUpIn (Machine.frame_step t b octets (Information ns nr false) (begun l))
         → Next (Machine.frame_step t b octets (Information ns nr false) (begun l)).link
-    next-taken before b up = go l.state before up
-      where
-        go : (here : State) → IsTrue (is_multiple_frame here) → IsUpIn (Machine.frame_in here t b octets (Information ns nr false) (begun l))
-            → Next (Machine.frame_in here t b octets (Information ns nr false) (begun l)).link
-        go Established before up = next-by Established.acknowledged_by_information_in_7 next-7 up
-        go TimerRecovery before up = next-by Words.acknowledge (λ n. record { r = taken.r; pending = taken.pending }) up
-        go other before up = absurd (true≢false (sym before))
+    next-taken before b up = grind (arith, fitting, nat_lt, by-number, either, taken)

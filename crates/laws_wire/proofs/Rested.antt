@@ -188,11 +188,7 @@ module _ (service : Service) (tei : ℕ) (c d : Config) (p q : ℕ) (past_n past
   -- ---- it takes
 
   taken-grants : granted_of (acting takes w) ≡ granted_of w + 0
-  taken-grants = none-more (length (with_first_of w.far.way w.near).granted) (length w.far.granted) (length w.near.granted) (length w.far.granted) (ap length (grants w.far.way)) refl
-    where
-      grants : (ways : List (List ℕ)) → (with_first_of ways w.near).granted ≡ w.near.granted
-      grants [] = refl
-      grants (octets ∷ more) = takes-granted octets w.near
+  taken-grants = grind (arith, none-more, takes-granted)
 
   abbrev m1 : End
   m1 = two_ends.with_first_lost m

@@ -1,5 +1,5 @@
 -- Rounds in which no error is told lead to where no turn is left.
-use Rattle.laws_wire.proofs.Vocabulary.{◌≡◌, ℕ, zero, suc, ◌+◌, ◌*◌, ◌<◌, ◌≤◌, Bool, true, false, cond, List, [], ◌∷◌, ◌++◌, length, Option, None, Some, option_map, refl, sym, ap, subst, ◌∙◌, arith, All, All-nil, All-cons, All-append, Service, Config, next, NextFrame, gave, terms, line_at, taken, next_of, Station, Wire, with_first_of, frames_by, is_any, Doing, at_near, at_far, acting, turned, doing, doing_all, IsStill, answered, calling, CanCall, granted_of, IsRoughTalk, round, rounds, HasNoErrors, is_move, moves, expiries, most_frames, RoundsComeToRest}
+use Rattle.laws_wire.proofs.Vocabulary.{◌≡◌, ℕ, zero, suc, ◌+◌, ◌*◌, ◌<◌, ◌≤◌, Bool, false, cond, List, [], ◌∷◌, ◌++◌, length, option_map, refl, sym, ap, subst, ◌∙◌, arith, All, All-nil, All-append, Service, Config, terms, Station, Wire, with_first_of, is_any, Doing, at_near, at_far, acting, turned, doing, doing_all, IsStill, calling, CanCall, granted_of, IsRoughTalk, round, rounds, HasNoErrors, moves, expiries, most_frames, RoundsComeToRest}
 use Rattle.laws_wire.specs.Wire as wire
 use Rattle.laws_wire.proofs.Answered.{gives-taken, gives-granted, takes-granted}
 use Rattle.laws_wire.proofs.RestedRun.{moves-come-to-an-end}
@@ -42,17 +42,12 @@ none-expires (suc n) = let rest : expiries (many n) ≡ 0 = none-expires n in om
 pub all-rough : (service : Service) (tei n : ℕ) → All (IsRoughTalk service tei) (many n)
 unfolding many
 all-rough service tei zero = All-nil (IsRoughTalk service tei)
-all-rough service tei (suc n) =
-    All-cons (IsRoughTalk service tei) (at_near wire.gives) (at_far wire.takes ∷ at_far wire.gives ∷ at_near wire.takes ∷ many n) tt
-    (All-cons (IsRoughTalk service tei) (at_far wire.takes) (at_far wire.gives ∷ at_near wire.takes ∷ many n) tt
-    (All-cons (IsRoughTalk service tei) (at_far wire.gives) (at_near wire.takes ∷ many n) tt
-    (All-cons (IsRoughTalk service tei) (at_near wire.takes) (many n) tt (all-rough service tei n))))
+all-rough service tei (suc n) = grind (arith, all-rough service tei n)
 
 -- ---- nothing is granted in a round
 
 takes-grants : (way : List (List ℕ)) (s : Station) → (with_first_of way s).granted ≡ s.granted
-takes-grants [] s = refl
-takes-grants (octets ∷ way) s = takes-granted octets s
+takes-grants way s = grind (arith, takes-granted)
 
 pub near-gives : (w : Wire) → granted_of (acting wire.gives w) ≡ granted_of w
 near-gives w = ap (λ (xs : List (List ℕ)). length xs + length w.far.granted) (gives-granted w.near)
@@ -86,59 +81,18 @@ none-more (suc n) w = none-more n (w4 w) ∙ near-takes (w3 w) ∙ far-gives (w2
 -- ---- a round without a move finds no turn left
 
 no-bit : (b : Bool) → cond {A = ℕ} b 1 0 ≡ 0 → b ≡ false
-no-bit false e = refl
-no-bit true e = absurd (omega (arith, e))
+no-bit b e = grind arith
 
 no-way : (way : List (List ℕ)) → is_any way ≡ false → way ≡ []
-no-way [] e = refl
-no-way (x ∷ xs) e = absurd (cc)
+no-way way e = grind arith
 
 no-front : (xs ys : List (List ℕ)) → xs ++ ys ≡ [] → xs ≡ []
 no-front [] ys e = refl
 no-front (x ∷ xs) ys e = absurd (cc)
 
-none-more-given : (s : Station) → is_any (frames_by (answered next s)) ≡ false → answered next s ≡ gave None
-none-more-given s e =
-    gives-taken s ∙ go (option_map next_of (taken s.card.config (line_at s.line s.card))) (sym (ap (λ a. is_any (frames_by a)) (gives-taken s)) ∙ e)
-  where
-    go : (o : Option NextFrame) → is_any (frames_by (gave o)) ≡ false → gave o ≡ gave None
-    go None e = refl
-    go (Some f) e = absurd (cc)
-
-first-zero : (a b c d : ℕ) → a + (b + (c + (d + 0))) ≡ 0 → (a ≡ 0) × (b ≡ 0) × (c ≡ 0) × (d ≡ 0)
-first-zero a b c d e = (omega (arith, e), omega (arith, e), omega (arith, e), omega (arith, e))
-
 still-if : (w : Wire) → moves round w ≡ 0 → IsStill w
 unfolding moves
-still-if w e = record { near = none-more-given w.near near-none; far = none-more-given w.far far-none; near_way = near-empty; far_way = no-front w.far.way (frames_by (answered next w.far)) far-empty }
-  where
-    parts : (cond {A = ℕ} (is_move (at_near wire.gives) w) 1 0 ≡ 0) × (cond {A = ℕ} (is_move (at_far wire.takes) (w1 w)) 1 0 ≡ 0) × (cond {A = ℕ} (is_move (at_far wire.gives) (w2 w)) 1 0 ≡ 0)
-        × (cond {A = ℕ} (is_move (at_near wire.takes) (w3 w)) 1 0 ≡ 0)
-    parts =
-        first-zero (cond {A = ℕ} (is_move (at_near wire.gives) w) 1 0) (cond {A = ℕ} (is_move (at_far wire.takes) (w1 w)) 1 0) (cond {A = ℕ} (is_move (at_far wire.gives) (w2 w)) 1 0)
-        (cond {A = ℕ} (is_move (at_near wire.takes) (w3 w)) 1 0) e
-
-    near-none : is_any (frames_by (answered next w.near)) ≡ false
-    near-none = no-bit (is_any (frames_by (answered next w.near))) parts.0
-
-    given-way : (w1 w).near.way ≡ []
-    given-way = no-way (w1 w).near.way (no-bit (is_any (w1 w).near.way) parts.1)
-
-    near-empty : w.near.way ≡ []
-    near-empty = no-front w.near.way (frames_by (answered next w.near)) given-way
-
-    far-same : (w2 w).far ≡ w.far
-    far-same = ap (λ way. with_first_of way w.far) given-way
-
-    far-none : is_any (frames_by (answered next w.far)) ≡ false
-    far-none =
-        subst (λ (s : Station). is_any (frames_by (answered next s)) ≡ false) far-same
-        (no-bit (is_any (frames_by (answered next (w2 w).far))) parts.2)
-
-    far-empty : w.far.way ++ frames_by (answered next w.far) ≡ []
-    far-empty =
-        subst (λ (s : Station). s.way ++ frames_by (answered next s) ≡ []) far-same
-        (no-way (w3 w).far.way (no-bit (is_any (w3 w).far.way) parts.3))
+still-if w e = grind (arith, gives-taken, option_map, no-front, no-bit, no-way)
 
 -- So among more rounds than there are moves one finds no turn left.
 pub record Rests (n : ℕ) (w : Wire) : Type 0 where

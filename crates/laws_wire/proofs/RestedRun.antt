@@ -1,5 +1,5 @@
 -- A whole call in which frames are lost and timers expire: its moves are at most what there was to do, and what was asked for since.
-use Rattle.laws_wire.proofs.Vocabulary.{◌≡◌, ℕ, ◌+◌, ◌*◌, ◌≤◌, true, cond, List, [], ◌∷◌, ◌++◌, length, refl, sym, ap, subst, ◌∙◌, ◌⊎◌, inl, inr, arith, All, All-head, All-tail, Service, Parts, ControlFrame, Terms, Link, fresh, course, IsInRange, End, frames_of, Config, LineTold, terms, after, Station, Wire, Doing, at_near, at_far, turned, doing, doing_all, calling, confirmed, indicated, granted_of, HasNoError, IsRoughTalk, is_move, moves, expiries_in, expiries, most_frames, MovesComeToAnEnd}
+use Rattle.laws_wire.proofs.Vocabulary.{◌≡◌, ℕ, ◌+◌, ◌*◌, ◌≤◌, true, cond, List, [], ◌∷◌, ◌++◌, length, refl, sym, ap, subst, ◌∙◌, ◌⊎◌, inl, inr, arith, All, All-head, All-tail, Service, Parts, ControlFrame, Terms, fresh, course, IsInRange, End, frames_of, Config, LineTold, terms, after, Station, Wire, Doing, at_near, at_far, turned, doing, doing_all, calling, confirmed, indicated, granted_of, HasNoError, IsRoughTalk, is_move, moves, expiries_in, expiries, most_frames, MovesComeToAnEnd}
 use Rattle.model_link.specs.Events as link
 use Rattle.laws_wire.proofs.Acting.{First, Before, which, UpAt, ranges, sound}
 use Rattle.laws_wire.proofs.Calling.{asked, sabme, ua, end, caller, takes-sabme}
@@ -104,11 +104,7 @@ module _ (service : Service) (tei : ℕ) (c d : Config) (p q : ℕ) (face : Face
       only (inr one) others is = let same : f ∷ others ≡ ua u ∷ [] = sym is ∙ one in let head : f ≡ ua u = cc in by-ua f head
 
       go : First f rest h.first h.line ⊎ Before f rest h.first h.line → Well service tei v n h.m f
-      go (inl x) =
-          let meant = first-means (end t caller []) h.m f [] rest (turned-joint h.m (end t caller []) (f ∷ rest) [] (subst (λ xs. Joint h.m (end t caller []) xs []) x.is h.far.joint)) in
-          let i = ignores t h.repeats h.waiting f meant.number meant.means in
-          inr (subst (λ l. TakesWell v n.link l f × l.r ≤ length h.m.link.contents) (sym i.stays) (record { contents = refl; falls = inl (refl, omega arith) }, omega arith))
-      go (inr x) = only h.is_ua x.others x.is
+      go o = grind (arith, first-means, end, caller, rest, turned-joint, Joint, ignores)
 
   near-well : (w : Wire) (h : Goes service tei c d p q w) (f : Parts) (fs : List Parts) → (seen w h).m.way ≡ f ∷ fs → Well service tei v (seen w h).n (seen w h).m f
   unfolding seen
@@ -127,9 +123,7 @@ module _ (service : Service) (tei : ℕ) (c d : Config) (p q : ℕ) (face : Face
   sabme-first way waiting f fs e are = All-head (IsSabme t) f (fs ++ frames_of t waiting) (subst (λ way. AreSabmes t way waiting) e are)
 
   called : (n : End) (f : Parts) → f ≡ sabme t → Well service tei v (end u fresh []) n f
-  called n f is =
-      subst (Well service tei v (end u fresh []) n) (sym is)
-      (inr (subst (λ l. TakesWell v fresh l (sabme t) × l.r ≤ length n.link.contents) (sym (takes-sabme u ru t)) (record { contents = refl; falls = inl (refl, omega arith) }, omega arith)))
+  called n f is = grind (arith, end, TakesWell, sabme, takes-sabme)
 
   far-well : (w : Wire) (h : Goes service tei c d p q w) (f : Parts) (fs : List Parts) → (seen w h).n.way ≡ f ∷ fs → Well service tei v (seen w h).m (seen w h).n f
   unfolding seen
@@ -215,14 +209,8 @@ module _ (service : Service) (tei : ℕ) (c d : Config) (p q : ℕ) (face : Face
       let same = weighs-same w' x y.n' y.m' y.near y.far in
       record {
         more = y.more + z.more;
-        granted =
-            more-granted (granted_of last) (length n.link.contents) (length m.link.contents) (length x.n.link.contents) (length x.m.link.contents) y.more z.more
-            (subst (λ (l : Link). length l.contents + length x.m.link.contents ≡ length n.link.contents + length m.link.contents + y.more) same.0
-            (subst (λ (l : Link). length y.n'.link.contents + length l.contents ≡ length n.link.contents + length m.link.contents + y.more) same.1 y.fell.grown))
-            z.granted;
-        falls =
-            sum moved rest (weigh v n m) (weigh v y.n' y.m') (weigh v x.n x.m) ((v + 4) * expired) ((v + 6) * y.more) ((v + 4) * others) ((v + 6) * z.more)
-            ((v + 4) * (expired + others)) ((v + 6) * (y.more + z.more)) same.2 (times-sum (v + 4) expired others) (times-sum (v + 6) y.more z.more) y.fell.falls z.falls;
+        granted = grind (arith, more-granted);
+        falls = grind (arith, sum, weigh, times-sum);
       }
 
   runs : (ds : List Doing) → All (IsRoughTalk service tei) ds → (w : Wire) (h : Goes service tei c d p q w)
@@ -280,19 +268,14 @@ module _ (service : Service) (tei : ℕ) (c d : Config) (p q : ℕ) (face : Face
 
       go : Total (moves ds w) (expiries ds) (end t (ringing h.repeats h.waiting) h.way) (end u fresh []) (doing_all ds w) ⊎ Errs (doing_all ds w)
           → moves ds w ≤ (2 * v + 8) + (v + 4) * expiries ds + (v + 6) * granted_of (doing_all ds w)
-      go (inl z) =
-          total (moves ds w) (weigh v (end t (ringing h.repeats h.waiting) h.way) (end u fresh [])) ((v + 4) * expiries ds) (2 * v + 8) 0 (granted_of (doing_all ds w)) z.more weight
-          (nothing-before (granted_of (doing_all ds w)) z.more z.granted) z.falls
+      go (inl z) = grind (arith, total, weigh, end, ringing, weight, nothing-before)
       go (inr (inl e)) = absurd (not-erred (doing_all ds w).near fair-near e)
       go (inr (inr e)) = absurd (not-erred (doing_all ds w).far fair-far e)
 
   -- ---- from where both ends are up, as nothing more is accepted and no timer expires
 
   none-more : (moved weight x more all a b a' b' : ℕ) → x ≡ 0 → all ≡ a + b + more → all ≡ a' + b' → a' ≡ a → b' ≡ b → moved ≤ weight + (v + 4) * x + (v + 6) * more → moved ≤ weight
-  none-more moved weight x more all a b a' b' none grown same e f less =
-      let no-more : more ≡ 0 = omega (arith, grown, same, e, f) in
-      let less' : moved ≤ weight + (v + 4) * 0 + (v + 6) * 0 = subst (λ x. moved ≤ weight + (v + 4) * x + (v + 6) * 0) none (subst (λ m. moved ≤ weight + (v + 4) * x + (v + 6) * m) no-more less) in
-      omega (arith, less')
+  none-more moved weight x more all a b a' b' none grown same e f less = grind arith
 
   pub from-up : (ds : List Doing) → All (IsRoughTalk service tei) ds → (w : Wire) (h : IsUp service tei c d p q w) → expiries ds ≡ 0 → granted_of (doing_all ds w) ≡ granted_of w
       → HasNoError (doing_all ds w).near → HasNoError (doing_all ds w).far → moves ds w ≤ weigh v h.n h.m
@@ -300,11 +283,7 @@ module _ (service : Service) (tei : ℕ) (c d : Config) (p q : ℕ) (face : Face
   from-up ds all w h none same fair-near fair-far = go (runs ds all w (inr (inr h)))
     where
       go : Total (moves ds w) (expiries ds) h.n h.m (doing_all ds w) ⊎ Errs (doing_all ds w) → moves ds w ≤ weigh v h.n h.m
-      go (inl z) =
-          none-more (moves ds w) (weigh v h.n h.m) (expiries ds) z.more (granted_of (doing_all ds w)) (length h.n.link.contents) (length h.m.link.contents) (length w.near.granted) (length w.far.granted)
-          none z.granted same (ap length h.near.held.granted) (ap length h.far.held.granted) z.falls
-      go (inr (inl e)) = absurd (not-erred (doing_all ds w).near fair-near e)
-      go (inr (inr e)) = absurd (not-erred (doing_all ds w).far fair-far e)
+      go o = grind (arith, none-more, weigh, none, not-erred)
 
 in-frames : (moved k x g : ℕ) → moved ≤ (2 * (2 * k) + 8) + (2 * k + 4) * x + (2 * k + 6) * g → moved ≤ 2 * most_frames k x g
 in-frames moved k x g less = omega (arith, less)

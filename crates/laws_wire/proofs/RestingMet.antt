@@ -1,5 +1,5 @@
 -- The premises of the laws on how turns come to an end are met, by worked calls.
-use Rattle.laws_wire.proofs.Vocabulary.{◌≡◌, ◌≤◌, ℕ, ◌*◌, List, [], ◌∷◌, ◌++◌, refl, sym, subst, arith, All, All-nil, All-cons, Call, reading, header_of, control_of, unnumbered_of, supervisory_of, distance_of, named, seq, LineTold, Data, requests, Doing, at_near, doing_all, IsStill, confirmed, indicated, data_told, granted_of, HasNoError, IsRoughTalk, rounds, moves, expiries, most_frames, StayTimely, user, network, begins, establishes}
+use Rattle.laws_wire.proofs.Vocabulary.{◌≡◌, ◌≤◌, ℕ, ◌*◌, List, [], ◌∷◌, ◌++◌, refl, sym, subst, arith, All, All-nil, All-cons, Call, reading, header_of, control_of, unnumbered_of, supervisory_of, distance_of, named, seq, Data, requests, Doing, at_near, doing_all, IsStill, confirmed, indicated, data_told, granted_of, HasNoError, IsRoughTalk, rounds, moves, expiries, most_frames, StayTimely, user, network, begins, establishes}
 use Rattle.lapd_tei.specs.Events as teis
 use Rattle.model_line.specs.Machine as lines
 use Rattle.laws_wire.specs.WorkedResting.{rejects_one, two_accepted}
@@ -20,11 +20,7 @@ near-fair : HasNoError (doing_all rejects_one begins).near
 near-fair = subst (All IsFair) (sym near-told) (All-cons IsFair (confirmed Call 0) [] refl (All-nil IsFair))
 
 far-fair : HasNoError (doing_all rejects_one begins).far
-far-fair =
-    let one : LineTold = data_told Call 0 (0xAB ∷ []) in
-    let two : LineTold = data_told Call 0 (0xCD ∷ []) in
-    subst (All IsFair) (sym far-told)
-    (All-cons IsFair (indicated Call 0) (one ∷ two ∷ []) refl (All-cons IsFair one (two ∷ []) refl (All-cons IsFair two [] refl (All-nil IsFair))))
+far-fair = grind (arith, IsFair, far-told)
 
 bounded : moves rejects_one begins ≤ 2 * most_frames 7 (expiries rejects_one) (granted_of (doing_all rejects_one begins))
 bounded =

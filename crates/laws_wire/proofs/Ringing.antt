@@ -1,5 +1,5 @@
 -- A link that awaits its establishment, as often as SABME was repeated and whatever waits; and what comes of it.
-use Rattle.laws_wire.proofs.Vocabulary.{◌≡◌, ℕ, ◌+◌, ◌<◌, Bool, true, false, cond, List, [], ◌∷◌, ◌++◌, length, drop, None, Some, refl, sym, ap, subst, ◌∙◌, ◌⊎◌, inl, inr, append-nil, append_assoc, All, nat_lt, lt-ltb, All-nil, All-cons, All-tail, All-append, Control, Information, ReceiveReady, ReceiveNotReady, Reject, Sabme, Parts, T203, ControlFrame, Terms, Link, fresh, frame_of, received, expired, course, begun, ◌then◌, with_sent, command, frames_of, frames-append, Means, T200, frame, after, Course}
+use Rattle.laws_wire.proofs.Vocabulary.{arith, ◌≡◌, ℕ, ◌+◌, ◌<◌, Bool, true, false, cond, List, [], ◌∷◌, ◌++◌, length, drop, None, Some, refl, sym, ap, subst, ◌∙◌, ◌⊎◌, inl, inr, append-nil, append_assoc, All, nat_lt, lt-ltb, All-nil, All-cons, All-tail, All-append, Sabme, Parts, T203, ControlFrame, Terms, Link, fresh, frame_of, received, expired, course, begun, ◌then◌, with_sent, command, frames_of, frames-append, Means, T200, frame, after, Course}
 use Rattle.lapd_frame.specs.declared.notes.ErrorCode.TheVariants as code
 use Rattle.model_link.specs.declared.states.State.TheVariants as state
 use Rattle.model_link.specs.Words
@@ -64,25 +64,7 @@ module _ (t : Terms) (k : ℕ) (ws : List ControlFrame) where
     pub unit : (course t (received (frame f)) l).unit ≡ None
 
   pub ignores : (f : Parts) (m : ℕ) → Means m f.control → Ignores f
-  ignores f m means = go f.control refl means
-    where
-      unserved : course t (received (frame f)) l ≡ Words.leave_unserved (begun l) → Ignores f
-      unserved e = record {
-        stays = ap (λ (c : Course). c.link) e;
-        notes = ap (λ (c : Course). c.notes) e;
-        delivered = ap (λ (c : Course). c.delivered) e;
-        unit = ap (λ (c : Course). c.unit) e;
-      }
-
-      by : (control : Control) → f.control ≡ control → Rattle.model_link.specs.AwaitingEstablishment.frame_in_5 t f.info control (begun l) ≡ Words.leave_unserved (begun l) → Ignores f
-      by control is e = unserved (ap (λ x. Rattle.model_link.specs.AwaitingEstablishment.frame_in_5 t f.info x (begun l)) is ∙ e)
-
-      go : (control : Control) → f.control ≡ control → Means m control → Ignores f
-      go (Information ns nr p) is e = by (Information ns nr p) is refl
-      go (ReceiveReady nr pf) is e = by (ReceiveReady nr pf) is refl
-      go (ReceiveNotReady nr pf) is e = by (ReceiveNotReady nr pf) is refl
-      go (Reject nr pf) is e = by (Reject nr pf) is refl
-      go other is e = absurd e
+  ignores f m means = grind arith
 
 -- where nothing waits, and there is room, SABME waits again
 module _ (t : Terms) (k : ℕ) (room : nat_lt 0 t.control ≡ true) where

@@ -1,5 +1,5 @@
 -- There is room for each enquiry and each answer of two ends of which neither was ever busy, where three control frames may wait.
-use Rattle.laws_wire.proofs.Vocabulary.{◌≡◌, ℕ, ◌+◌, ◌≤◌, Bool, true, false, List, [], ◌∷◌, ◌++◌, length, refl, ap, ◌∙◌, arith, true≢false, All, lt-ltb, All-head, All-tail, Control, Information, ReceiveReady, ReceiveNotReady, Reject, Parts, ControlFrame, Terms, End, has_room, frames_of, is_enquiry, HasNo, line, Kind, kind_of, kinds_of, kinds-append, tally, one_enquiry, one_answer, one_rejection}
+use Rattle.laws_wire.proofs.Vocabulary.{◌≡◌, ℕ, ◌+◌, ◌≤◌, Bool, true, false, List, [], ◌∷◌, ◌++◌, length, refl, arith, All, lt-ltb, All-head, All-tail, Control, Parts, ControlFrame, Terms, End, has_room, frames_of, is_enquiry, HasNo, line, Kind, kind_of, kinds_of, kinds-append, tally, one_enquiry, one_answer, one_rejection}
 use Rattle.laws_wire.proofs.Firm.{Firm}
 use Rattle.laws_wire.proofs.Tame.{WaitsSo}
 
@@ -21,11 +21,7 @@ count-waits t (f ∷ fs) h =
     omega (arith, here, more)
 
 within : (one : Kind → ℕ) (n : End) → tally one (kinds_of (frames_of n.terms n.link.waiting)) ≤ tally one (kinds n)
-within one n =
-    let fs = frames_of n.terms n.link.waiting in
-    let all : tally one (kinds n) ≡ tally one (kinds_of n.way) + tally one (kinds_of fs) =
-    ap (tally one) (kinds-append n.way fs) ∙ tally-append one (kinds_of n.way) (kinds_of fs) in
-    omega (arith, all)
+within one n = grind (arith, frames_of, kinds_of, kinds-append, tally-append)
 
 pub roomy : (n m : End) → Firm n m → 3 ≤ n.terms.control → tally one_enquiry (kinds n) + tally one_answer (kinds n) ≤ 1 → has_room n.terms n.link ≡ true
 roomy n m h wide few =
@@ -38,18 +34,7 @@ roomy n m h wide few =
 
 -- no enquiry is none among the kinds
 not-enquiry : (b : Bool) (control : Control) → is_enquiry b control ≡ false → one_enquiry (kind_of b control) ≡ 0
-not-enquiry b (Information ns nr true) e = refl
-not-enquiry b (Information ns nr false) e = refl
-not-enquiry true (ReceiveReady nr true) e = absurd (true≢false e)
-not-enquiry false (ReceiveReady nr true) e = refl
-not-enquiry b (ReceiveReady nr false) e = refl
-not-enquiry true (ReceiveNotReady nr true) e = absurd (true≢false e)
-not-enquiry false (ReceiveNotReady nr true) e = refl
-not-enquiry b (ReceiveNotReady nr false) e = refl
-not-enquiry true (Reject nr pf) e = refl
-not-enquiry false (Reject nr true) e = refl
-not-enquiry false (Reject nr false) e = refl
-not-enquiry b other e = refl
+not-enquiry b control e = grind arith
 
 none-waits : (t : Terms) (ws : List ControlFrame) → All (λ f. is_enquiry f.command f.control ≡ false) ws → tally one_enquiry (kinds_of (frames_of t ws)) ≡ 0
 none-waits t [] h = refl

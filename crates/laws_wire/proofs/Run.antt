@@ -1,5 +1,5 @@
 -- A whole call: how many turns there are, what layer 3 was told so far, and what it was told where no turn is left.
-use Rattle.laws_wire.proofs.Vocabulary.{◌≡◌, ℕ, ◌+◌, ◌*◌, ◌≤◌, Bool, true, false, ◌||◌, List, [], ◌∷◌, map, take, None, refl, sym, ap, subst, ◌∙◌, inl, inr, arith, All, if◌then◌else◌, All-head, All-tail, Service, spelling, other_side, fresh, given, IsInRange, End, Config, LineTold, next, gave, terms, terms_in_range, Pair, all-there, nothing-given, Station, Wire, Doing, turned, doing, is_turn, IsStill, answered, calling, IsCall, calls_back, confirmed, data_told, told_first, IsBeginningOf, CanCall, ComesThrough, CallsComeThrough}
+use Rattle.laws_wire.proofs.Vocabulary.{◌≡◌, ℕ, ◌+◌, ◌*◌, ◌≤◌, Bool, true, false, ◌||◌, List, [], ◌∷◌, map, take, None, refl, sym, ap, subst, ◌∙◌, inl, inr, arith, All, if◌then◌else◌, All-head, All-tail, Service, spelling, other_side, fresh, given, IsInRange, End, Config, LineTold, next, gave, terms, terms_in_range, Pair, all-there, nothing-given, Station, Wire, Doing, turned, doing, IsStill, answered, calling, IsCall, calls_back, confirmed, data_told, told_first, IsBeginningOf, CanCall, ComesThrough, CallsComeThrough}
 use Rattle.laws_link.specs.two.Rounds.{HasArrived}
 unfoldable use Rattle.laws_wire.specs.Wire.{doing_all, turns}
 unfoldable use Rattle.laws_wire.specs.Call.{both_call}
@@ -20,12 +20,10 @@ joined-price : (b k w w1 w2 g g1 g2 x x1 x2 : ℕ) → b + w1 + (4 * g + x) ≤ 
 joined-price b k w w1 w2 g g1 g2 x x1 x2 h i = omega (arith, h, i)
 
 or-none : (both : Bool) → both ≡ (both || false)
-or-none true = refl
-or-none false = refl
+or-none both = grind arith
 
 pub or-both : (a b c : Bool) → ((a || b) || c) ≡ (a || (b || c))
-or-both true b c = refl
-or-both false b c = refl
+or-both a b c = grind arith
 
 -- where two ends that are up are still, all has arrived
 pub arrived : (n m : End) → Pair (pair_of n m) → given n.terms n.link ≡ None → given m.terms m.link ≡ None → n.way ≡ [] → m.way ≡ []
@@ -126,10 +124,7 @@ module _ (service : Service) (tei : ℕ) where
         record {
           weight = rest.weight;
           goes = subst (λ y. On y (doing_all ds w1) rest.weight) same rest.goes;
-          price =
-              subst (λ y. ((if is_turn x w then 1 else 0) + turns ds w1) + rest.weight + (4 * granted_of w + cost both) ≤ k + (4 * granted_of (doing_all ds w1) + cost y)) same
-              (joined-price (if is_turn x w then 1 else 0) (turns ds w1) k one.weight rest.weight (granted_of w) (granted_of w1) (granted_of (doing_all ds w1)) (cost both) (cost both1) (cost (both1 || both_call ds w1))
-              one.price rest.price);
+          price = grind (arith, granted_of, cost, joined-price);
         }
 
     -- where SABMEs cross a turn is left
@@ -170,8 +165,7 @@ module _ (service : Service) (tei : ℕ) where
 
 -- A call from two cards that have just begun.
 few-turns : (both : Bool) (b k g g' : ℕ) → b + k + (4 * g + 0) ≤ 4 + (4 * g' + cost both) → b ≤ (if both then 8 else 4) + 4 * g'
-few-turns true b k g g' h = omega (arith, h)
-few-turns false b k g g' h = omega (arith, h)
+few-turns both b k g g' h = grind arith
 
 module _ (service : Service) (c d : Config) (line other tei : ℕ) (ds : List Doing) (can : CanCall c line d other tei) (called : All (IsCall service tei) ds) where
   face : Face c d

@@ -1,5 +1,5 @@
 -- What layer 3 is told by an event of a link.
-use Rattle.laws_wire.proofs.Vocabulary.{◌≡◌, ℕ, ◌+◌, ◌≤◌, true, false, cond, ◌==◌, List, [], ◌∷◌, ◌++◌, length, map, Some, refl, sym, ap, subst, ◌∙◌, inl, inr, eq-eqb, append_assoc, arith, All, slice_get, option_to_list, if◌then◌else◌, option_or, le-ltb, map-append, seq, named, Service, Parts, Terms, Link, received, course, begun, End, unserved_cause, LineTold, plain, information_frame, named-number, fits-at, acked, noted, Informs, Notes, Lane, lane-low, lane-order, Steady, is-steady, unwrap_or, frame, Course, Direction, tells_nothing, data_told}
+use Rattle.laws_wire.proofs.Vocabulary.{◌≡◌, ℕ, ◌+◌, ◌≤◌, true, false, cond, ◌==◌, List, [], ◌∷◌, ◌++◌, length, map, Some, refl, sym, ap, subst, ◌∙◌, inl, inr, eq-eqb, append_assoc, arith, All, slice_get, option_to_list, if◌then◌else◌, option_or, le-ltb, map-append, seq, named, Service, Parts, Terms, Link, received, course, begun, End, unserved_cause, LineTold, plain, information_frame, named-number, fits-at, acked, Informs, Notes, Lane, lane-low, lane-order, Steady, is-steady, unwrap_or, frame, Course, Direction, tells_nothing, data_told}
 use Rattle.lapd_frame.specs.declared.notes.ErrorCode.TheVariants as code
 use Rattle.model_link.specs.Established
 use Rattle.model_link.specs.Machine.{told}
@@ -25,10 +25,7 @@ module _ (n m : End) (hn : Steady n) (hm : Steady m) (there : Direction n m) (ba
   high = lane-order m.terms m.link.contents n.link.r m.link.s n.link.a m.link.r m.link.pending m.way back.lane
 
   names : (v : ℕ) → m.link.a ≤ v → v ≤ n.link.r → named m.link.a m.link.s (seq v) ≡ Some v
-  names v low up =
-      let within : m.link.s ≤ m.link.a + m.terms.k = hm.sound.within in
-      let small : m.terms.k ≤ 127 = hm.ranges.k_high in
-      named-number m.link.a m.link.s v low (let h = high in omega (arith, up, h)) (omega (arith, within, small))
+  names v low up = grind (arith, named-number, high)
 
   abbrev Tells : Parts → Link → Type 0
   Tells f l = TellsData m.terms (course m.terms (received (frame f)) l)
@@ -55,12 +52,7 @@ module _ (n m : End) (hn : Steady n) (hm : Steady m) (there : Direction n m) (ba
 
   tells-n : (f : Parts) (fs : List Parts) (v : ℕ) → m.link.a ≤ v → (here : Notes n.terms v f)
       → Lane n.terms n.link.contents m.link.r n.link.s v n.link.r n.link.pending fs → Tells f m.link
-  tells-n f fs v low here rest =
-      let l = here.l in
-      let up : v ≤ n.link.r = lane-low n.terms n.link.contents m.link.r n.link.s v n.link.r n.link.pending fs rest in
-      let named-v : named m.link.a m.link.s (seq l.r) ≡ Some v = subst (λ w. named m.link.a m.link.s (seq w) ≡ Some v) (sym here.means) (names v low up) in
-      subst (λ x. Tells f x) (sym same-link)
-      (subst (λ g. Tells g (plain m.link)) (sym here.is) (subst (TellsData m.terms) (sym (noted m false n.terms l v named-v low).is) refl))
+  tells-n f fs v low here rest = grind (arith, lane-low, names, same-link)
 
   pub tells-data : (f : Parts) (fs : List Parts) → n.way ≡ f ∷ fs → Tells f m.link
   tells-data f fs e = go (subst (λ way. Lane n.terms n.link.contents m.link.r n.link.s m.link.a n.link.r n.link.pending way) e there.lane)
@@ -73,7 +65,4 @@ module _ (n m : End) (hn : Steady n) (hm : Steady m) (there : Direction n m) (ba
 pub told-so-far : (service : Service) (tei : ℕ) (first : List LineTold) (old more : List (List ℕ)) (told said : List LineTold)
     → told ≡ first ++ map (data_told service tei) old → said ≡ map (data_told service tei) more
     → told ++ said ≡ first ++ map (data_told service tei) (old ++ more)
-told-so-far service tei first old more told said is more-is =
-    ap (λ t. t ++ said) is ∙ ap (λ t. (first ++ map (data_told service tei) old) ++ t) more-is
-    ∙ append_assoc first (map (data_told service tei) old) (map (data_told service tei) more)
-    ∙ ap (λ t. first ++ t) (sym (map-append (data_told service tei) old more))
+told-so-far service tei first old more told said is more-is = grind (arith, append_assoc, map-append)

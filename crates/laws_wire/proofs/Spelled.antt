@@ -1,24 +1,13 @@
 -- A frame that a sound link gives comes as it is, and is read again.
-use Rattle.laws_wire.proofs.Vocabulary.{◌≡◌, ℕ, ◌+◌, ◌≤◌, ◌%◌, ◌⊎◌, inl, inr, false, cond, not, ◌&&◌, ◌||◌, nat_eq, nat_lt, List, length, take, slice_index, Ok, refl, ap, ◌∙◌, arith, le-ltb, ne_eqb, dropped, Side, User, Network, Parts, IsFrame, spelling, other_side, reading, reading-again, came, IsNotShort, not-short}
-use Rattle.model_bits.specs.Stream.{frame, overlong}
-use Rattle.model_bits.specs.declared.heard.Cause.TheVariants as cause
+use Rattle.laws_wire.proofs.Vocabulary.{◌≡◌, ℕ, ◌+◌, ◌≤◌, ◌⊎◌, false, not, ◌&&◌, ◌||◌, nat_eq, nat_lt, List, length, slice_index, Ok, refl, arith, le-ltb, ne_eqb, Side, Parts, IsFrame, spelling, other_side, reading, reading-again, came, IsNotShort, not-short}
+use Rattle.model_bits.specs.Stream.{frame}
 
 -- A frame that is neither too short nor too long comes as it is.
-not-three : (n : ℕ) → 4 ≤ n → nat_eq n 3 ≡ false
-not-three n h = ne_eqb n 3 (λ e. absurd (omega (arith, e, h)))
-
 by-length : (n rest : ℕ) → (4 ≤ n) ⊎ ((n ≡ 3) × (rest ≡ 3)) → (nat_lt n 3 || (nat_eq n 3 && not (nat_eq rest 3))) ≡ false
-by-length n rest (inl long) =
-    ap (λ b. b || (nat_eq n 3 && not (nat_eq rest 3))) (le-ltb n 3 (omega (arith, long)))
-    ∙ ap (λ b. b && not (nat_eq rest 3)) (not-three n long)
-by-length n rest (inr h) =
-    ap (λ n. nat_lt n 3 || (nat_eq n 3 && not (nat_eq rest 3))) h.0 ∙ ap (λ r. not (nat_eq r 3)) h.1
+by-length n rest o = grind (arith, nat_eq, le-ltb, ne_eqb, nat_lt)
 
 pub came-whole : (n201 : ℕ) (octets : List ℕ) → IsNotShort octets → length octets ≤ n201 + 4 → came n201 octets ≡ frame octets
-came-whole n201 octets not-short few =
-    ap (λ b. cond b (dropped cause.Short) (cond (nat_lt (n201 + 4) (length octets)) (overlong (take 4 octets)) (frame octets)))
-    (by-length (length octets) (slice_index octets 2 % 4) not-short)
-    ∙ ap (λ b. cond b (overlong (take 4 octets)) (frame octets)) (le-ltb (n201 + 4) (length octets) few)
+came-whole n201 octets not-short few = grind (arith, nat_lt, by-length, slice_index, le-ltb)
 
 -- A frame of this side that comes to the other as it is, and that the other reads as what it is.
 pub record Carries (side : Side) (n201 : ℕ) (f : Parts) (octets : List ℕ) : Type 0 where
@@ -32,5 +21,4 @@ carries side n201 f is few = record {
 }
 
 pub twice-other : (side : Side) → other_side (other_side side) ≡ side
-twice-other User = refl
-twice-other Network = refl
+twice-other side = grind arith

@@ -1,5 +1,5 @@
 -- A station at whose line one link alone speaks stands for an end of two links that face each other.
-use Rattle.laws_wire.proofs.Vocabulary.{◌≡◌, true≢false, ℕ, ◌+◌, ◌<◌, ◌≤◌, Bool, true, false, cond, List, [], ◌++◌, length, map, set, Option, Some, None, IfSome, option_map, Ok, refl, sym, ap, subst, ◌∙◌, ◌⊎◌, inl, inr, append-nil, All, get_or-set_same, set-get_or, map-append, All-nil, All-cons, All-append, Refusal, PoolFull, Service, Timer, Parts, spelling, reading, sapi_of, Terms, LinkTimer, frame_of, Given, End, with_link, with_sent, frame_given, given_is_frame, Config, came, hears, expiry, request, next, Answer, refused, gave, at_timer, aim_of_expiry, Line, fresh_line, place_in, link_number, terms, unless_refused, unless_refused_told, of_request, heard_side, with_given_frame, next_of, Request, at_requested, aim_of_request, sound_in, given_short, terms_in_range, Card, line_at, wants_room, after_is_sound, has_lines, line_sound, Event, Station, answered, happens, comes, told_by, frames_by, contents_of}
+use Rattle.laws_wire.proofs.Vocabulary.{arith, ◌≡◌, ℕ, ◌+◌, ◌<◌, ◌≤◌, Bool, true, false, cond, List, [], ◌++◌, length, map, set, Option, Some, None, IfSome, option_map, Ok, refl, sym, ap, subst, ◌∙◌, ◌⊎◌, inl, inr, append-nil, All, get_or-set_same, set-get_or, map-append, All-nil, All-cons, All-append, Refusal, PoolFull, Service, Timer, Parts, spelling, reading, sapi_of, Terms, LinkTimer, frame_of, Given, End, with_link, with_sent, frame_given, given_is_frame, Config, came, hears, expiry, request, next, Answer, refused, gave, at_timer, aim_of_expiry, Line, fresh_line, place_in, link_number, terms, unless_refused, unless_refused_told, of_request, heard_side, with_given_frame, next_of, Request, at_requested, aim_of_request, sound_in, given_short, terms_in_range, Card, line_at, wants_room, after_is_sound, has_lines, line_sound, Event, Station, answered, happens, comes, told_by, frames_by, contents_of}
 use Rattle.std.specs.Option.{unwrap_or}
 use Rattle.model_bits.specs.Stream.{frame}
 use Rattle.model_link.specs.Events as link
@@ -62,9 +62,7 @@ module _ (service : Service) (tei place : ℕ) (s : Station) (n : End) (h : Stan
 
   -- whatever happens at this line, the card stays sound
   there : (l' : Line) (m' : Card) → m' ≡ record m { lines = set m.lines s.line l' } → line_at s.line m' ≡ l'
-  there l' m' is =
-      ap (line_at s.line) is
-      ∙ get_or-set_same m.lines s.line l' (fresh_line c) (subst (λ k. s.line < k) (sym h.sound.count) h.within)
+  there l' m' is = grind (arith, get_or-set_same)
 
   -- so it stands for another end
   pub stands-then : (e : Event) (n' : End) → n'.terms ≡ n.terms → Speaks c service tei place n'.link (line_at s.line (after (event_at s.line e) m))
@@ -93,13 +91,10 @@ module _ (service : Service) (tei place : ℕ) (s : Station) (n : End) (h : Stan
   gives-own = gives-taken s ∙ ap (λ o. gave (option_map next_of o)) (takes-own c service tei place l own-sound n.link h.speaks)
 
   frames-are : (o : Option Given) → frames_by (gave (option_map next_of (option_map (with_given_frame c l (link_number place service) t) o))) ≡ map (spelling c.side) (frame_given t o)
-  frames-are None = refl
-  frames-are (Some g) = refl
+  frames-are o = grind arith
 
   pub gives-frames : frames_by (answered next s) ≡ map (spelling c.side) (frame_given n.terms (links.given n.terms n.link))
-  gives-frames =
-      ap frames_by gives-own ∙ frames-are (links.given t n.link)
-      ∙ ap (λ u. map (spelling c.side) (frame_given u (links.given u n.link))) (sym h.terms)
+  gives-frames = grind (arith, gives-own, frames-are)
 
   pub gives-stands : Stands c service tei place (happens next s) (with_sent n)
   unfolding lines.takes_slot
@@ -120,16 +115,10 @@ module _ (service : Service) (tei place : ℕ) (s : Station) (n : End) (h : Stan
 
   -- nothing to give
   pub still-gives-none : answered next s ≡ gave None → links.given n.terms n.link ≡ None
-  still-gives-none e = subst (λ u. links.given u n.link ≡ None) (sym h.terms) (go (links.given t n.link) (sym gives-own ∙ e))
-    where
-      go : (o : Option Given) → gave (option_map next_of (option_map (with_given_frame c l (link_number place service) t) o)) ≡ gave None → o ≡ None
-      go None e = refl
-      go (Some g) e = absurd (cc)
+  still-gives-none e = grind (arith, gives-own, option_map)
 
   pub gives-none : links.given n.terms n.link ≡ None → answered next s ≡ gave None
-  gives-none e =
-      gives-own
-      ∙ ap (λ o. gave (option_map next_of (option_map (with_given_frame c l (link_number place service) t) o))) (subst (λ u. links.given u n.link ≡ None) h.terms e)
+  gives-none e = grind (arith, gives-own, option_map)
 
   -- ---- it takes
 
@@ -150,9 +139,7 @@ module _ (service : Service) (tei place : ℕ) (s : Station) (n : End) (h : Stan
 
     pub takes-told : (comes octets s).told ≡ s.told ++ said_by (links.course n.terms (link.received (link.frame f)) n.link)
     unfolding lines.takes_slot
-    takes-told =
-        ap (λ a. s.told ++ told_by a) (comes-told c service tei place l own-sound n.link h.speaks f octets whole read sapi by)
-        ∙ ap (λ u. s.told ++ said_by (links.course u (link.received (link.frame f)) n.link)) (sym h.terms)
+    takes-told = grind (arith, comes-told, own-sound, said_by)
 
   -- ---- its layer 3 asks
 
@@ -172,9 +159,8 @@ module _ (service : Service) (tei place : ℕ) (s : Station) (n : End) (h : Stan
       pub told : s'.told ≡ s.told ++ said_by (links.course n.terms e n.link)
 
     abbrev made : Card → Answer → Station
-    made m' a = record {
+    made m' a = record s {
       card = m';
-      line = s.line;
       way = s.way ++ frames_by a;
       granted = s.granted ++ wire.unless_refused a (contents_of r);
       told = s.told ++ told_by a;
@@ -237,19 +223,7 @@ module _ (service : Service) (tei place : ℕ) (s : Station) (n : End) (h : Stan
     -- as it is answered
     pub asks-answered : is_granted (wire.answered asks s) ≡ true → Granted (happens asks s)
     unfolding own-answer own-card lines.after lines.answer
-    asks-answered granted = by-room (wants_room (event_at s.line asks) m) refl
-      where
-        no : false ≡ true → Granted (happens asks s)
-        no wrong = absurd (true≢false (sym wrong))
-
-        by-line : wants_room (event_at s.line asks) m ≡ false → (o : Option Refusal) → refusal c false r l ≡ o → Granted (happens asks s)
-        by-line room (Some why) is =
-            no (sym (ap (λ b. is_granted (cond b (refused PoolFull) (lines.answer c asks l))) room ∙ ap (λ o. is_granted (unless_refused_told o (of_request c r l))) is) ∙ granted)
-        by-line room None is = granted-by room is (found-room room)
-
-        by-room : (b : Bool) → wants_room (event_at s.line asks) m ≡ b → Granted (happens asks s)
-        by-room true is = no (sym (ap (λ b. is_granted (cond b (refused PoolFull) (lines.answer c asks l))) is) ∙ granted)
-        by-room false is = by-line is (refusal c false r l) refl
+    asks-answered granted = grind (arith, granted-by, found-room)
 
   -- ---- a timer of it expires
 
@@ -269,6 +243,4 @@ module _ (service : Service) (tei place : ℕ) (s : Station) (n : End) (h : Stan
 
     pub expires-said : (happens expires s).told ≡ s.told ++ said_by (links.course n.terms (link.expired its) n.link)
     unfolding lines.takes_slot
-    expires-said =
-        ap (λ a. s.told ++ told_by a) (expires-told c service tei place l own-sound n.link h.speaks timer its (aims l))
-        ∙ ap (λ u. s.told ++ said_by (links.course u (link.expired its) n.link)) (sym h.terms)
+    expires-said = grind (arith, expires-told, own-sound, said_by)

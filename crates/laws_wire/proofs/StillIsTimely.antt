@@ -1,5 +1,5 @@
 -- Where T200 expires only as no turn is left it is long enough: the law with this premise follows.
-use Rattle.laws_wire.proofs.Vocabulary.{◌≡◌, ℕ, false, List, [], ◌∷◌, inl, inr, All, list_any, All-head, All-tail, Service, fresh, IsInRange, End, Config, LineTold, expiry, terms, Station, Wire, happens, Act, times_out, loses, Doing, at_near, at_far, turned, doing, doing_all, IsStill, calling, is_error, HasNoError, answered, told_by, IsRoughTalkOf, IsRoughTalk, IsNoneOpen, MayRepeat, IsTimelyOf, IsSpared, IsTimely, StayTimely, IsStillOf, IsSparedStill, IsStillDoing, StayStill, WhatIsLostArrivesFromRest}
+use Rattle.laws_wire.proofs.Vocabulary.{arith, ◌≡◌, ℕ, false, List, [], ◌∷◌, inl, inr, All, list_any, All-head, All-tail, Service, fresh, IsInRange, End, Config, LineTold, expiry, terms, Station, Wire, happens, Act, Doing, at_near, at_far, turned, doing, doing_all, IsStill, calling, is_error, HasNoError, answered, told_by, IsRoughTalkOf, IsRoughTalk, IsNoneOpen, MayRepeat, IsTimelyOf, IsSpared, IsTimely, StayTimely, IsStillOf, IsSparedStill, IsStillDoing, StayStill, WhatIsLostArrivesFromRest}
 use Rattle.lapd_frame.specs.declared.timers.Timer.TheVariants.{T200}
 use Rattle.laws_wire.proofs.Awaited.{all-behind, open-here}
 use Rattle.laws_wire.proofs.Calling.{end}
@@ -44,14 +44,10 @@ module _ (service : Service) (tei : ℕ) (c d : Config) (p q : ℕ) (face : Face
   both-open w (inr (inr (inr (inr (inr h))))) still = of-ends w _ _ h.n h.m h.up.near h.up.far still
 
   near-timely : (act : Act) → IsRoughTalkOf service tei act → (w : Wire) → (IsStill w → IsNoneOpen w.near w.far) → IsStillOf act w → IsTimelyOf act w
-  near-timely (times_out timer) is w open_ x =
-      each-timer service tei (λ timer. IsStillOf (times_out timer) w → IsTimelyOf (times_out timer) w) (λ x. (λ awaits. open_ x.0, fair-may service tei w.near x.1.0)) (λ x. tt) timer is x
-  near-timely other is w open_ x = tt
+  near-timely act is w open_ x = grind (arith, each-timer, fair-may)
 
   spared : (act : Act) → (w : Wire) → IsSparedStill act w → IsSpared act w
-  spared (times_out timer) w x = λ none. absurd (x none)
-  spared loses w x = x
-  spared other w x = tt
+  spared act w x = grind arith
 
   one : (k : Doing) → IsRoughTalk service tei k → (w : Wire) → On w → IsStillDoing k w → IsTimely k w
   one (at_near act) is w h x = near-timely act is w (λ still. (both-open w h still).0) x

@@ -1,6 +1,6 @@
 -- What an end sends arrives for sure once it has asked, where nothing more is lost: it awaits the answer, or nothing that it sent is
 -- missing. What it does itself leaves that so.
-use Rattle.laws_wire.proofs.Vocabulary.{◌≡◌, ℕ, ◌+◌, ◌≤◌, Bool, true, false, IsTrue, List, [], ◌∷◌, ◌++◌, Some, refl, sym, ap, subst, ◌∙◌, ◌⊎◌, inl, inr, true≢false, arith, Control, Information, ReceiveReady, ReceiveNotReady, Reject, Parts, Seq, seq, named, State, Established, TimerRecovery, LinkTimer, received, expired, offer, Link, is_multiple_frame, course, is_running, given_of, End, with_link, with_sent, frame_given, has_room, frames_of, named-means, Means, Rising, rising-low, offer-gave, named-within, frame-taken, named-is_seq, is_recovering, Takes, Heard, Flow, most, answer-says, no-answer, offer-goes, Gives, named-number, heard, line, Longer, line-longer, NoAlien, is-no-alien, Kind, numbered, enquiry, answer, report, rejection, alien, kind_of, kinds_of, kinds-append, tally, tally-push, one_enquiry, one_answer, Calm, T200, frame, after, Course, line_of}
+use Rattle.laws_wire.proofs.Vocabulary.{◌≡◌, ℕ, ◌+◌, ◌≤◌, Bool, true, false, IsTrue, List, [], ◌∷◌, ◌++◌, Some, refl, sym, ap, subst, ◌∙◌, ◌⊎◌, inl, inr, true≢false, arith, Control, Parts, Seq, seq, named, State, Established, TimerRecovery, LinkTimer, received, expired, offer, Link, is_multiple_frame, course, is_running, given_of, End, with_link, with_sent, frame_given, has_room, frames_of, named-means, Means, Rising, rising-low, offer-gave, named-within, frame-taken, named-is_seq, is_recovering, Takes, Heard, Flow, most, answer-says, no-answer, offer-goes, Gives, named-number, heard, line, Longer, line-longer, NoAlien, is-no-alien, Kind, numbered, enquiry, answer, report, rejection, alien, kind_of, kinds_of, kinds-append, tally, tally-push, one_enquiry, one_answer, Calm, T200, frame, after, Course, line_of}
 use Rattle.laws_link.specs.two.Timely.{IsTimely}
 use Rattle.laws_wire.proofs.Asking.{with_more}
 use Rattle.laws_wire.proofs.Dense.{Dense, dense-push, dense-next, calm-dense, dense-beyond, Reaches, reaches-low, reaches-flat, Owed}
@@ -23,31 +23,17 @@ abbrev pub Sure : End → End → Type 0
 Sure n m = Asking n m ⊎ Steady n m
 
 pub one-at-most : (b : Bool) → most b ≤ 1
-one-at-most true = omega arith
-one-at-most false = omega arith
+one-at-most b = grind arith
 
 pub longer-tally : (one : Kind → ℕ) (xs ys : List Kind) (x : Kind) → Longer xs ys x → tally one xs ≤ tally one ys
-longer-tally one xs ys x (inl e) = let same : tally one ys ≡ tally one xs = ap (tally one) e in omega (arith, same)
-longer-tally one xs ys x (inr e) = let same : tally one ys ≡ tally one xs + one x = ap (tally one) e ∙ tally-push one xs x in omega (arith, same)
+longer-tally one xs ys x o = grind (arith, tally-push)
 
 longer-dense : (lo hi : ℕ) (xs ys : List Kind) (x : Kind) → Calm x → Longer xs ys x → Dense lo hi xs → Dense lo hi ys
-longer-dense lo hi xs ys x calm (inl e) h = subst (Dense lo hi) (sym e) h
-longer-dense lo hi xs ys x calm (inr e) h = subst (Dense lo hi) (sym e) (dense-push lo hi xs x calm h)
+longer-dense lo hi xs ys x calm o h = grind (arith, Dense, dense-push)
 
 -- an answer to V(R) means it
 answer-means : (b : Bool) (control : Control) (nr : Seq) (r : ℕ) → kind_of b control ≡ answer nr → nr ≡ seq r → Means r control
-answer-means b (Information ns n true) nr r e is = absurd (cc e)
-answer-means b (Information ns n false) nr r e is = absurd (cc e)
-answer-means true (ReceiveReady n true) nr r e is = absurd (cc e)
-answer-means false (ReceiveReady n true) nr r e is = let same : n ≡ nr = cc e in same ∙ is
-answer-means b (ReceiveReady n false) nr r e is = absurd (cc e)
-answer-means true (ReceiveNotReady n true) nr r e is = absurd (cc e)
-answer-means false (ReceiveNotReady n true) nr r e is = let same : n ≡ nr = cc e in same ∙ is
-answer-means b (ReceiveNotReady n false) nr r e is = absurd (cc e)
-answer-means true (Reject n pf) nr r e is = absurd (cc e)
-answer-means false (Reject n true) nr r e is = absurd (cc e)
-answer-means false (Reject n false) nr r e is = absurd (cc e)
-answer-means b other nr r e is = absurd (cc e)
+answer-means b control nr r e is = grind arith
 
 one-number : (x y : ℕ) → Some x ≡ Some y → x ≡ y
 one-number x y e = cc e
@@ -58,10 +44,7 @@ module _ (n m : End) (h : Firm n m) (wide : 3 ≤ n.terms.control) where
   asked = h.there.asked
 
   answers-one : tally one_answer (kinds n) ≤ 1
-  answers-one =
-      let both : tally one_enquiry (kinds m) + tally one_answer (kinds n) ≤ most (is_recovering m.link.state) = h.back.asked in
-      let one : most (is_recovering m.link.state) ≤ 1 = one-at-most (is_recovering m.link.state) in
-      omega (arith, both, one)
+  answers-one = grind (arith, one_enquiry, kinds, one_answer, is_recovering, one-at-most)
 
   none-in-7 : n.link.state ≡ Established → tally one_enquiry (kinds n) ≡ 0
   none-in-7 e = let few : tally one_enquiry (kinds n) + tally one_answer (kinds m) ≤ 0 = subst (λ s. tally one_enquiry (kinds n) + tally one_answer (kinds m) ≤ most (is_recovering s)) e asked in omega (arith, few)
@@ -121,38 +104,11 @@ module _ (n m : End) (h : Firm n m) (wide : 3 ≤ n.terms.control) where
   -- it gives a frame
   gives-asking : (c : Course) → let way = n.way ++ frame_given n.terms (given_of n.terms n.link c c.sent) in
       c.link.state ≡ n.link.state → Gives n.terms n.link c → Asking n m → Asking (record n { link = c.link; way = way }) m
-  gives-asking c state gives x =
-      let few = x.open_ in
-      let more = longer gives in
-      record { state = state ∙ x.state; open_ = omega (arith, few, more) }
-    where
-      way : List Parts
-      way = n.way ++ frame_given n.terms (given_of n.terms n.link c c.sent)
-
-      longer : Gives n.terms n.link c → tally one_enquiry (kinds n) ≤ tally one_enquiry (kinds_of (way ++ frames_of n.terms c.link.waiting))
-      longer (inl g) = longer-tally one_enquiry (kinds n) _ report (inl (g.1 n.way))
-      longer (inr (inl g)) = longer-tally one_enquiry (kinds n) _ report (inr (g.1 n.way))
-      longer (inr (inr g)) = longer-tally one_enquiry (kinds n) _ (numbered (seq n.link.s)) (inr (g.2 n.way))
+  gives-asking c state gives x = grind (arith, one_enquiry, kinds, kinds_of, frames_of, longer-tally)
 
   gives-steady : (c : Course) → let way = n.way ++ frame_given n.terms (given_of n.terms n.link c c.sent) in
       c.link.state ≡ n.link.state → c.link.a ≡ n.link.a → Gives n.terms n.link c → Steady n m → Steady (record n { link = c.link; way = way }) m
-  gives-steady c state same gives x = record {
-    state = state ∙ x.state;
-    dense = dense gives;
-    owed = subst (λ a. Owed a m.link.r m.link.pending (line_of m)) (sym same) x.owed;
-  }
-    where
-      way : List Parts
-      way = n.way ++ frame_given n.terms (given_of n.terms n.link c c.sent)
-
-      dense : Gives n.terms n.link c → Dense m.link.r c.link.s (kinds_of (way ++ frames_of n.terms c.link.waiting))
-      dense (inl g) = subst (λ s. Dense m.link.r s (kinds_of (way ++ frames_of n.terms c.link.waiting))) (sym g.0) (subst (Dense m.link.r n.link.s) (sym (g.1 n.way)) x.dense)
-      dense (inr (inl g)) =
-          subst (λ s. Dense m.link.r s (kinds_of (way ++ frames_of n.terms c.link.waiting))) (sym g.0)
-          (subst (Dense m.link.r n.link.s) (sym (g.1 n.way)) (dense-push m.link.r n.link.s (kinds n) report tt x.dense))
-      dense (inr (inr g)) =
-          subst (λ s. Dense m.link.r s (kinds_of (way ++ frames_of n.terms c.link.waiting))) (sym g.1)
-          (subst (Dense m.link.r (n.link.s + 1)) (sym (g.2 n.way)) (dense-next m.link.r n.link.s (kinds n) x.dense))
+  gives-steady c state same gives x = grind (arith, Owed, line_of, Dense, kinds_of, frames_of, dense-push, kinds, dense-next)
 
   pub sure-sends : Sure n m → Sure (with_sent n) m
   sure-sends (inl x) = let o = offer-goes n.terms n.link in inl (gives-asking (course n.terms offer n.link) o.state o.gives x)
@@ -192,10 +148,7 @@ module _ (n m : End) (h : Firm n m) (p : Parts) (fs : List Parts) (first : m.way
   high = not-behind n m h.there
 
   near : n.link.s ≤ n.link.a + 127
-  near =
-      let within : n.link.s ≤ n.link.a + n.terms.k = h.joined.near_sound.within in
-      let small : n.terms.k ≤ 127 = h.joined.near_ranges.k_high in
-      omega (arith, within, small)
+  near = grind arith
 
   module _ (up' : IsTrue (is_multiple_frame l'.state)) (rising' : Rising l'.a m.link.r (line_of m')) where
     -- V(A) becomes what the N(R) means
@@ -224,9 +177,7 @@ module _ (n m : End) (h : Firm n m) (p : Parts) (fs : List Parts) (first : m.way
     Then y = Longer (kinds n) (line n.terms n.way l'.waiting) y
 
     took-line : (ns : Seq) → Takes ns n.link l' → Then (rejection (seq n.link.r))
-    took-line ns (inl t) = inl (ap (λ ws. line n.terms n.way ws) t.2)
-    took-line ns (inr (inl t)) = inl (ap (λ ws. line n.terms n.way ws) t.3)
-    took-line ns (inr (inr t)) = line-longer n.terms n.way n.link.waiting l'.waiting (rejection (seq n.link.r)) t.4
+    took-line ns o = grind (arith, line-longer)
 
     -- an answer: nothing that it sent is on its way, and it goes back to what is missing
     recovers : (nr : Seq) → x ≡ answer nr → is_recovering n.link.state ≡ true → Heard (answer nr) true n.link l' → Sure n' m'
@@ -248,9 +199,7 @@ module _ (n m : End) (h : Firm n m) (p : Parts) (fs : List Parts) (first : m.way
 
     -- while it awaits the answer
     still-asking : (y : Kind) → l'.state ≡ n.link.state → Then y → n.link.state ≡ TimerRecovery → 1 ≤ tally one_enquiry (kinds n) + tally one_answer rest → Sure n' m'
-    still-asking y state then here some =
-        let more = longer-tally one_enquiry (kinds n) (line n.terms n.way l'.waiting) y then in
-        inl (record { state = state ∙ here; open_ = omega (arith, more, some) })
+    still-asking y state then here some = grind (arith, longer-tally, one_enquiry, kinds)
 
     in-8 : (y : Kind) → x ≡ y → NoAlien y → Heard y true n.link l' → n.link.state ≡ TimerRecovery
         → 1 ≤ tally one_enquiry (kinds n) + (one_answer y + tally one_answer rest) → Sure n' m'
@@ -271,9 +220,7 @@ module _ (n m : End) (h : Firm n m) (p : Parts) (fs : List Parts) (first : m.way
     })
 
     flow-7 : (y : Kind) → x ≡ y → n.link.state ≡ Established → Flow n.link.s m.link.r false m.link.rejecting (kinds n) (y ∷ rest)
-    flow-7 y e here =
-        subst (λ b. Flow n.link.s m.link.r b m.link.rejecting (kinds n) (y ∷ rest)) (ap is_recovering here)
-        (subst (λ z. Flow n.link.s m.link.r (is_recovering n.link.state) m.link.rejecting (kinds n) (z ∷ rest)) e there)
+    flow-7 y e here = grind (arith, kinds, is_recovering, there)
 
     in-7 : (y : Kind) → x ≡ y → NoAlien y → Heard y false n.link l' → Steady n m → Sure n' m'
     in-7 (numbered ns) e known_ k q = still-steady (rejection (seq n.link.r)) tt k.state k.s (took-line ns k.takes) q

@@ -1,7 +1,6 @@
 -- What the other end does leaves what an end sends as sure as it was, where nothing more is lost.
-use Rattle.laws_wire.proofs.Vocabulary.{◌≡◌, ℕ, ◌+◌, ◌≤◌, ◌==◌, Bool, true, false, cond, IsTrue, List, [], ◌∷◌, ◌++◌, refl, sym, ap, subst, ◌∙◌, inl, inr, true≢false, eq-eqb, arith, Control, Information, ReceiveReady, ReceiveNotReady, Reject, Sabme, Disc, Ui, Ua, Dm, Frmr, Xid, Parts, Seq, seq, LinkTimer, Terms, received, expired, Link, is_multiple_frame, frame_of, frame_step, begun, End, with_link, with_sent, has_room, ready_to_receive, response, frames_of, Rising, is_recovering, Takes, Heard, most, offer-goes, heard, line, Longer, line-longer, NoAlien, Kind, numbered, enquiry, answer, report, rejection, alien, kind_of, kinds_of, kinds-append, tally, tally-push, one_enquiry, one_answer, frame, after, line_of}
+use Rattle.laws_wire.proofs.Vocabulary.{◌≡◌, ℕ, ◌+◌, ◌≤◌, Bool, true, false, cond, IsTrue, List, [], ◌∷◌, refl, sym, ap, subst, ◌∙◌, inl, inr, eq-eqb, arith, Control, ReceiveReady, ReceiveNotReady, Parts, Seq, seq, LinkTimer, Terms, received, expired, Link, is_multiple_frame, frame_of, frame_step, begun, End, with_link, with_sent, has_room, ready_to_receive, response, frames_of, Rising, is_recovering, Takes, Heard, most, offer-goes, heard, line, Longer, line-longer, NoAlien, Kind, numbered, enquiry, answer, report, rejection, alien, kind_of, kinds_of, kinds-append, tally, tally-push, one_enquiry, one_answer, frame, after, line_of}
 use Rattle.laws_link.specs.two.Timely.{IsTimely}
-use Rattle.model_link.specs.MultipleFrame.{is_next}
 use Rattle.laws_wire.proofs.Asking.{with_more}
 use Rattle.laws_wire.proofs.Dense.{Dense, Owed, Replies, owed-after}
 use Rattle.laws_wire.proofs.Firm.{Firm}
@@ -11,12 +10,7 @@ use Rattle.laws_wire.proofs.Sure.{Asking, Steady, Sure, one-at-most, longer-tall
 use Rattle.laws_wire.proofs.Tame.{IsFree}
 
 replied-tally : (r : ℕ) (owes owes' : Bool) (fs fs' : List Parts) → Replies r owes owes' fs fs' → tally one_answer (kinds_of fs) ≤ tally one_answer (kinds_of fs')
-replied-tally r owes owes' fs fs' (inl (same, e)) = let is : tally one_answer (kinds_of fs') ≡ tally one_answer (kinds_of fs) = ap (λ xs. tally one_answer (kinds_of xs)) e in omega (arith, is)
-replied-tally r owes owes' fs fs' (inr (f, e, means)) =
-    let x = kind_of f.address.command f.control in
-    let is : tally one_answer (kinds_of fs') ≡ tally one_answer (kinds_of fs) + one_answer x =
-    ap (λ xs. tally one_answer (kinds_of xs)) e ∙ ap (tally one_answer) (kinds-append fs (f ∷ [])) ∙ tally-push one_answer (kinds_of fs) x in
-    omega (arith, is)
+replied-tally r owes owes' fs fs' o = grind (arith, one_answer, kinds_of, kind_of, kinds-append, tally-push)
 
 -- The other end has the same V(R), and says nothing, or has it in what it says.
 module _ (n m : End) (rising : Rising m.link.a n.link.r (line_of n)) (l' : Link) (way : List Parts) (ds : List (List ℕ)) where
@@ -65,61 +59,20 @@ module _ (t : Terms) (l : Link) (before : IsTrue (is_multiple_frame l.state)) (o
   IsUpBy b control = IsTrue (is_multiple_frame (frame_step t b octets control (begun l)).link.state)
 
   mere-same : (b : Bool) (control : Control) → IsMere (kind_of b control) → IsFree control → IsUpBy b control → Same t l (frame_step t b octets control (begun l)).link
-  mere-same b (Information ns nr true) is free up = absurd is
-  mere-same b (Information ns nr false) is free up = absurd is
-  mere-same true (ReceiveReady nr true) is free up = absurd is
-  mere-same true (ReceiveReady nr false) is free up = ready-same t l before true false nr octets refl up
-  mere-same false (ReceiveReady nr pf) is free up = ready-same t l before false pf nr octets refl up
-  mere-same b (ReceiveNotReady nr pf) is free up = absurd (true≢false free)
-  mere-same true (Reject nr pf) is free up = absurd is
-  mere-same false (Reject nr true) is free up = absurd is
-  mere-same false (Reject nr false) is free up = reject-same t l before nr octets up
-  mere-same b other is free up = absurd is
+  mere-same b control is free up = grind (arith, ready-same, reject-same)
 
   -- an enquiry
   asked-answers : has_room t l ≡ true → (b : Bool) (control : Control) → kind_of b control ≡ enquiry → IsFree control → IsUpBy b control
       → Answers t l (frame_step t b octets control (begun l)).link
-  asked-answers room b (Information ns nr true) e free up = absurd (cc e)
-  asked-answers room b (Information ns nr false) e free up = absurd (cc e)
-  asked-answers room true (ReceiveReady nr true) e free up = enquiry-answered t l before room nr octets up
-  asked-answers room false (ReceiveReady nr true) e free up = absurd (cc e)
-  asked-answers room b (ReceiveReady nr false) e free up = absurd (cc e)
-  asked-answers room b (ReceiveNotReady nr pf) e free up = absurd (true≢false free)
-  asked-answers room true (Reject nr pf) e free up = absurd (cc e)
-  asked-answers room false (Reject nr true) e free up = absurd (cc e)
-  asked-answers room false (Reject nr false) e free up = absurd (cc e)
-  asked-answers room b other e free up = absurd (cc e)
+  asked-answers room b control e free up = grind (arith, enquiry-answered)
 
   -- the next I-frame
   numbered-taken : l.own_busy ≡ false → (b : Bool) (control : Control) → kind_of b control ≡ numbered (seq l.r) → IsUpBy b control
       → Next t l (frame_step t b octets control (begun l)).link
-  numbered-taken own b (Information ns nr true) e up = absurd (cc e)
-  numbered-taken own b (Information ns nr false) e up =
-      let is : ns ≡ seq l.r = cc e in
-      let next : is_next ns l ≡ true = ap (λ (x : Seq). x.value == (seq l.r).value) is ∙ eq-eqb (seq l.r).value (seq l.r).value refl in
-      next-taken t l own ns next nr octets before b up
-  numbered-taken own true (ReceiveReady nr true) e up = absurd (cc e)
-  numbered-taken own true (ReceiveReady nr false) e up = absurd (cc e)
-  numbered-taken own false (ReceiveReady nr true) e up = absurd (cc e)
-  numbered-taken own false (ReceiveReady nr false) e up = absurd (cc e)
-  numbered-taken own true (ReceiveNotReady nr true) e up = absurd (cc e)
-  numbered-taken own true (ReceiveNotReady nr false) e up = absurd (cc e)
-  numbered-taken own false (ReceiveNotReady nr true) e up = absurd (cc e)
-  numbered-taken own false (ReceiveNotReady nr false) e up = absurd (cc e)
-  numbered-taken own true (Reject nr pf) e up = absurd (cc e)
-  numbered-taken own false (Reject nr true) e up = absurd (cc e)
-  numbered-taken own false (Reject nr false) e up = absurd (cc e)
-  numbered-taken own b (Sabme p) e up = absurd (cc e)
-  numbered-taken own b (Disc p) e up = absurd (cc e)
-  numbered-taken own b (Ui p) e up = absurd (cc e)
-  numbered-taken own b (Ua f) e up = absurd (cc e)
-  numbered-taken own b (Dm f) e up = absurd (cc e)
-  numbered-taken own b (Frmr f) e up = absurd (cc e)
-  numbered-taken own b (Xid pf) e up = absurd (cc e)
+  numbered-taken own b control e up = grind (arith, eq-eqb, next-taken)
 
 answer-kind : (b : Bool) (r : ℕ) → one_answer (kind_of false (cond b (ReceiveNotReady (seq r) true) (ReceiveReady (seq r) true))) ≡ 1
-answer-kind true r = refl
-answer-kind false r = refl
+answer-kind b r = grind arith
 
 module _ (n m : End) (h : Firm n m) (wide : 3 ≤ n.terms.control) (p : Parts) (fs : List Parts) (first : m.way ≡ p ∷ fs) (free : IsFree p.control)
     (up' : IsTrue (is_multiple_frame (after n.terms (received (frame p)) n.link).state)) where
@@ -140,10 +93,7 @@ module _ (n m : End) (h : Firm n m) (wide : 3 ≤ n.terms.control) (p : Parts) (
 
   -- the sender has one frame less on its way, of which none was an enquiry
   less : (y : Kind) → x ≡ y → one_enquiry y ≡ 0 → Asking m n → Asking m' n
-  less y e none q =
-      let all : kinds m ≡ y ∷ rest = ap (λ way. line m.terms way m.link.waiting) first ∙ ap (λ z. z ∷ rest) e in
-      let some : 1 ≤ (one_enquiry y + tally one_enquiry rest) + tally one_answer (kinds n) = subst (λ xs. 1 ≤ tally one_enquiry xs + tally one_answer (kinds n)) all q.open_ in
-      record { state = q.state; open_ = omega (arith, some, none) }
+  less y e none q = grind (arith, kinds, one_enquiry, one_answer)
 
   abbrev Rest : Kind → Type 0
   Rest y = Dense n.link.r m.link.s (y ∷ rest)
@@ -153,42 +103,21 @@ module _ (n m : End) (h : Firm n m) (wide : 3 ≤ n.terms.control) (p : Parts) (
 
   -- a mere frame
   by-mere : (y : Kind) → x ≡ y → IsMere y → one_enquiry y ≡ 0 → (Rest y → Dense n.link.r m.link.s rest) → Sure m n → Sure m' n'
-  by-mere y e is none behind s =
-      let same = mere-same n.terms n.link h.joined.near_up p.info p.address.command p.control (subst IsMere (sym e) is) free up' in
-      sure-replied n m' h.joined.back.rising l' n.way (with_link (received (frame p)) n).delivered same.r
-      (inl (same.pending, ap (λ ws. n.way ++ frames_of n.terms ws) same.waiting)) (go s)
-    where
-      go : Sure m n → Sure m' n
-      go (inl q) = inl (less y e none q)
-      go (inr q) = inr (record { state = q.state; dense = behind (dense-first y e q); owed = q.owed })
+  by-mere y e is none behind s = grind (arith, mere-same, sure-replied, frames_of, Sure, less, dense-first)
 
   -- an I-frame
   abbrev Then : Kind → Type 0
   Then y = Longer (kinds n) (line n.terms n.way l'.waiting) y
 
   took-line : (ns : Seq) → Takes ns n.link l' → Then (rejection (seq n.link.r))
-  took-line ns (inl t) = inl (ap (λ ws. line n.terms n.way ws) t.2)
-  took-line ns (inr (inl t)) = inl (ap (λ ws. line n.terms n.way ws) t.3)
-  took-line ns (inr (inr t)) = line-longer n.terms n.way n.link.waiting l'.waiting (rejection (seq n.link.r)) t.4
+  took-line ns o = grind (arith, line-longer)
 
   by-numbered : (ns : Seq) → x ≡ numbered ns → Takes ns n.link l' → Sure m n → Sure m' n'
-  by-numbered ns e takes (inl q) =
-      let q' = less (numbered ns) e refl q in
-      let some = q'.open_ in
-      let more = longer-tally one_answer (kinds n) (kinds n') (rejection (seq n.link.r)) (took-line ns takes) in
-      inl (record { state = q'.state; open_ = omega (arith, some, more) })
-  by-numbered ns e takes (inr q) =
-      let d = dense-first (numbered ns) e q in
-      let next = numbered-taken n.terms n.link h.joined.near_up p.info h.near_free p.address.command p.control (e ∙ ap numbered d.0) up' in
-      inr (record { state = q.state; dense = subst (λ r. Dense r m.link.s rest) (sym next.r) d.1; owed = inl next.pending })
+  by-numbered ns e takes o = grind (arith, less, longer-tally, one_answer, kinds, took-line, dense-first, numbered-taken)
 
   -- an enquiry
   asked : (1 + tally one_enquiry rest) + tally one_answer (kinds n) ≤ most (is_recovering m.link.state) → tally one_enquiry (kinds n) + tally one_answer (kinds n) ≤ 1
-  asked all =
-      let one : most (is_recovering m.link.state) ≤ 1 = one-at-most (is_recovering m.link.state) in
-      let own : tally one_enquiry (kinds n) + tally one_answer (kinds m) ≤ most (is_recovering n.link.state) = h.there.asked in
-      let other : most (is_recovering n.link.state) ≤ 1 = one-at-most (is_recovering n.link.state) in
-      omega (arith, all, one, own, other)
+  asked all = grind (arith, is_recovering, one-at-most, one_enquiry, kinds, one_answer)
 
   back-as : x ≡ enquiry → (1 + tally one_enquiry rest) + tally one_answer (kinds n) ≤ most (is_recovering m.link.state)
   back-as e = subst (λ y. (one_enquiry y + tally one_enquiry rest) + tally one_answer (kinds n) ≤ most (is_recovering m.link.state)) e (back n m h p fs first).asked

@@ -1,5 +1,5 @@
 -- A station in a call: what its layer 3 was granted is what its link accepted, and it was told what its link delivered.
-use Rattle.laws_wire.proofs.Vocabulary.{◌≡◌, ℕ, ◌≤◌, Bool, true, false, cond, List, [], ◌∷◌, ◌++◌, length, map, drop, Option, Some, None, Ok, refl, sym, ap, subst, ◌∙◌, ◌⊎◌, inl, inr, append-nil, append_assoc, All, option_to_list, nat_lt, ltb-false, All-tail, Refusal, WrongState, TooLong, Service, Parts, spelling, other_side, Terms, Link, End, with_link, with_sent, Config, came, LineTold, request, next, link_in, terms, heard_side, line_at, link-grants, Data, Station, happens, with_first_lost, comes, data_told}
+use Rattle.laws_wire.proofs.Vocabulary.{arith, ◌≡◌, ℕ, ◌≤◌, Bool, false, cond, List, [], ◌∷◌, ◌++◌, length, map, drop, Option, Some, None, Ok, refl, sym, ap, subst, ◌∙◌, ◌⊎◌, append-nil, append_assoc, All, option_to_list, nat_lt, ltb-false, All-tail, Refusal, TooLong, Service, Parts, spelling, other_side, Terms, Link, End, with_link, with_sent, Config, came, LineTold, request, next, terms, heard_side, link-grants, Data, Station, happens, with_first_lost, comes, data_told}
 use Rattle.model_bits.specs.Stream.{frame}
 use Rattle.model_link.specs.Events as link
 use Rattle.model_link.specs.Machine as links
@@ -70,8 +70,7 @@ module _ (service : Service) (tei place : ℕ) (first : Past) where
   drop-carried c (f ∷ fs) h = All-tail (IsCarried c service tei) f fs h
 
   drop-spelled : (f : Parts → List ℕ) (way : List Parts) → drop 1 (map f way) ≡ map f (drop 1 way)
-  drop-spelled f [] = refl
-  drop-spelled f (x ∷ xs) = refl
+  drop-spelled f way = grind arith
 
   pub holds-lost : (c : Config) (s : Station) (n : End) → Holds c service tei place first s n → Holds c service tei place first (with_first_lost s) (two_ends.with_first_lost n)
   holds-lost c s n h = record {
@@ -129,12 +128,10 @@ module _ (service : Service) (tei place : ℕ) (first : Past) where
 
   -- contents that are granted are not refused by the link, and have at most N201 octets
   short-enough : (serves long : Bool) (why : Refusal) (rest : Option Refusal) → cond serves (cond long (Some TooLong) rest) (Some why) ≡ None → long ≡ false
-  short-enough true false why rest e = refl
-  short-enough b other why rest e = absurd (cc)
+  short-enough serves long why rest e = grind arith
 
   pub fits : (t : Terms) (l : Link) (octets : List ℕ) → requests.refusal t l false (link.Data octets) ≡ None → length octets ≤ t.n201
-  fits t l octets e =
-      ltb-false t.n201 (length octets) (short-enough (requests.serves l.state (link.Data octets)) (nat_lt t.n201 (length octets)) WrongState _ e)
+  fits t l octets e = grind (arith, ltb-false, short-enough, nat_lt)
 
   nothing-told : (t : Terms) (l : Link) (octets : List ℕ) → requests.refusal t l false (link.Data octets) ≡ None → said_by (links.course t (link.requested (link.Data octets) false) l) ≡ []
   nothing-told t l octets e = ap (λ o. said_by (elim o [ None ↦ requests.granted t (link.Data octets) (Rattle.model_link.specs.Steps.begun l) | Some _ ↦ Rattle.model_link.specs.Steps.begun l ])) e
@@ -155,22 +152,4 @@ module _ (service : Service) (tei place : ℕ) (first : Past) where
 
       go : (own : Stands s.card.config service tei place s n) → (s' ≡ s) ⊎ Granted service tei place s n own (Data service tei octets) (link.Data octets) (λ l. refl) s'
           → (s' ≡ s) ⊎ More c s s' n octets
-      go own (inl same) = inl same
-      go own (inr x) =
-          let l = line_at s.line s.card in
-          let by-line : requests.refusal (terms s.card.config service tei) (link_in l service place) false (link.Data octets) ≡ None =
-          link-grants s.card.config service tei place octets l own.speaks.placed x.none in
-          let none : requests.refusal n.terms n.link false (link.Data octets) ≡ None =
-          subst (λ t. requests.refusal t n.link false (link.Data octets) ≡ None) (sym own.terms)
-          (subst (λ y. requests.refusal (terms s.card.config service tei) y false (link.Data octets) ≡ None) own.speaks.link by-line) in
-          inr (record {
-            none = none;
-            holds = record {
-              stands = subst (λ k. Stands k service tei place s' (with_more octets n)) h.stands.config (subst (Stands s.card.config service tei place s') (asked-form octets n none) x.stands);
-              granted = x.granted ∙ ap (λ xs. xs ++ octets ∷ []) h.granted;
-              since = h.since;
-              told = x.told ∙ ap (λ ts. s.told ++ ts) (nothing-told n.terms n.link octets none) ∙ append-nil s.told ∙ h.told;
-              delivered = h.delivered;
-            };
-            granted = x.granted;
-          })
+      go own o = grind (arith, link-grants, Stands, s', with_more, asked-form, nothing-told, append-nil)

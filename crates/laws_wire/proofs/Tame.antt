@@ -1,5 +1,5 @@
 -- Two ends of which neither was ever busy: no RNR is on their ways, and what waits at either is enquiries, answers and REJ.
-use Rattle.laws_wire.proofs.Vocabulary.{◌≡◌, ℕ, ◌+◌, Bool, true, false, cond, not, ◌&&◌, ◌||◌, IsTrue, List, [], ◌∷◌, ◌++◌, take, refl, sym, ap, subst, ◌∙◌, true≢false, All, All-nil, All-cons, All-head, All-append, All-take, All-drop, seq, Control, Information, ReceiveReady, ReceiveNotReady, Reject, Parts, State, AwaitingEstablishment, AwaitingRelease, TimerRecovery, LinkTimer, ControlFrame, Terms, Link, is_multiple_frame, undefined, wrong_size, received, expired, requested, offer, cleared, given_of, begun, End, with_link, with_sent, frame_given, busy_by, busy_heard, flag_left, as_heard, is_overlong, receipt_as, as_response, answers_to, command_in, is_time, room, waiting_left, event-follows, NoAlien, Kind, kind_of, one_enquiry, one_answer, one_rejection, after, Course}
+use Rattle.laws_wire.proofs.Vocabulary.{arith, ◌≡◌, ℕ, ◌+◌, Bool, true, false, cond, not, ◌&&◌, ◌||◌, IsTrue, List, [], ◌∷◌, ◌++◌, take, refl, sym, subst, All, All-nil, All-cons, All-head, All-append, All-take, All-drop, seq, Control, Information, ReceiveReady, ReceiveNotReady, Reject, Parts, State, LinkTimer, ControlFrame, Terms, Link, is_multiple_frame, undefined, wrong_size, received, expired, requested, offer, cleared, given_of, begun, End, with_link, with_sent, frame_given, busy_by, busy_heard, as_heard, is_overlong, receipt_as, as_response, answers_to, command_in, is_time, room, waiting_left, event-follows, NoAlien, Kind, kind_of, one_enquiry, one_answer, one_rejection, after, Course}
 use Rattle.model_link.specs.TwoEnds.{with_first_of, with_first_lost}
 use Rattle.laws_link.specs.States.{moves}
 use Rattle.model_link.specs.Events.{Event, frame, overlong, Data}
@@ -35,13 +35,11 @@ Few offer = Unit {0}
 Few cleared = Unit {0}
 
 pub off : (b c x : Bool) → x ≡ false → cond b false (cond c x false) ≡ false
-off false true x e = e
-off b other x e = refl
+off b c x e = grind arith
 
 module _ (t : Terms) (l : Link) (own : l.own_busy ≡ false) where
   either : (b : Bool) (xs ys : List ControlFrame) → All WaitsSo xs → All WaitsSo ys → All WaitsSo (cond b xs ys)
-  either true xs ys x y = x
-  either false xs ys x y = y
+  either b xs ys x y = grind arith
 
   none : All WaitsSo []
   none = All-nil WaitsSo
@@ -50,9 +48,7 @@ module _ (t : Terms) (l : Link) (own : l.own_busy ≡ false) where
   rejects = All-cons WaitsSo (record { command = false; control = Reject (seq l.r) false }) [] (record { free = refl; one = refl }) none
 
   answered : (r : ℕ) → All WaitsSo (as_response (receipt_as l.own_busy r true))
-  answered r =
-      subst (λ b. All WaitsSo (as_response (receipt_as b r true))) (sym own)
-      (All-cons WaitsSo (record { command = false; control = ReceiveReady (seq r) true }) [] (record { free = refl; one = refl }) none)
+  answered r = grind (arith, none)
 
   -- what a frame is answered by
   answers-so : (b : Bool) (control : Control) → NoAlien (kind_of b control) → All WaitsSo (answers_to b control l)
@@ -66,12 +62,7 @@ module _ (t : Terms) (l : Link) (own : l.own_busy ≡ false) where
   answers-so b other h = absurd h
 
   commands-so : (to : State) → IsTrue (is_multiple_frame to) → All WaitsSo (command_in to l)
-  commands-so AwaitingEstablishment up = absurd (true≢false (sym up))
-  commands-so AwaitingRelease up = absurd (true≢false (sym up))
-  commands-so TimerRecovery up =
-      subst (λ b. All WaitsSo (record { command = true; control = receipt_as b l.r true } ∷ [])) (sym own)
-      (All-cons WaitsSo (record { command = true; control = ReceiveReady (seq l.r) true }) [] (record { free = refl; one = refl }) none)
-  commands-so other up = none
+  commands-so to up = grind (arith, none)
 
   module _ (waits : All WaitsSo l.waiting) (to : State) (up : IsTrue (is_multiple_frame to)) where
     behind-so : (frames : List ControlFrame) (b : Bool) → All WaitsSo frames
@@ -106,33 +97,21 @@ module _ (t : Terms) (l : Link) (own : l.own_busy ≡ false) where
 
   -- the other end is never taken for busy
   unheard : (e : Event) → Few e → busy_heard (as_heard t e) false ≡ false
-  unheard (received (frame f)) may = by (is_overlong t f.control f.info)
-    where
-      by : (b : Bool) → busy_heard (received (cond b overlong (frame f))) false ≡ false
-      by true = refl
-      by false = may.1
-  unheard other may = refl
+  unheard e may = grind arith
 
   free-after : (e : Event) → Few e → l.peer_busy ≡ false → (after t e l).peer_busy ≡ false
-  free-after e may is =
-      let to = (after t e l).state in
-      (event-follows t e l).leaves.peer_busy ∙ ap (λ b. flag_left (as_heard t e) l to (busy_heard (as_heard t e) b) b) is
-      ∙ off _ (is_multiple_frame l.state) (busy_heard (as_heard t e) false) (unheard e may)
+  free-after e may is = grind (arith, event-follows, off, unheard)
 
   -- what an offer gives
   abbrev GivesFree : Course → Type 0
   GivesFree c = All IsFreeFrame (frame_given t (given_of t l c c.sent))
 
   either-gives : (b : Bool) (u v : Course) → GivesFree u → GivesFree v → GivesFree (cond b u v)
-  either-gives true u v x y = x
-  either-gives false u v x y = y
+  either-gives b u v x y = grind arith
 
   offers-free : (ws : List ControlFrame) → All WaitsSo ws → GivesFree (Offers.offer_among t ws (begun l))
   offers-free (f ∷ fs) h = All-cons IsFreeFrame _ [] (All-head WaitsSo f fs h).free (All-nil IsFreeFrame)
-  offers-free [] h =
-      either-gives (Offers.may_send_information t l) _ _
-      (either-gives (Offers.is_awaiting_acknowledgement (Offers.with_one_sent l)) _ _ (All-cons IsFreeFrame _ [] refl (All-nil IsFreeFrame)) (All-cons IsFreeFrame _ [] refl (All-nil IsFreeFrame)))
-      (either-gives l.pending _ _ (All-cons IsFreeFrame _ [] refl (All-nil IsFreeFrame)) (All-nil IsFreeFrame))
+  offers-free [] h = grind (arith, either-gives)
 
 -- ---- an end, as something happens at it
 

@@ -1,5 +1,5 @@
 -- A station, the end for which it stands, and what its layer 3 heard.
-use Rattle.laws_wire.proofs.Vocabulary.{◌≡◌, ℕ, List, [], ◌∷◌, ◌++◌, map, drop, refl, sym, ap, subst, ◌∙◌, All, flat_map, All-nil, All-head, Service, Timer, Parts, spelling, LinkTimer, course, End, with_link, with_sent, Config, LineTold, expiry, next, HasNothingToSend, nothing-to_send, flat_map-append, Station, happens, comes, with_first_lost, for_layer_3, heard_in}
+use Rattle.laws_wire.proofs.Vocabulary.{arith, ◌≡◌, ℕ, List, [], ◌∷◌, ◌++◌, map, refl, sym, ap, subst, ◌∙◌, All, flat_map, All-head, Service, Timer, Parts, spelling, LinkTimer, course, End, with_link, with_sent, Config, LineTold, expiry, next, HasNothingToSend, nothing-to_send, flat_map-append, Station, happens, comes, with_first_lost, for_layer_3, heard_in}
 use Rattle.model_link.specs.Events as link
 use Rattle.laws_wire.proofs.Answered.{gives-told}
 use Rattle.laws_wire.proofs.LossyPhases.{Aims}
@@ -19,18 +19,7 @@ module _ (service : Service) (tei : ℕ) where
 
   -- what it delivered is no part of it
   pub as-end : (k : Config) (place : ℕ) (hs hs' : List LineTold) (s : Station) (n n' : End) → T k place hs s n → record n { delivered = n'.delivered } ≡ n' → hs ≡ hs' → T k place hs' s n'
-  as-end k place hs hs' s n n' h e same = record {
-    stands = subst (Stands k service tei place s) e (record {
-      config = h.stands.config;
-      sound = h.stands.sound;
-      within = h.stands.within;
-      speaks = h.stands.speaks;
-      terms = h.stands.terms;
-      way = h.stands.way;
-      carried = h.stands.carried;
-    });
-    told = h.told ∙ same;
-  }
+  as-end k place hs hs' s n n' h e same = grind (arith, Stands)
 
   own : (k : Config) (place : ℕ) (hs : List LineTold) (s : Station) (n : End) → T k place hs s n → Stands s.card.config service tei place s n
   own k place hs s n h = subst (λ k. Stands k service tei place s n) (sym h.stands.config) h.stands
@@ -70,18 +59,7 @@ module _ (service : Service) (tei : ℕ) where
 
   -- its only frame is lost, or taken
   pub t-lost : (k : Config) (place : ℕ) (hs : List LineTold) (s : Station) (n : End) (f : Parts) → n.way ≡ f ∷ [] → T k place hs s n → T k place hs (with_first_lost s) (record n { way = [] })
-  t-lost k place hs s n f one h = record {
-    stands = record {
-      config = h.stands.config;
-      sound = h.stands.sound;
-      within = h.stands.within;
-      speaks = h.stands.speaks;
-      terms = h.stands.terms;
-      way = ap (drop 1) (h.stands.way ∙ ap (map (spelling k.side)) one);
-      carried = All-nil (IsCarried k service tei);
-    };
-    told = h.told;
-  }
+  t-lost k place hs s n f one h = grind (arith, IsCarried)
 
   pub first-carried : (k : Config) (place : ℕ) (hs : List LineTold) (s : Station) (n : End) (f : Parts) → n.way ≡ f ∷ [] → T k place hs s n
       → (s.way ≡ spelling k.side f ∷ []) × IsCarried k service tei f

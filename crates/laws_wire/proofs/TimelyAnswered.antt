@@ -1,5 +1,5 @@
 -- The next phases of such a call: the other end is up, and its UA waits, or is on its way before all else.
-use Rattle.laws_wire.proofs.Vocabulary.{◌≡◌, ℕ, false, List, [], ◌∷◌, ◌++◌, None, refl, sym, ap, subst, ◌∙◌, ◌⊎◌, inl, inr, All-tail, Service, Timer, Parts, spelling, Terms, TimerRecovery, LinkTimer, T203, course, given, IsInRange, End, with_link, with_sent, offer-gave, Config, expiry, request, next, terms, awaits_answer, CanRepeat, T200, refusal, Data, Station, Wire, happens, with_first_of, Act, requests, times_out, gives, takes, loses, acting, turned, IsStill, comes, confirmed, indicated, IsRoughTalkOf, is_final, IsLongEnough, IsTimelyOf, IsSpared, gives_one, is_ua, true, true≢false}
+use Rattle.laws_wire.proofs.Vocabulary.{arith, ◌≡◌, ℕ, false, List, [], ◌∷◌, None, refl, sym, ap, subst, ◌∙◌, ◌⊎◌, inl, inr, All-tail, Service, Timer, Parts, spelling, Terms, TimerRecovery, LinkTimer, T203, course, given, IsInRange, End, with_link, with_sent, offer-gave, Config, expiry, request, next, terms, awaits_answer, CanRepeat, T200, refusal, Data, Station, Wire, happens, with_first_of, Act, requests, times_out, gives, takes, loses, acting, turned, IsStill, comes, confirmed, indicated, IsRoughTalkOf, is_final, IsLongEnough, IsTimelyOf, IsSpared, gives_one, is_ua, true, true≢false}
 use Rattle.lapd_frame.specs.declared.timers.Timer.TheVariants as timers
 use Rattle.model_link.specs.Events as link
 use Rattle.laws_link.specs.two.Timely as two_links_timely
@@ -18,9 +18,7 @@ use Rattle.laws_wire.proofs.TimelyPhases as phases
 use Rattle.laws_wire.proofs.TimelyPhases.{silent-t203, ringing-open}
 
 sends-ua : (n : End) → n.link.waiting ≡ [] → n.way ≡ [] → with_sent (with_ua_waiting n) ≡ with_ua_first n
-sends-ua n waiting none =
-    (λ i. record n { link = record n.link { waiting = sym waiting i }; way = n.way ++ ua n.terms ∷ [] })
-    ∙ (λ i. record n { way = none i ++ ua n.terms ∷ [] }) ∙ (λ i. record n { way = ua n.terms ∷ sym none i })
+sends-ua n waiting none = grind (arith, ua)
 
 module _ (service : Service) (tei : ℕ) (c d : Config) (p q : ℕ) (face : Face c d) (back : Face d c) (rt : IsInRange (terms c service tei)) (ru : IsInRange (terms d service tei)) where
   abbrev t : Terms

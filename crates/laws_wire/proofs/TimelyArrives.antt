@@ -1,5 +1,5 @@
 -- Where both ends are up and no turn is left: once T200 expires, so many rounds are enough for all that is missing.
-use Rattle.laws_wire.proofs.Vocabulary.{◌≡◌, ℕ, suc, ◌+◌, ◌<◌, ◌≤◌, false, List, [], ◌∷◌, ◌++◌, length, map, take, None, refl, sym, ap, subst, ◌∙◌, ◌⊎◌, inl, inr, arith, All, length-map, length-take-le, All-nil, All-cons, Service, Timer, spelling, ControlFrame, TimerRecovery, given, End, Ends, with_link, rising-low, Config, LineTold, next, gave, IsCutOff, HasNo, Asking, Resting, expires-one, all-recovered, enquiry_with, nothing-to_send, awaits_answer, T200, line_of, Station, Wire, times_out, acting, turned, IsStill, answered, confirmed, indicated, data_told, heard_in, is_poll, is_final, StayTimely, both_expire, rounds, HasMissing, HasArrived, with_t200_expired, BothMayRepeat, is_ua, runs}
+use Rattle.laws_wire.proofs.Vocabulary.{◌≡◌, ℕ, suc, ◌+◌, ◌<◌, ◌≤◌, false, List, [], ◌∷◌, ◌++◌, length, map, take, None, refl, sym, ap, subst, ◌∙◌, arith, length-map, length-take-le, Service, Timer, spelling, ControlFrame, TimerRecovery, given, End, Ends, with_link, rising-low, Config, LineTold, next, gave, IsCutOff, HasNo, expires-one, all-recovered, enquiry_with, nothing-to_send, awaits_answer, T200, line_of, Station, Wire, times_out, acting, turned, IsStill, answered, confirmed, indicated, data_told, heard_in, is_poll, is_final, StayTimely, both_expire, rounds, HasMissing, HasArrived, with_t200_expired, BothMayRepeat, is_ua, runs}
 use Rattle.lapd_frame.specs.declared.timers.Timer.TheVariants as timers
 use Rattle.model_link.specs.Events as link
 use Rattle.laws_link.specs.two.CutOff as cut_off
@@ -14,41 +14,14 @@ use Rattle.laws_wire.proofs.TimelyUp.{IsHushed, hushed, none-waits, none-of, non
 
 -- all frames on the way were lost
 pub cut-off : (n m : End) → Loose n m → n.link.own_busy ≡ false → n.link.waiting ≡ [] → n.way ≡ [] → (n.link.state ≡ TimerRecovery → n.link.repeats < n.terms.n200) → IsCutOff n m
-cut-off n m h free waiting way repeats = record {
-  ranges = h.joined.near_ranges;
-  sound = h.joined.near_sound;
-  timed = h.near_sane.timed;
-  heeds = h.near_sane.heeds;
-  up = h.joined.near_up;
-  repeats = repeats;
-  own_busy = free;
-  waiting = waiting;
-  way = way;
-  low = rising-low n.link.a m.link.r (line_of m) h.joined.there.rising;
-  high = not-behind n m h.there;
-  delivered = h.joined.there.delivered;
-  sizes = subst (λ i. All (λ octets. length octets ≤ i) n.link.contents) h.same h.joined.near_sound.sizes;
-}
+cut-off n m h free waiting way repeats = grind (arith, rising-low, line_of, not-behind)
 
 abbrev IsNone : ControlFrame → Type 0
 IsNone f = is_final f.command f.control ≡ false
 
 -- once it expires nothing waits but an enquiry
 pub no-answer : (n m : End) → IsCutOff n m → HasNo is_final (with_link (link.expired T200) n)
-no-answer n m h = go (expires-one false n m h)
-  where
-    n' : End
-    n' = with_link (link.expired T200) n
-
-    go : Asking false n n' ⊎ Resting false n n' → HasNo is_final n'
-    go (inl x) = record {
-      waiting = subst (All IsNone) (sym (ap (λ (y : End). y.link.waiting) x.is)) (All-cons IsNone (enquiry_with false n.link.r) [] refl (All-nil IsNone));
-      way = subst (All (λ f. is_final f.address.command f.control ≡ false)) (sym h.way) (All-nil (λ f. is_final f.address.command f.control ≡ false));
-    }
-    go (inr x) = record {
-      waiting = subst (All IsNone) (sym (ap (λ (y : End). y.link.waiting) x.is)) (All-nil IsNone);
-      way = subst (All (λ f. is_final f.address.command f.control ≡ false)) (sym h.way) (All-nil (λ f. is_final f.address.command f.control ≡ false));
-    }
+no-answer n m h = grind (arith, expires-one, enquiry_with)
 
 -- what is missing at layer 3 is missing at the link
 fewer : (a b r g d u : ℕ) → a ≡ g → b ≡ d → d ≡ r → suc a ≤ suc b + u → g ≤ r + u
@@ -57,10 +30,7 @@ fewer a b r g d u e e' e'' h = omega (arith, e, e', e'', h)
 module _ (service : Service) (tei : ℕ) where
   missing : (first : LineTold) (r u : ℕ) (granted delivered : List (List ℕ)) (heard : List LineTold) → r ≤ length granted → delivered ≡ take r granted
       → heard ≡ (first ∷ []) ++ map (data_told service tei) delivered → length (first ∷ map (data_told service tei) granted) ≤ length heard + u → length granted ≤ r + u
-  missing first r u granted delivered heard low is here h =
-      fewer (length (map (data_told service tei) granted)) (length (map (data_told service tei) delivered)) r (length granted) (length delivered) u
-      (length-map granted (data_told service tei)) (length-map delivered (data_told service tei)) (ap length is ∙ length-take-le r granted low)
-      (subst (λ ts. length (first ∷ map (data_told service tei) granted) ≤ length ts + u) here h)
+  missing first r u granted delivered heard low is here h = grind (arith, fewer, length-map, length-take-le)
 
   module _ (c d : Config) (p q : ℕ) (face : Face c d) (back : Face d c) where
     abbrev Up : Wire → End → End → Type 0

@@ -1,8 +1,8 @@
 -- The ends as an establishment leaves them, and what changes nothing at a station or on a wire.
-use Rattle.laws_wire.proofs.Vocabulary.{◌≡◌, ℕ, ◌≤◌, false, not, List, [], ◌∷◌, length, None, refl, sym, ap, subst, ◌∙◌, inl, inr, true≢false, arith, option_map_or, All-nil, Service, Terms, Link, fresh, given, serves, IsInRange, End, Begins, joined-first, Config, LineTold, request, next, Line, link_in, link_of, place_in, bad_tei, no_link, wrong_state, first_that_holds, Request, aim_of_request, at_requested, line_at, passed, IsReady, IsTaken, Flow, refusal, IsSound, Data, SetBusy, ClearBusy, Station, Wire, happens, loses, acting}
+use Rattle.laws_wire.proofs.Vocabulary.{◌≡◌, ℕ, ◌≤◌, false, not, List, [], ◌∷◌, length, None, refl, sym, ap, subst, ◌∙◌, inl, inr, true≢false, arith, option_map_or, All-nil, Service, Terms, Link, fresh, given, serves, IsInRange, End, joined-first, Config, LineTold, request, next, Line, link_in, link_of, place_in, bad_tei, no_link, wrong_state, first_that_holds, Request, aim_of_request, at_requested, line_at, passed, IsReady, IsTaken, Flow, refusal, IsSound, Data, SetBusy, ClearBusy, Station, Wire, happens, loses, acting}
 use Rattle.model_link.specs.Events as link
 use Rattle.model_line.specs.Refusal.{refusal as refusal_on}
-use Rattle.laws_wire.proofs.Calling.{end, called, sound-caller, sound-called}
+use Rattle.laws_wire.proofs.Calling.{end, called, sound-called}
 use Rattle.laws_wire.proofs.Tame.{WaitsSo, IsFreeFrame}
 use Rattle.laws_wire.proofs.Firm.{Firm}
 use Rattle.laws_wire.proofs.Held.{Held, held-given, held-asked}
@@ -14,14 +14,7 @@ pub use Rattle.laws_wire.proofs.Answered.{lost-none, takes-none}
 -- ---- the ends
 
 nothing-yet : Flow 0 0 false false [] []
-nothing-yet = record {
-  order = omega arith;
-  one = omega arith;
-  rejected = λ some. absurd (omega (arith, some));
-  asked = omega arith;
-  last = λ some. tt;
-  answered = λ some. absurd (omega (arith, some));
-}
+nothing-yet = grind (arith, answered)
 
 module _ (t u : Terms) (rt : IsInRange t) (ru : IsInRange u) (same : t.n201 ≡ u.n201) (k : ℕ) where
   abbrev pub near_end : End
@@ -31,67 +24,10 @@ module _ (t u : Terms) (rt : IsInRange t) (ru : IsInRange u) (same : t.n201 ≡ 
   far_end = end u called []
 
   sound-answered : IsSound t (answered k [])
-  sound-answered =
-      let s = sound-caller t rt in
-      record {
-        ordered = s.ordered;
-        accepted = s.accepted;
-        within = s.within;
-        settled = s.settled;
-        queue = s.queue;
-        ring = s.ring;
-        owes_nothing = s.owes_nothing;
-        sizes = s.sizes;
-        frames = s.frames;
-      }
-
-  near-begins : Begins near_end
-  near-begins = record {
-    ranges = rt;
-    sound = sound-answered;
-    state = refl;
-    a = refl;
-    s = refl;
-    r = refl;
-    peer_busy = refl;
-    own_busy = refl;
-    rejecting = refl;
-    pending = refl;
-    waiting = refl;
-    way = refl;
-    delivered = refl;
-  }
-
-  far-begins : Begins far_end
-  far-begins = record {
-    ranges = ru;
-    sound = sound-called u ru;
-    state = refl;
-    a = refl;
-    s = refl;
-    r = refl;
-    peer_busy = refl;
-    own_busy = refl;
-    rejecting = refl;
-    pending = refl;
-    waiting = refl;
-    way = refl;
-    delivered = refl;
-  }
+  sound-answered = grind arith
 
   pub firm-first : Firm near_end far_end
-  firm-first = record {
-    joined = joined-first near_end far_end near-begins far-begins;
-    same = same;
-    there = nothing-yet;
-    back = nothing-yet;
-    near_sane = record { timed = record { timer = inr (refl, omega arith) }; heeds = record { heeds = λ busy. absurd (true≢false (sym busy)) } };
-    far_sane = record { timed = record { timer = inr (refl, omega arith) }; heeds = record { heeds = λ busy. absurd (true≢false (sym busy)) } };
-    near_free = refl;
-    far_free = refl;
-    near_tame = record { peer_free = refl; waiting = All-nil WaitsSo; way = All-nil IsFreeFrame };
-    far_tame = record { peer_free = refl; waiting = All-nil WaitsSo; way = All-nil IsFreeFrame };
-  }
+  firm-first = grind (arith, joined-first, sound-answered, sound-called, nothing-yet, WaitsSo, IsFreeFrame)
 
   pub near-ready : IsReady near_end
   near-ready = record { ranges = rt; sound = sound-answered; state = refl; peer_busy = refl; own_busy = refl; waiting = refl; way = refl }

@@ -77,8 +77,7 @@ module _ (service : Service) (tei : ℕ) (c d : Config) (p q : ℕ) (face : Face
     down-acts none (requests r) is = for-data service tei (λ r. Rings ws way (turned (acting (requests r) (turned w)))) down-asks r is
     down-acts none (times_out timer) is = for-timer service tei (λ timer. Rings ws way (turned (acting (times_out timer) (turned w)))) down-expires timer is
     down-acts none gives is = down-gives
-    down-acts none takes is =
-        subst (λ w'. Rings ws way (turned w')) (sym (takes-none (turned w) (empty service tei c p [] w.near (end t (ringing h.repeats ws) way) h.near none))) h
+    down-acts none takes is = grind (arith, takes-none, empty, end, ringing)
     down-acts none loses is = down-loses
 
   -- nothing waits, and nothing is on its way

@@ -1,5 +1,5 @@
 -- A whole call in which timers are timely: both ends stay up, and what was lost arrives.
-use Rattle.laws_wire.proofs.Vocabulary.{◌≡◌, ℕ, suc, ◌+◌, ◌<◌, Bool, true, false, cond, not, ◌&&◌, ◌||◌, ◌==◌, List, [], ◌∷◌, ◌++◌, length, map, is_some, refl, sym, ap, subst, ◌∙◌, inl, inr, eqb-true, arith, All, flat_map, list_any, and_parts, or_parts, All-nil, All-cons, All-head, All-tail, list_any-append, Note, Service, Timer, Parts, ControlFrame, fresh, IsInRange, Ends, Config, LineTold, terms, all-arrived, T200, nothing, Station, Wire, Act, gives, takes, times_out, Doing, at_near, at_far, acting, turned, doing, doing_all, IsStill, calling, confirmed, indicated, data_told, for_layer_3, heard_in, is_error, HasNoError, IsRoughTalkOf, IsRoughTalk, is_poll, is_final, IsTimelyOf, IsSpared, IsTimely, StayTimely, both_expire, round, rounds, HasNoErrors, BothMayRepeat, HasMissing, HasArrived, with_t200_expired, WhatIsLostArrives, is_ua}
+use Rattle.laws_wire.proofs.Vocabulary.{◌≡◌, ℕ, suc, ◌+◌, ◌<◌, Bool, true, false, ◌==◌, List, [], ◌∷◌, ◌++◌, length, map, is_some, refl, sym, ap, subst, ◌∙◌, inl, inr, eqb-true, arith, All, flat_map, list_any, and_parts, or_parts, All-nil, All-cons, All-head, All-tail, list_any-append, Note, Service, Timer, Parts, ControlFrame, fresh, IsInRange, Ends, Config, LineTold, terms, all-arrived, T200, Station, Wire, Act, gives, takes, times_out, Doing, at_near, at_far, acting, turned, doing, doing_all, IsStill, calling, confirmed, indicated, data_told, for_layer_3, heard_in, is_error, HasNoError, IsRoughTalkOf, IsRoughTalk, is_poll, is_final, IsTimelyOf, IsSpared, IsTimely, StayTimely, both_expire, round, rounds, HasNoErrors, BothMayRepeat, HasMissing, HasArrived, with_t200_expired, WhatIsLostArrives, is_ua}
 use Rattle.lapd_frame.specs.declared.timers.Timer.TheVariants as timers
 use Rattle.laws_link.specs.two.Rounds as two_links
 use Rattle.laws_wire.proofs.Awaited.{NoneOpen, gives-none-of, open-here}
@@ -29,12 +29,7 @@ no-notes [] e = refl
 no-notes (n ∷ ns) e = let none : suc (length ns) ≡ 0 = eqb-true (length (n ∷ ns)) 0 e in absurd (omega (arith, none))
 
 one-fair : (t : LineTold) → list_any has_error (for_layer_3 t) ≡ false → IsFair t
-one-fair t = go (length t.notes == 0 && not (is_some t.contents)) refl
-  where
-    go : (b : Bool) → (length t.notes == 0 && not (is_some t.contents)) ≡ b
-        → list_any has_error (cond b [] (record nothing { notes = t.notes; contents = t.contents } ∷ [])) ≡ false → IsFair t
-    go true e h = no-notes t.notes (and_parts (length t.notes == 0) (not (is_some t.contents)) e).0
-    go false e h = (or_parts (has_error t) false h).0
+one-fair t = grind (arith, is_some, no-notes, and_parts, or_parts)
 
 all-fair : (ts : List LineTold) → list_any has_error (flat_map for_layer_3 ts) ≡ false → All IsFair ts
 all-fair [] h = All-nil IsFair
@@ -50,8 +45,7 @@ nothing-heard : (s : Station) → heard_in s ≡ [] → HasNoError s
 nothing-heard s e = all-fair s.told (ap (list_any has_error) e)
 
 fair-heard : (service : Service) (tei : ℕ) (first : LineTold) (xs : List (List ℕ)) (s : Station) → IsFair first → heard_in s ≡ (first ∷ []) ++ map (data_told service tei) xs → HasNoError s
-fair-heard service tei first xs s fair e =
-    all-fair s.told (ap (list_any has_error) e ∙ ap (λ b. b || list_any has_error (map (data_told service tei) xs)) fair ∙ data-fair service tei xs)
+fair-heard service tei first xs s fair e = grind (arith, all-fair, data-fair)
 
 -- ---- the run
 

@@ -1,5 +1,5 @@
 -- Two stations whose links are up, where each timer is timely: both stay up, whatever is lost.
-use Rattle.laws_wire.proofs.Vocabulary.{◌≡◌, ℕ, zero, suc, Bool, true, false, IsTrue, List, [], ◌∷◌, map, Some, None, refl, sym, ap, subst, ◌∙◌, ◌⊎◌, inl, inr, append-nil, true≢false, All, All-nil, All-head, Control, Service, Timer, Parts, spelling, ControlFrame, TimerRecovery, LinkTimer, T203, is_multiple_frame, course, given, is_running, awaits_answer, IsTimed, IsTimedIn, runs, End, Ends, with_link, with_sent, offer-gave, Config, LineTold, expiry, request, next, gave, CanRepeat, nothing-given, T200, Data, Station, Wire, happens, with_first_of, Act, requests, times_out, gives, takes, loses, acting, turned, doing_all, answered, IsOfLink, IsRoughTalkOf, is_poll, is_final, IsTimelyOf, round, rounds, Joined, Flows}
+use Rattle.laws_wire.proofs.Vocabulary.{arith, ◌≡◌, ℕ, Bool, true, false, IsTrue, List, [], ◌∷◌, map, Some, None, refl, sym, ap, subst, ◌∙◌, ◌⊎◌, inl, inr, append-nil, true≢false, All, All-head, Control, Service, Timer, Parts, spelling, TimerRecovery, LinkTimer, T203, is_multiple_frame, course, given, is_running, awaits_answer, IsTimed, IsTimedIn, runs, End, Ends, with_link, with_sent, offer-gave, Config, LineTold, expiry, request, next, gave, CanRepeat, nothing-given, T200, Data, Station, Wire, happens, with_first_of, Act, requests, times_out, gives, takes, loses, acting, turned, answered, IsOfLink, IsRoughTalkOf, is_poll, is_final, IsTimelyOf, rounds, Joined, Flows}
 use Rattle.lapd_frame.specs.declared.timers.Timer.TheVariants as timers
 use Rattle.model_link.specs.Events as link
 use Rattle.model_link.specs.TwoEnds as two_ends
@@ -12,6 +12,7 @@ use Rattle.laws_wire.proofs.Firm.{timer-quiet, Firm, firm-turned, firm-sends, fi
 use Rattle.laws_wire.proofs.Held.{Held, held-given, held-lost, held-taken, held-expired, Grants, held-asked}
 use Rattle.laws_wire.proofs.Joint.{timer-goes}
 use Rattle.laws_wire.proofs.LossyPhases.{for-data, Aims}
+use Rattle.laws_wire.proofs.RoundsKeep.{rounds-keep}
 use Rattle.laws_wire.proofs.Standing.{IsCarried, Stands, still-gives-none}
 use Rattle.laws_wire.proofs.Talking.{Face, no-way}
 
@@ -39,10 +40,7 @@ module _ (service : Service) (tei : ℕ) where
 
   -- so no answer is to come
   pub none-of : (asked : Bool → Control → Bool) (n : End) → n.link.waiting ≡ [] → n.way ≡ [] → two_links_timely.HasNo asked n
-  none-of asked n waiting way = record {
-    waiting = subst (All (λ (f : ControlFrame). asked f.command f.control ≡ false)) (sym waiting) (All-nil (λ (f : ControlFrame). asked f.command f.control ≡ false));
-    way = subst (All (λ (f : Parts). asked f.address.command f.control ≡ false)) (sym way) (All-nil (λ (f : Parts). asked f.address.command f.control ≡ false));
-  }
+  none-of asked n waiting way = grind arith
 
   pub none-open : (n m : End) → IsHushed n → IsHushed m → NoneOpen n m
   none-open n m h k = record { commands = none-of is_poll n (none-waits n h) h.way; responses = none-of is_final m (none-waits m k) k.way }
@@ -169,35 +167,14 @@ module _ (service : Service) (tei : ℕ) where
     up-acts takes is x = record { n = two_ends.with_first_of m.way n; m = two_ends.with_first_lost m; up = up-takes }
     up-acts loses is x = record { n = two_ends.with_first_lost n; m = m; up = up-loses }
 
-  -- a round, and so many
+  -- so it is round after round
+  abbrev At : Config → Config → ℕ → ℕ → List LineTold → List LineTold → Wire → Ends → Type 0
+  At c d p q past other w e = BothUp c d p q past other w e.near e.far
+
   module _ (c d : Config) (p q : ℕ) (face : Face c d) (back : Face d c) (past other : List LineTold) where
-    abbrev At : Wire → Ends → Type 0
-    At w e = BothUp c d p q past other w e.near e.far
-
-    far-gives : (w : Wire) (e : Ends) → At w e → At (turned (acting gives (turned w))) (two_ends.doing (two_ends.at_far two_ends.sends) e)
-    far-gives w e h =
-        turned-up d c q p other past (acting gives (turned w)) (with_sent e.far) e.near (up-gives d c q p back other past (turned w) e.far e.near (turned-up c d p q past other w e.near e.far h))
-
-    far-takes : (w : Wire) (e : Ends) → At w e → At (turned (acting takes (turned w))) (two_ends.doing (two_ends.at_far two_ends.receives) e)
-    far-takes w e h =
-        turned-up d c q p other past (acting takes (turned w)) (two_ends.with_first_of e.near.way e.far) (two_ends.with_first_lost e.near)
-        (up-takes d c q p back other past (turned w) e.far e.near (turned-up c d p q past other w e.near e.far h))
-
-    pub round-up : (w : Wire) (e : Ends) → At w e → At (doing_all round w) (two_links.round e)
-    unfolding doing_all
-    round-up w e h =
-        let w1 = acting gives w in
-        let e1 = two_ends.doing (two_ends.at_near two_ends.sends) e in
-        let h1 : At w1 e1 = up-gives c d p q face past other w e.near e.far h in
-        let w2 = turned (acting takes (turned w1)) in
-        let e2 = two_ends.doing (two_ends.at_far two_ends.receives) e1 in
-        let h2 : At w2 e2 = far-takes w1 e1 h1 in
-        let w3 = turned (acting gives (turned w2)) in
-        let e3 = two_ends.doing (two_ends.at_far two_ends.sends) e2 in
-        let h3 : At w3 e3 = far-gives w2 e2 h2 in
-        up-takes c d p q face past other w3 e3.near e3.far h3
-
-    pub rounds-up : (k : ℕ) (w : Wire) (e : Ends) → At w e → At (rounds k w) (two_links.rounds k e)
-    unfolding rounds two_links.rounds
-    rounds-up zero w e h = h
-    rounds-up (suc k) w e h = rounds-up k (doing_all round w) (two_links.round e) (round-up w e h)
+    pub rounds-up : (k : ℕ) (w : Wire) (e : Ends) → At c d p q past other w e → At c d p q past other (rounds k w) (two_links.rounds k e)
+    rounds-up =
+        rounds-keep (At c d p q past other) (At d c q p other past)
+        (λ w e. turned-up c d p q past other w e.near e.far) (λ w e. turned-up d c q p other past w e.near e.far)
+        (λ w e. up-gives c d p q face past other w e.near e.far) (λ w e. up-gives d c q p back other past w e.near e.far)
+        (λ w e. up-takes c d p q face past other w e.near e.far) (λ w e. up-takes d c q p back other past w e.near e.far)

@@ -1,5 +1,5 @@
 -- Turns alone, in any order.
-use Rattle.laws_wire.proofs.Vocabulary.{◌≡◌, ℕ, ◌+◌, ◌*◌, ◌≤◌, List, [], ◌∷◌, ◌++◌, refl, sym, ap, subst, ◌∙◌, arith, if◌then◌else◌, All, All-head, All-tail, All-weaker, All-append, Service, Config, terms, Wire, gives, takes, Doing, at_near, at_far, doing, doing_all, is_turn, turns, calling, CanCall, GivesOrTakes, granted_of, IsRoughTalk, HasNoErrors, moves, expiries, expiries_in, most_frames, IsTimely, StayTimely, LosesNothing}
+use Rattle.laws_wire.proofs.Vocabulary.{◌≡◌, ℕ, ◌+◌, ◌*◌, ◌≤◌, List, [], ◌∷◌, ◌++◌, refl, sym, ap, subst, ◌∙◌, arith, if◌then◌else◌, All, All-head, All-tail, All-weaker, All-append, Service, Config, terms, Wire, Doing, doing, doing_all, is_turn, turns, calling, CanCall, GivesOrTakes, granted_of, IsRoughTalk, HasNoErrors, moves, expiries, expiries_in, most_frames, IsTimely, StayTimely, LosesNothing}
 use Rattle.laws_wire.specs.Resting.{is_move}
 use Rattle.laws_wire.proofs.RestedRounds.{doing-append, moves-append, expiries-append, near-gives, near-takes, far-gives, far-takes}
 use Rattle.laws_wire.proofs.RestedRun.{moves-come-to-an-end}
@@ -8,52 +8,22 @@ use Rattle.laws_wire.proofs.TimelyRun.{what-is-lost-arrives}
 -- ---- one turn
 
 of-link : (service : Service) (tei : ℕ) (d : Doing) → GivesOrTakes d → IsRoughTalk service tei d
-of-link service tei (at_near gives) t = tt
-of-link service tei (at_near takes) t = tt
-of-link service tei (at_far gives) t = tt
-of-link service tei (at_far takes) t = tt
-of-link service tei (at_near other) t = absurd t
-of-link service tei (at_far other) t = absurd t
+of-link service tei d t = grind arith
 
 loses-none : (d : Doing) → GivesOrTakes d → LosesNothing d
-loses-none (at_near gives) t = tt
-loses-none (at_near takes) t = tt
-loses-none (at_far gives) t = tt
-loses-none (at_far takes) t = tt
-loses-none (at_near other) t = absurd t
-loses-none (at_far other) t = absurd t
+loses-none d t = grind arith
 
 in-time : (d : Doing) (w : Wire) → GivesOrTakes d → IsTimely d w
-in-time (at_near gives) w t = tt
-in-time (at_near takes) w t = tt
-in-time (at_far gives) w t = (tt, tt)
-in-time (at_far takes) w t = (tt, tt)
-in-time (at_near other) w t = absurd t
-in-time (at_far other) w t = absurd t
+in-time d w t = grind arith
 
 no-expiry : (d : Doing) → GivesOrTakes d → expiries_in d ≡ 0
-no-expiry (at_near gives) t = refl
-no-expiry (at_near takes) t = refl
-no-expiry (at_far gives) t = refl
-no-expiry (at_far takes) t = refl
-no-expiry (at_near other) t = absurd t
-no-expiry (at_far other) t = absurd t
+no-expiry d t = grind arith
 
 no-grant : (d : Doing) (w : Wire) → GivesOrTakes d → granted_of (doing d w) ≡ granted_of w
-no-grant (at_near gives) w t = near-gives w
-no-grant (at_near takes) w t = near-takes w
-no-grant (at_far gives) w t = far-gives w
-no-grant (at_far takes) w t = far-takes w
-no-grant (at_near other) w t = absurd t
-no-grant (at_far other) w t = absurd t
+no-grant d w t = grind (arith, near-gives, near-takes, far-gives, far-takes)
 
 is-move : (d : Doing) (w : Wire) → GivesOrTakes d → is_turn d w ≡ is_move d w
-is-move (at_near gives) w t = refl
-is-move (at_near takes) w t = refl
-is-move (at_far gives) w t = refl
-is-move (at_far takes) w t = refl
-is-move (at_near other) w t = absurd t
-is-move (at_far other) w t = absurd t
+is-move d w t = grind arith
 
 -- ---- and many
 

@@ -1,7 +1,7 @@
 -- Two cards on one wire, one of which was granted more before: nothing else is other.
-use Rattle.laws_wire.proofs.Vocabulary.{◌≡◌, ℕ, suc, ◌==◌, Bool, true, false, cond, List, [], ◌∷◌, ◌++◌, length, refl, sym, ap, append-nil, append_assoc, eqb-true, arith, LineTold, Service, End, Config, expiry, request, next, zero, subst, All, flat_map, Control, Parts, NoneGoes, giving, Event, is_poll, is_final, IsTimelyOf}
+use Rattle.laws_wire.proofs.Vocabulary.{◌≡◌, ℕ, suc, ◌==◌, Bool, false, cond, List, [], ◌∷◌, ◌++◌, length, refl, append-nil, append_assoc, eqb-true, arith, LineTold, Service, End, Config, next, zero, subst, All, flat_map, Control, Parts, NoneGoes, giving, Event, is_poll, is_final, IsTimelyOf}
 use Rattle.lapd_frame.specs.declared.timers.Timer.TheVariants as timers
-use Rattle.laws_wire.specs.Wire.{Station, Wire, answered, happens, with_first_of, with_first_lost, unless_refused, contents_in, Act, requests, times_out, gives, takes, loses, acting, turned}
+use Rattle.laws_wire.specs.Wire.{Station, Wire, answered, happens, unless_refused, contents_in, Act, requests, times_out, gives, takes, loses, acting, turned}
 use Rattle.laws_wire.specs.Facing.{read_as}
 use Rattle.laws_wire.proofs.Standing.{Stands}
 
@@ -17,30 +17,17 @@ pub regranted : (k : Config) (service : Service) (tei place : ℕ) (s : Station)
 regranted k service tei place s n g h = record { config = h.config; sound = h.sound; within = h.within; speaks = h.speaks; terms = h.terms; way = h.way; carried = h.carried }
 
 pub split : (b : Bool) (g : List (List ℕ)) → g ≡ cond b g [] ++ cond b [] g
-split true g = sym (append-nil g)
-split false g = refl
+split b g = grind (arith, append-nil)
 
 -- what happens there
 happens-before : (e : Event) (g : List (List ℕ)) (s : Station) → happens e (before g s) ≡ before g (happens e s)
 happens-before e g s = λ i. record (happens e s) { granted = append_assoc g s.granted (unless_refused (answered e s) (contents_in e)) i }
 
-first-before : (ways : List (List ℕ)) (g : List (List ℕ)) (s : Station) → with_first_of ways (before g s) ≡ before g (with_first_of ways s)
-first-before [] g s = refl
-first-before (octets ∷ more) g s = happens-before _ g s
-
 pub far-before : (act : Act) (g : List (List ℕ)) (w : Wire) → turned (acting act (turned (with_before g w))) ≡ with_before g (turned (acting act (turned w)))
-far-before (requests r) g w = ap (λ s. record { near = w.near; far = s }) (happens-before (request r) g w.far)
-far-before (times_out timer) g w = ap (λ s. record { near = w.near; far = s }) (happens-before (expiry timer) g w.far)
-far-before gives g w = ap (λ s. record { near = w.near; far = s }) (happens-before next g w.far)
-far-before takes g w = ap (λ s. record { near = with_first_lost w.near; far = s }) (first-before w.near.way g w.far)
-far-before loses g w = refl
+far-before act g w = grind (arith, append_assoc, happens-before)
 
 pub near-before : (act : Act) (g : List (List ℕ)) (w : Wire) → acting act (with_before g w) ≡ with_before g (acting act w)
-near-before (requests r) g w = refl
-near-before (times_out timer) g w = refl
-near-before gives g w = refl
-near-before takes g w = refl
-near-before loses g w = refl
+near-before act g w = grind arith
 
 -- what T200 asks does not look at it
 giving-with : (k : ℕ) (g : List (List ℕ)) (s : Station) → (giving k (record s { granted = g })).way ≡ (giving k s).way
@@ -64,20 +51,12 @@ timely-with loses s r g g' x = x
 
 -- the other end acts alone, unless one takes
 pub far-same : (act : Act) → (act ≡ takes → ⊥) → (w : Wire) → (acting act w).far ≡ w.far
-far-same (requests r) not w = refl
-far-same (times_out timer) not w = refl
-far-same gives not w = refl
-far-same takes not w = absurd (not refl)
-far-same loses not w = refl
+far-same act o w = grind arith
 
 -- ---- a list that has something
 
 pub some-told : (t : LineTold) (ts : List LineTold) → (length (t ∷ ts) == 0) ≡ false
-some-told t ts = go (length (t ∷ ts) == 0) refl
-  where
-    go : (b : Bool) → (length (t ∷ ts) == 0) ≡ b → b ≡ false
-    go true e = let none : suc (length ts) ≡ 0 = eqb-true (length (t ∷ ts)) 0 e in absurd (omega (arith, none))
-    go false e = refl
+some-told t ts = grind (arith, eqb-true)
 
 pub more-told : (ts : List LineTold) (t : LineTold) → (length (ts ++ t ∷ []) == 0) ≡ false
 more-told [] t = some-told t []

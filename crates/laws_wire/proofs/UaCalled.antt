@@ -1,5 +1,5 @@
 -- The link of the end that is called, before its caller is up: it has received nothing but SABME.
-use Rattle.laws_wire.proofs.Vocabulary.{◌≡◌, ℕ, ◌+◌, ◌<◌, ◌≤◌, ◌==◌, Bool, true, false, cond, not, ◌||◌, IsTrue, List, [], ◌∷◌, ◌++◌, take, drop, Option, None, Some, refl, sym, ap, subst, ◌∙◌, ◌⊎◌, inl, inr, append_assoc, true≢false, eqb-true, ne_eqb, arith, flat_map, list_any, All, All-head, front_rest, Refusal, Parts, State, TeiAssigned, AwaitingEstablishment, AwaitingRelease, Established, TimerRecovery, Sabme, LinkTimer, T203, ControlFrame, Terms, Link, is_multiple_frame, has_outstanding, received, requested, expired, offer, course, given, given_of, is_running, begun, frame_given, IsInRange, IsWaitingFrame, End, frame_of, frames_of, frames-append, kinds-append, has_room, Reports, still, at-first, offer-gave, Calm, Kind, enquiry, report, kind_of, kinds_of, tally, tally-push, one_enquiry, one_answer, one_rejection, line, most, is_recovering, Sane, IsMildRequest, frame, after, Course, ◌then◌, for_layer_3}
+use Rattle.laws_wire.proofs.Vocabulary.{◌≡◌, ℕ, ◌+◌, ◌<◌, ◌≤◌, Bool, true, false, cond, not, ◌||◌, IsTrue, List, [], ◌∷◌, ◌++◌, Option, None, Some, refl, sym, ap, subst, ◌∙◌, ◌⊎◌, inl, inr, append_assoc, eqb-true, ne_eqb, arith, flat_map, list_any, All, All-head, front_rest, Refusal, Parts, State, TeiAssigned, AwaitingEstablishment, AwaitingRelease, Established, TimerRecovery, Sabme, LinkTimer, T203, ControlFrame, Terms, Link, is_multiple_frame, has_outstanding, received, requested, expired, offer, course, given, given_of, is_running, begun, frame_given, IsInRange, IsWaitingFrame, End, frame_of, frames_of, frames-append, kinds-append, has_room, Reports, still, at-first, offer-gave, Calm, Kind, enquiry, report, kind_of, kinds_of, tally, tally-push, one_enquiry, one_answer, one_rejection, line, most, is_recovering, Sane, IsMildRequest, frame, after, Course, ◌then◌, for_layer_3}
 use Rattle.lapd_frame.specs.declared.notes.ErrorCode.TheVariants as code
 use Rattle.model_link.specs.Events as link
 use Rattle.model_link.specs.Machine
@@ -49,37 +49,19 @@ same-most : (x y : State) → y ≡ x → most (is_recovering x) ≤ most (is_re
 same-most x y e = subst (λ z. most (is_recovering x) ≤ most (is_recovering z)) (sym e) (omega arith)
 
 most-one : (b : Bool) → most b ≤ 1
-most-one true = omega arith
-most-one false = omega arith
+most-one b = grind arith
 
 module _ (t : Terms) (l : Link) (up : IsTrue (is_multiple_frame l.state)) (sane : Sane l) (Free : Type 0) where
   -- own busy begins or ends
   module _ (rq : link.Request) (mild : IsMildRequest rq) (g : Goes l (after t (requested rq false) l) []) where
     pub busy-stirs : Stirs Free l (after t (requested rq false) l)
-    busy-stirs =
-        let went = asks-went t l up rq false mild in
-        record {
-          up = request-stays t l up rq false mild;
-          a = g.still;
-          s = went.s;
-          r = went.r;
-          rejecting = went.rejecting;
-          sane = sane-after t (requested rq false) l sane;
-          reports = g.reports;
-          grown = by-went went.state went.waiting;
-        }
-      where
-        by-went : (after t (requested rq false) l).state ≡ l.state → Grown l.waiting (after t (requested rq false) l).waiting report → Grows Free l (after t (requested rq false) l)
-        by-went state (inl same) = inl (same, same-most l.state _ state)
-        by-went state (inr (f, e, k)) = inr (inl (f, e, k, state))
+    busy-stirs = grind (arith, asks-went, request-stays, sane-after, Grown, same-most)
 
   by-refusal : (rq : link.Request) (o : Option Refusal) → Goes l (requests.granted t rq (begun l)).link [] → Goes l (elim o as (λ o. Course) [ None ↦ requests.granted t rq (begun l) | Some _ ↦ begun l ]).link []
-  by-refusal rq None g = g
-  by-refusal rq (Some why) g = stays t l
+  by-refusal rq o g = grind (arith, stays)
 
   up-either : (b : Bool) (u v : Course) → IsTrue (is_multiple_frame u.link.state) → IsTrue (is_multiple_frame v.link.state) → IsTrue (is_multiple_frame (cond b u v).link.state)
-  up-either true u v x y = x
-  up-either false u v x y = y
+  up-either b u v x y = grind arith
 
   pub busy-goes : Goes l (after t (requested link.SetBusy false) l) []
   busy-goes =
@@ -116,16 +98,7 @@ module _ (t : Terms) (l : Link) (up : IsTrue (is_multiple_frame l.state)) (sane 
           reports = g.reports;
           grown = inl (k.waiting, same-most l.state _ k.state);
         }
-        by (inr (run, a)) g stays = record {
-          up = stays;
-          a = g.still;
-          s = a.s;
-          r = a.r;
-          rejecting = a.rejecting;
-          sane = sane-after t (expired timer) l sane;
-          reports = g.reports;
-          grown = asks a.state run a.waiting;
-        }
+        by (inr (run, a)) g stays = grind (arith, sane-after, asks)
 
 -- ---- UA waits, and this behind it: reports, and in state 8 an enquiry; no I-frame went
 
@@ -321,25 +294,13 @@ module _ (t u : Terms) (l : Link) (up : IsTrue (is_multiple_frame l.state)) (zer
   last b = (Words.zero_numbers then Words.start T203 then Words.enter Established) (cond b ((Words.discard then Words.establish_indication t) first) first)
 
   by-sabme : (here : State) → IsTrue (is_multiple_frame here) → Machine.frame_in here t true [] (Sabme true) (begun l) ≡ last (has_outstanding l)
-  by-sabme TeiAssigned is = absurd (true≢false (sym is))
-  by-sabme AwaitingEstablishment is = absurd (true≢false (sym is))
-  by-sabme AwaitingRelease is = absurd (true≢false (sym is))
-  by-sabme Established is = refl
-  by-sabme TimerRecovery is = refl
+  by-sabme here is = grind arith
 
   not-false : (b : Bool) → not b ≡ false → b ≡ true
-  not-false true e = refl
-  not-false false e = absurd (true≢false e)
+  not-false b e = grind arith
 
   by-outstanding : (b : Bool) → has_outstanding l ≡ b → Renews t l b (last b)
-  by-outstanding true e = record {
-    link = ap (λ cs. again (has_room t l) cs l) (ap (λ a. drop a (take a l.contents)) zero);
-    told = refl;
-    delivered = refl;
-  }
-  by-outstanding false e =
-      let none : l.s ≡ 0 = eqb-true l.s l.a (not-false (l.s == l.a) e) ∙ zero in
-      record { link = ap (λ s. again (has_room t l) (drop s l.contents) l) none; told = refl; delivered = refl }
+  by-outstanding b e = grind (arith, eqb-true, not-false)
 
   pub renews : Renews t l (has_outstanding l) (course t (received (frame (sabme u))) l)
   renews = subst (Renews t l (has_outstanding l)) (sym (by-sabme l.state up)) (by-outstanding (has_outstanding l) refl)
@@ -350,12 +311,10 @@ abbrev pub informs : List Parts → Bool
 informs fs = list_any (λ (f : Parts). is_information f.control) fs
 
 or-false : (b : Bool) → (b || false) ≡ b
-or-false true = refl
-or-false false = refl
+or-false b = grind arith
 
 or-true : (b : Bool) → (b || true) ≡ true
-or-true true = refl
-or-true false = refl
+or-true b = grind arith
 
 module _ (t : Terms) (l : Link) (sound : IsSound t l) where
   abbrev Informs : Course → Type 0
@@ -364,14 +323,10 @@ module _ (t : Terms) (l : Link) (sound : IsSound t l) where
       ⊎ ((informs (frame_given t (given_of t l c c.sent)) ≡ true) × (c.link.s ≡ l.s + 1))
 
   either-informs : (b : Bool) (u v : Course) → Informs u → Informs v → Informs (cond b u v)
-  either-informs true u v x y = x
-  either-informs false u v x y = y
+  either-informs b u v x y = grind arith
 
   by-waiting : (ws : List ControlFrame) → l.waiting ≡ ws → Informs (Offers.offer_among t ws (begun l))
-  by-waiting [] e =
-      either-informs (Offers.may_send_information t l) _ _
-      (either-informs (Offers.is_awaiting_acknowledgement (Offers.with_one_sent l)) _ _ (inr (refl, refl)) (inr (refl, refl)))
-      (either-informs l.pending _ _ (inl (refl, refl)) (inl (refl, refl)))
+  by-waiting [] e = grind (arith, either-informs)
   by-waiting (f ∷ fs) e =
       inl (ap (λ b. b || false) (All-head (IsWaitingFrame t) f fs (subst (All (IsWaitingFrame t)) e sound.frames)).without_contents, refl)
 
@@ -382,7 +337,4 @@ module _ (t : Terms) (l : Link) (sound : IsSound t l) where
       kept = (offer-gave t ranges l sound l.waiting refl).acknowledged
 
       go : Informs (course t offer l) → (b || informs (frame_given t (given t l))) ≡ has_outstanding (after t offer l)
-      go (inl (none, same)) = ap (λ x. b || x) none ∙ or-false b ∙ e ∙ (λ i. not (sym same i == sym kept i))
-      go (inr (some, more)) =
-          let low : l.a ≤ l.s = sound.ordered in
-          ap (λ x. b || x) some ∙ or-true b ∙ sym (ap not (ne_eqb (after t offer l).s (after t offer l).a (λ same. let same' : (after t offer l).s ≡ (after t offer l).a = same in omega (arith, low, more, kept, same'))))
+      go o = grind (arith, or-false, kept, or-true, ne_eqb)

@@ -1,5 +1,5 @@
 -- The station of the end that is called, whose link is up: what requests, timers and calls for the next frame do there.
-use Rattle.laws_wire.proofs.Vocabulary.{◌≡◌, ℕ, ◌==◌, Bool, true, false, cond, not, ◌||◌, IsTrue, List, [], ◌∷◌, ◌++◌, None, refl, sym, ap, subst, ◌∙◌, ◌⊎◌, inl, inr, arith, Service, Timer, TimerRecovery, LinkTimer, T203, ControlFrame, Terms, Link, Course, begun, after, is_multiple_frame, has_outstanding, given, is_running, awaits_answer, no-reports, End, with_link, frame_given, Config, LineTold, expiry, request, Line, place_in, Request, at_requested, aim_of_request, IsMildRequest, CanRepeat, HasNo, Sane, T200, Data, SetBusy, ClearBusy, Station, Wire, happens, times_out, contents_of, IsOfLink, is_poll, IsTimelyOf}
+use Rattle.laws_wire.proofs.Vocabulary.{◌≡◌, ℕ, ◌==◌, Bool, true, false, not, ◌||◌, IsTrue, List, [], ◌∷◌, ◌++◌, None, refl, sym, ap, subst, ◌∙◌, ◌⊎◌, inl, inr, arith, Service, Timer, TimerRecovery, LinkTimer, T203, ControlFrame, Terms, Link, Course, begun, after, is_multiple_frame, has_outstanding, given, is_running, awaits_answer, no-reports, End, with_link, frame_given, Config, LineTold, expiry, request, Line, place_in, Request, at_requested, aim_of_request, IsMildRequest, CanRepeat, HasNo, Sane, T200, Data, SetBusy, ClearBusy, Station, Wire, happens, times_out, contents_of, IsOfLink, is_poll, IsTimelyOf}
 use Rattle.lapd_frame.specs.declared.timers.Timer.TheVariants as timers
 use Rattle.model_link.specs.Events as link
 use Rattle.model_link.specs.Machine as links
@@ -24,15 +24,8 @@ module _ (t : Terms) (l : Link) where
   abbrev Keeps : Course → Type 0
   Keeps c = c.link.rejecting ≡ l.rejecting
 
-  either-keeps : (b : Bool) (u v : Course) → Keeps u → Keeps v → Keeps (cond b u v)
-  either-keeps true u v x y = x
-  either-keeps false u v x y = y
-
   among-keeps : (ws : List ControlFrame) → Keeps (Offers.offer_among t ws (begun l))
-  among-keeps [] =
-      either-keeps (Offers.may_send_information t l) _ _ (either-keeps (Offers.is_awaiting_acknowledgement (Offers.with_one_sent l)) _ _ refl refl)
-      (either-keeps l.pending _ _ refl refl)
-  among-keeps (f ∷ fs) = refl
+  among-keeps ws = grind arith
 
   pub offer-rejecting : (after t link.offer l).rejecting ≡ l.rejecting
   offer-rejecting = among-keeps l.waiting
@@ -47,8 +40,7 @@ module _ (service : Service) (tei : ℕ) (d : Config) (q : ℕ) (past : List Lin
   gives-informs = ap informs (gives-reads service tei d q s M h.stands)
 
   pub flagged-at : (b : Bool) → b ≡ has_outstanding M.link → (b || gives_information s) ≡ has_outstanding (links.after M.terms link.offer M.link)
-  flagged-at b e =
-      ap (λ x. b || x) gives-informs ∙ flagged M.terms M.link (sound service tei q past d s M h) b (ranges service tei q past d s M h) e
+  flagged-at b e = grind (arith, gives-informs, flagged, sound, ranges)
 
   pub none-informed : given M.terms M.link ≡ None → gives_information s ≡ false
   none-informed none = gives-informs ∙ ap (λ o. informs (frame_given M.terms o)) none

@@ -1,5 +1,5 @@
 -- A call in which UA may be lost and an end may be busy comes to rest, from any time of it on.
-use Rattle.laws_wire.proofs.Vocabulary.{◌≡◌, ◌≢◌, ℕ, zero, suc, ◌+◌, ◌-◌, ◌*◌, ◌≤◌, List, [], ◌∷◌, ◌++◌, length, map, drop, refl, sym, ap, subst, ◌∙◌, arith, length-append, length-map, All, All-cons, All-nil, All-append, Service, IsInRange, Config, LineTold, terms, Wire, times_out, gives, takes, at_near, at_far, Doing, doing, doing_all, IsStill, calling, CanCall, granted_of, confirmed, data_told, heard_in, IsFullTalk, StayPatient, MayRepeat, BothMayRepeat, with_t200_expired, rounds, expiries, most_frames, expiry}
+use Rattle.laws_wire.proofs.Vocabulary.{◌≡◌, ◌≢◌, ℕ, zero, suc, ◌+◌, ◌-◌, ◌*◌, ◌≤◌, List, [], ◌∷◌, ◌++◌, length, map, refl, sym, ap, subst, ◌∙◌, arith, length-append, length-map, All, All-cons, All-nil, All-append, Service, IsInRange, Config, LineTold, terms, Wire, times_out, gives, takes, at_near, at_far, Doing, doing, doing_all, IsStill, calling, CanCall, granted_of, confirmed, data_told, heard_in, IsFullTalk, StayPatient, MayRepeat, BothMayRepeat, with_t200_expired, rounds, expiries, most_frames, expiry}
 use Rattle.std.proofs.lemmas.List.{length-drop}
 use Rattle.lapd_frame.specs.declared.timers.Timer.TheVariants as timers
 use Rattle.laws_wire.specs.Answering.{IsAtRest, Called, uncalled, seen, all_kept, all_of_calls, ToldSo}
@@ -83,9 +83,7 @@ module _ (service : Service) (c d : Config) (line other tei k : ℕ) (can : CanC
     law = lossy-calls-come-through service c d line other tei ds can talk patient
 
     near-left : length (all_kept service tei x w.far) ≤ length (heard_in w.near) + granted_of w
-    near-left =
-        few-left (length w.far.granted) x.given_up (granted_of w) (length (all_kept service tei x w.far)) (length (heard_in w.near))
-        (ap suc (length-map (drop x.given_up w.far.granted) (data_told service tei) ∙ length-drop x.given_up w.far.granted)) (omega arith) (some-heard (heard_in w.near) told)
+    near-left = grind (arith, few-left, length-map, length-drop, some-heard)
 
     far-left : length (all_of_calls service tei x w.near) ≤ length (heard_in w.far) + granted_of w
     far-left =
@@ -168,17 +166,11 @@ module _ (service : Service) (c d : Config) (line other tei k : ℕ) (ds : List 
 
       free-3 : busy ds3 first none_busy ≡ none_busy
       unfolding busy
-      free-3 =
-          busy-append ds2 (many r) first none_busy ∙ none-busier r (doing_all ds2 first) (busy ds2 first none_busy) ∙ busy-append ds1 calls first none_busy
-          ∙ busy-append ds (many n) first none_busy ∙ none-busier n at (busy ds first none_busy) ∙ free
+      free-3 = grind (arith, busy-append, many, none-busier)
 
       expired-3 : expiries ds3 ≡ expiries ds + 1
       unfolding expiries
-      expired-3 =
-          let a : expiries ds3 ≡ expiries ds2 + expiries (many r) = expiries-append ds2 (many r) in
-          let b : expiries ds2 ≡ expiries ds1 + 1 = expiries-append ds1 calls in
-          let e : expiries ds1 ≡ expiries ds + expiries (many n) = expiries-append ds (many n) in
-          omega (arith, a, b, e, none-expires r, none-expires n)
+      expired-3 = grind (arith, many, expiries-append, none-expires)
 
       granted-3 : granted_of (rounds r at-2) ≡ granted_of at
       unfolding doing_all
@@ -188,11 +180,7 @@ module _ (service : Service) (c d : Config) (line other tei k : ℕ) (ds : List 
 
       reports-3 : reports ds3 first ≡ reports ds first
       unfolding reports
-      reports-3 =
-          let a : reports ds3 first ≡ reports ds2 first + reports (many r) (doing_all ds2 first) = reports-append ds2 (many r) first in
-          let b : reports ds2 first ≡ reports ds1 first + 0 = reports-append ds1 calls first in
-          let e : reports ds1 first ≡ reports ds first + reports (many n) at = reports-append ds (many n) first in
-          omega (arith, a, b, e, none-reported r (doing_all ds2 first), none-reported n at)
+      reports-3 = grind (arith, many, reports-append, none-reported)
 
       most-3 : most_moves k ds3 first ≡ most_moves k ds first + 2 * (k + 2)
       most-3 = (λ i. 2 * (most_frames k (expired-3 i) (granted_of (is-3 i)) + reports-3 i)) ∙ (λ i. 2 * (most_frames k (expiries ds + 1) (granted-3 i) + reports ds first)) ∙ sum (granted_of at) (expiries ds) (reports ds first)

@@ -1,8 +1,8 @@
 -- What is known of the links of a call in which UA may be lost: each runs the timer that it needs, and is busy only as it was asked.
-use Rattle.laws_wire.proofs.Vocabulary.{◌≡◌, ℕ, ◌*◌, ◌≤◌, Bool, true, false, cond, not, ◌&&◌, ◌||◌, IsTrue, List, [], ◌∷◌, ◌++◌, map, refl, sym, ap, subst, ◌∙◌, ◌⊎◌, inl, inr, true≢false, All, All-head, All-tail, Service, Timer, Parts, spelling, LinkTimer, Terms, Link, is_multiple_frame, after, IsInRange, End, with_link, Config, expiry, request, terms, next, Line, place_in, Request, Data, SetBusy, ClearBusy, at_requested, aim_of_request, sound-after, Station, Wire, happens, comes, with_first_of, Act, requests, times_out, gives, takes, loses, acting, turned, Doing, at_near, at_far, doing, doing_all, link_of, is_granted, answered, IsAsked, IsFullTalkOf, IsFullTalk, StayPatient}
+use Rattle.laws_wire.proofs.Vocabulary.{arith, ◌≡◌, ℕ, ◌*◌, ◌≤◌, Bool, true, false, cond, not, ◌&&◌, ◌||◌, IsTrue, List, [], ◌∷◌, ◌++◌, map, refl, sym, ap, subst, ◌∙◌, ◌⊎◌, inl, inr, true≢false, All, All-head, All-tail, Service, Timer, Parts, spelling, LinkTimer, Terms, Link, is_multiple_frame, after, IsInRange, End, with_link, Config, expiry, request, terms, next, Line, place_in, Request, Data, SetBusy, ClearBusy, at_requested, aim_of_request, sound-after, Station, Wire, happens, comes, with_first_of, Act, requests, times_out, gives, takes, loses, acting, turned, Doing, at_near, at_far, doing, doing_all, link_of, is_granted, answered, IsAsked, IsFullTalkOf, IsFullTalk, StayPatient}
 use Rattle.model_link.specs.Events as link
 use Rattle.laws_link.specs.Flags.{busy_asked}
-use Rattle.laws_link.specs.States.{as_heard, state_after, is_anew}
+use Rattle.laws_link.specs.States.{as_heard}
 use Rattle.laws_link.specs.two.Needed.{HasItsTimer}
 use Rattle.laws_link.proofs.EachRow.{each-row}
 use Rattle.laws_link.proofs.OfTwo.Needing.{timely-after}
@@ -21,40 +21,25 @@ use Rattle.laws_wire.proofs.UaWeighs.{seen-in}
 -- ---- own busy of a link
 
 flag-off : (anew up x y : Bool) → x ≡ false → y ≡ false → cond anew false (cond up x y) ≡ false
-flag-off true up x y e f = refl
-flag-off false true x y e f = e
-flag-off false false x y e f = f
+flag-off anew up x y e f = grind arith
 
 flag-up : (anew y : Bool) → cond anew false (cond true false y) ≡ false
-flag-up true y = refl
-flag-up false y = refl
+flag-up anew y = grind arith
 
 module _ (t : Terms) (l : Link) where
   -- no event but a request for it brings it on
   stays-free : (e : link.Event) → busy_asked (as_heard t e) false ≡ false → l.own_busy ≡ false → (after t e l).own_busy ≡ false
-  stays-free e mild free =
-      let to = state_after t (as_heard t e) l in
-      ap (λ x. x.own_busy) (each-row t e l)
-      ∙ flag-off (is_anew (as_heard t e) l.state to) (is_multiple_frame l.state) (busy_asked (as_heard t e) l.own_busy) l.own_busy
-      (ap (λ b. busy_asked (as_heard t e) b) free ∙ mild) free
+  stays-free e mild free = grind (arith, each-row, flag-off)
 
   -- and it is over once it was asked for in states 7 and 8
   ready-free : IsTrue (is_multiple_frame l.state) → (after t (link.requested link.ClearBusy false) l).own_busy ≡ false
-  ready-free up =
-      let e = link.requested link.ClearBusy false in
-      let to = state_after t e l in
-      ap (λ x. x.own_busy) (each-row t e l) ∙ ap (λ u. cond (is_anew e l.state to) false (cond u false l.own_busy)) up ∙ flag-up (is_anew e l.state to) l.own_busy
+  ready-free up = grind (arith, each-row, flag-up)
 
 or-none : (a b : Bool) → (a || b) ≡ false → (a ≡ false) × (b ≡ false)
-or-none false b e = (refl, e)
-or-none true b e = absurd (true≢false e)
+or-none a b e = grind arith
 
 and-not : (a b : Bool) → (a && not b) ≡ false → b ≡ false → a ≡ false
-and-not a b e none = and-true a (ap (λ b. a && not b) (sym none) ∙ e)
-  where
-    and-true : (a : Bool) → (a && true) ≡ false → a ≡ false
-    and-true true e = absurd (true≢false e)
-    and-true false e = refl
+and-not a b e none = grind arith
 
 module _ (service : Service) (tei : ℕ) where
   pub record Known (b : Bool) (s : Station) : Type 0 where
@@ -79,8 +64,7 @@ module _ (service : Service) (tei : ℕ) where
         timely-after n.terms e n.link sound (sound-after n.terms (link-ranges service tei p s n own) e n.link sound) (subst HasItsTimer is known.timed)
 
     by-event : (e : link.Event) (s' : Station) (b' : Bool) → (link_of service tei (line_of s')) ≡ after n.terms e n.link → (b' ≡ false → (after n.terms e n.link).own_busy ≡ false) → Known b' s'
-    by-event e s' b' to calm =
-        record { timed = subst HasItsTimer (sym to) (timed e); free = λ none. ap (λ l. l.own_busy) to ∙ calm none }
+    by-event e s' b' to calm = grind (arith, timed, free)
 
     mild : (e : link.Event) → busy_asked (as_heard n.terms e) false ≡ false → b ≡ false → (after n.terms e n.link).own_busy ≡ false
     mild e none off = stays-free n.terms n.link e none (free off)
@@ -166,8 +150,7 @@ module _ (service : Service) (tei : ℕ) where
     near-known loses is = record { timed = known.timed; free = known.free }
 
   pub far-known : (act : Act) (w : Wire) (b : Bool) → Known b w.far → Known b (acting act w).far
-  far-known takes w b h = record { timed = h.timed; free = h.free }
-  far-known other w b h = h
+  far-known act w b h = grind (arith, timed, free)
 
   -- ---- and in a whole call
 

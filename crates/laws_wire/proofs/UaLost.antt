@@ -1,6 +1,6 @@
 -- The phases of a call in which UA may be lost: one end rings, and the other is down; or it is up, and its UA waits, is on its way, or is
 -- not to come.
-use Rattle.laws_wire.proofs.Vocabulary.{◌≡◌, ℕ, ◌+◌, ◌<◌, ◌≤◌, Bool, true, false, not, List, [], ◌∷◌, ◌++◌, map, take, drop, refl, sym, ap, subst, ◌∙◌, ◌⊎◌, inl, inr, true≢false, arith, nat_lt, option_to_list, lt-ltb, All, All-head, All-drop, Control, Information, ReceiveReady, ReceiveNotReady, Reject, Sabme, Disc, Ui, Ua, Dm, Frmr, Xid, Service, Parts, spelling, ControlFrame, Terms, course, IsInRange, End, with_link, Config, LineTold, expiry, request, terms, Request, Means, Rising, kind_of, one_enquiry, tally, line, HasNo, T200, Course, Station, Wire, happens, comes, with_first_of, with_first_lost, Act, requests, times_out, gives, takes, loses, acting, confirmed, heard_in, is_poll, IsTimelyOf, IsFullTalkOf}
+use Rattle.laws_wire.proofs.Vocabulary.{◌≡◌, ℕ, ◌+◌, ◌<◌, ◌≤◌, Bool, true, false, not, List, [], ◌∷◌, ◌++◌, map, take, drop, refl, sym, ap, subst, ◌∙◌, ◌⊎◌, inl, inr, arith, nat_lt, option_to_list, lt-ltb, All, All-head, All-drop, Control, Service, Parts, spelling, ControlFrame, Terms, course, IsInRange, End, with_link, Config, LineTold, expiry, request, terms, Request, Means, Rising, kind_of, one_enquiry, tally, line, HasNo, T200, Course, Station, Wire, happens, comes, with_first_of, with_first_lost, Act, requests, times_out, gives, takes, loses, acting, confirmed, heard_in, is_poll, IsTimelyOf, IsFullTalkOf}
 use Rattle.lapd_frame.specs.declared.notes.Note.TheVariants as notes
 use Rattle.lapd_frame.specs.declared.timers.Timer.TheVariants as timers
 use Rattle.model_link.specs.Events as link
@@ -22,26 +22,7 @@ behind before n = record n { way = before ++ n.way }
 
 -- where no enquiry waits, none is counted
 not-poll : (command : Bool) (control : Control) → is_poll command control ≡ false → one_enquiry (kind_of command control) ≡ 0
-not-poll true (ReceiveReady nr true) e = absurd (true≢false e)
-not-poll true (ReceiveReady nr false) e = refl
-not-poll true (ReceiveNotReady nr true) e = absurd (true≢false e)
-not-poll true (ReceiveNotReady nr false) e = refl
-not-poll false (ReceiveReady nr true) e = refl
-not-poll false (ReceiveReady nr false) e = refl
-not-poll false (ReceiveNotReady nr true) e = refl
-not-poll false (ReceiveNotReady nr false) e = refl
-not-poll command (Information ns nr true) e = refl
-not-poll command (Information ns nr false) e = refl
-not-poll true (Reject nr pf) e = refl
-not-poll false (Reject nr true) e = refl
-not-poll false (Reject nr false) e = refl
-not-poll command (Sabme p) e = refl
-not-poll command (Disc p) e = refl
-not-poll command (Ui p) e = refl
-not-poll command (Ua f) e = refl
-not-poll command (Dm f) e = refl
-not-poll command (Frmr f) e = refl
-not-poll command (Xid pf) e = refl
+not-poll command control e = grind arith
 
 abbrev pub IsNoPoll : ControlFrame → Type 0
 IsNoPoll f = is_poll f.command f.control ≡ false
@@ -55,8 +36,7 @@ none-asked t (f ∷ fs) h =
 
 -- the first of a line is lost
 pub rising-drop : (r : ℕ) (way rest : List Parts) → Rising 0 r (way ++ rest) → Rising 0 r (drop 1 way ++ rest)
-rising-drop r [] rest h = h
-rising-drop r (f ∷ fs) rest (m, up, means, more) = rising-lower m 0 r (fs ++ rest) up more
+rising-drop r way rest h = grind (arith, rising-lower)
 
 pub taken-none : (r : ℕ) (xs : List (List ℕ)) → xs ≡ [] → r ≤ 0 → take r xs ≡ []
 taken-none r xs e le = ap (λ xs. take r xs) e ∙ (let none : r ≡ 0 = omega (arith, le) in ap (λ r. take r []) none)
@@ -221,6 +201,4 @@ module _ (service : Service) (tei : ℕ) (c d : Config) (p q : ℕ) (face : Face
     near-rings w (inr (inr h)) act not is x = calling w h act not is x
 
     pub not-told : (w : Wire) → Ringing P w → heard_in w.near ≡ []
-    not-told w (inl h) = h.near.heard
-    not-told w (inr (inl h)) = h.near.heard
-    not-told w (inr (inr h)) = h.near.heard
+    not-told w o = grind arith

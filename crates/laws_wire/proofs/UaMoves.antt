@@ -1,5 +1,5 @@
 -- A whole call in which UA may be lost and an end may be busy: its moves are bounded, and rounds lead to where no turn is left.
-use Rattle.laws_wire.proofs.Vocabulary.{◌≡◌, ℕ, zero, suc, ◌+◌, ◌*◌, ◌≤◌, List, [], ◌∷◌, ◌++◌, length, refl, sym, ap, subst, ◌∙◌, arith, length-append, All, All-nil, All-cons, All-append, All-head, All-tail, Service, fresh, IsInRange, Config, terms, cond, Wire, Act, requests, times_out, gives, takes, loses, Doing, at_near, at_far, turned, doing, doing_all, IsStill, calling, CanCall, granted_of, IsFullTalk, StayPatient, rounds, is_move_of, moves, expiries_of, expiries, most_frames}
+use Rattle.laws_wire.proofs.Vocabulary.{◌≡◌, ℕ, zero, suc, ◌+◌, ◌*◌, ◌≤◌, List, [], ◌∷◌, ◌++◌, length, refl, sym, ap, subst, ◌∙◌, arith, length-append, All, All-nil, All-append, All-head, All-tail, Service, fresh, IsInRange, Config, terms, cond, Wire, Act, gives, takes, Doing, at_near, at_far, turned, doing, doing_all, IsStill, calling, CanCall, granted_of, IsFullTalk, StayPatient, rounds, is_move_of, moves, expiries_of, expiries, most_frames}
 use Rattle.laws_wire.specs.Answering.{IsPatient, Called, uncalled, seeing, seen}
 use Rattle.laws_wire.specs.Settling.{reports_of, reports, most_moves, LossyMovesComeToAnEnd, LossyRoundsComeToRest}
 use Rattle.laws_wire.proofs.Calling.{asked, end}
@@ -21,9 +21,7 @@ module _ (service : Service) (tei v : ℕ) where
   pays-before : (moved expired reported : ℕ) (g : List (List ℕ)) (w w' : Wire) → P moved expired reported w w' → P moved expired reported (with_before g w) (with_before g w')
   pays-before moved expired reported g w w' h = record {
     more = h.more;
-    granted =
-        sum (length w.near.granted) (length w.far.granted) (length w'.near.granted) (length w'.far.granted) (length g) (length (g ++ w.far.granted))
-        (length (g ++ w'.far.granted)) h.more (length-append g w.far.granted) (length-append g w'.far.granted) h.granted;
+    granted = grind (arith, sum, length-append);
     falls = h.falls;
   }
     where
@@ -34,19 +32,11 @@ module _ (service : Service) (tei v : ℕ) where
   module _ (g : List (List ℕ)) (w a b : Wire) where
     near-alike : (act : Act) → P (cond {A = ℕ} (is_move_of act w) 1 0) (expiries_of act) (reports_of act w) a b
         → P (cond {A = ℕ} (is_move_of act (with_before g w)) 1 0) (expiries_of act) (reports_of act (with_before g w)) a b
-    near-alike (requests r) h = h
-    near-alike (times_out timer) h = h
-    near-alike gives h = h
-    near-alike takes h = h
-    near-alike loses h = h
+    near-alike act h = grind arith
 
     far-alike : (act : Act) → P (cond {A = ℕ} (is_move_of act (turned w)) 1 0) (expiries_of act) (reports_of act (turned w)) a b
         → P (cond {A = ℕ} (is_move_of act (turned (with_before g w))) 1 0) (expiries_of act) (reports_of act (turned (with_before g w))) a b
-    far-alike (requests r) h = h
-    far-alike (times_out timer) h = h
-    far-alike gives h = h
-    far-alike takes h = h
-    far-alike loses h = h
+    far-alike act h = grind arith
 
   -- one after the other
   both-pay : (moved expired reported moved' expired' reported' : ℕ) (w w' w'' : Wire) → P moved expired reported w w' → P moved' expired' reported' w' w''
@@ -54,9 +44,7 @@ module _ (service : Service) (tei v : ℕ) where
   both-pay moved expired reported moved' expired' reported' w w' w'' h k = record {
     more = h.more + k.more;
     granted = all (granted_of w) (granted_of w') (granted_of w'') h.more k.more h.granted k.granted;
-    falls =
-        sum moved moved' (heft service tei v w) (heft service tei v w') (heft service tei v w'') ((v + 4) * expired) ((v + 4) * expired') ((v + 4) * (expired + expired'))
-        ((v + 6) * h.more) ((v + 6) * k.more) ((v + 6) * (h.more + k.more)) reported reported' (times-sum (v + 4) expired expired') (times-sum (v + 6) h.more k.more) h.falls k.falls;
+    falls = grind (arith, sum, heft, times-sum);
   }
     where
       all : (a b c x y : ℕ) → b ≡ a + x → c ≡ b + y → c ≡ a + (x + y)
@@ -112,9 +100,7 @@ lossy-moves-come-to-an-end service c d line other tei k ds can talk wide-near wi
     h.granted h.falls)
   where
     total : (moved last first eight x six more g none r : ℕ) → first ≡ eight → none ≡ 0 → g ≡ none + more → moved + last ≤ first + x + six * more + r → moved ≤ eight + x + six * g + r
-    total moved last first eight x six more g none r e f h less =
-        let same : g ≡ more = omega (arith, f, h) in
-        subst (λ g. moved ≤ eight + x + six * g + r) (sym same) (omega (arith, e, less))
+    total moved last first eight x six more g none r e f h less = grind arith
 
 -- ---- rounds
 
@@ -133,11 +119,7 @@ reports-append (d ∷ ds) es w =
 pub many-full : (service : Service) (tei n : ℕ) → All (IsFullTalk service tei) (many n)
 unfolding many
 many-full service tei zero = All-nil (IsFullTalk service tei)
-many-full service tei (suc n) =
-    All-cons (IsFullTalk service tei) (at_near gives) (at_far takes ∷ at_far gives ∷ at_near takes ∷ many n) tt
-    (All-cons (IsFullTalk service tei) (at_far takes) (at_far gives ∷ at_near takes ∷ many n) tt
-    (All-cons (IsFullTalk service tei) (at_far gives) (at_near takes ∷ many n) tt
-    (All-cons (IsFullTalk service tei) (at_near takes) (many n) tt (many-full service tei n))))
+many-full service tei (suc n) = grind (arith, many-full service tei n, many)
 
 abbrev rounded : Wire → Wire
 rounded w = doing (at_near takes) (doing (at_far gives) (doing (at_far takes) (doing (at_near gives) w)))

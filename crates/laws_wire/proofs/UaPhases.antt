@@ -199,20 +199,7 @@ module _ (service : Service) (tei : ℕ) (c d : Config) (p q : ℕ) (face : Face
 
     -- as it gives, the poised link stays so
     rest-poised : (f : ControlFrame) (fs : List ControlFrame) → M'.link.waiting ≡ f ∷ fs → Poised u (record M'.link { waiting = fs }) h.post
-    rest-poised f fs e =
-        let l = record M'.link { waiting = f ∷ fs } in
-        let sane : Sane l = subst Sane (λ i. record M'.link { waiting = e i }) h.poised.sane in
-        record {
-          up = h.poised.up;
-          a = h.poised.a;
-          s = h.poised.s;
-          r = h.poised.r;
-          rejecting = h.poised.rejecting;
-          sane = sane-after u link.offer l sane;
-          reports = h.poised.reports;
-          idle = h.poised.idle;
-          one = h.poised.one;
-        }
+    rest-poised f fs e = grind (arith, sane-after)
 
     module _ (f : ControlFrame) (fs : List ControlFrame) (e : M'.link.waiting ≡ f ∷ fs) where
       abbrev went : End
@@ -347,20 +334,7 @@ module _ (service : Service) (tei : ℕ) (c d : Config) (p q : ℕ) (face : Face
             → Comes b (turned (acting loses (turned w))) ⊎ IsAway b (with_first_lost w.far)
         go (f ∷ fs) rising far =
             inl (record { repeats = h.repeats; near = h.near; m = h.m; stale = fs; far = far; rising = rising-lower rising.0 0 0 fs (omega arith) rising.3; loose = h.loose; rejecting = h.rejecting; flag = h.flag })
-        go [] rising far =
-            let low : h.m.link.a ≤ 0 = h.loose.joined.back.rising in
-            inr (record {
-              M = h.m;
-              held = far;
-              up = up-there;
-              a = omega (arith, low);
-              r = omega (arith, not-beyond);
-              rejecting = h.rejecting;
-              delivered = comes-none;
-              sane = h.loose.far_sane;
-              rising = h.loose.joined.there.rising;
-              flag = h.flag;
-            })
+        go [] rising far = grind (arith, up-there, not-beyond, comes-none)
 
     -- the near end takes what was before UA, or UA
     ignores-first : (f : Parts) (fs : List Parts) → h.stale ≡ f ∷ fs → Rising 0 0 (f ∷ fs) → Comes b (acting takes w)

@@ -1,8 +1,7 @@
 -- Where one end rings, no turn is left and its T200 expires, one round is enough for it to be told of the establishment.
-use Rattle.laws_wire.proofs.Vocabulary.{◌≡◌, ℕ, ◌+◌, ◌<◌, ◌≤◌, IsTrue, true, cond, List, [], ◌∷◌, ◌++◌, length, map, refl, sym, ap, subst, ◌∙◌, nat_lt, lt-ltb, arith, All, All-head, Service, Timer, Parts, spelling, ControlFrame, Terms, Link, fresh, is_multiple_frame, frame_of, after, course, given, given_of, begun, frame_given, IsInRange, End, with_link, with_sent, Config, LineTold, next, terms, Station, Wire, happens, comes, with_first_of, with_first_lost, times_out, gives, takes, acting, turned, doing_all, confirmed, heard_in, MayRepeat, rounds}
+use Rattle.laws_wire.proofs.Vocabulary.{◌≡◌, ℕ, ◌<◌, ◌≤◌, IsTrue, true, List, [], ◌∷◌, map, refl, sym, ap, subst, ◌∙◌, nat_lt, lt-ltb, arith, All, All-head, Service, Timer, Parts, spelling, ControlFrame, Terms, Link, fresh, is_multiple_frame, frame_of, after, course, given, frame_given, IsInRange, End, with_link, with_sent, Config, LineTold, next, terms, Station, Wire, happens, comes, with_first_of, with_first_lost, times_out, gives, takes, acting, turned, doing_all, confirmed, heard_in, MayRepeat, rounds}
 use Rattle.lapd_frame.specs.declared.timers.Timer.TheVariants as timers
 use Rattle.model_link.specs.Events as link
-use Rattle.model_link.specs.Offers
 use Rattle.laws_wire.proofs.Acting.{ranges}
 use Rattle.laws_wire.proofs.Answered.{takes-granted}
 use Rattle.laws_wire.proofs.Awaited.{may-there}
@@ -17,8 +16,7 @@ use Rattle.laws_wire.proofs.UaLost.{Rings, repeats-sabme}
 
 -- the frame that waits goes
 pub gives-waiting : (t : Terms) (l : Link) (f : ControlFrame) (fs : List ControlFrame) → l.waiting ≡ f ∷ fs → frame_given t (given t l) ≡ frame_of t f ∷ []
-gives-waiting t l f fs e =
-    ap (λ ws. frame_given t (given_of t l (Offers.offer_among t ws (begun l)) (Offers.offer_among t ws (begun l)).sent)) e
+gives-waiting t l f fs e = grind arith
 
 module _ (service : Service) (tei : ℕ) (c d : Config) (p q : ℕ) (face : Face c d) (back : Face d c) (rt : IsInRange (terms c service tei)) (ru : IsInRange (terms d service tei)) where
   abbrev t : Terms
@@ -39,10 +37,7 @@ module _ (service : Service) (tei : ℕ) (c d : Config) (p q : ℕ) (face : Face
   room control low = lt-ltb 0 control (omega (arith, low))
 
   pub answers-again : (l : Link) (s : Terms) → IsInRange s → IsTrue (is_multiple_frame l.state) → l.a ≡ 0 → l.waiting ≡ [] → (after s event l).waiting ≡ its_ua ∷ []
-  answers-again l s ranges up zero quiet =
-      ap (λ l. l.waiting) (renews s t l up zero).link
-      ∙ (λ i. cond (nat_lt (length (quiet i)) s.control) (quiet i ++ its_ua ∷ []) (quiet i))
-      ∙ ap (λ b. cond b ([] ++ its_ua ∷ []) []) (room s.control ranges.control_low)
+  answers-again l s ranges up o quiet = grind (arith, renews, nat_lt, its_ua, room)
 
   pub answers-first : (after u event fresh).waiting ≡ its_ua ∷ []
   answers-first = ap (λ l. l.waiting) (takes-sabme u ru t)
@@ -88,9 +83,7 @@ module _ (service : Service) (tei : ℕ) (c d : Config) (p q : ℕ) (face : Face
     far3 = gives-stands service tei q reached m (subst (λ k. Stands k service tei q reached m) (sym far2.config) far2)
 
     gone : (with_sent m).way ≡ ua u ∷ []
-    gone =
-        ap (λ before. before ++ frame_given m.terms (given m.terms m.link)) way ∙ gives-waiting m.terms m.link its_ua [] answers
-        ∙ ap (λ (s : Terms). frame_of s its_ua ∷ []) held.stands.terms
+    gone = grind (arith, gives-waiting, its_ua)
 
     far-config : reached.card.config ≡ d
     far-config = far2.config

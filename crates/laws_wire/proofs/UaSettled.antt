@@ -1,9 +1,9 @@
 -- Where both ends are up, neither is busy and no turn is left: once T200 expires, so many rounds are enough for all that is missing, and it stops.
-use Rattle.laws_wire.proofs.Vocabulary.{◌≡◌, ℕ, ◌+◌, ◌≤◌, false, cond, not, ◌||◌, List, ◌++◌, length, map, take, None, Some, refl, sym, ap, subst, ◌∙◌, arith, length-map, length-append, length-take-le, eq-eqb, Service, Timer, spelling, Established, T200, T203, Link, given, End, Ends, with_link, Config, LineTold, next, gave, runs, is_running, IsCutOff, all-recovered, nothing-to_send, awaits_answer, Station, Wire, times_out, acting, turned, answered, IsStill, link_of, data_told, heard_in, is_poll, runs_t200, rounds, with_t200_expired, both_expire, BothMayRepeat, StayPatient}
+use Rattle.laws_wire.proofs.Vocabulary.{◌≡◌, ℕ, ◌+◌, ◌≤◌, false, List, ◌++◌, length, map, take, None, refl, sym, ap, subst, arith, length-map, length-append, length-take-le, eq-eqb, Service, Timer, Established, T200, Link, given, End, Ends, with_link, Config, LineTold, next, gave, runs, is_running, IsCutOff, all-recovered, nothing-to_send, awaits_answer, Station, Wire, times_out, acting, turned, answered, IsStill, link_of, data_told, heard_in, is_poll, runs_t200, rounds, with_t200_expired, both_expire, BothMayRepeat, StayPatient}
 use Rattle.lapd_frame.specs.declared.timers.Timer.TheVariants as timers
 use Rattle.model_link.specs.Events as link
 use Rattle.laws_link.specs.two.CutOff as cut_off
-use Rattle.laws_link.specs.two.Needed.{needed_in, HasItsTimer}
+use Rattle.laws_link.specs.two.Needed.{HasItsTimer}
 use Rattle.laws_link.specs.two.Rounds as two_links
 use Rattle.laws_link.proofs.OfTwo.Arriving.{AreFree}
 use Rattle.laws_link.proofs.OfTwo.Recovery.{free-recovered}
@@ -11,8 +11,8 @@ use Rattle.laws_wire.specs.Facing.{line_of}
 use Rattle.laws_wire.proofs.Awaited.{NoneOpen, closed, may-there, open-here, link-is, runs-up}
 use Rattle.laws_wire.proofs.Held.{Held}
 use Rattle.laws_wire.proofs.Loose.{loose-turned}
-use Rattle.laws_wire.proofs.LooseRounds.{rounds-at}
-use Rattle.laws_wire.proofs.LooseUp.{LooseAt, at-turned, at-expires}
+use Rattle.laws_wire.proofs.LooseUp.{LooseAt, at-turned, at-expires, at-gives, at-takes}
+use Rattle.laws_wire.proofs.RoundsKeep.{rounds-keep}
 use Rattle.laws_wire.proofs.Standing.{Stands, gives-none}
 use Rattle.laws_wire.proofs.Talking.{Face}
 use Rattle.laws_wire.proofs.TimelyArrives.{cut-off, no-answer}
@@ -24,22 +24,23 @@ fewer told granted delivered r all u e f less = omega (arith, e, f, less)
 
 -- a link that has had all acknowledged, and takes the other for free, does not run T200
 stops : (l : Link) → HasItsTimer l → l.state ≡ Established → l.s ≡ l.a → l.peer_busy ≡ false → is_running T200 l ≡ false
-stops l h state all free =
-    ap (runs T200) (h.running ∙ ap (λ here. needed_in here l) state)
-    ∙ ap (λ b. runs T200 (cond (not b || l.peer_busy) (Some T200) (Some T203))) (eq-eqb l.s l.a all)
-    ∙ ap (λ b. runs T200 (cond b (Some T200) (Some T203))) free
+stops l h state all free = grind (arith, eq-eqb)
 
 module _ (service : Service) (tei : ℕ) (c d : Config) (p q : ℕ) (face : Face c d) (back : Face d c) (past other : List LineTold) where
   abbrev At : Wire → End → End → Type 0
   At w n m = LooseAt service tei c d p q past other w n m
 
+  -- so it is round after round
+  loose-rounds : (k : ℕ) (w : Wire) (e : Ends) → At w e.near e.far → At (rounds k w) (two_links.rounds k e).near (two_links.rounds k e).far
+  loose-rounds =
+      rounds-keep (λ w e. At w e.near e.far) (λ w e. LooseAt service tei d c q p other past w e.near e.far)
+      (λ w e. at-turned service tei c d p q past other w e.near e.far) (λ w e. at-turned service tei d c q p other past w e.near e.far)
+      (λ w e. at-gives service tei c d p q face past other w e.near e.far) (λ w e. at-gives service tei d c q p back other past w e.near e.far)
+      (λ w e. at-takes service tei c d p q face past other w e.near e.far) (λ w e. at-takes service tei d c q p back other past w e.near e.far)
+
   missing : (told : List LineTold) (r u : ℕ) (granted delivered : List (List ℕ)) (heard : List LineTold) → r ≤ length granted → delivered ≡ take r granted
       → heard ≡ told ++ map (data_told service tei) delivered → length (told ++ map (data_told service tei) granted) ≤ length heard + u → length granted ≤ r + u
-  missing told r u granted delivered heard low is here h =
-      fewer (length told) (length granted) (length delivered) r (length (told ++ map (data_told service tei) granted)) u
-      (length-append told (map (data_told service tei) granted) ∙ ap (λ x. length told + x) (length-map granted (data_told service tei))) (ap length is ∙ length-take-le r granted low)
-      (subst (λ x. length (told ++ map (data_told service tei) granted) ≤ x + u)
-      (ap length here ∙ length-append told (map (data_told service tei) delivered) ∙ ap (λ x. length told + x) (length-map delivered (data_told service tei))) h)
+  missing told r u granted delivered heard low is here h = grind (arith, fewer, length-append, length-map, length-take-le)
 
   nothing-said : (k : Config) (place : ℕ) (its : List LineTold) (s : Station) (n : End) → Held k service tei place its s n → given n.terms n.link ≡ None
       → answered next s ≡ gave None
@@ -109,22 +110,7 @@ module _ (service : Service) (tei : ℕ) (c d : Config) (p q : ℕ) (face : Face
       pub far_stops : HasItsTimer (link_of service tei (line_of last.far)) → runs_t200 service tei last.far ≡ false
 
     settled : (last : Wire) (x : Ends) → At last x.near x.far → two_links.HasArrived n.link.contents x.near x.far → two_links.HasArrived m.link.contents x.far x.near → AreFree x → Settled last
-    settled last x at near far free = record {
-      near = at.near.heard ∙ ap (λ xs. past ++ map (data_told service tei) xs) (far.delivered ∙ sym h.far.granted);
-      far = at.far.heard ∙ ap (λ xs. other ++ map (data_told service tei) xs) (near.delivered ∙ sym h.near.granted);
-      rests = record {
-        near = nothing-said c p past last.near x.near at.near (nothing-to_send x.near.terms x.near.link near.nothing);
-        far = nothing-said d q other last.far x.far at.far (nothing-to_send x.far.terms x.far.link far.nothing);
-        near_way = at.near.stands.way ∙ ap (map (spelling c.side)) near.way;
-        far_way = at.far.stands.way ∙ ap (map (spelling d.side)) far.way;
-      };
-      near_stops = λ timed.
-          runs-up service tei c p last.near x.near at.near.stands at.loose.joined.near_up
-          ∙ stops x.near.link (subst HasItsTimer (link-is service tei c p last.near x.near at.near.stands) timed) near.state (near.sent ∙ sym near.acknowledged) free.0;
-      far_stops = λ timed.
-          runs-up service tei d q last.far x.far at.far.stands at.loose.joined.far_up
-          ∙ stops x.far.link (subst HasItsTimer (link-is service tei d q last.far x.far at.far.stands) timed) far.state (far.sent ∙ sym far.acknowledged) free.1;
-    }
+    settled last x at near far free = grind (arith, nothing-said, nothing-to_send, runs-up, stops, link-is)
 
     pub loose-settles : (u : ℕ) → length (past ++ map (data_told service tei) w.far.granted) ≤ length (heard_in w.near) + u → length (other ++ map (data_told service tei) w.near.granted) ≤ length (heard_in w.far) + u
         → Settled (rounds (u + 3) (with_t200_expired service tei w))
@@ -138,4 +124,4 @@ module _ (service : Service) (tei : ℕ) (c d : Config) (p q : ℕ) (face : Face
         (subst (λ xs. length (past ++ map (data_told service tei) xs) ≤ length (heard_in w.near) + u) h.far.granted few-near) in
         let all = all-recovered u e near-cut far-cut there back_ in
         settled (rounds (u + 3) (with_t200_expired service tei w)) (two_links.rounds (u + 3) e')
-        (rounds-at service tei c d p q face back past other (u + 3) (with_t200_expired service tei w) e' both-expired) all.0 all.1 (free-recovered u e near-cut far-cut there back_)
+        (loose-rounds (u + 3) (with_t200_expired service tei w) e' both-expired) all.0 all.1 (free-recovered u e near-cut far-cut there back_)

@@ -1,5 +1,5 @@
 -- A call in which UA may be lost and an end may be busy comes to where no turn is left and T200 runs at neither end.
-use Rattle.laws_wire.proofs.Vocabulary.{◌≡◌, ◌≢◌, ℕ, ◌+◌, ◌≤◌, ◌*◌, Bool, false, List, [], ◌∷◌, ◌++◌, length, map, refl, sym, ap, subst, ◌∙◌, inl, inr, arith, All, All-cons, All-nil, All-append, Service, Parts, ControlFrame, fresh, IsInRange, End, Config, LineTold, terms, Station, Wire, times_out, at_near, at_far, acting, Doing, doing, doing_all, IsStill, link_of, calling, CanCall, confirmed, data_told, heard_in, IsFullTalk, StayPatient, MayRepeat, BothMayRepeat, both_expire, with_t200_expired, rounds}
+use Rattle.laws_wire.proofs.Vocabulary.{◌≡◌, ◌≢◌, ℕ, ◌+◌, ◌≤◌, ◌*◌, Bool, false, List, [], ◌∷◌, ◌++◌, length, map, refl, sym, ap, subst, ◌∙◌, inl, inr, arith, All, All-nil, All-append, Service, Parts, ControlFrame, fresh, IsInRange, End, Config, LineTold, terms, Station, Wire, times_out, at_near, at_far, acting, Doing, doing, doing_all, IsStill, link_of, calling, CanCall, confirmed, data_told, heard_in, IsFullTalk, StayPatient, MayRepeat, BothMayRepeat, both_expire, with_t200_expired, rounds}
 use Rattle.lapd_frame.specs.declared.timers.Timer.TheVariants as timers
 use Rattle.laws_link.specs.two.Needed.{HasItsTimer}
 use Rattle.laws_link.proofs.OfTwo.Needing.{timely-fresh}
@@ -29,8 +29,7 @@ use Rattle.laws_wire.proofs.UaTold.{all-is, still-there, patient-goes}
 
 module _ (g : List (List ℕ)) where
   doing-before : (k : Doing) (w : Wire) → doing k (with_before g w) ≡ with_before g (doing k w)
-  doing-before (at_near act) w = near-before act g w
-  doing-before (at_far act) w = far-before act g w
+  doing-before k w = grind (arith, near-before, far-before)
 
   all-before : (ds : List Doing) (w : Wire) → doing_all ds (with_before g w) ≡ with_before g (doing_all ds w)
   unfolding doing_all
@@ -232,9 +231,7 @@ module _ (service : Service) (c d : Config) (line other tei : ℕ) (ds : List Do
     expires = both_expire service tei
 
     full : All (IsFullTalk service tei) expires
-    full =
-        All-cons (IsFullTalk service tei) (at_near (times_out (timers.T200 service tei))) (at_far (times_out (timers.T200 service tei)) ∷ []) (refl, refl)
-        (All-cons (IsFullTalk service tei) (at_far (times_out (timers.T200 service tei))) [] (refl, refl) (All-nil (IsFullTalk service tei)))
+    full = grind arith
 
     timed : StayPatient expires w → (u : ℕ) → HasItsTimer (link_of service tei (line_of (rounds (u + 3) (with_t200_expired service tei w)).near)) × HasItsTimer (link_of service tei (line_of (rounds (u + 3) (with_t200_expired service tei w)).far))
     unfolding doing_all

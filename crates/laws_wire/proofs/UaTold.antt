@@ -1,5 +1,5 @@
 -- What is told in a call in which UA may be lost, from its phases.
-use Rattle.laws_wire.proofs.Vocabulary.{◌≡◌, ℕ, Bool, false, List, [], ◌∷◌, ◌++◌, length, map, take, drop, refl, sym, ap, append-nil, append_assoc, map-append, take-append-drop, subst, ◌∙◌, inl, inr, true≢false, All, front_rest, Service, Parts, ControlFrame, IsInRange, End, Config, LineTold, terms, Station, Wire, turned, Doing, doing_all, IsStill, CanCall, calling, confirmed, data_told, IsBeginningOf, heard_in, runs_t200}
+use Rattle.laws_wire.proofs.Vocabulary.{arith, ◌≡◌, ℕ, Bool, false, List, [], ◌∷◌, ◌++◌, length, map, take, drop, refl, sym, ap, append-nil, append_assoc, map-append, take-append-drop, subst, ◌∙◌, inl, inr, true≢false, All, front_rest, Service, Parts, ControlFrame, IsInRange, End, Config, LineTold, terms, Station, Wire, turned, Doing, doing_all, IsStill, CanCall, calling, data_told, IsBeginningOf, heard_in, runs_t200}
 use Rattle.laws_wire.specs.Answering.{IsFullTalk, StayPatient, Called, uncalled, seen, all_kept, ToldSo, LossyCallsComeThrough}
 use Rattle.laws_wire.proofs.Awaited.{runs-is}
 use Rattle.laws_wire.proofs.Calling.{end, sabme}
@@ -45,9 +45,7 @@ module _ (service : Service) (tei : ℕ) (c d : Config) (p q : ℕ) (face : Face
 
   -- where nothing was delivered
   far-none : (past : List LineTold) (v : Wire) (M : End) → Held d service tei q past v.far M → M.delivered ≡ [] → FarSoFar past v
-  far-none past v M h none =
-      let is = h.heard ∙ ap (λ xs. past ++ map (data_told service tei) xs) none in
-      (none-yet service tei past v.near.granted (heard_in v.far) is, ([], sym is))
+  far-none past v M h none = grind (arith, none-yet)
 
   away-far : (past : List LineTold) (b : Bool) (v : Wire) → Rs service tei c d p q face back rt ru (Away service tei c d p q face back rt ru past b) v → FarSoFar past v
   away-far past b v (inl h) = far-none past v h.far.M h.far.held h.far.delivered
@@ -73,15 +71,10 @@ module _ (service : Service) (tei : ℕ) (c d : Config) (p q : ℕ) (face : Face
       )
 
   down-far : (v : Wire) → Rs service tei c d p q face back rt ru (Down service tei c d p q face back rt ru) v → FarSoFar [] v
-  down-far v (inl h) = far-none [] v _ h.far refl
-  down-far v (inr (inl h)) = far-none [] v _ h.far refl
-  down-far v (inr (inr h)) = far-none [] v _ h.far refl
+  down-far v o = grind (arith, far-none)
 
   so-far : (x : Called) (v : Wire) → Phase service tei c d p q face back rt ru x v → NearSoFar v × FarSoFar x.told v
-  so-far x v (inl (told, sent, h)) = (
-    nothing-yet _ (heard_in v.near) (not-told service tei c d p q face back rt ru (Down service tei c d p q face back rt ru) v h),
-    subst (λ past. FarSoFar past v) (sym told) (down-far v h),
-  )
+  so-far x v (inl (told, sent, h)) = grind (arith, nothing-yet, not-told, Down, down-far)
   so-far x v (inr (some, h)) = called-so-far x.told x.sent v h
 
   -- ---- where no turn is left, and T200 runs at neither end
@@ -109,9 +102,7 @@ module _ (service : Service) (tei : ℕ) (c d : Config) (p q : ℕ) (face : Face
     w = with_before g v
 
     pub all-is : first_near ++ map (data_told service tei) v.far.granted ≡ all_kept service tei x w.far
-    all-is =
-        ap (λ xs. confirmed service tei ∷ map (data_told service tei) xs)
-        (sym (ap (λ k. drop k (g ++ v.far.granted)) given_up ∙ front_rest (g ++ v.far.granted) g v.far.granted refl))
+    all-is = grind (arith, front_rest)
 
     pub still-there : IsStill w → IsStill v
     still-there still = record { near = still.near; far = still.far; near_way = still.near_way; far_way = still.far_way }

@@ -1,5 +1,5 @@
 -- Each step of a call in which UA may be lost makes what is left to do less; so its moves are bounded.
-use Rattle.laws_wire.proofs.Vocabulary.{◌≡◌, ℕ, ◌+◌, ◌-◌, ◌*◌, ◌≤◌, ◌==◌, Bool, true, false, cond, not, IsTrue, List, [], ◌∷◌, ◌++◌, length, refl, sym, ap, subst, ◌∙◌, ◌⊎◌, inl, inr, true≢false, eqb-true, arith, Service, Parts, spelling, ControlFrame, Terms, Link, fresh, has_outstanding, has_room, is_multiple_frame, frames_of, after, Means, IsInRange, End, with_link, Config, LineTold, terms, Rising, Station, Wire, comes, with_first_of, with_first_lost, Act, takes, acting, turned, Doing, at_near, at_far, doing, IsFullTalkOf, IsTimelyOf, is_move, is_move_of, expiries_in, is_any}
+use Rattle.laws_wire.proofs.Vocabulary.{◌≡◌, ℕ, ◌+◌, ◌-◌, ◌*◌, ◌≤◌, Bool, true, false, cond, not, IsTrue, List, [], ◌∷◌, ◌++◌, length, refl, sym, ap, subst, ◌∙◌, ◌⊎◌, inl, inr, eqb-true, arith, Service, Parts, spelling, ControlFrame, Terms, Link, fresh, has_outstanding, has_room, is_multiple_frame, frames_of, after, Means, IsInRange, End, with_link, Config, LineTold, terms, Rising, Station, Wire, comes, with_first_of, with_first_lost, Act, takes, acting, turned, Doing, at_near, at_far, doing, IsFullTalkOf, IsTimelyOf, is_move, is_move_of, expiries_in}
 use Rattle.model_link.specs.Events as link
 use Rattle.model_link.specs.TwoEnds as two_ends
 use Rattle.laws_wire.specs.Answering.{Called}
@@ -77,8 +77,7 @@ module _ (service : Service) (tei : ℕ) (c d : Config) (p q : ℕ) (face : Face
   of-coming past b w h = record { m = behind (h.stale ++ ua u ∷ []) h.m; past = past; held = h.far; none = h.loose.joined.there.accepted; up = inl h.loose.joined.far_up }
 
   rung : (k : ℕ) (ws : List ControlFrame) (way : List Parts) (w : Wire) → Rung k ws way w.near → FarEnd w.far → Seen w
-  rung k ws way w near f =
-      record { n = end t (ringing k ws) way; m = f.m; past_n = []; past_m = f.past; near = near; far = f.held; there = f.none; here = omega arith; near_up = inr refl; far_up = f.up }
+  rung k ws way w near f = grind (arith, end, ringing)
 
   all-rung : (Q : Station → Type 0) (w : Wire) → ((s : Station) → Q s → FarEnd s) → Rs service tei c d p q face back rt ru Q w → Seen w
   all-rung Q w of (inl h) = rung h.repeats [] [] w h.near (of w.far h.far)
@@ -86,19 +85,7 @@ module _ (service : Service) (tei : ℕ) (c d : Config) (p q : ℕ) (face : Face
   all-rung Q w of (inr (inr h)) = rung h.repeats [] (sabme t ∷ []) w h.near (of w.far h.far)
 
   of-up : (past : List LineTold) (w : Wire) → Up service tei c d p q face back rt ru past w → Seen w
-  of-up past w h =
-      record {
-        n = h.n;
-        m = h.m;
-        past_n = _;
-        past_m = past;
-        near = h.near;
-        far = h.far;
-        there = h.loose.joined.there.accepted;
-        here = h.loose.joined.back.accepted;
-        near_up = inl h.loose.joined.near_up;
-        far_up = inl h.loose.joined.far_up;
-      }
+  of-up past w h = grind arith
 
   called-seen : (past : List LineTold) (b : Bool) (w : Wire) → IsCalled service tei c d p q face back rt ru past b w → Seen w
   called-seen past b w (inl h) = all-rung (Away service tei c d p q face back rt ru past b) w (of-away past b) h
@@ -264,21 +251,10 @@ module _ (service : Service) (tei : ℕ) (c d : Config) (p q : ℕ) (face : Face
     becomes = (renews M.terms t l h.up h.a).link
 
     not-false : (o : Bool) → not o ≡ false → o ≡ true
-    not-false true e = refl
-    not-false false e = absurd (true≢false e)
+    not-false o e = grind arith
 
     lighter : (o : Bool) → has_outstanding l ≡ o → (load v (kept o) ≤ load v l + 2) × ((v + 4) * (length (kept o).contents - 0) ≤ (v + 4) * (length l.contents - 0))
-    lighter o e =
-        let one : load_waiting v (kept o).waiting ≤ load_waiting v l.waiting + (2 + 0) = one-waits v room l.waiting its_ua 0 refl in
-        let may : may_reject v l.rejecting ≡ v + 2 = ap (may_reject v) h.rejecting in
-        go o e one may
-      where
-        go : (o : Bool) → has_outstanding l ≡ o → load_waiting v (kept o).waiting ≤ load_waiting v l.waiting + (2 + 0) → may_reject v l.rejecting ≡ v + 2
-            → (load v (kept o) ≤ load v l + 2) × ((v + 4) * (length (kept o).contents - 0) ≤ (v + 4) * (length l.contents - 0))
-        go true e one may = (omega (arith, one, may), omega arith)
-        go false e one may =
-            let none : l.s ≡ 0 = eqb-true l.s l.a (not-false (l.s == l.a) e) ∙ h.a in
-            (omega (arith, one, may, none), omega arith)
+    lighter o e = grind (arith, load_waiting, one-waits, its_ua, may_reject, load, eqb-true, not-false)
 
     again-pays : P 1 0 0 w w1
     again-pays = record {
@@ -295,8 +271,7 @@ module _ (service : Service) (tei : ℕ) (c d : Config) (p q : ℕ) (face : Face
         sum a b r l' l way u' u z e f less fewer = omega (arith, e, f, less, fewer)
 
     again-sabme : FarTakes w
-    again-sabme =
-        subst (λ ways. P (cond {A = ℕ} (is_any ways) 1 0) 0 0 w (record { near = with_first_lost w.near; far = with_first_of ways w.far })) (sym way-there.0) again-pays
+    again-sabme = grind (arith, again-pays)
 
   far-called-takes : (past : List LineTold) (b : Bool) (w : Wire) → IsCalled service tei c d p q face back rt ru past b w → FarTakes w
   far-called-takes past b w (inl (inl h)) = far-takes-nothing h.repeats [] w h.near (of-away past b w.far h.far)

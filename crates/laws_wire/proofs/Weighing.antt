@@ -1,6 +1,6 @@
 -- What two ends still have to do, where v turns go again at most: what their links have to send, what is on their ways, and for
 -- each contents that are not delivered yet a REJ, v turns, and an acknowledgement.
-use Rattle.laws_wire.proofs.Vocabulary.{◌≡◌, ℕ, ◌+◌, ◌-◌, ◌*◌, ◌≤◌, List, [], ◌∷◌, length, map, refl, sym, ap, subst, ◌∙◌, arith, All, All-head, All-tail, Service, Parts, spelling, reading, Link, End, Config, Station}
+use Rattle.laws_wire.proofs.Vocabulary.{◌≡◌, ℕ, ◌+◌, ◌-◌, ◌*◌, ◌≤◌, List, [], ◌∷◌, length, map, refl, sym, ap, ◌∙◌, arith, All, All-head, All-tail, Service, Parts, spelling, reading, Link, End, Config, Station}
 use Rattle.laws_wire.proofs.Loads.{load, load_way}
 use Rattle.laws_wire.proofs.Standing.{IsCarried, Stands}
 
@@ -47,13 +47,7 @@ swapped : (moved a b p q a' b' p' q' x y : ℕ) → moved + ((a + b) + (p + q)) 
 swapped moved a b p q a' b' p' q' x y h = omega (arith, h)
 
 pub fell-turned : (v moved expired more : ℕ) (n m n' m' : End) → Fell v moved expired more n m n' m' → Fell v moved expired more m n m' n'
-fell-turned v moved expired more n m n' m' h = record {
-  grown = let e = h.grown in omega (arith, e);
-  falls =
-      swapped moved (load v n'.link + load_way v n'.way) (load v m'.link + load_way v m'.way) ((v + 4) * undelivered n'.link m'.link) ((v + 4) * undelivered m'.link n'.link)
-      (load v n.link + load_way v n.way) (load v m.link + load_way v m.way) ((v + 4) * undelivered n.link m.link) ((v + 4) * undelivered m.link n.link)
-      ((v + 4) * expired) ((v + 6) * more) h.falls;
-}
+fell-turned v moved expired more n m n' m' h = grind (arith, swapped, load, load_way)
 
 -- ---- what becomes of the weight of one end, while the other stays
 
@@ -64,9 +58,6 @@ times-suc d x = omega arith
 pub accepts-more : (d len r : ℕ) → r ≤ len → d * (len + 1 - r) ≡ d * (len - r) + d
 accepts-more d len r low = let e : len + 1 - r ≡ (len - r) + 1 = omega (arith, low) in ap (λ x. d * x) e ∙ times-suc d (len - r)
 
-pub delivers-one : (d len r : ℕ) → r + 1 ≤ len → d * (len - (r + 1)) + d ≡ d * (len - r)
-delivers-one d len r low = let e : len - r ≡ (len - (r + 1)) + 1 = omega (arith, low) in sym (ap (λ x. d * x) e ∙ times-suc d (len - (r + 1)))
-
 sum : (a b c d : ℕ) → a ≡ c → b ≡ d → a + b ≡ c + d + 0
 sum a b c d e f = omega (arith, e, f)
 
@@ -76,36 +67,11 @@ module _ (v : ℕ) (n m n' m' : End) (same : n'.link.contents ≡ n.link.content
   its x = load v x.link + load_way v x.way
 
   there : n'.link.r ≡ n.link.r → (v + 4) * undelivered n'.link m'.link + (v + 4) * undelivered m'.link n'.link ≡ (v + 4) * undelivered n.link m.link + (v + 4) * undelivered m.link n.link
-  there e =
-      (λ i. (v + 4) * (length (same i) - (kept i).r) + (v + 4) * (length (kept i).contents - e i))
+  there e = grind arith
 
   pub goes : (moved expired : ℕ) → n'.link.r ≡ n.link.r → moved + its n' + its m' ≤ its n + its m + (v + 4) * expired → Fell v moved expired 0 n m n' m'
-  goes moved expired e less = record {
-    grown = sum (length n'.link.contents) (length m'.link.contents) (length n.link.contents) (length m.link.contents) (ap length same) (ap (λ (l : Link). length l.contents) kept);
-    falls =
-        lighter moved (its n') (its m') ((v + 4) * undelivered n'.link m'.link + (v + 4) * undelivered m'.link n'.link) (its n) (its m)
-        ((v + 4) * undelivered n.link m.link + (v + 4) * undelivered m.link n.link) ((v + 4) * expired) ((v + 6) * 0) (there e) less;
-  }
-    where
-      lighter : (moved x y z x' y' z' a b : ℕ) → z ≡ z' → moved + x + y ≤ x' + y' + a → moved + ((x + y) + z) ≤ ((x' + y') + z') + a + b
-      lighter moved x y z x' y' z' a b e less = omega (arith, e, less)
+  goes moved expired e less = grind (arith, sum, there)
 
   -- one contents are delivered
   pub delivers : n'.link.r ≡ n.link.r + 1 → n'.link.r ≤ length m.link.contents → 1 + its n' + its m' ≤ its n + its m + (v + 4) → Fell v 1 0 0 n m n' m'
-  delivers e low less = record {
-    grown = sum (length n'.link.contents) (length m'.link.contents) (length n.link.contents) (length m.link.contents) (ap length same) (ap (λ (l : Link). length l.contents) kept);
-    falls =
-        lighter (its n') (its m') ((v + 4) * undelivered n'.link m'.link) ((v + 4) * undelivered m'.link n'.link) (its n) (its m) ((v + 4) * undelivered n.link m.link)
-        ((v + 4) * undelivered m.link n.link) v ((v + 4) * 0) ((v + 6) * 0) one-way other-way less;
-  }
-    where
-      one-way : (v + 4) * undelivered n'.link m'.link ≡ (v + 4) * undelivered n.link m.link
-      one-way = λ i. (v + 4) * (length (same i) - (kept i).r)
-
-      other-way : (v + 4) * undelivered m'.link n'.link + (v + 4) ≡ (v + 4) * undelivered m.link n.link
-      other-way =
-          (λ i. (v + 4) * (length (kept i).contents - e i) + (v + 4))
-          ∙ delivers-one (v + 4) (length m.link.contents) n.link.r (subst (λ r. r ≤ length m.link.contents) e low)
-
-      lighter : (x y z u x' y' z' u' v a b : ℕ) → z ≡ z' → u + (v + 4) ≡ u' → 1 + x + y ≤ x' + y' + (v + 4) → 1 + ((x + y) + (z + u)) ≤ ((x' + y') + (z' + u')) + a + b
-      lighter x y z u x' y' z' u' v a b e f less = omega (arith, e, f, less)
+  delivers e low less = grind (arith, sum, times-suc)

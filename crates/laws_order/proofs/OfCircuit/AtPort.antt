@@ -1,5 +1,5 @@
 -- An end, as its octets are pulled, and as octets are heard there that end nothing.
-use Rattle.laws_order.proofs.Vocabulary.{◌≡◌, ℕ, ◌+◌, Bool, true, false, cond, [], ◌∷◌, ◌++◌, length, Option, None, Some, option_map, refl, ap, ◌∙◌, arith, length-drop, Config, Card, answer_to, IsTextOf, Port, given_in, is_due, item_of, left_of, gained, next_octet, with_item, with_octet, ready_where, left_with_octet, Station}
+use Rattle.laws_order.proofs.Vocabulary.{◌≡◌, ℕ, ◌+◌, Bool, true, false, cond, [], ◌∷◌, ◌++◌, length, Option, None, Some, option_map, ap, ◌∙◌, arith, length-drop, Config, Card, answer_to, IsTextOf, Port, given_in, is_due, item_of, left_of, gained, with_item, with_octet, ready_where, left_with_octet, Station}
 use Rattle.model_line.specs.Event as line
 use Rattle.model_card.specs.Event as frames
 use Rattle.model_card.specs.Machine as machine
@@ -63,16 +63,14 @@ module _ (n201 : ℕ) (c : Config) (fits : Fits n201 c) (s : Termination) (ran :
   pull-received = ap (λ (p : Port). p.received) port-pulled ∙ go (is_due (port_of s))
     where
       go : (due : Bool) → (pulled_port due s).received ≡ (port_of s).received
-      go false = refl
-      go true = refl
+      go due = grind arith
 
   -- one octet more is given
   pub pull-given : (value : ℕ) × ((port_of after_pull).given ≡ (port_of s).given ++ value ∷ [])
   pull-given = go (is_due (port_of s)) port-pulled
     where
       go : (due : Bool) → port_of after_pull ≡ pulled_port due s → (value : ℕ) × ((port_of after_pull).given ≡ (port_of s).given ++ value ∷ [])
-      go false e = (next_octet (port_of s), ap (λ (p : Port). p.given) e)
-      go true e = (next_octet (with_item (said_if true s) (port_of s)), ap (λ (p : Port). p.given) e)
+      go due e = grind arith
 
 -- ---- an octet that ends nothing is heard
 

@@ -1,10 +1,10 @@
 -- So many beats are enough.
-use Rattle.laws_order.proofs.Vocabulary.{IsToldAll, ◌≡◌, ℕ, zero, suc, ◌+◌, ◌*◌, ◌-◌, ◌≤◌, ◌<◌, Bool, true, false, ◌||◌, List, [], ◌∷◌, ◌++◌, length, map, refl, sym, ap, ◌∙◌, subst, arith, append-nil, append_assoc, All, if◌then◌else◌, append_cancel_left, All-append, All-head, All-tail, Service, Config, LineTold, Assign, CanCall, confirmed, told_first, data_told, Wire, IsStill, asks-way, doing-append, beats, enough_beats, granted_of, AllIsToldInBeats}
+use Rattle.laws_order.proofs.Vocabulary.{IsToldAll, ◌≡◌, ℕ, zero, suc, ◌+◌, ◌*◌, ◌-◌, ◌≤◌, ◌<◌, Bool, false, ◌||◌, List, [], ◌∷◌, ◌++◌, length, map, refl, sym, ap, ◌∙◌, subst, arith, append-nil, append_assoc, All, if◌then◌else◌, append_cancel_left, All-append, All-head, All-tail, Service, Config, LineTold, Assign, CanCall, confirmed, told_first, data_told, Wire, IsStill, asks-way, doing-append, beats, enough_beats, granted_of, AllIsToldInBeats}
 use Rattle.model_line.specs.Request.{Establish}
 use Rattle.laws_wire.specs.Call as call
 use Rattle.laws_wire.specs.Wire as wire
 unfoldable use Rattle.laws_wire.specs.Wire.{doing_all as frames_done}
-use Rattle.laws_order.specs.circuit.Circuit.{Circuit, asks, pulls, hears, OctetDoing, at_near, at_far, doing}
+use Rattle.laws_order.specs.circuit.Circuit.{Circuit, OctetDoing, doing}
 unfoldable use Rattle.laws_order.specs.circuit.Circuit.{doing_all}
 use Rattle.laws_order.specs.circuit.Through.{calling, IsTalk, calls_back, all_told}
 unfoldable use Rattle.laws_order.specs.circuit.Through.{both_call}
@@ -31,9 +31,7 @@ module _ (n201 way : ℕ) (service : Service) (tei : ℕ) (c d : Config) (fits :
 
   -- one run of beats after another
   led-append : (m n : ℕ) (w : Circuit) (f : Wire) → led (m + n) w f ≡ led n (doing_all (many m) w) (led m w f)
-  led-append m n w f =
-      ap (λ ds. wire.doing_all (doings_meant ds w) f) (many-append m n) ∙ ap (λ ds. wire.doing_all ds f) (meant-append (many m) (many n) w)
-      ∙ doing-append (doings_meant (many m) w) (doings_meant (many n) (doing_all (many m) w)) f
+  led-append m n w f = grind (arith, doings_meant, many-append, meant-append, many, doing-append)
 
   -- ---- in one of more blocks than there are frames taken none is, so no turn is left where it begins
 
@@ -103,10 +101,7 @@ both-append [] es w = refl
 both-append (x ∷ ds) es w = ap (λ b. calls_back x w || b) (both-append ds es (doing x w)) ∙ sym (or-both (calls_back x w) (both_call ds (doing x w)) (both_call es (doing_all ds (doing x w))))
 
 mute-calls_not : (x : OctetDoing) → IsMute x → (w : Circuit) → calls_back x w ≡ false
-mute-calls_not (at_near act) h w = refl
-mute-calls_not (at_far (asks r)) h w = absurd h
-mute-calls_not (at_far pulls) h w = refl
-mute-calls_not (at_far hears) h w = refl
+mute-calls_not x h w = grind arith
 
 none-call : (ds : List OctetDoing) → All IsMute ds → (w : Circuit) → both_call ds w ≡ false
 unfolding both_call
@@ -161,9 +156,7 @@ module _ (service : Service) (c d : Config) (line other tei way n : ℕ) (ds : L
       as_wire e.there' e.back' (doing_all (ds ++ many m) begun)
 
   on-wire : (m : ℕ) → call.ComesThrough service tei (wire.turns (doings_meant (ds ++ many m) begun) (call.calling service tei c line d other)) both (wire_at m)
-  on-wire m =
-      subst (λ b. call.ComesThrough service tei (wire.turns (doings_meant (ds ++ many m) begun) (call.calling service tei c line d other)) b (wire_at m)) (same-both m)
-      (through.on-wire service c d line other tei (ds ++ many m) can (talks-on m))
+  on-wire m = grind (arith, doings_meant, many, same-both, through.on-wire, talks-on)
 
   abbrev start : Wire
   start = call.calling service tei c line d other
@@ -175,8 +168,7 @@ module _ (service : Service) (c d : Config) (line other tei way n : ℕ) (ds : L
       omega (arith, near, far)
 
   halved : (both : Bool) (t k a b g : ℕ) → 2 * t + a ≤ k + b → k ≤ (if both then 8 else 4) + 4 * g → b ≡ 0 → t ≤ (if both then 4 else 2) + 2 * g
-  halved true t k a b g paid few none = omega (arith, paid, few, none)
-  halved false t k a b g paid few none = omega (arith, paid, few, none)
+  halved both t k a b g paid few none = grind arith
 
   few-takings : (m : ℕ) → takings (doings_meant (many m) w) f ≤ most
   few-takings m =

@@ -27,8 +27,7 @@ front-of (x ∷ short) u (y ∷ long) v e few =
     record { rest = f.rest; is = ap (λ z. z ∷ long) (sym head) ∙ ap (λ l. x ∷ l) f.is }
 
 all-come : (way first received heard : ℕ) → way ≤ heard → (first + heard ≤ received + way) ⊎ (first ≤ received) → first ≤ received
-all-come way first received heard enough (inl few) = omega (arith, few, enough)
-all-come way first received heard enough (inr all) = all
+all-come way first received heard enough o = grind arith
 
 -- ---- from either end
 
@@ -57,8 +56,7 @@ module _ (n201 way : ℕ) where
   still-short n w h = let x = many-stay n w in record { near = (let a = x.near in let few = h.near in omega (arith, a, few)); far = (let b = x.far in let few = h.far in omega (arith, b, few)) }
 
   its-way : (b : Bool) (w : Circuit) → IsShort w → length (sender b w).way ≤ way
-  its-way false w h = h.near
-  its-way true w h = h.far
+  its-way b w h = grind arith
 
   -- for a frame that has begun, for one that waits, and for the way
   abbrev pub block : ℕ
@@ -67,14 +65,11 @@ module _ (n201 way : ℕ) where
   -- the takings of one run of beats after another
   pub takings-many : (m n : ℕ) (w : Circuit) (f : Wire)
       → takings (doings_meant (many (m + n)) w) f ≡ takings (doings_meant (many m) w) f + takings (doings_meant (many n) (doing_all (many m) w)) (wire.doing_all (doings_meant (many m) w) f)
-  takings-many m n w f =
-      ap (λ ds. takings (doings_meant ds w) f) (many-append m n) ∙ ap (λ ds. takings ds f) (meant-append (many m) (many n) w)
-      ∙ takings-append (doings_meant (many m) w) (doings_meant (many n) (doing_all (many m) w)) f
+  takings-many m n w f = grind (arith, takings, doings_meant, many-append, meant-append, many, takings-append)
 
   module _ (service : Service) (tei : ℕ) (c d : Config) (fits : Fits n201 c) (fits_far : Fits n201 d) where
     its-fits : (b : Bool) → Fits n201 (its_config b c d)
-    its-fits false = fits
-    its-fits true = fits_far
+    its-fits b = grind arith
 
     its-ran : (b : Bool) (w : Circuit) (there back : List (List ℕ)) → Follows n201 c d w there back → Ran (its_config b c d) (sender b w)
     its-ran false w there back h = h.near
@@ -82,8 +77,7 @@ module _ (n201 way : ℕ) where
 
     its-carries : (b : Bool) (w : Circuit) (there back : List (List ℕ)) → Follows n201 c d w there back
         → Carries n201 (port_of (sender b w)) (sender b w).way (port_of (receiver b w)).received (its_frames b there back)
-    its-carries false w there back h = h.goes
-    its-carries true w there back h = h.comes
+    its-carries b w there back h = grind arith
 
     from-none : (x n : ℕ) → x ≡ n → 0 + x ≡ n
     from-none x n e = omega (arith, e)
@@ -105,12 +99,10 @@ module _ (n201 way : ℕ) where
 
     -- as many beats as the longest frame is long
     behind-then : (items now : List Item) (left : ℕ) → IsBehind n201 items (longest_text n201) now ⊎ ((now ≡ items) × (left + 8 * longest n201 ≤ longest_text n201)) → IsBehind n201 items (longest_text n201) now
-    behind-then items now left (inl behind) = behind
-    behind-then items now left (inr (same, few)) = absurd (omega (arith, few))
+    behind-then items now left o = grind arith
 
     more-then : (A : Type 0) (n m left low : ℕ) → (n < m) ⊎ (A × (left + 8 * longest n201 ≤ longest_text n201) × (low ≤ m)) → n < m
-    more-then A n m left low (inl more) = more
-    more-then A n m left low (inr (waits, few, least)) = absurd (omega (arith, few))
+    more-then A n m left low o = grind arith
 
     no-more : (long heard had given beyond : ℕ) → had ≡ given + beyond → long ≤ given → heard ≡ had → heard < long → ⊥
     no-more long heard had given beyond sum low same more = omega (arith, sum, low, same, more)
@@ -209,8 +201,7 @@ module _ (n201 way : ℕ) where
         s = sender b w
 
         go : (o : Option NextFrame) → next_of_card s.line s.card.card ≡ gave o → next_of_card s.line s.card.card ≡ gave None
-        go None e = e
-        go (Some f) e = absurd (never f e)
+        go o e = grind arith
 
     pub still-before : (w : Circuit) (there back : List (List ℕ)) → Follows n201 c d w there back → IsShort w → takings (doings_meant (many block) w) (as_wire there back w) ≡ 0 → IsStill (as_wire there back w)
     still-before w there back h short none = record {

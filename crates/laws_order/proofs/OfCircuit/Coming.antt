@@ -21,18 +21,15 @@ IsDeaf None f = Unit {0}
 IsDeaf (Some act) f = is_taking_of act f ≡ false
 
 no-bit : (b : Bool) → cond {A = ℕ} b 1 0 + 0 ≡ 0 → b ≡ false
-no-bit false e = refl
-no-bit true e = absurd (omega (arith, e))
+no-bit b e = grind arith
 
 deaf-near : (o : Option wire.Act) (f : Wire) → takings (option_to_list (option_map wire.at_near o)) f ≡ 0 → IsDeaf o f
 unfolding takings
-deaf-near None f e = tt
-deaf-near (Some act) f e = no-bit (is_taking_of act f) e
+deaf-near o f e = grind (arith, no-bit, is_taking_of)
 
 deaf-far : (o : Option wire.Act) (f : Wire) → takings (option_to_list (option_map wire.at_far o)) f ≡ 0 → IsDeaf o (wire.turned f)
 unfolding takings
-deaf-far None f e = tt
-deaf-far (Some act) f e = no-bit (is_taking_of act (wire.turned f)) e
+deaf-far o f e = grind (arith, no-bit, is_taking_of)
 
 module _ (n201 : ℕ) where
   -- an octet that is heard there ends nothing
@@ -71,12 +68,10 @@ module _ (n201 : ℕ) where
         (far c d fits fits_far w there back h act mute (deaf-far (act_meant act (turned w)) (as_wire there back w) none) a b p))
 
     near-one : (x : OctetDoing) (ds : List OctetDoing) → count_near one (x ∷ ds) ≡ count_near one (x ∷ []) + count_near one ds
-    near-one (at_near act) ds = omega arith
-    near-one (at_far act) ds = omega arith
+    near-one x ds = grind arith
 
     far-one : (x : OctetDoing) (ds : List OctetDoing) → count_far two (x ∷ ds) ≡ count_far two (x ∷ []) + count_far two ds
-    far-one (at_near act) ds = omega arith
-    far-one (at_far act) ds = omega arith
+    far-one x ds = grind arith
 
     all-kept : (service : Service) (tei : ℕ) (c d : Config) (fits : Fits n201 c) (fits_far : Fits n201 d) (ds : List OctetDoing) → All IsMute ds → (w : Circuit) (there back : List (List ℕ))
         → Follows n201 c d w there back → takings (doings_meant ds w) (as_wire there back w) ≡ 0 → (a b : ℕ) → P w a b → P (doing_all ds w) (a + count_near one ds) (b + count_far two ds)
@@ -181,9 +176,7 @@ module _ (n201 : ℕ) where
       where
         heard-so : (c : Config) (fits : Fits n201 c) (r : Termination) → Ran c r → (value : ℕ) → gained n201 (port_of r).received value ≡ None → heard_in n201 (port_of r).received ≡ events
             → heard_in n201 (port_of (happens (port.octet value) r)).received ≡ events
-        heard-so c fits r ran value none same =
-            ap (λ (p : Port). heard_in n201 p.received) (port-heard n201 c fits r ran value none) ∙ heard_with n201 (port_of r).received value
-            ∙ ap (λ o. heard_in n201 (port_of r).received ++ option_to_list o) none ∙ append-nil (heard_in n201 (port_of r).received) ∙ same
+        heard-so c fits r ran value none same = grind (arith, port-heard, heard_with, option_to_list, append-nil)
 
   -- ---- the frame that it has to give is put on the line
 
@@ -219,19 +212,7 @@ module _ (n201 : ℕ) where
             inl (omega (arith, low, same))
 
     puts-heard : (c : Config) (fits : Fits n201 c) (s : Termination) → Ran c s → (value : ℕ) → gained n201 (port_of s).received value ≡ None → (a : ℕ) → Puts s a → Puts (happens (port.octet value) s) a
-    puts-heard c fits s ran value none a p = go p
-      where
-        same : port_of (happens (port.octet value) s) ≡ record (port_of s) { received = (port_of s).received ++ value ∷ [] }
-        same = port-heard n201 c fits s ran value none
-
-        go : Puts s a → Puts (happens (port.octet value) s) a
-        go (inl more) = inl (subst (λ (p : Port). n < length (frames_among p.items)) (sym same) more)
-        go (inr (waits, few, low)) =
-            inr (
-              ap (next_of_card s.line) (card-heard n201 c fits s ran value none) ∙ waits,
-              subst (λ p. length (left_of p) + 8 * a ≤ most) (sym same) few,
-              subst (λ (p : Port). n ≤ length (frames_among p.items)) (sym same) low,
-            )
+    puts-heard c fits s ran value none a p = grind (arith, port-heard, next_of_card, card-heard)
 
     puts-way : (s : Termination) (way : List ℕ) (a : ℕ) → Puts s a → Puts (record s { way = way }) a
     puts-way s way a p = p
@@ -270,14 +251,7 @@ module _ (n201 : ℕ) where
             let i = item_of (given_in (next_of_card s.line s.card.card)) in inl (record { item = i; more = []; is = pull-put n201 c fits s ran e ∙ ap (λ is. is ++ i ∷ []) same })
 
     goes-heard : (c : Config) (fits : Fits n201 c) (s : Termination) → Ran c s → (value : ℕ) → gained n201 (port_of s).received value ≡ None → (a : ℕ) → GoesOn s a → GoesOn (happens (port.octet value) s) a
-    goes-heard c fits s ran value none a p = go p
-      where
-        same : port_of (happens (port.octet value) s) ≡ record (port_of s) { received = (port_of s).received ++ value ∷ [] }
-        same = port-heard n201 c fits s ran value none
-
-        go : GoesOn s a → GoesOn (happens (port.octet value) s) a
-        go (inl behind) = inl (record { item = behind.item; more = behind.more; is = ap (λ (p : Port). p.items) same ∙ behind.is })
-        go (inr (its, few)) = inr (ap (λ (p : Port). p.items) same ∙ its, subst (λ p. length (left_of p) + 8 * a ≤ most) (sym same) few)
+    goes-heard c fits s ran value none a p = grind (arith, port-heard)
 
     goes-way : (s : Termination) (way : List ℕ) (a : ℕ) → GoesOn s a → GoesOn (record s { way = way }) a
     goes-way s way a p = p
@@ -354,13 +328,7 @@ module _ (n201 : ℕ) where
 
         heard-so : (c : Config) (fits : Fits n201 c) (r : Termination) → Ran c r → (value : ℕ) → gained n201 (port_of r).received value ≡ None → (b : ℕ) → Come b (port_of r).received
             → heard_in n201 (port_of r).received ≡ events → Come (b + 1) (port_of (happens (port.octet value) r)).received × (heard_in n201 (port_of (happens (port.octet value) r)).received ≡ events)
-        heard-so c fits r ran value none b come same =
-            let received = (port_of r).received in
-            let now = ap (λ (q : Port). q.received) (port-heard n201 c fits r ran value none) in (
-              subst (λ l. Come (b + 1) l) (sym now)
-                  (subst (λ n. (length first + (b + 1) ≤ n + way) ⊎ (length first ≤ n)) (sym (length-append received (value ∷ []))) (come-on way (length first) (length received) b come)),
-              ap (heard_in n201) now ∙ heard_with n201 received value ∙ ap (λ o. heard_in n201 received ++ option_to_list o) none ∙ append-nil (heard_in n201 received) ∙ same,
-            )
+        heard-so c fits r ran value none b come same = grind (arith, port-heard, Come, length-append, come-on, heard_with, option_to_list, append-nil)
 
         all-there : (s r : Termination) (frames : List (List ℕ)) → Carries n201 (port_of s) s.way (port_of r).received frames → s.way ≡ [] → (more : List ℕ) → (port_of s).given ≡ first ++ more
             → length first ≤ length (port_of r).received

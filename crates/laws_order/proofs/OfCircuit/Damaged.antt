@@ -1,9 +1,8 @@
 -- What happens on a circuit on which octets are damaged is, at the cards of frames inside, what happens on a wire of frames.
-use Rattle.laws_order.proofs.Vocabulary.{◌≡◌, ℕ, Bool, true, false, cond, List, [], ◌∷◌, ◌++◌, drop, Option, None, Some, option_map, option_to_list, refl, sym, ap, ◌∙◌, subst, append-nil, All, flat_map, option_map_or, All-nil, All-cons, All-head, Service, LineTold, Card, port_at, answer_to, card_after, gained, is_due, Seen, Station, Wire, frames_by, Past, known, FaceInStep, IsToldInOrder, kept_by}
+use Rattle.laws_order.proofs.Vocabulary.{arith, ◌≡◌, ℕ, Bool, cond, List, [], ◌∷◌, ◌++◌, drop, Option, None, Some, option_map, option_to_list, refl, sym, ap, ◌∙◌, subst, append-nil, All, flat_map, option_map_or, All-nil, All-cons, All-head, Service, LineTold, Card, port_at, answer_to, card_after, gained, is_due, Seen, Station, Wire, frames_by, Past, known, FaceInStep, IsToldInOrder, kept_by}
 use Rattle.model_bits.specs.Stream as stream
 use Rattle.model_line.specs.Event as line
 use Rattle.model_card.specs.Event as frames
-use Rattle.model_card.specs.Machine as machine
 unfoldable use Rattle.model_card.specs.ports.Card.{after, meant}
 use Rattle.model_card.specs.ports.Event.{Event}
 use Rattle.model_card.specs.ports.Port as port
@@ -50,8 +49,7 @@ heard-comes n201 None all = tt
 heard-comes n201 (Some e) all = All-head (HasCome n201) e [] all
 
 due-comes : (n201 : ℕ) (due : Bool) → Comes n201 (cond due (Some line.next) None)
-due-comes n201 true = tt
-due-comes n201 false = tt
+due-comes n201 due = grind arith
 
 pub meaning-comes : (n201 : ℕ) (what : port.Event) (p : port.Port) → Comes n201 (port.meant n201 what p)
 meaning-comes n201 (port.octet value) p = heard-comes n201 (gained n201 p.received value) (gained-whole n201 p.received value)
@@ -94,9 +92,7 @@ module _ (service : Service) (tei : ℕ) (s : Socket) (y : Station) (g : List (L
   then_told e = (wire.happens e (station g t s)).told
 
   happened : (e : line.Event) → wire.happens e (station g t s) ≡ near_then (then_granted e) (then_told e) (Some (frames.at s.line e))
-  happened e =
-      let a = answer_to card (frames.at s.line e) in
-      λ i. record { card = machine.after (frames.at s.line e) card; line = s.line; way = s.way ++ sym (append-nil (frames_by a)) i; granted = then_granted e; told = then_told e }
+  happened e = grind (arith, append-nil)
 
   -- an event that means this leads to where the machine of frames does
   record Led (o : Option line.Event) (deed : Option order.Deed) (way : List (List ℕ)) : Type 0 where
@@ -216,16 +212,7 @@ back-at : (a b : Station) → StaysAt a b → StaysAt b a
 back-at a b x = record { config = sym x.config; line = sym x.line }
 
 stays-on : (first v : Wire) → Stay first v → (h : order.Happening) → Stay first (order.happening h v)
-stays-on first v x (order.by_near deed) = record {
-  near = then-at first.near v.near (order.befalling deed v).near x.near (near-place deed v);
-  far = then-at first.far v.far (order.befalling deed v).far x.far (far-place deed v);
-}
-stays-on first v x (order.by_far deed) =
-    let u = wire.turned v in
-    record {
-      near = then-at first.near v.near (order.befalling deed u).far x.near (far-place deed u);
-      far = then-at first.far v.far (order.befalling deed u).near x.far (near-place deed u);
-    }
+stays-on first v x h = grind (arith, then-at, near-place, far-place)
 
 module _ (service : Service) (tei : ℕ) (first : Wire) where
   pub none-ran : (v : Wire) → Ran service tei first v [] []

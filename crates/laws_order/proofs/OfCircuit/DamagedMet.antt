@@ -1,5 +1,5 @@
 -- The premises of the law on damaged octets are met by the worked run.
-use Rattle.laws_order.proofs.Vocabulary.{◌≡◌, ℕ, ◌&&◌, ◌==◌, Bool, true, false, List, [], ◌∷◌, ◌++◌, Option, Some, eqb-true, refl, ap, and_parts, Call, Parts, reading, header_of, control_of, unnumbered_of, supervisory_of, distance_of, named, seq, low_bits, Config, heard_side, IsFront, user, network, Station, of_link_at, data_noted, data_granted, None, port_of, known, kept_by, Circuit, doing_all, Mixed, establishes}
+use Rattle.laws_order.proofs.Vocabulary.{arith, ◌≡◌, ℕ, ◌&&◌, ◌==◌, Bool, true, false, List, [], ◌∷◌, ◌++◌, Option, Some, eqb-true, refl, ap, and_parts, Call, Parts, reading, header_of, control_of, unnumbered_of, supervisory_of, distance_of, named, seq, low_bits, Config, heard_side, IsFront, user, network, Station, of_link_at, data_noted, data_granted, None, port_of, known, kept_by, Circuit, doing_all, Mixed, establishes}
 use Rattle.lapd_tei.specs.Events as teis
 use Rattle.model_bits.specs.Stream as stream
 use Rattle.model_line.specs.Event as line
@@ -69,26 +69,20 @@ are_possible [] w = true
 are_possible (h ∷ hs) w = is_possible h w && are_possible hs (happening h w)
 
 none-so : (fs : List Parts) → is_none fs ≡ true → fs ≡ []
-none-so [] e = refl
-none-so (f ∷ fs) e = absurd (cc e)
+none-so fs e = grind arith
 
 other-so : (c : Config) (o : Option line.Event) → is_other c o ≡ true → IsOther Call 0 c o
-other-so c (Some (line.hears (stream.frame octets))) e = none-so (of_link_at Call 0 (heard_side c) octets) e
-other-so c other e = tt
+other-so c o e = grind (arith, none-so)
 
 head-so : (octets : List ℕ) (way : List (List ℕ)) → is_head octets way ≡ true → (rest : List (List ℕ)) × (way ≡ octets ∷ rest)
 head-so octets [] e = absurd (cc e)
 head-so octets (f ∷ fs) e = (fs, ap (λ x. x ∷ fs) (same-octets f octets e))
 
 first-so : (o : Option line.Event) (way : List (List ℕ)) → is_first o way ≡ true → IsFirst o way
-first-so (Some (line.hears (stream.frame octets))) way e = head-so octets way e
-first-so other way e = absurd (cc e)
+first-so o way e = grind (arith, head-so)
 
 pub at-so : (deed : Deed) (s : Socket) (way : List (List ℕ)) → is_possible_at deed s way ≡ true → IsPossibleAt Call 0 deed s way
-at-so (happens what) s way e = other-so s.card.card.config (meaning what s) e
-at-so (completes value) s way e = first-so (meaning (port.octet value) s) way e
-at-so (elsewhere other) s way e = absurd (cc e)
-at-so loses s way e = tt
+at-so deed s way e = grind (arith, other-so, first-so)
 
 all-so : (hs : List Happening) (w : Noisy) → are_possible hs w ≡ true → ArePossible Call 0 hs w
 unfolding ArePossible are_possible
@@ -160,8 +154,7 @@ are_mixed (mixed.by_frames deed ∷ hs) w = is_act deed && are_mixed hs (mixed.h
 are_mixed (mixed.by_octets deed ∷ hs) w = is_possible_at deed w.far w.near.way && are_mixed hs (mixed.happening (mixed.by_octets deed) w)
 
 act-so : (deed : order.Deed) (s : Station) → is_act deed ≡ true → order.IsPossibleAt Call 0 s deed
-act-so (order.acts act) s e = tt
-act-so other s e = absurd (cc e)
+act-so deed s e = grind arith
 
 mixed-so : (hs : List mixed.Happening) (w : Mixed) → are_mixed hs w ≡ true → mixed.ArePossible Call 0 hs w
 unfolding mixed_possible are_mixed

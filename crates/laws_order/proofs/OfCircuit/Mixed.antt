@@ -1,6 +1,5 @@
 -- What happens to a card of frames that faces one of octets is, at the card of frames inside, what happens on a wire of frames.
-use Rattle.laws_order.proofs.Vocabulary.{◌≡◌, ℕ, List, [], ◌∷◌, Some, refl, Service, LineTold, Wire, Mixed, DeliveredBetweenKinds}
-use Rattle.laws_wire.specs.Wire as wire
+use Rattle.laws_order.proofs.Vocabulary.{arith, ◌≡◌, ℕ, List, [], ◌∷◌, Some, refl, Service, LineTold, Wire, Mixed, DeliveredBetweenKinds}
 use Rattle.laws_order.specs.Happenings as order
 use Rattle.laws_order.specs.circuit.Damaged.{left_by, seen_by}
 use Rattle.laws_order.specs.circuit.Mixed as mixed
@@ -9,12 +8,10 @@ use Rattle.laws_order.proofs.OfCircuit.Damaged.{station, one-done, One, Ran, Sta
 
 frames-same : (deed : order.Deed) (w : Mixed) (h : List (List ℕ)) (u : List LineTold) → let w' = mixed.happening (mixed.by_frames deed) w in
     order.befalling deed (record { near = w.near; far = station h u w.far }) ≡ record { near = w'.near; far = station h u w'.far }
-frames-same (order.acts (wire.requests r)) w h u = refl
-frames-same other w h u = refl
+frames-same deed w h u = grind arith
 
 frames-seen : (deed : order.Deed) (w : Mixed) (h : List (List ℕ)) (u : List LineTold) → order.seen_by deed (record { near = w.near; far = station h u w.far }) ≡ order.seen_by deed (mixed.as_wire w)
-frames-seen (order.acts (wire.requests r)) w h u = refl
-frames-seen other w h u = refl
+frames-seen deed w h u = grind arith
 
 all-mixed : (service : Service) (tei : ℕ) (first : Wire) (hs : List mixed.Happening) (w : Mixed) (h : List (List ℕ)) (u : List LineTold)
     → Stay first (record { near = w.near; far = station h u w.far }) → mixed.ArePossible service tei hs w

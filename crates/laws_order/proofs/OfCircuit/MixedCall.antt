@@ -1,5 +1,5 @@
 -- What is done between a card of frames and one for octets is, at the card of frames inside, done on a wire of frames.
-use Rattle.laws_order.proofs.Vocabulary.{◌≡◌, ℕ, Bool, true, false, cond, List, [], ◌∷◌, ◌++◌, drop, flat_map, Option, None, Some, option_map, option_to_list, refl, sym, ap, ◌∙◌, subst, append-nil, All, All-nil, All-cons, All-head, All-tail, All-append, Service, other_side, Config, answer_to, is_due, Station, Wire, CanCall, calling, calls-come-through, twice-other, doing-append, IsCall}
+use Rattle.laws_order.proofs.Vocabulary.{arith, ◌≡◌, ℕ, Bool, true, false, cond, List, [], ◌∷◌, ◌++◌, drop, flat_map, Option, None, Some, option_map, option_to_list, refl, sym, ap, ◌∙◌, subst, append-nil, All, All-nil, All-cons, All-head, All-tail, All-append, Service, Config, answer_to, is_due, Station, Wire, CanCall, calling, calls-come-through, twice-other, doing-append, IsCall}
 use Rattle.model_bits.specs.Stream as stream
 use Rattle.model_line.specs.Event as line
 use Rattle.model_line.specs.Request.{Establish, Assign}
@@ -34,8 +34,7 @@ module _ (service : Service) (tei : ℕ) where
   -- ---- at the card of frames
 
   frames-led : (act : frames.Act) (w : Pair) → frames.acting act (as_wire w) ≡ as_wire (doing (by_frames act) w)
-  frames-led (frames.requests r) w = refl
-  frames-led other w = refl
+  frames-led act w = grind arith
 
   -- ---- at the card for octets
 
@@ -51,14 +50,10 @@ module _ (service : Service) (tei : ℕ) where
 
       back : (due : Bool) → let o : Option line.Event = cond due (Some line.next) None in
           w.back ++ flat_map frames.frames_by (option_to_list (option_map (answer_to w.far.card.card) (option_map (frame_events.at w.far.line) o))) ≡ (if_meant o (as_station w.back w.far)).way
-      back true = ap (λ fs. w.back ++ fs) (append-nil _)
-      back false = append-nil w.back
+      back due = grind (arith, append-nil)
 
       there : (due : Bool) → is_due (port_of w.far) ≡ due → as_wire (doing pulls w) ≡ ends w.near (if_meant (cond due (Some line.next) None) (as_station w.back w.far))
-      there due e =
-          ap (λ b. ends w.near (as_station b (happens port.pull w.far))) (back (is_due (port_of w.far)))
-          ∙ ap (λ x. ends w.near x) (pulled-as w.far w.back)
-          ∙ ap (λ d. ends w.near (if_meant (cond d (Some line.next) None) (as_station w.back w.far))) e
+      there due e = grind (arith, as_station, back, pulled-as, if_meant)
 
       go : (due : Bool) → is_due (port_of w.far) ≡ due → Led (as_wire w) (as_wire (doing pulls w))
       go true e = one-led (as_wire w) (as_wire (doing pulls w)) (frames.at_far frames.gives) tt (sym (there true e))
@@ -126,8 +121,7 @@ all_swapped [] = []
 all_swapped (e ∷ es) = swapped e ∷ all_swapped es
 
 one-turned : (e : frames.Doing) (v : Wire) → frames.doing (swapped e) (frames.turned v) ≡ frames.turned (frames.doing e v)
-one-turned (frames.at_near act) v = refl
-one-turned (frames.at_far act) v = refl
+one-turned e v = grind arith
 
 all-turned : (es : List frames.Doing) (v : Wire) → frames.doing_all (all_swapped es) (frames.turned v) ≡ frames.turned (frames.doing_all es v)
 unfolding frames_done
@@ -135,8 +129,7 @@ all-turned [] v = refl
 all-turned (e ∷ es) v = ap (frames.doing_all (all_swapped es)) (one-turned e v) ∙ all-turned es (frames.doing e v)
 
 one-talk : (service : Service) (tei : ℕ) (e : frames.Doing) → IsCall service tei e → IsCall service tei (swapped e)
-one-talk service tei (frames.at_near act) is = is
-one-talk service tei (frames.at_far act) is = is
+one-talk service tei e is = grind arith
 
 all-talk : (service : Service) (tei : ℕ) (es : List frames.Doing) → All (IsCall service tei) es → All (IsCall service tei) (all_swapped es)
 all-talk service tei [] all = All-nil (IsCall service tei)
@@ -144,12 +137,7 @@ all-talk service tei (e ∷ es) all =
     All-cons (IsCall service tei) (swapped e) (all_swapped es) (one-talk service tei e (All-head (IsCall service tei) e es all)) (all-talk service tei es (All-tail (IsCall service tei) e es all))
 
 other-call : (c d : Config) (line other tei : ℕ) → CanCall c line d other tei → CanCall d other c line tei
-other-call c d line other tei can = record {
-  near = can.far;
-  far = can.near;
-  opposite = (sym (ap other_side can.opposite.0 ∙ twice-other c.side), sym can.opposite.1);
-  terminal = can.terminal;
-}
+other-call c d line other tei can = grind (arith, twice-other)
 
 through : (service : Service) (c d : Config) (line other tei : ℕ) → CanCall c line d other tei → (es : List frames.Doing) → All (IsCall service tei) es → (last : Wire)
     → frames.doing_all es (calling service tei c line d other) ≡ last → IsThrough service tei (calling service tei c line d other) last

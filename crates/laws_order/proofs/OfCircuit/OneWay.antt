@@ -1,5 +1,5 @@
 -- One direction of a circuit: the octets that an end gave, those of them that the other has heard, and the frames on their way.
-use Rattle.laws_order.proofs.Vocabulary.{◌≡◌, ℕ, ◌+◌, ◌≤◌, List, [], ◌∷◌, ◌++◌, map, None, Some, option_to_list, refl, sym, ap, ◌∙◌, subst, append-nil, append_assoc, All, append_cancel_left, map-append, All-append, All-cons, All-head, All-nil, All-tail, item_octets, Item, idle, heard_in, AreOctets, came, frames_among, GoOut, Port, gained, left_of, IsSoundPort, sent, same_text, frames_sent, cut_sent, heard_whole, all_exact, heard_with, IsLongItem, IsOnItsWay, go_out, all_out, all-right}
+use Rattle.laws_order.proofs.Vocabulary.{arith, ◌≡◌, ℕ, ◌+◌, ◌≤◌, List, [], ◌∷◌, ◌++◌, map, None, Some, option_to_list, refl, sym, ap, ◌∙◌, subst, append-nil, append_assoc, All, append_cancel_left, map-append, All-append, All-cons, All-head, All-nil, All-tail, item_octets, Item, idle, heard_in, AreOctets, came, frames_among, GoOut, Port, gained, left_of, IsSoundPort, sent, same_text, frames_sent, cut_sent, heard_whole, all_exact, heard_with, IsLongItem, IsOnItsWay, go_out, all_out, all-right}
 use Rattle.model_bits.specs.Sent.{frame}
 use Rattle.laws_wire.proofs.Spelled.{came-whole}
 use Rattle.model_bits.specs.Stream as stream
@@ -74,11 +74,7 @@ module _ (n201 : ℕ) (p : Port) (way received : List ℕ) (frames : List (List 
 
   -- the first octet on the way is heard, and ends nothing
   pub none-heard : (value : ℕ) (more : List ℕ) → way ≡ value ∷ more → gained n201 received value ≡ None → Carries n201 p more (received ++ value ∷ []) frames
-  none-heard value more is none = record {
-    given = h.given ∙ ap (λ l. received ++ l) is ∙ sym (append_assoc received (value ∷ []) more);
-    are = h.are ∙ ap (λ l. l ++ framed frames) (sym (heard_with n201 received value ∙ ap (λ o. heard_in n201 received ++ option_to_list o) none ∙ append-nil (heard_in n201 received)));
-    octets = h.octets;
-  }
+  none-heard value more is none = grind (arith, append_assoc, heard_with, option_to_list, append-nil)
 
   module _ (sound : IsSoundPort n201 p) (on : IsOnItsWay p) where
     abbrev sent_items : List Item

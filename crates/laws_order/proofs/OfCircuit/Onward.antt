@@ -1,11 +1,11 @@
 -- Beats as a list: what they leave, and what they add to what was told.
-use Rattle.laws_order.proofs.Vocabulary.{◌≡◌, ℕ, zero, suc, ◌+◌, List, [], ◌∷◌, ◌++◌, length, drop, Option, None, Some, option_to_list, refl, sym, ap, ◌∙◌, arith, append-nil, append_assoc, length-append, All, option_map_or, All-cons, All-nil, LineTold, said, answer_of, next_octet, with_item, beat}
+use Rattle.laws_order.proofs.Vocabulary.{◌≡◌, ℕ, zero, suc, ◌+◌, List, [], ◌∷◌, ◌++◌, length, drop, Option, option_to_list, refl, sym, ap, ◌∙◌, arith, append-nil, append_assoc, length-append, All, option_map_or, All-cons, All-nil, LineTold, said, answer_of, next_octet, with_item, beat}
 use Rattle.model_line.specs.Event as line
 unfoldable use Rattle.model_card.specs.ports.Card.{answer}
 use Rattle.model_card.specs.ports.Event.{at}
 use Rattle.model_card.specs.ports.Port as port
 unfoldable use Rattle.laws_order.specs.circuit.Beats.{beats}
-use Rattle.laws_order.specs.circuit.Circuit.{Termination, port_of, happens, told_by, unless_refused, with_first_of, Circuit, pulls, hears, OctetDoing, at_near, at_far, doing}
+use Rattle.laws_order.specs.circuit.Circuit.{Termination, port_of, happens, unless_refused, with_first_of, Circuit, pulls, hears, OctetDoing, at_near, at_far, doing}
 unfoldable use Rattle.laws_order.specs.circuit.Circuit.{doing_all}
 use Rattle.laws_order.proofs.OfCircuit.Projected.{doing_meant, heard-way}
 unfoldable use Rattle.laws_order.proofs.OfCircuit.Projected.{doings_meant}
@@ -73,8 +73,7 @@ hearings-far (suc n) = let rest = hearings-far n in omega (arith, rest)
 -- ---- as many octets stay on the way
 
 first-way : (way : List ℕ) (s : Termination) → (with_first_of way s).way ≡ s.way
-first-way [] s = refl
-first-way (value ∷ more) s = heard-way value s
+first-way way s = grind (arith, heard-way)
 
 pulled-way : (s : Termination) → (value : ℕ) × ((happens port.pull s).way ≡ s.way ++ value ∷ [])
 unfolding answer
@@ -121,17 +120,10 @@ adds-nothing : (s : Termination) → Adds s s
 adds-nothing s = record { granted = refl; more = []; told = sym (append-nil s.told) }
 
 then-adds : (s t u : Termination) → Adds s t → Adds t u → Adds s u
-then-adds s t u h k = record {
-  granted = k.granted ∙ h.granted;
-  more = h.more ++ k.more;
-  told = k.told ∙ ap (λ l. l ++ k.more) h.told ∙ append_assoc s.told h.more k.more;
-}
+then-adds s t u h k = grind (arith, append_assoc)
 
 none-granted : (o : Option line.Answer) → unless_refused (option_map_or answer_of o (port.told line.nothing)) [] ≡ []
-none-granted None = refl
-none-granted (Some (line.told t)) = refl
-none-granted (Some (line.refused why)) = refl
-none-granted (Some (line.gave next)) = refl
+none-granted o = grind arith
 
 pull-adds : (s : Termination) → Adds s (happens port.pull s)
 unfolding answer
@@ -139,13 +131,7 @@ pull-adds s = record { granted = append-nil s.granted; more = []; told = refl }
 
 octet-adds : (value : ℕ) (s : Termination) → Adds s (happens (port.octet value) s)
 unfolding answer
-octet-adds value s =
-    let o = said (at s.line (port.octet value)) s.card in
-    record {
-      granted = ap (λ l. s.granted ++ l) (none-granted o) ∙ append-nil s.granted;
-      more = told_by (option_map_or answer_of o (port.told line.nothing));
-      told = refl;
-    }
+octet-adds value s = grind (arith, none-granted, append-nil)
 
 first-adds : (way : List ℕ) (s : Termination) → Adds s (with_first_of way s)
 first-adds [] s = adds-nothing s

@@ -81,8 +81,7 @@ are_mute (at_near act ∷ ds) = mute act && are_mute ds
 are_mute (at_far act ∷ ds) = mute act && are_mute ds
 
 mute-talk : (act : OctetAct) → mute act ≡ true → IsTalkOf Call 0 act
-mute-talk (asks r) e = absurd (cc e)
-mute-talk other e = tt
+mute-talk act e = grind arith
 
 pub by-mutes : (ds : List OctetDoing) → are_mute ds ≡ true → All (IsTalk Call 0) ds
 by-mutes [] e = All-nil (IsTalk Call 0)

@@ -1,5 +1,5 @@
 -- What is done on a circuit of octets is, at the cards of frames inside, done on a wire of frames.
-use Rattle.laws_order.proofs.Vocabulary.{◌≡◌, ℕ, ◌<◌, Bool, true, false, cond, List, [], ◌∷◌, ◌++◌, length, drop, Option, None, Some, is_some, option_map, option_to_list, refl, sym, ap, ◌∙◌, subst, append-nil, All, option_map_or, get_or-set_same, All-append, All-cons, All-head, All-nil, All-tail, Service, AreOctets, Config, came, NextFrame, said, answer_to, frames_among, octet_pulled, Port, fresh_port, answer_of, gained, given_in, is_due, item_of, next_octet, with_item, with_octet, IsSoundPort, contents_given, Station, Wire, doing-append, Request, IsInRange, IsTalkOf, IsTalk, IsAsked}
+use Rattle.laws_order.proofs.Vocabulary.{arith, ◌≡◌, ℕ, ◌<◌, Bool, true, false, cond, List, [], ◌∷◌, ◌++◌, length, drop, Option, None, Some, is_some, option_map, option_to_list, refl, sym, ap, ◌∙◌, subst, append-nil, All, option_map_or, get_or-set_same, All-append, All-head, All-nil, All-tail, Service, AreOctets, Config, came, NextFrame, said, answer_to, frames_among, octet_pulled, Port, fresh_port, answer_of, gained, given_in, is_due, item_of, next_octet, with_item, with_octet, IsSoundPort, contents_given, Station, Wire, doing-append, Request, IsInRange, IsTalkOf, IsTalk, IsAsked}
 use Rattle.model_bits.specs.Stream as stream
 use Rattle.model_line.specs.Event as line
 unfoldable use Rattle.model_line.specs.Machine.{answer as line_answer, takes_slot}
@@ -53,10 +53,7 @@ unfolding after
 port-after s what within = get_or-set_same s.card.ports s.line (port.after what (said (at s.line what) s.card) (port_of s)) fresh_port within
 
 none-pulled : (o : Option line.Answer) → octet_pulled (option_map_or answer_of o (port.told line.nothing)) ≡ []
-none-pulled None = refl
-none-pulled (Some (line.told t)) = refl
-none-pulled (Some (line.refused why)) = refl
-none-pulled (Some (line.gave next)) = refl
+none-pulled o = grind arith
 
 same-way : (way : List ℕ) (o : Option line.Answer) → way ++ octet_pulled (option_map_or answer_of o (port.told line.nothing)) ≡ way
 same-way way o = ap (λ l. way ++ l) (none-pulled o) ∙ append-nil way
@@ -70,8 +67,7 @@ unfolding answer
 heard-way value s = same-way s.way (said (at s.line (port.octet value)) s.card)
 
 same-received : (o : Option line.Answer) (p : Port) → (with_octet (with_item o p)).received ≡ p.received
-same-received None p = refl
-same-received (Some a) p = refl
+same-received o p = grind arith
 
 -- ---- what layer 3 asks
 
@@ -89,49 +85,29 @@ abbrev AreTalks : Service → ℕ → List wire.Act → Type 0
 AreTalks service tei acts = All (call.IsCallOf service tei) acts
 
 acts-talk : (service : Service) (tei : ℕ) (act : OctetAct) (w : Circuit) → IsTalkOf service tei act → AreTalks service tei (option_to_list (act_meant act w))
-acts-talk service tei (asks r) w is = All-cons (call.IsCallOf service tei) (wire.requests r) [] (asked-there service tei r is) (All-nil (call.IsCallOf service tei))
-acts-talk service tei pulls w is = go (is_due (port_of w.near))
-  where
-    go : (due : Bool) → AreTalks service tei (option_to_list (cond due (Some wire.gives) None))
-    go true = All-cons (call.IsCallOf service tei) wire.gives [] tt (All-nil (call.IsCallOf service tei))
-    go false = All-nil (call.IsCallOf service tei)
-acts-talk service tei hears w is = go w.far.way
-  where
-    by : (ends : Bool) → AreTalks service tei (option_to_list (cond ends (Some wire.takes) None))
-    by true = All-cons (call.IsCallOf service tei) wire.takes [] tt (All-nil (call.IsCallOf service tei))
-    by false = All-nil (call.IsCallOf service tei)
-
-    go : (way : List ℕ) → AreTalks service tei (option_to_list (hearing_means way w.near))
-    go [] = All-nil (call.IsCallOf service tei)
-    go (value ∷ more) = by (is_some (gained w.near.card.card.config.n201 (port_of w.near).received value))
+acts-talk service tei act w is = grind (arith, asked-there, option_to_list, is_some)
 
 near-of : (service : Service) (tei : ℕ) (o : Option wire.Act) → AreTalks service tei (option_to_list o) → All (call.IsCall service tei) (option_to_list (option_map wire.at_near o))
-near-of service tei None h = All-nil (call.IsCall service tei)
-near-of service tei (Some act) h = All-cons (call.IsCall service tei) (wire.at_near act) [] (All-head (call.IsCallOf service tei) act [] h) (All-nil (call.IsCall service tei))
+near-of service tei o h = grind arith
 
 far-of : (service : Service) (tei : ℕ) (o : Option wire.Act) → AreTalks service tei (option_to_list o) → All (call.IsCall service tei) (option_to_list (option_map wire.at_far o))
-far-of service tei None h = All-nil (call.IsCall service tei)
-far-of service tei (Some act) h = All-cons (call.IsCall service tei) (wire.at_far act) [] (All-head (call.IsCallOf service tei) act [] h) (All-nil (call.IsCall service tei))
+far-of service tei o h = grind arith
 
 -- ---- one way, where ports stay in part
 
 module _ (n201 : ℕ) where
   moved : (p q : Port) (way way' received received' : List ℕ) (frames : List (List ℕ)) → p ≡ q → way ≡ way' → received ≡ received' → Carries n201 q way' received' frames → Carries n201 p way received frames
-  moved p q way way' received received' frames same way-same received-same h =
-      subst (λ p. Carries n201 p way received frames) (sym same)
-      (subst (λ way. Carries n201 q way received frames) (sym way-same) (subst (λ received. Carries n201 q way' received frames) (sym received-same) h))
+  moved p q way way' received received' frames same way-same received-same h = grind (arith, Carries)
 
   with-received : (p : Port) (way received now : List ℕ) (frames : List (List ℕ)) → Carries n201 p way received frames → Carries n201 (record p { received = now }) way received frames
   with-received p way received now frames h = record { given = h.given; are = h.are; octets = h.octets }
 
   -- what a call for the next frame puts on the line
   frame-put : (g : Option NextFrame) → frames_among (item_of g ∷ []) ≡ wire.frames_by (line.gave g)
-  frame-put None = refl
-  frame-put (Some f) = refl
+  frame-put g = grind arith
 
   octets-put : (g : Option NextFrame) → ((f : NextFrame) → g ≡ Some f → AreOctets f.octets) → All AreOctets (frames_among (item_of g ∷ []))
-  octets-put None h = All-nil AreOctets
-  octets-put (Some f) h = All-cons AreOctets f.octets [] (h f refl) (All-nil AreOctets)
+  octets-put g h = grind arith
 
   pub record Fits (c : Config) : Type 0 where
     pub ranged : IsInRange c
@@ -193,8 +169,7 @@ module _ (n201 : ℕ) where
     -- ---- a pull
 
     pulled-meant : (due : Bool) → if_acted (cond due (Some wire.gives) None) (as_wire there back w) ≡ with-near (if_meant (cond due (Some line.next) None) (as_station there near))
-    pulled-meant true = refl
-    pulled-meant false = refl
+    pulled-meant due = grind arith
 
     pulled-goes : (due : Bool) → let o : Option line.Event = cond due (Some line.next) None in
         let q = with_item (option_map (answer_to near.card.card) (option_map (frames.at near.line) o)) (port_of near) in
@@ -262,9 +237,7 @@ module _ (n201 : ℕ) where
         ran = goes-on c near (port.octet value) tt h.near
 
         as-heard : (o : Option stream.Event) → gained n201 (port_of near).received value ≡ o → as_station there s ≡ if_meant (option_map line.hears o) (as_station there near)
-        as-heard o e =
-            heard-as value near there
-            ∙ ap (λ o. if_meant (option_map line.hears o) (as_station there near)) (ap (λ n. gained n (port_of near).received value) n201-is ∙ e)
+        as-heard o e = grind (arith, heard-as, if_meant, option_map, as_station, n201-is)
 
         goes : Carries n201 (port_of s) s.way (port_of far).received there
         goes =
@@ -302,10 +275,7 @@ module _ (n201 : ℕ) where
             }
 
     heard-first : (way : List ℕ) → far.way ≡ way → Acted (hearing_means way near) (hearing way)
-    heard-first [] is = heard-none is
-    heard-first (value ∷ more) is =
-        subst (λ n. Acted (cond (is_some (gained n (port_of near).received value)) (Some wire.takes) None) (hearing (value ∷ more))) (sym n201-is)
-        (heard-one value more (gained n201 (port_of near).received value) is refl)
+    heard-first way is = grind (arith, heard-none, is_some, n201-is, heard-one)
 
     pub one-act : (service : Service) (tei : ℕ) (act : OctetAct) → IsTalkOf service tei act → Acted (act_meant act w) (acting act w)
     one-act service tei (asks r) is = asked-one r (asked-octets service tei r is)
@@ -324,13 +294,11 @@ module _ (n201 : ℕ) where
 
     by-near : (o : Option wire.Act) (f : Wire) → wire.doing_all (option_to_list (option_map wire.at_near o)) f ≡ if_acted o f
     unfolding frames_done
-    by-near None f = refl
-    by-near (Some act) f = refl
+    by-near o f = grind arith
 
     by-far : (o : Option wire.Act) (f : Wire) → wire.doing_all (option_to_list (option_map wire.at_far o)) f ≡ wire.turned (if_acted o (wire.turned f))
     unfolding frames_done
-    by-far None f = refl
-    by-far (Some act) f = refl
+    by-far o f = grind arith
 
     pub one-done : (x : OctetDoing) → IsTalk service tei x → (w : Circuit) (there back : List (List ℕ)) → Follows c d w there back → Done (option_to_list (doing_meant x w)) w there back (doing x w)
     one-done (at_near act) is w there back h =

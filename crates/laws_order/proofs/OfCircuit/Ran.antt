@@ -1,5 +1,5 @@
 -- What a run keeps at one end of a circuit.
-use Rattle.laws_order.proofs.Vocabulary.{◌≡◌, ℕ, ◌<◌, ◌≤◌, ◌==◌, Bool, true, false, cond, List, [], ◌∷◌, ◌++◌, length, append_assoc, Option, None, Some, option_map, option_to_list, refl, sym, ap, ◌∙◌, subst, arith, append-nil, eq-eqb, All, All-append, All-cons, All-head, All-nil, AreOctets, Config, NextFrame, OctetCard, port_at, gained, is_due, left_of, longest_text, IsAtLine, AreAtLines, IsSoundPort, meant_at_lines, refined_card, on_its_way, heard_frames_are_octets, IsOnItsWay, pulls_are_takes, always_sound, fresh_octets_sound, port_sound, config_stays, moments-append, all-right, contents_given, HasOctets, GivesOctets, seen, seen_told, trace, trace_of, frames_begun, frames-are-octets, IsInRange}
+use Rattle.laws_order.proofs.Vocabulary.{◌≡◌, ℕ, ◌<◌, ◌≤◌, ◌==◌, Bool, cond, List, [], ◌∷◌, ◌++◌, length, append_assoc, Option, None, Some, option_map, option_to_list, refl, sym, ap, ◌∙◌, subst, arith, append-nil, eq-eqb, All, All-append, All-cons, All-head, All-nil, AreOctets, Config, NextFrame, OctetCard, port_at, gained, is_due, left_of, longest_text, IsAtLine, AreAtLines, IsSoundPort, meant_at_lines, refined_card, on_its_way, heard_frames_are_octets, IsOnItsWay, pulls_are_takes, always_sound, fresh_octets_sound, port_sound, config_stays, moments-append, all-right, contents_given, HasOctets, GivesOctets, seen, seen_told, trace, trace_of, frames_begun, frames-are-octets, IsInRange}
 use Rattle.std.proofs.lemmas.Grind.{flat_map-append}
 use Rattle.model_bits.specs.Stream as stream
 use Rattle.model_line.specs.Event as line
@@ -8,7 +8,7 @@ use Rattle.model_card.specs.Card as cards
 use Rattle.model_card.specs.Event as frames
 use Rattle.model_card.specs.Machine as machine
 use Rattle.model_card.specs.Run as runs
-unfoldable use Rattle.model_card.specs.Run.{after_all as frames_after, moments as frame_moments}
+unfoldable use Rattle.model_card.specs.Run.{moments as frame_moments}
 use Rattle.model_card.specs.ports.Card.{fresh}
 unfoldable use Rattle.model_card.specs.ports.Card.{after, meant}
 use Rattle.model_card.specs.ports.Event.{Event, at}
@@ -17,7 +17,6 @@ use Rattle.model_card.specs.ports.Port as port
 unfoldable use Rattle.model_card.specs.ports.Run.{after_all, meant_all}
 use Rattle.model_card.specs.ports.Sound.{IsSound}
 use Rattle.laws_trace.specs.Trace as traces
-use Rattle.laws_trace.specs.Trace.{begun}
 use Rattle.laws_order.specs.circuit.Circuit.{Termination, port_of, happens}
 
 -- ---- one event more
@@ -36,9 +35,7 @@ meant-more m (x ∷ events) e =
 
 trace-more : (c : Config) (fs gs : List frames.Event) (number : ℕ)
     → trace_of c (fs ++ gs) number ≡ trace_of c fs number ++ trace number (runs.moments (runs.after_all (cards.fresh c) fs) gs)
-trace-more c fs gs number =
-    ap (trace number) (moments-append (cards.fresh c) fs gs)
-    ∙ flat_map-append (traces.seen_in number) (runs.moments (cards.fresh c) fs) (runs.moments (runs.after_all (cards.fresh c) fs) gs)
+trace-more c fs gs number = grind (arith, moments-append, flat_map-append)
 
 -- ---- what is seen are octets
 
@@ -53,8 +50,7 @@ IsExact (line.request r) = AreOctets (contents_given r)
 IsExact other = Unit {0}
 
 same-octets : (e : stream.Event) → ports.HasOctets e → HasOctets e
-same-octets (stream.frame octets) h = h
-same-octets other h = tt
+same-octets e h = grind arith
 
 heard-exact : (number : ℕ) (o : Option stream.Event) → All (λ (e : frames.Event). ports.HearsOctets e.what) (option_to_list (option_map (frames.at number) (option_map line.hears o)) ++ [])
     → All IsExact (option_to_list (option_map line.hears o))
@@ -63,8 +59,7 @@ heard-exact number (Some e) h =
     All-cons IsExact (line.hears e) [] (same-octets e (All-head (λ (e : frames.Event). ports.HearsOctets e.what) (frames.at number (line.hears e)) [] h)) (All-nil IsExact)
 
 next-exact : (due : Bool) → All IsExact (option_to_list (cond due (Some line.next) None))
-next-exact true = All-cons IsExact line.next [] tt (All-nil IsExact)
-next-exact false = All-nil IsExact
+next-exact due = grind arith
 
 meaning-exact : (m : OctetCard) (number : ℕ) (what : port.Event) → AsksOctets what → All IsExact (option_to_list (port.meant m.card.config.n201 what (port_at number m)))
 unfolding meant meant_all
@@ -75,22 +70,16 @@ meaning-exact m number (port.request r) h = All-cons IsExact (line.request r) []
 meaning-exact m number port.pull h = next-exact (is_due (port_at number m))
 
 told-exact : (a : line.Answer) → All GivesOctets (seen_told a)
-told-exact (line.told t) = All-cons GivesOctets (traces.noted t.notes t.contents) (traces.lost t.lost ∷ []) tt (All-cons GivesOctets (traces.lost t.lost) [] tt (All-nil GivesOctets))
-told-exact other = All-nil GivesOctets
+told-exact a = grind arith
 
 granted-exact : (r : asked.Request) (a : line.Answer) → AreOctets (contents_given r) → All GivesOctets (traces.seen_granted r a)
-granted-exact r (line.told t) h = All-cons GivesOctets (traces.granted r) [] h (All-nil GivesOctets)
-granted-exact r other h = All-nil GivesOctets
+granted-exact r a h = grind arith
 
 begun-exact : (a : line.Answer) → All GivesOctets (seen line.next a)
-begun-exact (line.gave (Some f)) = All-cons GivesOctets (begun f.octets) [] tt (All-nil GivesOctets)
-begun-exact other = All-nil GivesOctets
+begun-exact a = grind arith
 
 seen-exact : (f : line.Event) (a : line.Answer) → IsExact f → All GivesOctets (seen f a)
-seen-exact (line.hears e) a h = All-cons GivesOctets (traces.heard e) (seen_told a) h (told-exact a)
-seen-exact (line.expiry timer) a h = told-exact a
-seen-exact (line.request r) a h = All-append GivesOctets (traces.seen_granted r a) (seen_told a) (granted-exact r a h) (told-exact a)
-seen-exact line.next a h = begun-exact a
+seen-exact f a h = grind (arith, told-exact, granted-exact, begun-exact)
 
 moment-exact : (card : cards.Card) (number : ℕ) (o : Option line.Event) → All IsExact (option_to_list o)
     → All GivesOctets (trace number (runs.moments card (option_to_list (option_map (frames.at number) o))))
@@ -99,8 +88,7 @@ moment-exact card number None h = All-nil GivesOctets
 moment-exact card number (Some f) h = go (number == number)
   where
     go : (b : Bool) → All GivesOctets (cond b (seen f (machine.answer (frames.at number f) card)) [] ++ [])
-    go true = subst (All GivesOctets) (sym (append-nil (seen f (machine.answer (frames.at number f) card)))) (seen-exact f (machine.answer (frames.at number f) card) (All-head IsExact f [] h))
-    go false = All-nil GivesOctets
+    go b = grind (arith, append-nil, seen-exact)
 
 -- ---- an end that came about by events at lines of a card that had just begun, and octets alone were asked to be sent there
 
@@ -147,9 +135,7 @@ module _ (c : Config) (ranged : IsInRange c) (s : Termination) (h : Ran c s) whe
   within-ports = omega (arith, h.within, sound.count, ap (λ (x : Config). x.lines) config)
 
   pub sound-port : IsSoundPort c.n201 (port_of s)
-  sound-port =
-      let lines : s.card.card.config.lines ≡ c.lines = ap (λ (x : Config). x.lines) config in
-      subst (λ (x : Config). IsSoundPort x.n201 (port_of s)) config (port_sound s.card s.line sound (omega (arith, h.within, lines)))
+  sound-port = grind (arith, config, port_sound, sound)
 
   pub on-line : IsOnItsWay (port_of s)
   on-line = subst (λ (m : OctetCard). IsOnItsWay (port_at s.line m)) (sym h.is) (on_its_way c h.events s.line ranged h.at_lines h.within)

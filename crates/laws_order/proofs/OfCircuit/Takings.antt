@@ -1,6 +1,5 @@
 -- How often a frame is taken: at most half as often as there are turns, since each was given first.
-use Rattle.laws_order.proofs.Vocabulary.{◌≡◌, ℕ, ◌+◌, ◌*◌, ◌≤◌, Bool, false, List, [], ◌∷◌, ◌++◌, length, drop, None, Some, refl, ap, arith, length-append, All, if◌then◌else◌, All-head, All-tail, Service, Answer, Station, Wire, Act, Doing, frames_by, is_any, asks-way, takes-way, All-cons, All-nil, IsTalkOf, IsTalk}
-use Rattle.model_line.specs.Event as line
+use Rattle.laws_order.proofs.Vocabulary.{◌≡◌, ℕ, ◌+◌, ◌*◌, ◌≤◌, Bool, false, List, [], ◌∷◌, ◌++◌, length, drop, arith, length-append, All, if◌then◌else◌, All-head, All-tail, Service, Answer, Station, Wire, Act, Doing, frames_by, is_any, asks-way, takes-way, All-cons, All-nil, IsTalkOf, IsTalk}
 use Rattle.laws_wire.specs.Call as call
 use Rattle.laws_wire.specs.Wire as wire
 unfoldable use Rattle.laws_wire.specs.Wire.{doing_all, turns}
@@ -34,39 +33,23 @@ record Paid (taking turn : Bool) (before after : ℕ) : Type 0 where
   paid : 2 * (if taking then 1 else 0) + after ≤ (if turn then 1 else 0) + before
 
 one-frame : (a : Answer) → length (frames_by a) ≤ (if is_any (frames_by a) then 1 else 0)
-one-frame (line.told t) = omega arith
-one-frame (line.refused why) = omega arith
-one-frame (line.gave None) = omega arith
-one-frame (line.gave (Some f)) = omega arith
+one-frame a = grind arith
 
 first-way : (way : List (List ℕ)) (s : Station) → (wire.with_first_of way s).way ≡ s.way
-first-way [] s = refl
-first-way (octets ∷ more) s = takes-way octets s
+first-way way s = grind (arith, takes-way)
 
 one-less : (way : List (List ℕ)) → 2 * (if is_any way then 1 else 0) + length (drop 1 way) ≤ (if is_any way then 1 else 0) + length way
-one-less [] = omega arith
-one-less (x ∷ xs) = omega arith
+one-less way = grind arith
 
 module _ (service : Service) (tei : ℕ) where
   act-paid : (act : Act) → call.IsCallOf service tei act → (f : Wire) → Paid (is_taking_of act f) (wire.is_turn_of act f) (on_ways f) (on_ways (wire.acting act f))
-  act-paid (wire.requests r) is f = let same = ap length (asks-way r f.near) in record { paid = omega (arith, same) }
-  act-paid wire.gives is f =
-      let a = wire.answered line.next f.near in
-      let sum = length-append f.near.way (frames_by a) in
-      let few = one-frame a in
-      record { paid = omega (arith, sum, few) }
-  act-paid wire.takes is f = let same = ap length (first-way f.far.way f.near) in let less = one-less f.far.way in record { paid = omega (arith, same, less) }
-  act-paid other is f = absurd is
+  act-paid act is f = grind (arith, asks-way, length-append, one-frame, first-way, one-less)
 
   swapped : (t k x y x' y' : ℕ) → 2 * t + (y' + x') ≤ k + (y + x) → 2 * t + (x' + y') ≤ k + (x + y)
   swapped t k x y x' y' h = omega (arith, h)
 
   one-paid : (d : Doing) → call.IsCall service tei d → (f : Wire) → Paid (is_taking d f) (wire.is_turn d f) (on_ways f) (on_ways (wire.doing d f))
-  one-paid (wire.at_near act) is f = act-paid act is f
-  one-paid (wire.at_far act) is f =
-      let g = wire.acting act (wire.turned f) in
-      let x = act-paid act is (wire.turned f) in
-      record { paid = swapped (if is_taking_of act (wire.turned f) then 1 else 0) (if wire.is_turn_of act (wire.turned f) then 1 else 0) (length f.near.way) (length f.far.way) (length g.far.way) (length g.near.way) x.paid }
+  one-paid d is f = grind (arith, act-paid, swapped)
 
   joined : (t t' k k' a b c : ℕ) → 2 * t + b ≤ k + a → 2 * t' + c ≤ k' + b → 2 * (t + t') + c ≤ (k + k') + a
   joined t t' k k' a b c h h' = omega (arith, h, h')
@@ -110,12 +93,10 @@ count_far one (at_near act ∷ ds) = count_far one ds
 count_far one (at_far act ∷ ds) = one act + count_far one ds
 
 mute-talk-of : (service : Service) (tei : ℕ) (act : OctetAct) → IsMuteOf act → IsTalkOf service tei act
-mute-talk-of service tei (asks r) h = absurd h
-mute-talk-of service tei other h = tt
+mute-talk-of service tei act h = grind arith
 
 pub mute-talk : (service : Service) (tei : ℕ) (x : OctetDoing) → IsMute x → IsTalk service tei x
-mute-talk service tei (at_near act) h = mute-talk-of service tei act h
-mute-talk service tei (at_far act) h = mute-talk-of service tei act h
+mute-talk service tei x h = grind (arith, mute-talk-of)
 
 pub all-talk : (service : Service) (tei : ℕ) (ds : List OctetDoing) → All IsMute ds → All (IsTalk service tei) ds
 all-talk service tei [] all = All-nil (IsTalk service tei)

@@ -1,5 +1,5 @@
 -- A call by octets is a call of frames.
-use Rattle.laws_order.proofs.Vocabulary.{◌≡◌, ℕ, ◌<◌, List, [], ◌∷◌, ◌++◌, refl, sym, ap, ◌∙◌, subst, append-nil, All, append_cancel_left, All-nil, Service, Item, idle, heard_in, AreOctets, Config, Assign, frames_among, Port, fresh_port, IsAtLine, IsSoundPort, fresh_at, GivesOctets, CanCall, Wire, IsStill, calls-come-through, IsInRange, Bool, true, false, ◌||◌, cond, Option, None, Some, is_some, option_map, option_to_list, All-head, All-tail, gained, is_due, Request}
+use Rattle.laws_order.proofs.Vocabulary.{arith, ◌≡◌, ℕ, ◌<◌, List, [], ◌∷◌, ◌++◌, refl, sym, ap, ◌∙◌, subst, append-nil, All, append_cancel_left, All-nil, Service, Item, idle, heard_in, AreOctets, Config, Assign, frames_among, Port, fresh_port, IsAtLine, IsSoundPort, fresh_at, GivesOctets, CanCall, Wire, IsStill, calls-come-through, IsInRange, Bool, false, ◌||◌, cond, Option, None, Some, is_some, option_map, option_to_list, All-head, All-tail, is_due, Request}
 use Rattle.model_line.specs.Event as line_event
 use Rattle.model_line.specs.Request.{Request, Establish}
 unfoldable use Rattle.model_card.specs.Run.{moments as frame_moments}
@@ -14,7 +14,6 @@ use Rattle.laws_order.proofs.OfCircuit.AsFrames.{asked-as}
 use Rattle.laws_order.proofs.OfCircuit.OneWay.{Carries, all-given, framed}
 use Rattle.laws_order.proofs.OfCircuit.Projected.{as_wire, doings_meant, port-after, asked-way, Fits, Follows, Done, all-done}
 use Rattle.laws_order.proofs.OfCircuit.Ran.{Ran, goes-on, within-ports, sound-port, on-line}
-use Rattle.model_line.specs.Request as asked
 use Rattle.laws_line.specs.Share as share
 unfoldable use Rattle.laws_wire.specs.Call.{both_call as frames_both}
 unfoldable use Rattle.laws_wire.specs.Wire.{doing_all as frames_done}
@@ -27,32 +26,26 @@ unfoldable use Rattle.laws_order.proofs.OfCircuit.Projected.{doings_meant}
 use Rattle.laws_wire.proofs.Run.{or-both}
 
 pub or-none : (b : Bool) → (b || false) ≡ b
-or-none true = refl
-or-none false = refl
+or-none b = grind arith
 
 none-far : (r : Request) (w : Circuit) (f : Wire) → is_granted (answered (port.request r) w.far) ≡ share.is_granted (wire.answered (line_event.request r) f.far) → call.calls_back (wire.at_far (wire.requests r)) f ≡ calls_back (at_far (asks r)) w
-none-far (asked.Establish s t) w f same = sym same
-none-far other w f same = refl
+none-far r w f same = grind arith
 
 one-near : (o : Option wire.Act) (f : Wire) → call.both_call (option_to_list (option_map wire.at_near o)) f ≡ false
 unfolding frames_both
-one-near None f = refl
-one-near (Some act) f = refl
+one-near o f = grind arith
 
 pulls-far : (due : Bool) (f : Wire) → call.both_call (option_to_list (option_map wire.at_far (cond due (Some wire.gives) None))) f ≡ false
 unfolding frames_both
-pulls-far true f = refl
-pulls-far false f = refl
+pulls-far due f = grind arith
 
 ends-far : (ends : Bool) (f : Wire) → call.both_call (option_to_list (option_map wire.at_far (cond ends (Some wire.takes) None))) f ≡ false
 unfolding frames_both
-ends-far true f = refl
-ends-far false f = refl
+ends-far ends f = grind arith
 
 hears-far : (way : List ℕ) (s : Termination) (f : Wire) → call.both_call (option_to_list (option_map wire.at_far (hearing_means way s))) f ≡ false
 unfolding frames_both
-hears-far [] s f = refl
-hears-far (value ∷ more) s f = ends-far (is_some (gained s.card.card.config.n201 (port_of s).received value)) f
+hears-far way s f = grind (arith, ends-far, is_some)
 
 one-calls : (x : OctetDoing) (w : Circuit) (there back : List (List ℕ)) → call.both_call (option_to_list (doing_meant x w)) (as_wire there back w) ≡ calls_back x w
 unfolding frames_both
@@ -112,10 +105,7 @@ module _ (c : Config) (ranged : IsInRange c) where
       still-unused (assigned c number tei) (Establish service tei) (ran-assigned c number tei within) (unused-assigned number tei within)
 
 carries-unused : (n201 : ℕ) (s r : Termination) → IsUnused s → IsUnused r → Carries n201 (port_of s) s.way (port_of r).received []
-carries-unused n201 s r h k =
-    subst (λ p. Carries n201 p s.way (port_of r).received []) (sym h.port)
-    (subst (λ way. Carries n201 fresh_port way (port_of r).received []) (sym h.way)
-    (subst (λ (p : Port). Carries n201 fresh_port [] p.received []) (sym k.port) (carries-none n201)))
+carries-unused n201 s r h k = grind (arith, Carries, carries-none)
 
 -- ---- where all has gone no frame is on its way
 
@@ -134,9 +124,7 @@ module _ (n201 : ℕ) (c : Config) (fits : Fits n201 c) (s : Termination) (ran :
       all-given n201 (port_of s) s.way received frames h (subst (λ n. IsSoundPort n (port_of s)) fits.size (sound-port c fits.ranged s ran)) (on-line c fits.ranged s ran) front is
 
   gone-way : HasGone s → frames ≡ []
-  gone-way gone =
-      let given : (port_of s).given ≡ received = h.given ∙ ap (λ way. received ++ way) gone.heard ∙ append-nil received in
-      all-heard n201 (port_of s) received frames (flag-ends gone.flag.0 gone.flag.1 ∙ ap (heard_in n201) given) h.are
+  gone-way gone = grind (arith, append-nil, all-heard, flag-ends)
 
 -- ---- a call
 
@@ -157,15 +145,7 @@ module _ (service : Service) (c d : Config) (line other tei : ℕ) (ds : List Oc
   last = doing_all ds begun
 
   follows : Follows size c d begun [] []
-  follows =
-      let near = unused-asked c can.near.0 service line tei can.near.1 in
-      let far = unused-assigned d can.far.0 other tei can.far.1 in
-      record {
-        near = ran-asked service c line tei can.near.1;
-        far = ran-assigned d other tei can.far.1;
-        goes = carries-unused size begun.near begun.far near far;
-        comes = carries-unused size begun.far begun.near far near;
-      }
+  follows = grind (arith, unused-asked, unused-assigned, ran-asked, ran-assigned, carries-unused)
 
   pub done : Done size service tei c d fits fits-far (doings_meant ds begun) begun [] [] last
   done = all-done size service tei c d fits fits-far ds talk begun [] [] follows

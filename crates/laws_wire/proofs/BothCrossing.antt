@@ -1,11 +1,11 @@
 -- Both ends call, and SABMEs cross: how far each call has come, and what each step does.
-use Rattle.laws_wire.proofs.Vocabulary.{◌≡◌, ℕ, ◌+◌, ◌*◌, ◌<◌, ◌≤◌, false, List, [], ◌∷◌, ◌++◌, length, map, None, refl, sym, ap, subst, ◌∙◌, ◌⊎◌, inl, inr, append-nil, arith, nat_lt, if◌then◌else◌, lt-ltb, Service, Parts, spelling, ControlFrame, Terms, received, course, given, IsInRange, End, with_link, with_sent, Config, terms, Request, next, Pair, frame, after, refusal, Station, Wire, happens, frames_by, with_first_of, with_first_lost, Act, requests, gives, takes, acting, turned, is_turn_of, answered, comes, IsTalkOf, confirmed}
+use Rattle.laws_wire.proofs.Vocabulary.{◌≡◌, ℕ, ◌+◌, ◌*◌, ◌<◌, ◌≤◌, true, false, cond, List, [], ◌∷◌, ◌++◌, length, map, None, refl, sym, ap, subst, ◌∙◌, ◌⊎◌, inl, inr, append-nil, arith, nat_lt, if◌then◌else◌, lt-ltb, All-nil, Service, Parts, spelling, ControlFrame, Terms, received, course, given, IsInRange, begun, End, with_link, with_sent, Config, terms, Request, next, Pair, frame, after, refusal, Station, Wire, happens, frames_by, with_first_of, with_first_lost, Act, requests, gives, takes, acting, turned, is_turn_of, answered, comes, IsTalkOf, confirmed}
 use Rattle.model_link.specs.Events as link
 use Rattle.model_link.specs.TwoEnds as two_ends
 use Rattle.laws_wire.proofs.Answered.{takes-granted}
 use Rattle.laws_wire.proofs.BothHalf as half
 use Rattle.laws_wire.proofs.BothHalf.{lower}
-use Rattle.laws_wire.proofs.Calling.{sabme, ua, its_ua, awaiting, caller, end, with_ua_waiting, with_ua_first}
+use Rattle.laws_wire.proofs.Calling.{sabme, ua, its_ua, awaiting, caller, end, sound-caller, with_ua_waiting, with_ua_first}
 use Rattle.laws_wire.proofs.Ringing.{ringing, its_sabme}
 use Rattle.laws_wire.proofs.Speaking.{said_by}
 use Rattle.laws_wire.proofs.Standing.{IsCarried, Stands}
@@ -54,6 +54,14 @@ InOrder waits other = NotReturning other
 InOrder returns other = NotWaiting other
 InOrder any other = Unit {0}
 
+pub turned-order : (own other : Place) → InOrder own other → InOrder other own
+turned-order waits returns h = h
+turned-order returns waits h = h
+turned-order other under_way h = tt
+turned-order other answered_there h = tt
+turned-order other waits h = tt
+turned-order other returns h = tt
+
 abbrev pub turns_left : Place → ℕ
 turns_left waits = 4
 turns_left under_way = 3
@@ -65,13 +73,18 @@ turns_left returns = 1
 module _ (t : Terms) (ranges : IsInRange t) (u : Terms) where
   -- SABME: UA waits, and nothing is told
   hears-sabme : (ws : List ControlFrame) → length ws < 2 → after t (received (frame (sabme u))) (ringing 0 ws) ≡ ringing 0 (ws ++ its_ua ∷ [])
-  hears-sabme ws few = grind (arith, nat_lt, lt-ltb, ringing, its_ua)
+  hears-sabme ws few =
+      let room : nat_lt (length ws) t.control ≡ true = let low = ranges.control_low in lt-ltb (length ws) t.control (omega (arith, few, low)) in
+      ap (λ b. ringing 0 (cond b (ws ++ its_ua ∷ []) ws)) room
 
   told-of-crossing : (ws : List ControlFrame) → length ws < 2 → said_by (course t (received (frame (sabme u))) (ringing 0 ws)) ≡ []
-  told-of-crossing ws few = grind (arith, nat_lt, lt-ltb, said_by, ringing)
+  told-of-crossing ws few =
+      let room : nat_lt (length ws) t.control ≡ true = let low = ranges.control_low in lt-ltb (length ws) t.control (omega (arith, few, low)) in
+      ap (λ b. said_by (record (begun (ringing 0 ws)) { lost = cond {A = ℕ} b 0 1 })) room
 
 few-own : (own : Place) → length (own_ring own ++ []) < 2
-few-own own = grind arith
+few-own waits = omega arith
+few-own other = omega arith
 
 module _ (service : Service) (tei : ℕ) (c d : Config) (p q : ℕ) (face : Face c d) (back : Face d c) (rt : IsInRange (terms c service tei)) (ru : IsInRange (terms d service tei)) where
   abbrev t : Terms
@@ -98,7 +111,13 @@ module _ (service : Service) (tei : ℕ) (c d : Config) (p q : ℕ) (face : Face
 
   -- both are up, and have nothing to do yet
   first-pair : Pair (pair_of (end u caller []) (end t caller []))
-  first-pair = grind arith
+  first-pair =
+      record {
+        near = record { ranges = ru; sound = sound-caller u ru; state = refl; peer_busy = refl; own_busy = refl; waiting = refl };
+        far = record { ranges = rt; sound = sound-caller t rt; state = refl; peer_busy = refl; own_busy = refl; waiting = refl };
+        there = record { lane = (refl, omega arith, λ e. refl); delivered = refl; sizes = All-nil (λ octets. length octets ≤ t.n201) };
+        back = record { lane = (refl, omega arith, λ e. refl); delivered = refl; sizes = All-nil (λ octets. length octets ≤ u.n201) };
+      }
 
   module _ (w : Wire) (weight : ℕ) (own other : Place) (order : InOrder own other)
       (both : Both service tei c d p q unheard unheard w (crossing t own other) (crossing u other own)) (is : weight ≡ turns_left own + turns_left other) where
@@ -134,13 +153,17 @@ module _ (service : Service) (tei : ℕ) (c d : Config) (p q : ℕ) (face : Face
             both = record { near = subst (Holds c service tei p unheard (happens next w.near)) near sent; far = subst (Holds d service tei q unheard w.far) far both.far };
             is = refl;
           });
-          price = grind (arith, lower, granted_of, one-at-most, same-count, unheard);
+          price =
+              lower _ weight (turns_left own' + turns_left other') (granted_of w) _ (one-at-most (frames_by (answered next w.near))) (is ∙ less)
+              (same-count service tei c d p q unheard unheard w (crossing t own other) (crossing u other own) both);
         }
 
     -- ---- it takes
 
     takes-none : (crossing u other own).way ≡ [] → Crossed w (acting takes w) weight (turn_of w.far.way)
-    takes-none none = grind (arith, quiet-takes, unheard, stayed)
+    takes-none none =
+        let x = quiet-takes service tei c d p q unheard unheard w (crossing t own other) (crossing u other own) both none in
+        stayed (acting takes w) _ x.none x.granted x.both
 
     -- the first frame on the other's way
     module _ (f : Parts) (fs : List Parts) (first : (crossing u other own).way ≡ f ∷ fs) where

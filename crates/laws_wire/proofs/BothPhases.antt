@@ -1,12 +1,12 @@
 -- A call from its beginning: the near end calls, and the far one may call back before SABME comes; each step of it.
-use Rattle.laws_wire.proofs.Vocabulary.{◌≡◌, ℕ, ◌+◌, ◌*◌, ◌≤◌, Bool, true, false, cond, ◌||◌, [], ◌∷◌, ◌++◌, length, refl, sym, ap, subst, ◌∙◌, ◌⊎◌, inl, inr, arith, if◌then◌else◌, Service, spelling, Terms, fresh, course, IsInRange, with_link, Config, terms, next, Establish, Wire, frames_by, with_first_of, Act, requests, gives, takes, Doing, at_near, at_far, acting, turned, doing, is_turn_of, is_turn, answered, comes, IsTalkOf, IsTalk, IsCall, calls_back, confirmed, indicated, told_first}
+use Rattle.laws_wire.proofs.Vocabulary.{◌≡◌, ℕ, ◌+◌, ◌*◌, ◌≤◌, Bool, true, false, cond, ◌||◌, [], ◌∷◌, ◌++◌, length, refl, sym, ap, subst, ◌∙◌, ◌⊎◌, inl, inr, arith, if◌then◌else◌, Service, spelling, Terms, fresh, course, IsInRange, with_link, Config, terms, next, Establish, Station, Wire, frames_by, with_first_of, Act, requests, gives, takes, Doing, at_near, at_far, acting, turned, doing, is_turn_of, is_turn, answered, comes, IsTalkOf, IsTalk, IsCall, calls_back, confirmed, indicated, told_first}
 use Rattle.model_link.specs.Events as link
 use Rattle.laws_wire.proofs.Answered.{takes-granted}
 use Rattle.laws_wire.proofs.BothAsking.{Kind, talks, near_calls, far_calls, kind, talk-calls_not, Refuses, refuses, calls}
 use Rattle.laws_wire.proofs.BothHalf as half
 use Rattle.laws_wire.proofs.BothHalf.{lower, turned-count}
 use Rattle.laws_wire.proofs.BothCrossing as crossed
-use Rattle.laws_wire.proofs.BothCrossing.{waits, under_way}
+use Rattle.laws_wire.proofs.BothCrossing.{waits, under_way, turned-order}
 use Rattle.laws_wire.proofs.Calling.{sabme, asked, awaiting, called, takes-sabme, told-of-sabme, end, none-granted-asked, none-granted-awaiting, none-granted-fresh, first-pair, with_ua_waiting}
 use Rattle.laws_wire.proofs.Speaking.{said_by}
 use Rattle.laws_wire.proofs.Standing.{Stands}
@@ -125,7 +125,9 @@ module _ (service : Service) (tei : ℕ) where
             pair = first-pair t u rt ru;
             is = refl;
           })));
-          price = grind (arith, lower, granted_of, one-at-most, takes-granted);
+          price =
+              lower _ weight 2 (granted_of w) _ (one-at-most w.near.way) h.is
+              (ap (λ (s' : Station). length w.near.granted + length s'.granted) same ∙ ap (λ xs. length w.near.granted + length xs) (takes-granted (spelling c.side f) s));
         }
 
     from-called-far : (act : Act) → IsTalkOf service tei act → (w : Wire) (weight : ℕ) → IsCalled w weight → Went false w (turned (acting act (turned w))) weight (if is_turn_of act (turned w) then 1 else 0)
@@ -159,7 +161,8 @@ module _ (service : Service) (tei : ℕ) where
     NearFirst w weight = crossed.NearFirst service tei c d p q face back rt ru w weight
 
     near-goes : (w : Wire) (weight : ℕ) → Crossing w weight ⊎ NearFirst w weight → Goes true w weight
-    near-goes w weight o = grind arith
+    near-goes w weight (inl h) = inl h
+    near-goes w weight (inr h) = inr (inr h)
 
     crossed-near : (act : Act) → IsTalkOf service tei act → (w : Wire) (weight : ℕ) → Crossing w weight → Went true w (acting act w) weight (if is_turn_of act w then 1 else 0)
     crossed-near act is w weight h =
@@ -175,10 +178,22 @@ module _ (service : Service) (tei : ℕ) where
     swapped x y weight is = omega (arith, is)
 
     turned-crossing : (w : Wire) (weight : ℕ) → Crossing w weight → CrossingTurned (turned w) weight
-    turned-crossing w weight h = grind (arith, turned-both, unheard, swapped, crossed.turns_left)
+    turned-crossing w weight h = record {
+      own = h.other;
+      other = h.own;
+      order = turned-order h.own h.other h.order;
+      both = turned-both service tei c d p q unheard unheard w _ _ h.both;
+      is = swapped (crossed.turns_left h.own) (crossed.turns_left h.other) weight h.is;
+    }
 
     crossing-back : (v : Wire) (weight : ℕ) → CrossingTurned v weight → Crossing (turned v) weight
-    crossing-back v weight h = grind (arith, turned-both, unheard, swapped, crossed.turns_left)
+    crossing-back v weight h = record {
+      own = h.other;
+      other = h.own;
+      order = turned-order h.own h.other h.order;
+      both = turned-both service tei d c q p unheard unheard v _ _ h.both;
+      is = swapped (crossed.turns_left h.own) (crossed.turns_left h.other) weight h.is;
+    }
 
     far-goes : (v : Wire) (weight : ℕ) → CrossingTurned v weight ⊎ FarFirst v weight → Goes true (turned v) weight
     far-goes v weight (inl h) = inl (crossing-back v weight h)
@@ -248,19 +263,33 @@ module _ (service : Service) (tei : ℕ) where
       pub price : b + weight + (4 * granted_of w + cost both) ≤ before + (4 * granted_of (doing k w) + cost (both || calls_back k w))
 
     or-none : (both b : Bool) → b ≡ false → (both || b) ≡ both
-    or-none both b none = grind arith
+    or-none true b none = refl
+    or-none false b none = none
 
     none-called : (both : Bool) (k : Doing) (w : Wire) (before b : ℕ) → calls_back k w ≡ false → Went both w (doing k w) before b → Stepped both k w before b
-    none-called both k w before b none x = grind (arith, or-none, granted_of)
+    none-called both k w before b none x =
+        let same : both ≡ (both || calls_back k w) = sym (or-none both (calls_back k w) none) in
+        record {
+          weight = x.weight;
+          goes = subst (λ y. Goes y (doing k w) x.weight) same x.goes;
+          price = subst (λ y. b + x.weight + (4 * granted_of w + cost both) ≤ before + (4 * granted_of (doing k w) + cost y)) same (plus-cost b x.weight (granted_of w) (cost both) before (granted_of (doing k w)) x.price);
+        }
+      where
+        plus-cost : (b x g k before g' : ℕ) → b + x + 4 * g ≤ before + 4 * g' → b + x + (4 * g + k) ≤ before + (4 * g' + k)
+        plus-cost b x g k before g' h = omega (arith, h)
 
     not-moved : (both : Bool) (w w' : Wire) (weight : ℕ) → w' ≡ w → Goes both w weight → Went both w w' weight 0
     not-moved both w w' weight same h = stayed both w w' weight 0 refl (ap granted_of same) (subst (λ x. Goes both x weight) (sym same) h)
 
     near-asks : (both : Bool) (w : Wire) (weight : ℕ) → Goes both w weight → Stepped both (at_near (requests (Establish service tei))) w weight 0
-    near-asks both w weight h = grind (arith, none-called, not-moved, near-refuses)
+    near-asks both w weight h =
+        none-called both (at_near (requests (Establish service tei))) w weight 0 refl
+        (not-moved both w (doing (at_near (requests (Establish service tei))) w) weight (ap (λ s. record w { near = s }) (near-refuses both w weight h).same) h)
 
     far-refused : (both : Bool) (w : Wire) (weight : ℕ) → Goes both w weight → Refuses service tei w.far → Stepped both (at_far (requests (Establish service tei))) w weight 0
-    far-refused both w weight h down = grind (arith, none-called, not-moved)
+    far-refused both w weight h down =
+        none-called both (at_far (requests (Establish service tei))) w weight 0 down.none
+        (not-moved both w (doing (at_far (requests (Establish service tei))) w) weight (ap (λ s. record w { far = s }) down.same) h)
 
     called-price : (x before g g' : ℕ) → x ≡ before + 4 → g' ≡ g → 0 + x + (4 * g + 0) ≤ before + (4 * g' + 4)
     called-price x before g g' is same = omega (arith, is, same)
@@ -276,11 +305,15 @@ module _ (service : Service) (tei : ℕ) where
         record {
           weight = weight;
           goes = subst (λ y. Goes y (far_calls_back w) weight) (sym x.some) (so x.holds);
-          price = grind (arith, granted_of, called-price);
+          price =
+              subst (λ y. 0 + weight + (4 * granted_of w + 0) ≤ before + (4 * granted_of (far_calls_back w) + cost y)) (sym x.some)
+              (called-price weight before (granted_of w) (granted_of (far_calls_back w)) is (ap (λ xs. length w.near.granted + length xs) x.granted));
         }
 
     far-asks : (both : Bool) (w : Wire) (weight : ℕ) → Goes both w weight → Stepped both (at_far (requests (Establish service tei))) w weight 0
-    far-asks false w weight (inl h) = grind (arith, calls-too, waits)
+    far-asks false w weight (inl h) =
+        calls-too w weight 8 h.both.far (ap (λ x. x + 4) (sym h.is))
+        (λ far. inl (record { own = waits; other = waits; order = tt; both = record { near = h.both.near; far = far }; is = refl }))
     far-asks false w weight (inr (inl h)) =
         calls-too w weight 7 h.both.far (ap (λ x. x + 4) (sym h.is))
         (λ far. inl (record { own = under_way; other = waits; order = tt; both = record { near = h.both.near; far = far }; is = refl }))

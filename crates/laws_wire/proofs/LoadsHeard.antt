@@ -1,6 +1,6 @@
 -- A frame that is heard in states 7 and 8 brings no more to send than it weighs, and than the contents that it delivers
 -- allow.
-use Rattle.laws_wire.proofs.Vocabulary.{◌≡◌, ℕ, ◌+◌, ◌-◌, ◌*◌, ◌≤◌, Bool, true, false, cond, ◌&&◌, IsTrue, List, length, Option, Some, None, refl, sym, ap, subst, ◌⊎◌, inl, inr, true≢false, arith, nat_lt, Seq, seq, named, Control, Information, ReceiveReady, ReceiveNotReady, Reject, Parts, State, Established, TimerRecovery, LinkTimer, T203, Terms, Link, is_multiple_frame, received, course, begun, Step, ◌then◌, by_bit, Means, named-within, T200, frame, IsSound}
+use Rattle.laws_wire.proofs.Vocabulary.{◌≡◌, ℕ, ◌+◌, ◌-◌, ◌*◌, ◌≤◌, Bool, true, false, cond, ◌&&◌, IsTrue, List, length, Option, Some, None, refl, sym, ap, subst, ◌∙◌, ◌⊎◌, inl, inr, true≢false, arith, nat_lt, Seq, seq, named, Control, Information, ReceiveReady, ReceiveNotReady, Reject, Parts, State, Established, TimerRecovery, LinkTimer, T203, Terms, Link, is_multiple_frame, received, course, begun, Step, ◌then◌, by_bit, Means, named-within, T200, frame, IsSound}
 use Rattle.lapd_frame.specs.declared.notes.ErrorCode.TheVariants as code
 use Rattle.model_link.specs.Machine
 use Rattle.model_link.specs.Steps.{Course, nothing}
@@ -67,7 +67,8 @@ module _ (w : ℕ) (t : Terms) (l : Link) (sound : IsSound t l) (wide : 2 * t.k 
           x n g c (subst (λ a. a ≤ n) h.first between.0) (subst (λ s. n ≤ s) h.next between.1) h
 
   either : (g b : ℕ) (x : Bool) (u v : Course) → Ends g b u → Ends g b v → Ends g b (cond x u v)
-  either g b x u v y z = grind arith
+  either g b true u v y z = y
+  either g b false u v y z = z
 
   acknowledged : (n b : ℕ) → Effect n b b (Words.acknowledge n)
   unfolding Effect
@@ -75,26 +76,39 @@ module _ (w : ℕ) (t : Terms) (l : Link) (sound : IsSound t l) (wide : 2 * t.k 
 
   in_7 : (n b : ℕ) → Effect n b b (Established.acknowledged_in_7 n)
   unfolding Effect
-  in_7 n b g c low high h = grind (arith, either)
+  in_7 n b g c low high h =
+      either g b (Established.is_all_sent n c.link) _ _ (record { ends = λ up. (h.contents, h.received, h.within) })
+      (either g b (Established.is_beyond_acknowledged n c.link) _ _ (record { ends = λ up. (h.contents, h.received, h.within) })
+      (record { ends = λ up. (h.contents, h.received, h.within) }))
 
   by_information_7 : (n b : ℕ) → Effect n b b (Established.acknowledged_by_information_in_7 n)
   unfolding Effect
-  by_information_7 n b g c low high h = grind (arith, either, in_7)
+  by_information_7 n b g c low high h =
+      either g b c.link.peer_busy _ _ (record { ends = λ up. (h.contents, h.received, h.within) }) (in_7 n b g c low high h)
 
   rnr_7 : (n b : ℕ) → Effect n b b (Established.acknowledged_by_rnr_in_7 n)
   unfolding Effect
   rnr_7 n b g c low high h = record { ends = λ up. (h.contents, h.received, h.within) }
 
   again : (n b g : ℕ) (c : Course) → l.a ≤ n → n ≤ l.s → Costs g b c → 2 * (length c.link.contents - n) ≤ 2 * (length c.link.contents - c.link.s) + w
-  again n b g c low high h = grind (arith, resent)
+  again n b g c low high h =
+      subst (λ s. 2 * (length c.link.contents - n) ≤ 2 * (length c.link.contents - s) + w) (sym h.next)
+      (subst (λ cs. 2 * (length cs - n) ≤ 2 * (length cs - l.s) + w) (sym h.contents)
+      (resent (length l.contents) l.a l.s n t.k w low sound.within sound.accepted high wide))
 
   rej_7 : (n b : ℕ) → Effect n b (b + w) (Established.acknowledged_by_rej_in_7 n)
   unfolding Effect
-  rej_7 n b g c low high h = grind (arith, load, again)
+  rej_7 n b g c low high h =
+      let less : load w c.link ≤ b = h.within in
+      record { ends = λ up. (h.contents, h.received, omega (arith, less, again n b g c low high h)) }
 
   in_8 : l.state ≡ TimerRecovery → (timer : LinkTimer) (final : Bool) (n b : ℕ) → Effect n b b (TimerRecovery.acknowledged_in_8 timer final n)
   unfolding Effect
-  in_8 here timer final n b g c low high h = grind (arith, load, back, again)
+  in_8 here timer true n b g c low high h =
+      let less : load w c.link ≤ b = h.within in
+      let pays : back w c.link.state ≡ w = ap (back w) (h.state ∙ here) in
+      record { ends = λ up. (h.contents, h.received, omega (arith, less, pays, again n b g c low high h)) }
+  in_8 here timer false n b g c low high h = record { ends = λ up. (h.contents, h.received, h.within) }
 
   looser : (n b b' : ℕ) (f : Step) → b ≤ b' → Effect n b b f → Effect n b b' f
   unfolding Effect
@@ -157,7 +171,8 @@ module _ (w : ℕ) (t : Terms) (l : Link) (sound : IsSound t l) (wide : 2 * t.k 
       one-of : (x : Bool) (u v : Course) → Costs 0 (load w l + answer_to p) u ⊎ Costs 1 (load w l + answer_to p + (w + 4)) u
           → Costs 0 (load w l + answer_to p) v ⊎ Costs 1 (load w l + answer_to p + (w + 4)) v
           → Costs 0 (load w l + answer_to p) (cond x u v) ⊎ Costs 1 (load w l + answer_to p + (w + 4)) (cond x u v)
-      one-of x u v y z = grind arith
+      one-of true u v y z = y
+      one-of false u v y z = z
 
   pub record Hears (b : ℕ) (c : Course) : Type 0 where
     pub hears : IsTrue (is_multiple_frame c.link.state)
@@ -185,7 +200,8 @@ module _ (w : ℕ) (t : Terms) (l : Link) (sound : IsSound t l) (wide : 2 * t.k 
       go (inr h) = hears-1 total (Words.by_number t nr f c) (by-number nr f 1 (total + (w + 4)) (total + (w + 4)) (λ n. x n (total + (w + 4))) c h)
 
       long : (b : Bool) → Hears total (cond b (MultipleFrame.failed t code.O (begun l)) (Words.by_number t nr f c))
-      long b = grind (arith, go, contents-cost)
+      long true = record { hears = λ up. absurd (true≢false (sym up)) }
+      long false = go (contents-cost ns p octets)
 
   -- ---- any frame
 

@@ -1,5 +1,5 @@
 -- A whole call in which frames are lost and timers expire: what layer 3 of each was told, as long as no error was.
-use Rattle.laws_wire.proofs.Vocabulary.{arith, ◌≡◌, ℕ, List, [], ◌∷◌, ◌++◌, map, take, refl, sym, ap, ◌∙◌, inl, inr, append-nil, All, flat_map, All-nil, All-cons, All-head, All-tail, Service, other_side, fresh, IsInRange, End, Config, LineTold, terms, terms_in_range, Station, Wire, with_first_of, Act, Doing, at_near, at_far, acting, turned, doing, doing_all, calling, CanCall, confirmed, indicated, data_told, IsBeginningOf, heard_in, HasNoError, IsRoughTalk, CallsAreToldInOrder}
+use Rattle.laws_wire.proofs.Vocabulary.{◌≡◌, ℕ, List, [], ◌∷◌, ◌++◌, map, take, refl, sym, ap, ◌∙◌, inl, inr, append-nil, All, flat_map, All-nil, All-cons, All-head, All-tail, Service, other_side, fresh, IsInRange, End, Config, LineTold, terms, terms_in_range, Station, Wire, with_first_of, Act, requests, takes, loses, Doing, at_near, at_far, acting, turned, doing, doing_all, calling, CanCall, confirmed, indicated, data_told, IsBeginningOf, for_layer_3, heard_in, HasNoError, IsRoughTalk, CallsAreToldInOrder}
 use Rattle.laws_wire.proofs.Beginning.{calls, answers}
 use Rattle.laws_wire.proofs.Calling.{asked, sabme, end}
 use Rattle.laws_wire.proofs.Held.{Held, Erred, erred-stays, not-erred}
@@ -18,13 +18,17 @@ pub record More (s s' : Station) : Type 0 where
   pub told : s'.told ≡ s.told ++ more
 
 taken-more : (way : List (List ℕ)) (s : Station) → More s (with_first_of way s)
-taken-more way s = grind (arith, append-nil)
+taken-more [] s = record { more = []; told = sym (append-nil s.told) }
+taken-more (octets ∷ way) s = record { more = _; told = refl }
 
 pub near-more : (act : Act) (w : Wire) → More w.near (acting act w).near
-near-more act w = grind (arith, taken-more, append-nil)
+near-more takes w = taken-more w.far.way w.near
+near-more loses w = record { more = []; told = sym (append-nil w.near.told) }
+near-more other w = record { more = _; told = refl }
 
 pub far-more : (act : Act) (w : Wire) → More w.far (acting act w).far
-far-more act w = grind (arith, append-nil)
+far-more (requests r) w = record { more = []; told = sym (append-nil w.far.told) }
+far-more other w = record { more = []; told = sym (append-nil w.far.told) }
 
 still-errs : (s s' : Station) → More s s' → Erred s → Erred s'
 still-errs s s' x h = erred-stays s s' x.more x.told h
@@ -80,7 +84,11 @@ module _ (service : Service) (tei : ℕ) (c d : Config) (p q : ℕ) (face : Face
 
 -- from a station that was told nothing
 pub from-nothing : (k : Config) (service : Service) (tei place : ℕ) (s : Station) (n : End) → Holds k service tei place unheard s n → n.delivered ≡ [] → Held k service tei place [] s n
-from-nothing k service tei place s n h none = grind (arith, flat_map, none-told)
+from-nothing k service tei place s n h none = record {
+  stands = h.stands;
+  granted = h.granted;
+  heard = ap (flat_map for_layer_3) (none-told k service tei place [] s n h none) ∙ sym (ap (map (data_told service tei)) none);
+}
 
 -- a call as it begins
 pub record Setting (service : Service) (c d : Config) (line other tei : ℕ) : Type 0 where
@@ -115,7 +123,9 @@ rings service c d line other tei x = record {
 
 -- As long as no error was told.
 pub no-error : (service : Service) (tei : ℕ) (c d : Config) (p q : ℕ) (w : Wire) → Went service tei c d p q w → HasNoError w.near → HasNoError w.far → Goes service tei c d p q w
-no-error service tei c d p q w o near far = grind (arith, not-erred)
+no-error service tei c d p q w (inl h) near far = h
+no-error service tei c d p q w (inr (inl h)) near far = absurd (not-erred w.near near h)
+no-error service tei c d p q w (inr (inr h)) near far = absurd (not-erred w.far far h)
 
 pub fair-goes : (service : Service) (c d : Config) (line other tei : ℕ) (ds : List Doing) → CanCall c line d other tei → All (IsRoughTalk service tei) ds
     → let w = doing_all ds (calling service tei c line d other) in HasNoError w.near → HasNoError w.far → Goes service tei c d 0 0 w

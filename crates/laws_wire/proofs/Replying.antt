@@ -1,5 +1,5 @@
 -- What an end that was never busy answers, puts and gives: which N(R) it has, and what is owed.
-use Rattle.laws_wire.proofs.Vocabulary.{arith, ◌≡◌, ℕ, ◌+◌, Bool, true, false, cond, ◌&&◌, IsTrue, List, [], ◌∷◌, ◌++◌, refl, sym, ap, ◌∙◌, append_assoc, append-nil, ◌⊎◌, inl, inr, true≢false, nat_lt, slice_get, Seq, seq, Information, ReceiveReady, Reject, Parts, State, Established, TimerRecovery, LinkTimer, ControlFrame, Terms, Link, is_multiple_frame, frame_of, expired, offer, Step, begun, frame_given, frames_of, frames-append, Means, c-7, c-8, enquiry, kind_of, unwrap_or, T200, Course}
+use Rattle.laws_wire.proofs.Vocabulary.{arith, ◌≡◌, ℕ, ◌+◌, Bool, true, false, cond, ◌&&◌, IsTrue, List, [], ◌∷◌, ◌++◌, length, Option, None, Some, refl, sym, ap, subst, ◌∙◌, append_assoc, append-nil, ◌⊎◌, inl, inr, true≢false, nat_lt, slice_get, Seq, seq, named, Information, ReceiveReady, ReceiveNotReady, Reject, Parts, State, Established, TimerRecovery, LinkTimer, T203, ControlFrame, Terms, Link, is_multiple_frame, frame_of, may_repeat, expired, offer, Step, begun, frame_given, frames_of, frames-append, Means, c-7, c-8, enquiry, kind_of, unwrap_or, T200, Course}
 use Rattle.lapd_frame.specs.declared.notes.ErrorCode.TheVariants as code
 use Rattle.model_link.specs.Words
 use Rattle.model_link.specs.MultipleFrame
@@ -17,6 +17,9 @@ pub line-push : (t : Terms) (way : List Parts) (ws ws' : List ControlFrame) (f :
     → way ++ frames_of t ws' ≡ (way ++ frames_of t ws) ++ frame_of t f ∷ []
 line-push t way ws ws' f e = grind (arith, frames_of, frames-append, append_assoc)
 
+ready-means : (b : Bool) (r : ℕ) (pf : Bool) → Means r (cond b (ReceiveNotReady (seq r) pf) (ReceiveReady (seq r) pf))
+ready-means b r pf = grind arith
+
 -- An enquiry waits, the last, and the state is 8.
 pub record Enquired (t : Terms) (l l' : Link) : Type 0 where
   pub state : l'.state ≡ TimerRecovery
@@ -32,9 +35,12 @@ module _ (t : Terms) (l : Link) where
   abbrev its_enquiry : ControlFrame
   its_enquiry = Words.command (Words.ready_to_receive true l)
 
+  enquiry-kind : (b : Bool) → kind_of true (cond b (ReceiveNotReady (seq l.r) true) (ReceiveReady (seq l.r) true)) ≡ enquiry
+  enquiry-kind b = grind arith
+
   enquires : (l' : Link) → Words.has_room t l ≡ true → l'.state ≡ TimerRecovery → l'.s ≡ l.s → l'.a ≡ l.a → l'.r ≡ l.r
       → l'.waiting ≡ cond (Words.has_room t l) (l.waiting ++ its_enquiry ∷ []) l.waiting → Enquired t l l'
-  enquires l' room state s a r waits = grind arith
+  enquires l' room state s a r waits = grind (arith, enquiry-kind, ready-means)
 
   abbrev pub Expired : Link → Type 0
   Expired l' = (l' ≡ l) ⊎ Enquired t l l'
@@ -52,9 +58,13 @@ module _ (t : Terms) (l : Link) where
   expires-so before timer room up = grind (arith, expires-in)
 
   -- where it runs in state 7, or T200 in 8, it is so
+  asks-in : Words.has_room t l ≡ true → (here : State) → l.state ≡ here → IsTrue (is_multiple_frame here) → IsUpIn (Machine.expired_in here T200 t (begun l))
+      → Enquired t l (Machine.expired_in here T200 t (begun l)).link
+  asks-in room here e before up = grind (arith, enquires)
+
   pub asks-so : IsTrue (is_multiple_frame l.state) → Machine.is_running T200 l ≡ true → Words.has_room t l ≡ true
       → IsUpIn (Machine.course t (expired T200) l) → Enquired t l (Machine.after t (expired T200) l)
-  asks-so before running room up = grind (arith, enquires)
+  asks-so before running room up = grind (arith, asks-in)
 
   -- an offer
   abbrev Says : Course → Type 0
@@ -117,7 +127,9 @@ module _ (t : Terms) (l : Link) where
       go : (here : State) → IsTrue (is_multiple_frame here) → IsUpIn (Machine.frame_in here t b octets (ReceiveReady nr pf) (begun l))
           → Same (Machine.frame_in here t b octets (ReceiveReady nr pf) (begun l)).link
       go Established before up = by-number Same nr Established.acknowledged_in_7 (c-7 t l false b pf) (in-7 (c-7 t l false b pf) (same-7 false b pf e)) up
-      go TimerRecovery before up = grind (arith, by-number, c-8, in-8, same-8)
+      go TimerRecovery before up =
+          by-number Same nr (TimerRecovery.acknowledged_in_8 T203 (MultipleFrame.is_final b pf)) (c-8 t l false b pf)
+          (in-8 T203 (MultipleFrame.is_final b pf) (c-8 t l false b pf) (same-8 false b pf e)) up
       go other before up = absurd (true≢false (sym before))
 
   pub reject-same : IsTrue (is_multiple_frame l.state) → (nr : Seq) (octets : List ℕ)
@@ -154,6 +166,13 @@ module _ (t : Terms) (l : Link) where
     fitting : (b : Bool) (u v : Course) → (IsUpIn u → ⊥) → (IsUpIn v → Next v.link) → IsUpIn (cond b u v) → Next (cond b u v).link
     fitting b u v x y up = grind arith
 
+    next-by : (f : ℕ → Step) → ((n : ℕ) → Next (f n contents).link) → IsUpIn (MultipleFrame.information_in_7_8 t ns nr false octets f (begun l))
+        → Next (MultipleFrame.information_in_7_8 t ns nr false octets f (begun l)).link
+    next-by f x up = fitting (nat_lt t.n201 (length octets)) _ _ (λ u. true≢false (sym u)) (λ u. by-number Next nr f contents x u) up
+
+    next-7 : (n : ℕ) → Next (Established.acknowledged_by_information_in_7 n contents).link
+    next-7 n = grind (arith, either, taken)
+
     pub next-taken : IsTrue (is_multiple_frame l.state) → (b : Bool) → IsUpIn (Machine.frame_step t b octets (Information ns nr false) (begun l))
         → Next (Machine.frame_step t b octets (Information ns nr false) (begun l)).link
-    next-taken before b up = grind (arith, fitting, nat_lt, by-number, either, taken)
+    next-taken before b up = grind (arith, next-by, next-7)

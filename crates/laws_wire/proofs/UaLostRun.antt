@@ -19,7 +19,8 @@ use Rattle.laws_wire.proofs.UaPhases.{IsAway, IsWaiting, Comes, away-loses, away
 use Rattle.laws_wire.proofs.UaRenewed.{more_told, TookSabme, sabme-renews}
 
 and-false : (b : Bool) → (b && false) ≡ false
-and-false b = grind arith
+and-false true = refl
+and-false false = refl
 
 module _ (service : Service) (tei : ℕ) (c d : Config) (p q : ℕ) (face : Face c d) (back : Face d c) (rt : IsInRange (terms c service tei)) (ru : IsInRange (terms d service tei)) where
   abbrev pub its_near : List LineTold
@@ -111,7 +112,8 @@ module _ (service : Service) (tei : ℕ) (c d : Config) (p q : ℕ) (face : Face
   done act w = turned (acting act (turned w))
 
   rings-far : (P P' : Station → Type 0) (ws : List ControlFrame) (way : List Parts) (w w' : Wire) → w'.near ≡ w.near → (P w.far → P' w'.far) → R P ws way w → R P' ws way w'
-  rings-far P P' ws way w w' same on h = grind (arith, Held, end, ringing)
+  rings-far P P' ws way w w' same on h =
+      record { repeats = h.repeats; near = subst (λ s. Held c service tei p [] s (end (terms c service tei) (ringing h.repeats ws) way)) (sym same) h.near; far = on h.far }
 
   all-far : (P P' : Station → Type 0) (w w' : Wire) → w'.near ≡ w.near → (P w.far → P' w'.far) → Rs P w → Rs P' w'
   all-far P P' w w' same on (inl h) = inl (rings-far P P' [] [] w w' same on h)
@@ -178,15 +180,23 @@ module _ (service : Service) (tei : ℕ) (c d : Config) (p q : ℕ) (face : Face
     Takes = ((takes_sabme w ≡ false) × IsCalled past b (done takes w)) ⊎ ((takes_sabme w ≡ true) × TookSabme service tei c d p q face back rt ru past b w (done takes w))
 
     far-takes : IsCalled past b w → IsTimelyOf takes (turned w) → Takes
-    far-takes (inl (inl h)) x = grind (arith, empty-way, end, ringing, no-sabme, stays)
-    far-takes (inl (inr (inl h))) x = grind (arith, empty-way, end, ringing, its_sabme, no-sabme, stays)
+    far-takes (inl (inl h)) x =
+        let none = empty-way w (end (terms c service tei) (ringing h.repeats []) []) [] h.near refl in
+        inl (no-sabme w none, stays w (IsCalled past b) none (inl (inl h)))
+    far-takes (inl (inr (inl h))) x =
+        let none = empty-way w (end (terms c service tei) (ringing h.repeats (its_sabme ∷ [])) []) [] h.near refl in
+        inl (no-sabme w none, stays w (IsCalled past b) none (inl (inr (inl h))))
     far-takes (inl (inr (inr h))) x =
         inr (
           ap (λ way. is_any way && length (heard_in w.near) == 0) h.near.stands.way ∙ ap (λ ts. length ts == 0) h.near.heard,
           sabme-renews service tei c d p q face back rt ru past w h.repeats h.near b h.far,
         )
-    far-takes (inr (inl h)) x = grind (arith, empty-way, end, ringing, no-sabme, stays)
-    far-takes (inr (inr (inl h))) x = grind (arith, empty-way, end, ringing, no-sabme, stays)
+    far-takes (inr (inl h)) x =
+        let none = empty-way w (end (terms c service tei) (ringing h.repeats []) []) [] h.near refl in
+        inl (no-sabme w none, stays w (IsCalled past b) none (inr (inl h)))
+    far-takes (inr (inr (inl h))) x =
+        let none = empty-way w (end (terms c service tei) (ringing h.repeats []) []) [] h.near refl in
+        inl (no-sabme w none, stays w (IsCalled past b) none (inr (inr (inl h))))
     far-takes (inr (inr (inr h))) x = inl (told-no w h.n h.near, inr (inr (inr (up-far past w h takes tt x))))
 
   -- ---- while it is down
@@ -208,11 +218,17 @@ module _ (service : Service) (tei : ℕ) (c d : Config) (p q : ℕ) (face : Face
     down-far h act not is = all-far Down Down w (done act w) (far-same act not (turned w)) (λ y. down-acts y act not is) h
 
     there : (P : Station → Type 0) → Rs P w → P w.far
-    there P o = grind arith
+    there P (inl h) = h.far
+    there P (inr (inl h)) = h.far
+    there P (inr (inr h)) = h.far
 
     down-takes : Rs Down w → ((takes_sabme w ≡ false) × Rs Down (done takes w)) ⊎ ((takes_sabme w ≡ true) × R (Waiting (indicated service tei ∷ []) false) [] [] (done takes w))
-    down-takes (inl h) = grind (arith, empty-way, end, ringing, no-sabme, stays)
-    down-takes (inr (inl h)) = grind (arith, empty-way, end, ringing, its_sabme, no-sabme, stays)
+    down-takes (inl h) =
+        let none = empty-way w (end (terms c service tei) (ringing h.repeats []) []) [] h.near refl in
+        inl (no-sabme w none, stays w (Rs Down) none (inl h))
+    down-takes (inr (inl h)) =
+        let none = empty-way w (end (terms c service tei) (ringing h.repeats (its_sabme ∷ [])) []) [] h.near refl in
+        inl (no-sabme w none, stays w (Rs Down) none (inr (inl h)))
     down-takes (inr (inr h)) =
         let was : phases.Rings service tei c d p q [] (sabme (terms c service tei) ∷ []) w = record { repeats = h.repeats; near = h.near; far = h.far } in
         let now = first_ringing.answers service tei c d p q face back rt ru w was in
@@ -306,7 +322,8 @@ module _ (service : Service) (tei : ℕ) (c d : Config) (p q : ℕ) (face : Face
     taken = with_sabme service tei (length (g ++ v.far.granted)) x
 
     by-sent : (b : Bool) (y : List (List ℕ)) → cond b (length (g ++ y)) x.given_up ≡ length (g ++ cond b y [])
-    by-sent b y = grind (arith, append-nil)
+    by-sent true y = refl
+    by-sent false y = up ∙ ap length (sym (append-nil g))
 
     sabme-goes : TookSabme service tei c d p q face back rt ru x.told x.sent v (done takes v) → (length x.told == 0) ≡ false → Goes taken (done takes (with_before g v))
     sabme-goes k some =

@@ -21,7 +21,11 @@ turn_of frames = if is_any frames then 1 else 0
 
 -- an end with nothing to give stays
 pub stays : (n : End) → given n.terms n.link ≡ None → with_sent n ≡ n
-stays n e = grind (arith, silent-stays, nothing-given, append-nil)
+stays n e =
+    λ i. record n {
+      link = silent-stays n.terms n.link (nothing-given n.terms n.link e) i;
+      way = (ap (λ o. n.way ++ frame_given n.terms o) e ∙ append-nil n.way) i;
+    }
 
 some-given : (t : Terms) (l : Link) (g : Given) → given t l ≡ Some g → HasNothingToSend t l → ⊥
 some-given t l g is none = let wrong : None ≡ Some g = sym (nothing-to_send t l none) ∙ is in absurd (cc)
@@ -41,7 +45,13 @@ pub end-gives : (f : Parts → List ℕ) (n m : End) → Pair (pair_of n m) → 
 end-gives f n m h = go (given n.terms n.link) refl
   where
     go : (o : Option Given) → given n.terms n.link ≡ o → Gives n m (turn_of (map f (frame_given n.terms (given n.terms n.link))))
-    go None is = grind (arith, stays, no-price)
+    go None is =
+        let same = stays n is in
+        record {
+          pair = subst (λ x. Pair (pair_of x m)) (sym same) h;
+          price = no-price _ (weight_at n) (weight_at (with_sent n)) (ap (λ o. turn_of (map f (frame_given n.terms o))) is) (ap weight_at same);
+          kept = ap (λ (x : End). x.link.contents) same;
+        }
     go (Some g) is =
         let x = any_order.gives n m h.near h.there h.back (some-given n.terms n.link g is) in
         record {
@@ -118,7 +128,21 @@ module _ (service : Service) (tei : ℕ) where
       none-lost m' e = λ i. record m' { way = (ap (drop 1) e ∙ sym e) i }
 
       takes-none : m.way ≡ [] → Acted w (acting takes w) n m (turn_of w.far.way)
-      takes-none e = grind (arith, Holds, none-lost, holds-lost, price-none)
+      takes-none e =
+          let empty : w.far.way ≡ [] = h.far.stands.way ∙ ap (map (spelling d.side)) e in
+          let same : with_first_of w.far.way w.near ≡ w.near = ap (λ way. with_first_of way w.near) empty in
+          record {
+            n' = n;
+            m' = m;
+            talk = record {
+              near = subst (λ s. Holds c service tei p first s n) (sym same) h.near;
+              far = subst (Holds d service tei q second (with_first_lost w.far)) (none-lost m e) (holds-lost service tei q second d w.far m h.far);
+              pair = h.pair;
+            };
+            price =
+                subst (λ s. turn_of w.far.way + (weight_at n + weight_at m) + 4 * granted_of w ≤ (weight_at n + weight_at m) + 4 * (length s.granted + length w.far.granted)) (sym same)
+                (price-none (turn_of w.far.way) (weight_at n) (weight_at m) (length w.near.granted) (length w.far.granted) (ap turn_of empty));
+          }
 
       takes-some : (f : Parts) (fs : List Parts) → m.way ≡ f ∷ fs → Acted w (acting takes w) n m (turn_of w.far.way)
       takes-some f fs e =
@@ -160,7 +184,14 @@ module _ (service : Service) (tei : ℕ) where
           s' = happens (request (Data service tei octets)) w.near
 
           go : (s' ≡ w.near) ⊎ More service tei p first c w.near s' n octets → Acted w (record w { near = s' }) n m 0
-          go (inl same) = grind (arith, Holds, price-none)
+          go (inl same) = record {
+            n' = n;
+            m' = m;
+            talk = record { near = subst (λ s. Holds c service tei p first s n) (sym same) h.near; far = h.far; pair = h.pair };
+            price =
+                subst (λ s. 0 + (weight_at n + weight_at m) + 4 * granted_of w ≤ (weight_at n + weight_at m) + 4 * (length s.granted + length w.far.granted)) (sym same)
+                (price-none 0 (weight_at n) (weight_at m) (length w.near.granted) (length w.far.granted) refl);
+          }
           go (inr x) =
               let own : n.terms.n201 ≡ m.terms.n201 = ap (λ t. t.n201) h.near.stands.terms ∙ face.n201 ∙ ap (λ t. t.n201) (sym h.far.stands.terms) in
               let small : length octets ≤ m.terms.n201 = subst (λ k. length octets ≤ k) own (fits service tei p first n.terms n.link octets x.none) in
@@ -169,7 +200,9 @@ module _ (service : Service) (tei : ℕ) where
                 n' = with_more octets n;
                 m' = m;
                 talk = record { near = x.holds; far = h.far; pair = y.pair };
-                price = grind (arith, price-more, with_more, one-longer);
+                price =
+                    price-more (weight_at n) (weight_at (with_more octets n)) (weight_at m) (length w.near.granted) (length s'.granted) (length w.far.granted) y.heavier
+                    (ap length x.granted ∙ one-longer w.near.granted octets);
               }
 
       acts-request : (r : Request) → IsTalkOf service tei (requests r) → Acted w (acting (requests r) w) n m 0
@@ -198,7 +231,9 @@ module _ (service : Service) (tei : ℕ) where
         n' = x.m';
         m' = x.n';
         talk = turned-talk d c q p second first w' x.n' x.m' x.talk;
-        price = grind (arith, swapped);
+        price =
+            swapped (if is_turn_of act (turned w) then 1 else 0) (weight_at n) (weight_at m) (weight_at x.m') (weight_at x.n') (length w.near.granted) (length w.far.granted)
+            (length w'.far.granted) (length w'.near.granted) x.price;
       }
 
   joined : (b k w w1 w2 g g1 g2 : ℕ) → b + w1 + 4 * g ≤ w + 4 * g1 → k + w2 + 4 * g1 ≤ w1 + 4 * g2 → (b + k) + w2 + 4 * g ≤ w + 4 * g2
@@ -216,5 +251,7 @@ module _ (service : Service) (tei : ℕ) where
         n' = rest.n';
         m' = rest.m';
         talk = rest.talk;
-        price = grind (arith, joined);
+        price =
+            joined (if is_turn k w then 1 else 0) (turns ds (doing k w)) (weight_at n + weight_at m) (weight_at one.n' + weight_at one.m') (weight_at rest.n' + weight_at rest.m')
+            (granted_of w) (granted_of (doing k w)) (granted_of (doing_all ds (doing k w))) one.price rest.price;
       }

@@ -1,7 +1,8 @@
 -- A line that meets what the law of calls among other events asks, and what that gives.
-use Rattle.laws_line.proofs.Vocabulary.{◌≡◌, ℕ, zero, suc, [], ◌∷◌, replicate, Some, refl, arith, Fcs, Call, reading, header_of, control_of, unnumbered_of, supervisory_of, seq, distance_of, named, hears, request, next, Line, place_at, tei_at, after_sound, bits_dropped as dropped, after, IsSound, StaysOnLine, small, asked, still_on_line, events}
+use Rattle.laws_line.proofs.Vocabulary.{◌≡◌, ℕ, zero, suc, true, [], ◌∷◌, replicate, Some, refl, arith, Fcs, ReceiveReady, Ua, Call, reading, header_of, control_of, unnumbered_of, supervisory_of, seq, distance_of, named, response, hears, request, next, Line, place_at, tei_at, after_sound, bits_dropped as dropped, after, IsSound, StaysOnLine, IsTakenIn, control_text, small, asked, both_wait, still_on_line, events, one_comes, frames_first, takes_are}
 use Rattle.lapd_tei.specs.Events as teis
 use Rattle.model_line.specs.Request
+use Rattle.laws_line.proofs.Among.{taken-in}
 use Rattle.laws_line.proofs.Leaving.{next-moves, same-place}
 use Rattle.laws_line.proofs.Premises.{asked-sound}
 
@@ -32,3 +33,7 @@ unit-sound = after_sound small refl (request (Request.Unit Call 127 (0xAB ∷ []
 stays : StaysOnLine small 0 64 events asked
 unfolding StaysOnLine
 stays = (still_on_line, refl, (check-on_line, refl, takes-leave 4 unit_asked unit-sound unit-on_line))
+
+pub is-taken : IsTakenIn small events asked (control_text small 0 64 (response (ReceiveReady (seq 0) true)))
+is-taken =
+    taken-in small refl 0 64 (omega arith) (response (ReceiveReady (seq 0) true)) events asked asked-sound stays (response (Ua true) ∷ []) [] both_wait (omega (arith, one_comes, frames_first, takes_are))

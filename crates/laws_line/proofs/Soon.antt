@@ -1,5 +1,5 @@
 -- What a configuration lets go before a control frame that waits.
-use Rattle.laws_line.proofs.Vocabulary.{◌≡◌, ℕ, ◌+◌, ◌-◌, ◌≤◌, ◌<◌, List, ◌∷◌, ◌++◌, length, Some, arith, length-append, nat_le, mul-le-mul_right, leb-false, ControlFrame, Config, Line, link_count, place_at, tei_at, link_at, IsInRange, IsSound, frames_before, IsEnough, control_text, IsTakenWithin, most_frames_before}
+use Rattle.laws_line.proofs.Vocabulary.{◌≡◌, ℕ, ◌+◌, ◌≤◌, ◌<◌, List, ◌∷◌, ◌++◌, length, Some, arith, length-append, nat_le, mul-le-mul_right, leb-false, ControlFrame, Config, Line, link_count, place_at, tei_at, link_at, IsInRange, IsSound, frames_before, IsEnough, control_text, IsTakenWithin, most_frames_before}
 use Rattle.laws_line.proofs.Ordered.{enough-goes}
 
 -- by numbers alone

@@ -1,5 +1,5 @@
 -- The user's side has no TEI management.
-use Rattle.laws_line.proofs.Vocabulary.{arith, ◌≡◌, ℕ, Bool, false, not, [], ◌∷◌, Option, None, refl, sym, ap, ◌∙◌, next_walk, option_map_or, User, Network, Refusal, Service, Management, expire_check, join_at, put_on, LinkTimer, Config, at_management, of_aim, hears, at_timer, Line, place_in, Taken, taken, line_of, wrong_side, bad_tei, no_link, check_running, control_full, Request, Establish, Release, Assign, Remove, SetBusy, ClearBusy, Deactivate, at_requested, at_deactivated, aim_of_request, has_management, Down, tei_begun as begun, Event, expiry, after, unless_refused, refusal, Data, Unit, Check, IsSound, IsUnmanaged, UsersManageNothing}
+use Rattle.laws_line.proofs.Vocabulary.{arith, ◌≡◌, ℕ, Bool, false, not, [], ◌∷◌, Option, None, refl, sym, ap, ◌∙◌, next_walk, option_map_or, User, Network, Refusal, Service, Management, expire_check, join_at, put_on, LinkTimer, Config, at_management, of_aim, hears, at_timer, Line, place_in, Taken, taken, line_of, wrong_side, bad_tei, no_link, check_running, control_full, Request, Establish, Release, Assign, Remove, SetBusy, ClearBusy, Deactivate, at_requested, at_deactivated, aim_of_request, has_management, Down, tei_begun as begun, Event, after, refusal, Data, Unit, Check, IsSound, IsUnmanaged, UsersManageNothing}
 use Rattle.model_bits.specs.Stream as stream
 use Rattle.lapd_tei.specs.Events as teis
 use Rattle.model_link.specs.Events as link

@@ -1,5 +1,5 @@
 -- An I-frame may go exactly where the machine lets one go.
-use Rattle.laws_link.proofs.Vocabulary.{◌≡◌, ◌-◌, false, arith, nat_lt, ltb-false, Terms, Link, may_send_information, IsSound, MayGo}
+use Rattle.laws_link.proofs.Vocabulary.{◌≡◌, false, arith, nat_lt, ltb-false, Terms, Link, may_send_information, IsSound, MayGo}
 use Rattle.laws_link.proofs.Alone.{may-go}
 
 -- the parts of a test that fails do not all hold

@@ -6,7 +6,6 @@ use Rattle.lapd_frame.specs.declared.notes.Note.TheVariants as notes
 use Rattle.model_link.specs.Events as link
 use Rattle.model_link.specs.Machine as links
 use Rattle.model_line.specs.Machine as lines
-use Rattle.model_line.specs.Request.{Data}
 use Rattle.model_line.specs.Sound as line_sound
 use Rattle.laws_order.proofs.LinkEnds.{or-true, Ended, own, Leaves, IsNoRelease, event-leaves, Fallen, undefined-falls, wrong-size-falls, overlong-falls, release-falls, unit-data-stays}
 use Rattle.laws_order.proofs.Shown.{fits, same-frames, noted-is, asked_in, granted-is, ends-is, request-ends}

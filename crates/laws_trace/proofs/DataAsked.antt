@@ -1,5 +1,5 @@
 -- What an event of a line is to the data of a link: what it asks for, and what it does not.
-use Rattle.laws_trace.proofs.Vocabulary.{arith, ◌≡◌, ℕ, Bool, true, false, List, [], None, eq-eqb, is_some, Service, not_not, Terms, Link, accepted, i_frames, Config, request, next, Answer, Line, aim_of, is_granted, IsBy, not-refused, service-same, is-off, Event, answer, refusal, Request, Data, of_link, data_asked}
+use Rattle.laws_trace.proofs.Vocabulary.{arith, ◌≡◌, ℕ, Bool, true, false, List, [], None, eq-eqb, is_some, Service, not_not, Terms, Link, accepted, i_frames, Config, request, next, Answer, Line, aim_of, is_granted, IsBy, not-refused, service-same, is-off, Event, answer, Request, of_link, data_asked}
 use Rattle.model_link.specs.Events as link
 use Rattle.model_link.specs.Requests as requests
 use Rattle.laws_trace.proofs.OneLink.{is_at_link}

@@ -1,5 +1,5 @@
 -- What an event leaves as it was at a station.
-use Rattle.laws_wire.proofs.Vocabulary.{arith, ◌≡◌, ℕ, List, [], option_map, refl, ap, ◌∙◌, append-nil, Timer, came, hears, expiry, request, next, Answer, gave, Request, taken, next_of, line_at, Event, told, drop, Wire, acting, takes, with_first_of, with_first_lost, sym}
+use Rattle.laws_wire.proofs.Vocabulary.{arith, ◌≡◌, ℕ, List, [], option_map, refl, ap, ◌∙◌, append-nil, Timer, came, hears, expiry, request, next, Answer, gave, Request, taken, next_of, line_at, Event, drop, Wire, acting, takes, with_first_of, with_first_lost, sym}
 use Rattle.model_line.specs.Machine as lines
 use Rattle.laws_wire.specs.Wire.{Station, answered, happens, comes, unless_refused, contents_in}
 

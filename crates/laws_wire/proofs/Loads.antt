@@ -1,6 +1,6 @@
 -- What a link has to send, in turns, where w turns go again at most: what waits, what is unsent, an acknowledgement that is owed,
 -- a REJ that may still be sent, and in state 8 what the answer may bring back.
-use Rattle.laws_wire.proofs.Vocabulary.{◌≡◌, ℕ, ◌+◌, ◌-◌, ◌*◌, ◌≤◌, Bool, true, false, cond, ◌&&◌, List, [], ◌∷◌, ◌++◌, length, refl, arith, nat_lt, and_parts, ltb-true, Control, Information, ReceiveReady, ReceiveNotReady, Reject, Sabme, Parts, State, TimerRecovery, ControlFrame, Terms, Link, unsent, offer, course, given_of, begun, frame_given, Course}
+use Rattle.laws_wire.proofs.Vocabulary.{◌≡◌, ℕ, ◌+◌, ◌*◌, ◌≤◌, Bool, true, false, cond, ◌&&◌, List, [], ◌∷◌, ◌++◌, length, refl, arith, nat_lt, and_parts, ltb-true, Control, Information, ReceiveReady, ReceiveNotReady, Reject, Sabme, Parts, State, TimerRecovery, ControlFrame, Terms, Link, unsent, offer, course, given_of, begun, frame_given, Course}
 use Rattle.model_link.specs.Offers
 use Rattle.model_link.specs.Words
 

@@ -1,6 +1,6 @@
 -- Two ends that are up, either of which may be busy, and whose T200 is timely: they stay up, and no frame that one takes makes it tell an
 -- error.
-use Rattle.laws_wire.proofs.Vocabulary.{◌≡◌, ◌-◌, ◌≤◌, true, false, length, Some, refl, sym, ap, ◌∙◌, ◌⊎◌, true≢false, arith, nat_lt, lt-ltb, ltb-false, take_all, State, Established, T203, runs, End, Ends, Joined, joined-turned, done-at, rising-low, IsTimedIn, IsTimelyAct, HasNothingToSend, Sane, sane-doing, Flows, acted-flows, same-after, T200, line_of}
+use Rattle.laws_wire.proofs.Vocabulary.{◌≡◌, ◌≤◌, false, length, Some, refl, sym, ap, ◌∙◌, ◌⊎◌, true≢false, arith, nat_lt, lt-ltb, ltb-false, take_all, State, Established, T203, runs, End, Ends, Joined, joined-turned, done-at, rising-low, IsTimedIn, IsTimelyAct, HasNothingToSend, Sane, sane-doing, Flows, acted-flows, same-after, T200, line_of}
 use Rattle.model_link.specs.TwoEnds.{Act, at_near, acting}
 use Rattle.laws_wire.proofs.Firm.{Firm, not-behind, up-after}
 

@@ -1,5 +1,5 @@
 -- Each step of a call in which UA may be lost makes what is left to do less; so its moves are bounded.
-use Rattle.laws_wire.proofs.Vocabulary.{◌≡◌, ℕ, ◌+◌, ◌-◌, ◌*◌, ◌≤◌, Bool, true, false, cond, not, IsTrue, List, [], ◌∷◌, ◌++◌, length, refl, sym, ap, subst, ◌∙◌, ◌⊎◌, inl, inr, eqb-true, arith, Service, Parts, spelling, ControlFrame, Terms, Link, fresh, has_outstanding, has_room, is_multiple_frame, frames_of, after, Means, IsInRange, End, with_link, Config, LineTold, terms, Rising, Station, Wire, comes, with_first_of, with_first_lost, Act, takes, acting, turned, Doing, at_near, at_far, doing, IsFullTalkOf, IsTimelyOf, is_move, is_move_of, expiries_in}
+use Rattle.laws_wire.proofs.Vocabulary.{◌≡◌, ℕ, ◌+◌, ◌-◌, ◌*◌, ◌≤◌, Bool, true, false, cond, not, IsTrue, List, [], ◌∷◌, ◌++◌, length, refl, sym, ap, subst, ◌∙◌, ◌⊎◌, inl, inr, eqb-true, arith, Service, Parts, spelling, ControlFrame, Terms, Link, fresh, has_outstanding, has_room, is_multiple_frame, frames_of, after, Means, IsInRange, End, with_link, Config, LineTold, terms, Rising, Station, Wire, comes, with_first_lost, Act, takes, acting, turned, Doing, at_near, at_far, doing, IsFullTalkOf, IsTimelyOf, is_move, is_move_of, expiries_in}
 use Rattle.model_link.specs.Events as link
 use Rattle.model_link.specs.TwoEnds as two_ends
 use Rattle.laws_wire.specs.Answering.{Called}

@@ -1,5 +1,5 @@
 -- What is taken after a list of events.
-use Rattle.laws_line.proofs.Vocabulary.{arith, ◌≡◌, ℕ, ◌<◌, slice_get, List, Option, Some, None, sym, subst, inl, inr, Config, next, Line, link_count, Taken, taken, Card, line_at, after_all, AreAtLines, always_sound, has_lines, line_sound, IsOfLink, IsOwed, IsIdle, line_contents_of as contents_of, IsServed, CardEvent as Event, card_after as after, CardIsSound as IsSound, accepted_at, IsServedIn}
+use Rattle.laws_line.proofs.Vocabulary.{arith, ◌≡◌, ℕ, ◌<◌, slice_get, List, Option, Some, None, sym, subst, inl, inr, Config, next, Line, link_count, Taken, taken, Card, line_at, after_all, AreAtLines, always_sound, has_lines, line_sound, IsOfLink, IsOwed, IsIdle, line_contents_of as contents_of, IsServed, CardEvent as Event, CardIsSound as IsSound, accepted_at, IsServedIn}
 use Rattle.model_line.specs.Machine as lines
 use Rattle.laws_line.proofs.Serving.{served}
 use Rattle.laws_line.proofs.OfCard.Keeping.{run-counted}

@@ -1,5 +1,5 @@
 -- What an offer gives, and what is left behind it.
-use Rattle.laws_link.proofs.Vocabulary.{◌≡◌, ℕ, zero, suc, ◌+◌, ◌-◌, ◌≤◌, Bool, cond, List, [], ◌∷◌, ◌++◌, length, Option, None, refl, sym, ap, subst, ◌⊎◌, inl, inr, arith, nat_lt, ltb-true, and_parts, ControlFrame, Terms, Link, Sent, Course, begun, offer, after, given, given_of, HasNothingToSend, after_offers, GoesWhole, turns, is_awaiting_acknowledgement, may_send_information, offer_among, offer_step, with_one_sent}
+use Rattle.laws_link.proofs.Vocabulary.{◌≡◌, ℕ, zero, suc, ◌+◌, ◌≤◌, Bool, cond, List, [], ◌∷◌, ◌++◌, length, Option, None, refl, sym, ap, subst, ◌⊎◌, inl, inr, arith, nat_lt, ltb-true, and_parts, ControlFrame, Terms, Link, Sent, Course, begun, offer, after, given, given_of, HasNothingToSend, after_offers, GoesWhole, turns, is_awaiting_acknowledgement, may_send_information, offer_among, offer_step, with_one_sent}
 
 -- nothing is given where nothing was sent
 none-sent : (t : Terms) (l : Link) (c : Course) (o : Option Sent) → given_of t l c o ≡ None → o ≡ None

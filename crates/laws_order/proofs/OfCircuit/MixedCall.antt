@@ -9,7 +9,7 @@ use Rattle.model_card.specs.ports.Port as port
 use Rattle.laws_wire.specs.Call as call
 use Rattle.laws_wire.specs.Wire as frames
 unfoldable use Rattle.laws_wire.specs.Wire.{doing_all as frames_done}
-use Rattle.laws_order.specs.circuit.Circuit.{Termination, port_of, happens}
+use Rattle.laws_order.specs.circuit.Circuit.{Termination, port_of}
 use Rattle.laws_order.specs.circuit.Through as octets
 use Rattle.laws_order.specs.circuit.MixedCall.{Pair, as_wire, begun_by_frames, begun_by_octets, IsThrough, CallsComeThroughBetweenKinds, Doing, by_frames, asks, pulls, hears, brings, IsWhole, left_by, doing, IsTalk, CallsAreOfFrames}
 unfoldable use Rattle.laws_order.specs.circuit.MixedCall.{doing_all, AreTalk}

@@ -1,10 +1,11 @@
 -- Counters count what is seen: the law.
-use Rattle.laws_trace.proofs.Vocabulary.{◌≡◌, ℕ, Bool, true, cond, List, [], ◌∷◌, ◌++◌, map, Option, Some, None, option_map_or, refl, sym, ap, ◌∙◌, append-nil, filter, filter-append, flat_map, length, get_or, Note, Cause, Frames, Octets, Polls, Messages, Kind, More, heard_shown, note_shown, drop_shown, lost_shown, Side, Config, shown, answer_shown, Answer, refused, gave, Line, Refusal, Card, by_room, arith, told, CardEvent as Event, card_answer as answer, seen, seen_told}
+use Rattle.laws_trace.proofs.Vocabulary.{◌≡◌, ℕ, ◌==◌, Bool, true, false, cond, List, [], ◌∷◌, ◌++◌, map, Option, Some, None, option_map_or, refl, sym, ap, ◌∙◌, append-nil, filter, filter-append, flat_map, flat_map-append, length, get_or, Note, Cause, Frames, Octets, Polls, Messages, Kind, More, heard_shown, note_shown, drop_shown, lost_shown, Side, Config, shown, answer_shown, Answer, refused, gave, Line, Refusal, Card, after, moments, by_room, arith, told, CardEvent as Event, card_answer as answer, Seen, seen, seen_told, trace}
 use Rattle.lapd_count.specs.Kinds.{kind_of}
 use Rattle.lapd_count.specs.Shown.{begun_shown, is_poll, message_shown, octets_shown}
 use Rattle.lapd_count.specs.declared.counter.Way.{Way}
 use Rattle.lapd_count.specs.declared.messages.Message.{Message}
 use Rattle.model_bits.specs.Stream as stream
+use Rattle.model_card.specs.Counted.{all_shown}
 use Rattle.model_line.specs.Event as line_event
 use Rattle.model_line.specs.Machine as lines
 use Rattle.laws_trace.specs.CountersCount.{names, is_seen, CountersCount}
@@ -92,5 +93,27 @@ of-event c other (refused why) answers = refl
 of-event c line_event.next (gave None) answers = refl
 of-event c line_event.next (gave (Some f)) answers = begun-kept c.side f.octets ∙ sym (append-nil (begun_shown c.side f.octets))
 
+-- At a line, and nothing at another;
+at-line : (c : Config) (e : line_event.Event) (a : Answer) (b : Bool) → Answers e a
+    → kept (cond b (shown c e a) []) ≡ flat_map (names c.side) (cond b (seen e a) [])
+at-line c e a true answers = of-event c e a answers
+at-line c e a false answers = refl
+
+-- and so in all moments of a run.
+run-counts : (number : ℕ) (card : Card) (events : List Event)
+    → kept (all_shown number (moments card events)) ≡ flat_map (names card.config.side) (trace number (moments card events))
+unfolding moments
+run-counts number card [] = refl
+run-counts number card (e ∷ events) =
+    let a : Answer = answer e card in
+    let b : Bool = e.line == number in
+    let all : List More = cond b (shown card.config e.what a) [] in
+    let t : List Seen = cond b (seen e.what a) [] in
+    let more : List More = all_shown number (moments (after e card) events) in
+    let rest : List Seen = trace number (moments (after e card) events) in
+    filter-append is_seen all more ∙ ap (λ xs. xs ++ kept more) (at-line card.config e.what a b (card-answers e card))
+    ∙ ap (λ xs. flat_map (names card.config.side) t ++ xs) (run-counts number (after e card) events)
+    ∙ sym (flat_map-append (names card.config.side) t rest)
+
 pub counters-count : CountersCount
-counters-count card e = of-event card.config e.what (answer e card) (card-answers e card)
+counters-count card events number = run-counts number card events

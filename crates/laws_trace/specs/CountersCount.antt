@@ -1,14 +1,14 @@
 -- Counters count what is seen.
-use Rattle.std.specs.Prelude.{◌≡◌, Bool, true, false, List, [], map, flat_map, filter, Some}
+use Rattle.std.specs.Prelude.{◌≡◌, ℕ, Bool, true, false, List, [], map, flat_map, filter, Some}
 use Rattle.lapd_count.specs.declared.counter.Counter.TheVariants.{Dropped}
 use Rattle.lapd_count.specs.Counters.{More}
 use Rattle.lapd_count.specs.Shown.{begun_shown, heard_shown, note_shown, lost_shown}
 use Rattle.lapd_frame.specs.declared.addresses.Side.{Side}
-use Rattle.model_line.specs.Counted.{shown}
 use Rattle.model_card.specs.Card.{Card}
+use Rattle.model_card.specs.Counted.{all_shown}
 use Rattle.model_card.specs.Event.{Event}
-use Rattle.model_card.specs.Machine.{answer}
-use Rattle.laws_trace.specs.Trace.{Seen, heard, begun, noted, granted, lost, seen}
+use Rattle.model_card.specs.Run.{moments}
+use Rattle.laws_trace.specs.Trace.{Seen, heard, begun, noted, granted, lost, trace}
 
 -- The names of what is seen: of a frame that is heard or begins its kind, its octets, whether it is a poll, and which message of
 -- TEI management it has, if any; of each note its own; and how many frames were lost.
@@ -24,8 +24,8 @@ abbrev pub is_seen : More → Bool
 is_seen (Dropped cause, amount) = false
 is_seen other = true
 
--- All else that an event at a card and its answer show to the counters of its line is what is seen of both, name by name.
+-- All else that the moments of a run at a line show to its counters is what the trace of the line has, name by name.
 abbrev pub CountersCount : Type 0
 CountersCount =
-    (card : Card) (e : Event) →
-    filter is_seen (shown card.config e.what (answer e card)) ≡ flat_map (names card.config.side) (seen e.what (answer e card))
+    (card : Card) (events : List Event) (number : ℕ) →
+    filter is_seen (all_shown number (moments card events)) ≡ flat_map (names card.config.side) (trace number (moments card events))

@@ -14,7 +14,6 @@ use Rattle.lapd_tei.specs.declared.messages.Message.{Message}
 use Rattle.lapd_tei.specs.declared.messages.Message.TheVariants.{IdentityAssigned, IdentityDenied, IdentityCheckRequest, IdentityRemove}
 use Rattle.model_line.specs.declared.config.Config.{Config}
 use Rattle.model_line.specs.Event.{Event, hears, expiry, request, next}
-use Rattle.model_line.specs.Heard.{management_sapi, group_tei}
 use Rattle.model_line.specs.Request.{Request, Assign, Remove, Check, Down}
 use Rattle.model_line.specs.Sides.{has_management}
 use Rattle.model_card.specs.Event as card
@@ -120,7 +119,7 @@ by_message c w other = w
 
 abbrev pub by_frame : Config → Managed → Parts → Managed
 by_frame c w f =
-    if has_management c.side && ((f.address.sapi == management_sapi && f.address.tei == group_tei) && is_ui f.control) then by_message c w f.info else w
+    if has_management c.side && ((f.address.sapi == 63 && f.address.tei == 127) && is_ui f.control) then by_message c w f.info else w
 
 -- What management asks for, and whether it is granted (clauses 4.1.1.5, 5.3.3 and 5.3.4). The user's side neither removes
 -- a TEI nor checks one (profile). That the line is down is always granted: no message is owed any more, and a check that runs

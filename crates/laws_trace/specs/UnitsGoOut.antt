@@ -7,7 +7,6 @@ use Rattle.lapd_frame.specs.Grammar.{Parts, spelling}
 use Rattle.lapd_frame.specs.Services.{sapi_of}
 use Rattle.model_line.specs.declared.config.Config.{Config}
 use Rattle.model_line.specs.Event.{next}
-use Rattle.model_line.specs.Heard.{management_sapi}
 use Rattle.model_line.specs.Request as asked
 use Rattle.model_line.specs.Request.{Down}
 use Rattle.model_card.specs.Event.{Event}
@@ -18,7 +17,7 @@ use Rattle.laws_trace.specs.Units.{is_ui}
 
 -- A UI, except those of TEI management, which have SAPI 63 (Q.921 clauses 3.6.5 and 5.3.1).
 abbrev pub is_unit : Side → List ℕ → Bool
-is_unit side = reads side (λ (f : Parts). is_ui f.control && not (f.address.sapi == management_sapi))
+is_unit side = reads side (λ (f : Parts). is_ui f.control && not (f.address.sapi == 63))
 
 -- The frames of the unit data that waits, oldest first: from when it is granted, whole, with its service and its TEI, in a UI
 -- command with P=0, until it begins (clauses 3.6.5 and 5.2.2), or the line is down, when what waits is given up (annex B,

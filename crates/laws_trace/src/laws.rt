@@ -187,8 +187,8 @@ pub fn rooms_are_told()
     ensures { Always RoomsAreTold }
 {}
 
-/// Counters count what is seen. What an event at a card and its answer show to the counters of its line, but for why
-/// something is dropped, is what is seen of both, whatever happened before: of a frame that is heard or begins its kind, its
+/// Counters count what is seen. What the moments of a run at a line show to its counters, but for why something is dropped,
+/// is what the trace of the line has, name by name, whatever happened before: of a frame that is heard or begins its kind, its
 /// octets, whether it is a poll, and the message of TEI management in it, of notes each, and the frames that were lost. So
 /// by `counters` and `counters_add_up` of `Card::drive` the counters of a line are numbers of these (profile).
 pub fn counters_count()

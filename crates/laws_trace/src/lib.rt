@@ -2,8 +2,8 @@
 //!
 //! Most laws hold from a fresh card of a configuration in range, for every list of events at its lines, and for every line;
 //! the others say of what. `specs/` has the trace (`Trace`), what whoever watches the line knows of its TEIs (`Managing`),
-//! of a link (`Observer`) and of what it keeps (`Outgoing`), by the procedures of Q.921; what is due of a link by that, a
-//! list for each part of an answer: notes (`News`), orders (`TimersAreTimely`), control frames (`ControlFrames`) and what
+//! of a link (`Observer`) and of what it keeps (`Outgoing`), by the procedures of Q.921; what is due of a link by that, in
+//! four lists: notes (`News`), orders (`TimersAreTimely`), control frames that come to wait (`ControlFrames`) and what
 //! goes next (`FramesAreDue`); and a file for each law, with worked values of it. Each law is the contract of a call that
 //! does nothing.
 //!

@@ -71,8 +71,8 @@ def strip(folder, crate):
         if ".TheInside." in text:
             # (it speaks of what values of the code stand for)
             os.remove(f"{folder}/specs/{file}")
-            lib = f"{folder}/specs/{at or 'Lib'}.antt"
-            write(lib, read(lib).replace(f"pub mod {name.removesuffix('.antt')}\n", ""))
+            lib, module = f"{folder}/specs/{at or 'Lib'}.antt", name.removesuffix(".antt")
+            write(lib, re.sub(rf"^pub (mod {module}|use Rattle\.{crate}\.specs\.{module}\..*)\n", "", read(lib), flags=re.MULTILINE))
         else:
             parts = WORKED.sub("", text).split("\n\n")
             is_worked = name.startswith("Worked")

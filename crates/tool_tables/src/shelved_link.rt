@@ -28,7 +28,9 @@ impl ShelvedLink {
         ensures { IfOk result Works }
     {
         let mut link = Link::start(alloc, ROOM as u8, ROOM as u8)?;
-        let shelf = SlabShelf::start(alloc, ROOM, 8)?;
+        let Ok(shelf) = SlabShelf::start(alloc, ROOM, 8) else {
+            return Err(StartFault::OutOfMemory);
+        };
         link.open(Service::Call, 64, ROOM as u8, 3, 8);
         Ok(ShelvedLink { link, shelf })
     }

@@ -12,7 +12,7 @@ open-requires-clause-down c =
 
 pub returns : goal.returns
 returns c =
-    let shelf : c.in_ok-shelf.shelf ≡ empty_store 2 8 = c.in_ok-shelf.ensures in (
+    let shelf : c.in-Ok.shelf ≡ empty_store 2 8 = c.in-Ok.ensures in (
       fresh,
       subst (λ (s : Store). Stands c.open.new.self s [] fresh) (sym shelf)
           (c.open.ensures.fresh (empty_store 2 8) [] fresh (omega arith)

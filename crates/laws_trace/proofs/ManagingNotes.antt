@@ -1,5 +1,5 @@
 -- Which aims of a line are none of TEI management, and that what a line tells behind what TEI management tells changes nothing.
-use Rattle.laws_trace.proofs.Vocabulary.{arith, ◌≡◌, ℕ, ◌==◌, ◌&&◌, Bool, true, false, cond, List, [], ◌∷◌, ◌++◌, Option, Some, None, refl, sym, ap, ◌∙◌, append-nil, append_assoc, option_map_or, ◌⊎◌, inr, All, filter, Result, Ok, Err, All-nil, All-cons, All-head, All-tail, All-append, filter-append, Tei, Unserved, Address, ReadFault, Undefined, WrongSize, Note, Long, Service, Call, Packet, Parts, reading, long_reading, service_of, TeiTold, Change, Left, Link, orders_for, LinkTimer, Terms, notes-own, Config, Aim, at_management, told_of_management, of_change, Line, link_in, terms, management_sapi, group_tei, drop_for, at_place, to_service, addressed, message_of, aim_of_reading, aim_of_long, aim_of_heard, heard_side, at_side, has_management, Control, line_of_link as of_link, result_ok, frame_of, Managed, by_message, is_of_teis, is_of_t201, is_ui, course, link_told as told}
+use Rattle.laws_trace.proofs.Vocabulary.{arith, ◌≡◌, ℕ, ◌==◌, ◌&&◌, Bool, true, false, cond, List, [], ◌∷◌, ◌++◌, Option, Some, None, refl, sym, ap, ◌∙◌, append-nil, append_assoc, option_map_or, ◌⊎◌, inr, All, filter, Result, Ok, Err, All-nil, All-cons, All-head, All-tail, All-append, filter-append, Tei, Unserved, Address, ReadFault, Undefined, WrongSize, Note, Long, Service, Call, Packet, Parts, reading, long_reading, service_of, TeiTold, Change, Left, Link, orders_for, LinkTimer, Terms, notes-own, Config, Aim, at_management, told_of_management, of_change, Line, link_in, terms, management_sapi, group_tei, drop_for, at_place, to_service, addressed, message_of, aim_of_reading, aim_of_long, aim_of_heard, heard_side, at_side, manages, Control, line_of_link as of_link, result_ok, frame_of, Managed, by_message, is_of_teis, is_of_t201, is_ui, course, link_told as told}
 use Rattle.model_bits.specs.Stream as stream
 use Rattle.lapd_tei.specs.Events as teis
 use Rattle.model_link.specs.Events as link
@@ -73,7 +73,7 @@ is_message_to frame = (frame.address.sapi == management_sapi && frame.address.te
 
 abbrev pub message_by : Config → Option Parts → Option (List ℕ)
 message_by c None = None
-message_by c (Some frame) = cond (has_management c.side && is_message_to frame) (Some frame.info) None
+message_by c (Some frame) = cond (manages c.side && is_message_to frame) (Some frame.info) None
 
 abbrev pub message_in : Config → stream.Event → Option (List ℕ)
 message_in c e = message_by c (frame_of c e)
@@ -110,7 +110,7 @@ module _ (c : Config) (l : Line) where
   by-control control info = grind arith
 
   -- On the user's side none is served.
-  at-side : (f : Parts) (b : Bool) (said : Option (List ℕ)) (aim : Aim) → Cases aim (cond b said None) → Cases (at_side c f aim) (cond (has_management c.side && b) said None)
+  at-side : (f : Parts) (b : Bool) (said : Option (List ℕ)) (aim : Aim) → Cases aim (cond b said None) → Cases (at_side c f aim) (cond (manages c.side && b) said None)
   at-side f b said aim o = grind arith
 
   by-reading : (r : Result Parts ReadFault) → Cases (aim_of_reading c l r) (message_by c (result_ok r))

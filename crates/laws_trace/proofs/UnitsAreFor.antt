@@ -1,5 +1,5 @@
 -- Unit data is told of TEIs on the line, or of the group.
-use Rattle.laws_trace.proofs.Vocabulary.{arith, ◌≡◌, ℕ, ◌<◌, ◌==◌, ◌&&◌, ◌||◌, not, Bool, true, false, cond, length, List, ◌∷◌, ◌++◌, Option, Some, None, is_some, refl, sym, ap, ◌∙◌, subst, eq-eqb, true≢false, ◌⊎◌, inl, inr, nat_le, Result, Ok, Err, list_any, option_map_or, and_parts, leb-true, Side, User, ReadFault, Service, Parts, reading, same_service, Config, Answer, hears, group_tei, heard_side, Line, has_tei, state_of, has_management, IsInRange, line_at, at, has_lines, by_room, line_sound, notes_of, is_unit_of, eqb-true, IsSound, fresh, CardEvent as Event, card_answer as answer, after_all, AreAtLines, is_unit_for, result_ok, brought, frame_of, its_frame, is_for, managing_is_on as is_on, view_of, is_ui, or-true}
+use Rattle.laws_trace.proofs.Vocabulary.{arith, ◌≡◌, ℕ, ◌<◌, ◌==◌, ◌&&◌, ◌||◌, not, Bool, true, false, cond, length, List, ◌∷◌, ◌++◌, Option, Some, None, is_some, refl, sym, ap, ◌∙◌, subst, eq-eqb, true≢false, ◌⊎◌, inl, inr, nat_le, Result, Ok, Err, list_any, option_map_or, and_parts, leb-true, Side, User, ReadFault, Service, Parts, reading, same_service, Config, Answer, hears, group_tei, heard_side, Line, has_tei, state_of, manages, IsInRange, line_at, at, has_lines, by_room, line_sound, notes_of, is_unit_of, eqb-true, IsSound, fresh, CardEvent as Event, card_answer as answer, after_all, AreAtLines, is_unit_for, result_ok, brought, frame_of, its_frame, is_for, managing_is_on as is_on, view_of, is_ui, or-true}
 use Rattle.model_bits.specs.Stream as stream
 use Rattle.model_line.specs.Event as line_event
 use Rattle.model_line.specs.Machine as lines
@@ -53,13 +53,13 @@ unit-for c before number ranged all within service tei what =
 
 -- So it is of the frame that comes.
 abbrev IsHere : Config → Service → ℕ → ℕ → List Event → Bool
-IsHere c service tei number before = is_on tei (view_of c service tei number before).teis || (not (has_management c.side) && tei == 127)
+IsHere c service tei number before = is_on tei (view_of c service tei number before).teis || (not (manages c.side) && tei == 127)
 
-user-so : (side : Side) → not (has_management side) ≡ true → side ≡ User
+user-so : (side : Side) → not (manages side) ≡ true → side ≡ User
 user-so side is = grind arith
 
 here-so : (c : Config) (service : Service) (tei number : ℕ) (before : List Event) → IsThere c service tei number before → IsHere c service tei number before ≡ true
-here-so c service tei number before (inl on) = ap (λ b. b || (not (has_management c.side) && tei == 127)) on
+here-so c service tei number before (inl on) = ap (λ b. b || (not (manages c.side) && tei == 127)) on
 here-so c service tei number before (inr y) = grind (arith, eq-eqb, or-true)
 
 pub unit-is : (c : Config) (before : List Event) (number : ℕ) → IsInRange c → AreAtLines (fresh c) before → number < c.lines → (service : Service) (tei : ℕ) (what : line_event.Event)
@@ -89,10 +89,10 @@ module _ (c : Config) (events : List Event) (number : ℕ) (ranged : IsInRange c
       there : IsHere c service tei number before ≡ true → (is_some (state_of service tei (line_at number (after_all (fresh c) before))) ≡ true) ⊎ ((c.side ≡ User) × (tei ≡ 127))
       there is = go (is_on tei (view_of c service tei number before).teis) refl is
         where
-          go : (b : Bool) → is_on tei (view_of c service tei number before).teis ≡ b → (b || (not (has_management c.side) && tei == 127)) ≡ true
+          go : (b : Bool) → is_on tei (view_of c service tei number before).teis ≡ b → (b || (not (manages c.side) && tei == 127)) ≡ true
               → (is_some (state_of service tei (line_at number (after_all (fresh c) before))) ≡ true) ⊎ ((c.side ≡ User) × (tei ≡ 127))
           go true on e = inl (sym (is-told service tei (line_at number (after_all (fresh c) before))) ∙ sym (tei-seen c before number ranged first within service tei) ∙ on)
-          go false off e = let x = and_parts (not (has_management c.side)) (tei == 127) e in inr (user-so c.side x.0, eqb-true tei 127 x.1)
+          go false off e = let x = and_parts (not (manages c.side)) (tei == 127) e in inr (user-so c.side x.0, eqb-true tei 127 x.1)
 
       on : (b : Bool) → is_for service tei f.address ≡ b → Comes (cond b (Some f) None) → Told (hears (stream.frame octets))
       on false other some = absurd (true≢false (sym some))

@@ -9,14 +9,13 @@ use Rattle.lapd_frame.specs.Grammar.{Parts}
 use Rattle.model_line.specs.declared.config.Config.{Config}
 use Rattle.model_line.specs.Event as line_event
 use Rattle.model_line.specs.Event.{Answer}
-use Rattle.model_line.specs.Sides.{has_management}
 use Rattle.laws_line.specs.Heard.{notes_of, contents_in, is_data_of, is_unit_of, tells_contents}
 use Rattle.model_card.specs.Card.{fresh}
 use Rattle.model_card.specs.Event.{Event, at}
 use Rattle.model_card.specs.Machine.{answer}
 use Rattle.model_card.specs.Run.{after_all}
 use Rattle.laws_trace.specs.LinkFrames.{brought}
-use Rattle.laws_trace.specs.Managing.{Managed, is_on}
+use Rattle.laws_trace.specs.Managing.{Managed, is_on, manages}
 use Rattle.laws_trace.specs.Observer.{Observed, View, is_next, view_of}
 use Rattle.laws_trace.specs.Trace.{is_up}
 use Rattle.laws_trace.specs.Units.{is_ui}
@@ -33,7 +32,7 @@ is_taken c o f = is_up o.state && (not (nat_lt c.n201 (length f.info)) && brings
 -- A UI is for a TEI that is on the line, whatever the state of its link, or, on the user's side, for the group, which is TEI
 -- 127 (clauses 3.3.4, 5.2.2 and 5.2.3).
 abbrev pub is_unit_for : Config → ℕ → Managed → Parts → Bool
-is_unit_for c tei w f = is_ui f.control && (is_on tei w || (not (has_management c.side) && tei == 127))
+is_unit_for c tei w f = is_ui f.control && (is_on tei w || (not (manages c.side) && tei == 127))
 
 -- It is taken where it has at most N201 octets (clause 5.9.3).
 abbrev pub is_unit_taken : Config → ℕ → Managed → Parts → Bool

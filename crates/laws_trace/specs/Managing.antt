@@ -3,6 +3,8 @@
 use Rattle.std.specs.Prelude.{ℕ, ◌==◌, ◌&&◌, ◌||◌, not, nat_lt, nat_le, Bool, true, false, List, [], ◌∷◌, ◌++◌, ◌+◌, ◌-◌, ◌*◌, ◌/◌, ◌%◌, length, take, drop, filter, fold, Option, Some, None, is_some, if◌then◌else◌}
 use Rattle.std.specs.List.{list_any, find, range_with_len}
 use Rattle.std.specs.Option.{option_map_or}
+use Rattle.lapd_frame.specs.declared.addresses.Side.{Side}
+use Rattle.lapd_frame.specs.declared.addresses.Side.TheVariants.{Network, User}
 use Rattle.lapd_frame.specs.declared.notes.Note.{Note}
 use Rattle.lapd_frame.specs.declared.notes.Note.TheVariants.{Assigned, Removed, Doubled}
 use Rattle.lapd_frame.specs.declared.timers.Order.{Order}
@@ -15,7 +17,6 @@ use Rattle.lapd_tei.specs.declared.messages.Message.TheVariants.{IdentityAssigne
 use Rattle.model_line.specs.declared.config.Config.{Config}
 use Rattle.model_line.specs.Event.{Event, hears, expiry, request, next}
 use Rattle.model_line.specs.Request.{Request, Assign, Remove, Check, Down}
-use Rattle.model_line.specs.Sides.{has_management}
 use Rattle.model_card.specs.Event as card
 use Rattle.laws_trace.specs.LinkFrames.{frame_of}
 use Rattle.laws_trace.specs.Units.{is_ui}
@@ -106,8 +107,7 @@ ran_out w check =
 
 -- What a terminal says, in the information of a UI frame to the group, with SAPI 63: in octets 0F, Ri with its high octet
 -- first, the type, and Ai with 1 as its extension bit (clause 5.3.1, its figure and table 8). It asks for any TEI, Ai 127, by
--- an Ri, as others ask for none (profile); it answers that it has a TEI; or it asks for a check of one. The user's side serves
--- no message (profile).
+-- an Ri, as others ask for none (profile); it answers that it has a TEI; or it asks for a check of one.
 abbrev pub by_message : Config → Managed → List ℕ → Managed
 by_message c w (entity ∷ high ∷ low ∷ type ∷ last ∷ []) =
     if not (entity == 0x0F && last % 2 == 1) then w
@@ -117,9 +117,14 @@ by_message c w (entity ∷ high ∷ low ∷ type ∷ last ∷ []) =
     else w
 by_message c w other = w
 
+-- The network's side alone manages TEIs (clause 5.3.1): the user's serves no message, removes none and checks none (profile).
+abbrev pub manages : Side → Bool
+manages Network = true
+manages User = false
+
 abbrev pub by_frame : Config → Managed → Parts → Managed
 by_frame c w f =
-    if has_management c.side && ((f.address.sapi == 63 && f.address.tei == 127) && is_ui f.control) then by_message c w f.info else w
+    if manages c.side && ((f.address.sapi == 63 && f.address.tei == 127) && is_ui f.control) then by_message c w f.info else w
 
 -- What management asks for, and whether it is granted (clauses 4.1.1.5, 5.3.3 and 5.3.4). The user's side neither removes
 -- a TEI nor checks one (profile). That the line is down is always granted: no message is owed any more, and a check that runs
@@ -129,8 +134,8 @@ grants so after w = record (if so then after else w) { granted = Some so }
 
 abbrev pub by_request : Config → Request → Managed → Managed
 by_request c (Assign tei) w = grants (nat_le tei 126 && not (is_on tei w) && nat_lt (length w.on) c.terminals) (record w { on = tei ∷ w.on }) w
-by_request c (Remove tei) w = grants (has_management c.side && is_on tei w && not (is_full w)) (owes (IdentityRemove tei) (leaves tei w)) w
-by_request c (Check tei) w = grants (has_management c.side && may_check tei w && not (is_full w)) (checks tei None w) w
+by_request c (Remove tei) w = grants (manages c.side && is_on tei w && not (is_full w)) (owes (IdentityRemove tei) (leaves tei w)) w
+by_request c (Check tei) w = grants (manages c.side && may_check tei w && not (is_full w)) (checks tei None w) w
 by_request c Down w = record w { check = None; owed = []; orders = if is_some w.check then Stop T201 ∷ [] else []; granted = Some true }
 by_request c other w = w
 

@@ -14,11 +14,11 @@
 //! # Open
 //!
 //! What is told after an error other than F of a lost UA. Whether rest is reached after such an error, or behind a
-//! release: that the weight which bounds the turns (`proofs/Weighing`) falls there, too, was not tried. What arrives
-//! where UA is lost or an end is busy, while data is asked for on and on (while an end is heard to be busy T200 of the
-//! other runs on). That all arrives with no expiry where nothing is lost, no I-frame comes to a busy end, and each of its
-//! reports finds a place to wait (where one does not, it is not so: `specs/WorkedReports`). Losses where both ends call,
-//! with other requests, links or lines, or from elsewhere than nothing. That a given T200 is long enough.
+//! release (that the weight of `proofs/Weighing` falls there was not tried). What arrives where UA is lost or an end is
+//! busy, while data is asked for on and on (while an end is heard to be busy T200 of the other runs on). That all
+//! arrives with no expiry where nothing is lost, no I-frame comes to a busy end, and each of its reports finds a place
+//! to wait (else it is not so: `specs/WorkedReports`). Losses where both ends call, with other requests, links or lines,
+//! or from elsewhere than nothing. That a given T200 is long enough.
 #![tactic(auto)]
 
 mod answering;

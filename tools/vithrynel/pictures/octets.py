@@ -6,7 +6,7 @@ from ..svg import Drawing
 
 LEFT, RIGHT, BOX, GAP = 36, 690, 310, 18
 BACK = LEFT + BOX + 30  # the way back
-WIDTH, HEIGHT = 1150, 952
+WIDTH, HEIGHT = 1150, 1003
 
 
 class Note(NamedTuple):
@@ -72,9 +72,19 @@ COMES = [
         Note("the row, here of an I-frame in sequence"), drop("unserved"),
         back("writes what is told into the report")]),
 ]
+# The way of a frame that a controller brings, as far as it is another, and of the next one.
+FRAMES = [
+    Call("lapd_frame", "lapd_c/src/frames.rt"), Call("FrameCard::hear", "lapd_card/src/frame_card.rt"),
+    Call("FrameLine::frame", "lapd_line/src/frame_line.rt"),
+    Call("lapd_next_frame", "lapd_c/src/frames.rt"), Call("FrameCard::next_frame", "lapd_card/src/frame_card.rt"),
+    Call("FrameLine::next_frame", "lapd_line/src/next_frame.rt"),
+]
 TOLD = [
     "A report tells notes and contents for layer 3, or why something was dropped;",
     "orders for timers; how many frames were lost.",
+    "A controller's frame comes by {}, {} and {} to".format(*(it.names for it in FRAMES[:3])),
+    "FrameLine::heard; the next by {}, {},".format(*(it.names for it in FRAMES[3:5])),
+    "{} and FrameLine::take.".format(FRAMES[5].names),
 ]
 OFFERS = [Call("Teis::offer", "lapd_tei/src/teis.rt"), Call("Link::offer", "lapd_link/src/offers.rt")]
 GOES = [

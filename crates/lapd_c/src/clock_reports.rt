@@ -6,6 +6,7 @@ ghost use Rattle.lapd_c.specs.Timers.{order_in};
 ghost use Rattle.lapd_c.specs.Clocks.{clock_of, IsCall, IsHandle};
 ghost use Rattle.lapd_c.specs.Orders.{fault_in, first_fault_in, is_placed, after_order, all_placed, after_orders, wrong_among, orders_status, after_all, report_status, after_report};
 
+use crate::lend::{or_answer, within};
 use crate::clock::{ClockHandle, LATEST, carry_out_one};
 use crate::plain::{
     NO_CLOCK, NO_PLACE, OK, PlainOrder, PlainReport, WRONG_LINE, WRONG_ORDER, WRONG_TIME,
@@ -25,13 +26,8 @@ pub extern "C" fn lapd_clock_apply_report(
     ensures applied { IfSome (clock_of handle.old) (λ c. result ≡ report_status c line report.now now) }
     ensures after { clock_of handle.new ≡ option_map (λ c. after_report c line report.now now) (clock_of handle.old) }
 {
-    let Some(clock) = handle.clock() else {
-        return NO_CLOCK;
-    };
-    let line = line as usize;
-    if line >= clock.lines() {
-        return WRONG_LINE;
-    }
+    let clock = or_answer!(handle.clock(), NO_CLOCK);
+    within!(line, clock);
     if report.order_count > 4 {
         return WRONG_ORDER;
     }

@@ -1,7 +1,7 @@
 //! Octets taken and given in turn.
 
 ghost use Rattle.std.specs.Prelude.{◌≡◌, ◌≢◌, ◌≤◌, ◌<◌, ◌*◌, ◌-◌, true, false, not, length};
-ghost use Rattle.lapd_c.specs.{meant_all, told_at, Leads, report_told, IsOctetsCall, IsReopened, ShowsReply, octet_of, Shows, contents_of, card_of, IsHandle, OctetsStand, CardStands, shelf_of, counters_at, is_quiet, is_exchange, step_event, steps_made, with_step, Exchanged, ExchangedIn, counters_in, all_counted, moments};
+ghost use Rattle.lapd_c.specs.{OctetsWithLine, meant_all, told_at, Leads, report_told, IsOctetsCall, IsReopened, ShowsReply, octet_of, Shows, contents_of, card_of, IsHandle, OctetsStand, CardStands, shelf_of, counters_at, is_quiet, is_exchange, step_event, steps_made, with_step, Exchanged, ExchangedIn, counters_in, all_counted, moments};
 ghost use Rattle.model_card.specs.ports.Card as machine;
 ghost use Rattle.model_card.specs.ports.Card.{answer};
 ghost use Rattle.model_card.specs.ports.Event.{at};
@@ -10,6 +10,7 @@ ghost use Rattle.lapd_card.specs.Card.{line_count};
 ghost use Rattle.lapd_c.specs.Statuses as status;
 
 use crate::card::CardHandle;
+use crate::lend::{lend, or_answer, within};
 use crate::plain::{NO_CARD, OK, PlainReport, WRONG_CARD, WRONG_LENGTH, WRONG_LINE};
 use lapd_card::{AnyCard, BareReport, Card, Report};
 use lapd_store::RawShelf;
@@ -29,26 +30,16 @@ pub extern "C" fn lapd_exchange(
     ensures call { IsOctetsCall line handle.old handle.new result }
     ensures unchanged { result ≢ status.ok
         → (card_of handle.new ≡ card_of handle.old) × (given.new ≡ given.old) × (steps.new ≡ steps.old) × (report.new ≡ report.old) }
-    ensures wrong_length { (m : machine.OctetCard) → OctetsStand handle.old m → line < m.card.config.lines
-        → is_exchange taken.now given.old steps.old ≡ false → result ≡ status.wrong_length }
-    ensures served { (m : machine.OctetCard) → OctetsStand handle.old m → line < m.card.config.lines
-        → is_exchange taken.now given.old steps.old ≡ true
-        → (result ≡ status.ok) × ExchangedIn line taken.now steps.old m (card_of handle.new) given.old given.new steps.new report.new }
-    ensures counted { (m : machine.OctetCard) → OctetsStand handle.old m → line < m.card.config.lines
-        → is_exchange taken.now given.old steps.old ≡ true
-        → counters_at handle.new ≡ all_counted (counters_at handle.old) (moments m.card (meant_all m (steps_made line taken.now steps.old (steps.new - steps.old)))) }
+    ensures wrong_length { OctetsWithLine line handle.old (λ m. is_exchange taken.now given.old steps.old ≡ false
+        → result ≡ status.wrong_length) }
+    ensures served { OctetsWithLine line handle.old (λ m. is_exchange taken.now given.old steps.old ≡ true
+        → (result ≡ status.ok)
+        × ExchangedIn line taken.now steps.old m (card_of handle.new) given.old given.new steps.new report.new) }
+    ensures counted { OctetsWithLine line handle.old (λ m. is_exchange taken.now given.old steps.old ≡ true
+        → counters_at handle.new ≡ all_counted (counters_at handle.old) (moments m.card (meant_all m (steps_made line taken.now steps.old (steps.new - steps.old))))) }
     ensures reopened { IsReopened line handle.old handle.new result report.new }
 {
-    let Some(kept) = handle.card() else {
-        return NO_CARD;
-    };
-    let AnyCard::Octets(card) = &mut kept.card else {
-        return WRONG_CARD;
-    };
-    let line = line as usize;
-    if line >= card.lines() {
-        return WRONG_LINE;
-    }
+    lend!(kept of handle, Octets(card), line);
     if taken.len() != given.len() || *steps > 2 * taken.len() {
         return WRONG_LENGTH;
     }

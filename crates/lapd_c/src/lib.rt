@@ -37,6 +37,7 @@ mod exchange;
 mod frames;
 mod kept;
 mod laws;
+mod lend;
 mod link_marks;
 mod links;
 mod loose;

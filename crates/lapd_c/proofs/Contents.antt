@@ -36,15 +36,7 @@ few most o h = subst (IsSmall most) (sym h.none) (omega arith)
 -- what an event of a link tells
 module _ (t : Terms) where
   eligible-small : (l : Link) (o : Option Arrived) (i : Arrived) → eligible_of t l o ≡ Some i → length i.contents ≤ t.n201
-  eligible-small l None i e = absurd (cc)
-  eligible-small l (Some j) i e = go (is_eligible t l j) refl e
-    where
-      go : (b : Bool) → is_eligible t l j ≡ b → cond b (Some j) None ≡ Some i → length i.contents ≤ t.n201
-      go true is same =
-          let same_contents : length j.contents ≡ length i.contents = let j_is_i : j ≡ i = cc in ap (λ (x : Arrived). length x.contents) j_is_i in
-          let small : length j.contents ≤ t.n201 = leb-true _ _ (and_parts _ _ (and_parts _ _ is).0).0 in
-          omega arith
-      go false is same = absurd (cc)
+  eligible-small l o i e = grind (arith, leb-true, and_parts)
 
   delivered-small : (e : link.Event) (l : Link) → IsSmall t.n201 (links.told t e l).delivered
   delivered-small e l = go (links.told t e l).delivered refl
@@ -70,18 +62,13 @@ module _ (t : Terms) where
   row-small b octets control may l = few t.n201 _ ((frame_row (words t) l.state b octets control may).leads (begun l) (begins l))
 
   frame-small : (b : Bool) (octets : List ℕ) (control : Control) (l : Link) → IsSmall t.n201 (links.frame_step t b octets control (begun l)).unit
-  frame-small b octets (Ui p) l = unit-small l.state b p octets l
-  frame-small b octets (Ua true) l = row-small b octets (Ua true) tt l
-  frame-small b octets (Ua false) l = row-small b octets (Ua false) tt l
-  frame-small b octets other l = row-small b octets other tt l
+  frame-small b octets control l = grind (arith, unit-small, row-small)
 
   other-small : (e : link.Event) → FitsEvent ⊥ (Unit {0}) (Unit {0}) e → (l : Link) → IsSmall t.n201 (links.told t e l).unit
   other-small e may l = few t.n201 _ ((event_row (words t) e may).leads (begun l) (begins l))
 
   units-small : (e : link.Event) (l : Link) → IsSmall t.n201 (links.told t e l).unit
-  units-small (link.received (link.frame f)) l = frame-small f.address.command f.info f.control l
-  units-small (link.received other) l = other-small (link.received other) tt l
-  units-small other l = other-small other tt l
+  units-small e l = grind (arith, frame-small, other-small)
 
 either_small : (most : ℕ) (d u : Option (List ℕ)) → IsSmall most d → IsSmall most u → IsSmall most (option_or d u)
 either_small most None u x y = y
@@ -90,9 +77,7 @@ either_small most (Some contents) u x y = x
 -- and an event of a line
 module _ (c : Config) (l : Line) where
   link-small : (service : Service) (tei place : ℕ) (e : link.Event) → IsSmall c.n201 (of_link c service tei place e l).told.contents
-  link-small service tei place e =
-      let t = terms c service tei in let x = link_in l service place in
-      either_small c.n201 (links.told t e x).delivered (links.told t e x).unit (delivered-small t e x) (units-small t e x)
+  link-small service tei place e = grind (arith, either_small, delivered-small, units-small)
 
   change-small : (o : Option Change) (t : tei.TeiTold) → IsSmall c.n201 (of_change c o (told_of_management t) l).told.contents
   change-small o t = grind arith
@@ -120,11 +105,7 @@ module _ (c : Config) where
 
 -- and of a card
 pub contents_fit : ContentsFit
-contents_fit card e = go (wants_room e card)
-  where
-    go : (b : Bool) → IsSmall card.config.n201 (contents_in (cond b (refused PoolFull) (answer card.config e.what (line_at e.line card))))
-    go true = omega arith
-    go false = line-small card.config e.what (line_at e.line card)
+contents_fit card e = grind (arith, line-small)
 
 -- and so do those of a card of octets, which are what its card of frames says
 abbrev pub contents_told : port.Answer → Option (List ℕ)
@@ -133,9 +114,7 @@ contents_told (port.refused why) = None
 contents_told (port.pulled value begun orders) = None
 
 passed-on : (most : ℕ) (a : Answer) → IsSmall most (contents_in a) → IsSmall most (contents_told (port.answer_of a))
-passed-on most (told t) h = h
-passed-on most (refused why) h = omega arith
-passed-on most (gave frame) h = omega arith
+passed-on most a h = grind arith
 
 said-small : (card : Card) (o : Option frames.Event) → IsSmall card.config.n201 (contents_told (option_map_or port.answer_of (option_map (answer_to card) o) (port.told nothing)))
 said-small card None = omega arith
@@ -143,10 +122,4 @@ said-small card (Some e) = passed-on card.config.n201 (frames_answer e card) (co
 
 pub replies_fit : (m : OctetCard) (e : octets.Event) → length (contents_of (contents_told (octets_answer e m))) ≤ m.card.config.n201
 unfolding octets_answer
-replies_fit m e = go e.what
-  where
-    go : (w : port.Event) → IsSmall m.card.config.n201 (contents_told (port.answer w (said e m) (port_at e.line m)))
-    go (port.octet value) = said-small m.card (meant e m)
-    go (port.expiry timer) = said-small m.card (meant e m)
-    go (port.request r) = said-small m.card (meant e m)
-    go port.pull = omega arith
+replies_fit m e = grind (arith, said-small)

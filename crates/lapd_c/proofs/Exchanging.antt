@@ -34,14 +34,7 @@ module _ (line : ℕ) (taken : List ℕ) (from : ℕ) (m : OctetCard) where
       → Leads shelf_of (step_event line taken step) card card' → given'' ≡ with_step step (answer (step_event line taken step) (card_after line taken from n m)) given'
       → Made before (suc n) card' given given''
   unfolding given_after
-  made-more before n step card card' given given' given'' e h leads gave =
-      let there = card_after line taken from n m in
-      let led : Leads shelf_of (step_event line taken (from + n)) card card' = subst (λ (s : ℕ). Leads shelf_of (step_event line taken s) card card') e leads in
-      record {
-        stands = subst (CardStands card') (card-more n) (led.stands there h.stands);
-        counted = led.counted there h.stands ∙ ap (λ all. meaning_counted all there (step_event line taken (from + n))) h.counted ∙ counted-more before n;
-        octets = subst (λ (s : ℕ). given'' ≡ with_step s (answer (step_event line taken s) there) given') e gave ∙ ap (with_step (from + n) (answer_after line taken from n m)) h.octets;
-      }
+  made-more before n step card card' given given' given'' e h leads gave = grind (arith, card-more, counted-more)
 
   -- so many steps are those from the first to the last
   pub counted-to : (before after : List Counters) (n to : ℕ) → to ≡ from + n → after ≡ counted_after before n → after ≡ counted_after before (to - from)
@@ -50,11 +43,7 @@ module _ (line : ℕ) (taken : List ℕ) (from : ℕ) (m : OctetCard) where
   pub quiet-made : (n step : ℕ) → step ≡ from + n → AllQuiet line taken from n m → false ≡ not (is_quiet (answer (step_event line taken step) (card_after line taken from n m)))
       → AllQuiet line taken from (suc n) m
   unfolding AllQuiet
-  quiet-made n step e h tells = (h, subst (λ (s : ℕ). is_quiet (answer (step_event line taken s) (card_after line taken from n m)) ≡ true) e (go _ tells))
-    where
-      go : (b : Bool) → false ≡ not b → b ≡ true
-      go true is = refl
-      go false is = is
+  quiet-made n step e h tells = grind arith
 
   pub quiet-none : AllQuiet line taken from 0 m
   unfolding AllQuiet
@@ -62,11 +51,7 @@ module _ (line : ℕ) (taken : List ℕ) (from : ℕ) (m : OctetCard) where
 
   pub tells-made : (n step : ℕ) → step ≡ from + n → true ≡ not (is_quiet (answer (step_event line taken step) (card_after line taken from n m)))
       → is_quiet (answer_after line taken from n m) ≡ false
-  tells-made n step e tells = subst (λ (s : ℕ). is_quiet (answer (step_event line taken s) (card_after line taken from n m)) ≡ false) e (go _ tells)
-    where
-      go : (b : Bool) → true ≡ not b → b ≡ false
-      go true is = is
-      go false is = refl
+  tells-made n step e tells = grind arith
 
   pub shown-made : (n step : ℕ) (r : PlainReport) → step ≡ from + n → ShowsReply r (answer (step_event line taken step) (card_after line taken from n m))
       → ShowsReply r (answer_after line taken from n m)

@@ -32,18 +32,11 @@ pub extern "C" fn lapd_octet(
 {
     lend!(kept of handle, Octets(card), line);
     match card.hear(line, octet) {
-        None => {
-            report.show_nothing();
-            kept.tell_reopened(line, report);
-            OK
-        }
-        Some(bare) => {
-            let told = card.lend(line, &bare);
-            report.show(&told);
-            kept.tell_reopened(line, report);
-            OK
-        }
+        None => report.show_nothing(),
+        Some(told) => report.show(&told, card.contents(line, &told)),
     }
+    kept.tell_reopened(line, report);
+    OK
 }
 
 /// Gives the next octet of a line to send, low bit first.
@@ -67,7 +60,7 @@ pub extern "C" fn lapd_pull(
     lend!(kept of handle, Octets(card), line);
     let pulled = card.pull(line);
     *octet = pulled.octet;
-    report.show_pull(pulled.begun, pulled.orders());
+    report.show_orders(pulled.begun, false, pulled.orders());
     kept.tell_reopened(line, report);
     OK
 }

@@ -19,6 +19,3 @@ returns-clause-counted c = λ m s w.
     let t = frames_there c.in-Some.ensures.card c.in-Frames.is m s in
     ap counters_of c.tell_reopened.ensures.card ∙ c.hear.ensures.counted m t
     ∙ (λ i. moment_counted (frames_counted c.in-Some.ensures.card c.in-Frames.is i) (moment_of m (comes c.args.line c.args.octets.now m)))
-
-pub returns-clause-reopened : goal.returns-clause-reopened
-returns-clause-reopened c = λ m s w ok. tells_after m c.in-Some.ensures.card c.tell_reopened.ensures.card c.tell_reopened.ensures.tells s w

@@ -33,6 +33,3 @@ returns-in-Ok-Some-clause-given c = λ m s within room. let t = frames_there c.i
     (subst (λ g. drop (written g) c.next_frame.new.out ≡ drop (written g) c.args.out.now) c.in-Ok-Some.field-0-is c.in-Ok-Some.ensures.rest)
     (still_pulled c.tell_reopened.new.report c.show_next.new.self true c.has_next.result (listed c.in-Ok-Some.next.orders) c.tell_reopened.ensures.rest
     (subst (λ os. ShowsPull c.show_next.new.self true c.has_next.result (listed os)) c.order_list.ensures c.show_next.ensures))
-
-pub returns-in-Ok-Some-clause-reopened : goal.returns-in-Ok-Some-clause-reopened
-returns-in-Ok-Some-clause-reopened c = λ m s w ok. tells_after m c.in-Some.ensures.card c.tell_reopened.ensures.card c.tell_reopened.ensures.tells s w

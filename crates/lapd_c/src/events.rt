@@ -5,13 +5,12 @@ ghost use Rattle.lapd_c.specs.{WithLine, refusal_at, IsCallAt, IsReopened, Shows
 ghost use Rattle.model_card.specs.Event.{at};
 ghost use Rattle.model_line.specs.Event as line_event;
 ghost use Rattle.lapd_c.specs.Statuses as status;
-ghost use Rattle.lapd_card.specs.Kinds.{Machine, card_in, after, answer};
+ghost use Rattle.lapd_card.specs.Kinds.{card_in, after, answer};
 
 use crate::card::CardHandle;
-use crate::lend::{lend, or_answer, within};
+use crate::lend::{lend, or_answer};
 use crate::plain::{
-    DATA, NO_CARD, OK, PlainReport, PlainTimer, REFUSED_QUEUE_FULL, WRONG_LINE, refusal_status,
-    request_in,
+    DATA, OK, PlainReport, PlainTimer, REFUSED_QUEUE_FULL, refusal_status, request_in,
 };
 use lapd_card::BareReport;
 

@@ -1,7 +1,8 @@
 //! Octets taken and given in turn.
 
-ghost use Rattle.std.specs.Prelude.{◌≡◌, ◌≢◌, ◌≤◌, ◌<◌, ◌*◌, ◌-◌, true, false, not, length, None};
-ghost use Rattle.lapd_c.specs.{OctetsWithLine, meant_all, told_at, Leads, told_beside, IsOctetsCall, IsReopened, ShowsReply, octet_of, Shows, contents_of, card_of, IsHandle, OctetsStand, CardStands, shelf_of, counters_at, is_quiet, is_exchange, step_event, steps_made, with_step, Exchanged, ExchangedIn, counters_in, all_counted, moments};
+ghost use Rattle.std.specs.Prelude.{◌≡◌, ◌≢◌, ◌≤◌, ◌<◌, ◌*◌, ◌-◌, true, false, not, length};
+ghost use Rattle.std.specs.Option.{option_copied};
+ghost use Rattle.lapd_c.specs.{OctetsWithLine, meant_all, told_at, Leads, told_beside, IsOctetsCall, IsReopened, ShowsReply, octet_of, Shows, contents_of, card_of, IsHandle, CardStands, shelf_of, counters_at, is_quiet, is_exchange, step_event, steps_made, with_step, Exchanged, ExchangedIn, counters_in, all_counted, moments};
 ghost use Rattle.model_card.specs.ports.Card as machine;
 ghost use Rattle.model_card.specs.ports.Card.{answer};
 ghost use Rattle.model_card.specs.ports.Event.{at};
@@ -10,9 +11,9 @@ ghost use Rattle.lapd_card.specs.Card.{line_count};
 ghost use Rattle.lapd_c.specs.Statuses as status;
 
 use crate::card::CardHandle;
-use crate::lend::{lend, or_answer, within};
-use crate::plain::{NO_CARD, OK, PlainReport, WRONG_CARD, WRONG_LENGTH, WRONG_LINE};
-use lapd_card::{AnyCard, BareReport, Card};
+use crate::lend::lend;
+use crate::plain::{OK, PlainReport, WRONG_LENGTH};
+use lapd_card::{BareReport, Card};
 use lapd_store::RawShelf;
 
 /// Takes and gives octets in turn: step 2i takes octet i of those taken, step 2i + 1 gives octet i of those given. Goes
@@ -132,7 +133,7 @@ fn tells_ended(
     ensures unchanged { result ≡ false → report.new ≡ report.old }
 {
     let contents = card.contents(line, told);
-    if contents.is_none() && is_quiet(told) {
+    if is_quiet(told, contents) {
         return false;
     }
     report.show(told, contents);
@@ -165,9 +166,12 @@ fn tells_given(
     true
 }
 
-// Whether nothing is told beside contents.
-fn is_quiet(told: &BareReport) -> bool
-    ensures { result ≡ is_quiet (port.told (told_beside None told.now)) }
+fn is_quiet(told: &BareReport, delivered: Option<&[u8]>) -> bool
+    ensures { result ≡ is_quiet (port.told (told_beside (option_copied delivered.entry) told.now)) }
 {
-    told.notes().is_empty() && told.orders().is_empty() && told.cause().is_none() && told.lost == 0
+    told.notes().is_empty()
+        && told.orders().is_empty()
+        && told.cause().is_none()
+        && told.lost == 0
+        && delivered.is_none()
 }

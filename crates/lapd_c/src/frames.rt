@@ -10,11 +10,9 @@ ghost use Rattle.lapd_c.specs.Faults.{fault_in};
 ghost use Rattle.lapd_c.specs.Statuses as status;
 
 use crate::card::CardHandle;
-use crate::lend::{lend, or_answer, within};
-use crate::plain::{
-    NO_CARD, NO_FRAME, OK, PlainReport, WRONG_CARD, WRONG_LENGTH, WRONG_LINE, fault_in,
-};
-use lapd_card::{AnyCard, BareReport, FrameCard};
+use crate::lend::{lend, or_answer};
+use crate::plain::{NO_FRAME, OK, PlainReport, WRONG_LENGTH, fault_in};
+use lapd_card::{BareReport, FrameCard};
 use lapd_store::RawShelf;
 
 /// Takes a frame that came from a line, from its address to its information, without its check.

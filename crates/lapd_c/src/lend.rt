@@ -4,21 +4,21 @@
 /// the other; and where a line is named, it becomes a place among the card's lines, or the answer is that there is none.
 macro_rules! lend {
     ($kept:ident of $handle:ident) => {
-        let $kept = or_answer!($handle.card(), NO_CARD);
+        let $kept = $crate::lend::or_answer!($handle.card(), $crate::plain::NO_CARD);
     };
     ($kept:ident of $handle:ident, $line:ident) => {
         lend!($kept of $handle);
-        within!($line, $kept.card);
+        $crate::lend::within!($line, $kept.card);
     };
     ($kept:ident of $handle:ident, $kind:ident($card:ident)) => {
         lend!($kept of $handle);
-        let AnyCard::$kind($card) = &mut $kept.card else {
-            return WRONG_CARD;
+        let lapd_card::AnyCard::$kind($card) = &mut $kept.card else {
+            return $crate::plain::WRONG_CARD;
         };
     };
     ($kept:ident of $handle:ident, $kind:ident($card:ident), $line:ident) => {
         lend!($kept of $handle, $kind($card));
-        within!($line, $card);
+        $crate::lend::within!($line, $card);
     };
 }
 
@@ -27,7 +27,7 @@ macro_rules! within {
     ($line:ident, $lines:expr) => {
         let $line = $line as usize;
         if $line >= $lines.lines() {
-            return WRONG_LINE;
+            return $crate::plain::WRONG_LINE;
         }
     };
 }

@@ -1,17 +1,15 @@
 //! What happens at a card for octets: one that comes, and one that goes; which frame a pull began, and which was heard last.
 
-ghost use Rattle.std.specs.Prelude.{◌≡◌, ◌≢◌, ◌<◌};
+ghost use Rattle.std.specs.Prelude.{◌≡◌, ◌≢◌};
 ghost use Rattle.lapd_c.specs.{OctetsWithLine, head_begun_at, head_heard_at, plain_head, IsOctetsCall, IsReopened, ShowsReply, octet_of, card_of, IsHandle, OctetsStand, CountsMeaning, counters_at};
-ghost use Rattle.model_card.specs.ports.Card as machine;
 ghost use Rattle.model_card.specs.ports.Card.{after, answer};
 ghost use Rattle.model_card.specs.ports.Event.{at};
 ghost use Rattle.model_card.specs.ports.Port as port;
 ghost use Rattle.lapd_c.specs.Statuses as status;
 
 use crate::card::CardHandle;
-use crate::lend::{lend, or_answer, within};
-use crate::plain::{NO_CARD, OK, PlainHead, PlainReport, WRONG_CARD, WRONG_LINE};
-use lapd_card::AnyCard;
+use crate::lend::lend;
+use crate::plain::{OK, PlainHead, PlainReport};
 
 /// Takes an octet that came from a line, low bit first.
 #[unsafe(no_mangle)]

@@ -1,6 +1,6 @@
 //! The report of an event.
 
-ghost use Rattle.std.specs.Prelude.{◌≡◌, ◌≤◌, [], true, false, length, take, map};
+ghost use Rattle.std.specs.Prelude.{◌≡◌, ◌≤◌, [], false, length, take, map};
 ghost use Rattle.std.specs.Option.{option_copied};
 ghost use Rattle.lapd_c.specs.{told_beside, nothing, plain_note, plain_order, ShowsReopened, with_reopened, Shows, ShowsPull, SameButContents, contents_in, contents_of, mark_of, orders_of};
 

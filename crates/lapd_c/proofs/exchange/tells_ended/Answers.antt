@@ -4,5 +4,5 @@ use Rattle.lapd_c.proofs.exchange.tells_ended.Goals as goal
 
 pub returns-clause-shown : goal.returns-clause-shown
 returns-clause-shown c few on =
-    subst (Shows c.show.new.self) c.lend-told.ensures
-    (c.show.ensures (subst (λ (t : LineTold). length (contents_of t.contents) ≤ 260) (sym c.lend-told.ensures) few))
+    subst (Shows c.show.new.self) c.contents-contents.ensures
+    (c.show.ensures (subst (λ (t : LineTold). length (contents_of t.contents) ≤ 260) (sym c.contents-contents.ensures) few))

@@ -1,5 +1,5 @@
 -- Contents that an answer delivers have at most N201 octets.
-use Rattle.lapd_c.proofs.Vocabulary.{◌≡◌, ℕ, ◌≤◌, Answer, Card, OctetCard, told, gave, option_map, Bool, true, false, cond, List, length, Option, None, nat_lt, refl, sym, ap, subst, arith, leb-true, ltb-false, and_parts, option_or, option_map_or, Control, Ui, State, Terms, Refusal, Arrived, is_eligible, eligible_of, information_in, Link, Course, begun, by_bit, leave_unserved, deliver_unit, delivered-at_once, FitsEvent, Kept, frame_row, event_row, Change, Gained, Left, Config, hears, expiry, request, next, refused, nothing, told_of_management, of_link, of_change, of_management, of_aim, without_units, event_aims, Effect, Line, link_in, terms, unless_refused_told, PoolFull, line_at, wants_room, refusal, Service, contents_of, contents_in, ContentsFit}
+use Rattle.lapd_c.proofs.Vocabulary.{◌≡◌, ℕ, ◌≤◌, Answer, Card, OctetCard, told, gave, option_map, Bool, true, false, cond, List, length, Option, None, nat_lt, refl, sym, ap, subst, arith, leb-true, ltb-false, and_parts, option_or, option_map_or, Control, Ua, Ui, State, Terms, Refusal, Arrived, is_eligible, eligible_of, information_in, Link, Course, begun, by_bit, leave_unserved, deliver_unit, delivered-at_once, Fits, FitsEvent, Kept, frame_row, event_row, Change, Gained, Left, Config, hears, expiry, request, next, refused, nothing, told_of_management, of_link, of_change, of_management, of_aim, without_units, event_aims, Effect, Line, link_in, terms, unless_refused_told, PoolFull, line_at, wants_room, refusal, Service, contents_of, contents_in, ContentsFit}
 use Rattle.std.proofs.Common.{Some}
 use Rattle.model_link.specs.Events as link
 use Rattle.model_link.specs.Machine as links
@@ -66,9 +66,14 @@ module _ (t : Terms) where
   begins : (l : Link) → No (begun l)
   begins l = record { none = refl }
 
+  row-small : (b : Bool) (octets : List ℕ) (control : Control) → Fits ⊥ (Unit {0}) (Unit {0}) control → (l : Link) → IsSmall t.n201 (links.frame_step t b octets control (begun l)).unit
+  row-small b octets control may l = few t.n201 _ ((frame_row (words t) l.state b octets control may).leads (begun l) (begins l))
+
   frame-small : (b : Bool) (octets : List ℕ) (control : Control) (l : Link) → IsSmall t.n201 (links.frame_step t b octets control (begun l)).unit
   frame-small b octets (Ui p) l = unit-small l.state b p octets l
-  frame-small b octets other l = few t.n201 _ ((frame_row (words t) l.state b octets other tt).leads (begun l) (begins l))
+  frame-small b octets (Ua true) l = row-small b octets (Ua true) tt l
+  frame-small b octets (Ua false) l = row-small b octets (Ua false) tt l
+  frame-small b octets other l = row-small b octets other tt l
 
   other-small : (e : link.Event) → FitsEvent ⊥ (Unit {0}) (Unit {0}) e → (l : Link) → IsSmall t.n201 (links.told t e l).unit
   other-small e may l = few t.n201 _ ((event_row (words t) e may).leads (begun l) (begins l))

@@ -34,7 +34,7 @@ pub use Rattle.lapd_card.specs.Counted.{counters_in}
 pub use Rattle.lapd_clock.specs.Timers.{Timers}
 pub use Rattle.lapd_count.specs.declared.counters.Counters.{Counters}
 pub use Rattle.lapd_frame.specs.declared.controls.Control.{Control}
-pub use Rattle.lapd_frame.specs.declared.controls.Control.TheVariants.{Ui}
+pub use Rattle.lapd_frame.specs.declared.controls.Control.TheVariants.{Ua, Ui}
 pub use Rattle.lapd_frame.specs.declared.notes.Note.{Note}
 pub use Rattle.lapd_frame.specs.declared.refusals.Refusal.{Refusal}
 pub use Rattle.lapd_frame.specs.declared.refusals.Refusal.TheVariants.{PoolFull}
@@ -65,7 +65,7 @@ pub use Rattle.model_line.specs.Request.{request_of}
 pub use Rattle.model_line.specs.Sound.{IsInRange}
 pub use Rattle.model_line.specs.declared.config.Config.{Config}
 pub use Rattle.model_link.proofs.Numbering.{delivered-at_once}
-pub use Rattle.model_link.proofs.Kept.{FitsEvent, Kept}
+pub use Rattle.model_link.proofs.Kept.{Fits, FitsEvent, Kept}
 pub use Rattle.model_link.proofs.Rows.{event_row, frame_row}
 pub use Rattle.model_link.specs.Deliveries.{Arrived, eligible_of, information_in, is_eligible}
 pub use Rattle.model_link.specs.Link.{Link}

@@ -31,7 +31,6 @@ pub use Rattle.lapd_card.specs.declared.kinds.AnyCard.{AnyCard}
 pub use Rattle.lapd_card.specs.declared.kinds.AnyCard.TheVariants.{Frames, Octets}
 pub use Rattle.lapd_card.proofs.OctetsTaken.{meanings-count, octets-more}
 pub use Rattle.lapd_card.specs.Counted.{counters_in}
-pub use Rattle.lapd_card.specs.FrameReply.{answer_of_result}
 pub use Rattle.lapd_clock.specs.Timers.{Timers}
 pub use Rattle.lapd_count.specs.declared.counters.Counters.{Counters}
 pub use Rattle.lapd_frame.specs.declared.controls.Control.{Control}
@@ -41,10 +40,8 @@ pub use Rattle.lapd_frame.specs.declared.refusals.Refusal.{Refusal}
 pub use Rattle.lapd_frame.specs.declared.refusals.Refusal.TheVariants.{PoolFull}
 pub use Rattle.lapd_frame.specs.declared.services.Service.{Service}
 pub use Rattle.lapd_frame.specs.declared.timers.Order.{Order}
-pub use Rattle.lapd_line.specs.Reports.{gave_in, next_in, written}
-pub use Rattle.lapd_line.specs.Reports.{report_told}
+pub use Rattle.lapd_line.specs.Reports.{answer_of_request, gave_in, next_in, told_beside, written}
 pub use Rattle.lapd_line.specs.declared.next_frame.NextFrame.{NextFrame}
-pub use Rattle.lapd_line.specs.declared.reports.Report.{Report}
 pub use Rattle.lapd_c.specs.LinkPlaces.{service_at, tei_at}
 pub use Rattle.lapd_c.specs.Reports.{Shows, contents_of}
 pub use Rattle.lapd_c.specs.Requests.{read_of}

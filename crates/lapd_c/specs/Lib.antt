@@ -40,7 +40,7 @@ pub use Rattle.lapd_clock.specs.Timer.{first_out_of_range}
 pub use Rattle.lapd_clock.specs.Timers.{after_due, due_at, idle, next_moment, with_lengths}
 pub use Rattle.lapd_count.specs.Counters.{none_counted}
 pub use Rattle.lapd_frame.specs.ShortLists.{listed}
-pub use Rattle.lapd_line.specs.Reports.{report_told, told_in}
+pub use Rattle.lapd_line.specs.Reports.{told_beside}
 pub use Rattle.model_card.specs.Counted.{all_counted, moment_counted, moment_of}
 pub use Rattle.model_card.specs.Run.{moments}
 pub use Rattle.model_card.specs.ports.Begun.{head_begun_at}

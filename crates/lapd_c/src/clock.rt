@@ -11,7 +11,7 @@ use crate::clock_slot::ClockSlot;
 use crate::lend::{or_answer, within};
 use crate::plain::{
     NO_CLOCK, NO_MEMORY, NO_PLACE, NO_TIMER, OK, PlainConfig, PlainDue, PlainOrder, SECOND_START,
-    WRONG_LINE, WRONG_TIME,
+    WRONG_TIME,
 };
 use lapd_clock::{Clock, Lengths};
 use model_line::Config;

@@ -5,11 +5,9 @@ ghost use Rattle.lapd_c.specs.Timers.{order_in};
 ghost use Rattle.lapd_c.specs.Clocks.{clock_of, IsCall, IsHandle};
 ghost use Rattle.lapd_c.specs.Orders.{is_placed, after_order, all_placed, after_orders, wrong_among, orders_status, after_all, report_status, after_report};
 
-use crate::lend::{or_answer, within};
 use crate::clock::{ClockHandle, LATEST, carry_out_one};
-use crate::plain::{
-    NO_CLOCK, NO_PLACE, OK, PlainOrder, PlainReport, WRONG_LINE, WRONG_ORDER, WRONG_TIME,
-};
+use crate::lend::{or_answer, within};
+use crate::plain::{NO_CLOCK, NO_PLACE, OK, PlainOrder, PlainReport, WRONG_ORDER, WRONG_TIME};
 use lapd_clock::Clock;
 
 /// Carries out all orders of a report, in order, at a moment.

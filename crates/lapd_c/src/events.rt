@@ -5,14 +5,14 @@ ghost use Rattle.lapd_c.specs.{WithLine, refusal_at, IsCallAt, IsReopened, Shows
 ghost use Rattle.model_card.specs.Event.{at};
 ghost use Rattle.model_line.specs.Event as line_event;
 ghost use Rattle.lapd_c.specs.Statuses as status;
-ghost use Rattle.lapd_card.specs.Kinds.{Machine, card_in, after, answer};
+ghost use Rattle.lapd_card.specs.Kinds.{card_in, after, answer};
 
 use crate::card::CardHandle;
-use crate::lend::{lend, or_answer, within};
+use crate::lend::{lend, or_answer};
 use crate::plain::{
-    DATA, NO_CARD, OK, PlainReport, PlainTimer, REFUSED_QUEUE_FULL, WRONG_LINE, refusal_status,
-    request_in,
+    DATA, OK, PlainReport, PlainTimer, REFUSED_QUEUE_FULL, refusal_status, request_in,
 };
+use lapd_card::BareReport;
 
 /// A timer of a line expired. One that does not run has no effect, and nothing is told.
 #[unsafe(no_mangle)]
@@ -36,8 +36,9 @@ pub extern "C" fn lapd_expire(
 {
     lend!(kept of handle, line);
     let timer = or_answer!(timer.timer());
-    let told = kept.card.expire(line, timer);
-    report.show(&told);
+    let mut told = BareReport::nothing();
+    kept.card.expire(line, timer, &mut told);
+    report.show(&told, None);
     kept.tell_reopened(line, report);
     OK
 }
@@ -72,9 +73,10 @@ pub extern "C" fn lapd_request(
 {
     lend!(kept of handle, line);
     let asked = or_answer!(request_in(request, service, tei, contents));
-    match kept.card.request(line, asked) {
-        Ok(told) => {
-            report.show(&told);
+    let mut told = BareReport::nothing();
+    match kept.card.request(line, asked, &mut told) {
+        Ok(()) => {
+            report.show(&told, None);
             kept.tell_reopened(line, report);
             OK
         }

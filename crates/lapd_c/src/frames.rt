@@ -10,11 +10,9 @@ ghost use Rattle.lapd_c.specs.Faults.{fault_in};
 ghost use Rattle.lapd_c.specs.Statuses as status;
 
 use crate::card::CardHandle;
-use crate::lend::{lend, or_answer, within};
-use crate::plain::{
-    NO_CARD, NO_FRAME, OK, PlainReport, WRONG_CARD, WRONG_LENGTH, WRONG_LINE, fault_in,
-};
-use lapd_card::{AnyCard, BareReport, FrameCard};
+use crate::lend::{lend, or_answer};
+use crate::plain::{NO_FRAME, OK, PlainReport, WRONG_LENGTH, fault_in};
+use lapd_card::{BareReport, FrameCard};
 use lapd_store::RawShelf;
 
 /// Takes a frame that came from a line, from its address to its information, without its check.
@@ -51,11 +49,11 @@ fn hear(card: &mut FrameCard<RawShelf>, line: usize, octets: &[u8], report: &mut
     ensures counted { (m : machine.Card) → FrameCardStands card.old m
         → counters_in card.new.lines ≡ moment_counted (counters_in card.old.lines) (moment_of m (comes line octets.now m)) }
 {
-    let mut bare = BareReport::nothing();
-    if card.hear(line, octets, &mut bare) {
-        return report.show_orders(bare.order_list());
+    let mut told = BareReport::nothing();
+    if card.frame(line, octets, &mut told) {
+        return report.show_orders(false, false, told.orders());
     }
-    report.show_bare(&bare, card.contents(line, octets, &bare));
+    report.show(&told, card.contents(line, octets, &told));
 }
 
 /// The controller of a line told a fault in place of a frame, by its cause: an abort, bits that are no whole octets, a
@@ -79,8 +77,9 @@ pub extern "C" fn lapd_frame_failed(
 {
     lend!(kept of handle, Frames(card), line);
     let fault = or_answer!(fault_in(cause));
-    let told = card.failed(line, fault);
-    report.show(&told);
+    let mut told = BareReport::nothing();
+    card.failed(line, fault, &mut told);
+    report.show(&told, None);
     kept.tell_reopened(line, report);
     OK
 }
@@ -119,7 +118,7 @@ pub extern "C" fn lapd_next_frame(
     match card.next_frame(line, out) {
         Ok(Some(next)) => {
             *count = next.length;
-            report.show_next(card.has_next(line), next.order_list());
+            report.show_orders(true, card.has_next(line), next.orders());
             kept.tell_reopened(line, report);
             OK
         }

@@ -1,13 +1,13 @@
 //! Which links a card has.
 
 ghost use Rattle.std.specs.Prelude.{◌≡◌, ◌≢◌, ◌<◌, ◌⊎◌, IfSome};
-ghost use Rattle.lapd_c.specs.{WithLine, IsCallAt, card_of, IsHandle, Stands, Machine, card_in, FrameCardStands, FirstFrom, IsNext, NoneFrom};
+ghost use Rattle.lapd_c.specs.{WithLine, IsCallAt, card_of, IsHandle, card_in, FrameCardStands, FirstFrom, IsNext, NoneFrom};
 ghost use Rattle.model_card.specs.Card as machine;
 ghost use Rattle.lapd_c.specs.Statuses as status;
 
 use crate::card::CardHandle;
-use crate::lend::{lend, or_answer, within};
-use crate::plain::{LINK_PLACES, NO_CARD, NO_MORE_LINKS, OK, PlainLink, WRONG_LINE, service_at};
+use crate::lend::{lend, or_answer};
+use crate::plain::{LINK_PLACES, NO_MORE_LINKS, OK, PlainLink, service_at};
 use lapd_card::FrameCard;
 use lapd_store::RawShelf;
 

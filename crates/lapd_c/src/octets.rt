@@ -1,17 +1,15 @@
 //! What happens at a card for octets: one that comes, and one that goes; which frame a pull began, and which was heard last.
 
-ghost use Rattle.std.specs.Prelude.{◌≡◌, ◌≢◌, ◌<◌};
+ghost use Rattle.std.specs.Prelude.{◌≡◌, ◌≢◌};
 ghost use Rattle.lapd_c.specs.{OctetsWithLine, head_begun_at, head_heard_at, plain_head, IsOctetsCall, IsReopened, ShowsReply, octet_of, card_of, IsHandle, OctetsStand, CountsMeaning, counters_at};
-ghost use Rattle.model_card.specs.ports.Card as machine;
 ghost use Rattle.model_card.specs.ports.Card.{after, answer};
 ghost use Rattle.model_card.specs.ports.Event.{at};
 ghost use Rattle.model_card.specs.ports.Port as port;
 ghost use Rattle.lapd_c.specs.Statuses as status;
 
 use crate::card::CardHandle;
-use crate::lend::{lend, or_answer, within};
-use crate::plain::{NO_CARD, OK, PlainHead, PlainReport, WRONG_CARD, WRONG_LINE};
-use lapd_card::AnyCard;
+use crate::lend::lend;
+use crate::plain::{OK, PlainHead, PlainReport};
 
 /// Takes an octet that came from a line, low bit first.
 #[unsafe(no_mangle)]
@@ -32,18 +30,11 @@ pub extern "C" fn lapd_octet(
 {
     lend!(kept of handle, Octets(card), line);
     match card.hear(line, octet) {
-        None => {
-            report.show_nothing();
-            kept.tell_reopened(line, report);
-            OK
-        }
-        Some(bare) => {
-            let told = card.lend(line, &bare);
-            report.show(&told);
-            kept.tell_reopened(line, report);
-            OK
-        }
+        None => report.show_nothing(),
+        Some(told) => report.show(&told, card.contents(line, &told)),
     }
+    kept.tell_reopened(line, report);
+    OK
 }
 
 /// Gives the next octet of a line to send, low bit first.
@@ -67,7 +58,7 @@ pub extern "C" fn lapd_pull(
     lend!(kept of handle, Octets(card), line);
     let pulled = card.pull(line);
     *octet = pulled.octet;
-    report.show_pull(pulled.begun, pulled.orders());
+    report.show_orders(pulled.begun, false, pulled.orders());
     kept.tell_reopened(line, report);
     OK
 }

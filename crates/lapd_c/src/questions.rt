@@ -9,8 +9,8 @@ ghost use Rattle.lapd_c.specs.Statuses as status;
 ghost use Rattle.lapd_card.specs.Kinds.{Machine, card_in, counters_of, line_count, stored};
 
 use crate::card::CardHandle;
-use crate::lend::{lend, or_answer, within};
-use crate::plain::{NO_CARD, OK, PlainCounters, PlainRoom, WRONG_LINE, link_in, refusal_status};
+use crate::lend::{lend, or_answer};
+use crate::plain::{OK, PlainCounters, PlainRoom, link_in, refusal_status};
 
 /// The most lines of a card.
 const MOST_LINES: usize = 64;

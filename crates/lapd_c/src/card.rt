@@ -100,12 +100,7 @@ pub extern "C" fn lapd_card_start_frames(
 }
 
 // Starts a card for octets, or one for frames.
-fn start(
-    alloc: Global,
-    handle: &mut CardHandle,
-    config: &PlainConfig,
-    of_octets: bool,
-) -> u32
+fn start(alloc: Global, handle: &mut CardHandle, config: &PlainConfig, of_octets: bool) -> u32
     requires { IsHandle handle.old }
     ensures handle { IsHandle handle.new }
     ensures start { IsStart card_of config.now handle.old handle.new result }

@@ -101,7 +101,12 @@ fn started(alloc: Global, config: Config) -> Option<Box<Clock>>
     ensures idle { IfSome result (λ clock. clock.value ≡ idle config.lines config.terminals) }
     ensures lines { IfSome result (λ clock. clock.value.lines ≤ 64) }
 {
-    let clock = Clock::start(alloc, usize::from(config.lines), usize::from(config.terminals)).ok()?;
+    let clock = Clock::start(
+        alloc,
+        usize::from(config.lines),
+        usize::from(config.terminals),
+    )
+    .ok()?;
     Box::new(alloc, clock).ok()
 }
 

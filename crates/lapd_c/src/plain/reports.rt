@@ -63,7 +63,8 @@ impl PlainReport {
         self.more = 0;
     }
 
-    /// Shows at most four orders alone, and of a pull or of the next frame whether it began a frame, and whether another waits on its line.
+    /// Shows at most four orders alone; also of a pull or of a call for the next frame, with whether it began or gave one, and
+    /// whether another waits on its line.
     #[inline(always)]
     pub fn show_orders(&mut self, begun: bool, more: bool, orders: &[Order])
         requires { length orders.now ≤ 4 }

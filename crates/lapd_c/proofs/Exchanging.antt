@@ -10,12 +10,15 @@ module _ (line : ℕ) (taken : List ℕ) (from : ℕ) (m : OctetCard) where
   abbrev counted_after : List Counters → ℕ → List Counters
   counted_after before n = all_counted before (moments m.card (meant_all m (steps_made line taken from n)))
 
-  -- where it is after n steps, none of which had anything to tell, and what was counted of them
-  pub record Through (before : List Counters) (n : ℕ) (card : Held Store) (given given' : List ℕ) : Type 0 where
+  -- where it is after n steps, and what was counted of them
+  pub record Made (before : List Counters) (n : ℕ) (card : Held Store) (given given' : List ℕ) : Type 0 where
     pub stands : CardStands card (card_after line taken from n m)
     pub counted : counters_in card.frames.lines ≡ counted_after before n
     pub octets : given' ≡ given_after line taken from n m given
-    pub quiet : AllQuiet line taken from n m
+
+  pub made-none : (card : Held Store) (given : List ℕ) → CardStands card m → Made (counters_in card.frames.lines) 0 card given given
+  unfolding steps_made moments meant_all given_after
+  made-none card given s = record { stands = s; counted = refl; octets = refl }
 
   card-more : (n : ℕ) → after (step_event line taken (from + n)) (card_after line taken from n m) ≡ card_after line taken from (suc n) m
   unfolding steps_made
@@ -26,68 +29,29 @@ module _ (line : ℕ) (taken : List ℕ) (from : ℕ) (m : OctetCard) where
   unfolding steps_made
   counted-more before n = sym (meanings-count before m (steps_made line taken from n) (step_event line taken (from + n)))
 
-  pub counted-made : (before : List Counters) (n step : ℕ) (card card' : Held Store) (given given' : List ℕ) → step ≡ from + n → Through before n card given given' → Leads shelf_of (step_event line taken step) card card'
-      → counters_in card'.frames.lines ≡ counted_after before (suc n)
-  counted-made before n step card card' given given' e h leads =
-      let there = card_after line taken from n m in
-      (subst (λ (s : ℕ). Leads shelf_of (step_event line taken s) card card') e leads).counted there h.stands
-      ∙ ap (λ all. meaning_counted all there (step_event line taken (from + n))) h.counted
-      ∙ counted-more before n
+  -- what a step makes of the card, of the counters and of the octets given
+  pub made-more : (before : List Counters) (n step : ℕ) (card card' : Held Store) (given given' given'' : List ℕ) → step ≡ from + n → Made before n card given given'
+      → Leads shelf_of (step_event line taken step) card card' → given'' ≡ with_step step (answer (step_event line taken step) (card_after line taken from n m)) given'
+      → Made before (suc n) card' given given''
+  unfolding given_after
+  made-more before n step card card' given given' given'' e h leads gave = grind (arith, card-more, counted-more)
 
   -- so many steps are those from the first to the last
   pub counted-to : (before after : List Counters) (n to : ℕ) → to ≡ from + n → after ≡ counted_after before n → after ≡ counted_after before (to - from)
-  counted-to before after n to e counted = counted ∙ ap (counted_after before) (less n to e)
-    where
-      less : (n to : ℕ) → to ≡ from + n → n ≡ to - from
-      less n to e = omega (arith, e)
-
-  pub counted-none : (before : List Counters) → before ≡ counted_after before 0
-  unfolding steps_made moments meant_all
-  counted-none before = refl
-
-  -- what a step makes of the card and of the octets given
-  pub card-made : (before : List Counters) (n step : ℕ) (card card' : Held Store) (given given' : List ℕ) → step ≡ from + n → Through before n card given given' → Leads shelf_of (step_event line taken step) card card'
-      → CardStands card' (card_after line taken from (suc n) m)
-  card-made before n step card card' given given' e h leads =
-      subst (CardStands card') (card-more n)
-      ((subst (λ (s : ℕ). Leads shelf_of (step_event line taken s) card card') e leads).stands (card_after line taken from n m) h.stands)
-
-  pub octets-made : (before : List Counters) (n step : ℕ) (card : Held Store) (given given' given'' : List ℕ) → step ≡ from + n → Through before n card given given'
-      → given'' ≡ with_step step (answer (step_event line taken step) (card_after line taken from n m)) given'
-      → given'' ≡ given_after line taken from (suc n) m given
-  unfolding given_after
-  octets-made before n step card given given' given'' e h made =
-      subst (λ (s : ℕ). given'' ≡ with_step s (answer (step_event line taken s) (card_after line taken from n m)) given') e made
-      ∙ ap (with_step (from + n) (answer_after line taken from n m)) h.octets
+  counted-to before after n to e counted = let less : n ≡ to - from = omega arith in counted ∙ ap (counted_after before) less
 
   pub quiet-made : (n step : ℕ) → step ≡ from + n → AllQuiet line taken from n m → false ≡ not (is_quiet (answer (step_event line taken step) (card_after line taken from n m)))
       → AllQuiet line taken from (suc n) m
   unfolding AllQuiet
-  quiet-made n step e h tells = (h, subst (λ (s : ℕ). is_quiet (answer (step_event line taken s) (card_after line taken from n m)) ≡ true) e (go _ tells))
-    where
-      go : (b : Bool) → false ≡ not b → b ≡ true
-      go true is = refl
-      go false is = is
+  quiet-made n step e h tells = grind arith
 
   pub quiet-none : AllQuiet line taken from 0 m
   unfolding AllQuiet
   quiet-none = tt
 
-  pub given-none : (given : List ℕ) → given ≡ given_after line taken from 0 m given
-  unfolding given_after
-  given-none given = refl
-
-  pub card-none : card_after line taken from 0 m ≡ m
-  unfolding steps_made
-  card-none = refl
-
   pub tells-made : (n step : ℕ) → step ≡ from + n → true ≡ not (is_quiet (answer (step_event line taken step) (card_after line taken from n m)))
       → is_quiet (answer_after line taken from n m) ≡ false
-  tells-made n step e tells = subst (λ (s : ℕ). is_quiet (answer (step_event line taken s) (card_after line taken from n m)) ≡ false) e (go _ tells)
-    where
-      go : (b : Bool) → true ≡ not b → b ≡ false
-      go true is = is
-      go false is = refl
+  tells-made n step e tells = grind arith
 
   pub shown-made : (n step : ℕ) (r : PlainReport) → step ≡ from + n → ShowsReply r (answer (step_event line taken step) (card_after line taken from n m))
       → ShowsReply r (answer_after line taken from n m)

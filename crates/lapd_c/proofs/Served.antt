@@ -1,5 +1,5 @@
 -- What a report shows is what the machine answers.
-use Rattle.lapd_c.proofs.Vocabulary.{◌≡◌, ◌≤◌, length, Option, IfSome, Result, Ok, IfOk, sym, ap, ◌∙◌, subst, arith, counters_in, Report, report_told, LineTold, told, IsInRange, ranges_of, Card, Event, answer, OctetCard, PlainReport, Shows, contents_of, ShowsAnswer, ShowsReply, contents_in, Store, KeptCard, Octets, Frames, HeldCard, Machine, with_ports, alone, AnyStands, CardStands, FrameCardStands}
+use Rattle.lapd_c.proofs.Vocabulary.{◌≡◌, ◌≤◌, length, Option, IfSome, Result, Ok, IfOk, sym, ap, ◌∙◌, subst, arith, counters_in, LineTold, told, IsInRange, ranges_of, Card, Event, answer, OctetCard, PlainReport, Shows, contents_of, ShowsAnswer, ShowsReply, contents_in, Store, KeptCard, Octets, Frames, HeldCard, Machine, with_ports, alone, AnyStands, CardStands, FrameCardStands}
 use Rattle.lapd_card.specs.Card as octets
 use Rattle.lapd_card.specs.FrameCard as frames
 use Rattle.lapd_c.specs.Cards.{StandsIn}
@@ -46,15 +46,12 @@ small_reply m e t ranges is =
     let most : m.card.config.n201 ≤ 260 = (ranges_of m.card.config ranges).n201.most in
     omega arith
 
--- so what the card tells is shown whole, and a report of it
+-- so what the card tells is shown whole
 pub shown_told : (m : Card) (e : Event) (t : LineTold) (p : PlainReport) → IsInRange m.config → told t ≡ answer e m
     → (length (contents_of t.contents) ≤ 260 → Shows p t) → ShowsAnswer p (answer e m)
 shown_told m e t p ranges is h = subst (ShowsAnswer p) is (h (small m e t ranges is))
 
-pub shown : (m : Card) (e : Event) (r : Report) (p : PlainReport) → IsInRange m.config → told (report_told r) ≡ answer e m
-    → (length (contents_of (report_told r).contents) ≤ 260 → Shows p (report_told r)) → ShowsAnswer p (answer e m)
-shown m e r p ranges is h = shown_told m e (report_told r) p ranges is h
-
-pub shown_reply : (m : OctetCard) (e : octet_event.Event) (r : Report) (p : PlainReport) → IsInRange m.card.config → port.told (report_told r) ≡ octet_card.answer e m
-    → (length (contents_of (report_told r).contents) ≤ 260 → Shows p (report_told r)) → ShowsReply p (octet_card.answer e m)
-shown_reply m e r p ranges is h = subst (ShowsReply p) is (h (small_reply m e (report_told r) ranges is))
+-- and what it tells of octets
+pub shown_reply : (m : OctetCard) (e : octet_event.Event) (t : LineTold) (p : PlainReport) → IsInRange m.card.config → port.told t ≡ octet_card.answer e m
+    → (length (contents_of t.contents) ≤ 260 → Shows p t) → ShowsReply p (octet_card.answer e m)
+shown_reply m e t p ranges is h = subst (ShowsReply p) is (h (small_reply m e t ranges is))

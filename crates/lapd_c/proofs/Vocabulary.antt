@@ -31,22 +31,17 @@ pub use Rattle.lapd_card.specs.declared.kinds.AnyCard.{AnyCard}
 pub use Rattle.lapd_card.specs.declared.kinds.AnyCard.TheVariants.{Frames, Octets}
 pub use Rattle.lapd_card.proofs.OctetsTaken.{meanings-count, octets-more}
 pub use Rattle.lapd_card.specs.Counted.{counters_in}
-pub use Rattle.lapd_card.specs.FrameReply.{answer_of_result}
 pub use Rattle.lapd_clock.specs.Timers.{Timers}
 pub use Rattle.lapd_count.specs.declared.counters.Counters.{Counters}
 pub use Rattle.lapd_frame.specs.declared.controls.Control.{Control}
-pub use Rattle.lapd_frame.specs.declared.controls.Control.TheVariants.{Ui}
+pub use Rattle.lapd_frame.specs.declared.controls.Control.TheVariants.{Ua, Ui}
 pub use Rattle.lapd_frame.specs.declared.notes.Note.{Note}
 pub use Rattle.lapd_frame.specs.declared.refusals.Refusal.{Refusal}
 pub use Rattle.lapd_frame.specs.declared.refusals.Refusal.TheVariants.{PoolFull}
 pub use Rattle.lapd_frame.specs.declared.services.Service.{Service}
 pub use Rattle.lapd_frame.specs.declared.timers.Order.{Order}
-pub use Rattle.lapd_frame.specs.declared.timers.Timer.{Timer}
-pub use Rattle.lapd_frame.specs.declared.timers.Timer.TheVariants.{T200, T201, T203}
-pub use Rattle.lapd_line.specs.Reports.{gave_in, next_in, written}
-pub use Rattle.lapd_line.specs.Reports.{report_told}
+pub use Rattle.lapd_line.specs.Reports.{answer_of_request, gave_in, next_in, told_beside, written}
 pub use Rattle.lapd_line.specs.declared.next_frame.NextFrame.{NextFrame}
-pub use Rattle.lapd_line.specs.declared.reports.Report.{Report}
 pub use Rattle.lapd_c.specs.LinkPlaces.{service_at, tei_at}
 pub use Rattle.lapd_c.specs.Reports.{Shows, contents_of}
 pub use Rattle.lapd_c.specs.Requests.{read_of}
@@ -59,30 +54,24 @@ pub use Rattle.model_card.specs.Counted.{all_counted, moment_counted, moment_of}
 pub use Rattle.model_card.specs.Event.{Event, at}
 pub use Rattle.model_card.specs.Machine.{answer, wants_room}
 unfoldable pub use Rattle.model_card.specs.Run.{moments}
-pub use Rattle.model_line.proofs.ProperAims.{heard_aims}
+pub use Rattle.model_line.proofs.ProperAims.{event_aims}
 pub use Rattle.model_line.proofs.Ranges.{ranges_of}
-pub use Rattle.model_line.specs.Effect.{of_aim, of_change, of_link, of_management, told_of_management}
+pub use Rattle.model_line.specs.Effect.{Effect, of_aim, of_change, of_link, of_management, told_of_management, without_units}
 pub use Rattle.model_line.specs.Event.{Answer, LineTold, expiry, nothing, hears, next, gave, refused, request, told}
-pub use Rattle.model_line.specs.Expiry.{aim_of_expiry, at_timer}
-pub use Rattle.model_line.specs.Line.{Line, link_in, place_in, terms}
-pub use Rattle.model_line.specs.Machine.{unless_refused, unless_refused_told}
-pub use Rattle.model_line.specs.Heard.{aim_of_heard}
+pub use Rattle.model_line.specs.Line.{Line, link_in, terms}
+pub use Rattle.model_line.specs.Machine.{unless_refused_told}
 pub use Rattle.model_line.specs.Refusal.{refusal}
-pub use Rattle.model_line.specs.Request.{Assign, Check, ClearBusy, Data, Deactivate, Down, Establish, Release, Remove, Request, SetBusy, Unit, request_of}
-pub use Rattle.model_line.specs.Requested.{aim_of_request, at_deactivated, at_requested}
+pub use Rattle.model_line.specs.Request.{request_of}
 pub use Rattle.model_line.specs.Sound.{IsInRange}
 pub use Rattle.model_line.specs.declared.config.Config.{Config}
 pub use Rattle.model_link.proofs.Numbering.{delivered-at_once}
-pub use Rattle.model_link.proofs.TellRows.{expired_tells, frames_in_4, frames_in_5, frames_in_6, frames_in_7, frames_in_8, granted_tells, malformed_tells}
-pub use Rattle.model_link.proofs.Telling.{HasTold, Telling, another, no_more}
-unfoldable pub use Rattle.model_link.proofs.Telling.{how_many}
+pub use Rattle.model_link.proofs.Kept.{Fits, FitsEvent, Kept}
+pub use Rattle.model_link.proofs.Rows.{event_row, frame_row}
 pub use Rattle.model_link.specs.Deliveries.{Arrived, eligible_of, information_in, is_eligible}
 pub use Rattle.model_link.specs.Link.{Link}
-pub use Rattle.model_link.specs.Steps.{Course, Step, begun, by_bit}
+pub use Rattle.model_link.specs.Steps.{Course, begun, by_bit}
 pub use Rattle.model_link.specs.Words.{deliver_unit, leave_unserved}
 pub use Rattle.model_link.specs.declared.states.State.{State}
-pub use Rattle.model_link.specs.declared.states.State.TheVariants.{AwaitingEstablishment, AwaitingRelease, Established, TeiAssigned, TimerRecovery}
 pub use Rattle.model_link.specs.declared.terms.Terms.{Terms}
-pub use Rattle.model_link.specs.declared.timers.LinkTimer.{LinkTimer}
 pub use Rattle.model_card.specs.ports.Card.{OctetCard}
 unfoldable pub use Rattle.model_card.specs.ports.Run.{meant_all}

@@ -1,5 +1,5 @@
 -- Whole frames: one that comes, and one that is given.
-use Rattle.lapd_c.proofs.Vocabulary.{◌≡◌, ℕ, Bool, true, List, drop, Option, sym, ap, subst, ◌∙◌, None, option_map, Config, NextFrame, written, gave_in, next_in, Card, at, moment_counted, moment_of, Counters, Store, AnyCard, alone, AnyStands, FrameCardStands, comes, goes, next_at}
+use Rattle.lapd_c.proofs.Vocabulary.{arith, ◌≡◌, ℕ, Bool, true, List, drop, Option, sym, ap, subst, ◌∙◌, None, option_map, Config, NextFrame, written, gave_in, next_in, Card, at, moment_counted, moment_of, Counters, Store, AnyCard, alone, AnyStands, FrameCardStands, comes, goes, next_at}
 use Rattle.std.proofs.Common.{Some, IfSome, length, take, ◌≤◌}
 use Rattle.std.proofs.Math.Nat.{min-eq_left}
 use Rattle.std.proofs.lemmas.List.{length-take}
@@ -31,28 +31,12 @@ none_goes i m c none s = subst (FrameCardStands c) (none_leaves m i none) s
 pub none_counted : (i : ℕ) (m : Card) (all : List Counters) → next_at i m ≡ None → moment_counted all (moment_of m (goes i)) ≡ all
 none_counted i m all none = none_counts m i all none
 
--- and nothing is written
-pub unwritten : (given : Option NextFrame) (out out' : List ℕ) → given ≡ None → drop (written given) out' ≡ drop (written given) out → out' ≡ out
-unwritten given out out' none rest = subst (λ (n : Option NextFrame). drop (written n) out' ≡ drop (written n) out) none rest
-
 -- what is written is given, where it fits, and shown with whether another waits
 pub given_shown : (i : ℕ) (m : Card) (new : AnyCard) (out out' : List ℕ) (count status : ℕ) (r : PlainReport) (next : NextFrame) (more : Bool)
     → next_at i m ≡ Some (next_in out' next) → status ≡ ok → AnyStands new (alone (machine.after (goes i) m)) → more ≡ has_next i (machine.after (goes i) m)
     → count ≡ next.length → next.length ≤ length out' → drop next.length out' ≡ drop next.length out → ShowsPull r true more (listed next.orders)
     → IfSome (next_at i m) (λ n. (status ≡ ok) × AnyStands new (alone (machine.after (goes i) m)) × IsGiven n out out' count × ShowsPull r true (has_next i (machine.after (goes i) m)) n.orders)
-given_shown i m new out out' count status r next more is fine stands waits same fits rest shows =
-    subst (λ o. IfSome o (λ n. (status ≡ ok) × AnyStands new (alone (machine.after (goes i) m)) × IsGiven n out out' count × ShowsPull r true (has_next i (machine.after (goes i) m)) n.orders)) (sym is)
-    (fine, stands, given, subst (λ b. ShowsPull r true b (listed next.orders)) waits shows)
-  where
-    whole : length (take next.length out') ≡ next.length
-    whole = length-take next.length out' ∙ min-eq_left fits
-
-    given : IsGiven (next_in out' next) out out' count
-    given = record {
-      whole = same ∙ sym whole;
-      octets = ap (λ n. take n out') same;
-      rest = ap (λ n. drop n out') same ∙ rest ∙ ap (λ n. drop n out) (sym same);
-    }
+given_shown i m new out out' count status r next more is fine stands waits same o rest shows = grind (arith, IfSome, length-take, min-eq_left)
 
 -- where there is none, nothing is said
 pub none_said : {X : Type 0} (P : X → Type 0) (o : Option X) → o ≡ None → IfSome o P

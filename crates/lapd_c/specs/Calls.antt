@@ -1,9 +1,15 @@
 -- What every call of a card comes to, served or not. Its tests come in the order of the fields.
-use Rattle.std.specs.Prelude.{◌≡◌, ◌≤◌, ◌<◌, ℕ, Some, None, replicate}
+use Rattle.std.specs.Prelude.{◌≡◌, ◌≤◌, ◌<◌, ℕ, Bool, Option, Some, None, replicate, if◌then◌else◌}
 use Rattle.lapd_count.specs.Counters.{none_counted}
 use Rattle.model_card.specs.Card.{Card}
+use Rattle.model_card.specs.Card as frames
 use Rattle.model_card.specs.ports.Card.{OctetCard}
-use Rattle.lapd_card.specs.Kinds.{Machine, card_in, AnyStands, counters_of, for_octets, for_frames}
+use Rattle.model_card.specs.ports.Card as octets
+use Rattle.model_line.specs.declared.config.Config.{Config}
+use Rattle.model_line.specs.Refusal.{refusal}
+use Rattle.model_line.specs.Request.{Request}
+use Rattle.lapd_frame.specs.declared.refusals.Refusal.{Refusal}
+use Rattle.lapd_card.specs.Kinds.{Machine, with_ports, alone, card_in, AnyStands, counters_of, for_octets, for_frames}
 use Rattle.lapd_c.specs.declared.card.CardHandle.{CardHandle}
 use Rattle.lapd_c.specs.declared.kept.KeptCard.{KeptCard}
 use Rattle.lapd_c.specs.declared.plain.reports.PlainReport.{PlainReport}
@@ -12,6 +18,10 @@ use Rattle.lapd_c.specs.Cards.{card_of, kind_in, marks_at, IsHandle, Stands, Oct
 use Rattle.lapd_c.specs.LinkMarks.{AreUnmarked}
 use Rattle.lapd_c.specs.Reopened.{TellsReopened}
 use Rattle.lapd_c.specs.Statuses as status
+
+-- The machine of a card that begins, for octets or for frames.
+abbrev pub fresh : Bool → Config → Machine
+fresh of_octets c = if of_octets then with_ports (octets.fresh c) else alone (frames.fresh c)
 
 -- As a card begins, it stands for a machine, nothing is counted, and no link waits for room.
 pub record Begins (m : Machine) (kept : KeptCard) : Type 0 where
@@ -47,8 +57,21 @@ pub record IsFramesCall (line : ℕ) (old new : CardHandle) (result : ℕ) : Typ
   pub wrong_card : kind_in old ≡ Some for_octets → result ≡ status.wrong_card
   pub wrong_line : (m : Card) → FramesStand old m → m.config.lines ≤ line → result ≡ status.wrong_line
 
+-- What holds of each machine that stands for a card with this line: one of either kind, of octets, of frames.
+abbrev pub WithLine : ℕ → CardHandle → (Machine → Type 0) → Type 0
+WithLine line h holds = (m : Machine) → Stands h m → line < (card_in m).config.lines → holds m
+
+abbrev pub OctetsWithLine : ℕ → CardHandle → (OctetCard → Type 0) → Type 0
+OctetsWithLine line h holds = (m : OctetCard) → OctetsStand h m → line < m.card.config.lines → holds m
+
+abbrev pub FramesWithLine : ℕ → CardHandle → (Card → Type 0) → Type 0
+FramesWithLine line h holds = (m : Card) → FramesStand h m → line < m.config.lines → holds m
+
+-- Why a request at a line is refused, if it is.
+abbrev pub refusal_at : ℕ → Request → Card → Option Refusal
+refusal_at line asked m = refusal m.config (frames.is_full m) asked (frames.line_at line m)
+
 -- Where a call of a line is served, its report tells of a link that has room again, if one waits that has.
 abbrev pub IsReopened : ℕ → CardHandle → CardHandle → ℕ → PlainReport → Type 0
 IsReopened line old new result report =
-    (m : Machine) → Stands new m → line < (card_in m).config.lines → result ≡ status.ok
-    → TellsReopened line (card_in m) (marks_at old) (marks_at new) report
+    WithLine line new (λ m. result ≡ status.ok → TellsReopened line (card_in m) (marks_at old) (marks_at new) report)

@@ -40,7 +40,7 @@ pub use Rattle.lapd_clock.specs.Timer.{first_out_of_range}
 pub use Rattle.lapd_clock.specs.Timers.{after_due, due_at, idle, next_moment, with_lengths}
 pub use Rattle.lapd_count.specs.Counters.{none_counted}
 pub use Rattle.lapd_frame.specs.ShortLists.{listed}
-pub use Rattle.lapd_line.specs.Reports.{report_told, told_in}
+pub use Rattle.lapd_line.specs.Reports.{told_beside}
 pub use Rattle.model_card.specs.Counted.{all_counted, moment_counted, moment_of}
 pub use Rattle.model_card.specs.Run.{moments}
 pub use Rattle.model_card.specs.ports.Begun.{head_begun_at}
@@ -49,9 +49,8 @@ pub use Rattle.model_card.specs.ports.Run.{meant_all}
 pub use Rattle.model_card.specs.ports.Stored.{limit}
 pub use Rattle.model_line.specs.Config.{first_fault}
 pub use Rattle.model_line.specs.Event.{nothing}
-pub use Rattle.model_line.specs.Refusal.{refusal}
 pub use Rattle.lapd_c.specs.Answers.{octet_of, ShowsAnswer, ShowsReply}
-pub use Rattle.lapd_c.specs.Calls.{Begins, HasBegun, IsCall, IsCallAt, IsFramesCall, IsOctetsCall, IsReopened}
+pub use Rattle.lapd_c.specs.Calls.{Begins, FramesWithLine, fresh, HasBegun, IsCall, IsCallAt, IsFramesCall, IsOctetsCall, IsReopened, OctetsWithLine, refusal_at, WithLine}
 pub use Rattle.lapd_c.specs.Starts.{IsStart}
 pub use Rattle.lapd_c.specs.Cards.{card_of, FramesStand, IsHandle, kind_in, marks_at, OctetsStand, served_card, Stands}
 pub use Rattle.lapd_c.specs.Config.{config_fault, config_in, side_in}

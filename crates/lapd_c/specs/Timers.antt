@@ -1,5 +1,5 @@
 -- Timers and orders as numbers.
-use Rattle.std.specs.Prelude.{ℕ, nat_lt, ◌==◌, List, [], ◌∷◌, Result, Ok, Err, if◌then◌else◌}
+use Rattle.std.specs.Prelude.{ℕ, nat_lt, ◌==◌, Result, Ok, Err, if◌then◌else◌}
 use Rattle.lapd_frame.specs.declared.services.Service.{Service}
 use Rattle.lapd_frame.specs.declared.timers.Order.{Order}
 use Rattle.lapd_frame.specs.declared.timers.Order.TheVariants.{Start, Stop}
@@ -50,16 +50,3 @@ order_in p =
     if p.order == 1 then order_of_timer Start (timer_in p.timer)
     else if p.order == 2 then order_of_timer Stop (timer_in p.timer)
     else Err wrong_order
-
--- All orders of a list, or what is wrong with the first that is none.
-abbrev pub and_before : Order → Result (List Order) ℕ → Result (List Order) ℕ
-and_before order (Err wrong) = Err wrong
-and_before order (Ok orders) = Ok (order ∷ orders)
-
-abbrev pub and_then : Result Order ℕ → Result (List Order) ℕ → Result (List Order) ℕ
-and_then (Err wrong) more = Err wrong
-and_then (Ok order) more = and_before order more
-
-abbrev pub orders_in : List PlainOrder → Result (List Order) ℕ
-orders_in [] = Ok []
-orders_in (p ∷ ps) = and_then (order_in p) (orders_in ps)

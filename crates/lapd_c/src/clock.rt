@@ -3,16 +3,18 @@
 ghost use Rattle.std.specs.Borrow.{sem};
 ghost use Rattle.std.specs.Option.{option_copied_mut};
 ghost use Rattle.std.specs.Prelude.{◌≡◌, ◌≢◌, ◌≤◌, ◌<◌, Some, None, IfSome, IfNone, option_map};
-ghost use Rattle.lapd_c.specs.{due_at, after_due, next_moment, idle, with_lengths, first_out_of_range, order_in, IsStart};
+ghost use Rattle.lapd_c.specs.{first_fault, due_at, after_due, next_moment, idle, with_lengths, first_out_of_range, order_in, IsStart};
 ghost use Rattle.lapd_c.specs.Statuses as status;
 ghost use Rattle.lapd_c.specs.Clocks.{clock_of, IsCall, IsHandle, plain_due, order_status, after_order, apply_status, after_apply, lengths_given};
 
 use crate::clock_slot::ClockSlot;
+use crate::lend::{or_answer, within};
 use crate::plain::{
     NO_CLOCK, NO_MEMORY, NO_PLACE, NO_TIMER, OK, PlainConfig, PlainDue, PlainOrder, SECOND_START,
-    WRONG_LINE, WRONG_TIME,
+    WRONG_TIME,
 };
 use lapd_clock::{Clock, Lengths};
+use model_line::Config;
 use std::alloc::Global;
 use std::mem::replace;
 
@@ -87,22 +89,25 @@ pub extern "C" fn lapd_clock_start(
     if handle.started {
         return SECOND_START;
     }
-    if let Some(status) = config.fault() {
-        return status;
-    }
-    let config = config.config();
-    let Ok(clock) = Clock::start(
+    let config = or_answer!(config.read());
+    let clock = or_answer!(started(alloc, config), NO_MEMORY);
+    handle.put(clock);
+    OK
+}
+
+// A clock for a card of a configuration that is in range, if there is memory for it.
+fn started(alloc: Global, config: Config) -> Option<Box<Clock>>
+    requires { first_fault config ≡ None }
+    ensures idle { IfSome result (λ clock. clock.value ≡ idle config.lines config.terminals) }
+    ensures lines { IfSome result (λ clock. clock.value.lines ≤ 64) }
+{
+    let clock = Clock::start(
         alloc,
         usize::from(config.lines),
         usize::from(config.terminals),
-    ) else {
-        return NO_MEMORY;
-    };
-    let Ok(clock) = Box::new(alloc, clock) else {
-        return NO_MEMORY;
-    };
-    handle.put(clock);
-    OK
+    )
+    .ok()?;
+    Box::new(alloc, clock).ok()
 }
 
 /// Has timers that are started from now on run so many milliseconds: T200, T203 and T201, each 1 to 3,600,000.
@@ -120,16 +125,10 @@ pub extern "C" fn lapd_clock_set_lengths(
     ensures set { first_out_of_range (lengths_given t200 t203 t201) ≡ None → IfSome (clock_of handle.old)
         (λ c. (result ≡ status.ok) × (clock_of handle.new ≡ Some (with_lengths (lengths_given t200 t203 t201) c))) }
 {
-    let Some(clock) = handle.clock() else {
-        return NO_CLOCK;
-    };
-    match Lengths::new(t200, t203, t201) {
-        Ok(lengths) => {
-            clock.set_lengths(lengths);
-            OK
-        }
-        Err(_) => WRONG_TIME,
-    }
+    let clock = or_answer!(handle.clock(), NO_CLOCK);
+    let lengths = or_answer!(Lengths::new(t200, t203, t201).ok(), WRONG_TIME);
+    clock.set_lengths(lengths);
+    OK
 }
 
 /// Ends a clock, and gives back its memory.
@@ -139,13 +138,8 @@ pub extern "C" fn lapd_clock_free(alloc: Global, handle: &mut ClockHandle) -> u3
     ensures call { IsCall handle.old handle.new result }
     ensures freed { IfSome (clock_of handle.old) (λ _. (result ≡ status.ok) × (clock_of handle.new ≡ None)) }
 {
-    match handle.take(alloc) {
-        Some(clock) => {
-            drop(clock);
-            OK
-        }
-        None => NO_CLOCK,
-    }
+    drop(or_answer!(handle.take(alloc), NO_CLOCK));
+    OK
 }
 
 /// Carries out one order for a timer of a line, at a moment.
@@ -161,13 +155,8 @@ pub extern "C" fn lapd_clock_apply(
     ensures applied { IfSome (clock_of handle.old) (λ c. result ≡ apply_status c line (order_in order.now) now) }
     ensures after { clock_of handle.new ≡ option_map (λ c. after_apply c line (order_in order.now) now) (clock_of handle.old) }
 {
-    let Some(clock) = handle.clock() else {
-        return NO_CLOCK;
-    };
-    let line = line as usize;
-    if line >= clock.lines() {
-        return WRONG_LINE;
-    }
+    let clock = or_answer!(handle.clock(), NO_CLOCK);
+    within!(line, clock);
     carry_out_one(clock, line, order, now)
 }
 
@@ -179,10 +168,7 @@ pub(crate) fn carry_out_one(clock: &mut Clock, line: usize, order: &PlainOrder, 
     ensures after { clock.new ≡ after_order clock.old line (order_in order.now) now }
     ensures lines { clock.new.lines ≡ clock.old.lines }
 {
-    let order = match order.order() {
-        Ok(order) => order,
-        Err(wrong) => return wrong,
-    };
+    let order = or_answer!(order.order());
     if now > LATEST {
         return WRONG_TIME;
     }
@@ -204,18 +190,11 @@ pub extern "C" fn lapd_clock_due(handle: &mut ClockHandle, now: u64, due: &mut P
     ensures due { IfSome (clock_of handle.old) (λ c. IfSome (due_at c now)
         (λ first. (result ≡ status.ok) × (due.new ≡ plain_due first))) }
 {
-    let Some(clock) = handle.clock() else {
-        return NO_CLOCK;
-    };
-    let first = clock.due(now);
-    match first {
-        Some((line, timer)) => {
-            due.line = line as u32;
-            due.timer.show(timer);
-            OK
-        }
-        None => NO_TIMER,
-    }
+    let clock = or_answer!(handle.clock(), NO_CLOCK);
+    let (line, timer) = or_answer!(clock.due(now), NO_TIMER);
+    due.line = line as u32;
+    due.timer.show(timer);
+    OK
 }
 
 /// The moment of the timer that falls due first, due or not.
@@ -229,15 +208,7 @@ pub extern "C" fn lapd_clock_next(handle: &mut ClockHandle, moment: &mut u64) ->
     ensures next { IfSome (clock_of handle.old) (λ c. IfSome (next_moment c)
         (λ first. (result ≡ status.ok) × (moment.new ≡ first))) }
 {
-    let Some(clock) = handle.clock() else {
-        return NO_CLOCK;
-    };
-    let first = clock.next();
-    match first {
-        Some(first) => {
-            *moment = first;
-            OK
-        }
-        None => NO_TIMER,
-    }
+    let clock = or_answer!(handle.clock(), NO_CLOCK);
+    *moment = or_answer!(clock.next(), NO_TIMER);
+    OK
 }

@@ -1,15 +1,13 @@
 //! The orders of a report, carried out on a clock.
 
-ghost use Rattle.std.specs.Prelude.{◌≡◌, ◌≤◌, ◌<◌, ◌^◌, [], IfSome, option_map};
-ghost use Rattle.lapd_c.specs.Statuses as status;
+ghost use Rattle.std.specs.Prelude.{◌≡◌, ◌≤◌, ◌<◌, ◌^◌, IfSome, IfNone, option_map};
 ghost use Rattle.lapd_c.specs.Timers.{order_in};
 ghost use Rattle.lapd_c.specs.Clocks.{clock_of, IsCall, IsHandle};
-ghost use Rattle.lapd_c.specs.Orders.{fault_in, first_fault_in, is_placed, after_order, all_placed, after_orders, wrong_among, orders_status, after_all, report_status, after_report};
+ghost use Rattle.lapd_c.specs.Orders.{is_placed, after_order, all_placed, after_orders, wrong_among, orders_status, after_all, report_status, after_report};
 
 use crate::clock::{ClockHandle, LATEST, carry_out_one};
-use crate::plain::{
-    NO_CLOCK, NO_PLACE, OK, PlainOrder, PlainReport, WRONG_LINE, WRONG_ORDER, WRONG_TIME,
-};
+use crate::lend::{or_answer, within};
+use crate::plain::{NO_CLOCK, NO_PLACE, OK, PlainOrder, PlainReport, WRONG_ORDER, WRONG_TIME};
 use lapd_clock::Clock;
 
 /// Carries out all orders of a report, in order, at a moment.
@@ -25,13 +23,8 @@ pub extern "C" fn lapd_clock_apply_report(
     ensures applied { IfSome (clock_of handle.old) (λ c. result ≡ report_status c line report.now now) }
     ensures after { clock_of handle.new ≡ option_map (λ c. after_report c line report.now now) (clock_of handle.old) }
 {
-    let Some(clock) = handle.clock() else {
-        return NO_CLOCK;
-    };
-    let line = line as usize;
-    if line >= clock.lines() {
-        return WRONG_LINE;
-    }
+    let clock = or_answer!(handle.clock(), NO_CLOCK);
+    within!(line, clock);
     if report.order_count > 4 {
         return WRONG_ORDER;
     }
@@ -47,17 +40,10 @@ fn carry_out(clock: &mut Clock, line: usize, orders: &[PlainOrder], now: u64) ->
     ensures lines { clock.new.lines ≡ clock.old.lines }
 {
     match orders {
-        [] => wrong_moment(now),
+        [] => wrong_among(orders, now).unwrap_or(OK),
         [order] => carry_out_one(clock, line, order, now),
         _ => carry_out_several(clock, line, orders, now),
     }
-}
-
-// What is wrong with a moment.
-fn wrong_moment(now: u64) -> u32
-    ensures { result ≡ wrong_among [] now }
-{
-    if now > LATEST { WRONG_TIME } else { OK }
 }
 
 // The same where there are more: all are tested before the first is carried out.
@@ -68,8 +54,7 @@ fn carry_out_several(clock: &mut Clock, line: usize, orders: &[PlainOrder], now:
     ensures after { clock.new ≡ after_all clock.old line orders.now now }
     ensures lines { clock.new.lines ≡ clock.old.lines }
 {
-    let wrong = wrong_among(orders, now);
-    if wrong != OK {
+    if let Some(wrong) = wrong_among(orders, now) {
         return wrong;
     }
     if carry_out_all(clock, line, orders, now) {
@@ -79,39 +64,17 @@ fn carry_out_several(clock: &mut Clock, line: usize, orders: &[PlainOrder], now:
     }
 }
 
-fn wrong_among(orders: &[PlainOrder], now: u64) -> u32
-    ensures status { result ≡ wrong_among orders.now now }
-    ensures now { result ≡ status.ok → now ≤ 2 ^ 63 }
-{
-    let wrong = first_fault_in(orders);
-    if wrong != OK {
-        return wrong;
-    }
-    if now > LATEST {
-        return WRONG_TIME;
-    }
-    OK
-}
-
-fn first_fault_in(orders: &[PlainOrder]) -> u32
-    ensures { result ≡ first_fault_in orders.now }
+// What is wrong with orders at a moment, if anything is.
+fn wrong_among(orders: &[PlainOrder], now: u64) -> Option<u32>
+    ensures wrong { result ≡ wrong_among orders.now now }
+    ensures now { IfNone result (now ≤ 2 ^ 63) }
 {
     for i in 0..orders.len() {
-        let wrong = fault_in(&orders[i]);
-        if wrong != OK {
-            return wrong;
+        if let Err(wrong) = orders[i].order() {
+            return Some(wrong);
         }
     }
-    OK
-}
-
-fn fault_in(order: &PlainOrder) -> u32
-    ensures { result ≡ fault_in (order_in order.now) }
-{
-    match order.order() {
-        Ok(_) => OK,
-        Err(wrong) => wrong,
-    }
+    (now > LATEST).then_some(WRONG_TIME)
 }
 
 fn carry_out_all(clock: &mut Clock, line: usize, orders: &[PlainOrder], now: u64) -> bool

@@ -1,18 +1,18 @@
 //! What happens at a card of either kind: a timer that expires, a request.
 
 ghost use Rattle.std.specs.Prelude.{◌≡◌, ◌≢◌, ◌<◌, None, IfSome, IfOk, IfErr};
-ghost use Rattle.lapd_c.specs.{refusal, IsCallAt, IsReopened, ShowsAnswer, WaitsFor, refused_place, refusal_status, request_in, timer_in, card_of, kind_in, marks_at, served_card, IsHandle, Stands, Counts, counters_at};
-ghost use Rattle.model_card.specs.Card as machine;
+ghost use Rattle.lapd_c.specs.{WithLine, refusal_at, IsCallAt, IsReopened, ShowsAnswer, WaitsFor, refused_place, refusal_status, request_in, timer_in, card_of, kind_in, marks_at, served_card, IsHandle, Stands, Counts, counters_at};
 ghost use Rattle.model_card.specs.Event.{at};
 ghost use Rattle.model_line.specs.Event as line_event;
 ghost use Rattle.lapd_c.specs.Statuses as status;
-ghost use Rattle.lapd_card.specs.Kinds.{Machine, card_in, after, answer};
+ghost use Rattle.lapd_card.specs.Kinds.{card_in, after, answer};
 
 use crate::card::CardHandle;
+use crate::lend::{lend, or_answer};
 use crate::plain::{
-    DATA, NO_CARD, OK, PlainReport, PlainTimer, REFUSED_QUEUE_FULL, WRONG_LINE, refusal_status,
-    request_in,
+    DATA, OK, PlainReport, PlainTimer, REFUSED_QUEUE_FULL, refusal_status, request_in,
 };
+use lapd_card::BareReport;
 
 /// A timer of a line expired. One that does not run has no effect, and nothing is told.
 #[unsafe(no_mangle)]
@@ -26,32 +26,21 @@ pub extern "C" fn lapd_expire(
     ensures call { IsCallAt line handle.old handle.new result }
     ensures kind { kind_in handle.new ≡ kind_in handle.old }
     ensures unchanged { result ≢ status.ok → (card_of handle.new ≡ card_of handle.old) × (report.new ≡ report.old) }
-    ensures wrong_timer { (m : Machine) → Stands handle.old m → line < (card_in m).config.lines
-        → IfErr (timer_in timer.now) (λ wrong. result ≡ wrong) }
-    ensures served { (m : Machine) → Stands handle.old m → line < (card_in m).config.lines
-        → IfOk (timer_in timer.now) (λ expired.
-        (result ≡ status.ok) × Stands handle.new (after (at line (line_event.expiry expired)) m)
-        × ShowsAnswer report.new (answer (at line (line_event.expiry expired)) m)) }
-    ensures counted { (m : Machine) → Stands handle.old m → line < (card_in m).config.lines
-        → IfOk (timer_in timer.now) (λ expired. Counts (at line (line_event.expiry expired)) (card_in m) (counters_at handle.old) (counters_at handle.new)) }
+    ensures wrong_timer { WithLine line handle.old (λ m. IfErr (timer_in timer.now) (λ wrong. result ≡ wrong)) }
+    ensures served { WithLine line handle.old (λ m. IfOk (timer_in timer.now) (λ expired. (result ≡ status.ok)
+        × Stands handle.new (after (at line (line_event.expiry expired)) m)
+        × ShowsAnswer report.new (answer (at line (line_event.expiry expired)) m))) }
+    ensures counted { WithLine line handle.old (λ m. IfOk (timer_in timer.now) (λ expired.
+        Counts (at line (line_event.expiry expired)) (card_in m) (counters_at handle.old) (counters_at handle.new))) }
     ensures reopened { IsReopened line handle.old handle.new result report.new }
 {
-    let Some(kept) = handle.card() else {
-        return NO_CARD;
-    };
-    let line = line as usize;
-    if line >= kept.card.lines() {
-        return WRONG_LINE;
-    }
-    match timer.timer() {
-        Ok(timer) => {
-            let told = kept.card.expire(line, timer);
-            report.show(&told);
-            kept.tell_reopened(line, report);
-            OK
-        }
-        Err(wrong) => wrong,
-    }
+    lend!(kept of handle, line);
+    let timer = or_answer!(timer.timer());
+    let mut told = BareReport::nothing();
+    kept.card.expire(line, timer, &mut told);
+    report.show(&told, None);
+    kept.tell_reopened(line, report);
+    OK
 }
 
 /// Asks for something at a line.
@@ -71,36 +60,23 @@ pub extern "C" fn lapd_request(
     ensures unchanged { result ≢ status.ok → (served_card handle.new ≡ served_card handle.old) × (report.new ≡ report.old) }
     ensures waits { result ≢ status.ok
         → WaitsFor (refused_place result request service tei) line (marks_at handle.old) (marks_at handle.new) }
-    ensures wrong_request { (m : Machine) → Stands handle.old m → line < (card_in m).config.lines
-        → IfErr (request_in request service tei contents.now) (λ wrong. result ≡ wrong) }
-    ensures refused { (m : Machine) → Stands handle.old m → line < (card_in m).config.lines
-        → IfOk (request_in request service tei contents.now) (λ asked.
-        IfSome (refusal (card_in m).config (machine.is_full (card_in m)) asked (machine.line_at line (card_in m))) (λ why. result ≡ refusal_status why)) }
-    ensures served { (m : Machine) → Stands handle.old m → line < (card_in m).config.lines
-        → IfOk (request_in request service tei contents.now) (λ asked.
-        refusal (card_in m).config (machine.is_full (card_in m)) asked (machine.line_at line (card_in m)) ≡ None
-        → (result ≡ status.ok) × Stands handle.new (after (at line (line_event.request asked)) m)
-        × ShowsAnswer report.new (answer (at line (line_event.request asked)) m)) }
-    ensures counted { (m : Machine) → Stands handle.old m → line < (card_in m).config.lines
-        → IfOk (request_in request service tei contents.now) (λ asked.
-        refusal (card_in m).config (machine.is_full (card_in m)) asked (machine.line_at line (card_in m)) ≡ None
-        → Counts (at line (line_event.request asked)) (card_in m) (counters_at handle.old) (counters_at handle.new)) }
+    ensures wrong_request { WithLine line handle.old (λ m.
+        IfErr (request_in request service tei contents.now) (λ wrong. result ≡ wrong)) }
+    ensures refused { WithLine line handle.old (λ m. IfOk (request_in request service tei contents.now) (λ asked.
+        IfSome (refusal_at line asked (card_in m)) (λ why. result ≡ refusal_status why))) }
+    ensures served { WithLine line handle.old (λ m. IfOk (request_in request service tei contents.now) (λ asked.
+        refusal_at line asked (card_in m) ≡ None → (result ≡ status.ok) × Stands handle.new (after (at line (line_event.request asked)) m)
+        × ShowsAnswer report.new (answer (at line (line_event.request asked)) m))) }
+    ensures counted { WithLine line handle.old (λ m. IfOk (request_in request service tei contents.now) (λ asked.
+        refusal_at line asked (card_in m) ≡ None → Counts (at line (line_event.request asked)) (card_in m) (counters_at handle.old) (counters_at handle.new))) }
     ensures reopened { IsReopened line handle.old handle.new result report.new }
 {
-    let Some(kept) = handle.card() else {
-        return NO_CARD;
-    };
-    let line = line as usize;
-    if line >= kept.card.lines() {
-        return WRONG_LINE;
-    }
-    let asked = match request_in(request, service, tei, contents) {
-        Ok(asked) => asked,
-        Err(wrong) => return wrong,
-    };
-    match kept.card.request(line, asked) {
-        Ok(told) => {
-            report.show(&told);
+    lend!(kept of handle, line);
+    let asked = or_answer!(request_in(request, service, tei, contents));
+    let mut told = BareReport::nothing();
+    match kept.card.request(line, asked, &mut told) {
+        Ok(()) => {
+            report.show(&told, None);
             kept.tell_reopened(line, report);
             OK
         }

@@ -1,7 +1,8 @@
 //! Octets taken and given in turn.
 
 ghost use Rattle.std.specs.Prelude.{◌≡◌, ◌≢◌, ◌≤◌, ◌<◌, ◌*◌, ◌-◌, true, false, not, length};
-ghost use Rattle.lapd_c.specs.{meant_all, told_at, Leads, report_told, IsOctetsCall, IsReopened, ShowsReply, octet_of, Shows, contents_of, card_of, IsHandle, OctetsStand, CardStands, shelf_of, counters_at, is_quiet, is_exchange, step_event, steps_made, with_step, Exchanged, ExchangedIn, counters_in, all_counted, moments};
+ghost use Rattle.std.specs.Option.{option_copied};
+ghost use Rattle.lapd_c.specs.{OctetsWithLine, meant_all, told_at, Leads, told_beside, IsOctetsCall, IsReopened, ShowsReply, octet_of, Shows, contents_of, card_of, IsHandle, CardStands, shelf_of, counters_at, is_quiet, is_exchange, step_event, steps_made, with_step, Exchanged, ExchangedIn, counters_in, all_counted, moments};
 ghost use Rattle.model_card.specs.ports.Card as machine;
 ghost use Rattle.model_card.specs.ports.Card.{answer};
 ghost use Rattle.model_card.specs.ports.Event.{at};
@@ -10,8 +11,9 @@ ghost use Rattle.lapd_card.specs.Card.{line_count};
 ghost use Rattle.lapd_c.specs.Statuses as status;
 
 use crate::card::CardHandle;
-use crate::plain::{NO_CARD, OK, PlainReport, WRONG_CARD, WRONG_LENGTH, WRONG_LINE};
-use lapd_card::{AnyCard, BareReport, Card, Report};
+use crate::lend::lend;
+use crate::plain::{OK, PlainReport, WRONG_LENGTH};
+use lapd_card::{BareReport, Card};
 use lapd_store::RawShelf;
 
 /// Takes and gives octets in turn: step 2i takes octet i of those taken, step 2i + 1 gives octet i of those given. Goes
@@ -29,26 +31,16 @@ pub extern "C" fn lapd_exchange(
     ensures call { IsOctetsCall line handle.old handle.new result }
     ensures unchanged { result ≢ status.ok
         → (card_of handle.new ≡ card_of handle.old) × (given.new ≡ given.old) × (steps.new ≡ steps.old) × (report.new ≡ report.old) }
-    ensures wrong_length { (m : machine.OctetCard) → OctetsStand handle.old m → line < m.card.config.lines
-        → is_exchange taken.now given.old steps.old ≡ false → result ≡ status.wrong_length }
-    ensures served { (m : machine.OctetCard) → OctetsStand handle.old m → line < m.card.config.lines
-        → is_exchange taken.now given.old steps.old ≡ true
-        → (result ≡ status.ok) × ExchangedIn line taken.now steps.old m (card_of handle.new) given.old given.new steps.new report.new }
-    ensures counted { (m : machine.OctetCard) → OctetsStand handle.old m → line < m.card.config.lines
-        → is_exchange taken.now given.old steps.old ≡ true
-        → counters_at handle.new ≡ all_counted (counters_at handle.old) (moments m.card (meant_all m (steps_made line taken.now steps.old (steps.new - steps.old)))) }
+    ensures wrong_length { OctetsWithLine line handle.old (λ m. is_exchange taken.now given.old steps.old ≡ false
+        → result ≡ status.wrong_length) }
+    ensures served { OctetsWithLine line handle.old (λ m. is_exchange taken.now given.old steps.old ≡ true
+        → (result ≡ status.ok)
+        × ExchangedIn line taken.now steps.old m (card_of handle.new) given.old given.new steps.new report.new) }
+    ensures counted { OctetsWithLine line handle.old (λ m. is_exchange taken.now given.old steps.old ≡ true
+        → counters_at handle.new ≡ all_counted (counters_at handle.old) (moments m.card (meant_all m (steps_made line taken.now steps.old (steps.new - steps.old))))) }
     ensures reopened { IsReopened line handle.old handle.new result report.new }
 {
-    let Some(kept) = handle.card() else {
-        return NO_CARD;
-    };
-    let AnyCard::Octets(card) = &mut kept.card else {
-        return WRONG_CARD;
-    };
-    let line = line as usize;
-    if line >= card.lines() {
-        return WRONG_LINE;
-    }
+    lend!(kept of handle, Octets(card), line);
     if taken.len() != given.len() || *steps > 2 * taken.len() {
         return WRONG_LENGTH;
     }
@@ -122,7 +114,7 @@ fn tells_taken(card: &mut Card<RawShelf>, line: usize, octet: u8, report: &mut P
 {
     match card.hear(line, octet) {
         None => false,
-        Some(bare) => tells_ended(card, line, &bare, report),
+        Some(told) => tells_ended(card, line, &told, report),
     }
 }
 
@@ -131,20 +123,20 @@ fn tells_taken(card: &mut Card<RawShelf>, line: usize, octet: u8, report: &mut P
 fn tells_ended(
     card: &Card<RawShelf>,
     line: usize,
-    bare: &BareReport,
+    told: &BareReport,
     report: &mut PlainReport,
 ) -> bool
     requires { line < line_count card.now }
-    ensures tells { result ≡ not (is_quiet (port.told (told_at card.now.ports line bare.now))) }
-    ensures shown { length (contents_of (told_at card.now.ports line bare.now).contents) ≤ 260 → result ≡ true
-        → Shows report.new (told_at card.now.ports line bare.now) }
+    ensures tells { result ≡ not (is_quiet (port.told (told_at card.now.ports line told.now))) }
+    ensures shown { length (contents_of (told_at card.now.ports line told.now).contents) ≤ 260 → result ≡ true
+        → Shows report.new (told_at card.now.ports line told.now) }
     ensures unchanged { result ≡ false → report.new ≡ report.old }
 {
-    let told = card.lend(line, bare);
-    if is_quiet(&told) {
+    let contents = card.contents(line, told);
+    if is_quiet(told, contents) {
         return false;
     }
-    report.show(&told);
+    report.show(told, contents);
     true
 }
 
@@ -170,16 +162,16 @@ fn tells_given(
     if !pulled.begun && pulled.orders().is_empty() {
         return false;
     }
-    report.show_pull(pulled.begun, pulled.orders());
+    report.show_orders(pulled.begun, false, pulled.orders());
     true
 }
 
-fn is_quiet(told: &Report<'_>) -> bool
-    ensures { result ≡ is_quiet (port.told (report_told told.now)) }
+fn is_quiet(told: &BareReport, delivered: Option<&[u8]>) -> bool
+    ensures { result ≡ is_quiet (port.told (told_beside (option_copied delivered.entry) told.now)) }
 {
     told.notes().is_empty()
         && told.orders().is_empty()
-        && told.cause.is_none()
+        && told.cause().is_none()
         && told.lost == 0
-        && told.delivered.is_none()
+        && delivered.is_none()
 }

@@ -2,7 +2,7 @@
 //! lines one waits.
 
 ghost use Rattle.std.specs.Prelude.{◌≡◌, ◌≢◌, ◌+◌, ◌≤◌, ◌<◌, true, length, Some, None, IfSome, IfOk, IfErr};
-ghost use Rattle.lapd_c.specs.{moment_counted, moment_of, counters_in, has_next, next_waiting, IsCall, IsFramesCall, IsReopened, ShowsAnswer, ShowsPull, card_of, kind_in, marks_at, IsHandle, FramesStand, Counts, counters_at, for_octets, FrameCardStands, comes, fails, goes, next_at, IsGiven};
+ghost use Rattle.lapd_c.specs.{FramesWithLine, moment_counted, moment_of, counters_in, has_next, next_waiting, IsCall, IsFramesCall, IsReopened, ShowsAnswer, ShowsPull, card_of, kind_in, marks_at, IsHandle, FramesStand, Counts, counters_at, for_octets, FrameCardStands, comes, fails, goes, next_at, IsGiven};
 ghost use Rattle.model_card.specs.Card as machine;
 ghost use Rattle.model_card.specs.Machine.{after, answer};
 ghost use Rattle.lapd_card.specs.FrameCard.{line_count};
@@ -10,10 +10,9 @@ ghost use Rattle.lapd_c.specs.Faults.{fault_in};
 ghost use Rattle.lapd_c.specs.Statuses as status;
 
 use crate::card::CardHandle;
-use crate::plain::{
-    NO_CARD, NO_FRAME, OK, PlainReport, WRONG_CARD, WRONG_LENGTH, WRONG_LINE, fault_in,
-};
-use lapd_card::{AnyCard, BareReport, FrameCard};
+use crate::lend::{lend, or_answer};
+use crate::plain::{NO_FRAME, OK, PlainReport, WRONG_LENGTH, fault_in};
+use lapd_card::{BareReport, FrameCard};
 use lapd_store::RawShelf;
 
 /// Takes a frame that came from a line, from its address to its information, without its check.
@@ -27,23 +26,13 @@ pub extern "C" fn lapd_frame(
     requires { IsHandle handle.old }
     ensures call { IsFramesCall line handle.old handle.new result }
     ensures unchanged { result ≢ status.ok → (card_of handle.new ≡ card_of handle.old) × (report.new ≡ report.old) }
-    ensures served { (m : machine.Card) → FramesStand handle.old m → line < m.config.lines
-        → (result ≡ status.ok) × FramesStand handle.new (after (comes line octets.now m) m)
-        × ShowsAnswer report.new (answer (comes line octets.now m) m) }
-    ensures counted { (m : machine.Card) → FramesStand handle.old m → line < m.config.lines
-        → Counts (comes line octets.now m) m (counters_at handle.old) (counters_at handle.new) }
+    ensures served { FramesWithLine line handle.old (λ m. (result ≡ status.ok)
+        × FramesStand handle.new (after (comes line octets.now m) m)
+        × ShowsAnswer report.new (answer (comes line octets.now m) m)) }
+    ensures counted { FramesWithLine line handle.old (λ m. Counts (comes line octets.now m) m (counters_at handle.old) (counters_at handle.new)) }
     ensures reopened { IsReopened line handle.old handle.new result report.new }
 {
-    let Some(kept) = handle.card() else {
-        return NO_CARD;
-    };
-    let AnyCard::Frames(card) = &mut kept.card else {
-        return WRONG_CARD;
-    };
-    let line = line as usize;
-    if line >= card.lines() {
-        return WRONG_LINE;
-    }
+    lend!(kept of handle, Frames(card), line);
     hear(card, line, octets, report);
     kept.tell_reopened(line, report);
     OK
@@ -60,11 +49,11 @@ fn hear(card: &mut FrameCard<RawShelf>, line: usize, octets: &[u8], report: &mut
     ensures counted { (m : machine.Card) → FrameCardStands card.old m
         → counters_in card.new.lines ≡ moment_counted (counters_in card.old.lines) (moment_of m (comes line octets.now m)) }
 {
-    let mut bare = BareReport::nothing();
-    if card.hear(line, octets, &mut bare) {
-        return report.show_orders(bare.order_list());
+    let mut told = BareReport::nothing();
+    if card.frame(line, octets, &mut told) {
+        return report.show_orders(false, false, told.orders());
     }
-    report.show_bare(&bare, card.contents(line, octets, &bare));
+    report.show(&told, card.contents(line, octets, &told));
 }
 
 /// The controller of a line told a fault in place of a frame, by its cause: an abort, bits that are no whole octets, a
@@ -79,35 +68,20 @@ pub extern "C" fn lapd_frame_failed(
     requires { IsHandle handle.old }
     ensures call { IsFramesCall line handle.old handle.new result }
     ensures unchanged { result ≢ status.ok → (card_of handle.new ≡ card_of handle.old) × (report.new ≡ report.old) }
-    ensures wrong_cause { (m : machine.Card) → FramesStand handle.old m → line < m.config.lines
-        → IfErr (fault_in cause) (λ wrong. result ≡ wrong) }
-    ensures served { (m : machine.Card) → FramesStand handle.old m → line < m.config.lines
-        → IfOk (fault_in cause) (λ fault. (result ≡ status.ok)
-        × FramesStand handle.new (after (fails line fault) m)
-        × ShowsAnswer report.new (answer (fails line fault) m)) }
-    ensures counted { (m : machine.Card) → FramesStand handle.old m → line < m.config.lines
-        → IfOk (fault_in cause) (λ fault. Counts (fails line fault) m (counters_at handle.old) (counters_at handle.new)) }
+    ensures wrong_cause { FramesWithLine line handle.old (λ m. IfErr (fault_in cause) (λ wrong. result ≡ wrong)) }
+    ensures served { FramesWithLine line handle.old (λ m. IfOk (fault_in cause) (λ fault. (result ≡ status.ok)
+        × FramesStand handle.new (after (fails line fault) m) × ShowsAnswer report.new (answer (fails line fault) m))) }
+    ensures counted { FramesWithLine line handle.old (λ m.
+        IfOk (fault_in cause) (λ fault. Counts (fails line fault) m (counters_at handle.old) (counters_at handle.new))) }
     ensures reopened { IsReopened line handle.old handle.new result report.new }
 {
-    let Some(kept) = handle.card() else {
-        return NO_CARD;
-    };
-    let AnyCard::Frames(card) = &mut kept.card else {
-        return WRONG_CARD;
-    };
-    let line = line as usize;
-    if line >= card.lines() {
-        return WRONG_LINE;
-    }
-    match fault_in(cause) {
-        Ok(fault) => {
-            let told = card.failed(line, fault);
-            report.show(&told);
-            kept.tell_reopened(line, report);
-            OK
-        }
-        Err(wrong) => wrong,
-    }
+    lend!(kept of handle, Frames(card), line);
+    let fault = or_answer!(fault_in(cause));
+    let mut told = BareReport::nothing();
+    card.failed(line, fault, &mut told);
+    report.show(&told, None);
+    kept.tell_reopened(line, report);
+    OK
 }
 
 /// Writes the next frame of a line to be sent in front of `out`, from its address to its information, without its check,
@@ -127,33 +101,24 @@ pub extern "C" fn lapd_next_frame(
     ensures uncounted { (m : machine.Card) → FramesStand handle.old m → result ≢ status.ok
         → counters_at handle.new ≡ counters_at handle.old }
     ensures other_card { kind_in handle.old ≡ Some for_octets → card_of handle.new ≡ card_of handle.old }
-    ensures wrong_length { (m : machine.Card) → FramesStand handle.old m → line < m.config.lines
-        → length out.old < m.config.n201 + 4 → result ≡ status.wrong_length }
-    ensures none { (m : machine.Card) → FramesStand handle.old m → line < m.config.lines
-        → m.config.n201 + 4 ≤ length out.old → next_at line m ≡ None → result ≡ status.no_frame }
-    ensures given { (m : machine.Card) → FramesStand handle.old m → line < m.config.lines
-        → m.config.n201 + 4 ≤ length out.old → IfSome (next_at line m) (λ next.
-        (result ≡ status.ok) × FramesStand handle.new (after (goes line) m)
-        × IsGiven next out.old out.new count.new × ShowsPull report.new true (has_next line (after (goes line) m)) next.orders) }
-    ensures counted { (m : machine.Card) → FramesStand handle.old m → line < m.config.lines
-        → m.config.n201 + 4 ≤ length out.old → Counts (goes line) m (counters_at handle.old) (counters_at handle.new) }
+    ensures wrong_length { FramesWithLine line handle.old (λ m. length out.old < m.config.n201 + 4
+        → result ≡ status.wrong_length) }
+    ensures none { FramesWithLine line handle.old (λ m. m.config.n201 + 4 ≤ length out.old → next_at line m ≡ None
+        → result ≡ status.no_frame) }
+    ensures given { FramesWithLine line handle.old (λ m. m.config.n201 + 4 ≤ length out.old
+        → IfSome (next_at line m) (λ next. (result ≡ status.ok) × FramesStand handle.new (after (goes line) m)
+        × IsGiven next out.old out.new count.new
+        × ShowsPull report.new true (has_next line (after (goes line) m)) next.orders)) }
+    ensures counted { FramesWithLine line handle.old (λ m. m.config.n201 + 4 ≤ length out.old
+        → Counts (goes line) m (counters_at handle.old) (counters_at handle.new)) }
     ensures reopened { IsReopened line handle.old handle.new result report.new }
     ensures unmarked { result ≢ status.ok → marks_at handle.new ≡ marks_at handle.old }
 {
-    let Some(kept) = handle.card() else {
-        return NO_CARD;
-    };
-    let AnyCard::Frames(card) = &mut kept.card else {
-        return WRONG_CARD;
-    };
-    let line = line as usize;
-    if line >= card.lines() {
-        return WRONG_LINE;
-    }
+    lend!(kept of handle, Frames(card), line);
     match card.next_frame(line, out) {
         Ok(Some(next)) => {
             *count = next.length;
-            report.show_next(card.has_next(line), next.order_list());
+            report.show_orders(true, card.has_next(line), next.orders());
             kept.tell_reopened(line, report);
             OK
         }
@@ -174,17 +139,7 @@ pub extern "C" fn lapd_next_waiting(handle: &mut CardHandle, from: u32, line: &m
     ensures told { (m : machine.Card) → FramesStand handle.old m
         → IfSome (next_waiting from m) (λ next. (result ≡ status.ok) × (line.new ≡ next)) }
 {
-    let Some(kept) = handle.card() else {
-        return NO_CARD;
-    };
-    let AnyCard::Frames(card) = &kept.card else {
-        return WRONG_CARD;
-    };
-    match card.next_waiting(from as usize) {
-        Some(next) => {
-            *line = next as u32;
-            OK
-        }
-        None => NO_FRAME,
-    }
+    lend!(kept of handle, Frames(card));
+    *line = or_answer!(card.next_waiting(from as usize), NO_FRAME) as u32;
+    OK
 }

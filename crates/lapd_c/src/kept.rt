@@ -55,25 +55,15 @@ impl KeptCard {
         ensures tells { (m : Machine) → AnyStands self.old.card m → line < (card_in m).config.lines
             → TellsReopened line (card_in m) self.old.refused self.new.refused report.new }
     {
-        if self.refused.any() {
-            self.tell_first(line, report);
-        } else {
-            report.show_reopened(None);
+        if !self.refused.any() {
+            return report.show_reopened(None);
         }
-    }
-
-    // It stands apart, since mostly no link waits.
-    #[inline(never)]
-    fn tell_first(&mut self, line: usize, report: &mut PlainReport)
-        ensures card { self.new.card ≡ self.old.card }
-        ensures rest { report.new ≡ with_reopened report.new report.old }
-        ensures tells { (m : Machine) → AnyStands self.old.card m → line < (card_in m).config.lines
-            → TellsReopened line (card_in m) self.old.refused self.new.refused report.new }
-    {
         let told = self.take_first(line);
         report.show_reopened(told);
     }
 
+    // It stands apart, since mostly no link waits.
+    #[inline(never)]
     fn take_first(&mut self, line: usize) -> Option<u8>
         ensures card { self.new.card ≡ self.old.card }
         ensures first { (m : Machine) → AnyStands self.old.card m → line < (card_in m).config.lines

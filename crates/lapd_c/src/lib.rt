@@ -4,6 +4,7 @@
 //! serves it where it lies; a ghost field says which card it is, so that the contracts speak of the card's machine
 //! (`model_card`, and for octets `model_card::ports`) and of the clock's timers (`lapd_clock`).
 //!
+//! - `lend`: how a call begins, with what its handle holds, or with the status that says what is wrong.
 //! - `card`: a card in C, how it begins and ends; `kept`, a card with its links that wait for room, which `refused` and, of a line,
 //!   `link_marks` mark; `card_slot`, where it lies. `events`, what happens at one of either kind; for octets `octets`, one that
 //!   comes and one that goes, with the frames that these begin and end, and `exchange`, octets taken and given in turn; for frames
@@ -37,6 +38,7 @@ mod exchange;
 mod frames;
 mod kept;
 mod laws;
+mod lend;
 mod link_marks;
 mod links;
 mod loose;

@@ -1,12 +1,13 @@
 //! Which links a card has.
 
 ghost use Rattle.std.specs.Prelude.{◌≡◌, ◌≢◌, ◌<◌, ◌⊎◌, IfSome};
-ghost use Rattle.lapd_c.specs.{IsCallAt, card_of, IsHandle, Stands, Machine, card_in, FrameCardStands, FirstFrom, IsNext, NoneFrom};
+ghost use Rattle.lapd_c.specs.{WithLine, IsCallAt, card_of, IsHandle, card_in, FrameCardStands, FirstFrom, IsNext, NoneFrom};
 ghost use Rattle.model_card.specs.Card as machine;
 ghost use Rattle.lapd_c.specs.Statuses as status;
 
 use crate::card::CardHandle;
-use crate::plain::{LINK_PLACES, NO_CARD, NO_MORE_LINKS, OK, PlainLink, WRONG_LINE, service_at};
+use crate::lend::{lend, or_answer};
+use crate::plain::{LINK_PLACES, NO_MORE_LINKS, OK, PlainLink, service_at};
 use lapd_card::FrameCard;
 use lapd_store::RawShelf;
 
@@ -22,28 +23,16 @@ pub extern "C" fn lapd_next_link(
     ensures call { IsCallAt line handle.old handle.new result }
     ensures unchanged { card_of handle.new ≡ card_of handle.old }
     ensures untold { result ≢ status.ok → (place.new ≡ place.old) × (link.new ≡ link.old) }
-    ensures either { (m : Machine) → Stands handle.old m → line < (card_in m).config.lines
-        → (result ≡ status.ok) ⊎ (result ≡ status.no_more_links) }
-    ensures told { (m : Machine) → Stands handle.old m → line < (card_in m).config.lines
-        → result ≡ status.ok → IsNext line (card_in m) place.old place.new link.new }
-    ensures none { (m : Machine) → Stands handle.old m → line < (card_in m).config.lines → result ≡ status.no_more_links
-        → NoneFrom line (card_in m) place.old }
+    ensures either { WithLine line handle.old (λ m. (result ≡ status.ok) ⊎ (result ≡ status.no_more_links)) }
+    ensures told { WithLine line handle.old (λ m. result ≡ status.ok
+        → IsNext line (card_in m) place.old place.new link.new) }
+    ensures none { WithLine line handle.old (λ m. result ≡ status.no_more_links → NoneFrom line (card_in m) place.old) }
 {
-    let Some(kept) = handle.card() else {
-        return NO_CARD;
-    };
-    let line = line as usize;
-    if line >= kept.card.lines() {
-        return WRONG_LINE;
-    }
-    match first_link(kept.card.frames(), line, *place) {
-        Some((found, state)) => {
-            *place = found + 1;
-            *link = PlainLink::of(found, state);
-            OK
-        }
-        None => NO_MORE_LINKS,
-    }
+    lend!(kept of handle, line);
+    let (found, state) = or_answer!(first_link(kept.card.frames(), line, *place), NO_MORE_LINKS);
+    *place = found + 1;
+    *link = PlainLink::of(found, state);
+    OK
 }
 
 // The place and the state of the first link from a place on.

@@ -1,16 +1,15 @@
 //! What happens at a card for octets: one that comes, and one that goes; which frame a pull began, and which was heard last.
 
-ghost use Rattle.std.specs.Prelude.{◌≡◌, ◌≢◌, ◌<◌};
-ghost use Rattle.lapd_c.specs.{head_begun_at, head_heard_at, plain_head, IsOctetsCall, IsReopened, ShowsReply, octet_of, card_of, IsHandle, OctetsStand, CountsMeaning, counters_at};
-ghost use Rattle.model_card.specs.ports.Card as machine;
+ghost use Rattle.std.specs.Prelude.{◌≡◌, ◌≢◌};
+ghost use Rattle.lapd_c.specs.{OctetsWithLine, head_begun_at, head_heard_at, plain_head, IsOctetsCall, IsReopened, ShowsReply, octet_of, card_of, IsHandle, OctetsStand, CountsMeaning, counters_at};
 ghost use Rattle.model_card.specs.ports.Card.{after, answer};
 ghost use Rattle.model_card.specs.ports.Event.{at};
 ghost use Rattle.model_card.specs.ports.Port as port;
 ghost use Rattle.lapd_c.specs.Statuses as status;
 
 use crate::card::CardHandle;
-use crate::plain::{NO_CARD, OK, PlainHead, PlainReport, WRONG_CARD, WRONG_LINE};
-use lapd_card::AnyCard;
+use crate::lend::lend;
+use crate::plain::{OK, PlainHead, PlainReport};
 
 /// Takes an octet that came from a line, low bit first.
 #[unsafe(no_mangle)]
@@ -23,36 +22,19 @@ pub extern "C" fn lapd_octet(
     requires { IsHandle handle.old }
     ensures call { IsOctetsCall line handle.old handle.new result }
     ensures unchanged { result ≢ status.ok → (card_of handle.new ≡ card_of handle.old) × (report.new ≡ report.old) }
-    ensures served { (m : machine.OctetCard) → OctetsStand handle.old m → line < m.card.config.lines
-        → (result ≡ status.ok) × OctetsStand handle.new (after (at line (port.octet octet)) m)
-        × ShowsReply report.new (answer (at line (port.octet octet)) m) }
-    ensures counted { (m : machine.OctetCard) → OctetsStand handle.old m → line < m.card.config.lines
-        → CountsMeaning (at line (port.octet octet)) m (counters_at handle.old) (counters_at handle.new) }
+    ensures served { OctetsWithLine line handle.old (λ m. (result ≡ status.ok)
+        × OctetsStand handle.new (after (at line (port.octet octet)) m)
+        × ShowsReply report.new (answer (at line (port.octet octet)) m)) }
+    ensures counted { OctetsWithLine line handle.old (λ m. CountsMeaning (at line (port.octet octet)) m (counters_at handle.old) (counters_at handle.new)) }
     ensures reopened { IsReopened line handle.old handle.new result report.new }
 {
-    let Some(kept) = handle.card() else {
-        return NO_CARD;
-    };
-    let AnyCard::Octets(card) = &mut kept.card else {
-        return WRONG_CARD;
-    };
-    let line = line as usize;
-    if line >= card.lines() {
-        return WRONG_LINE;
-    }
+    lend!(kept of handle, Octets(card), line);
     match card.hear(line, octet) {
-        None => {
-            report.show_nothing();
-            kept.tell_reopened(line, report);
-            OK
-        }
-        Some(bare) => {
-            let told = card.lend(line, &bare);
-            report.show(&told);
-            kept.tell_reopened(line, report);
-            OK
-        }
+        None => report.show_nothing(),
+        Some(told) => report.show(&told, card.contents(line, &told)),
     }
+    kept.tell_reopened(line, report);
+    OK
 }
 
 /// Gives the next octet of a line to send, low bit first.
@@ -67,27 +49,16 @@ pub extern "C" fn lapd_pull(
     ensures call { IsOctetsCall line handle.old handle.new result }
     ensures unchanged { result ≢ status.ok
         → (card_of handle.new ≡ card_of handle.old) × (octet.new ≡ octet.old) × (report.new ≡ report.old) }
-    ensures served { (m : machine.OctetCard) → OctetsStand handle.old m → line < m.card.config.lines
-        → (result ≡ status.ok) × OctetsStand handle.new (after (at line port.pull) m)
-        × (octet.new ≡ octet_of (answer (at line port.pull) m))
-        × ShowsReply report.new (answer (at line port.pull) m) }
-    ensures counted { (m : machine.OctetCard) → OctetsStand handle.old m → line < m.card.config.lines
-        → CountsMeaning (at line port.pull) m (counters_at handle.old) (counters_at handle.new) }
+    ensures served { OctetsWithLine line handle.old (λ m. (result ≡ status.ok)
+        × OctetsStand handle.new (after (at line port.pull) m) × (octet.new ≡ octet_of (answer (at line port.pull) m))
+        × ShowsReply report.new (answer (at line port.pull) m)) }
+    ensures counted { OctetsWithLine line handle.old (λ m. CountsMeaning (at line port.pull) m (counters_at handle.old) (counters_at handle.new)) }
     ensures reopened { IsReopened line handle.old handle.new result report.new }
 {
-    let Some(kept) = handle.card() else {
-        return NO_CARD;
-    };
-    let AnyCard::Octets(card) = &mut kept.card else {
-        return WRONG_CARD;
-    };
-    let line = line as usize;
-    if line >= card.lines() {
-        return WRONG_LINE;
-    }
+    lend!(kept of handle, Octets(card), line);
     let pulled = card.pull(line);
     *octet = pulled.octet;
-    report.show_pull(pulled.begun, pulled.orders());
+    report.show_orders(pulled.begun, false, pulled.orders());
     kept.tell_reopened(line, report);
     OK
 }
@@ -99,19 +70,10 @@ pub extern "C" fn lapd_begun(handle: &mut CardHandle, line: u32, head: &mut Plai
     ensures call { IsOctetsCall line handle.old handle.new result }
     ensures unchanged { card_of handle.new ≡ card_of handle.old }
     ensures untold { result ≢ status.ok → head.new ≡ head.old }
-    ensures told { (m : machine.OctetCard) → OctetsStand handle.old m → line < m.card.config.lines
-        → (result ≡ status.ok) × (head.new ≡ plain_head (head_begun_at line m)) }
+    ensures told { OctetsWithLine line handle.old (λ m. (result ≡ status.ok)
+        × (head.new ≡ plain_head (head_begun_at line m))) }
 {
-    let Some(kept) = handle.card() else {
-        return NO_CARD;
-    };
-    let AnyCard::Octets(card) = &kept.card else {
-        return WRONG_CARD;
-    };
-    let line = line as usize;
-    if line >= card.lines() {
-        return WRONG_LINE;
-    }
+    lend!(kept of handle, Octets(card), line);
     *head = PlainHead::of(card.begun(line));
     OK
 }
@@ -123,19 +85,10 @@ pub extern "C" fn lapd_heard(handle: &mut CardHandle, line: u32, head: &mut Plai
     ensures call { IsOctetsCall line handle.old handle.new result }
     ensures unchanged { card_of handle.new ≡ card_of handle.old }
     ensures untold { result ≢ status.ok → head.new ≡ head.old }
-    ensures told { (m : machine.OctetCard) → OctetsStand handle.old m → line < m.card.config.lines
-        → (result ≡ status.ok) × (head.new ≡ plain_head (head_heard_at line m)) }
+    ensures told { OctetsWithLine line handle.old (λ m. (result ≡ status.ok)
+        × (head.new ≡ plain_head (head_heard_at line m))) }
 {
-    let Some(kept) = handle.card() else {
-        return NO_CARD;
-    };
-    let AnyCard::Octets(card) = &kept.card else {
-        return WRONG_CARD;
-    };
-    let line = line as usize;
-    if line >= card.lines() {
-        return WRONG_LINE;
-    }
+    lend!(kept of handle, Octets(card), line);
     *head = PlainHead::of(card.latest_heard(line));
     OK
 }

@@ -2,14 +2,15 @@
 
 ghost use Rattle.std.specs.Prelude.{◌≡◌, ◌≢◌, ◌≤◌, ◌<◌, IfSome, IfOk, IfErr, get_or};
 ghost use Rattle.std.specs.Option.{unwrap_or};
-ghost use Rattle.lapd_c.specs.{limit, none_counted, IsCall, IsCallAt, plain_counters, plain_room, refusal_status, link_in, card_of, served_card, IsHandle, Stands};
+ghost use Rattle.lapd_c.specs.{WithLine, limit, none_counted, IsCall, IsCallAt, plain_counters, plain_room, refusal_status, link_in, card_of, served_card, IsHandle, Stands};
 ghost use Rattle.model_card.specs.Card as machine;
 ghost use Rattle.model_card.specs.Room.{room as machine_room};
 ghost use Rattle.lapd_c.specs.Statuses as status;
 ghost use Rattle.lapd_card.specs.Kinds.{Machine, card_in, counters_of, line_count, stored};
 
 use crate::card::CardHandle;
-use crate::plain::{NO_CARD, OK, PlainCounters, PlainRoom, WRONG_LINE, link_in, refusal_status};
+use crate::lend::{lend, or_answer};
+use crate::plain::{OK, PlainCounters, PlainRoom, link_in, refusal_status};
 
 /// The most lines of a card.
 const MOST_LINES: usize = 64;
@@ -27,26 +28,14 @@ pub extern "C" fn lapd_state(
     ensures call { IsCallAt line handle.old handle.new result }
     ensures unchanged { card_of handle.new ≡ card_of handle.old }
     ensures untold { result ≢ status.ok → state.new ≡ state.old }
-    ensures wrong_link { (m : Machine) → Stands handle.old m → line < (card_in m).config.lines
-        → IfErr (link_in service tei) (λ wrong. result ≡ wrong) }
-    ensures told { (m : Machine) → Stands handle.old m → line < (card_in m).config.lines
-        → IfOk (link_in service tei) (λ link. (result ≡ status.ok)
-        × (state.new ≡ unwrap_or (machine.state line link.0 link.1 (card_in m)) 0)) }
+    ensures wrong_link { WithLine line handle.old (λ m. IfErr (link_in service tei) (λ wrong. result ≡ wrong)) }
+    ensures told { WithLine line handle.old (λ m. IfOk (link_in service tei) (λ link. (result ≡ status.ok)
+        × (state.new ≡ unwrap_or (machine.state line link.0 link.1 (card_in m)) 0))) }
 {
-    let Some(kept) = handle.card() else {
-        return NO_CARD;
-    };
-    let line = line as usize;
-    if line >= kept.card.lines() {
-        return WRONG_LINE;
-    }
-    match link_in(service, tei) {
-        Ok((service, tei)) => {
-            *state = kept.card.frames().state(line, service, tei).unwrap_or(0);
-            OK
-        }
-        Err(wrong) => wrong,
-    }
+    lend!(kept of handle, line);
+    let (service, tei) = or_answer!(link_in(service, tei));
+    *state = kept.card.frames().state(line, service, tei).unwrap_or(0);
+    OK
 }
 
 /// How many octets the card stores now. A card for frames has none of frames on their way.
@@ -58,9 +47,7 @@ pub extern "C" fn lapd_stored(handle: &mut CardHandle, octets: &mut u32) -> u32
     ensures untold { result ≢ status.ok → octets.new ≡ octets.old }
     ensures told { (m : Machine) → Stands handle.old m → (result ≡ status.ok) × (octets.new ≡ stored m) }
 {
-    let Some(kept) = handle.card() else {
-        return NO_CARD;
-    };
+    lend!(kept of handle);
     *octets = kept.card.stored();
     OK
 }
@@ -74,9 +61,7 @@ pub extern "C" fn lapd_limit(handle: &mut CardHandle, octets: &mut u32) -> u32
     ensures untold { result ≢ status.ok → octets.new ≡ octets.old }
     ensures told { (m : Machine) → Stands handle.old m → (result ≡ status.ok) × (octets.new ≡ limit (card_in m).config) }
 {
-    let Some(kept) = handle.card() else {
-        return NO_CARD;
-    };
+    lend!(kept of handle);
     *octets = kept.card.frames().limit();
     OK
 }
@@ -90,9 +75,7 @@ pub extern "C" fn lapd_lines(handle: &mut CardHandle, lines: &mut u32) -> u32
     ensures untold { result ≢ status.ok → lines.new ≡ lines.old }
     ensures told { (m : Machine) → Stands handle.old m → (result ≡ status.ok) × (lines.new ≡ (card_in m).config.lines) }
 {
-    let Some(kept) = handle.card() else {
-        return NO_CARD;
-    };
+    lend!(kept of handle);
     *lines = kept.card.lines().min(MOST_LINES) as u32;
     OK
 }
@@ -110,26 +93,14 @@ pub extern "C" fn lapd_room(
     ensures call { IsCallAt line handle.old handle.new result }
     ensures unchanged { card_of handle.new ≡ card_of handle.old }
     ensures untold { result ≢ status.ok → room.new ≡ room.old }
-    ensures wrong_link { (m : Machine) → Stands handle.old m → line < (card_in m).config.lines
-        → IfErr (link_in service tei) (λ wrong. result ≡ wrong) }
-    ensures no_link { (m : Machine) → Stands handle.old m → line < (card_in m).config.lines
-        → IfOk (link_in service tei) (λ link. IfErr (machine_room line link.0 link.1 (card_in m)) (λ why.
-        result ≡ refusal_status why)) }
-    ensures told { (m : Machine) → Stands handle.old m → line < (card_in m).config.lines
-        → IfOk (link_in service tei) (λ link. IfOk (machine_room line link.0 link.1 (card_in m)) (λ is.
-        (result ≡ status.ok) × (room.new ≡ plain_room is))) }
+    ensures wrong_link { WithLine line handle.old (λ m. IfErr (link_in service tei) (λ wrong. result ≡ wrong)) }
+    ensures no_link { WithLine line handle.old (λ m. IfOk (link_in service tei) (λ link.
+        IfErr (machine_room line link.0 link.1 (card_in m)) (λ why. result ≡ refusal_status why))) }
+    ensures told { WithLine line handle.old (λ m. IfOk (link_in service tei) (λ link.
+        IfOk (machine_room line link.0 link.1 (card_in m)) (λ is. (result ≡ status.ok) × (room.new ≡ plain_room is)))) }
 {
-    let Some(kept) = handle.card() else {
-        return NO_CARD;
-    };
-    let line = line as usize;
-    if line >= kept.card.lines() {
-        return WRONG_LINE;
-    }
-    let (service, tei) = match link_in(service, tei) {
-        Ok(link) => link,
-        Err(wrong) => return wrong,
-    };
+    lend!(kept of handle, line);
+    let (service, tei) = or_answer!(link_in(service, tei));
     match kept.card.frames().room(line, service, tei) {
         Ok(is) => {
             *room = PlainRoom::of(is);
@@ -154,13 +125,7 @@ pub extern "C" fn lapd_counters(
     ensures told { IfSome (served_card handle.old) (λ card. line < line_count card
         → (result ≡ status.ok) × (counters.new ≡ plain_counters (get_or (counters_of card) line none_counted))) }
 {
-    let Some(kept) = handle.card() else {
-        return NO_CARD;
-    };
-    let line = line as usize;
-    if line >= kept.card.lines() {
-        return WRONG_LINE;
-    }
+    lend!(kept of handle, line);
     *counters = PlainCounters::of(kept.card.frames().counters(line));
     OK
 }

@@ -1,6 +1,6 @@
 //! The configuration of a card.
 
-ghost use Rattle.std.specs.Prelude.{◌≡◌, ◌<◌, None, IfSome, IfNone};
+ghost use Rattle.std.specs.Prelude.{◌≡◌, ◌<◌, None, Ok, Err, IfSome, IfOk, IfErr};
 ghost use Rattle.lapd_c.specs.{first_fault, config_in, side_in, config_fault};
 
 use crate::plain::statuses::field_status;
@@ -47,10 +47,17 @@ fn side_in(side: u16) -> Side
 
 impl PlainConfig {
     /// The same for the card.
-    pub fn config(&self) -> Config
-        ensures { result ≡ config_in self.now }
+    ///
+    /// # Errors
+    ///
+    /// The status of a start where a field is out of range: that of the first.
+    pub fn read(&self) -> Result<Config, u32>
+        ensures fault { IfSome (config_fault self.now) (λ wrong. result ≡ Err wrong) }
+        ensures config { config_fault self.now ≡ None → result ≡ Ok (config_in self.now) }
+        ensures in_range { IfOk result (λ c. first_fault c ≡ None) }
+        ensures wrong { IfErr result (λ wrong. 10 < wrong) }
     {
-        Config {
+        let config = Config {
             lines: self.lines,
             terminals: self.terminals,
             k: self.k,
@@ -62,22 +69,11 @@ impl PlainConfig {
             n201: self.n201,
             n200: self.n200,
             side: side_in(self.side),
+        };
+        match config.fault() {
+            Some(field) => Err(field_status(field)),
+            None if self.side > 1 => Err(BAD_SIDE),
+            None => Ok(config),
         }
-    }
-
-    /// The status of a start with this configuration where a field is out of range: that of the first. None where all are
-    /// in range.
-    pub fn fault(&self) -> Option<u32>
-        ensures status { result ≡ config_fault self.now }
-        ensures in_range { IfNone result (first_fault (config_in self.now) ≡ None) }
-        ensures wrong { IfSome result (λ wrong. 10 < wrong) }
-    {
-        if let Some(field) = self.config().fault() {
-            return Some(field_status(field));
-        }
-        if self.side > 1 {
-            return Some(BAD_SIDE);
-        }
-        None
     }
 }

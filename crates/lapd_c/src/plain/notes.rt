@@ -63,13 +63,6 @@ pub fn cause_number(cause: Option<Cause>) -> u8
 {
     match cause {
         None => 0,
-        Some(Cause::Abort) => 1,
-        Some(Cause::Ragged) => 2,
-        Some(Cause::Short) => 3,
-        Some(Cause::Fcs) => 4,
-        Some(Cause::Extension) => 5,
-        Some(Cause::Sapi) => 6,
-        Some(Cause::Tei) => 7,
-        Some(Cause::Unserved) => 8,
+        Some(cause) => cause as u8,
     }
 }

@@ -1,14 +1,14 @@
 //! The report of an event.
 
-ghost use Rattle.std.specs.Prelude.{◌≡◌, ◌≤◌, [], true, false, length, take, map};
+ghost use Rattle.std.specs.Prelude.{◌≡◌, ◌≤◌, [], false, length, take, map};
 ghost use Rattle.std.specs.Option.{option_copied};
-ghost use Rattle.lapd_c.specs.{listed, report_told, told_in, nothing, plain_note, plain_order, ShowsReopened, with_reopened, Shows, ShowsPull, SameButContents, contents_in, contents_of, mark_of, orders_of};
+ghost use Rattle.lapd_c.specs.{told_beside, nothing, plain_note, plain_order, ShowsReopened, with_reopened, Shows, ShowsPull, SameButContents, contents_in, contents_of, mark_of, orders_of};
 
 use crate::plain::links::service_at;
 use crate::plain::notes::{PlainNote, cause_number};
 use crate::plain::timers::PlainOrder;
-use lapd_card::{BareReport, Report};
-use lapd_frame::{Note, Order, ShortList};
+use lapd_card::BareReport;
+use lapd_frame::{Note, Order};
 
 /// The most octets of contents that a configuration allows.
 const MOST_OCTETS: usize = 260;
@@ -63,75 +63,34 @@ impl PlainReport {
         self.more = 0;
     }
 
-    /// Shows what an octet, an expiry or a request was answered with: at most four notes and four orders. Contents
-    /// have at most 260 octets, as no configuration allows more; of longer ones the first 260 are shown.
-    ///
-    /// It stands apart, so that what tells nothing has no part of it in its way.
-    #[inline(never)]
-    pub fn show(&mut self, told: &Report<'_>)
-        requires notes { length (report_told told.now).notes ≤ 4 }
-        requires orders { length (report_told told.now).orders ≤ 4 }
-        ensures { length (contents_of (report_told told.now).contents) ≤ 260 → Shows self.new (report_told told.now) }
-    {
-        self.show_nothing();
-        self.deliver(told.delivered);
-        self.note_count = write_notes(&mut self.notes, told.notes());
-        self.order_count = write_orders(&mut self.orders, told.orders());
-        self.cause = cause_number(told.cause);
-        self.lost = told.lost;
-    }
-
-    /// Shows the same of a report without references, with its contents.
+    /// Shows at most four orders alone; also of a pull or of a call for the next frame, with whether it began or gave one, and
+    /// whether another waits on its line.
     #[inline(always)]
-    pub fn show_bare(&mut self, told: &BareReport, delivered: Option<&[u8]>)
-        ensures { length (contents_of (option_copied delivered.entry)) ≤ 260
-            → Shows self.new (record (told_in [] told.now) { contents = option_copied delivered.entry }) }
-    {
-        self.show_nothing();
-        self.deliver(delivered);
-        self.note_count = write_note_list(&mut self.notes, told.note_list());
-        self.order_count = write_order_list(&mut self.orders, told.order_list());
-        if told.cause().is_some() {
-            self.cause = cause_number(told.cause());
-        }
-        self.lost = told.lost();
-    }
-
-    /// Shows orders alone.
-    #[inline(always)]
-    pub fn show_orders(&mut self, orders: &ShortList<Order>)
-        ensures { Shows self.new (record nothing { orders = listed orders.now }) }
-    {
-        self.show_nothing();
-        self.order_count = write_order_list(&mut self.orders, orders);
-    }
-
-    /// Shows that a call gave a frame, with these orders, and whether another waits on its line.
-    #[inline(always)]
-    pub fn show_next(&mut self, more: bool, orders: ShortList<Order>)
-        ensures { ShowsPull self.new true more (listed orders) }
-    {
-        self.note_count = 0;
-        self.order_count = write_order_list(&mut self.orders, &orders);
-        self.cause = 0;
-        self.lost = 0;
-        self.begun = 1;
-        self.delivered = 0;
-        self.length = 0;
-        self.more = u8::from(more);
-    }
-
-    /// Shows what a pull was answered with: whether it began a frame, and at most four orders.
-    ///
-    /// It stands apart, as `show` does.
-    #[inline(never)]
-    pub fn show_pull(&mut self, begun: bool, orders: &[Order])
+    pub fn show_orders(&mut self, begun: bool, more: bool, orders: &[Order])
         requires { length orders.now ≤ 4 }
-        ensures { ShowsPull self.new begun false orders.now }
+        ensures told { begun ≡ false → more ≡ false → Shows self.new (record nothing { orders = orders.now }) }
+        ensures pulled { ShowsPull self.new begun more orders.now }
     {
         self.show_nothing();
         self.order_count = write_orders(&mut self.orders, orders);
         self.begun = u8::from(begun);
+        self.more = u8::from(more);
+    }
+
+    /// Shows what an octet, a frame, an expiry or a request was answered with, and the contents that it delivered. Contents
+    /// have at most 260 octets, as no configuration allows more; of longer ones the first 260 are shown.
+    ///
+    /// It stands apart, so that what tells nothing, or orders alone, has no part of it in its way.
+    #[inline(never)]
+    pub fn show(&mut self, told: &BareReport, delivered: Option<&[u8]>)
+        ensures { length (contents_of (option_copied delivered.entry)) ≤ 260
+            → Shows self.new (told_beside (option_copied delivered.entry) told.now) }
+    {
+        self.show_orders(false, false, told.orders());
+        self.deliver(delivered);
+        self.note_count = write_notes(&mut self.notes, told.notes());
+        self.cause = cause_number(told.cause());
+        self.lost = told.lost;
     }
 
     /// Shows which link of its line has room again, by its place, or that none has that waited for it.
@@ -179,67 +138,7 @@ impl PlainReport {
     }
 }
 
-// Mostly there are none, and then nothing is done with the list.
-#[inline(always)]
-fn write_note_list(places: &mut [PlainNote; 4], notes: &ShortList<Note>) -> u8
-    ensures count { result ≡ length (listed notes.now) }
-    ensures notes { take result places.new ≡ map plain_note (listed notes.now) }
-{
-    match notes {
-        ShortList::None => 0,
-        ShortList::One(_) | ShortList::Two(_) | ShortList::Three(_) | ShortList::Four(_) => {
-            write_some_notes(places, notes)
-        }
-    }
-}
-
-// Mostly there is one, and then it is written in place.
-#[inline(always)]
-fn write_order_list(places: &mut [PlainOrder; 4], orders: &ShortList<Order>) -> u8
-    ensures count { result ≡ length (listed orders.now) }
-    ensures orders { take result places.new ≡ map plain_order (listed orders.now) }
-{
-    match orders {
-        ShortList::None => 0,
-        ShortList::One(orders) => write_orders(places, orders),
-        ShortList::Two(_) | ShortList::Three(_) | ShortList::Four(_) => {
-            write_several_orders(places, *orders)
-        }
-    }
-}
-
-#[cold]
-#[inline(never)]
-fn write_some_notes(places: &mut [PlainNote; 4], notes: &ShortList<Note>) -> u8
-    ensures count { result ≡ length (listed notes.now) }
-    ensures notes { take result places.new ≡ map plain_note (listed notes.now) }
-{
-    match notes {
-        ShortList::None => 0,
-        ShortList::One(notes) => write_notes(places, notes),
-        ShortList::Two(notes) => write_notes(places, notes),
-        ShortList::Three(notes) => write_notes(places, notes),
-        ShortList::Four(notes) => write_notes(places, notes),
-    }
-}
-
-#[cold]
-#[inline(never)]
-fn write_several_orders(places: &mut [PlainOrder; 4], orders: ShortList<Order>) -> u8
-    ensures count { result ≡ length (listed orders) }
-    ensures orders { take result places.new ≡ map plain_order (listed orders) }
-{
-    match orders {
-        ShortList::None => 0,
-        ShortList::One(orders) => write_orders(places, &orders),
-        ShortList::Two(orders) => write_orders(places, &orders),
-        ShortList::Three(orders) => write_orders(places, &orders),
-        ShortList::Four(orders) => write_orders(places, &orders),
-    }
-}
-
 // Writes notes to the first places, and answers how many there are.
-#[inline(never)]
 fn write_notes(places: &mut [PlainNote; 4], notes: &[Note]) -> u8
     requires { length notes.now ≤ 4 }
     ensures count { result ≡ length notes.now }

@@ -52,17 +52,8 @@ pub fn refusal_status(why: Refusal) -> u32
     ensures { result ≡ refusal_status why }
 {
     match why {
-        Refusal::BadTei => 1,
-        Refusal::NoLink => 2,
-        Refusal::WrongState => 3,
-        Refusal::TooLong => 4,
-        Refusal::QueueFull => REFUSED_QUEUE_FULL,
-        Refusal::PoolFull => 6,
-        Refusal::TeiTaken => 7,
-        Refusal::TableFull => 8,
-        Refusal::CheckRunning => 9,
-        Refusal::ControlFull => 10,
         Refusal::WrongSide => 29,
+        _ => why as u32,
     }
 }
 
@@ -71,18 +62,7 @@ pub fn field_status(field: Field) -> u32
     ensures status { result ≡ field_status field }
     ensures wrong { 10 < result }
 {
-    match field {
-        Field::Lines => 33,
-        Field::Terminals => 34,
-        Field::K => 35,
-        Field::K16 => 36,
-        Field::Queue => 37,
-        Field::UnitQueue => 38,
-        Field::Control => 39,
-        Field::Slots => 40,
-        Field::N201 => 41,
-        Field::N200 => 42,
-    }
+    33 + field as u32
 }
 
 /// The service of a number: its SAPI.
@@ -95,8 +75,5 @@ pub fn service_in(service: u8) -> Result<Service, u32>
     ensures service { result ≡ service_in service }
     ensures wrong { IfErr result (λ wrong. 10 < wrong) }
 {
-    match Service::with_sapi(service) {
-        Some(service) => Ok(service),
-        None => Err(WRONG_SERVICE),
-    }
+    Service::with_sapi(service).ok_or(WRONG_SERVICE)
 }

@@ -6,7 +6,3 @@ use Rattle.lapd_c.proofs.clock_reports.carry_out.Goals as goal
 pub returns-in-len1-clause-status : goal.returns-in-len1-clause-status
 returns-in-len1-clause-status c =
     c.carry_out_one.ensures.status ∙ alone_status c.args.clock.now c.args.line c.args.now _ c.args.orders.now c.in-len1.len_at_least c.in-len1.len_below
-
-pub returns-in-len1-clause-after : goal.returns-in-len1-clause-after
-returns-in-len1-clause-after c =
-    c.carry_out_one.ensures.after ∙ alone_after c.args.clock.now c.args.line c.args.now _ c.args.orders.now c.in-len1.len_at_least c.in-len1.len_below

@@ -14,6 +14,3 @@ returns-clause-served c = λ m s w ok.
           (still_exchanged line from taken m (Octets c.exchange.new.card) given given' to told c.exchange.new.report c.tell_reopened.ensures.rest
           (c.exchange.ensures.made m (octets_there c.in-Some.ensures.card c.in-Octets.is m s))),
     )
-
-pub returns-clause-reopened : goal.returns-clause-reopened
-returns-clause-reopened c = λ m s w ok. tells_after m c.in-Some.ensures.card c.tell_reopened.ensures.card c.tell_reopened.ensures.tells s w

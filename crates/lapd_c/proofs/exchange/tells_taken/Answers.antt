@@ -5,12 +5,6 @@ use Rattle.model_card.specs.ports.Port as port
 use Rattle.lapd_c.proofs.Served.{small_reply}
 use Rattle.lapd_c.proofs.exchange.tells_taken.Goals as goal
 
-pub returns-in-None-clause-tells : goal.returns-in-None-clause-tells
-returns-in-None-clause-tells c = λ m s. ap (λ a. not (is_quiet a)) (c.in-None.ensures.told m s)
-
-pub returns-in-Some-clause-tells : goal.returns-in-Some-clause-tells
-returns-in-Some-clause-tells c = λ m s. c.tells_ended.ensures.tells ∙ ap (λ a. not (is_quiet a)) (c.in-Some.ensures.told m s)
-
 pub returns-in-Some-clause-shown : goal.returns-in-Some-clause-shown
 returns-in-Some-clause-shown c = λ m s on.
     subst (ShowsReply c.tells_ended.new.report) (c.in-Some.ensures.told m s)

@@ -12,8 +12,3 @@ loop-place-preserved c =
           (subst (λ marked. SetsLink there marked c.loop-place.links c.set.new.self) (c.is_there.ensures m s) c.set.ensures);
       above = λ place behind. c.set.ensures.others place (omega (arith, behind)) ∙ i.above place (omega (arith, behind, met.0));
     }
-
-pub returns : goal.returns
-returns c = λ m s.
-    let i = c.loop-place.invariant in
-    waits_to_the_end (is_there c.args.line m) c.args.links.now c.loop-place.links c.loop-place.from (i.below m s) i.above c.in_default.ensures.others

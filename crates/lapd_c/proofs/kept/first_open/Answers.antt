@@ -16,6 +16,3 @@ loop-place-preserved c = λ m s.
     shut_behind c.args.line c.in-Some.place m c.args.links.now
     (shut_up_to c.args.line c.loop-place.from c.in-Some.place m c.args.links.now (c.loop-place.invariant m s) c.in-Some.ensures.others)
     (sym (c.has_room.ensures m s) ∙ c.if-has_room.false)
-
-pub returns : goal.returns
-returns c = λ m s. shut_up_to c.args.line c.loop-place.from 254 m c.args.links.now (c.loop-place.invariant m s) c.in_default.ensures.others

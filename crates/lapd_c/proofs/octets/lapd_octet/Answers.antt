@@ -14,10 +14,3 @@ returns-in-Some-hear-clause-served c = λ m s w. let t = octets_there c.in-Some.
   still_replied c.tell_reopened-in-Some-hear.new.report c.show.new.self _ c.tell_reopened-in-Some-hear.ensures.rest
       (shown_reply m (at c.args.line (port.octet c.args.octet)) c.lend-told.result c.show.new.self t.reached.config (ap port.told c.lend-told.ensures ∙ c.in-Some-hear.ensures.told m t) c.show.ensures),
 )
-
-pub returns-in-Some-hear-clause-reopened : goal.returns-in-Some-hear-clause-reopened
-returns-in-Some-hear-clause-reopened c = λ m s w ok.
-    tells_after m c.in-Some.ensures.card c.tell_reopened-in-Some-hear.ensures.card c.tell_reopened-in-Some-hear.ensures.tells s w
-
-pub returns-in-None-clause-reopened : goal.returns-in-None-clause-reopened
-returns-in-None-clause-reopened c = λ m s w ok. tells_after m c.in-Some.ensures.card c.tell_reopened.ensures.card c.tell_reopened.ensures.tells s w

@@ -1,7 +1,8 @@
 //! The card of octets: a card, and a port for each of its lines.
 
 ghost use Rattle.std.specs.Prelude.{◌≡◌, ◌≤◌, ◌<◌, Some, None, IsSome, IfOk, IfErr, IfSome, OnErr, get_or, slice_get, length};
-ghost use Rattle.lapd_card.specs.{none_counted, report_told, pulled_of, RisesByExpiry, RisesByRequest, may_send, room, RefusesBy, refusal, request_of, starts, head_begun_at, head_heard_at};
+ghost use Rattle.std.specs.Option.{option_copied};
+ghost use Rattle.lapd_card.specs.{none_counted, report_told, told_beside, pulled_of, RisesByExpiry, RisesByRequest, may_send, room, RefusesBy, refusal, request_of, starts, head_begun_at, head_heard_at};
 ghost use Rattle.model_card.specs.Card as frames;
 ghost use Rattle.model_card.specs.ports.Card as machine;
 ghost use Rattle.model_card.specs.ports.Card.{after, answer};
@@ -78,7 +79,7 @@ impl<S: Shelf> Card<S> {
     }
 
     /// Takes an octet as [`Card::octet`] does, and answers without references; none where it ended nothing, so that there is
-    /// nothing to tell and no report to make. [`Card::lend`] makes the report of the bare one.
+    /// nothing to tell and no report to make. [`Card::contents`] lends contents that it delivered.
     #[inline(always)]
     pub fn hear(&mut self, line: usize, octet: u8) -> Option<BareReport>
         requires { line < line_count self.old }
@@ -103,14 +104,15 @@ impl<S: Shelf> Card<S> {
         }
     }
 
-    /// The report of what the latest octet of a line led to. Contents that it delivered are lent until the card's next event.
-    // The report borrows from the card, so that no event can come while contents are lent. Whatever the event
-    // changed was changed in a step before this one: no loan is proved beside a later write.
-    pub fn lend(&self, line: usize, bare: &BareReport) -> Report<'_>
+    /// The contents that the latest octet of a line delivered, which led to this report. They are lent until the card's next
+    /// event.
+    // They borrow from the card, so that no event can come while they are lent. Whatever the event changed was changed in a
+    // step before this one: no loan is proved beside a later write.
+    pub fn contents(&self, line: usize, report: &BareReport) -> Option<&[u8]>
         requires { line < line_count self.now }
-        ensures { report_told result ≡ told_at self.now.ports line bare.now }
+        ensures { told_beside (option_copied result) report.now ≡ told_at self.now.ports line report.now }
     {
-        self.ports[line].lend(bare)
+        report.contents(self.ports[line].latest_frame())
     }
 
     /// A timer of a line expired. One that does not run has no effect, and nothing is reported.
@@ -124,7 +126,9 @@ impl<S: Shelf> Card<S> {
         // What may be sent rises by k + 1 where the timer was running, else by nothing.
         ensures frames { (m : machine.OctetCard) → Stands S.store self.old m → RisesByExpiry line timer m.card }
     {
-        self.frames.expire(line, timer)
+        let mut bare = BareReport::nothing();
+        self.frames.expire(line, timer, &mut bare);
+        Report::of(&bare, None)
     }
 
     /// Serves a request of layer 3 or management at a line. One that is refused changes nothing, on this line or any other.
@@ -146,7 +150,9 @@ impl<S: Shelf> Card<S> {
         // What may be sent rises by one where it is accepted, else by nothing.
         ensures frames { (m : machine.OctetCard) → Stands S.store self.old m → RisesByRequest line (request_of request.entry) m.card }
     {
-        self.frames.request(line, request)
+        let mut bare = BareReport::nothing();
+        self.frames.request(line, request, &mut bare)?;
+        Ok(Report::of(&bare, None))
     }
 
     /// Gives the next octet of a line, low bit first. Where fewer than eight bits are left to send, the frame that is next
@@ -236,7 +242,7 @@ impl<S: Shelf> Card<S> {
         ensures { report_told result ≡ told_if_at self.now.ports line bare.now }
     {
         match bare {
-            Some(bare) => self.lend(line, bare),
+            Some(bare) => Report::of(bare, self.contents(line, bare)),
             None => Report::nothing(),
         }
     }

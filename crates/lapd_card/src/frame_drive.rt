@@ -18,7 +18,7 @@ use crate::frame_card::FrameCard;
 use crate::frame_replies::{FrameReply, SentFrame};
 use crate::frame_sink::FrameSink;
 use crate::sink::{SinkFailed, SinkFault};
-use lapd_line::Request;
+use lapd_line::{BareReport, Report, Request};
 use lapd_store::Shelf;
 use model_card::FrameEvent;
 
@@ -86,20 +86,22 @@ impl<S: Shelf> FrameCard<S> {
         requires { line_of event < line_count self.old }
         ensures { Hands S.store K.takes K.misses K.failures (event_of self.old.config.n201 event.entry) self.old self.new sink.old sink.new result }
     {
+        let mut report = BareReport::nothing();
         match event {
-            FrameEvent::Frame(line, octets) => sink.take(
-                line,
-                &FrameReply::Report(self.frame(line, octets)),
-            ),
-            FrameEvent::Failed(line, fault) => sink.take(
-                line,
-                &FrameReply::Report(self.failed(line, fault)),
-            ),
+            FrameEvent::Frame(line, octets) => {
+                self.frame(line, octets, &mut report);
+                let contents = self.contents(line, octets, &report);
+                sink.take(line, &FrameReply::Report(Report::of(&report, contents)))
+            }
+            FrameEvent::Failed(line, fault) => {
+                self.failed(line, fault, &mut report);
+                sink.take(line, &FrameReply::Report(Report::of(&report, None)))
+            }
             FrameEvent::Next(line) => self.hand_on(line, sink),
-            FrameEvent::Expire(line, timer) => sink.take(
-                line,
-                &FrameReply::Report(self.expire(line, timer)),
-            ),
+            FrameEvent::Expire(line, timer) => {
+                self.expire(line, timer, &mut report);
+                sink.take(line, &FrameReply::Report(Report::of(&report, None)))
+            }
             FrameEvent::Request(line, request) => self.grant(line, request, sink),
         }
     }
@@ -131,8 +133,9 @@ impl<S: Shelf> FrameCard<S> {
         requires { line < line_count self.old }
         ensures { Hands S.store K.takes K.misses K.failures (at line (line_event.request (request_of request.entry))) self.old self.new sink.old sink.new result }
     {
-        match self.request(line, request) {
-            Ok(report) => sink.take(line, &FrameReply::Report(report)),
+        let mut report = BareReport::nothing();
+        match self.request(line, request, &mut report) {
+            Ok(()) => sink.take(line, &FrameReply::Report(Report::of(&report, None))),
             Err(refusal) => sink.take(line, &FrameReply::Refused(refusal)),
         }
     }

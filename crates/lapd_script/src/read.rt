@@ -1,7 +1,7 @@
 //! Reads a line of a script.
 
 ghost use Rattle.std.specs.Prelude.{◌≡◌, ◌*◌, ◌/◌, ◌≤◌, ℕ, List, take, drop, length, All, Ok, Err, IfOk, MatchResult};
-ghost use Rattle.lapd_script.specs.{texts, rx, into, meant_by, IsCounted, read, read_words, read_as, lengths, card_numbers, for_user, is_user, nine_numbers, ten_numbers, three_numbers, Rx, In, Failed, Pull, Ask};
+ghost use Rattle.lapd_script.specs.{texts, rx, into, meant_by, IsCounted, read, read_words, read_as, lengths, card_numbers, for_user, is_user, nine_numbers, ten_numbers, Rx, In, Failed, Pull, Ask};
 
 use crate::command::{Asked, Command};
 use crate::kind::FaultKind;
@@ -68,19 +68,10 @@ fn read_as(word: Word, words: &[&[u8]], room: &mut [u8]) -> Result<Command, Faul
             Ok(Command::In { line, octets })
         }
         Word::Failed => failed(words),
-        Word::Next => {
-            let line = short(one(words)?)?;
-            Ok(Command::Next { line })
-        }
-        Word::Down => {
-            let line = short(one(words)?)?;
-            Ok(Command::Down { line })
-        }
+        Word::Next => Ok(Command::Next(short(one(words)?)?)),
+        Word::Down => Ok(Command::Down(short(one(words)?)?)),
         Word::Pull => pull(words),
-        Word::Wait => {
-            let milliseconds = number(0, 3_600_000, one(words)?)?;
-            Ok(Command::Wait { milliseconds })
-        }
+        Word::Wait => Ok(Command::Wait(number(0, 3_600_000, one(words)?)?)),
         Word::Timers => {
             let (t200, t203, t201) = lengths(words)?;
             Ok(Command::Timers { t200, t203, t201 })
@@ -234,29 +225,18 @@ fn nine_numbers(words: &[&[u8]]) -> Result<Config, FaultKind>
     else {
         return Err(FaultKind::BadNumberOfWords);
     };
-    let first = three_numbers(lines, terminals, k)?;
-    let second = three_numbers(queue, unit_queue, control)?;
-    let third = three_numbers(slots, n201, n200)?;
+    let k = short(k)?;
     Ok(Config {
-        lines: first.0,
-        terminals: first.1,
-        k: first.2,
-        queue: second.0,
-        unit_queue: second.1,
-        control: second.2,
-        slots: third.0,
-        n201: third.1,
-        n200: third.2,
-        k16: first.2,
+        lines: short(lines)?,
+        terminals: short(terminals)?,
+        k,
+        queue: short(queue)?,
+        unit_queue: short(unit_queue)?,
+        control: short(control)?,
+        slots: short(slots)?,
+        n201: short(n201)?,
+        n200: short(n200)?,
+        k16: k,
         side: Side::Network,
     })
-}
-
-fn three_numbers(a: &[u8], b: &[u8], c: &[u8]) -> Result<(u16, u16, u16), FaultKind>
-    ensures { result ≡ three_numbers a.now b.now c.now }
-{
-    let a = short(a)?;
-    let b = short(b)?;
-    let c = short(c)?;
-    Ok((a, b, c))
 }

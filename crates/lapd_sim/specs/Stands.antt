@@ -10,9 +10,8 @@ use Rattle.lapd_sim.specs.declared.setup.Setup.{Setup}
 -- One by one.
 abbrev pub Each : {A B : Type 0} → (A → B → Type 0) → List A → List B → Type 0
 Each R [] [] = Unit {0}
-Each R [] (y ∷ ys) = ⊥
-Each R (x ∷ xs) [] = ⊥
 Each R (x ∷ xs) (y ∷ ys) = R x y × Each R xs ys
+Each R _ _ = ⊥
 
 -- The card, its counters, its clock and the moment; each terminal, and what each listener has heard.
 pub record Stands (b : Setup) (m : machine.Setup) : Type 0 where
@@ -28,6 +27,5 @@ pub record Stands (b : Setup) (m : machine.Setup) : Type 0 where
 -- Before the card line there is no setup.
 abbrev pub Has : Option Setup → Option machine.Setup → Type 0
 Has None None = Unit {0}
-Has None (Some m) = ⊥
-Has (Some b) None = ⊥
 Has (Some b) (Some m) = Stands b m
+Has _ _ = ⊥

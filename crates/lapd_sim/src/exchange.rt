@@ -1,18 +1,17 @@
 //! What happens at the card that a script is played on: octets that come and go, requests, and timers that expire.
 
-ghost use Rattle.std.specs.Prelude.{◌≡◌, ◌<◌, ◌≤◌, ◌+◌, ◌-◌, ◌^◌, ℕ, length, fold, take, IfSome, IfNone};
+ghost use Rattle.std.specs.Prelude.{◌≡◌, ◌<◌, ◌≤◌, ◌+◌, ◌-◌, ◌^◌, ℕ, length, fold, take, option_copied, IfSome, IfNone};
 ghost use Rattle.lapd_clock.specs.Timers as clocks;
-ghost use Rattle.lapd_sim.specs.{on, Puts};
-ghost use Rattle.lapd_line.specs.Reports.{report_told};
+ghost use Rattle.lapd_sim.specs.{listed, on, told_beside, Puts};
 ghost use Rattle.lapd_script.specs.declared.command.CardKind.TheVariants.{Octets};
 ghost use Rattle.lapd_script.specs.Meaning as meaning;
 ghost use Rattle.lapd_sim.specs.machine.Board as event;
-ghost use Rattle.lapd_sim.specs.machine.Board.{told, orders_in};
+ghost use Rattle.lapd_sim.specs.machine.Board.{told};
 ghost use Rattle.lapd_sim.specs.machine.Setup as machine;
 ghost use Rattle.lapd_sim.specs.machine.Steps.{reply_text};
 
 use crate::setup::{Obeyed, Setup, written};
-use lapd_card::{AnyCard, Report, Request};
+use lapd_card::{AnyCard, BareReport, Request};
 use lapd_clock::Clock;
 use lapd_frame::{Order, Service, Timer};
 use lapd_script::{FaultKind, LineFault};
@@ -49,8 +48,13 @@ impl Setup {
         let AnyCard::Octets(card) = &mut self.board else {
             unreachable!();
         };
-        let report = card.octet(line, octet);
-        carry_out(&mut self.clock, line, &report, self.moment, page)
+        match card.hear(line, octet) {
+            Some(report) => {
+                let contents = card.contents(line, &report);
+                carry_out(&mut self.clock, line, &report, contents, self.moment, page)
+            }
+            None => Ok(()),
+        }
     }
 
     /// A line of a card for octets takes as many octets as there is room for.
@@ -96,8 +100,9 @@ impl Setup {
         ensures told { Says result self.old self.new (on T.taken page.old) (on T.taken page.new)
             (λ s. with_event s (at line (event.request (request_of request.entry)))) }
     {
-        match self.board.request(line, request) {
-            Ok(report) => carry_out(&mut self.clock, line, &report, self.moment, page),
+        let mut report = BareReport::nothing();
+        match self.board.request(line, request, &mut report) {
+            Ok(()) => carry_out(&mut self.clock, line, &report, None, self.moment, page),
             Err(refusal) => page.put_refused(line as u16, refusal),
         }
     }
@@ -188,8 +193,9 @@ impl Setup {
         ensures told { Says result self.old self.new (on T.taken page.old) (on T.taken page.new) (λ s. with_event s (at line (expiry timer))) }
         ensures one { (end : ℕ) → clocks.time_until end self.new.clock ≤ clocks.time_until end self.old.clock + (end - self.old.moment) }
     {
-        let report = self.board.expire(line, timer);
-        carry_out(&mut self.clock, line, &report, self.moment, page)
+        let mut report = BareReport::nothing();
+        self.board.expire(line, timer, &mut report);
+        carry_out(&mut self.clock, line, &report, None, self.moment, page)
     }
 }
 
@@ -197,7 +203,8 @@ impl Setup {
 pub(crate) fn carry_out<T: Target>(
     clock: &mut Clock,
     line: usize,
-    report: &Report<'_>,
+    report: &BareReport,
+    contents: Option<&[u8]>,
     now: u64,
     page: &mut Page<T>,
 ) -> Put
@@ -206,15 +213,15 @@ pub(crate) fn carry_out<T: Target>(
     requires now { now < 2 ^ 63 }
     ensures lines { clock.new.lines ≡ clock.old.lines }
     ensures lengths { clock.new.lengths ≡ clock.old.lengths }
-    ensures ordered { clock.new ≡ fold (machine.ordered line now) clock.old (orders_in (told (report_told report.now))) }
-    ensures written { Puts result (on T.taken page.old) (on T.taken page.new) (reply_text line (told (report_told report.now))) }
+    ensures ordered { clock.new ≡ fold (machine.ordered line now) clock.old (listed report.now.orders) }
+    ensures written { Puts result (on T.taken page.old) (on T.taken page.new) (reply_text line (told (told_beside (option_copied contents.entry) report.now))) }
 {
     order(clock, line, report.orders(), now);
     page.put_report(
         line as u16,
         report.notes(),
-        report.delivered,
-        report.cause,
+        contents,
+        report.cause(),
         report.lost,
     )
 }

@@ -10,7 +10,7 @@ ghost use Rattle.model_line.specs.Sound.{IsInRange};
 use crate::exchange::{carry_out, order};
 use crate::parts::{Plan, begin, listeners, request_for, terminals};
 use lapd_bits::Deframer;
-use lapd_card::{AnyCard, Fault, limit};
+use lapd_card::{AnyCard, BareReport, Fault, limit};
 use lapd_clock::{Clock, Lengths};
 use lapd_script::{Asked, CardKind, Command, FaultKind, LineFault};
 use lapd_transcript::{CounterGroup, LONGEST_FRAME, Page, Put, SHORTEST_FRAME, Target, Terminal};
@@ -80,10 +80,10 @@ impl Setup {
             Command::Rx { line, octets } => self.receive(line, &room[..octets], page),
             Command::In { line, octets } => self.come(line, &room[..octets], page),
             Command::Failed { line, fault } => self.fail(line, fault, page),
-            Command::Next { line } => self.take(line, room, page),
-            Command::Down { line } => self.bring_down(line, room, page),
+            Command::Next(line) => self.take(line, room, page),
+            Command::Down(line) => self.bring_down(line, room, page),
             Command::Pull { line, count } => self.pull(line, count as usize, room, page),
-            Command::Wait { milliseconds } => self.wait(milliseconds, page),
+            Command::Wait(milliseconds) => self.wait(milliseconds, page),
             Command::Timers { t200, t203, t201 } => self.set_timers(t200, t203, t201),
             Command::Stored => self.show_stored(page),
             Command::Counters { line, group } => self.show_counters(line, group, page),
@@ -137,8 +137,10 @@ impl Setup {
         let line = self.line(line)?;
         match &mut self.board {
             AnyCard::Frames(card) => {
-                let report = card.frame(line, frame);
-                written(carry_out(&mut self.clock, line, &report, self.moment, page))
+                let mut report = BareReport::nothing();
+                card.frame(line, frame, &mut report);
+                let contents = card.contents(line, frame, &report);
+                written(carry_out(&mut self.clock, line, &report, contents, self.moment, page))
             }
             AnyCard::Octets(_) => {
                 if frame.len() < SHORTEST_FRAME || frame.len() > LONGEST_FRAME {
@@ -159,8 +161,9 @@ impl Setup {
         let AnyCard::Frames(card) = &mut self.board else {
             unreachable!();
         };
-        let report = card.failed(line, fault);
-        written(carry_out(&mut self.clock, line, &report, self.moment, page))
+        let mut report = BareReport::nothing();
+        card.failed(line, fault, &mut report);
+        written(carry_out(&mut self.clock, line, &report, None, self.moment, page))
     }
 
     /// A line takes the next frame, which is put into the beginning of `room`: there is room for each frame that a card has.

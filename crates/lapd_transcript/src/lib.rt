@@ -7,7 +7,6 @@
 //! - `lines`: puts the lines of a transcript onto a page, and writes what tells of a faulty line of a script.
 //! - `notes`: what an event brought; `counters`: what was counted of a line.
 //! - `shown`: what a frame says, octets of a line, and the bound of a card.
-//! - `names`: the names that stand in them.
 //! - `terminal`: the sender of a terminal.
 //! - `listener`: tells the octets that a line takes, and the frames in them.
 //!
@@ -24,7 +23,6 @@
 mod counters;
 mod lines;
 mod listener;
-mod names;
 mod notes;
 mod output;
 mod read_from;

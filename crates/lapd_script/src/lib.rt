@@ -10,7 +10,7 @@
 //! - `read`: reads a line.
 //! - `lines`: how the lines of a script are read, in pieces.
 //! - `faults`: why a script is not played to its end.
-//! - `jobs`: what the program can be asked for, and by which words.
+//! - `jobs`, `arguments`: what the program can be asked for, and its words.
 //! - `shown`: shows one frame.
 //! - `fault_lines`: the program's fault lines and its exit status with them.
 //!
@@ -19,6 +19,7 @@
 //! What `PlayFault` displays.
 #![tactic(auto)]
 
+mod arguments;
 mod command;
 mod fault_lines;
 mod faults;
@@ -31,10 +32,11 @@ mod values;
 mod word;
 mod words;
 
+pub use arguments::job;
 pub use command::{Asked, CardKind, Command};
 pub use fault_lines::{refuse, refuse_digits, refuse_words};
 pub use faults::{LineFault, PlayFault};
-pub use jobs::{Job, Limits, job};
+pub use jobs::{Job, Limits};
 pub use kind::FaultKind;
 pub use lines::ScriptLines;
 pub use read::read_line;

@@ -189,13 +189,9 @@ fn is_user(word: &[u8]) -> bool
 fn for_user(numbers: Result<Config, FaultKind>) -> Result<Config, FaultKind>
     ensures { result ≡ for_user numbers }
 {
-    match numbers {
-        Ok(numbers) => Ok(Config {
-            side: Side::User,
-            ..numbers
-        }),
-        Err(kind) => Err(kind),
-    }
+    let mut numbers = numbers?;
+    numbers.side = Side::User;
+    Ok(numbers)
 }
 
 /// Nine numbers, and the window of packet links.
@@ -211,27 +207,16 @@ fn ten_numbers(nine: &[&[u8]], k16: &[u8]) -> Result<Config, FaultKind>
 fn nine_numbers(words: &[&[u8]]) -> Result<Config, FaultKind>
     ensures read { result ≡ nine_numbers (texts words.now) }
 {
-    let [
-        lines,
-        terminals,
-        k,
-        queue,
-        unit_queue,
-        control,
-        slots,
-        n201,
-        n200,
-    ] = words
-    else {
+    let [lines, teis, k, queue, units, control, slots, n201, n200] = words else {
         return Err(FaultKind::BadNumberOfWords);
     };
     let k = short(k)?;
     Ok(Config {
         lines: short(lines)?,
-        terminals: short(terminals)?,
+        terminals: short(teis)?,
         k,
         queue: short(queue)?,
-        unit_queue: short(unit_queue)?,
+        unit_queue: short(units)?,
         control: short(control)?,
         slots: short(slots)?,
         n201: short(n201)?,

@@ -85,7 +85,9 @@ impl Setup {
             Command::Pull { line, count } => self.pull(line, count as usize, room, page),
             Command::Wait(milliseconds) => self.wait(milliseconds, page),
             Command::Timers { t200, t203, t201 } => self.set_timers(t200, t203, t201),
-            Command::Stored => self.show_stored(page),
+            Command::Stored => {
+                written(page.put_stored(self.board.stored(), limit(&self.plan.config)))
+            }
             Command::Counters { line, group } => self.show_counters(line, group, page),
             Command::Ask {
                 line,
@@ -224,13 +226,6 @@ impl Setup {
         };
         self.clock.set_lengths(lengths);
         Ok(())
-    }
-
-    /// Shows how many octets the card holds, and the bound of it.
-    fn show_stored<T: Target>(&self, page: &mut Page<T>) -> Obeyed
-        ensures { Answers result self.now self.now (on T.taken page.old) (on T.taken page.new) meaning.stored }
-    {
-        written(page.put_stored(self.board.stored(), limit(&self.plan.config)))
     }
 
     /// Shows what was counted of a line.

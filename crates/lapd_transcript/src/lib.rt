@@ -14,10 +14,6 @@
 //!
 //! That `ReadFrom` and `WriteTo` fail only where their reader or writer did, try interrupted calls again, and
 //! flush.
-//!
-//! # Open
-//!
-//! What `Debug` shows.
 #![tactic(auto)]
 
 mod counters;

@@ -1,16 +1,17 @@
--- Hand-written answers for `Setup::show_stored`.
+-- Hand-written answers for `Setup::obey`.
 use Rattle.lapd_sim.proofs.Vocabulary.{◌≡◌, sym, ap, ◌∙◌, Config, scene, Stands}
 use Rattle.lapd_transcript.specs.Text.{stored_text}
 use Rattle.model_card.specs.ports.Stored.{limit}
 use Rattle.lapd_sim.specs.machine.Steps.{after_stored, held}
 use Rattle.lapd_sim.proofs.Boards.{held_on}
 use Rattle.lapd_sim.proofs.Scenes.{obeyed, on_ok, tells}
-use Rattle.lapd_sim.proofs.setup.Setup.show_stored.Goals as goal
+use Rattle.lapd_sim.proofs.setup.Setup.obey.Goals as goal
 
-pub returns : goal.returns
-returns g c = λ m h.
-    obeyed c.put_stored.result _ c.written.ensures _ _ (Stands c.args.self.now) _ (after_stored (scene m)) refl
+pub returns-in-Stored : goal.returns-in-Stored
+returns-in-Stored g c = λ m h.
+    rw c.in-Stored.is
+    (obeyed c.put_stored.result _ c.written.ensures _ _ (Stands c.args.self.now) _ (after_stored (scene m)) refl
     (tells c.put_stored.result _ _ (Stands c.args.self.now) (after_stored (scene m)) (record (scene m) { text = stored_text c.stored.result c.limit.result })
     (ap (λ n. record (scene m) { text = stored_text n c.limit.result }) (held_on c.args.self.now.board m.board h.board c.stored.result c.stored.ensures)
     ∙ ap (λ n. record (scene m) { text = stored_text (held m.board) n }) (c.limit.ensures ∙ ap (λ (d : Config). limit d) (sym h.config)))
-    c.put_stored.ensures (on_ok c.put_stored.result h))
+    c.put_stored.ensures (on_ok c.put_stored.result h)))

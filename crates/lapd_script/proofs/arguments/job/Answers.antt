@@ -1,8 +1,8 @@
 -- Hand-written answers for `job`.
 use Rattle.lapd_script.proofs.Vocabulary.{true, false, sym, ◌∙◌}
 use Rattle.lapd_script.proofs.JobLemmas.{and_first, with_network, no_limits, with_limits}
-use Rattle.lapd_script.proofs.jobs.job.Goals as goal
-use Rattle.lapd_script.proofs.jobs.job.Goals.{then-eq, else-eq}
+use Rattle.lapd_script.proofs.arguments.job.Goals as goal
+use Rattle.lapd_script.proofs.arguments.job.Goals.{then-eq, else-eq}
 
 pub returns-after-eq : goal.returns-after-eq
 returns-after-eq c =

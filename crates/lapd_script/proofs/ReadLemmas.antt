@@ -1,11 +1,29 @@
 -- What is read of words that stand in references, and of lines with too many.
-use Rattle.lapd_script.proofs.Vocabulary.{◌≡◌, ℕ, Bool, true, false, cond, List, [], ◌∷◌, length, take, drop, get_or, Some, None, Ok, Err, Result, Option, refl, sym, ap, ◌∙◌, Bor, arith, FaultKind, BadNumberOfWords, Config, Word, Ask, texts, word_named, carries_octets, read_words, read_after, read_as, card_numbers, nine_numbers, ten_numbers, for_user, is_user, ◌>>=◌}
+use Rattle.lapd_script.proofs.Vocabulary.{◌≡◌, ℕ, Bool, true, false, cond, List, [], ◌∷◌, length, take, drop, get_or, Some, None, Ok, Err, Result, Option, refl, sym, ap, ◌∙◌, Bor, arith, IsErr, IsErrAnd, false≢true, Network, FaultKind, BadNumberOfWords, Config, Word, Ask, texts, word_named, carries_octets, read_words, read_after, read_as, card_numbers, nine_numbers, three_numbers, ten_numbers, for_user, is_user, ◌>>=◌}
 
 abbrev pub nowhere : Bor (List ℕ)
 nowhere = record { ref_ptr = (0, 0); now = [] }
 
 abbrev pub at : List (Bor (List ℕ)) → ℕ → List ℕ
 at words i = (get_or words i nowhere).now
+
+abbrev grouped : Result (ℕ × ℕ × ℕ) FaultKind → Result (ℕ × ℕ × ℕ) FaultKind → Result (ℕ × ℕ × ℕ) FaultKind → Result Config FaultKind
+grouped ra rb rc = do
+  a ← ra
+  b ← rb
+  c ← rc
+  Ok (record { lines = a.0; terminals = a.1; k = a.2; queue = b.0; unit_queue = b.1; control = b.2; slots = c.0; n201 = c.1; n200 = c.2; k16 = a.2; side = Network })
+
+-- nine words,
+pub nine_given : (words : List (Bor (List ℕ))) → length words ≡ 9
+    → nine_numbers (texts words) ≡ grouped (three_numbers (at words 0) (at words 1) (at words 2)) (three_numbers (at words 3) (at words 4) (at words 5)) (three_numbers (at words 6) (at words 7) (at words 8))
+nine_given (a ∷ b ∷ c ∷ d ∷ e ∷ f ∷ g ∷ h ∷ i ∷ []) n = refl
+nine_given _ n = absurd (omega (arith, n))
+
+pub nine_grouped : (words : List (Bor (List ℕ))) (ra rb rc : Result (ℕ × ℕ × ℕ) FaultKind) → length words ≡ 9
+    → ra ≡ three_numbers (at words 0) (at words 1) (at words 2) → rb ≡ three_numbers (at words 3) (at words 4) (at words 5) → rc ≡ three_numbers (at words 6) (at words 7) (at words 8)
+    → grouped ra rb rc ≡ nine_numbers (texts words)
+nine_grouped words ra rb rc n ea eb ec = grind (arith, nine_given)
 
 -- ten words: the last is a tenth number, or says that the card is the user's side;
 pub with_tenth : (words : List (Bor (List ℕ))) → length words ≡ 10
@@ -45,3 +63,8 @@ first_word (name ∷ more) = name
 -- where the first thirteen words are these, they say what all the words say
 pub read_taken : (all : List (List ℕ)) (name : List ℕ) (words : List (List ℕ)) (word : Option Word) → name ∷ words ≡ take 13 all → word ≡ word_named name → read_after word words ≡ read_words all
 read_taken all name words word e w = grind (arith, taken_words)
+
+-- the exit of a `?`
+pub err_is : {A : Type 0} (r : Result A FaultKind) (kind : FaultKind) → IsErr r × IsErrAnd r (λ why. why ≡ kind) → r ≡ Err kind
+err_is (Ok a) kind h = absurd (false≢true h.0)
+err_is (Err why) kind h = ap (λ one. Err one) h.1

@@ -27,18 +27,19 @@ abbrev pub tei_number : List ℕ → Result ℕ FaultKind
 tei_number word = number 0 255 word
 
 -- the nine numbers of a card line, where the window of packet links is that of call control
+abbrev pub three_numbers : List ℕ → List ℕ → List ℕ → Result (ℕ × ℕ × ℕ) FaultKind
+three_numbers first second third = do
+  a ← number 0 65535 first
+  b ← number 0 65535 second
+  c ← number 0 65535 third
+  Ok (a, b, c)
+
 abbrev pub nine_numbers : List (List ℕ) → Result Config FaultKind
 nine_numbers (lines ∷ terminals ∷ k ∷ queue ∷ unit_queue ∷ control ∷ slots ∷ n201 ∷ n200 ∷ []) = do
-  k ← number 0 65535 k
-  lines ← number 0 65535 lines
-  terminals ← number 0 65535 terminals
-  queue ← number 0 65535 queue
-  unit_queue ← number 0 65535 unit_queue
-  control ← number 0 65535 control
-  slots ← number 0 65535 slots
-  n201 ← number 0 65535 n201
-  n200 ← number 0 65535 n200
-  Ok (record { lines = lines; terminals = terminals; k = k; queue = queue; unit_queue = unit_queue; control = control; slots = slots; n201 = n201; n200 = n200; k16 = k; side = Network })
+  a ← three_numbers lines terminals k
+  b ← three_numbers queue unit_queue control
+  c ← three_numbers slots n201 n200
+  Ok (record { lines = a.0; terminals = a.1; k = a.2; queue = b.0; unit_queue = b.1; control = b.2; slots = c.0; n201 = c.1; n200 = c.2; k16 = a.2; side = Network })
 nine_numbers _ = Err BadNumberOfWords
 
 -- nine numbers, or ten: the tenth is the window of packet links; and the word `user` behind them, if the card is the user's

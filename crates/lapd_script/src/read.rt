@@ -1,7 +1,7 @@
 //! Reads a line of a script.
 
 ghost use Rattle.std.specs.Prelude.{◌≡◌, ◌*◌, ◌/◌, ◌≤◌, ℕ, List, take, drop, length, All, Ok, Err, IfOk, MatchResult};
-ghost use Rattle.lapd_script.specs.{texts, rx, into, meant_by, IsCounted, read, read_words, read_as, lengths, card_numbers, for_user, is_user, nine_numbers, ten_numbers, Rx, In, Failed, Pull, Ask};
+ghost use Rattle.lapd_script.specs.{texts, rx, into, meant_by, IsCounted, read, read_words, read_as, lengths, card_numbers, for_user, is_user, nine_numbers, ten_numbers, three_numbers, Rx, In, Failed, Pull, Ask};
 
 use crate::command::{Asked, Command};
 use crate::kind::FaultKind;
@@ -210,18 +210,26 @@ fn nine_numbers(words: &[&[u8]]) -> Result<Config, FaultKind>
     let [lines, teis, k, queue, units, control, slots, n201, n200] = words else {
         return Err(FaultKind::BadNumberOfWords);
     };
-    let k = short(k)?;
+    let first = three_numbers(lines, teis, k)?;
+    let second = three_numbers(queue, units, control)?;
+    let third = three_numbers(slots, n201, n200)?;
     Ok(Config {
-        lines: short(lines)?,
-        terminals: short(teis)?,
-        k,
-        queue: short(queue)?,
-        unit_queue: short(units)?,
-        control: short(control)?,
-        slots: short(slots)?,
-        n201: short(n201)?,
-        n200: short(n200)?,
-        k16: k,
+        lines: first.0,
+        terminals: first.1,
+        k: first.2,
+        queue: second.0,
+        unit_queue: second.1,
+        control: second.2,
+        slots: third.0,
+        n201: third.1,
+        n200: third.2,
+        k16: first.2,
         side: Side::Network,
     })
+}
+
+fn three_numbers(a: &[u8], b: &[u8], c: &[u8]) -> Result<(u16, u16, u16), FaultKind>
+    ensures { result ≡ three_numbers a.now b.now c.now }
+{
+    Ok((short(a)?, short(b)?, short(c)?))
 }

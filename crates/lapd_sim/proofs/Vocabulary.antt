@@ -1,7 +1,7 @@
 -- The words with which the proofs of this crate speak, from where they are defined.
 pub use Rattle.std.proofs.Common.{Bool, Err, List, None, Ok, OnOk, Option, Result, Some, [], ap, append_assoc, arith, cond, drop, false, fold, get_or, if◌then◌else◌, inr, length, length-append, map, nat_le, nat_lt, refl, replicate, set, subst, suc, sym, take, take_all, true, vec_len, zero, ℕ, ◌*◌, ◌++◌, ◌+◌, ◌-◌, ◌<◌, ◌^◌, ◌∙◌, ◌∷◌, ◌≡◌, ◌≢◌, ◌≤◌}
 pub use Rattle.std.proofs.Math.Numerals.{suc-eq-add-one}
-pub use Rattle.std.proofs.lemmas.Bool.{le-leb, le-ltb, lt-ltb, ltb-false, ne_eqb, true≢false}
+pub use Rattle.std.proofs.lemmas.Bool.{false≢true, le-leb, le-ltb, lt-ltb, ltb-false, ne_eqb, true≢false}
 pub use Rattle.std.proofs.lemmas.Grind.{flat_map-append, fold-append}
 pub use Rattle.std.proofs.lemmas.List.{append-nil, length-take, map-append, take-append-drop, take_at, take_more, take_more_set}
 pub use Rattle.std.proofs.lemmas.List.Elements.{All-append, All-weaker}
@@ -9,7 +9,7 @@ pub use Rattle.std.proofs.lemmas.List.Folds.{list_any_none}
 pub use Rattle.std.proofs.lemmas.Option.{none-some}
 pub use Rattle.std.specs.Io.KnownBytes.{Appends}
 pub use Rattle.std.specs.List.{flat_map}
-pub use Rattle.std.specs.Prelude.{IfErr, IfOk, IsTrue, filter, ◌||◌}
+pub use Rattle.std.specs.Prelude.{IfErr, IfOk, IsErr, IsTrue, filter, option_copied, ◌||◌}
 pub use Rattle.lapd_clock.specs.Timer.{AreInRange, Lengths, Timer, first_out_of_range}
 pub use Rattle.lapd_clock.specs.Timers.{Timers, due_at, time_until}
 pub use Rattle.lapd_clock.specs.declared.fault.LengthFault.{LengthFault}

@@ -24,7 +24,7 @@ const LAST_MOMENT: u64 = (1 << 63) - 1;
 const TEIS: u8 = 127;
 
 impl Setup {
-    ghost use Rattle.lapd_sim.specs.{Answers, Says, Stands, after_rx, at, at_expiry, downs, expiry, is_on_line, octet_in, pull, pulls, reply, request_of, teis_on, until, with_event, with_events};
+    ghost use Rattle.lapd_sim.specs.{Answers, Says, Stands, after_rx, at, at_expiry, downs, expiry, octet_in, pull, pulls, reply, request_of, teis_on, until, with_event, with_events};
 
     /// Octets come from a line of a card for octets.
     pub(crate) fn hear<T: Target>(&mut self, line: usize, octets: &[u8], page: &mut Page<T>) -> Put
@@ -115,21 +115,14 @@ impl Setup {
         ensures teis { (m : machine.Setup) → Stands self.now m → take result room.new ≡ teis_on line m.board }
     {
         let mut count = 0;
+        let frames = self.board.frames();
         for tei in 0..TEIS {
-            if self.has_tei(line, tei) {
+            if frames.state(line, Service::Call, tei).is_some() {
                 room[count] = tei;
                 count += 1;
             }
         }
         count
-    }
-
-    /// Whether a TEI is on a line.
-    fn has_tei(&self, line: usize, tei: u8) -> bool
-        ensures { (m : machine.Setup) → Stands self.now m → result ≡ is_on_line line m.board tei }
-    {
-        let state = self.board.frames().state(line, Service::Call, tei);
-        state.is_some()
     }
 
     /// The line is down: both links of its TEIs, which these are, are given up, and then what waits and is of no link.

@@ -1,5 +1,5 @@
 -- Hand-written answers for `Setup::obey`.
-use Rattle.lapd_sim.proofs.Vocabulary.{◌≡◌, sym, ap, ◌∙◌, Config, scene, Stands}
+use Rattle.lapd_sim.proofs.Vocabulary.{refl, ◌≡◌, sym, ap, ◌∙◌, Config, scene, Stands}
 use Rattle.lapd_transcript.specs.Text.{stored_text}
 use Rattle.model_card.specs.ports.Stored.{limit}
 use Rattle.lapd_sim.specs.machine.Steps.{after_stored, held}

@@ -1,7 +1,7 @@
 //! A card of either kind, and what both do alike.
 
 ghost use Rattle.std.specs.Prelude.{◌≡◌, ◌≤◌, ◌<◌, Some, None, IfErr, OnOk, OnErr};
-ghost use Rattle.lapd_card.specs.{answer_of_request, refusal, request_of, told_beside, IsClear};
+ghost use Rattle.lapd_card.specs.{answer_of_request, listed, refusal, request_of, starts, told_beside, IsClear};
 ghost use Rattle.model_card.specs.Card as machine;
 ghost use Rattle.model_card.specs.Event.{at};
 ghost use Rattle.model_line.specs.Event as line_event;
@@ -52,6 +52,8 @@ impl AnyCard {
         ensures told { (m : Machine) → AnyStands self.old m
             → told (told_beside None report.new) ≡ answer (at line (line_event.expiry timer)) m }
         ensures after { AnyLeads (at line (line_event.expiry timer)) self.old self.new }
+        // It starts one timer at most, so applying the orders of what falls due comes to an end.
+        ensures starts { starts (listed report.new.orders) ≤ 1 }
     {
         match self {
             AnyCard::Octets(card) => card.frames.expire(line, timer, report),

@@ -5,7 +5,7 @@ use Rattle.lapd_script.specs.FaultLines.{play_line}
 use Rattle.lapd_script.specs.declared.kind.FaultKind.{FaultKind}
 use Rattle.lapd_script.specs.declared.faults.PlayFault.TheVariants.{Script}
 use Rattle.lapd_page.specs.Rooms.{in_room}
-use Rattle.lapd_page.specs.declared.end.PlainEnd.{PlainEnd}
+use Rattle.lapd_page.specs.declared.play.PlainEnd.{PlainEnd}
 
 -- The exit status of `lapdsim run` for a script that is played to its end, and for one with a fault; and a number that is
 -- none of its, where memory was refused (profile).

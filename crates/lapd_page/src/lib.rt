@@ -1,7 +1,7 @@
 //! The simulator for a page in a browser: one export plays a script that lies in the page's memory, as `lapdsim run` plays
 //! one, and answers its transcript, its fault and its exit status. `tools/page` makes the page.
 //!
-//! - `play`: the export; `end`, what it ends with.
+//! - `play`: the export.
 //!
 //! # Only tested
 //!
@@ -13,5 +13,4 @@
 //! What becomes of a caller whose rooms lie over one another.
 #![tactic(auto)]
 
-mod end;
 mod play;

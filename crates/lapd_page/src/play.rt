@@ -1,13 +1,44 @@
-//! Plays a script for a page.
+//! Plays a script for a page, and tells how it ended.
 
 ghost use Rattle.std.specs.Prelude.{◌≡◌, ◌⊎◌, IfSome};
-ghost use Rattle.lapd_page.specs.Ends.{IsDone, IsFaulty, done, faulty, no_memory};
+ghost use Rattle.lapd_page.specs.Ends.{IsDone, IsFaulty, done, end_of, faulty, no_memory};
 ghost use Rattle.lapd_page.specs.Rooms.{in_room};
 ghost use Rattle.lapd_script.specs.FaultLines.{play_line};
 
-use crate::end::{DONE, FAULTY, NO_MEMORY, PlainEnd};
 use lapd_sim::{PlayFault, Text, play_octets, refuse};
 use std::alloc::Global;
+
+/// The exit status of `lapdsim run` where a script was played to its end.
+const DONE: u32 = 0;
+/// Its exit status after a fault.
+const FAULTY: u32 = 1;
+/// Memory was refused: no exit status of a script, and nothing is told.
+const NO_MEMORY: u32 = 3;
+
+/// How long the texts are, and which line is faulty.
+#[repr(C)]
+#[derive(Clone, Copy)]
+pub struct PlainEnd {
+    /// Octets of the transcript: more than its room, where it did not fit.
+    pub transcript: usize,
+    /// Octets of the fault line; 0 where there is no fault.
+    pub fault: usize,
+    /// The number of the faulty line, from 1; 0 where there is no fault.
+    pub line: u64,
+}
+
+impl PlainEnd {
+    /// The end with these texts.
+    pub fn of(transcript: &[u8], fault: &[u8], line: u64) -> PlainEnd
+        ensures { result ≡ end_of transcript.now fault.now line }
+    {
+        PlainEnd {
+            transcript: transcript.len(),
+            fault: fault.len(),
+            line,
+        }
+    }
+}
 
 /// Plays a script. Puts its transcript and its fault line into rooms of the caller's, as much of them as fits, and
 /// answers the exit status of `lapdsim run`, or that memory was refused.

@@ -45,34 +45,7 @@ record IsPiece (lines : ScriptLines) (source : Option (List ℕ)) (text : List �
 
 take_piece : (old mid new : ScriptLines) (result : Result Bool PlayFault) (source : Option (List ℕ)) (text : List ℕ) (end next : ℕ) → mid.octets ≡ old.octets → mid.number ≡ old.number
     → end ≤ mid.start + 4096 → IsPiece mid source text end next → Takes result mid new end next → Advances result old new source text
-take_piece old mid new (Ok true) source text end next octets number short is taken = record {
-  piece = is.piece;
-  more = drop next (take mid.filled mid.buffer.items) ++ is.rest;
-  pieces = is.pieces taken.some;
-  left = record {
-    rest = is.rest;
-    tells = is.tells;
-    is = ap (λ (list : List ℕ). list ++ is.rest) (sym taken.after);
-    ended = λ at_end. is.ended (sym taken.at_end ∙ at_end);
-  };
-  line = taken.line ∙ sym is.line;
-  short = rw is.line (omega (arith, is.short));
-  number = omega (arith, taken.number);
-  octets = omega (arith, taken.octets, is.size);
-  whole = λ goes_on. is.whole (sym taken.at_end ∙ goes_on);
-}
-take_piece old mid new (Ok false) source text end next octets number short is taken = ((is.none taken).0, is.tells ∙ ap (λ (list : List ℕ). Some list) (is.none taken).1)
-take_piece old mid new (Err fault) source text end next octets number short is taken =
-    subst (λ (told : PlayFault). Advances (Err told) old new source text) (sym taken.0) (
-      refl,
-      record {
-        piece = is.piece;
-        more = drop next (take mid.filled mid.buffer.items) ++ is.rest;
-        pieces = is.pieces (omega (arith, taken.1, mid.bounded));
-        long = λ _. omega (arith, taken.1, is.size);
-        number = omega arith;
-      },
-    )
+take_piece old mid new result source text end next octets number short is taken = grind arith
 
 -- It ends with a line feed.
 found : (lines : ScriptLines) (source : Option (List ℕ)) (text : List ℕ) (end : ℕ) → lines.next ≡ lines.start → lines.start ≤ end → end < lines.filled
@@ -110,9 +83,7 @@ ready_of _ old new source text h = h
 
 -- There is one then.
 pub ready_is : (mid new : ScriptLines) (result : Result Bool PlayFault) (end : ℕ) → mid.start ≤ end → Takes result mid new end (end + 1) → IfOk result (λ more. more ≡ false → ⊥)
-ready_is mid new (Ok true) end after taken = λ none. true≢false none
-ready_is mid new (Ok false) end after taken = λ none. absurd (omega (arith, taken, after))
-ready_is mid new (Err fault) end after taken = tt
+ready_is mid new result end after taken = grind (arith, true≢false)
 
 -- It is the last, which has none.
 last : (lines : ScriptLines) (source : Option (List ℕ)) (text : List ℕ) → lines.next ≡ lines.start → lines.is_at_end ≡ true
@@ -146,17 +117,7 @@ advances_last old mid new result source text begins octets number at_end short h
 -- A line without a line feed in the whole buffer is too long,
 told_overlong : (old mid new : ScriptLines) (fault : PlayFault) (source : Option (List ℕ)) (text : List ℕ) → mid.number ≡ old.number → HasPiece text 4097 → fault ≡ too_long_after mid
     → Advances (Err fault) old new source text
-told_overlong old mid new fault source text number first is =
-    subst (λ (told : PlayFault). Advances (Err told) old new source text) (sym is) (
-      refl,
-      record {
-        piece = first.piece;
-        more = first.more;
-        pieces = first.pieces;
-        long = λ short. absurd (omega (arith, short, first.long));
-        number = omega arith;
-      },
-    )
+told_overlong old mid new fault source text number first is = grind arith
 
 pub advances_overlong : (old mid new : ScriptLines) (fault : PlayFault) (source : Option (List ℕ)) (text : List ℕ) → mid.next ≡ mid.start → mid.number ≡ old.number
     → mid.filled - mid.start ≡ 4097 → AllWithin (λ octet. octet ≢ 10) mid.buffer.items mid.start mid.filled → AreLeft mid source text → fault ≡ too_long_after mid
@@ -174,13 +135,4 @@ advances_overlong old mid new fault source text begins number full h left is =
 pub advances_cut : (old mid new : ScriptLines) (fault : PlayFault) (source : Option (List ℕ)) (text : List ℕ) → mid.next ≡ mid.start
     → AllWithin (λ octet. octet ≢ 10) mid.buffer.items mid.start mid.filled → held new ≡ held mid → AreLeft new source text → fault ≡ Read → old.is_at_end ≡ false
     → Advances (Err fault) old new source text
-advances_cut old mid new fault source text begins h same left is goes_on =
-    let open_is : IsOpen (drop mid.start (take mid.filled mid.buffer.items)) = open_part mid.buffer.items mid.start mid.filled (omega (arith, mid.buffer.ok.0)) h in
-    subst (λ (told : PlayFault). Advances (Err told) old new source text) (sym is) (record {
-      begun = held new;
-      rest = left.rest;
-      is = left.is;
-      tells = left.tells;
-      open_is = subst IsOpen (sym (same ∙ sought mid begins)) open_is;
-      goes_on = goes_on;
-    })
+advances_cut old mid new fault source text begins h same left is goes_on = grind (arith, IsOpen, open_part, sought)

@@ -5,14 +5,7 @@ use Rattle.std.proofs.Common.{◌||◌}
 -- ---- two ways to tell a hexadecimal digit
 
 in_any : (x y z : Bool) (a b c : ℕ) → ((z || x) || y) ≡ is_some (if x then Some a else if y then Some b else if z then Some c else None)
-in_any true true true a b c = refl
-in_any true true false a b c = refl
-in_any true false true a b c = refl
-in_any true false false a b c = refl
-in_any false true true a b c = refl
-in_any false true false a b c = refl
-in_any false false true a b c = refl
-in_any false false false a b c = refl
+in_any x y z a b c = grind arith
 
 same_digits : (c : ℕ) → is_ascii_hexdigit c ≡ is_hex_digit c
 same_digits c = in_any (is_in_range 65 70 c) (is_in_range 97 102 c) (is_in_range 48 57 c) _ _ _
@@ -42,11 +35,7 @@ long_digits digits long even h =
 
 -- and other words are none: what is none is not such a number of digits
 refused : (digits : List ℕ) → 2 * 1028 < length digits → ((bytes : List ℕ) → decode_of digits ≡ Ok bytes → ⊥) → octets digits ≡ Err BadOctets
-refused digits long none = decoded digits long ∙ go (decode_of digits) refl
-  where
-    go : (r : Result (List ℕ) FromHexError) → decode_of digits ≡ r → or_bad r ≡ Err BadOctets
-    go (Err why) e = refl
-    go (Ok bytes) e = absurd (none bytes e)
+refused digits long none = grind (arith, decoded)
 
 pub long_others : (digits : List ℕ) → 2 * 1028 < length digits → list_all is_ascii_hexdigit digits ≡ false → octets digits ≡ Err BadOctets
 long_others digits long others =

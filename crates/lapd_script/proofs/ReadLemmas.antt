@@ -23,10 +23,7 @@ nine_given _ n = absurd (omega (arith, n))
 pub nine_grouped : (words : List (Bor (List ℕ))) (ra rb rc : Result (ℕ × ℕ × ℕ) FaultKind) → length words ≡ 9
     → ra ≡ three_numbers (at words 0) (at words 1) (at words 2) → rb ≡ three_numbers (at words 3) (at words 4) (at words 5) → rc ≡ three_numbers (at words 6) (at words 7) (at words 8)
     → grouped ra rb rc ≡ nine_numbers (texts words)
-nine_grouped words ra rb rc n ea eb ec =
-    ap (λ r. grouped r rb rc) ea ∙ ap (λ r. grouped (three_numbers (at words 0) (at words 1) (at words 2)) r rc) eb
-    ∙ ap (λ r. grouped (three_numbers (at words 0) (at words 1) (at words 2)) (three_numbers (at words 3) (at words 4) (at words 5)) r) ec
-    ∙ sym (nine_given words n)
+nine_grouped words ra rb rc n ea eb ec = grind (arith, nine_given)
 
 -- ten words: the last is a tenth number, or says that the card is the user's side;
 pub with_tenth : (words : List (Bor (List ℕ))) → length words ≡ 10
@@ -65,17 +62,7 @@ first_word (name ∷ more) = name
 
 -- where the first thirteen words are these, they say what all the words say
 pub read_taken : (all : List (List ℕ)) (name : List ℕ) (words : List (List ℕ)) (word : Option Word) → name ∷ words ≡ take 13 all → word ≡ word_named name → read_after word words ≡ read_words all
-read_taken [] name words word e w = cc
-read_taken (first ∷ more) name words word e w =
-    let same : name ≡ first = ap first_word e in
-    let rest : words ≡ take 12 more = ap (λ list. drop 1 list) e in
-    ap (λ list. read_after word list) rest
-    ∙ ap (λ one. read_after one (take 12 more)) (w ∙ ap word_named same)
-    ∙ by_word (word_named first) more
-  where
-    by_word : (one : Option Word) (list : List (List ℕ)) → read_after one (take 12 list) ≡ read_after one list
-    by_word None list = refl
-    by_word (Some it) list = taken_words it list
+read_taken all name words word e w = grind (arith, taken_words)
 
 -- the exit of a `?`
 pub err_is : {A : Type 0} (r : Result A FaultKind) (kind : FaultKind) → IsErr r × IsErrAnd r (λ why. why ≡ kind) → r ≡ Err kind

@@ -25,19 +25,10 @@ none_before : (n : ℕ) (octets : List ℕ) → cond (ltb n (length octets)) (So
 none_before n octets e = grind (arith, common_steps)
 
 pub no_line_feed : (low high : ℕ) (octets : List ℕ) → low ≤ high → high ≤ length octets → None ≡ position is_line_feed (part low high octets) → AllWithin (λ octet. octet ≢ 10) octets low high
-no_line_feed low high octets after within none = λ place d from before.
-    let past : length (part low high octets) ≤ position_or_len is_line_feed (part low high octets) = none_before _ (part low high octets) (sym none) in
-    let fails : eqb (get_or (part low high octets) (place - low) d) 10 ≡ false =
-    fails_before_first is_line_feed (part low high octets) (place - low) d (omega (arith, length-part low high octets after within, past)) in
-    eqb-false (get_or octets place d) 10 (ap (λ (octet : ℕ). eqb octet 10) (sym (at_place low high place octets d from before)) ∙ fails)
+no_line_feed low high octets after within none = grind (arith, none_before, fails_before_first, length-part, eqb-false, at_place)
 
 pub line_feed_at : (low high place : ℕ) (octets : List ℕ) → low ≤ high → high ≤ length octets → Some place ≡ position is_line_feed (part low high octets) → HoldsAt (λ octet. octet ≡ 10) octets (low + place)
-line_feed_at low high place octets after within some = λ d.
-    let first = position-Some is_line_feed (part low high octets) place d (sym some) in
-    let short : place < high - low = omega (arith, first.0, length-part low high octets after within) in
-    let same : get_or (part low high octets) place d ≡ get_or octets (low + place) d =
-    get_or-take (high - low) (drop low octets) place d short ∙ get_or-drop low octets place d in
-    is_ten (get_or octets (low + place) d) (ap (λ (octet : ℕ). eqb octet 10) (sym same) ∙ first.1)
+line_feed_at low high place octets after within some = grind (arith, position-Some, length-part, get_or-take, get_or-drop, is_ten)
 
 pub line_feed_first : (low high place : ℕ) (octets : List ℕ) → low ≤ high → high ≤ length octets → Some place ≡ position is_line_feed (part low high octets) → AllWithin (λ octet. octet ≢ 10) octets low (low + place)
 line_feed_first low high place octets after within some = λ k d from before.
@@ -81,9 +72,7 @@ pub filled_held : {Z : Type 0} (moved : Vec ℕ Z) (lines : ScriptLines) (whole 
     → whole ≡ moved.items → moved.items ≡ copy_within lines.buffer.items lines.start lines.filled 0 → length whole ≡ moved.len → length read ≡ length (take (length whole - (lines.filled - lines.start)) (drop (lines.filled - lines.start) whole))
     → count ≤ length read → total ≡ lines.filled - lines.start + count
     → take total (with_items moved (put_mid (lines.filled - lines.start) (length whole - (lines.filled - lines.start)) whole read)).items ≡ held lines ++ take count read
-filled_held moved lines whole read count total begins same is long fits short counts =
-    filled_more moved lines.buffer.items whole read lines.start lines.filled count total (omega arith) (omega (arith, lines.buffer.ok.0)) (same ∙ is) long fits short counts
-    ∙ ap (λ (n : ℕ). drop n (take lines.filled lines.buffer.items) ++ take count read) (sym begins)
+filled_held moved lines whole read count total begins same is long o short counts = grind (arith, filled_more)
 
 pub length-held : (lines : ScriptLines) → length (held lines) ≡ lines.filled - lines.next
 length-held lines = simp (length-drop, length-take) (omega (arith, lines.buffer.ok.0))
@@ -94,32 +83,17 @@ held_first lines octets got begins is = ap (take (lines.filled - lines.start)) i
 -- The text that is left stays the same.
 pub left_kept : (old new : ScriptLines) (before now : Option (List ℕ)) (got text : List ℕ) → AreLeft old before text → held new ≡ held old ++ got → Consumes before now got
     → (new.is_at_end ≡ true → IsAtEnd now) → AreLeft new now text
-left_kept old new before None got text left moved takes ends = absurd (subst (λ (known : Option (List ℕ)). Consumes known None got) left.tells takes)
-left_kept old new before (Some rest) got text left moved takes ends = record {
-  rest = rest;
-  tells = refl;
-  is = left.is ∙ ap (λ (more : List ℕ). held old ++ more) (subst (λ (known : Option (List ℕ)). Consumes known (Some rest) got) left.tells takes)
-      ∙ sym (append_assoc (held old) got rest) ∙ ap (λ (more : List ℕ). more ++ rest) (sym moved);
-  ended = ends;
-}
+left_kept old new before now got text left moved takes ends = grind (arith, append_assoc)
 
 pub keeps_none : (before now : Option (List ℕ)) → Keeps before now → Consumes before now []
-keeps_none None now kept = tt
-keeps_none (Some rest) None kept = absurd kept
-keeps_none (Some rest) (Some same) kept = sym kept
+keeps_none before now kept = grind arith
 
 -- no octet of a part is a line feed
 pub open_part : (octets : List ℕ) (low high : ℕ) → high ≤ length octets → AllWithin (λ octet. octet ≢ 10) octets low high → IsOpen (drop low (take high octets))
-open_part octets low high within h = λ k d inside.
-    let size : length (drop low (take high octets)) ≡ high - low = simp (length-drop, length-take) (omega arith) in
-    let same : get_or (drop low (take high octets)) k d ≡ get_or octets (low + k) d =
-    get_or-drop low (take high octets) k d ∙ get_or-take high octets (low + k) d (omega (arith, inside, size)) in
-    subst (λ (octet : ℕ). octet ≢ 10) (sym same) (h (low + k) d (omega arith) (omega (arith, inside, size)))
+open_part octets low high within h = grind (arith, length-drop, length-take, get_or-drop, get_or-take)
 
 within_front : (octets : List ℕ) (high : ℕ) → high ≤ length octets → IsOpen (take high octets) → AllWithin (λ octet. octet ≢ 10) octets 0 high
-within_front octets high within h = λ k d from before.
-    let size : length (take high octets) ≡ high = simp length-take (omega arith) in
-    subst (λ (octet : ℕ). octet ≢ 10) (get_or-take high octets k d before) (h k d (omega (arith, before, size)))
+within_front octets high within h = grind (arith, length-take, get_or-take)
 
 -- what had been read has no line feed, and stands at the front
 pub open_front : (old new : ScriptLines) (begun : ℕ) → old.next ≡ old.start → new.start ≡ 0 → new.next ≡ 0 → begun ≤ new.filled → AllWithin (λ octet. octet ≢ 10) old.buffer.items old.start old.filled

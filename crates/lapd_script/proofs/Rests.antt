@@ -19,12 +19,8 @@ Within n word = length word.now ≤ n
 
 pub second_kept : (words : List (Bor (List ℕ))) (first second : Bor (List ℕ)) (n : ℕ) (old new : List ℕ) → words ≡ first ∷ second ∷ [] → All (λ word. length word.now ≤ n) words
     → drop (length second.now / 2) new ≡ drop (length second.now / 2) old → drop (n / 2) new ≡ drop (n / 2) old
-second_kept words first second n old new is all same =
-    let here : All (Within n) (first ∷ second ∷ []) = subst (λ l. All (Within n) l) is all in
-    kept second.now n old new (All-head (Within n) second [] (All-tail (Within n) first (second ∷ []) here)) same
+second_kept words first second n old new is all same = grind (arith, kept)
 
 pub third_kept : (words : List (Bor (List ℕ))) (first second third : Bor (List ℕ)) (n : ℕ) (old new : List ℕ) → words ≡ first ∷ second ∷ third ∷ [] → All (λ word. length word.now ≤ n) words
     → drop (length third.now / 2) new ≡ drop (length third.now / 2) old → drop (n / 2) new ≡ drop (n / 2) old
-third_kept words first second third n old new is all same =
-    let here : All (Within n) (first ∷ second ∷ third ∷ []) = subst (λ l. All (Within n) l) is all in
-    kept third.now n old new (All-head (Within n) third [] (All-tail (Within n) second (third ∷ []) (All-tail (Within n) first (second ∷ third ∷ []) here))) same
+third_kept words first second third n old new is all same = grind (arith, kept)

@@ -9,12 +9,7 @@ exit_is (Err why) fault h = ap (λ one. Err one) h.1
 
 -- nothing has been written
 pub unshown : (r : Result Unit FrameFault) (fault : FrameFault) (side : Side) (digits : List ℕ) (a : Taken) → r ≡ Err fault → IsUnshown fault side digits → ShowsFrame r side digits a a
-unshown r fault side digits a e h = subst (λ s. ShowsFrame s side digits a a) (sym e) (go fault h)
-  where
-    go : (f : FrameFault) → IsUnshown f side digits → ShowsFrame (Err f) side digits a a
-    go Write h = absurd h
-    go OutOfMemory h = absurd h
-    go _ h = (h, refl)
+unshown r fault side digits a e h = grind arith
 
 pub length-take_most : (n : ℕ) (l : List ℕ) → length (take n l) ≤ n
 length-take_most zero l = omega arith
@@ -23,14 +18,7 @@ length-take_most (suc n) (x ∷ l) = omega (arith, length-take_most n l)
 
 pub shown_is : (side : Side) (digits room line : List ℕ) (count : ℕ) (frame : Parts) → octets digits ≡ Ok (take count room) → count ≤ 1028 → Spells side frame (take count room) → line ≡ on_line (take count room)
     → IsShown side digits (shown_text frame ++ on_line_text line)
-shown_is side digits room line count frame digits_are short spelled e = record {
-  sent = take count room;
-  frame = frame;
-  digits_are = digits_are;
-  short = omega (arith, length-take_most count room, short);
-  spelled = spelled;
-  text_is = ap (λ l. shown_text frame ++ on_line_text l) e;
-}
+shown_is side digits room line count frame digits_are short spelled e = grind (arith, length-take_most)
 
 -- memory was refused
 pub without_memory : (r : Result Unit FrameFault) (side : Side) (digits text : List ℕ) (a : Taken) → r ≡ Err OutOfMemory → IsShown side digits text → ShowsFrame r side digits a a

@@ -6,12 +6,7 @@ is_space octet = eqb octet 32
 
 -- the first word ends at the first space,
 pub words_split : (rest : List ℕ) (end : ℕ) → Some end ≡ position is_space rest → words_of rest ≡ take end rest ∷ words_of (take (length rest - (end + 1)) (drop (end + 1) rest))
-words_split rest end e =
-    let whole : take (length rest - (end + 1)) (drop (end + 1) rest) ≡ drop (end + 1) rest = take_all _ _ (rw length-drop (omega arith)) in
-    let h : (end < length rest) × (is_space (Rattle.std.proofs.Common.get_or rest end 0) ≡ true) × ((k : ℕ) → k < end → is_space (Rattle.std.proofs.Common.get_or rest k 0) ≡ false) = position-Some is_space rest end 0 (sym e) in
-    let here : position_or_len is_space rest ≡ end = position_or_len_is is_space rest end 0 (omega (arith, h.0)) h.2 (λ _. h.1) in
-    let before : position_or_len is_space rest < length rest = rw here h.0 in
-    rw whole (subst (λ (n : ℕ). words_of rest ≡ take n rest ∷ words_of (drop (n + 1) rest)) here (slice_split_first is_space rest 0 before))
+words_split rest end e = grind (arith, take_all, length-drop, position-Some, position_or_len_is, slice_split_first)
 
 none_before : (n : ℕ) (rest : List ℕ) → cond (ltb n (length rest)) (Some n) None ≡ None → length rest ≤ n
 none_before n rest e = grind (arith, common_steps)

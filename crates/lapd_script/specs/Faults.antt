@@ -11,16 +11,12 @@ use Rattle.lapd_script.specs.declared.faults.LineFault.TheVariants as line
 -- a source's count after a fault, from the count before
 abbrev pub reads_failed : PlayFault → ℕ → ℕ
 reads_failed Read count = one_failure_more count
-reads_failed Write count = count
-reads_failed (Script _ _) count = count
-reads_failed OutOfMemory count = count
+reads_failed _ count = count
 
 -- a target's count after a fault, from the count before
 abbrev pub writes_failed : PlayFault → ℕ → ℕ
-writes_failed Read count = count
 writes_failed Write count = one_failure_more count
-writes_failed (Script _ _) count = count
-writes_failed OutOfMemory count = count
+writes_failed _ count = count
 
 -- the fault of a script whose line of this number was stopped
 abbrev pub fault_at : LineFault → ℕ → PlayFault
@@ -30,9 +26,8 @@ fault_at line.OutOfMemory number = OutOfMemory
 
 -- a target's count after what stopped a line, from the count before
 abbrev pub line_writes_failed : LineFault → ℕ → ℕ
-line_writes_failed (line.Faulty _) count = count
 line_writes_failed line.Write count = one_failure_more count
-line_writes_failed line.OutOfMemory count = count
+line_writes_failed _ count = count
 
 -- a source's and a target's count after a script was played
 abbrev pub reads_failed_by : {A : Type 0} → Result A PlayFault → ℕ → ℕ

@@ -60,16 +60,9 @@ meant_by buffer (Err kind) = Err kind
 -- How many octets a command counts is no more than the buffer has; and as many octets are pulled and milliseconds pass
 -- in one line as a script may say.
 abbrev pub IsCounted : ℕ → Command → Type 0
-IsCounted room Skip = Unit {0}
-IsCounted room (Card kind numbers) = Unit {0}
 IsCounted room (Rx line count) = count ≤ room
 IsCounted room (In line count) = count ≤ room
-IsCounted room (Failed line fault) = Unit {0}
-IsCounted room (Next line) = Unit {0}
-IsCounted room (Down line) = Unit {0}
 IsCounted room (Pull line count) = count ≤ 4096
 IsCounted room (Wait milliseconds) = milliseconds ≤ 3600000
-IsCounted room (Timers t200 t203 t201) = Unit {0}
-IsCounted room Stored = Unit {0}
-IsCounted room (Counters line group) = Unit {0}
 IsCounted room (Ask line tei what count) = count ≤ room
+IsCounted room _ = Unit {0}

@@ -4,7 +4,7 @@ use Rattle.std.specs.List.{list_any}
 use Rattle.lapd_script.specs.declared.kind.FaultKind.TheVariants.{TooLong}
 use Rattle.lapd_script.specs.Pieces.{pieces_of, line_in}
 use Rattle.lapd_script.specs.declared.faults.PlayFault.{PlayFault}
-use Rattle.lapd_script.specs.declared.faults.PlayFault.TheVariants.{Read, Write, Script, OutOfMemory}
+use Rattle.lapd_script.specs.declared.faults.PlayFault.TheVariants.{Read, Script}
 use Rattle.lapd_script.specs.declared.lines.ScriptLines.{ScriptLines}
 
 -- at most how many octets can still be read before a line ends or is too long; one more where the end may come
@@ -78,11 +78,9 @@ Advances (Ok true) old new remaining text = IsNext old new remaining text
 Advances (Ok false) old new remaining text = (text ≡ []) × (remaining ≡ Some [])
 Advances (Err Read) old new remaining text = IsCut old remaining text
 Advances (Err (Script number kind)) old new remaining text = (kind ≡ TooLong) × IsTooLong old number text
-Advances (Err Write) old new remaining text = ⊥
-Advances (Err OutOfMemory) old new remaining text = ⊥
+Advances (Err _) old new remaining text = ⊥
 
 -- The next line, where its line feed has come, or why there is none.
 abbrev pub IsReady : Result Bool PlayFault → ScriptLines → ScriptLines → Option (List ℕ) → List ℕ → Type 0
-IsReady (Ok true) old new remaining text = Advances (Ok true) old new remaining text
 IsReady (Ok false) old new remaining text = Unit
-IsReady (Err fault) old new remaining text = Advances (Err fault) old new remaining text
+IsReady result old new remaining text = Advances result old new remaining text

@@ -1,7 +1,6 @@
 -- What a `frame` job writes: what the frame of its digits says, and what that frame is on a line.
-use Rattle.std.specs.Prelude.{◌≡◌, ℕ, ◌<◌, ◌≤◌, Bool, if◌then◌else◌, List, ◌++◌, length, Result, Ok, Err}
+use Rattle.std.specs.Prelude.{◌≡◌, ℕ, ◌<◌, ◌≤◌, List, ◌++◌, length, Result, Ok, Err}
 use Rattle.lapd_frame.specs.declared.addresses.Side.{Side}
-use Rattle.lapd_frame.specs.declared.addresses.Side.TheVariants.{User, Network}
 use Rattle.lapd_frame.specs.Faults.{IsFault}
 use Rattle.lapd_frame.specs.Grammar.{Parts, Spells}
 use Rattle.lapd_script.specs.declared.kind.FaultKind.TheVariants as kind
@@ -11,10 +10,6 @@ use Rattle.lapd_transcript.specs.Shown.{shown_text, on_line_text}
 use Rattle.lapd_transcript.specs.Streams.{Taken, IsWritten, IsBroken}
 use Rattle.lapd_script.specs.declared.shown.FrameFault.{FrameFault}
 use Rattle.lapd_script.specs.declared.shown.FrameFault.TheVariants.{BadOctets, TooLong, NoFrame, Write, OutOfMemory}
-
--- Who sent the frame: the network with `--network`, else the user.
-abbrev pub side_of : Bool → Side
-side_of network = if network then Network else User
 
 -- The digits are octets that spell a frame of this side, and this is its text,
 pub record IsShown (side : Side) (digits text : List ℕ) : Type 0 where
@@ -30,17 +25,14 @@ abbrev pub IsUnshown : FrameFault → Side → List ℕ → Type 0
 IsUnshown BadOctets side digits = octets digits ≡ Err kind.BadOctets
 IsUnshown TooLong side digits = (sent : List ℕ) × (octets digits ≡ Ok sent) × (1028 < length sent)
 IsUnshown (NoFrame fault) side digits = (sent : List ℕ) × (octets digits ≡ Ok sent) × (length sent ≤ 1028) × IsFault side sent fault
-IsUnshown Write side digits = ⊥
-IsUnshown OutOfMemory side digits = ⊥
+IsUnshown _ side digits = ⊥
 
 -- What has been written of it.
 abbrev pub ShowsFrame : Result Unit FrameFault → Side → List ℕ → Taken → Taken → Type 0
 ShowsFrame (Ok _) side digits old new = (text : List ℕ) × IsShown side digits text × IsWritten old new text
 ShowsFrame (Err Write) side digits old new = (text : List ℕ) × IsShown side digits text × IsBroken old new text
 ShowsFrame (Err OutOfMemory) side digits old new = (text : List ℕ) × IsShown side digits text × (new ≡ old)
-ShowsFrame (Err BadOctets) side digits old new = IsUnshown BadOctets side digits × (new ≡ old)
-ShowsFrame (Err TooLong) side digits old new = IsUnshown TooLong side digits × (new ≡ old)
-ShowsFrame (Err (NoFrame fault)) side digits old new = IsUnshown (NoFrame fault) side digits × (new ≡ old)
+ShowsFrame (Err fault) side digits old new = IsUnshown fault side digits × (new ≡ old)
 
 -- With which status (profile): 0, it has been written; 1, there was a fault.
 abbrev pub frame_status : Result Unit FrameFault → ℕ

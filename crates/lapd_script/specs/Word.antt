@@ -49,13 +49,6 @@ word_named name =
 
 -- whether octets follow the TEI
 abbrev pub carries_octets : Asked → Bool
-carries_octets Assign = false
-carries_octets Remove = false
-carries_octets Check = false
-carries_octets (Establish service) = false
-carries_octets (Release service) = false
-carries_octets (SetBusy service) = false
-carries_octets (ClearBusy service) = false
-carries_octets (Deactivate service) = false
 carries_octets (Data service) = true
 carries_octets (Unit service) = true
+carries_octets _ = false

@@ -19,19 +19,13 @@ no_words [] = Ok tt
 no_words (a ∷ more) = Err BadNumberOfWords
 
 abbrev pub one_word : List (List ℕ) → Result (List ℕ) FaultKind
-one_word [] = Err BadNumberOfWords
 one_word (a ∷ []) = Ok a
-one_word (a ∷ b ∷ more) = Err BadNumberOfWords
+one_word _ = Err BadNumberOfWords
 
 abbrev pub two_words : List (List ℕ) → Result (List ℕ × List ℕ) FaultKind
-two_words [] = Err BadNumberOfWords
-two_words (a ∷ []) = Err BadNumberOfWords
 two_words (a ∷ b ∷ []) = Ok (a, b)
-two_words (a ∷ b ∷ c ∷ more) = Err BadNumberOfWords
+two_words _ = Err BadNumberOfWords
 
 abbrev pub three_words : List (List ℕ) → Result (List ℕ × List ℕ × List ℕ) FaultKind
-three_words [] = Err BadNumberOfWords
-three_words (a ∷ []) = Err BadNumberOfWords
-three_words (a ∷ b ∷ []) = Err BadNumberOfWords
 three_words (a ∷ b ∷ c ∷ []) = Ok (a, b, c)
-three_words (a ∷ b ∷ c ∷ d ∷ more) = Err BadNumberOfWords
+three_words _ = Err BadNumberOfWords

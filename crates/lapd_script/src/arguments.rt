@@ -5,6 +5,7 @@ ghost use Rattle.lapd_script.specs.{job, seen, limits_of, job_or_none, texts};
 
 use crate::jobs::{Job, Limits};
 use crate::values::number;
+use lapd_frame::Side;
 
 /// What these words ask for, and `None` where they ask for nothing that there is.
 pub fn job<'a>(words: &[&'a str]) -> Option<Job<'a>>
@@ -14,11 +15,11 @@ pub fn job<'a>(words: &[&'a str]) -> Option<Job<'a>>
         [name] => (*name == "run").then_some(Job::Run),
         [name, hex] => (*name == "frame").then_some(Job::Frame {
             hex: *hex,
-            network: false,
+            side: Side::User,
         }),
         [name, hex, flag] => (*name == "frame" && *flag == "--network").then_some(Job::Frame {
             hex: *hex,
-            network: true,
+            side: Side::Network,
         }),
         [name, lines, terminals, control, slots, n201] => {
             if *name == "limits" {
@@ -40,16 +41,11 @@ fn limits<'a>(
 ) -> Option<Job<'a>>
     ensures { seen result ≡ job_or_none (limits_of lines.now terminals.now control.now slots.now n201.now) }
 {
-    let lines = number(1, 64, lines.as_bytes()).ok()?;
-    let terminals = number(1, 8, terminals.as_bytes()).ok()?;
-    let control = number(2, 16, control.as_bytes()).ok()?;
-    let slots = number(1, 8192, slots.as_bytes()).ok()?;
-    let n201 = number(8, 260, n201.as_bytes()).ok()?;
     Some(Job::Limits(Limits {
-        lines,
-        terminals,
-        control,
-        slots,
-        n201,
+        lines: number(1, 64, lines.as_bytes()).ok()?,
+        terminals: number(1, 8, terminals.as_bytes()).ok()?,
+        control: number(2, 16, control.as_bytes()).ok()?,
+        slots: number(1, 8192, slots.as_bytes()).ok()?,
+        n201: number(8, 260, n201.as_bytes()).ok()?,
     }))
 }

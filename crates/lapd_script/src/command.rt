@@ -63,22 +63,16 @@ pub enum Command {
         fault: Fault,
     },
     /// `next LINE`: the line takes the next frame.
-    Next {
-        line: u16,
-    },
+    Next(u16),
     /// `down LINE`: the line is down, so its links are given up, and all that waits on it.
-    Down {
-        line: u16,
-    },
+    Down(u16),
     /// `pull LINE N`: the line takes 1 to 4,096 octets.
     Pull {
         line: u16,
         count: u32,
     },
     /// `wait MS`: so many milliseconds pass, at most 3,600,000.
-    Wait {
-        milliseconds: u32,
-    },
+    Wait(u32),
     /// `timers T200 T203 T201`: from now on timers that are started run so many milliseconds, 1 to 3,600,000 each.
     Timers {
         t200: u32,

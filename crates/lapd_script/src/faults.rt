@@ -6,7 +6,6 @@ ghost use Rattle.lapd_script.specs.declared.faults.LineFault.TheVariants as line
 ghost use Rattle.lapd_script.specs.declared.faults.PlayFault.TheVariants as play;
 
 use crate::kind::FaultKind;
-use lapd_transcript::WriteFailed;
 use std::alloc::AllocError;
 use thiserror::Error;
 
@@ -66,14 +65,6 @@ impl From<FaultKind> for LineFault {
 
     fn from(kind: FaultKind) -> LineFault {
         LineFault::Faulty(kind)
-    }
-}
-
-impl From<WriteFailed> for LineFault {
-    ghost from_gives = { λ _ fault. fault ≡ line.Write };
-
-    fn from(_error: WriteFailed) -> LineFault {
-        LineFault::Write
     }
 }
 

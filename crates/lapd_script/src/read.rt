@@ -68,19 +68,10 @@ fn read_as(word: Word, words: &[&[u8]], room: &mut [u8]) -> Result<Command, Faul
             Ok(Command::In { line, octets })
         }
         Word::Failed => failed(words),
-        Word::Next => {
-            let line = short(one(words)?)?;
-            Ok(Command::Next { line })
-        }
-        Word::Down => {
-            let line = short(one(words)?)?;
-            Ok(Command::Down { line })
-        }
+        Word::Next => Ok(Command::Next(short(one(words)?)?)),
+        Word::Down => Ok(Command::Down(short(one(words)?)?)),
         Word::Pull => pull(words),
-        Word::Wait => {
-            let milliseconds = number(0, 3_600_000, one(words)?)?;
-            Ok(Command::Wait { milliseconds })
-        }
+        Word::Wait => Ok(Command::Wait(number(0, 3_600_000, one(words)?)?)),
         Word::Timers => {
             let (t200, t203, t201) = lengths(words)?;
             Ok(Command::Timers { t200, t203, t201 })
@@ -198,13 +189,9 @@ fn is_user(word: &[u8]) -> bool
 fn for_user(numbers: Result<Config, FaultKind>) -> Result<Config, FaultKind>
     ensures { result ≡ for_user numbers }
 {
-    match numbers {
-        Ok(numbers) => Ok(Config {
-            side: Side::User,
-            ..numbers
-        }),
-        Err(kind) => Err(kind),
-    }
+    let mut numbers = numbers?;
+    numbers.side = Side::User;
+    Ok(numbers)
 }
 
 /// Nine numbers, and the window of packet links.
@@ -220,22 +207,11 @@ fn ten_numbers(nine: &[&[u8]], k16: &[u8]) -> Result<Config, FaultKind>
 fn nine_numbers(words: &[&[u8]]) -> Result<Config, FaultKind>
     ensures read { result ≡ nine_numbers (texts words.now) }
 {
-    let [
-        lines,
-        terminals,
-        k,
-        queue,
-        unit_queue,
-        control,
-        slots,
-        n201,
-        n200,
-    ] = words
-    else {
+    let [lines, teis, k, queue, units, control, slots, n201, n200] = words else {
         return Err(FaultKind::BadNumberOfWords);
     };
-    let first = three_numbers(lines, terminals, k)?;
-    let second = three_numbers(queue, unit_queue, control)?;
+    let first = three_numbers(lines, teis, k)?;
+    let second = three_numbers(queue, units, control)?;
     let third = three_numbers(slots, n201, n200)?;
     Ok(Config {
         lines: first.0,
@@ -255,8 +231,5 @@ fn nine_numbers(words: &[&[u8]]) -> Result<Config, FaultKind>
 fn three_numbers(a: &[u8], b: &[u8], c: &[u8]) -> Result<(u16, u16, u16), FaultKind>
     ensures { result ≡ three_numbers a.now b.now c.now }
 {
-    let a = short(a)?;
-    let b = short(b)?;
-    let c = short(c)?;
-    Ok((a, b, c))
+    Ok((short(a)?, short(b)?, short(c)?))
 }

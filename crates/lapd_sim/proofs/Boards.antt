@@ -1,6 +1,8 @@
 -- What happens on a card of either kind.
-use Rattle.lapd_sim.proofs.Vocabulary.{◌≡◌, ◌+◌, ◌<◌, ◌≤◌, ℕ, Some, refl, sym, ap, ◌∙◌, subst, arith, ∥∥₁_map, Store, Config, ranges_of, Reply, Event, What, at, of_octets, of_frames, reply, after, card_after, meant_by, reply_in, reply_of_octets, reply_of_frames, told, Setup, Scene, happened, ordered, fold, orders_in, reply_text, with_event, Output, IsPut, IsStuck, Puts, Octets, Frames, HasPast, shelf_of, kind_of, config_of, counters_of, OnBoard, Leads, [], Exchange, scene, Tells, Holds, AnyCard, AnyLeads, AnyStands, CardStands, FrameCardStands, Machine, alone, with_ports, card_in, frames_of, expiry, request, List, Result, Ok, Err}
+use Rattle.lapd_sim.proofs.Vocabulary.{◌≡◌, ◌+◌, ◌<◌, ◌≤◌, ℕ, Some, refl, sym, ap, ◌∙◌, subst, arith, Store, Config, ranges_of, Reply, Event, What, at, of_octets, of_frames, reply, after, card_after, meant_by, reply_in, reply_of_octets, reply_of_frames, told, Setup, Scene, happened, ordered, fold, orders_in, reply_text, with_event, Output, IsPut, IsStuck, Puts, Octets, Frames, shelf_of, kind_of, config_of, counters_of, OnBoard, Leads, [], scene, Tells, Stands, Each, Sends, Hears, AnyCard, AnyLeads, AnyStands, CardStands, FrameCardStands, Machine, alone, with_ports, card_in, frames_of, expiry, request, List, Result, Ok, Err}
 use Rattle.std.specs.Option.{option_map_or}
+use Rattle.lapd_sim.specs.declared.setup.Setup as rust
+use Rattle.model_card.specs.Card.{Card}
 use Rattle.lapd_card.specs.Card as octets_card
 use Rattle.lapd_card.specs.Stands as octets
 use Rattle.lapd_card.specs.FrameCard as frames_card
@@ -148,60 +150,54 @@ pub held_on : (card : AnyCard) (b : machine.Board) → OnBoard card b → (n : �
 held_on (Octets card) b on n is = is (with_ports b.card) on.stands ∙ ap (λ k. held_in k b.card) (sym on.kind)
 held_on (Frames card) b on n is = is (alone b.card.card) on.stands ∙ ap (λ k. held_in k b.card) (sym on.kind)
 
--- the same of a board that is such a card
-pub leads_from : (e : Event) (board old new : AnyCard) → board ≡ old → Leads e old new → Leads e board new
-leads_from e board old new is leads = subst (λ (b : AnyCard). Leads e b new) (sym is) leads
+-- ---- a setup goes on
 
--- ---- an exchange goes on
+-- its card of octets takes an event,
+module _ (board : AnyCard) (card new : octets_card.Held Store) (is : board ≡ Octets card) (line : ℕ) (w : What) (e : port.Event) (means : of_octets w ≡ Some e) where
+  pub octets_on : octets.Leads shelf_of (octet_event.at line e) card new → Leads (at line w) board (Octets new)
+  octets_on leads = subst (λ (b : AnyCard). Leads (at line w) b (Octets new)) (sym is) (octets_lead line w e means card new leads)
 
--- a card that an event leads on has a past again
-pub past_on : (e : Event) (old new : AnyCard) → Leads e old new → ∥ HasPast old ∥₁ → ∥ HasPast new ∥₁
-past_on e old new leads past = ∥∥₁_map past (λ p. let (b, on) = p in (after e b, leads.stands b on))
+  pub octets_told : (b : machine.Board) → OnBoard board b → (a : port.Answer) → ((m : ports.OctetCard) → CardStands card m → a ≡ ports.answer (octet_event.at line e) m)
+      → reply_of_octets a ≡ reply (at line w) b
+  octets_told b on a says =
+      ap reply_of_octets (says b.card (subst (λ old. OnBoard old b) is on).stands) ∙ sym (octets_say b (on.kind ∙ ap kind_of is) line w e means)
 
-module _ (board : AnyCard) (card : octets_card.Held Store) (is : board ≡ Octets card) (b : machine.Board) (on : OnBoard board b) where
-  pub on_octets : CardStands card b.card
-  on_octets = (subst (λ old. OnBoard old b) is on).stands
+-- or its card of frames,
+module _ (board : AnyCard) (card new : frames_card.Held Store) (is : board ≡ Frames card) (line : ℕ) (w : What) (e : line_event.Event) (means : of_frames w ≡ Some e) where
+  pub frames_on : frames.Leads shelf_of (frame_event.at line e) card new → Leads (at line w) board (Frames new)
+  frames_on leads = subst (λ (b : AnyCard). Leads (at line w) b (Frames new)) (sym is) (frames_lead line w e means card new leads)
 
-  pub octets_told : (line : ℕ) (w : What) (event : port.Event) → of_octets w ≡ Some event → (a : port.Answer)
-      → a ≡ ports.answer (octet_event.at line event) b.card → reply_of_octets a ≡ reply (at line w) b
-  octets_told line w event means a says = ap reply_of_octets says ∙ sym (octets_say b (on.kind ∙ ap kind_of is) line w event means)
+  pub frames_told : (b : machine.Board) → OnBoard board b → (a : line_event.Answer) → ((m : Card) → FrameCardStands card m → a ≡ frame_machine.answer (frame_event.at line e) m)
+      → reply_of_frames a ≡ reply (at line w) b
+  frames_told b on a says =
+      ap reply_of_frames (says b.card.card (subst (λ old. OnBoard old b) is on).stands) ∙ sym (frames_say b (on.kind ∙ ap kind_of is) line w e means)
 
-module _ (board : AnyCard) (card : frames_card.Held Store) (is : board ≡ Frames card) (b : machine.Board) (on : OnBoard board b) where
-  pub on_frames : FrameCardStands card b.card.card
-  on_frames = (subst (λ old. OnBoard old b) is on).stands
+-- which has room for its frames,
+module _ (s : rust.Setup) (card : frames_card.Held Store) (is : s.board ≡ Frames card) where
+  pub same_config : card.config ≡ s.plan.config
+  same_config = sym (ap config_of is) ∙ s.same_config
 
-  pub frames_told : (line : ℕ) (w : What) (event : line_event.Event) → of_frames w ≡ Some event → (a : line_event.Answer)
-      → a ≡ frame_machine.answer (frame_event.at line event) b.card.card → reply_of_frames a ≡ reply (at line w) b
-  frames_told line w event means a says = ap reply_of_frames says ∙ sym (frames_say b (on.kind ∙ ap kind_of is) line w event means)
-
-module _ (e : Exchange) (card : frames_card.Held Store) (is : e.board ≡ Frames card) where
-  pub same_config : card.config ≡ e.plan.config
-  same_config = sym (ap config_of is) ∙ e.same_config
-
-  -- there is room for its frames
   pub room_is : (room : ℕ) → 264 ≤ room → room < card.config.n201 + 4 → ⊥
-  room_is room enough short = absurd (omega (arith, enough, short, (ranges_of e.plan.config e.in_range).n201.most, ap (λ (c : Config). c.n201) same_config))
+  room_is room enough short = absurd (omega (arith, enough, short, (ranges_of s.plan.config s.in_range).n201.most, ap (λ (c : Config). c.n201) same_config))
 
-module _ (event : Event) (old new : Exchange) (leads : Leads event old.board new.board) (plan : new.plan ≡ old.plan) (moment : new.moment ≡ old.moment)
-    (m : Setup) (holds : Holds old m) where
-  pub goes_on : (r : Reply) → r ≡ reply event m.board → new.clock ≡ fold (ordered event.line old.moment) old.clock (orders_in r) → Holds new (happened m event)
+-- and all but board and clock stays.
+module _ (event : Event) (old new : rust.Setup) (leads : Leads event old.board new.board) (plan : new.plan ≡ old.plan) (moment : new.moment ≡ old.moment)
+    (terminals : new.terminals ≡ old.terminals) (listeners : new.listeners ≡ old.listeners) (m : Setup) (stands : Stands old m) where
+  pub goes_on : (r : Reply) → r ≡ reply event m.board → new.clock ≡ fold (ordered event.line old.moment) old.clock (orders_in r) → Stands new (happened m event)
   goes_on r is clock = record {
-    kind = holds.kind ∙ sym (ap (λ p. p.kind) plan);
-    config = holds.config ∙ sym (ap (λ p. p.config) plan);
-    board = leads.stands m.board holds.board;
-    counters = leads.counted m.board holds.board ∙ ap (λ all. counted all event m.board) holds.counters;
-    clock = clock ∙ ap (λ now. fold (ordered event.line now) old.clock (orders_in r)) holds.now ∙ ap (λ c. fold (ordered event.line m.now) c (orders_in r)) holds.clock
+    kind = stands.kind ∙ sym (ap (λ p. p.kind) plan);
+    config = stands.config ∙ sym (ap (λ p. p.config) plan);
+    board = leads.stands m.board stands.board;
+    counters = leads.counted m.board stands.board ∙ ap (λ all. counted all event m.board) stands.counters;
+    clock = clock ∙ ap (λ now. fold (ordered event.line now) old.clock (orders_in r)) stands.now ∙ ap (λ c. fold (ordered event.line m.now) c (orders_in r)) stands.clock
         ∙ ap (λ a. fold (ordered event.line m.now) m.clock (orders_in a)) is;
-    now = moment ∙ holds.now;
+    now = moment ∙ stands.now;
+    terminals = subst (λ ts. Each Sends ts.items m.terminals) (sym terminals) stands.terminals;
+    listeners = subst (λ ls. Each Hears ls.items m.taken) (sym listeners) stands.listeners;
   }
 
   -- and it has been told
   pub told_on : {E : Type 0} (result : Result Unit E) (a b : Output) (r : Reply) → r ≡ reply event m.board → new.clock ≡ fold (ordered event.line old.moment) old.clock (orders_in r)
-      → Puts result a b (reply_text event.line r) → Tells result a b (Holds new) (with_event (scene m) event)
+      → Puts result a b (reply_text event.line r) → Tells result a b (Stands new) (with_event (scene m) event)
   told_on (Ok x) a b r is clock put = (subst (λ z. IsPut a b (reply_text event.line z)) is put, goes_on r is clock)
   told_on (Err x) a b r is clock put = subst (λ z. IsStuck a b (reply_text event.line z)) is put
-
--- a scene that is another
-pub told_as : {E : Type 0} (result : Result Unit E) (a b : Output) (Q : Setup → Type 0) (s t : Scene) → s ≡ t → Puts result a b t.text → Q t.setup → Tells result a b Q s
-told_as (Ok x) a b Q s t e put q = subst (λ (z : Scene). IsPut a b z.text × Q z.setup) (sym e) (put, q)
-told_as (Err x) a b Q s t e put q = subst (λ (z : Scene). IsStuck a b z.text) (sym e) put

@@ -62,11 +62,7 @@ unsent_ends _ e a b c text remaining none open_is sent h = absurd (true≢false 
 
 -- Whatever was put, it was put on its way to the same target.
 pub same_target : (r : Result Unit PlayFault) (a b : Output) → PutsSome r a b → b.name ≡ a.name
-same_target (Ok u) a b h = h.1.same
-same_target (Err Read) a b h = h.1.1.same
-same_target (Err Write) a b h = h.1.same
-same_target (Err (Script number kind)) a b h = h.1.same
-same_target (Err OutOfMemory) a b h = h.1.same
+same_target r a b h = grind arith
 
 -- ---- before more is read
 
@@ -86,10 +82,7 @@ ready_reaches _ old new remaining text h = h
 
 -- the page is out, and more was read
 goes_out : (a b : Output) → IsSent {A = Unit {0}} {E = WriteFailed} (Ok tt) a b → IsPut a b []
-goes_out a b sent = record {
-  same = sent.same;
-  follows = λ later end more w. writes_then later a.taken b.taken end a.page more sent.written (subst (λ page. Writes later b.taken end (page ++ more)) sent.cleared w);
-}
+goes_out a b sent = grind (arith, writes_then)
 
 pub read_puts : (r : Result Bool PlayFault) (a b : Output) → IsSent {A = Unit {0}} {E = WriteFailed} (Ok tt) a b → IfErr r (λ fault. (count : ℕ) → writes_failed fault count ≡ count) → PutsNone r a b
 read_puts (Err Read) a b sent steady = (sent.cleared, goes_out a b sent)
@@ -104,6 +97,4 @@ pub read_grows : (r : Result Bool PlayFault) (old mid new : ScriptLines) → mid
 read_grows r old mid new same h = subst (λ (lines : ScriptLines). IfOk r (λ more. IsTrue more → lines.octets < new.octets)) same h
 
 pub read_reaches : (r : Result Bool PlayFault) (old mid new : ScriptLines) (remaining : Option (List ℕ)) (text : List ℕ) → mid ≡ old → Advances r mid new remaining text → Reaches r old new remaining text
-read_reaches (Err OutOfMemory) old mid new remaining text same h = absurd h
-read_reaches (Err Write) old mid new remaining text same h = tt
-read_reaches r old mid new remaining text same h = subst (λ lines. Advances r lines new remaining text) same h
+read_reaches r old mid new remaining text same h = grind arith

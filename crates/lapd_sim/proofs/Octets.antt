@@ -7,7 +7,4 @@ appended a b old new text e f h = subst (λ y. Appends (Some old) y text) f (sub
 
 pub in_memory : (r : Result Unit PlayFault) (text : List ℕ) (remaining : Option (List ℕ)) (a b : Taken) (old new : List ℕ) → a.contents ≡ Some old → b.contents ≡ Some new → b.leaves_out ≡ true
     → 0 ≡ reads_failed_by r 0 → Plays r text remaining a b → PlaysOctets r text old new
-in_memory (Err Read) text remaining a b old new e f out steady h = omega (arith, steady)
-in_memory (Err Write) text remaining a b old new e f out steady h = (h.begun.0, appended a.contents b.contents old new _ e f h.begun.1, h.begun.2 out)
-in_memory (Err OutOfMemory) text remaining a b old new e f out steady h = appended a.contents b.contents old new [] e f h.0.whole ∙ append-nil old
-in_memory _ text remaining a b old new e f out steady h = (h.0, appended a.contents b.contents old new _ e f h.1.whole)
+in_memory r text remaining a b old new e f out steady h = grind (arith, appended, append-nil)

@@ -4,6 +4,7 @@ pub mod Orders
 pub mod Expiries
 pub mod Kept
 pub mod Runs
+pub mod Meanings
 pub mod Events
 pub mod Replies
 pub mod Waits

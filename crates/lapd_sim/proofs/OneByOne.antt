@@ -1,5 +1,5 @@
--- What comes from a line and what a line takes, one octet more.
-use Rattle.lapd_sim.proofs.Vocabulary.{◌≡◌, ℕ, List, [], ◌∷◌, ◌++◌, Result, Ok, Err, refl, ap, sym, ◌∙◌, subst, append_assoc, append-nil, map-append, Event, at, octet, reply, WriteFailed, Output, IsPut, IsStuck, puts_then, stuck_more, Setup, happened, Scene, with_event, with_events, reply_text, octets_at, after_rx, scene, Tells}
+-- What happens at a setup, one event more.
+use Rattle.lapd_sim.proofs.Vocabulary.{◌≡◌, ℕ, List, [], ◌∷◌, ◌++◌, Result, Ok, Err, refl, ap, sym, ◌∙◌, subst, append_assoc, append-nil, ◌+◌, ◌<◌, length, get_or, take, take_more, take-append-drop, drop, false≢true, IsErr, Event, reply, WriteFailed, Output, IsPut, IsStuck, puts_then, stuck_more, Setup, happened, Scene, with_event, with_events, reply_text, scene, Tells}
 use Rattle.std.proofs.lemmas.List.Sums.{fold-append}
 
 -- ---- what is said after what was said before
@@ -42,17 +42,29 @@ broken_after a b events more m broken =
     ap (λ (t : Scene). t.text) (fold-append with_event (scene m) events more) ∙ text_onto more s.setup s.text in
     subst (λ text. IsStuck a b text) (sym whole) (stuck_more a b s.text (with_events more (scene s.setup)).text broken)
 
--- ---- octets that come from a line
+-- where a `?` leaves
+pub leaves_told : (r : Result Unit WriteFailed) (a b : Output) (P : Setup → Type 0) (s : Scene) → IsErr r → IsStuck a b s.text → Tells r a b P s
+leaves_told (Ok u) a b P s e broken = absurd (false≢true e)
+leaves_told (Err w) a b P s e broken = broken
 
-octets_at-append : (line : ℕ) (octets more : List ℕ) → octets_at line (octets ++ more) ≡ octets_at line octets ++ octets_at line more
-octets_at-append line octets more = map-append (λ value. at line (octet value)) octets more
+-- ---- what the members of a list bring, one after the other
 
--- some octets, and then more
-pub tells_then : (r : Result Unit WriteFailed) (a b c : Output) (P : Setup → Type 0) (line : ℕ) (octets more : List ℕ) (m : Setup) → IsPut a b (after_rx line octets (scene m)).text → Tells r b c P (after_rx line more (scene (after_rx line octets (scene m)).setup)) → Tells r a c P (after_rx line (octets ++ more) (scene m))
-tells_then r a b c P line octets more m before told =
-    subst (λ events. Tells r a c P (with_events events (scene m))) (sym (octets_at-append line octets more)) (tells_after r a b c P (octets_at line octets) (octets_at line more) m before told)
+module _ (g : List ℕ → List Event) (joins : (xs ys : List ℕ) → g (xs ++ ys) ≡ g xs ++ g ys) (xs : List ℕ) (i : ℕ) (less : i < length xs) (a b c : Output) (P : Setup → Type 0) (m : Setup) where
+  abbrev so_far : Scene
+  so_far = with_events (g (take i xs)) (scene m)
 
--- where a write failed, octets that were to follow change nothing
-pub broken_then : (a b : Output) (line : ℕ) (octets more : List ℕ) (m : Setup) → IsStuck a b (after_rx line octets (scene m)).text → IsStuck a b (after_rx line (octets ++ more) (scene m)).text
-broken_then a b line octets more m broken =
-    subst (λ events. IsStuck a b (with_events events (scene m)).text) (sym (octets_at-append line octets more)) (broken_after a b (octets_at line octets) (octets_at line more) m broken)
+  abbrev here : Scene
+  here = with_events (g (get_or xs i 0 ∷ [])) (scene so_far.setup)
+
+  one_more : g (take (i + 1) xs) ≡ g (take i xs) ++ g (get_or xs i 0 ∷ [])
+  one_more = ap g (take_more xs i 0 less) ∙ joins (take i xs) (get_or xs i 0 ∷ [])
+
+  pub tells_more : IsPut a b so_far.text → Tells {E = WriteFailed} (Ok tt) b c P here → Tells {E = WriteFailed} (Ok tt) a c P (with_events (g (take (i + 1) xs)) (scene m))
+  tells_more put told =
+      subst (λ es. Tells {E = WriteFailed} (Ok tt) a c P (with_events es (scene m))) (sym one_more) (tells_after (Ok tt) a b c P (g (take i xs)) (g (get_or xs i 0 ∷ [])) m put told)
+
+  pub breaks_off : IsPut a b so_far.text → IsStuck b c here.text → IsStuck a c (with_events (g xs) (scene m)).text
+  breaks_off put broken =
+      subst (λ es. IsStuck a c (with_events es (scene m)).text) (ap (λ front. front ++ g (drop (i + 1) xs)) (sym one_more) ∙ sym (joins (take (i + 1) xs) (drop (i + 1) xs)) ∙ ap g (take-append-drop (i + 1) xs))
+      (broken_after a c (g (take i xs) ++ g (get_or xs i 0 ∷ [])) (g (drop (i + 1) xs)) m
+      (tells_after (Err (record {})) a b c P (g (take i xs)) (g (get_or xs i 0 ∷ [])) m put broken))

@@ -1,5 +1,5 @@
 -- How far a script has been played.
-use Rattle.lapd_sim.proofs.Vocabulary.{◌≡◌, ℕ, ◌+◌, ◌^◌, ◌<◌, ◌≤◌, ◌++◌, List, [], ◌∷◌, length, fold, true, false, cond, Bool, Option, None, Some, Result, Ok, Err, refl, sym, ap, ◌∙◌, subst, append_assoc, nat_lt, inr, ◌||◌, lt-ltb, le-ltb, ltb-false, true≢false, none-some, append-nil, fold-append, FaultKind, TooLong, Meaning, read, Output, IsPut, IsStuck, puts_then, stuck_more, puts_nothing, pieces_of, line_in, Played, Fault, played, one_more, not_begun, counted, faulty, is_too_long, after_reading, after_meaning, after_bench, after_scene, after_piece, unless_faulty, transcript, first_fault, Scene, with_card, without_card, LineFault, Faulty, PlayFault, Read, Write, Script, OutOfMemory, ScriptLines, fault_at, PutsSome, AreLeft, IsTooLong, Advances, held, Said, Does, Obeys, StartsBy, said, said_by, said_of, said_with, said_without, scene, PlaysOn, AreAnswered, Has, Stands}
+use Rattle.lapd_sim.proofs.Vocabulary.{arith, ◌≡◌, ℕ, ◌+◌, ◌^◌, ◌<◌, ◌≤◌, ◌++◌, List, [], ◌∷◌, length, fold, true, false, cond, Bool, Option, None, Some, Result, Ok, Err, refl, sym, ap, ◌∙◌, subst, append_assoc, nat_lt, inr, ◌||◌, lt-ltb, le-ltb, ltb-false, true≢false, none-some, append-nil, fold-append, FaultKind, TooLong, Meaning, read, Output, IsPut, IsStuck, puts_then, stuck_more, puts_nothing, pieces_of, line_in, Played, Fault, played, one_more, not_begun, counted, faulty, is_too_long, after_reading, after_meaning, after_bench, after_scene, after_piece, unless_faulty, transcript, first_fault, Scene, with_card, without_card, LineFault, Faulty, PlayFault, Read, Write, Script, OutOfMemory, ScriptLines, fault_at, PutsSome, AreLeft, IsTooLong, Advances, held, Said, Does, Obeys, StartsBy, said, said_by, said_of, said_with, said_without, scene, PlaysOn, AreAnswered, Has, Stands}
 use Rattle.lapd_sim.specs.machine.Setup as machine
 use Rattle.lapd_sim.specs.declared.setup.Setup.{Setup}
 use Rattle.lapd_script.specs.declared.faults.LineFault.TheVariants as line
@@ -55,26 +55,17 @@ played_more done piece sound = fold-append one_more not_begun done (piece ∷ []
 
 -- a line that is not too long
 not_long : (long far : Bool) (p q : Played) → long ≡ false → far ≡ false → cond (long || far) p q ≡ q
-not_long true far p q e f = absurd (true≢false e)
-not_long false true p q e f = absurd (true≢false f)
-not_long false false p q e f = refl
+not_long long far p q e f = grind arith
 
 pub short_is : (piece : List ℕ) (p : Played) → length (line_in piece) ≤ 4096 → p.octets + length piece ≤ 2 ^ 63
     → after_piece piece p ≡ after_said piece (said (line_in piece) p.setup) p
-short_is piece p short near =
-    not_long (nat_lt 4096 (length (line_in piece))) (nat_lt (2 ^ 63) (p.octets + length piece)) (faulty TooLong p) (after_reading piece (read (line_in piece)) p)
-    (le-ltb 4096 (length (line_in piece)) short) (le-ltb (2 ^ 63) (p.octets + length piece) near)
-    ∙ read_is piece (read (line_in piece)) p
+short_is piece p short near = grind (arith, not_long, nat_lt, le-ltb, read_is)
 
 is_long : (long far : Bool) (p q : Played) → (long ≡ false → far ≡ true) → cond (long || far) p q ≡ p
-is_long true far p q h = refl
-is_long false true p q h = refl
-is_long false false p q h = absurd (true≢false (sym (h refl)))
+is_long long far p q h = grind arith
 
 pub long_is : (piece : List ℕ) (p : Played) → (length (line_in piece) ≤ 4096 → 2 ^ 63 < p.octets + length piece) → after_piece piece p ≡ faulty TooLong p
-long_is piece p h =
-    is_long (nat_lt 4096 (length (line_in piece))) (nat_lt (2 ^ 63) (p.octets + length piece)) (faulty TooLong p) (after_reading piece (read (line_in piece)) p)
-    (λ e. lt-ltb (2 ^ 63) (p.octets + length piece) (h (ltb-false 4096 (length (line_in piece)) e)))
+long_is piece p h = grind (arith, is_long, nat_lt, lt-ltb, ltb-false)
 
 -- after a fault nothing more is played
 stays_one : (piece : List ℕ) (o : Option Fault) (fault : Fault) (p : Played) → o ≡ Some fault → unless_faulty piece o p ≡ p
@@ -138,9 +129,7 @@ grows (piece ∷ pieces) p =
 -- the whole text, where these pieces have been played and one is next
 pub all_played : (text left : List ℕ) (done : List (List ℕ)) (piece : List ℕ) (more : List (List ℕ)) → pieces_of text ≡ done ++ pieces_of left → pieces_of left ≡ piece ∷ more
     → (played done).fault ≡ None → played (pieces_of text) ≡ fold one_more (after_piece piece (played done)) more
-all_played text left done piece more is next sound =
-    ap played (is ∙ ap (λ pieces. done ++ pieces) next) ∙ fold-append one_more not_begun done (piece ∷ more)
-    ∙ ap (λ p. fold one_more p more) (unless_is piece (played done).fault (played done) sound)
+all_played text left done piece more is next sound = grind (arith, fold-append, unless_is)
 
 -- a fault is the first
 pub fault_is : (text left : List ℕ) (done : List (List ℕ)) (piece : List ℕ) (more : List (List ℕ)) (kind : FaultKind) → pieces_of text ≡ done ++ pieces_of left → pieces_of left ≡ piece ∷ more
@@ -170,9 +159,7 @@ begins lines setup remaining text a none number octets unread = (
 -- no line is left
 pub ends : (lines : ScriptLines) (setup : Option Setup) (remaining : Option (List ℕ)) (text : List ℕ) (a b : Output) (p : IsPlayed lines setup remaining text) → p.left ≡ [] → IsPut a b (played p.done).written
     → (first_fault text ≡ None) × IsPut a b (transcript text)
-ends lines setup remaining text a b p none put =
-    let all : played (pieces_of text) ≡ played p.done = ap played (p.is ∙ ap (λ l. p.done ++ pieces_of l) none ∙ append-nil p.done) in
-    (ap (λ q. Played.fault q) all ∙ p.sound, subst (λ t. IsPut a b t) (sym (ap (λ q. Played.written q) all)) put)
+ends lines setup remaining text a b p none put = grind (arith, append-nil)
 
 -- the next line is faulty,
 stops_at : (lines : ScriptLines) (setup : Option Setup) (remaining : Option (List ℕ)) (text : List ℕ) (a b : Output) (p : IsPlayed lines setup remaining text) (piece more : List ℕ) (number : ℕ) (kind : FaultKind)
@@ -301,9 +288,7 @@ stops_reading OutOfMemory lines new setup remaining left text a b p put h = absu
 
 -- the line that starts the card, or is skipped before it
 has_none : (b : Option Setup) (m : Option machine.Setup) → b ≡ None → Has b m → m ≡ None
-has_none None None e h = refl
-has_none None (Some m) e h = absurd h
-has_none (Some b) m e h = absurd (none-some b (sym e))
+has_none b m e h = grind (arith, none-some)
 
 starts_as : (setup : Option Setup) (a : Output) (x : Result (Option machine.Setup) FaultKind) → StartsBy (Ok setup) x → Does (Ok tt) a a None (Has setup) (said_without x)
 starts_as setup a (Ok b) h = (puts_nothing a, h)
@@ -311,21 +296,13 @@ starts_as setup a (Err kind) h = absurd h
 
 pub starts : (before setup : Option Setup) (a : Output) (meaning : Meaning) (line : List ℕ) (m : Option machine.Setup) → before ≡ None → Has before m → Ok meaning ≡ read line
     → StartsBy (Ok setup) (without_card meaning) → Does (Ok tt) a a m (Has setup) (said line m)
-starts before setup a meaning line m e h is k =
-    subst (λ n. Does (Ok tt) a a n (Has setup) (said line n)) (sym (has_none before m e h))
-    (subst (λ r. Does (Ok tt) a a None (Has setup) (said_by r None)) is (starts_as setup a (without_card meaning) k))
+starts before setup a meaning line m e h is k = grind (arith, has_none, starts_as)
 
 -- a line that the card obeys
 goes_as : (r : Result Unit LineFault) (setup : Setup) (a b : Output) (m : machine.Setup) (x : Result Scene FaultKind) → Obeys r a b (Stands setup) x
     → Does r a b (Some m) (Has (Some setup)) (said_with x)
-goes_as (Ok u) setup a b m (Ok s) h = h
-goes_as (Err (Faulty kind)) setup a b m x h = (h.0, ap said_with h.1)
-goes_as (Err line.Write) setup a b m (Ok s) h = h
-goes_as _ setup a b m _ h = absurd h
+goes_as r setup a b m x h = grind arith
 
 pub goes : (before : Option Setup) (old new : Setup) (r : Result Unit LineFault) (a b : Output) (meaning : Meaning) (line : List ℕ) (m : Option machine.Setup) → before ≡ Some old → Has before m → Ok meaning ≡ read line
     → ((n : machine.Setup) → Stands old n → Obeys r a b (Stands new) (with_card meaning (scene n))) → Does r a b m (Has (Some new)) (said line m)
-goes before old new r a b meaning line None e h is k = absurd (subst (λ x. Has x None) e h)
-goes before old new r a b meaning line (Some n) e h is k =
-    subst (λ x. Does r a b (Some n) (Has (Some new)) (said_by x (Some n))) is
-    (goes_as r new a b n (with_card meaning (scene n)) (k n (subst (λ x. Has x (Some n)) e h)))
+goes before old new r a b meaning line m e h is k = grind (arith, goes_as)

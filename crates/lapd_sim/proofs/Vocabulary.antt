@@ -1,9 +1,7 @@
 -- The words with which the proofs of this crate speak, from where they are defined.
 pub use Rattle.std.proofs.Common.{Bool, Err, List, None, Ok, OnOk, Option, Result, Some, [], ap, append_assoc, arith, cond, drop, false, fold, get_or, if◌then◌else◌, inr, length, length-append, map, nat_le, nat_lt, refl, replicate, set, subst, suc, sym, take, take_all, true, vec_len, zero, ℕ, ◌*◌, ◌++◌, ◌+◌, ◌-◌, ◌<◌, ◌^◌, ◌∙◌, ◌∷◌, ◌≡◌, ◌≢◌, ◌≤◌}
-pub use Rattle.std.proofs.Math.Logic.{∥∥₁_elim, ∥∥₁_map}
 pub use Rattle.std.proofs.Math.Numerals.{suc-eq-add-one}
-pub use Rattle.std.proofs.Props.{props}
-pub use Rattle.std.proofs.lemmas.Bool.{le-leb, le-ltb, lt-ltb, ltb-false, ne_eqb, true≢false}
+pub use Rattle.std.proofs.lemmas.Bool.{false≢true, le-leb, le-ltb, lt-ltb, ltb-false, ne_eqb, true≢false}
 pub use Rattle.std.proofs.lemmas.Grind.{flat_map-append, fold-append}
 pub use Rattle.std.proofs.lemmas.List.{append-nil, length-take, map-append, take-append-drop, take_at, take_more, take_more_set}
 pub use Rattle.std.proofs.lemmas.List.Elements.{All-append, All-weaker}
@@ -11,14 +9,14 @@ pub use Rattle.std.proofs.lemmas.List.Folds.{list_any_none}
 pub use Rattle.std.proofs.lemmas.Option.{none-some}
 pub use Rattle.std.specs.Io.KnownBytes.{Appends}
 pub use Rattle.std.specs.List.{flat_map}
-pub use Rattle.std.specs.Prelude.{IfErr, IfOk, IsTrue, filter, ◌||◌}
+pub use Rattle.std.specs.Prelude.{IfErr, IfOk, IsErr, IsTrue, filter, option_copied, ◌||◌}
 pub use Rattle.lapd_clock.specs.Timer.{AreInRange, Lengths, Timer, first_out_of_range}
 pub use Rattle.lapd_clock.specs.Timers.{Timers, due_at, time_until}
 pub use Rattle.lapd_clock.specs.declared.fault.LengthFault.{LengthFault}
 pub use Rattle.lapd_count.specs.Counters.{none_counted}
+pub use Rattle.lapd_frame.specs.ShortLists.{listed}
 pub use Rattle.lapd_frame.specs.declared.refusals.Refusal.{Refusal}
-pub use Rattle.lapd_line.specs.Reports.{report_told}
-pub use Rattle.lapd_line.specs.declared.reports.Report.{Report}
+pub use Rattle.lapd_line.specs.Reports.{told_beside}
 pub use Rattle.lapd_script.specs.Faults.{fault_at, reads_failed, reads_failed_by, writes_failed, writes_failed_by}
 pub use Rattle.lapd_script.specs.Meaning.{Meaning, meant}
 pub use Rattle.lapd_script.specs.Pieces.{line_in, pieces_of, with_octet}
@@ -36,13 +34,10 @@ pub use Rattle.lapd_card.specs.Kinds.{AnyLeads, AnyStands, CardStands, FrameCard
 pub use Rattle.lapd_card.specs.declared.kinds.AnyCard.{AnyCard}
 pub use Rattle.lapd_card.specs.declared.kinds.AnyCard.TheVariants.{Frames, Octets}
 pub use Rattle.lapd_sim.specs.Boards.{Leads, OnBoard, kind_of}
-pub use Rattle.lapd_sim.specs.Obeyed.{Does, Obeys, Said, StartsBy, Tells, said, said_by, said_of, said_with, said_without, scene, written}
+pub use Rattle.lapd_sim.specs.Obeyed.{Answers, Does, Obeys, Said, Says, StartsBy, Tells, said, said_by, said_of, said_with, said_without, scene, written}
 pub use Rattle.lapd_sim.specs.Pages.{PutsNone, PutsSome, Reaches, is_cut}
-pub use Rattle.lapd_sim.specs.Past.{HasPast}
 pub use Rattle.lapd_sim.specs.Plays.{AreAnswered, Plays, PlaysOctets, PlaysOn, is_whole, whole_lines}
-pub use Rattle.lapd_sim.specs.Stands.{Each, Has, Holds, Stands}
-pub use Rattle.lapd_sim.specs.declared.board.Plan.{Plan}
-pub use Rattle.lapd_sim.specs.declared.exchange.Exchange.{Exchange}
+pub use Rattle.lapd_sim.specs.Stands.{Each, Has, Stands}
 pub use Rattle.lapd_store.specs.Store.{Store}
 pub use Rattle.lapd_transcript.proofs.Known.{appends_nothing, broken_more, puts_nothing, puts_then, puts_unwritten, puts_written, stuck_more, writes_then}
 pub use Rattle.lapd_transcript.specs.Counted.{counters_text}

@@ -24,10 +24,7 @@ Closes [] = Unit {0}
 Closes (p ∷ ps) = is_whole p ≡ true → (x : List ℕ) → pieces_of (p ++ x) ≡ p ∷ pieces_of x
 
 closes_with : (o : ℕ) (ps : List (List ℕ)) → (o == 10) ≡ false → Closes ps → Closes (with_octet o ps)
-closes_with o [] e h = λ w x. absurd (true≢false (sym w ∙ ap (λ b. b || false) e))
-closes_with o (p ∷ ps) e h = λ w x.
-    ap (λ b. cond b ((o ∷ []) ∷ pieces_of (p ++ x)) (with_octet o (pieces_of (p ++ x)))) e
-    ∙ ap (with_octet o) (h (sym (ap (λ b. b || is_whole p) e) ∙ w) x)
+closes_with o ps e h = grind arith
 
 closes_first : (o : ℕ) (ps : List (List ℕ)) → (o == 10) ≡ true → Closes ((o ∷ []) ∷ ps)
 closes_first o ps e = λ w x. ap (λ b. cond b ((o ∷ []) ∷ pieces_of x) (with_octet o (pieces_of x))) e

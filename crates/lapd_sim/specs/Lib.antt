@@ -3,7 +3,6 @@
 -- to the first fault. Then Plays here; and for the program FaultLines, Shown and Kinds of `lapd_script`, Shown of
 -- `lapd_transcript`, and Serves.
 pub mod Boards
-pub mod Past
 pub mod Stands
 pub mod Obeyed
 pub mod Pages
@@ -12,16 +11,16 @@ pub mod Serves
 pub mod machine
 -- the words of the contracts, from where they are defined
 pub use Rattle.lapd_card.specs.Kinds.{config_of, counters_of}
-pub use Rattle.lapd_line.specs.Reports.{gave_in}
+pub use Rattle.lapd_frame.specs.ShortLists.{listed}
+pub use Rattle.lapd_frame.specs.declared.addresses.Side.{Side}
+pub use Rattle.lapd_line.specs.Reports.{told_beside}
 pub use Rattle.lapd_script.specs.Bound.{bound}
 pub use Rattle.lapd_script.specs.FaultLines.{IsTold, play_line}
 pub use Rattle.lapd_script.specs.Faults.{reads_failed_by, writes_failed_by}
 pub use Rattle.lapd_script.specs.Job.{frame, job, limits, run}
 pub use Rattle.lapd_script.specs.Meaning.{meant}
 pub use Rattle.lapd_script.specs.ScriptLines.{AreLeft}
-pub use Rattle.lapd_script.specs.Shown.{side_of}
 pub use Rattle.lapd_script.specs.Words.{texts}
-pub use Rattle.lapd_script.specs.declared.command.CardKind.TheVariants.{Octets}
 pub use Rattle.lapd_script.specs.declared.faults.PlayFault.{PlayFault}
 pub use Rattle.lapd_script.specs.declared.faults.PlayFault.TheVariants.{Write}
 pub use Rattle.lapd_script.specs.declared.kind.FaultKind.TheVariants.{BadLine, WrongCard}
@@ -34,11 +33,11 @@ pub use Rattle.model_bits.specs.Stream.{dropped}
 pub use Rattle.model_line.specs.Came.{came, cause_of}
 pub use Rattle.model_line.specs.Request.{request_of}
 pub use Rattle.lapd_sim.specs.Boards.{kind_of, OnBoard}
-pub use Rattle.lapd_sim.specs.Obeyed.{Begins, Does, Obeys, said, scene, StartsBy, Tells, written}
+pub use Rattle.lapd_sim.specs.Obeyed.{Answers, Begins, Does, said, Says, StartsBy, written}
 pub use Rattle.lapd_sim.specs.Pages.{is_cut, PutsNone, PutsSome, Reaches}
 pub use Rattle.lapd_sim.specs.Plays.{Shows}
 pub use Rattle.lapd_sim.specs.Serves.{Frames, Runs}
-pub use Rattle.lapd_sim.specs.Stands.{Each, Has, Holds}
+pub use Rattle.lapd_sim.specs.Stands.{Each, Has, Stands}
 pub use Rattle.lapd_sim.specs.machine.Asked.{LimitsAreOfCards}
 pub use Rattle.lapd_sim.specs.machine.Board.{at, expiry, hears, next, pull, reply, reply_of_frames}
 pub use Rattle.lapd_sim.specs.machine.Events.{RunsOnBoards, ScriptsAreRuns}

@@ -5,38 +5,29 @@
 use Rattle.std.specs.Prelude.{◌≡◌, ℕ, List, [], Bool, true, false, Option, Result, Ok, Err}
 use Rattle.lapd_transcript.specs.Streams.{Output, IsPut, IsStuck}
 use Rattle.lapd_script.specs.declared.faults.PlayFault.{PlayFault}
-use Rattle.lapd_script.specs.declared.faults.PlayFault.TheVariants.{Read, Write, Script, OutOfMemory}
+use Rattle.lapd_script.specs.declared.faults.PlayFault.TheVariants.{Read, Write}
 use Rattle.lapd_script.specs.declared.lines.ScriptLines.{ScriptLines}
 use Rattle.lapd_script.specs.ScriptLines.{Advances}
 
 -- Some text has been put; a read fails only where nothing is left on the page; or a write has failed.
 abbrev pub PutsSome : {A : Type 0} → Result A PlayFault → Output → Output → Type 0
-PutsSome (Ok _) old new = (text : List ℕ) × IsPut old new text
 PutsSome (Err Read) old new = (new.page ≡ []) × ((text : List ℕ) × IsPut old new text)
 PutsSome (Err Write) old new = (text : List ℕ) × IsStuck old new text
-PutsSome (Err (Script _ _)) old new = (text : List ℕ) × IsPut old new text
-PutsSome (Err OutOfMemory) old new = (text : List ℕ) × IsPut old new text
+PutsSome _ old new = (text : List ℕ) × IsPut old new text
 
 -- A read or a write failed: then nothing more goes out.
 abbrev pub is_cut : Result Unit PlayFault → Bool
-is_cut (Ok _) = false
 is_cut (Err Read) = true
 is_cut (Err Write) = true
-is_cut (Err (Script _ _)) = false
-is_cut (Err OutOfMemory) = false
+is_cut _ = false
 
 -- The page has gone out where more had to be read, and no text was put.
 abbrev pub PutsNone : {A : Type 0} → Result A PlayFault → Output → Output → Type 0
-PutsNone (Ok _) old new = IsPut old new []
 PutsNone (Err Read) old new = (new.page ≡ []) × IsPut old new []
 PutsNone (Err Write) old new = IsStuck old new []
-PutsNone (Err (Script _ _)) old new = IsPut old new []
-PutsNone (Err OutOfMemory) old new = IsPut old new []
+PutsNone _ old new = IsPut old new []
 
 -- The next line, or why there is none, unless a write has failed.
 abbrev pub Reaches : Result Bool PlayFault → ScriptLines → ScriptLines → Option (List ℕ) → List ℕ → Type 0
-Reaches (Ok more) old new remaining text = Advances (Ok more) old new remaining text
-Reaches (Err Read) old new remaining text = Advances (Err Read) old new remaining text
 Reaches (Err Write) old new remaining text = Unit
-Reaches (Err (Script number kind)) old new remaining text = Advances (Err (Script number kind)) old new remaining text
-Reaches (Err OutOfMemory) old new remaining text = Advances (Err OutOfMemory) old new remaining text
+Reaches result old new remaining text = Advances result old new remaining text

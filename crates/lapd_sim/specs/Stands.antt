@@ -1,7 +1,4 @@
--- What the parts of a simulator stand for: the setup of the machine that a script is played on.
---
--- Each part of the simulator stands for a part of the setup: `Holds` is the card with clock and moment, `Sends` a
--- terminal, `Hears` a listener (both of `lapd_transcript`).
+-- What a setup of the simulator stands for: the setup of the machine that a script is played on.
 use Rattle.std.specs.Prelude.{◌≡◌, List, [], ◌∷◌, Option, None, Some}
 use Rattle.lapd_transcript.specs.Listened.{Hears}
 use Rattle.lapd_transcript.specs.Terminal.{Sends}
@@ -9,32 +6,26 @@ use Rattle.lapd_sim.specs.machine.Setup as machine
 use Rattle.lapd_card.specs.Kinds.{counters_of}
 use Rattle.lapd_sim.specs.Boards.{OnBoard}
 use Rattle.lapd_sim.specs.declared.setup.Setup.{Setup}
-use Rattle.lapd_sim.specs.declared.exchange.Exchange.{Exchange}
-
--- The card, its counters, its clock and the moment.
-pub record Holds (e : Exchange) (m : machine.Setup) : Type 0 where
-  pub kind : m.board.kind ≡ e.plan.kind
-  pub config : m.board.config ≡ e.plan.config
-  pub board : OnBoard e.board m.board
-  pub counters : counters_of e.board ≡ m.counters
-  pub clock : e.clock ≡ m.clock
-  pub now : e.moment ≡ m.now
 
 -- One by one.
 abbrev pub Each : {A B : Type 0} → (A → B → Type 0) → List A → List B → Type 0
 Each R [] [] = Unit {0}
-Each R [] (y ∷ ys) = ⊥
-Each R (x ∷ xs) [] = ⊥
 Each R (x ∷ xs) (y ∷ ys) = R x y × Each R xs ys
+Each R _ _ = ⊥
 
+-- The card, its counters, its clock and the moment; each terminal, and what each listener has heard.
 pub record Stands (b : Setup) (m : machine.Setup) : Type 0 where
-  pub exchange : Holds b.exchange m
+  pub kind : m.board.kind ≡ b.plan.kind
+  pub config : m.board.config ≡ b.plan.config
+  pub board : OnBoard b.board m.board
+  pub counters : counters_of b.board ≡ m.counters
+  pub clock : b.clock ≡ m.clock
+  pub now : b.moment ≡ m.now
   pub terminals : Each Sends b.terminals.items m.terminals
   pub listeners : Each Hears b.listeners.items m.taken
 
 -- Before the card line there is no setup.
 abbrev pub Has : Option Setup → Option machine.Setup → Type 0
 Has None None = Unit {0}
-Has None (Some m) = ⊥
-Has (Some b) None = ⊥
 Has (Some b) (Some m) = Stands b m
+Has _ _ = ⊥

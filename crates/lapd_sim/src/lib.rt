@@ -1,9 +1,8 @@
 //! Plays scripts on a line card: what its lines bring is put on the card, and the transcript of the answers is written.
 //! `docs/FORMAT.md` describes both texts.
 //!
-//! - `exchange`: the card that a script is played on, and its clock; `board`: the card, for octets or for frames.
-//! - `setup`: the card with the terminals and listeners of its lines, which obeys the lines of a script; `parts`, what it
-//!   begins with; `traffic`, what comes from a line and what a line takes.
+//! - `setup`: what a script is played on, a card with its clock, and the terminals and listeners of its lines, which obeys
+//!   the lines of a script; `parts`, what it begins with; `exchange`, what happens at the card.
 //! - `player`: plays a script; `memory`, one that lies in memory.
 //! - `program`: the program's words and exit status.
 //! - `machine`: what a script means, and what holds of whole scripts.
@@ -18,7 +17,6 @@
 //! Scripts of more than 2^63 octets; what the system's own streams hold, since they tell nothing of it.
 #![tactic(auto)]
 
-mod board;
 mod exchange;
 mod machine;
 mod memory;
@@ -26,7 +24,6 @@ mod parts;
 mod player;
 mod program;
 mod setup;
-mod traffic;
 
 pub use lapd_script::{FaultKind, Job, PlayFault, job, refuse};
 pub use lapd_transcript::{ReadFailed, ReadFrom, Source, Target, WriteFailed, WriteTo};

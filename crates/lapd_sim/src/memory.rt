@@ -22,11 +22,8 @@ impl Source for Script<'_> {
     ghost remaining = { λ script. Some script.left.now };
 
     fn read(&mut self, buffer: &mut [u8]) -> Result<usize, ReadFailed> {
-        match self.left.read(buffer) {
-            Ok(count) => Ok(count),
-            // A slice has no read that fails.
-            Err(_) => Ok(0),
-        }
+        // A slice has no read that fails.
+        Ok(self.left.read(buffer).unwrap_or(0))
     }
 }
 

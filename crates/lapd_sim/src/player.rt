@@ -5,9 +5,8 @@ ghost use Rattle.lapd_sim.specs.{meant, without_card, reads_failed_by, writes_fa
 ghost use Rattle.lapd_sim.specs.Plays.{Plays, PlaysOn};
 ghost use Rattle.lapd_sim.specs.machine.Setup as machine;
 
-use crate::board::Plan;
-use crate::exchange::Obeyed;
-use crate::setup::Setup;
+use crate::parts::Plan;
+use crate::setup::{Obeyed, Setup};
 use lapd_script::{Command, FaultKind, LineFault, PlayFault, ScriptLines, read_line};
 use lapd_transcript::{Page, Source, Target, WriteFailed};
 use std::alloc::{AllocError, Global};

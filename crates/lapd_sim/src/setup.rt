@@ -1,41 +1,63 @@
-//! What a script is played on: a card, and for each of its lines a terminal and a listener.
+//! What a script is played on, and how it obeys the lines of the script.
 
-ghost use Rattle.std.specs.Prelude.{◌≡◌, ◌≢◌, ◌<◌, ◌≤◌, length, vec_len, MatchResult};
+ghost use Rattle.std.specs.Prelude.{◌≡◌, ◌≢◌, ◌<◌, ◌≤◌, ◌^◌, length, vec_len, MatchResult};
+ghost use Rattle.lapd_card.specs.Kinds.{config_of};
+ghost use Rattle.lapd_clock.specs.Timer.{AreInRange};
 ghost use Rattle.lapd_script.specs.Meaning as meaning;
-ghost use Rattle.lapd_sim.specs.machine.Setup as machine;
+ghost use Rattle.lapd_sim.specs.{kind_of, Output};
+ghost use Rattle.model_line.specs.Sound.{IsInRange};
 
-use crate::board::Plan;
-use crate::exchange::{Exchange, Obeyed};
-use crate::parts::{listeners, request_for, terminals};
-use crate::traffic::{bring_down, pull, receive, teis_on, tell_next, written};
+use crate::exchange::{carry_out, order};
+use crate::parts::{Plan, begin, listeners, request_for, terminals};
 use lapd_bits::Deframer;
-use lapd_card::Fault;
+use lapd_card::{AnyCard, BareReport, Fault, limit};
+use lapd_clock::{Clock, Lengths};
 use lapd_script::{Asked, CardKind, Command, FaultKind, LineFault};
-use lapd_transcript::{CounterGroup, LONGEST_FRAME, Page, SHORTEST_FRAME, Target, Terminal};
+use lapd_transcript::{CounterGroup, LONGEST_FRAME, Page, Put, SHORTEST_FRAME, Target, Terminal};
 use std::alloc::Global;
 
-/// The card with its clock, and for each line the terminal that sends, and what listens to the octets that are pulled.
+/// A line of a script was obeyed, or why it was not.
+pub(crate) type Obeyed = Result<(), LineFault>;
+
+/// A card, the clock of its lines, and the moment on it in milliseconds; and for each line the terminal that sends, and what
+/// listens to the octets that are pulled.
 #[derive(Drop)]
 pub(crate) struct Setup {
-    exchange: Exchange,
+    pub(crate) plan: Plan,
+    pub(crate) board: AnyCard,
+    pub(crate) clock: Clock,
+    pub(crate) moment: u64,
     terminals: Vec<Terminal>,
     listeners: Vec<Deframer>,
-    ghost each_sends: { vec_len terminals ≡ exchange.plan.config.lines },
-    ghost each_listens: { vec_len listeners ≡ exchange.plan.config.lines },
+    ghost in_range: { IsInRange plan.config },
+    ghost same_config: { config_of board ≡ plan.config },
+    ghost same_kind: { kind_of board ≡ plan.kind },
+    ghost clock_lines: { clock.lines ≡ plan.config.lines },
+    ghost lengths: { AreInRange clock.lengths },
+    ghost in_time: { moment < 2 ^ 63 },
+    ghost each_sends: { vec_len terminals ≡ plan.config.lines },
+    ghost each_listens: { vec_len listeners ≡ plan.config.lines },
 }
 
 impl Setup {
-    ghost use Rattle.lapd_sim.specs.{BadLine, Begins, Obeys, WrongCard, on, scene, with_card};
-    ghost use Rattle.lapd_sim.specs.Stands.{Stands};
+    ghost use Rattle.lapd_sim.specs.{Answers, BadLine, Begins, WrongCard, on, Stands};
 
+    /// A card as a card line has it begin, at which nothing has happened.
     pub(crate) fn start(alloc: Global, plan: Plan) -> Result<Setup, LineFault>
         ensures { Begins result plan.kind plan.config Stands }
     {
-        let exchange = Exchange::start(alloc, plan)?;
-        let terminals = terminals(alloc, exchange.lines())?;
-        let listeners = listeners(alloc, exchange.lines())?;
+        let board = begin(alloc, plan)?;
+        let lines = usize::from(plan.config.lines);
+        let Ok(clock) = Clock::start(alloc, lines, plan.config.terminals.into()) else {
+            return Err(LineFault::OutOfMemory);
+        };
+        let terminals = terminals(alloc, lines)?;
+        let listeners = listeners(alloc, lines)?;
         Ok(Setup {
-            exchange,
+            plan,
+            board,
+            clock,
+            moment: 0,
             terminals,
             listeners,
         })
@@ -50,8 +72,7 @@ impl Setup {
     ) -> Obeyed
         requires counted { meaning.IsCounted (length room.old) command }
         requires room { 4096 ≤ length room.old }
-        ensures { (m : machine.Setup) → Stands self.old m
-            → Obeys result (on T.taken page.old) (on T.taken page.new) (Stands self.new) (with_card (meaning.meant room.old command) (scene m)) }
+        ensures { Answers result self.old self.new (on T.taken page.old) (on T.taken page.new) (meaning.meant room.old command) }
     {
         match command {
             Command::Skip => Ok(()),
@@ -59,28 +80,30 @@ impl Setup {
             Command::Rx { line, octets } => self.receive(line, &room[..octets], page),
             Command::In { line, octets } => self.come(line, &room[..octets], page),
             Command::Failed { line, fault } => self.fail(line, fault, page),
-            Command::Next { line } => self.take(line, room, page),
-            Command::Down { line } => self.bring_down(line, room, page),
+            Command::Next(line) => self.take(line, room, page),
+            Command::Down(line) => self.bring_down(line, room, page),
             Command::Pull { line, count } => self.pull(line, count as usize, room, page),
-            Command::Wait { milliseconds } => self.exchange.wait(milliseconds, page),
-            Command::Timers { t200, t203, t201 } => self.exchange.set_timers(t200, t203, t201),
-            Command::Stored => written(self.exchange.show_stored(page)),
+            Command::Wait(milliseconds) => self.wait(milliseconds, page),
+            Command::Timers { t200, t203, t201 } => self.set_timers(t200, t203, t201),
+            Command::Stored => {
+                written(page.put_stored(self.board.stored(), limit(&self.plan.config)))
+            }
             Command::Counters { line, group } => self.show_counters(line, group, page),
             Command::Ask {
                 line,
                 tei,
                 what,
                 octets,
-            } => self.ask(line, tei, what, &room[..octets], page),
+            } => self.ask_for(line, tei, what, &room[..octets], page),
         }
     }
 
     /// Tests that the card is of this kind.
     fn for_kind(&self, kind: CardKind) -> Result<(), FaultKind>
-        ensures { MatchResult result (λ _. self.now.exchange.plan.kind ≡ kind)
-            (λ fault. (fault ≡ WrongCard) × (self.now.exchange.plan.kind ≢ kind)) }
+        ensures { MatchResult result (λ _. self.now.plan.kind ≡ kind)
+            (λ fault. (fault ≡ WrongCard) × (self.now.plan.kind ≢ kind)) }
     {
-        if self.exchange.kind() == kind {
+        if self.plan.kind == kind {
             Ok(())
         } else {
             Err(FaultKind::WrongCard)
@@ -89,12 +112,11 @@ impl Setup {
 
     /// The number of a line of the card.
     fn line(&self, line: u16) -> Result<usize, FaultKind>
-        ensures { MatchResult result (λ number. (number ≡ line) × (number < self.now.exchange.plan.config.lines))
-            (λ kind. (kind ≡ BadLine) × (self.now.exchange.plan.config.lines ≤ line)) }
+        ensures { MatchResult result (λ number. (number ≡ line) × (number < self.now.plan.config.lines))
+            (λ kind. (kind ≡ BadLine) × (self.now.plan.config.lines ≤ line)) }
     {
-        let line = usize::from(line);
-        if line < self.exchange.lines() {
-            Ok(line)
+        if line < self.plan.config.lines {
+            Ok(line.into())
         } else {
             Err(FaultKind::BadLine)
         }
@@ -102,66 +124,79 @@ impl Setup {
 
     /// Octets come from a line.
     fn receive<T: Target>(&mut self, line: u16, octets: &[u8], page: &mut Page<T>) -> Obeyed
-        ensures { (m : machine.Setup) → Stands self.old m
-            → Obeys result (on T.taken page.old) (on T.taken page.new) (Stands self.new) (with_card (meaning.rx line octets.now) (scene m)) }
+        ensures { Answers result self.old self.new (on T.taken page.old) (on T.taken page.new) (meaning.rx line octets.now) }
     {
         self.for_kind(CardKind::Octets)?;
         let line = self.line(line)?;
-        written(receive(&mut self.exchange, line, octets, page))
+        written(self.hear(line, octets, page))
     }
 
     /// A frame comes from a line. At a card for octets the terminal of the line sends it, up to and with the last bit of its
     /// closing flag.
     fn come<T: Target>(&mut self, line: u16, frame: &[u8], page: &mut Page<T>) -> Obeyed
-        ensures { (m : machine.Setup) → Stands self.old m
-            → Obeys result (on T.taken page.old) (on T.taken page.new) (Stands self.new) (with_card (meaning.into line frame.now) (scene m)) }
+        ensures { Answers result self.old self.new (on T.taken page.old) (on T.taken page.new) (meaning.into line frame.now) }
     {
         let line = self.line(line)?;
-        match self.exchange.kind() {
-            CardKind::Frames => written(self.exchange.frame(line, frame, page)),
-            CardKind::Octets => {
+        match &mut self.board {
+            AnyCard::Frames(card) => {
+                let mut report = BareReport::nothing();
+                card.frame(line, frame, &mut report);
+                let contents = card.contents(line, frame, &report);
+                written(carry_out(&mut self.clock, line, &report, contents, self.moment, page))
+            }
+            AnyCard::Octets(_) => {
                 if frame.len() < SHORTEST_FRAME || frame.len() > LONGEST_FRAME {
                     return Err(LineFault::Faulty(FaultKind::BadFrame));
                 }
                 let octets = self.terminals[line].send(frame);
-                written(receive(&mut self.exchange, line, octets.as_slice(), page))
+                written(self.hear(line, octets.as_slice(), page))
             }
         }
     }
 
     /// The controller of a line tells a fault in place of a frame.
     fn fail<T: Target>(&mut self, line: u16, fault: Fault, page: &mut Page<T>) -> Obeyed
-        ensures { (m : machine.Setup) → Stands self.old m
-            → Obeys result (on T.taken page.old) (on T.taken page.new) (Stands self.new) (with_card (meaning.failed line fault) (scene m)) }
+        ensures { Answers result self.old self.new (on T.taken page.old) (on T.taken page.new) (meaning.failed line fault) }
     {
         self.for_kind(CardKind::Frames)?;
         let line = self.line(line)?;
-        written(self.exchange.failed(line, fault, page))
+        let AnyCard::Frames(card) = &mut self.board else {
+            unreachable!();
+        };
+        let mut report = BareReport::nothing();
+        card.failed(line, fault, &mut report);
+        written(carry_out(&mut self.clock, line, &report, None, self.moment, page))
     }
 
-    /// A line takes the next frame, which is put into the beginning of `room`.
+    /// A line takes the next frame, which is put into the beginning of `room`: there is room for each frame that a card has.
     fn take<T: Target>(&mut self, line: u16, room: &mut [u8], page: &mut Page<T>) -> Obeyed
         requires { 264 ≤ length room.old }
-        ensures { (m : machine.Setup) → Stands self.old m
-            → Obeys result (on T.taken page.old) (on T.taken page.new) (Stands self.new) (with_card (meaning.next line) (scene m)) }
+        ensures { Answers result self.old self.new (on T.taken page.old) (on T.taken page.new) (meaning.next line) }
     {
         self.for_kind(CardKind::Frames)?;
-        let line = self.line(line)?;
-        let next = self.exchange.next(line, room);
-        written(tell_next(line, next, room, page))
+        let number = self.line(line)?;
+        let AnyCard::Frames(card) = &mut self.board else {
+            unreachable!();
+        };
+        match card.next_frame(number, room) {
+            Ok(Some(next)) => {
+                order(&mut self.clock, number, next.orders(), self.moment);
+                written(page.put_frame(line, &room[..next.length]))
+            }
+            Ok(None) => written(page.put_nothing(line)),
+            Err(_) => unreachable!(),
+        }
     }
 
     /// A line is down: its links are given up, and all that waits on it. The TEIs that are on it are put into the beginning of
     /// `room` meanwhile.
     fn bring_down<T: Target>(&mut self, line: u16, room: &mut [u8], page: &mut Page<T>) -> Obeyed
         requires { 127 ≤ length room.old }
-        ensures { (m : machine.Setup) → Stands self.old m
-            → Obeys result (on T.taken page.old) (on T.taken page.new) (Stands self.new) (with_card (meaning.down line) (scene m)) }
+        ensures { Answers result self.old self.new (on T.taken page.old) (on T.taken page.new) (meaning.down line) }
     {
         let line = self.line(line)?;
-        let count = teis_on(&self.exchange, line, room);
-        let teis = &room[..count];
-        written(bring_down(&mut self.exchange, line, teis, page))
+        let count = self.teis_on(line, room);
+        written(self.give_up(line, &room[..count], page))
     }
 
     /// A line takes so many octets, which are put into the beginning of `room`.
@@ -173,18 +208,36 @@ impl Setup {
         page: &mut Page<T>,
     ) -> Obeyed
         requires { count ≤ length room.old }
-        ensures { (m : machine.Setup) → Stands self.old m
-            → Obeys result (on T.taken page.old) (on T.taken page.new) (Stands self.new) (with_card (meaning.pull line count) (scene m)) }
+        ensures { Answers result self.old self.new (on T.taken page.old) (on T.taken page.new) (meaning.pull line count) }
     {
         self.for_kind(CardKind::Octets)?;
-        let line = self.line(line)?;
+        let number = self.line(line)?;
         let octets = &mut room[..count];
-        pull(&mut self.exchange, line, octets);
-        written(page.tell(&mut self.listeners[line], line as u16, octets))
+        self.pull_all(number, octets);
+        written(page.tell(&mut self.listeners[number], line, octets))
+    }
+
+    /// Timers that are started from now on run so long; each has to run a millisecond to an hour.
+    fn set_timers(&mut self, t200: u32, t203: u32, t201: u32) -> Obeyed
+        ensures { (before : Output) → Answers result self.old self.new before before (meaning.timers t200 t203 t201) }
+    {
+        let Ok(lengths) = Lengths::new(t200, t203, t201) else {
+            return Err(LineFault::Faulty(FaultKind::BadNumber));
+        };
+        self.clock.set_lengths(lengths);
+        Ok(())
+    }
+
+    /// Shows what was counted of a line.
+    fn show_counters<T: Target>(&self, line: u16, group: CounterGroup, page: &mut Page<T>) -> Obeyed
+        ensures { Answers result self.now self.now (on T.taken page.old) (on T.taken page.new) (meaning.counters line group) }
+    {
+        let counters = self.board.frames().counters(self.line(line)?);
+        written(page.put_counters(line, group, counters))
     }
 
     /// Layer 3 asks for something, with the octets that it carries.
-    fn ask<T: Target>(
+    fn ask_for<T: Target>(
         &mut self,
         line: u16,
         tei: u8,
@@ -192,25 +245,16 @@ impl Setup {
         octets: &[u8],
         page: &mut Page<T>,
     ) -> Obeyed
-        ensures { (m : machine.Setup) → Stands self.old m
-            → Obeys result (on T.taken page.old) (on T.taken page.new) (Stands self.new) (with_card (meaning.ask line tei what octets.now) (scene m)) }
+        ensures { Answers result self.old self.new (on T.taken page.old) (on T.taken page.new) (meaning.ask line tei what octets.now) }
     {
         let line = self.line(line)?;
-        let request = request_for(what, tei, octets);
-        written(self.exchange.ask(line, request, page))
+        written(self.ask(line, request_for(what, tei, octets), page))
     }
+}
 
-    /// Shows what was counted of a line.
-    fn show_counters<T: Target>(
-        &mut self,
-        line: u16,
-        group: CounterGroup,
-        page: &mut Page<T>,
-    ) -> Obeyed
-        ensures { (m : machine.Setup) → Stands self.old m
-            → Obeys result (on T.taken page.old) (on T.taken page.new) (Stands self.new) (with_card (meaning.counters line group) (scene m)) }
-    {
-        let line = self.line(line)?;
-        written(self.exchange.show_counters(line, group, page))
-    }
+/// What a line comes to at which only a write can fail.
+pub(crate) fn written(told: Put) -> Obeyed
+    ensures { result ≡ written told }
+{
+    told.map_err(|_| LineFault::Write)
 }

@@ -15,6 +15,4 @@ upper_digit _ h = refl
 -- and the two of an octet
 pub upper_pair : (octet : ℕ) → octet < 256 → to_ascii_uppercase (slice_index (encode_lower (octet ∷ [])) 0) ∷ to_ascii_uppercase (slice_index (encode_lower (octet ∷ [])) 1) ∷ [] ≡ encode_upper (octet ∷ [])
 unfolding encode_with
-upper_pair octet small =
-    ap (λ digit. digit ∷ to_ascii_uppercase (slice_index lower_digits (octet % 16)) ∷ []) (upper_digit (octet / 16) (omega (arith, small)))
-    ∙ ap (λ digit. slice_index upper_digits (octet / 16) ∷ digit ∷ []) (upper_digit (octet % 16) (omega (arith, small)))
+upper_pair octet small = grind (arith, upper_digit)

@@ -6,10 +6,7 @@ use Rattle.lapd_frame.specs.declared.notes.Note.{Note}
 use Rattle.lapd_transcript.specs.Text.{line_text, note_text, dropped_text, lost_text, report_text}
 
 appends_then : (a b c : Option (List ℕ)) (x y : List ℕ) → Appends a b x → Appends b c y → Appends a c (x ++ y)
-appends_then None b c x y h k = tt
-appends_then (Some old) None c x y h k = absurd h
-appends_then (Some old) (Some middle) None x y h k = absurd k
-appends_then (Some old) (Some middle) (Some new) x y h k = k ∙ ap (λ text. text ++ y) h ∙ append_assoc old x y
+appends_then a b c x y h k = grind (arith, append_assoc)
 
 pub writes_then : (r : Result Unit WriteFailed) (a b c : Taken) (x y : List ℕ) → IsWritten a b x → Writes r b c y → Writes r a c (x ++ y)
 writes_then (Ok u) a b c x y h k = record { whole = appends_then a.contents b.contents c.contents x y h.whole k.whole; steady = k.steady ∙ h.steady }
@@ -90,10 +87,7 @@ puts_stop f xs i d a b c h p q =
 
 -- What a writer of std takes.
 pub appends_keeps : (a b c : Option (List ℕ)) (x : List ℕ) → Appends a b x → Keeps b c → Appends a c x
-appends_keeps None b c x h k = tt
-appends_keeps (Some old) None c x h k = absurd h
-appends_keeps (Some old) (Some middle) None x h k = absurd k
-appends_keeps (Some old) (Some middle) (Some new) x h k = k ∙ h
+appends_keeps a b c x h k = grind arith
 
 pub appends_nothing : (a : Option (List ℕ)) → Appends a a []
 appends_nothing None = tt
@@ -106,11 +100,7 @@ pub record IsHanded (before after : Option (List ℕ)) (text rest : List ℕ) : 
   pub handed : Appends before after done
 
 pub handed_more : (a b c : Option (List ℕ)) (text rest : List ℕ) (n : ℕ) → IsHanded a b text rest → Appends b c (take n rest) → IsHanded a c text (drop n rest)
-handed_more a b c text rest n h k = record {
-  done = h.done ++ take n rest;
-  split = append_assoc h.done (take n rest) (drop n rest) ∙ ap (λ list. h.done ++ list) (take-append-drop n rest) ∙ h.split;
-  handed = appends_then a b c h.done (take n rest) h.handed k;
-}
+handed_more a b c text rest n h k = grind (arith, append_assoc, take-append-drop, appends_then)
 
 pub handed_part : (a b c : Option (List ℕ)) (text rest : List ℕ) → IsHanded a b text rest → Keeps b c → (n : ℕ) × Appends a c (take n text)
 handed_part a b c text rest h k =

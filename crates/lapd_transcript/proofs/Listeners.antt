@@ -1,5 +1,5 @@
 -- What a listener has heard, and what has been written of it, while it is told octet by octet.
-use Rattle.lapd_transcript.proofs.Vocabulary.{◌≡◌, ℕ, List, [], ◌∷◌, ◌++◌, length, drop, filter_map, Ok, Err, Bor, Option, option_to_list, refl, sym, ap, ◌∙◌, subst, append_assoc, drop-append_seam, filter_map-append, flat_map-append, one_event_an_octet, heard_of, heard_in, Heard, Frame, Deframer, Output, IsPut, IsStuck, frame_text, WriteFailed, Hears, frame_in, found}
+use Rattle.lapd_transcript.proofs.Vocabulary.{arith, ◌≡◌, ℕ, List, [], ◌∷◌, ◌++◌, length, drop, filter_map, Ok, Err, Bor, Option, option_to_list, refl, sym, ap, ◌∙◌, subst, append_assoc, drop-append_seam, filter_map-append, flat_map-append, one_event_an_octet, heard_of, heard_in, Heard, Frame, Deframer, Output, IsPut, IsStuck, frame_text, WriteFailed, Hears, frame_in, found}
 use Rattle.lapd_transcript.proofs.Known.{puts_nothing, puts_then, stuck_more}
 use Rattle.std.proofs.Common.{flat_map, append-nil}
 use Rattle.model_bits.specs.Stream.{Event}
@@ -39,18 +39,10 @@ pub record Shown (line : ℕ) (listener : Deframer) (before after : Output) (pas
 module _ (line : ℕ) (listener new : Deframer) (before after last : Output) (past octets : List ℕ) (octet : ℕ) (event : Option Event)
     (s : Shown line listener before after past octets) (is : heard_in 1024 ((past ++ octets) ++ octet ∷ []) ≡ heard_in 1024 (past ++ octets) ++ option_to_list event) where
   heard_more : heard_in 1024 (past ++ (octets ++ octet ∷ [])) ≡ heard_in 1024 past ++ (s.gained ++ option_to_list event)
-  heard_more =
-      ap (heard_in 1024) (sym (append_assoc past octets (octet ∷ []))) ∙ is ∙ ap (λ events. events ++ option_to_list event) s.heard
-      ∙ append_assoc (heard_in 1024 past) s.gained (option_to_list event)
+  heard_more = grind (arith, append_assoc, option_to_list)
 
   pub shown_on : Hears new ((past ++ octets) ++ octet ∷ []) → IsPut after last (events_text line (option_to_list event)) → Shown line new before last past (octets ++ octet ∷ [])
-  shown_on h w = record {
-    gained = s.gained ++ option_to_list event;
-    heard = heard_more;
-    written = subst (IsPut before last) (sym (events_text-append line s.gained (option_to_list event)))
-        (puts_then (Ok tt) before after last (events_text line s.gained) (events_text line (option_to_list event)) s.written w);
-    hears = subst (Hears new) (append_assoc past octets (octet ∷ [])) h;
-  }
+  shown_on h w = grind (arith, option_to_list, heard_more, events_text-append, puts_then, append_assoc)
 
   pub shown_in_vain : (rest : List ℕ) (why : WriteFailed) → IsStuck after last (events_text line (option_to_list event))
       → IsStuck before last (flat_map (frame_text line) (found past ((octets ++ octet ∷ []) ++ rest)))
@@ -81,12 +73,4 @@ frame_in_vain line before after event octets is w =
 -- Nothing else is told.
 pub nothing_told : (line : ℕ) (t : Output) (heard : Heard) (event : Option Event) → heard_of heard ≡ event → ((octets : Bor (List ℕ)) → heard ≡ Frame octets → ⊥)
     → IsPut t t (events_text line (option_to_list event))
-nothing_told line t heard event is other =
-    subst (λ e. IsPut t t (events_text line (option_to_list e))) is (subst (IsPut t t) (sym (silent heard other)) nothing)
-  where
-    nothing : IsPut t t []
-    nothing = puts_nothing t
-
-    silent : (heard : Heard) → ((octets : Bor (List ℕ)) → heard ≡ Frame octets → ⊥) → events_text line (option_to_list (heard_of heard)) ≡ []
-    silent (Frame octets) other = absurd (other octets refl)
-    silent _ other = refl
+nothing_told line t heard event is other = grind (arith, option_to_list, puts_nothing)

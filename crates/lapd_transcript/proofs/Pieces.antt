@@ -1,5 +1,5 @@
 -- The pieces of the line about a frame.
-use Rattle.lapd_transcript.proofs.Vocabulary.{◌≡◌, ℕ, Bool, if◌then◌else◌, List, [], ◌∷◌, ◌++◌, Option, Some, None, is_some, option_map, Result, refl, ap, sym, subst, ◌∙◌, append_assoc, flat_map, Seq, number_text, WriteFailed, Taken, Writes}
+use Rattle.lapd_transcript.proofs.Vocabulary.{arith, ◌≡◌, ℕ, Bool, if◌then◌else◌, List, [], ◌∷◌, ◌++◌, Option, Some, None, is_some, option_map, Result, refl, ap, sym, subst, ◌∙◌, append_assoc, flat_map, Seq, number_text, WriteFailed, Taken, Writes}
 
 -- pieces, and then a text
 abbrev pub before : List (List ℕ) → List ℕ → List ℕ
@@ -24,10 +24,7 @@ named name (Some n) = refl
 
 pub number_is : (name piece digits more rest : List ℕ) (has : Bool) (number : Option Seq) (said : Option ℕ) → value_of number ≡ said → has ≡ is_some number
     → piece ≡ (if has then name else []) → digits ≡ number_text [] (value_of number) → more ≡ rest → piece ++ (digits ++ more) ≡ number_text name said ++ rest
-number_is name piece digits more rest has number said e h p d f =
-    piece_is piece _ (digits ++ more) _ (p ∙ ap (λ b. if b then name else []) h) (piece_is digits _ more rest d f)
-    ∙ sym (append_assoc _ _ rest)
-    ∙ ap (λ text. text ++ rest) (named name number ∙ ap (number_text name) e)
+number_is name piece digits more rest has number said e h p d f = grind (arith, piece_is, append_assoc, named)
 
 -- what was written, in other words
 pub written_as : (r : Result Unit WriteFailed) (a b : Taken) (x y : List ℕ) → x ≡ y → Writes r a b x → Writes r a b y

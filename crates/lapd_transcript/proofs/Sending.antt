@@ -61,16 +61,11 @@ length-stuffed_most (true ∷ true ∷ true ∷ true ∷ true ∷ b) = omega (ar
 length-stuffed_most (x ∷ b) = omega (arith, length-stuffed_most b)
 
 frame_fits : (octets : List ℕ) → length octets ≤ 1028 → length (item_text (frame octets)) ≤ 9896
-frame_fits octets few =
-    let text = bits octets ++ check (bits octets) in
-    let size : length text ≡ 8 * length octets + 16 = length-append (bits octets) (check (bits octets)) ∙ ap (λ n. n + length (check (bits octets))) (length-bits octets) ∙ ap (λ n. 8 * length octets + n) (length-check (bits octets)) in
-    omega (arith, size, length-append (stuffed text) flag, length-stuffed_most text)
+frame_fits octets few = grind (arith, length-append, length-bits, length-check, length-stuffed_most)
 
 -- an octet takes eight of the bits that are left
 pub octet_takes : (left new : List Bool) (octet : ℕ) → low_bits 8 octet ++ new ≡ refilled left → 8 ≤ length left → 8 + length new ≡ length left
-octet_takes left new octet is enough =
-    let taken : low_bits 8 octet ++ new ≡ left = rw (le-ltb (length left) 8 enough) at is in
-    omega (arith, ap length taken, length-append (low_bits 8 octet) new, length-low_bits 8 octet)
+octet_takes left new octet is enough = grind (arith, le-ltb, length-append, length-low_bits)
 
 -- and where none is left, an idle flag goes on first
 pub rest_stays : (left new : List Bool) (octet : ℕ) → low_bits 8 octet ++ new ≡ refilled left → length left < 8 → length new ≡ length left
@@ -94,10 +89,7 @@ with_one octets octet are small = All-append (λ x. x < 256) octets (octet ∷ [
 
 -- nothing yet
 pub nothing_put : (framer : Framing) (items : List Item) (given : List ℕ) → framing.Stands framer items given → HasPut framer given [] items
-nothing_put framer items given s = record {
-  are_octets = λ k d h. absurd (omega arith);
-  stands = subst (λ l. framing.Stands framer items l) (sym (append-nil given)) s;
-}
+nothing_put framer items given s = grind (arith, append-nil)
 
 -- How an octet leads a framer on.
 abbrev pub Steps : Framing → Framing → ℕ → Type 0
@@ -116,10 +108,7 @@ put_more old new before octets octet items small busy steps put = record {
 pub loaded_put : (old loaded : Framing) (before octets sent given : List ℕ) (items : List Item) → sent ≡ given
     → ((items : List Item) (given : List ℕ) → framing.Stands old items given → framing.Stands loaded (items ++ frame sent ∷ []) given)
     → HasPut old before octets items → HasPut loaded before octets (items ++ frame given ∷ [])
-loaded_put old loaded before octets sent given items is loads put = record {
-  are_octets = put.are_octets;
-  stands = subst (λ l. framing.Stands loaded (items ++ frame l ∷ []) (before ++ octets)) is (loads items (before ++ octets) put.stands);
-}
+loaded_put old loaded before octets sent given items is loads put = grind arith
 
 -- no bit is left after the closing flag
 pub whole_put : (framer : Framing) (sent : List ℕ) (t : Terminal) (before octets : List ℕ) → length framer.left ≡ 0 → HasPut framer before octets (with_frame sent t.items) → HasPut framer before octets (sending sent t)
@@ -151,12 +140,4 @@ sent_is framer sent t before octets many few put =
 
 pub sent : (terminal : rust.Terminal) (octets : List ℕ) (t : Terminal) (before line : List ℕ) → length before ≡ t.given → length terminal.framer.left < 8
     → HasPut terminal.framer before line (sending octets t) → (line ≡ octets_sent octets t) × Sends terminal (after_sending octets t)
-sent terminal octets t before line many few put =
-    let is = sent_is terminal.framer octets t before line many few put in (
-      is,
-      record {
-        octets = before ++ line;
-        stands = put.stands;
-        given = length-append before line ∙ ap (λ n. n + length line) many ∙ ap (λ l. t.given + length l) is;
-      },
-    )
+sent terminal octets t before line many few put = grind (arith, sent_is, length-append)

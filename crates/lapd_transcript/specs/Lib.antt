@@ -22,4 +22,4 @@ pub use Rattle.lapd_transcript.specs.Listened.{Hears, found, pulled_text}
 pub use Rattle.lapd_transcript.specs.Pages.{on}
 pub use Rattle.lapd_transcript.specs.Shown.{fields, number_text, on_line_text, shown_text}
 pub use Rattle.lapd_transcript.specs.Streams.{IsSent, Output, Puts, Writes, joined}
-pub use Rattle.lapd_transcript.specs.Text.{dropped_text, faulty_text, frame_text, line_text, link_words, lost_text, note_text, nothing_text, octets_text, refused_text, report_text, sent_text, stored_text, tei_words}
+pub use Rattle.lapd_transcript.specs.Text.{cause_name, dropped_text, faulty_text, frame_text, line_text, link_words, lost_text, note_text, nothing_text, octets_text, refusal_name, refused_text, report_text, sent_text, stored_text, suffix, tei_words}

@@ -7,7 +7,6 @@
 //! - `lines`: puts the lines of a transcript onto a page, and writes what tells of a faulty line of a script.
 //! - `notes`: what an event brought; `counters`: what was counted of a line.
 //! - `shown`: what a frame says, octets of a line, and the bound of a card.
-//! - `names`: the names that stand in them.
 //! - `terminal`: the sender of a terminal.
 //! - `listener`: tells the octets that a line takes, and the frames in them.
 //!
@@ -15,16 +14,11 @@
 //!
 //! That `ReadFrom` and `WriteTo` fail only where their reader or writer did, try interrupted calls again, and
 //! flush.
-//!
-//! # Open
-//!
-//! What `Debug` shows.
 #![tactic(auto)]
 
 mod counters;
 mod lines;
 mod listener;
-mod names;
 mod notes;
 mod output;
 mod read_from;

@@ -1,9 +1,8 @@
 //! Puts the lines of a transcript onto a page, and writes what tells of a faulty line.
 
-ghost use Rattle.std.specs.Prelude.{◌++◌};
-ghost use Rattle.lapd_transcript.specs.{Puts, Writes, on, line_text, octets_text, refused_text, sent_text, frame_text, nothing_text, faulty_text, stored_text};
+ghost use Rattle.std.specs.Prelude.{◌≡◌, ◌++◌};
+ghost use Rattle.lapd_transcript.specs.{Puts, Writes, on, line_text, octets_text, refusal_name, refused_text, sent_text, frame_text, nothing_text, faulty_text, stored_text};
 
-use crate::names::refusal_name;
 use crate::output::{Page, decimal};
 use crate::streams::{Put, Target};
 use lapd_frame::Refusal;
@@ -70,4 +69,22 @@ pub fn write_faulty<T: Target>(target: &mut T, line: u64, words: &[u8]) -> Put
     let pieces = [b"line ".as_slice(), line.as_slice(), b": ", words, b"\n"];
     let put = page.put_all(&pieces);
     page.finish(put)
+}
+
+fn refusal_name(refusal: Refusal) -> &'static [u8]
+    ensures { result.now ≡ refusal_name refusal }
+{
+    match refusal {
+        Refusal::BadTei => b"bad-tei",
+        Refusal::NoLink => b"no-link",
+        Refusal::WrongState => b"wrong-state",
+        Refusal::TooLong => b"too-long",
+        Refusal::QueueFull => b"queue-full",
+        Refusal::PoolFull => b"pool-full",
+        Refusal::TeiTaken => b"tei-taken",
+        Refusal::TableFull => b"table-full",
+        Refusal::CheckRunning => b"check-running",
+        Refusal::ControlFull => b"control-full",
+        Refusal::WrongSide => b"wrong-side",
+    }
 }

@@ -1,9 +1,8 @@
 //! Puts what an event brought onto a page.
 
-ghost use Rattle.std.specs.Prelude.{◌++◌, [], ◌∷◌, codes, flat_map, option_copied};
-ghost use Rattle.lapd_transcript.specs.{letter_of, Puts, on, octets_text, line_text, link_words, tei_words, note_text, report_text, dropped_text, lost_text};
+ghost use Rattle.std.specs.Prelude.{◌++◌, [], ◌∷◌, codes, flat_map, option_copied, ◌≡◌};
+ghost use Rattle.lapd_transcript.specs.{cause_name, letter_of, suffix, Puts, on, octets_text, line_text, link_words, tei_words, note_text, report_text, dropped_text, lost_text};
 
-use crate::names::{cause_name, suffix};
 use crate::output::{Page, decimal};
 use crate::streams::{Put, Target};
 use lapd_frame::{ErrorCode, Note, Service};
@@ -134,5 +133,30 @@ impl<T: Target> Page<'_, T> {
     {
         let tei = decimal(u64::from(tei));
         self.put_line(line, &[name, b" ", tei.as_slice()])
+    }
+}
+
+fn cause_name(cause: Cause) -> &'static [u8]
+    ensures { result.now ≡ cause_name cause }
+{
+    match cause {
+        Cause::Abort => b"abort",
+        Cause::Ragged => b"ragged",
+        Cause::Short => b"short",
+        Cause::Fcs => b"fcs",
+        Cause::Extension => b"extension",
+        Cause::Sapi => b"sapi",
+        Cause::Tei => b"tei",
+        Cause::Unserved => b"unserved",
+    }
+}
+
+/// What stands after the name of a note about a link.
+fn suffix(service: Service) -> &'static [u8]
+    ensures { result.now ≡ suffix service }
+{
+    match service {
+        Service::Call => b"",
+        Service::Packet => b"-16",
     }
 }

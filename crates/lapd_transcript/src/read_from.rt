@@ -4,7 +4,7 @@ ghost use Rattle.std.specs.Prelude.{◌≡◌, ◌≤◌, length, IfOk};
 ghost use Rattle.std.specs.Io.KnownBytes.{ReadConsumes};
 
 use crate::streams::{ReadFailed, Source};
-use std::{fmt, io};
+use std::io;
 
 /// A reader of std as a [`Source`], which tells what the reader tells. A read that was interrupted is tried again, as
 /// std does.
@@ -54,14 +54,5 @@ impl<R: io::Read> Source for ReadFrom<R> {
                 Err(ReadFailed)
             }
         }
-    }
-}
-
-/// Shows the failures alone, and asks nothing of the reader.
-impl<R> fmt::Debug for ReadFrom<R> {
-    fn fmt<W: fmt::Write>(&self, f: &mut fmt::Formatter<W>) -> fmt::Result {
-        f.debug_struct("ReadFrom")
-            .field("failures", &self.failures)
-            .finish_non_exhaustive()
     }
 }

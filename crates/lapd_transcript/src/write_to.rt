@@ -4,7 +4,7 @@ ghost use Rattle.std.specs.Prelude.{◌≡◌, ◌≤◌, ℕ, false, length, ta
 ghost use Rattle.std.specs.Io.KnownBytes.{Appends, WriteAppends};
 
 use crate::streams::{Target, WriteFailed};
-use std::{fmt, io};
+use std::io;
 
 /// A writer of std as a [`Target`], which tells what the writer tells. A write that takes no octet is a failure; one
 /// that was interrupted is tried again, as std does. Each write is flushed.
@@ -62,21 +62,10 @@ impl<W: io::Write> Target for WriteTo<W> {
     ghost taken = { λ target. record { contents = W.contents target.writer; failures = target.failures; leaves_out = false } };
 
     fn write(&mut self, octets: &[u8]) -> Result<(), WriteFailed> {
-        match self.write_whole(octets) {
-            Ok(()) => Ok(()),
-            Err(_) => {
-                self.failures = self.failures.saturating_add(1);
-                Err(WriteFailed)
-            }
+        if self.write_whole(octets).is_ok() {
+            return Ok(());
         }
-    }
-}
-
-/// Shows the failures alone, and asks nothing of the writer.
-impl<W> fmt::Debug for WriteTo<W> {
-    fn fmt<O: fmt::Write>(&self, f: &mut fmt::Formatter<O>) -> fmt::Result {
-        f.debug_struct("WriteTo")
-            .field("failures", &self.failures)
-            .finish_non_exhaustive()
+        self.failures = self.failures.saturating_add(1);
+        Err(WriteFailed)
     }
 }

@@ -1,5 +1,5 @@
 -- The ranges of the numbers of `limits` are those of a card's configuration.
-use Rattle.lapd_sim.proofs.OfMachine.Vocabulary.{◌≡◌, ℕ, ◌<◌, ◌≤◌, ◌^◌, Bool, true, false, not, cond, ◌&&◌, ◌⊎◌, inl, inr, nat_lt, nat_le, List, [], ◌∷◌, length, Option, None, Some, Result, Ok, Err, refl, sym, ap, ◌∙◌, subst, arith, codes, decimal, bytes_eq, list_all, is_ascii_digit, all_ascii_digits, digits_value, leb-true, le-leb, lt-ltb, none-some, digits_decimal, digits_value-decimal, decimal_nonempty, IsNumeralModel, numerals_by_value, tells_all_ascii_digits, Config, Lines, Terminals, Control, Slots, N201, is_within, IsInRange, Within, ranges_of, Network, FaultKind, BadNumber, Job, job, job_or_none, limits, limits_of, run, frame, number, ◌>>=◌, limits_words, limits_of_card, LimitsAreOfCards}
+use Rattle.lapd_sim.proofs.OfMachine.Vocabulary.{◌≡◌, ℕ, ◌<◌, ◌≤◌, ◌^◌, Bool, true, false, not, cond, ◌&&◌, ◌⊎◌, inl, inr, nat_lt, nat_le, List, [], ◌∷◌, length, Option, None, Some, Result, Ok, Err, refl, sym, ap, ◌∙◌, subst, arith, codes, decimal, bytes_eq, list_all, is_ascii_digit, all_ascii_digits, digits_value, leb-true, le-leb, lt-ltb, none-some, digits_decimal, digits_value-decimal, decimal_nonempty, IsNumeralModel, numerals_by_value, tells_all_ascii_digits, Config, Lines, Terminals, Control, Slots, N201, is_within, IsInRange, Within, ranges_of, Network, User, FaultKind, BadNumber, Job, job, job_or_none, limits, limits_of, run, frame, number, ◌>>=◌, limits_words, limits_of_card, LimitsAreOfCards}
 
 own : IsNumeralModel (λ word. all_ascii_digits word ≡ true) (digits_value 10)
 own = numerals_by_value _ tells_all_ascii_digits
@@ -26,11 +26,7 @@ chained : (a b c d e : Result ℕ FaultKind) (l t r s n : ℕ) → a ≡ Ok l �
 chained a b c d e l t r s n ea eb ec ed ee = rw ea (rw eb (rw ec (rw ed (rw ee refl))))
 
 each : (c : Config) → IsInRange c → job (limits_words c) ≡ Some (limits_of_card c)
-each c h =
-    let ranges = ranges_of c h in
-    ap job_or_none (chained _ _ _ _ _ c.lines c.terminals c.control c.slots c.n201
-    (written 1 64 c.lines (omega arith) ranges.lines) (written 1 8 c.terminals (omega arith) ranges.terminals) (written 2 16 c.control (omega arith) ranges.control)
-    (written 1 8192 c.slots (omega arith) ranges.slots) (written 8 260 c.n201 (omega arith) ranges.n201))
+each c h = grind (arith, ranges_of, job_or_none, chained, written)
 
 -- what is read as a number is in its range
 in_range : (a b c d : Bool) (v n : ℕ) (y : Result ℕ FaultKind) → (y ≡ Ok n → ⊥) → cond (a && b && c && d) (Ok v) y ≡ Ok n → (c ≡ true) × (d ≡ true) × (v ≡ n)
@@ -38,12 +34,7 @@ in_range true true true true v n y never e = (refl, refl, cc)
 in_range _ _ _ _ v n y never e = absurd (never e)
 
 read_in_range : (low high : ℕ) (word : List ℕ) (n : ℕ) → number low high word ≡ Ok n → Within low high n
-read_in_range low high word n e =
-    let found = in_range (nat_lt 0 (length word)) (list_all is_ascii_digit word) (nat_le low (digits_value 10 word)) (nat_le (digits_value 10 word) high) (digits_value 10 word) n (Err BadNumber) (λ h. cc) e in
-    record {
-      least = subst (λ v. low ≤ v) found.2 (leb-true low (digits_value 10 word) found.0);
-      most = subst (λ v. v ≤ high) found.2 (leb-true (digits_value 10 word) high found.1);
-    }
+read_in_range low high word n e = grind (arith, in_range, nat_lt, list_all, is_ascii_digit, nat_le, digits_value, Err)
 
 -- the first step of a chain found a number
 first_of : (r : Result ℕ FaultKind) (f : ℕ → Result Job FaultKind) (j : Job) → job_or_none (r >>= f) ≡ Some j → (n : ℕ) × (r ≡ Ok n) × (job_or_none (f n) ≡ Some j)
@@ -65,9 +56,7 @@ abbrev card_of : ℕ → ℕ → ℕ → ℕ → ℕ → Config
 card_of l t r s n = record { lines = l; terminals = t; k = 1; k16 = 1; queue = 1; unit_queue = 1; control = r; slots = s; n201 = n; n200 = 0; side = Network }
 
 starts : (l t r s n : ℕ) → Within 1 64 l → Within 1 8 t → Within 2 16 r → Within 1 8192 s → Within 8 260 n → IsInRange (card_of l t r s n)
-starts l t r s n wl wt wr ws wn =
-    passed_by (is_within 1 64 l) (is_within 1 8 t) (is_within 2 16 r) (is_within 1 8192 s) (is_within 8 260 n)
-    (within_is 1 64 l wl) (within_is 1 8 t wt) (within_is 2 16 r wr) (within_is 1 8192 s ws) (within_is 8 260 n wn)
+starts l t r s n wl wt wr ws wn = grind (arith, passed_by, is_within, within_is)
 
 asked : (a b c d e : List ℕ) (j : Job) → job_or_none (limits_of a b c d e) ≡ Some j → (card : Config) × IsInRange card × (j ≡ limits_of_card card)
 asked a b c d e j h =
@@ -95,8 +84,8 @@ not_limits false x l t r s n never e = cc
 only : (words : List (List ℕ)) (l t r s n : ℕ) → job words ≡ Some (limits l t r s n) → (c : Config) × IsInRange c × (limits l t r s n ≡ limits_of_card c)
 only [] l t r s n e = cc
 only (a ∷ []) l t r s n e = absurd (not_limits (bytes_eq a (codes "run")) (Some run) l t r s n (λ h. cc) e)
-only (a ∷ b ∷ []) l t r s n e = absurd (not_limits (bytes_eq a (codes "frame")) (Some (frame b false)) l t r s n (λ h. cc) e)
-only (a ∷ b ∷ c ∷ []) l t r s n e = absurd (not_limits (bytes_eq a (codes "frame") && bytes_eq c (codes "--network")) (Some (frame b true)) l t r s n (λ h. cc) e)
+only (a ∷ b ∷ []) l t r s n e = absurd (not_limits (bytes_eq a (codes "frame")) (Some (frame b User)) l t r s n (λ h. cc) e)
+only (a ∷ b ∷ c ∷ []) l t r s n e = absurd (not_limits (bytes_eq a (codes "frame") && bytes_eq c (codes "--network")) (Some (frame b Network)) l t r s n (λ h. cc) e)
 only (a ∷ b ∷ c ∷ d ∷ []) l t r s n e = cc
 only (a ∷ b ∷ c ∷ d ∷ f ∷ []) l t r s n e = cc
 only (a ∷ b ∷ c ∷ d ∷ f ∷ g ∷ []) l t r s n e =

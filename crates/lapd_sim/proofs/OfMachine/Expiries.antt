@@ -7,20 +7,12 @@ use Rattle.lapd_sim.proofs.OfMachine.Orders.{expiry_starts}
 -- ---- with each expiry, as it starts at most one timer, the time that is left falls
 
 pub runs_long : (lengths : Lengths) (timer : Timer) → AreInRange lengths → 1 ≤ duration lengths timer
-runs_long lengths (T200 service n) range = range.t200
-runs_long lengths (T203 service n) range = range.t203
-runs_long lengths T201 range = range.t201
+runs_long lengths timer range = grind (arith, T200, T203, T201)
 
 -- orders leave the lengths as they are
 pub order_lengths : (line now : ℕ) (order : Order) (c : Timers) → (with_order c line order now).lengths ≡ c.lengths
 unfolding with_order
-order_lengths line now (Stop timer) c = refl
-order_lengths line now (Start timer) c =
-    let e : Expiry = record { moment = now + duration c.lengths timer; line = line; timer = timer } in
-    elim (finds_place c line (Start timer)) as (λ b. (cond b (record c { running = put_in_order is_before e (without line timer c.running) }) c).lengths ≡ c.lengths) [
-      | true ↦ refl
-      | false ↦ refl
-    ]
+order_lengths line now order c = grind (arith, Stop, Start, Expiry, duration, finds_place, put_in_order, is_before)
 
 pub orders_lengths : (line now : ℕ) (orders : List Order) (c : Timers) → (fold (ordered line now) c orders).lengths ≡ c.lengths
 orders_lengths line now [] c = refl
@@ -36,7 +28,7 @@ module _ (end line now : ℕ) where
   time_until-none (Start timer ∷ orders) c h = absurd (omega (arith, h))
   time_until-none (Stop timer ∷ orders) c h = omega (arith, time_until-none orders (with_order c line (Stop timer) now) (omega (arith, h)), time_until-stop c line timer now end)
 
-  time_until-one : (orders : List Order) (c : Timers) → starts orders ≤ 1 → AreInRange c.lengths → time_until end (fold (ordered line now) c orders) ≤ time_until end c + (end - now)
+  pub time_until-one : (orders : List Order) (c : Timers) → starts orders ≤ 1 → AreInRange c.lengths → time_until end (fold (ordered line now) c orders) ≤ time_until end c + (end - now)
   unfolding starts
   time_until-one [] c h range = omega arith
   time_until-one (Start timer ∷ orders) c h range =
@@ -51,11 +43,7 @@ not_due P due e = absurd (cc)
 
 -- what is due is the first, and no later than the end
 first_is_due : (e : Expiry) (es : List Expiry) (end : ℕ) (due : ℕ × Timer) → first_due (e ∷ es) end ≡ Some due → e.moment ≤ end
-first_is_due e es end due is = go (nat_le e.moment end) refl is
-  where
-    go : (b : Bool) → nat_le e.moment end ≡ b → cond b (Some (e.line, e.timer)) None ≡ Some due → e.moment ≤ end
-    go true within is = grind (arith, nat_tests, within)
-    go false within is = not_due _ due is
+first_is_due e es end due is = grind (arith, nat_le, nat_tests, not_due)
 
 pub expiry_lowers : (end line : ℕ) (timer : Timer) (due : ℕ × Timer) (b : Setup) → AreInRange b.clock.lengths → due_at b.clock end ≡ Some due
     → time_until end (happened (at_expiry end b) (at line (expiry timer))).clock < time_until end b.clock
@@ -70,6 +58,17 @@ expiry_lowers end line timer due b range is = go b.clock.running refl
         let less = time_until-due b.clock e es end end some within in
         let more = time_until-one end line now (orders_in (reply (at line (expiry timer)) b.board)) (after_due b.clock end) (expiry_starts line timer b.board) range in
         omega (arith, is_now, within, less, more)
+
+-- a timer that is taken from the clock at its moment leaves more time than one has that is started then
+pub due_nears : (c : Timers) (end moment : ℕ) → next_moment c ≡ Some moment → moment ≤ end → time_until end (after_due c moment) + (end - moment) < time_until end c
+due_nears c end moment is within = go c.running refl
+  where
+    go : (running : List Expiry) → c.running ≡ running → time_until end (after_due c moment) + (end - moment) < time_until end c
+    go [] none = let never : None ≡ Some moment = sym (ap (λ es. next_moment (record c { running = es })) none) ∙ is in absurd (cc)
+    go (e ∷ es) some =
+        let here : Some e.moment ≡ Some moment = sym (ap (λ es. next_moment (record c { running = es })) some) ∙ is in
+        let same : e.moment ≡ moment = cc in
+        omega (arith, same, within, time_until-due c e es moment end some (omega (arith, same)))
 
 -- ---- what falls due is applied one after the other, however often it is tried beyond that
 

@@ -102,14 +102,7 @@ pulls_within card number count within = All-replicate (IsAtLine card) count (at 
 
 -- what holds of all holds of the first that is due, and of the others
 first_has : (P : ℕ → Type 0) (es : List Expiry) (end : ℕ) (due : ℕ × Timer) → first_due es end ≡ Some due → AllByRecursion (λ (e : Expiry). P e.line) es → P due.0
-first_has P [] end due is h = absurd (none-some due is)
-first_has P (e ∷ es) end due is h = go (nat_le e.moment end) is
-  where
-    go : (b : Bool) → cond b (Some (e.line, e.timer)) None ≡ Some due → P due.0
-    go true is =
-        let same : (e.line, e.timer) ≡ due = cc in
-        subst (λ (d : ℕ × Timer). P d.0) same h.0
-    go false is = absurd (none-some due is)
+first_has P es end due is h = grind (arith, none-some, nat_le)
 
 rest_have : (P : Expiry → Type 0) (es : List Expiry) (end : ℕ) → AllByRecursion P es → AllByRecursion P (after_first_due es end)
 rest_have P [] end h = h
@@ -120,45 +113,44 @@ rest_sorted [] end h = h
 rest_sorted (e ∷ es) end h = elim (nat_le e.moment end) as (λ b. IsInOrder is_before (cond b es (e ∷ es))) [ true ↦ h.1 | false ↦ h ]
 
 due_ticks : (end : ℕ) (b : Setup) → TicksOn b → TicksOn (at_expiry end b)
-due_ticks end b t = record {
-  in_order = rest_sorted b.clock.running end t.in_order;
-  on_lines = rest_have (λ x. x.line < b.board.config.lines) b.clock.running end t.on_lines;
-  lengths = t.lengths;
-}
+due_ticks end b t = grind (arith, rest_sorted, rest_have)
+
+-- what holds where nothing is due, and of an expiry before others, holds of a wait
+module _ (end : ℕ) (P : Scene → Scene → List Event → Type 0) (over : (s : Scene) → P s s [])
+    (then : (s : Scene) (due : ℕ × Timer) (t : Scene) (es : List Event) → due_at s.setup.clock end ≡ Some due → P (expired end due.0 due.1 s) t es → P s t (at due.0 (expiry due.1) ∷ es)) where
+  pub by_expiry : (most : ℕ) (s : Scene) → P s (expiries most end s) (expiry_events most end s)
+  by_expiry zero s = over s
+  by_expiry (suc most) s = go (λ next. by_expiry most next) (due_at s.setup.clock end) refl
+    where
+      go : ((next : Scene) → P next (expiries most end next) (expiry_events most end next)) → (o : Option (ℕ × Timer)) → due_at s.setup.clock end ≡ o
+          → P s (elim o as (λ o. Scene) [ None ↦ s | Some due ↦ expiries most end (expired end due.0 due.1 s) ])
+          (elim o as (λ o. List Event) [ None ↦ [] | Some due ↦ at due.0 (expiry due.1) ∷ expiry_events most end (expired end due.0 due.1 s) ])
+      go more None is = over s
+      go more (Some due) is = then s due _ _ is (more (expired end due.0 due.1 s))
 
 -- The events of a wait are at lines of the card, as its timers are.
-pub record Waited (most end : ℕ) (s : Scene) : Type 0 where
-  pub within : AreAtLines s.setup.board (expiry_events most end s)
-  pub ticks : TicksOn (expiries most end s).setup
+pub record Waited (s t : Scene) (events : List Event) : Type 0 where
+  pub within : AreAtLines s.setup.board events
+  pub ticks : TicksOn t.setup
 
-pub wait_ticks : (most end : ℕ) (s : Scene) → TicksOn s.setup → Waited most end s
-wait_ticks zero end s t = record { within = All-nil (IsAtLine s.setup.board); ticks = t }
-wait_ticks (suc most) end s t =
-    let answer = go (λ next. wait_ticks most end next) (due_at s.setup.clock end) refl in
-    record { within = answer.0; ticks = answer.1 }
-  where
-    go : ((next : Scene) → TicksOn next.setup → Waited most end next) → (o : Option (ℕ × Timer)) → due_at s.setup.clock end ≡ o
-        → AreAtLines s.setup.board (elim o as (λ o. List Event) [ None ↦ [] | Some due ↦ at due.0 (expiry due.1) ∷ expiry_events most end (expired end due.0 due.1 s) ])
-        × TicksOn (elim o as (λ o. Scene) [ None ↦ s | Some due ↦ expiries most end (expired end due.0 due.1 s) ]).setup
-    go more None is = (All-nil (IsAtLine s.setup.board), t)
-    go more (Some due) is =
-        let e : Event = at due.0 (expiry due.1) in
-        let next = expired end due.0 due.1 s in
-        let here = first_has (λ line. line < s.setup.board.config.lines) s.setup.clock.running end due is t.on_lines in
-        let rest = more next (event_ticks (at_expiry end s.setup) e here (due_ticks end s.setup t)) in
-        (All-cons (IsAtLine s.setup.board) e (expiry_events most end next) here rest.within, rest.ticks)
+pub wait_ticks : (most end : ℕ) (s : Scene) → TicksOn s.setup → Waited s (expiries most end s) (expiry_events most end s)
+wait_ticks most end s =
+    by_expiry end (λ s t es. TicksOn s.setup → Waited s t es) (λ s k. record { within = All-nil (IsAtLine s.setup.board); ticks = k })
+    (λ s due t es is more k.
+    let e : Event = at due.0 (expiry due.1) in
+    let here = first_has (λ line. line < s.setup.board.config.lines) s.setup.clock.running end due is k.on_lines in
+    let rest = more (event_ticks (at_expiry end s.setup) e here (due_ticks end s.setup k)) in
+    record { within = All-cons (IsAtLine s.setup.board) e es here rest.within; ticks = rest.ticks })
+    most s
 
 -- they stay in order while it lasts
 pub wait_sorts : (most end : ℕ) (s : Scene) → IsInOrder is_before s.setup.clock.running → IsInOrder is_before (expiries most end s).setup.clock.running
-wait_sorts zero end s h = h
-wait_sorts (suc most) end s h = go (λ next. wait_sorts most end next) (due_at s.setup.clock end)
-  where
-    go : ((next : Scene) → IsInOrder is_before next.setup.clock.running → IsInOrder is_before (expiries most end next).setup.clock.running) → (o : Option (ℕ × Timer))
-        → IsInOrder is_before (elim o as (λ o. Scene) [ None ↦ s | Some due ↦ expiries most end (expired end due.0 due.1 s) ]).setup.clock.running
-    go more None = h
-    go more (Some due) =
-        let b = at_expiry end s.setup in
-        more (expired end due.0 due.1 s) (orders_sort due.0 b.now (orders_in (reply (at due.0 (expiry due.1)) b.board)) b.clock (rest_sorted s.setup.clock.running end h))
+wait_sorts most end s =
+    by_expiry end (λ s t es. IsInOrder is_before s.setup.clock.running → IsInOrder is_before t.setup.clock.running) (λ s h. h)
+    (λ s due t es is more h.
+    let b = at_expiry end s.setup in
+    more (orders_sort due.0 b.now (orders_in (reply (at due.0 (expiry due.1)) b.board)) b.clock (rest_sorted s.setup.clock.running end h)))
+    most s
 
 -- where none is due, all are later
 pub none_later : (es : List Expiry) (end : ℕ) → IsInOrder is_before es → first_due es end ≡ None → All (λ (e : Expiry). end < e.moment) es

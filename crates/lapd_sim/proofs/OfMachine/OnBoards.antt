@@ -1,5 +1,5 @@
 -- A board leads where the card of its kind leads.
-use Rattle.lapd_sim.proofs.OfMachine.Vocabulary.{◌≡◌, ℕ, List, [], ◌∷◌, map, refl, ap, ◌∙◌, Octets, Frames, Config, after, after_all, RunsOnBoards}
+use Rattle.lapd_sim.proofs.OfMachine.Vocabulary.{arith, ◌≡◌, ℕ, List, [], ◌∷◌, map, refl, ap, ◌∙◌, Octets, Frames, Config, after, after_all, RunsOnBoards}
 use Rattle.model_card.specs.Event as frames
 use Rattle.model_card.specs.Machine as machine
 use Rattle.model_card.specs.Run as runs
@@ -13,10 +13,7 @@ use Rattle.lapd_sim.specs.machine.Board.{octet_event, frame_event}
 
 on_octets : (c : Config) (m : OctetCard) (number : ℕ) (e : port.Event)
     → after (octet_event (octets.at number e)) (record { kind = Octets; config = c; card = m }) ≡ record { kind = Octets; config = c; card = ports.after (octets.at number e) m }
-on_octets c m number (port.octet value) = refl
-on_octets c m number (port.expiry timer) = refl
-on_octets c m number (port.request r) = refl
-on_octets c m number port.pull = refl
+on_octets c m number e = grind arith
 
 runs_of_octets : (c : Config) (m : OctetCard) (events : List octets.Event)
     → after_all (record { kind = Octets; config = c; card = m }) (map octet_event events) ≡ record { kind = Octets; config = c; card = octet_runs.after_all m events }
@@ -27,10 +24,7 @@ runs_of_octets c m (e ∷ events) =
 
 on_frames : (c : Config) (m : OctetCard) (number : ℕ) (e : line.Event)
     → after (frame_event (frames.at number e)) (record { kind = Frames; config = c; card = m }) ≡ record { kind = Frames; config = c; card = record m { card = machine.after (frames.at number e) m.card } }
-on_frames c m number (line.hears e) = refl
-on_frames c m number (line.expiry timer) = refl
-on_frames c m number (line.request r) = refl
-on_frames c m number line.next = refl
+on_frames c m number e = grind arith
 
 runs_of_frames : (c : Config) (m : OctetCard) (events : List frames.Event)
     → after_all (record { kind = Frames; config = c; card = m }) (map frame_event events) ≡ record { kind = Frames; config = c; card = record m { card = runs.after_all m.card events } }

@@ -13,14 +13,10 @@ use Rattle.lapd_sim.specs.machine.Board.{reply_of_octets, reply_of_frames}
 
 answered : (a : line.Answer) → starts (lines.orders_in a) ≤ 1 → starts (orders_in (reply_of_octets (port.answer_of a))) ≤ 1
 unfolding starts
-answered (line.told t) h = h
-answered (line.refused why) h = h
-answered (line.gave next) h = omega arith
+answered a h = grind arith
 
 given-few : (a : line.Answer) → starts (lines.orders_in a) ≤ 1 → starts (orders_in (reply_of_frames a)) ≤ 1
-given-few (line.told t) h = h
-given-few (line.refused why) h = h
-given-few (line.gave next) h = h
+given-few a h = grind arith
 
 on : (kind : CardKind) (c : Config) (m : OctetCard) (number : ℕ) (timer : Timer) → starts (orders_in (reply (at number (expiry timer)) (record { kind = kind; config = c; card = m }))) ≤ 1
 unfolding reply ports.answer ports.meant

@@ -1,136 +1,9 @@
 -- The text of a script is what the answers to its events say.
-use Rattle.lapd_sim.proofs.OfMachine.Vocabulary.{◌≡◌, ℕ, zero, suc, ◌+◌, Bool, true, false, cond, List, [], ◌∷◌, ◌++◌, replicate, get_or, Option, Some, None, Result, Ok, Err, refl, sym, ap, ◌∙◌, subst, nat_lt, nat_le, append_assoc, append-nil, fold, none-some, Timer, LengthFault, Lengths, first_out_of_range, pull, expiry, Event, at, Board, fresh, after, reply, moments, after_all, hears, next, is_heard_as, CardKind, Octets, Frames, FaultKind, TooLong, BadNumber, BadLine, BadFrame, TimeOver, read, pieces_of, line_in, Setup, begun, terminal_at, octets_sent, Scene, reply_text, octet_in, pulled_text, with_event, with_events, octets_at, Pulls, one_pull, pulls, expired, expiries, after_rx, after_pull, after_next, after_counters, after_coming, can_come, for_octets, for_frames, after_wait, after_timers, with_timers, with_card, without_card, last_moment, Fault, Played, not_begun, faulty, is_too_long, after_scene, after_bench, after_reading, one_more, expiry_events, coming_events, read_events, unless_fault, line_events, events_from, first_board, replies_text, octet_given, meant_moments, read_moments, read_text, line_moments, moments_from, text_from, TranscriptsAreReplies, after_down, downs, teis_on}
-use Rattle.std.specs.Prelude.{map}
-use Rattle.model_bits.specs.Stream.{dropped}
-use Rattle.model_line.specs.Came.{cause_of}
-use Rattle.lapd_clock.specs.Timers as clocks
+use Rattle.lapd_sim.proofs.OfMachine.Vocabulary.{[], arith, ◌≡◌, ℕ, ◌+◌, Bool, true, false, cond, List, ◌∷◌, ◌++◌, Option, Some, None, Result, Ok, Err, refl, sym, ap, ◌∙◌, subst, append_assoc, append-nil, fold, none-some, Event, Board, fresh, after, moments, after_all, next, FaultKind, TooLong, read, pieces_of, line_in, Setup, begun, Scene, with_card, without_card, Fault, Played, not_begun, faulty, is_too_long, after_scene, after_bench, after_reading, one_more, read_events, unless_fault, line_events, events_from, first_board, meant_moments, read_moments, read_text, line_moments, moments_from, text_from, TranscriptsAreReplies}
 use Rattle.lapd_script.specs.Meaning as line
 use Rattle.lapd_sim.specs.machine.Replies.{said, line_text}
 use Rattle.lapd_sim.proofs.OfMachine.Events.{one_goes, Begins, waits, stops, begins, one_begins, nothing_brought, stopped}
-
-moments-append : (card : Board) (xs ys : List Event) → moments card (xs ++ ys) ≡ moments card xs ++ moments (after_all card xs) ys
-unfolding moments after_all
-moments-append card [] ys = refl
-moments-append card (x ∷ xs) ys = ap (λ ms. record { board = card; event = x; reply = reply x card } ∷ ms) (moments-append (after x card) xs ys)
-
-no_moment : (card : Board) → moments card [] ≡ []
-unfolding moments
-no_moment card = refl
-
-first_moment : (card : Board) (e : Event) (events : List Event)
-    → replies_text (moments card (e ∷ events)) ≡ reply_text e.line (reply e card) ++ replies_text (moments (after e card) events)
-unfolding moments
-first_moment card e events = refl
-
--- Events, pulls and expiries.
-events_say : (events : List Event) (s : Scene) → (with_events events s).text ≡ s.text ++ replies_text (moments s.setup.board events)
-unfolding moments
-events_say [] s = sym (append-nil s.text)
-events_say (e ∷ events) s =
-    events_say events (with_event s e)
-    ∙ append_assoc s.text (reply_text e.line (reply e s.setup.board)) (replies_text (moments (after e s.setup.board) events))
-
-pulls_give : (count number : ℕ) (p : Pulls) → (pulls count number p).octets ≡ p.octets ++ map octet_given (moments p.setup.board (replicate count (at number pull)))
-unfolding moments
-pulls_give zero number p = sym (append-nil p.octets)
-pulls_give (suc count) number p =
-    pulls_give count number (one_pull number p)
-    ∙ append_assoc p.octets (octet_in (reply (at number pull) p.setup.board) ∷ []) (map octet_given (moments (after (at number pull) p.setup.board) (replicate count (at number pull))))
-
-pulls_keep : (count number : ℕ) (p : Pulls) → (pulls count number p).setup.taken ≡ p.setup.taken
-pulls_keep zero number p = refl
-pulls_keep (suc count) number p = pulls_keep count number (one_pull number p)
-
-expiries_say : (most end : ℕ) (s : Scene) → (expiries most end s).text ≡ s.text ++ replies_text (moments s.setup.board (expiry_events most end s))
-expiries_say zero end s = sym (ap (λ ms. s.text ++ replies_text ms) (no_moment s.setup.board) ∙ append-nil s.text)
-expiries_say (suc most) end s = go (λ t. expiries_say most end t) (clocks.due_at s.setup.clock end)
-  where
-    go : ((t : Scene) → (expiries most end t).text ≡ t.text ++ replies_text (moments t.setup.board (expiry_events most end t))) → (o : Option (ℕ × Timer))
-        → (elim o as (λ o. Scene) [ None ↦ s | Some due ↦ expiries most end (expired end due.0 due.1 s) ]).text
-        ≡ s.text ++ replies_text (moments s.setup.board (elim o as (λ o. List Event) [ None ↦ [] | Some due ↦ at due.0 (expiry due.1) ∷ expiry_events most end (expired end due.0 due.1 s) ]))
-    go more None = sym (ap (λ ms. s.text ++ replies_text ms) (no_moment s.setup.board) ∙ append-nil s.text)
-    go more (Some due) =
-        let e : Event = at due.0 (expiry due.1) in
-        let rest = expiry_events most end (expired end due.0 due.1 s) in
-        more (expired end due.0 due.1 s)
-        ∙ append_assoc s.text (reply_text due.0 (reply e s.setup.board)) (replies_text (moments (after e s.setup.board) rest))
-        ∙ ap (λ x. s.text ++ x) (sym (first_moment s.setup.board e rest))
-
--- A line, where there is a card.
-abbrev Says : List ℕ → Result Scene FaultKind → Type 0
-Says text (Err kind) = Unit {0}
-Says text (Ok s) = s.text ≡ text
-
-if_good : (b : Bool) (text : List ℕ) (r : Result Scene FaultKind) (kind : FaultKind) → Says text r → Says text (cond b r (Err kind))
-if_good true text r kind h = h
-if_good false text r kind h = tt
-
-abbrev scene_of : Setup → Scene
-scene_of b = record { setup = b; text = [] }
-
--- `timers` says nothing
-timers_say : (lengths : Lengths) (b : Setup) → Says [] (with_timers lengths (scene_of b))
-timers_say lengths b = go (first_out_of_range lengths)
-  where
-    go : (o : Option LengthFault) → Says [] (elim o as (λ o. Result Scene FaultKind) [ None ↦ Ok (after_timers lengths (scene_of b)) | Some timer ↦ Err BadNumber ])
-    go (Some timer) = tt
-    go None = refl
-
--- at a card of the other kind a line says nothing
-octets_only : (kind : CardKind) (text : List ℕ) (r : Result Scene FaultKind) → Says text r → Says text (for_octets kind r)
-octets_only Octets text r h = h
-octets_only Frames text r h = tt
-
-frames_only : (kind : CardKind) (text : List ℕ) (r : Result Scene FaultKind) → Says text r → Says text (for_frames kind r)
-frames_only Octets text r h = tt
-frames_only Frames text r h = h
-
--- a frame that comes
-coming_says : (kind : CardKind) (number : ℕ) (octets : List ℕ) (b : Setup)
-    → (after_coming kind number octets (scene_of b)).text ≡ replies_text (moments b.board (coming_events kind number octets (scene_of b)))
-coming_says Octets number octets b = events_say (octets_at number (octets_sent octets (terminal_at number b))) _
-coming_says Frames number octets b = events_say (at number (is_heard_as (scene_of b) octets) ∷ []) (scene_of b)
-
-meaning_says : (m : line.Meaning) (b : Setup) → Says (said m b (meant_moments m b)) (with_card m (scene_of b))
-meaning_says line.skip b = refl
-meaning_says (line.card kind config) b = tt
-meaning_says (line.rx number octets) b =
-    octets_only b.board.kind _ _
-    (if_good (nat_lt number b.board.config.lines) _ (Ok (after_rx number octets (scene_of b))) BadLine
-    (events_say (octets_at number octets) (scene_of b)))
-meaning_says (line.into number octets) b =
-    let text = replies_text (moments b.board (coming_events b.board.kind number octets (scene_of b))) in
-    let come = Ok (after_coming b.board.kind number octets (scene_of b)) in
-    if_good (nat_lt number b.board.config.lines) text (cond (can_come b.board.kind octets) come (Err BadFrame)) BadLine
-    (if_good (can_come b.board.kind octets) text come BadFrame (coming_says b.board.kind number octets b))
-meaning_says (line.failed number fault) b =
-    frames_only b.board.kind _ _
-    (if_good (nat_lt number b.board.config.lines) _ (Ok (with_event (scene_of b) (at number (hears (dropped (cause_of fault)))))) BadLine
-    (events_say (at number (hears (dropped (cause_of fault))) ∷ []) (scene_of b)))
-meaning_says (line.next number) b =
-    frames_only b.board.kind _ _
-    (if_good (nat_lt number b.board.config.lines) _ (Ok (after_next number (scene_of b))) BadLine (events_say (at number next ∷ []) (scene_of b)))
-meaning_says (line.down number) b =
-    if_good (nat_lt number b.board.config.lines) _ (Ok (after_down number (scene_of b))) BadLine (events_say (downs number (teis_on number b.board)) (scene_of b))
-meaning_says (line.pull number count) b =
-    let start : Pulls = record { setup = b; octets = [] } in
-    let text = said (line.pull number count) b (meant_moments (line.pull number count) b) in
-    octets_only b.board.kind text _
-    (if_good (nat_lt number b.board.config.lines) text (Ok (after_pull number count (scene_of b))) BadLine
-    (pulls_text number _ _ _ _ (pulls_keep count number start) (pulls_give count number start)))
-  where
-    pulls_text : (number : ℕ) (t u : List (List ℕ)) (x y : List ℕ) → t ≡ u → x ≡ y
-        → pulled_text number (get_or t number []) x ≡ pulled_text number (get_or u number []) y
-    pulls_text number t u x y e f = ap (λ z. pulled_text number (get_or z number []) x) e ∙ ap (λ z. pulled_text number (get_or u number []) z) f
-meaning_says (line.wait milliseconds) b =
-    let end = b.now + milliseconds in
-    if_good (nat_le end last_moment) _ (Ok (after_wait milliseconds (scene_of b))) TimeOver
-    (expiries_say (clocks.time_until end b.clock) end (scene_of b))
-meaning_says (line.timers t200 t203 t201) b = timers_say (record { t200 = t200; t203 = t203; t201 = t201 }) b
-meaning_says line.stored b = refl
-meaning_says (line.counters number group) b = if_good (nat_lt number b.board.config.lines) _ (Ok (after_counters group number (scene_of b))) BadLine refl
-meaning_says (line.ask number tei what octets) b =
-    if_good (nat_lt number b.board.config.lines) _ _ BadLine (events_say _ (scene_of b))
+use Rattle.lapd_sim.proofs.OfMachine.Meanings.{May, meaning_brings, moments-append, no_moment, scene_of}
 
 -- A line, as far as the script has been played.
 abbrev Writes : List ℕ → List ℕ → Played → Type 0
@@ -142,24 +15,19 @@ on setup fault p = record p { setup = setup; fault = fault }
 writes_nothing : (before : List ℕ) → before ≡ before ++ []
 writes_nothing before = sym (append-nil before)
 
-scene_writes : (piece : List ℕ) (p : Played) (text : List ℕ) (r : Result Scene FaultKind) → p.fault ≡ None → Says text r → Writes p.written text (after_scene piece r p)
-scene_writes piece p text (Err kind) clear h = writes_nothing p.written
-scene_writes piece p text (Ok s) clear h = ap (λ x. p.written ++ x) (h ∙ ap (λ f. unless_fault f text) (sym clear))
+scene_writes : (piece : List ℕ) (b : Setup) (p : Played) (events : List Event) (text : List ℕ) (r : Result Scene FaultKind) → p.fault ≡ None → May b events text r → Writes p.written text (after_scene piece r p)
+scene_writes piece b p events text (Err kind) clear h = writes_nothing p.written
+scene_writes piece b p events text (Ok s) clear h = ap (λ x. p.written ++ x) (h.says ∙ ap (λ f. unless_fault f text) (sym clear))
 
 without_writes : (piece : List ℕ) (p : Played) (r : Result (Option Setup) FaultKind) → Writes p.written [] (after_bench piece r p)
-without_writes piece p (Err kind) = writes_nothing p.written
-without_writes piece p (Ok b) = writes_nothing p.written ∙ ap (λ x. p.written ++ x) (nothing p.fault)
-  where
-    nothing : (f : Option Fault) → [] ≡ unless_fault {X = ℕ} f []
-    nothing None = refl
-    nothing (Some fault) = refl
+without_writes piece p r = grind (arith, Err, writes_nothing, Ok, Fault, unless_fault)
 
 reading_writes : (piece : List ℕ) (o : Option Setup) (p : Played) (r : Result line.Meaning FaultKind)
     → Writes p.written (read_text r o) (after_reading piece r (on o None p))
 reading_writes piece o p (Err kind) = writes_nothing p.written
 reading_writes piece None p (Ok m) = without_writes piece (on None None p) (without_card m)
 reading_writes piece (Some b) p (Ok m) =
-    scene_writes piece (on (Some b) None p) (said m b (meant_moments m b)) (with_card m (scene_of b)) refl (meaning_says m b)
+    scene_writes piece b (on (Some b) None p) _ (said m b (meant_moments m b)) (with_card m (scene_of b)) refl (meaning_brings m b)
 
 line_writes : (piece : List ℕ) (o : Option Setup) (fault : Option Fault) (p : Played)
     → Writes p.written (read_text (read (line_in piece)) o) (one_more (on o fault p) piece)
@@ -181,9 +49,7 @@ lines_write (piece ∷ pieces) p =
 -- The moments, line after line.
 same_moments : (b : Setup) (fault : Option Fault) (r : Result line.Meaning FaultKind)
     → moments b.board (unless_fault fault (read_events r (Some b))) ≡ unless_fault fault (read_moments r (Some b))
-same_moments b (Some fault) r = no_moment b.board
-same_moments b None (Err kind) = no_moment b.board
-same_moments b None (Ok m) = refl
+same_moments b fault r = grind (arith, no_moment, Err, Ok)
 
 line_moments_are : (piece : List ℕ) (p : Played) (b : Setup) → p.setup ≡ Some b → moments b.board (line_events piece p) ≡ line_moments piece p
 line_moments_are piece p b e =
@@ -199,9 +65,7 @@ lines_moments (piece ∷ pieces) p b e =
     ∙ ap (λ ms. line_moments piece p ++ ms) (ap (λ c. moments c (events_from (one_more p piece) pieces)) (sym step.led.board) ∙ lines_moments pieces (one_more p piece) step.setup step.there)
 
 nothing_met : (fault : Option Fault) (r : Result line.Meaning FaultKind) → unless_fault fault (read_moments r None) ≡ []
-nothing_met (Some fault) r = refl
-nothing_met None (Err kind) = refl
-nothing_met None (Ok m) = refl
+nothing_met fault r = grind (arith, Err, Ok)
 
 moments_run : (pieces : List (List ℕ)) (p : Played) (last : Setup) (b : Board) → p.setup ≡ None → (fold one_more p pieces).setup ≡ Some last
     → first_board pieces ≡ Some b → moments b (events_from p pieces) ≡ moments_from p pieces
@@ -230,7 +94,4 @@ moments_run (piece ∷ pieces) p last b e there is_card =
         subst (λ x. moments x (events_from next pieces) ≡ moments_from next pieces) same (lines_moments pieces next (begun kind d) starts)
 
 pub transcripts_are_replies : TranscriptsAreReplies
-transcripts_are_replies = record {
-  by_line = λ text setup b there is_card. moments_run (pieces_of text) not_begun setup b refl there is_card;
-  text = λ text. lines_write (pieces_of text) not_begun;
-}
+transcripts_are_replies = grind (arith, moments_run, pieces_of, not_begun, lines_write)

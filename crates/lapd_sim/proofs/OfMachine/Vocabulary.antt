@@ -23,7 +23,7 @@ pub use Rattle.lapd_clock.specs.Timers.{Expiry, Timers, after_due, after_first_d
 unfoldable pub use Rattle.lapd_clock.specs.Timers.{with_order}
 pub use Rattle.lapd_clock.specs.declared.fault.LengthFault.{LengthFault}
 pub use Rattle.lapd_count.specs.declared.counters.Counters.{Counters}
-pub use Rattle.lapd_frame.specs.declared.addresses.Side.TheVariants.{Network}
+pub use Rattle.lapd_frame.specs.declared.addresses.Side.TheVariants.{Network, User}
 pub use Rattle.lapd_frame.specs.declared.timers.Timer.{Timer}
 pub use Rattle.lapd_script.specs.Job.{Job, frame, job, job_or_none, limits, limits_of, run}
 pub use Rattle.lapd_script.specs.Number.{number}
@@ -59,7 +59,7 @@ pub use Rattle.lapd_sim.specs.machine.Events.{HasRun, RunsOnBoards, ScriptsAreRu
 pub use Rattle.lapd_sim.specs.machine.Heard.{FramesAreHeard, all_sent}
 pub use Rattle.lapd_sim.specs.machine.Replies.{TranscriptsAreReplies, line_moments, meant_moments, moments_from, octet_given, read_moments, read_text, replies_text, text_from}
 pub use Rattle.lapd_sim.specs.machine.Script.{Fault, Played, after_bench, after_reading, after_scene, faulty, is_too_long, not_begun, one_more, played, unless_faulty}
-pub use Rattle.lapd_sim.specs.machine.Setup.{Setup, begun, happened, ordered, terminal_at, with_terminal}
-pub use Rattle.lapd_sim.specs.machine.Steps.{Pulls, Scene, after_coming, after_counters, after_down, after_failed, after_in, after_next, after_pull, after_rx, after_timers, after_wait, at_expiry, can_come, downs, expired, expiries, for_frames, for_octets, held, last_moment, moment_of, octet_in, octets_at, is_heard_as, one_pull, pulls, reply_text, request_for, teis_on, until, with_card, with_event, with_events, with_timers, without_card}
+pub use Rattle.lapd_sim.specs.machine.Setup.{Setup, begun, happened, ordered, taken_at, terminal_at, with_terminal}
+pub use Rattle.lapd_sim.specs.machine.Steps.{Pulls, Scene, after_coming, after_counters, after_down, after_in, after_next, after_pull, after_rx, after_timers, after_wait, at_expiry, at_line, can_come, downs, expired, expiries, for_frames, for_octets, held, last_moment, moment_of, octet_in, octets_at, is_heard_as, one_pull, pulls, reply_text, request_for, teis_on, until, with_card, with_event, with_events, with_timers, without_card}
 pub use Rattle.lapd_sim.specs.machine.Waits.{AllLater, WaitsLeaveNothingDue}
 pub use Rattle.lapd_sim.specs.machine.Within.{ScriptsStayWithin, bound_of}

@@ -5,9 +5,7 @@ use Rattle.lapd_sim.proofs.OfMachine.Expiries.{drained}
 use Rattle.lapd_sim.proofs.OfMachine.Kept.{wait_sorts, none_later}
 
 none_due : (milliseconds : ℕ) (s : Scene) → AreInRange s.setup.clock.lengths → due_at (after_wait milliseconds s).setup.clock (s.setup.now + milliseconds) ≡ None
-none_due milliseconds s range =
-    let end = s.setup.now + milliseconds in
-    drained (time_until end s.setup.clock) end s (due_at s.setup.clock end) range refl (omega arith)
+none_due milliseconds s range = grind (arith, drained, time_until, due_at)
 
 all_later : (milliseconds : ℕ) (s : Scene) → AreInRange s.setup.clock.lengths → IsInOrder is_before s.setup.clock.running → AllLater (s.setup.now + milliseconds) (after_wait milliseconds s).setup
 all_later milliseconds s range order =

@@ -115,9 +115,7 @@ module _ (text : List ℕ) (setup : Setup) (run : HasRun text setup) where
       (run-within run.kind run.config (take count (script_events text)) run.in_range (All-take (IsAtLine (fresh run.kind run.config)) count (script_events text) run.at_lines)))
 
   last-within : held setup.board ≤ bound_of setup.board.config
-  last-within =
-      subst (λ c. held setup.board ≤ bound_of c) same-config
-      (subst (λ b. held b ≤ bound_of run.config) (sym run.board) (run-within run.kind run.config (script_events text) run.in_range run.at_lines))
+  last-within = grind (arith, held, bound_of, same-config, run-within, script_events)
 
 pub scripts_stay_within : ScriptsStayWithin
 scripts_stay_within = record {

@@ -37,8 +37,6 @@ coming_events Frames number octets s = at number (is_heard_as s octets) ∷ []
 
 -- What a line brings where there is a card.
 abbrev pub meant_events : line.Meaning → Scene → List Event
-meant_events line.skip s = []
-meant_events (line.card kind config) s = []
 meant_events (line.rx number octets) s = octets_at number octets
 meant_events (line.into number octets) s = coming_events s.setup.board.kind number octets s
 meant_events (line.failed number fault) s = at number (hears (dropped (cause_of fault))) ∷ []
@@ -46,10 +44,8 @@ meant_events (line.next number) s = at number next ∷ []
 meant_events (line.down number) s = downs number (teis_on number s.setup.board)
 meant_events (line.pull number count) s = replicate count (at number pull)
 meant_events (line.wait milliseconds) s = events_until (s.setup.now + milliseconds) s
-meant_events (line.timers t200 t203 t201) s = []
-meant_events line.stored s = []
-meant_events (line.counters number group) s = []
 meant_events (line.ask number tei what octets) s = at number (request (request_for what tei octets)) ∷ []
+meant_events _ s = []
 
 -- Before the card line, nothing.
 abbrev pub read_events : Result line.Meaning FaultKind → Option Setup → List Event
@@ -75,20 +71,8 @@ script_events text = events_from not_begun (pieces_of text)
 
 -- The board of the first card line, fresh.
 abbrev pub board_meant : Result line.Meaning FaultKind → Option Board
-board_meant (Err kind) = None
-board_meant (Ok line.skip) = None
 board_meant (Ok (line.card kind config)) = Some (fresh kind config)
-board_meant (Ok (line.rx number octets)) = None
-board_meant (Ok (line.into number octets)) = None
-board_meant (Ok (line.failed number fault)) = None
-board_meant (Ok (line.next number)) = None
-board_meant (Ok (line.down number)) = None
-board_meant (Ok (line.pull number count)) = None
-board_meant (Ok (line.wait milliseconds)) = None
-board_meant (Ok (line.timers t200 t203 t201)) = None
-board_meant (Ok line.stored) = None
-board_meant (Ok (line.counters number group)) = None
-board_meant (Ok (line.ask number tei what octets)) = None
+board_meant _ = None
 
 abbrev pub first_board : List (List ℕ) → Option Board
 first_board [] = None

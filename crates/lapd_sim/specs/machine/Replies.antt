@@ -29,17 +29,11 @@ octet_given m = octet_in m.reply
 abbrev pub said : line.Meaning → Setup → List Moment → List ℕ
 said line.skip b ms = []
 said (line.card kind config) b ms = []
-said (line.rx number octets) b ms = replies_text ms
-said (line.into number octets) b ms = replies_text ms
-said (line.failed number fault) b ms = replies_text ms
-said (line.next number) b ms = replies_text ms
-said (line.down number) b ms = replies_text ms
 said (line.pull number count) b ms = pulled_text number (taken_at number b) (map octet_given ms)
-said (line.wait milliseconds) b ms = replies_text ms
 said (line.timers t200 t203 t201) b ms = []
 said line.stored b ms = stored_text (held b.board) (limit b.board.config)
 said (line.counters number group) b ms = counters_text number group (counters_at number b)
-said (line.ask number tei what octets) b ms = replies_text ms
+said _ b ms = replies_text ms
 
 -- The moments of a line, and what it says; before the card line, and from the first faulty line on, nothing.
 abbrev pub meant_moments : line.Meaning → Setup → List Moment

@@ -66,10 +66,8 @@ after_in line frame s =
 
 -- `pull`: the octets that the line takes, and the frames that are complete in them.
 abbrev pub octet_in : Reply → ℕ
-octet_in (told t) = 0
-octet_in (refused why) = 0
 octet_in (pulled value begins orders) = value
-octet_in (gave given) = 0
+octet_in _ = 0
 
 pub record Pulls : Type 0 where
   pub setup : Setup
@@ -236,14 +234,4 @@ begun_with kind c = elim (first_fault c) [ None ↦ Ok (Some (begun kind c)) | S
 abbrev pub without_card : line.Meaning → Result (Option Setup) FaultKind
 without_card line.skip = Ok None
 without_card (line.card kind config) = begun_with kind config
-without_card (line.rx number octets) = Err NoCard
-without_card (line.into number octets) = Err NoCard
-without_card (line.failed number fault) = Err NoCard
-without_card (line.next number) = Err NoCard
-without_card (line.down number) = Err NoCard
-without_card (line.pull number count) = Err NoCard
-without_card (line.wait milliseconds) = Err NoCard
-without_card (line.timers t200 t203 t201) = Err NoCard
-without_card line.stored = Err NoCard
-without_card (line.counters number group) = Err NoCard
-without_card (line.ask number tei what octets) = Err NoCard
+without_card _ = Err NoCard

@@ -1,0 +1,9 @@
+-- The invariants of the loops of `Setup::hear`.
+use Rattle.lapd_sim.proofs.Vocabulary.{◌≡◌, Ok, take, after_rx, on, Says, WriteFailed}
+use Rattle.lapd_sim.proofs.setup.Setup.hear.Given as goal
+
+-- the plan is the same, and the octets so far have come
+abbrev pub invariant-loop-octet : goal.invariant-loop-octet
+invariant-loop-octet g l =
+    (l.self.plan ≡ l.fn.self.plan)
+    × Says {E = WriteFailed} (Ok tt) l.fn.self l.self (on g.T.Target.taken l.fn.page) (on g.T.Target.taken l.page) (after_rx l.line (take l.octet-index l.octets))

@@ -1,10 +1,11 @@
 -- Worked values: a control frame that waits at a line of octets, and the pulls by which it is heard.
 use Rattle.std.specs.Prelude.{◌≡◌, ℕ, ◌+◌, true, List, [], ◌∷◌, ◌++◌, replicate, refl}
-use Rattle.laws_line.specs.WorkedWords.{Network, Call, command, Sabme, Config, link_at, Assign, Establish, line_at, most_frames_before}
+use Rattle.laws_line.specs.WorkedWords.{Network, Call, command, Sabme, Config, link_at, Assign, Establish, most_frames_before}
 use Rattle.lapd_tei.specs.Events as teis
 use Rattle.model_bits.specs.Bits.{low_bits}
 use Rattle.model_bits.specs.Stream as stream
 use Rattle.model_line.specs.Machine as lines
+use Rattle.model_card.specs.Card.{line_at}
 use Rattle.model_card.specs.ports.Card.{OctetCard, fresh, after, answer, meant, port_at}
 use Rattle.model_card.specs.ports.Event.{at}
 use Rattle.model_card.specs.ports.Port.{request, pull}

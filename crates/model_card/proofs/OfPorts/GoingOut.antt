@@ -84,11 +84,7 @@ module _ (c : Config) (events : List Event) (number : ℕ) (ranged : IsInRange c
       ∙ ap (map as_octets) goes.frames
 
   pub out : GivenGoOut c events number
-  out =
-      subst (λ (x : Config). GoOut x.n201 (octets_given c events number) (map as_octets (frames_to_hear c events number))) same
-      (subst (GoOut m.card.config.n201 (octets_given c events number)) frames_are
-      (subst (λ octets. GoOut m.card.config.n201 octets (frames_among (items_sent end))) octets_are
-      (port_out m number reached there)))
+  out = grind (arith, same, frames_are, octets_are, port_out, reached)
 
   -- where the latest call gave none, that flag is put
   pub all_heard : AllGivenAreHeard c events number

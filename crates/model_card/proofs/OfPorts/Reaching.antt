@@ -1,6 +1,6 @@
 -- Cards of octets that are reached: one that begins is, events at its lines lead to others, and all of them are sound, and the
 -- cards of frames inside reached too.
-use Rattle.model_card.proofs.OfPorts.Vocabulary.{List, [], ◌∷◌, ◌++◌, refl, ap, sym, ◌∙◌, subst, All-nil, All-append, Config, IsInRange, Event, IsSound, IsAtLine, AreAtLines, OctetCard, after, after_all, fresh, meant_all, ◌≡◌}
+use Rattle.model_card.proofs.OfPorts.Vocabulary.{List, [], ◌∷◌, ◌++◌, refl, ap, sym, ◌∙◌, subst, All-nil, All-append, All-push, Config, IsInRange, Event, IsSound, IsAtLine, AreAtLines, OctetCard, after, after_all, fresh, meant_all, ◌≡◌}
 use Rattle.model_card.specs.Reached as cards
 use Rattle.model_card.specs.ports.Reached.{IsReached}
 use Rattle.model_card.proofs.OfPorts.Codec.{all_below, refined_card}
@@ -26,6 +26,10 @@ reached_after_all m events r within =
       same = ap (λ x. after_all x events) r.same ∙ sym (after_all_append (fresh m.card.config) r.events events)
           ∙ ap (λ c. after_all (fresh c) (r.events ++ events)) stays;
     }
+
+pub reached_after : (m : OctetCard) (e : Event) → IsReached m → IsAtLine m e → IsReached (after e m)
+unfolding after_all
+reached_after m e r within = reached_after_all m (e ∷ []) r (All-push (IsAtLine m) [] e (All-nil (IsAtLine m)) within)
 
 pub reached_sound : (m : OctetCard) → IsReached m → IsSound m
 reached_sound m r = subst IsSound (sym r.same) (always_sound (fresh m.card.config) r.events (fresh_octets_sound m.card.config r.config) r.at_lines)

@@ -1,11 +1,8 @@
 -- A card of octets as it begins.
-use Rattle.lapd_card.proofs.Vocabulary.{◌≡◌, ℕ, zero, suc, ◌<◌, List, [], ◌∷◌, length, replicate, get_or, refl, sym, subst, ◌∙◌, arith, length-replicate, AllByRecursion, All-nil, Config, Store, Port, PortStands, PortsStand}
+use Rattle.lapd_card.proofs.Vocabulary.{◌≡◌, ℕ, zero, suc, ◌<◌, List, [], ◌∷◌, length, replicate, get_or, refl, sym, subst, ◌∙◌, arith, length-replicate, AllByRecursion, Config, Store, Port, PortStands, PortsStand}
 use Rattle.model_card.specs.ports.Card.{fresh}
 use Rattle.model_card.specs.ports.Port.{fresh_port}
-use Rattle.model_card.specs.ports.Reached.{IsReached}
-use Rattle.model_card.specs.ports.Run.{IsAtLine}
-unfoldable use Rattle.model_card.specs.ports.Run.{after_all}
-use Rattle.model_line.specs.Sound.{IsInRange}
+use Rattle.model_card.proofs.OfPorts.Reaching.{reached_fresh}
 use Rattle.model_card.specs.Card as cards
 use Rattle.lapd_card.specs.FrameCard as frame_card
 use Rattle.lapd_card.specs.FrameStands as frame
@@ -26,14 +23,10 @@ fresh_ports n201 count ports is all = record {
   each = subst (λ n. (number : ℕ) (other : Port) → number < length ports → PortStands n201 (get_or ports number other) (get_or (replicate n fresh_port) number fresh_port)) is (each_fresh n201 ports all);
 }
 
-fresh_reached : (c : Config) → IsInRange c → IsReached (fresh c)
-unfolding after_all
-fresh_reached c range = record { config = range; events = []; at_lines = All-nil (IsAtLine (fresh c)); same = refl }
-
 pub fresh_stands : {S : Type 0} (store : S → Store) (c : Config) {frames : frame_card.Held S} {ports : List Port} → frames.config ≡ c → frame.Stands store frames (cards.fresh c)
     → PortsStand c.n201 ports (replicate c.lines fresh_port) → Stands store (record { frames = frames; ports = ports }) (fresh c)
 fresh_stands store c {frames} {ports} same stands there = record {
   frames = stands;
   ports = subst (λ d. PortsStand d.n201 ports (replicate c.lines fresh_port)) (sym same) there;
-  reached = fresh_reached c stands.reached.config;
+  reached = reached_fresh c stands.reached.config;
 }

@@ -8,6 +8,7 @@ use Rattle.model_card.specs.ports.Reached.{IsReached}
 use Rattle.model_card.specs.ports.Run.{IsAtLine}
 unfoldable use Rattle.model_card.specs.ports.Run.{after_all}
 use Rattle.model_card.proofs.OfPorts.Reaching.{reached_sound}
+pub use Rattle.model_card.proofs.OfPorts.Reaching.{reached_after as reached-after}
 use Rattle.model_card.proofs.OfPorts.Steps.{config_after}
 use Rattle.model_line.specs.Sound.{IsInRange}
 use Rattle.lapd_card.specs.Card.{Held, line_count}
@@ -57,19 +58,6 @@ pub port_put : (ports : List Port) (i : ℕ) (x y : Port) → i < length ports �
 port_put ports i x y within is = is ∙ get_or-set_same ports i x y within
 
 -- ---- a card of octets
-
-all-append : (m : OctetCard) (events : List Event) (e : Event) → after_all m (events ++ e ∷ []) ≡ after e (after_all m events)
-unfolding after_all
-all-append m [] e = refl
-all-append m (x ∷ events) e = all-append (after x m) events e
-
-pub reached-after : (m : OctetCard) (e : Event) → IsReached m → IsAtLine m e → IsReached (after e m)
-reached-after m e r within = record {
-  config = subst IsInRange (sym (config_after m e)) r.config;
-  events = r.events ++ e ∷ [];
-  at_lines = subst (λ (c : Config). All (λ (x : Event). x.line < c.lines) (r.events ++ e ∷ [])) (sym (config_after m e)) (All-push (IsAtLine m) r.events e r.at_lines within);
-  same = subst (λ c. after e m ≡ after_all (fresh c) (r.events ++ e ∷ [])) (sym (config_after m e)) (ap (after e) r.same ∙ sym (all-append (fresh m.card.config) r.events e));
-}
 
 module _ {S : Type 0} (store : S → Store) where
   -- it has as many ports as lines

@@ -11,5 +11,6 @@ pub mod Knowing
 pub mod Meanwhile
 pub mod Amid
 pub mod Wherever
+pub mod GoingOut
 pub mod GoingDown
 pub mod Brief

@@ -128,6 +128,7 @@ pub use Rattle.model_card.specs.Reached.{IsReached}
 pub use Rattle.model_card.specs.Run.{AreAtLines, IsAtLine, Moment}
 unfoldable pub use Rattle.model_card.specs.Run.{after_all, moments}
 pub use Rattle.model_card.specs.Sound.{IsSound as CardIsSound}
+pub use Rattle.model_card.specs.Takes.{AreTakesAt, is_take, takes_at, takes_of}
 pub use Rattle.laws_link.proofs.Delivered.{delivered-was-heard}
 pub use Rattle.laws_link.proofs.Follows.{event-follows}
 pub use Rattle.laws_link.proofs.InOrder.{given-in-order}
@@ -155,7 +156,7 @@ pub use Rattle.laws_link.specs.two.Needed.{HasItsTimer, needed}
 pub use Rattle.laws_link.specs.two.Polls.{Answered, AnsweredBy, IsPollWhileUp, SaysReceived, asked_of}
 pub use Rattle.laws_link.specs.two.Waits.{Goes, GoesWhole, HasNothingToSend}
 unfoldable pub use Rattle.laws_link.specs.two.Waits.{after_offers}
-pub use Rattle.laws_line.specs.Among.{IsTakenIn, comes_first, go_first, is_take, takes_in}
+pub use Rattle.laws_line.specs.Among.{IsTakenIn, comes_first, go_first, takes_in}
 unfoldable pub use Rattle.laws_line.specs.Among.{StaysOnLine, after_events, come_first}
 pub use Rattle.laws_line.specs.Causes.{AreThere, HasCause, HaveCauses, Hears, IsTaken}
 pub use Rattle.laws_line.specs.Deactivated.{DeactivationsGiveUp, stopped}
@@ -182,14 +183,14 @@ pub use Rattle.laws_line.specs.Unmanaged.{IsUnmanaged, UsersManageNothing}
 pub use Rattle.laws_line.specs.WorkedAmong.{events, frames_first, one_comes, takes_are}
 pub use Rattle.laws_line.specs.WorkedPolled.{asked, before_poll, both_wait, call_link, is_up as line_is_up, is_valid, on_line, one_waits, poll, poll_octets, sabme_octets, small, still_on_line, two_to_go}
 pub use Rattle.laws_line.specs.WorkedSabme.{before_sabme, sabme}
-pub use Rattle.laws_line.specs.card.Among.{AreTakesAt, IsIdleAmong, IsTakenAmong, takes_at}
+pub use Rattle.laws_line.specs.card.Among.{IsIdleAmong, IsTakenAmong}
 pub use Rattle.laws_line.specs.card.Brief.{CausesAreTold, LeavesOthers, LinksStay, OthersStay, TellsCause}
 pub use Rattle.laws_line.specs.card.Contents.{accepted_at, begun as line_begun, link_named, one_more, share_in}
 pub use Rattle.laws_line.specs.card.GoesDown.{LinesGoDown as LineLinesGoDown, happens_at}
 pub use Rattle.laws_line.specs.card.Machine.{CardsAreReached}
 pub use Rattle.laws_line.specs.card.OneEvent.{IsOneEventIn}
 pub use Rattle.laws_line.specs.card.Promises.{BeginsAnew, HasOneEvent, IsCountedIn, IsNew, IsServedIn, NotesTell, RunsWhatIsNeeded}
-pub use Rattle.laws_line.specs.card.PromisesOfTakes.{CallsComeToAnEnd, IsNotDeactivated, IsWaiting, WaitingIsTaken, Wherever, is_deactivated_at, takes_of}
+pub use Rattle.laws_line.specs.card.PromisesOfTakes.{CallsComeToAnEnd, IsNotDeactivated, IsWaiting, WaitingIsTaken, Wherever, is_deactivated_at}
 unfoldable pub use Rattle.laws_line.specs.card.PromisesOfTakes.{StaysAt, come_first_at}
 pub use Rattle.laws_line.specs.card.Timers.{AllHaveTheirTimers, one_more as line_one_more, runs_at_callers}
 pub use Rattle.laws_link.proofs.Counted.{counted}

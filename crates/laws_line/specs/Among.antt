@@ -1,10 +1,11 @@
 -- Calls for the next frame of a line among other events of it: what is heard, expiries and requests.
-use Rattle.std.specs.Prelude.{◌≡◌, ℕ, ◌+◌, ◌-◌, Bool, true, false, List, [], ◌∷◌, ◌++◌, length, Some, if◌then◌else◌}
+use Rattle.std.specs.Prelude.{◌≡◌, ℕ, ◌+◌, ◌-◌, false, List, [], ◌∷◌, ◌++◌, length, Some, if◌then◌else◌}
 use Rattle.model_line.specs.declared.config.Config.{Config}
 use Rattle.model_line.specs.Event.{Event, next}
 use Rattle.model_line.specs.Line.{Line, service_at, place_at, tei_at}
 use Rattle.model_line.specs.Machine.{after}
 use Rattle.model_line.specs.Taken.{Taken, taken}
+use Rattle.model_card.specs.Takes.{is_take}
 use Rattle.laws_line.specs.Requests.{deactivates}
 
 -- A line after events.
@@ -13,10 +14,6 @@ after_events c [] l = l
 after_events c (e ∷ es) l = after_events c es (after c e l)
 
 -- How many of them are calls for the next frame.
-abbrev pub is_take : Event → Bool
-is_take next = true
-is_take other = false
-
 abbrev pub takes_in : List Event → ℕ
 takes_in [] = 0
 takes_in (e ∷ es) = (if is_take e then 1 else 0) + takes_in es

@@ -12,7 +12,9 @@ pub mod WorkedTimers
 pub mod WorkedNotes
 pub mod Among
 pub mod PromisesOfTakes
+pub mod WaitingIsHeard
 pub mod GoesDown
 pub mod Brief
 pub mod WorkedBroken
 pub mod WorkedClauses
+pub mod WorkedHeard

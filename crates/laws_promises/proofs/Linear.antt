@@ -1,11 +1,12 @@
 -- The frames sent are linear in the octets of the frames that came.
-use Rattle.laws_promises.proofs.Vocabulary.{◌≡◌, ℕ, ◌+◌, ◌*◌, ◌≤◌, Bool, true, false, ◌&&◌, ◌||◌, not, List, [], ◌∷◌, length, map, take, refl, sym, subst, cond, arith, nat_lt, nat_le, nat_eq, count_by, All, slice_index, ◌%◌, ltb-false, leb-true, All-nil, All-cons, All-head, All-tail, All-weaker, sum_by-cons, mul-le-mul_left, Short, came, is_too_short, hears_frame, hears_long_frame, is_frame, is_long_frame, Card, may_send, window, sent, heard, long_heard, accepted, expired, rejected, event_of, after, answer, Moment, after_all, IsSound, frames_amortised, rejects_are_long}
+use Rattle.laws_promises.proofs.Vocabulary.{◌≡◌, ℕ, ◌+◌, ◌*◌, ◌≤◌, Bool, true, false, ◌&&◌, ◌||◌, not, List, [], ◌∷◌, length, map, take, refl, sym, subst, cond, arith, nat_lt, nat_le, nat_eq, count_by, All, slice_index, ◌%◌, ltb-false, leb-true, All-nil, All-cons, All-head, All-tail, All-weaker, sum_by-cons, mul-le-mul_left, Short, came, is_too_short, hears_frame, hears_long_frame, is_frame, is_long_frame, Card, may_send, window, sent, heard, long_heard, accepted, expired, rejected, after, answer, Moment, after_all, IsSound, frames_amortised, rejects_are_long}
 use Rattle.model_bits.specs.Stream as stream
 use Rattle.model_line.specs.Event as line
-use Rattle.model_card.specs.declared.events.FrameEvent as rust
 use Rattle.model_card.specs.Event.{Event}
 use Rattle.model_card.specs.Run.{AreAtLines}
 unfoldable use Rattle.model_card.specs.Run.{moments}
+use Rattle.laws_promises.specs.FrameDrive.{event_of}
+use Rattle.laws_promises.specs.declared.frame_events.FrameEvent as rust
 use Rattle.laws_promises.specs.Linear.{octets_taken, octets_of, octets_heard, IsLinear}
 
 -- ---- each frame takes its octets

@@ -2,3 +2,5 @@
 pub mod Promises
 pub mod PromisesOfOctets
 pub mod Linear
+pub mod FrameReply
+pub mod FrameDrive

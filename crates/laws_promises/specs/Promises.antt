@@ -21,9 +21,9 @@ pub record Promises (m : Card) (events : List Event) : Type 0 where
   -- events come between the calls, as long as the TEI stays and the link is not deactivated: then each message of TEI management
   -- and each unit data that comes meanwhile counts as well. Before it go messages of TEI management, unit data, for each control
   -- frame of its link that waits before it at most one frame of every link, and at most one of each link that comes before its own
-  -- in the round; so 72 calls are enough with eight terminals, 4 unit data and 4 control frames. (Which control frames wait, as
-  -- the answers to polls, SABME and DISC, `what_is_given_is_due` of `laws_trace` says; clauses 5.5.1.2, 5.5.3.2, 5.6.2 to 5.6.7 and
-  -- 5.8.1, and profile.)
+  -- in the round; so 72 calls are enough with eight terminals, 4 unit data and 4 control frames. Of octets, how many pulls these
+  -- are, `waiting_is_heard` of `PromisesOfOctets` says. (Which control frames wait, as the answers to polls, SABME and DISC,
+  -- `what_is_given_is_due` of `laws_trace` says; clauses 5.5.1.2, 5.5.3.2, 5.6.2 to 5.6.7 and 5.8.1, and profile.)
   pub waiting_is_taken : (count : ℕ) → Wherever WaitingIsTaken m (take count events)
   -- Once the next frame of a line was called for as often as the configuration says, and nothing else happened there, the next
   -- call gives none: so by `teis_are_managed`, `units_go_out` and `what_is_given_is_due` of `laws_trace` nothing waits on it but

@@ -5,28 +5,40 @@ ghost use Rattle.model_card.specs.Card as machine;
 ghost use Rattle.model_card.specs.ByEvent.{ArePriced};
 ghost use Rattle.model_card.specs.Counted.{all_counted, CountersAreNumbers};
 ghost use Rattle.model_card.specs.Drops.{AreDropsWithoutCost, AreDropsWithoutEffect};
+ghost use Rattle.model_card.specs.Event.{at};
 ghost use Rattle.model_card.specs.Laws.{RefusedByTheTable, RunIsMoments};
 ghost use Rattle.model_card.specs.Promises.{IsWithinLimit, IsAmortised, IsAmortisedFromZero, AreRejectsLong, IsIsolated, IsNeverFull, IsNumbered, IsNumberedFromZero};
 ghost use Rattle.model_card.specs.Run.{run, moments};
+ghost use Rattle.model_line.specs.Event as line_event;
+ghost use Rattle.model_line.specs.Request.{request_of};
 ghost use Rattle.lapd_card.specs.Counted.{counters_in};
 ghost use Rattle.lapd_card.specs.FrameCard.{line_count};
-ghost use Rattle.lapd_card.specs.FrameDrive.{line_of, events_of, MissesAt};
 ghost use Rattle.lapd_card.specs.FrameStands.{Stands};
 ghost use Rattle.lapd_card.specs.Sink.{Taken, one_failure_more};
+ghost use Rattle.laws_promises.specs.FrameDrive.{event_of, line_of, events_of, Hands, MissesAt};
 ghost use Rattle.laws_promises.specs.Linear.{IsLinear};
 ghost use Rattle.laws_promises.specs.Promises.{Promises};
 
-use lapd_card::{FrameCard, FrameEvent, FrameSink, SinkFault};
+use crate::frame_events::FrameEvent;
+use crate::frame_replies::{FrameReply, SentFrame};
+use crate::frame_sink::FrameSink;
+use lapd_card::{FrameCard, Request, SinkFailed, SinkFault};
 use lapd_store::Shelf;
 
-/// Runs a list of events, as [`FrameCard::drive`] does, with its clauses. From `by_event` to `from_zero` are laws of every run, as
+/// The octets of the longest frame without its check: four, and the greatest N201 of a configuration.
+const LONGEST: usize = 264;
+
+/// Runs a list of events, and hands each reply to the sink, in order. Answers how many events there were.
+///
+/// Its clauses say what a run is: from `ok` to `counters_add_up` they are those of [`lapd_card::Card::drive`] with the same names, of
+/// a frame that came or a fault in place of an octet, and of a call for the next frame in place of a pull. From `by_event` to `from_zero` are laws of every run, as
 /// [`lapd_card::Card::drive`] has them of what its octets mean (`rejects_are_long`: each REJ with a valid N(R) is one of the frames
 /// heard that have four octets or more). The frames that it gives, with those still to be sent, are linear in the octets of the
 /// frames that came (`linear`). And it keeps all promises (`promises`).
 ///
 /// # Errors
 ///
-/// [`SinkFault`] as of [`FrameCard::drive`].
+/// [`SinkFault`] where the sink failed on a reply: the card stands after that event, and later events have not happened.
 pub fn drive_frames<S: Shelf, K: FrameSink>(
     card: &mut FrameCard<S>,
     events: &[FrameEvent<'_>],
@@ -76,5 +88,75 @@ pub fn drive_frames<S: Shelf, K: FrameSink>(
         → IsLinear m (take count (events_of card.old.config.n201 events.now)) }
     ensures promises { (m : machine.Card) → Stands S.store card.old m → Promises m (events_of card.old.config.n201 events.now) }
 {
-    card.drive(events, sink)
+    for (at, event) in events.iter().enumerate() {
+        if answer(card, *event, sink).is_err() {
+            return Err(SinkFault { at });
+        }
+    }
+    Ok(events.len())
+}
+
+/// Serves one event, and hands its reply to the sink.
+fn answer<S: Shelf, K: FrameSink>(
+    card: &mut FrameCard<S>,
+    event: FrameEvent<'_>,
+    sink: &mut K,
+) -> Result<(), SinkFailed>
+    requires { line_of event < line_count card.old }
+    ensures { Hands S.store K.takes K.misses K.failures (event_of card.old.config.n201 event.entry) card.old card.new sink.old sink.new result }
+{
+    match event {
+        FrameEvent::Frame(line, octets) => sink.take(
+            line,
+            &FrameReply::Report(card.frame(line, octets)),
+        ),
+        FrameEvent::Failed(line, fault) => sink.take(
+            line,
+            &FrameReply::Report(card.failed(line, fault)),
+        ),
+        FrameEvent::Next(line) => hand_on(card, line, sink),
+        FrameEvent::Expire(line, timer) => sink.take(
+            line,
+            &FrameReply::Report(card.expire(line, timer)),
+        ),
+        FrameEvent::Request(line, request) => grant(card, line, request, sink),
+    }
+}
+
+fn hand_on<S: Shelf, K: FrameSink>(
+    card: &mut FrameCard<S>,
+    line: usize,
+    sink: &mut K,
+) -> Result<(), SinkFailed>
+    requires { line < line_count card.old }
+    ensures { Hands S.store K.takes K.misses K.failures (at line line_event.next) card.old card.new sink.old sink.new result }
+{
+    let mut octets = [0; LONGEST];
+    match card.next_frame(line, &mut octets) {
+        Ok(Some(next)) => sink.take(
+            line,
+            &FrameReply::Next(Some(SentFrame {
+                octets: &octets,
+                next,
+            })),
+        ),
+        Ok(None) => sink.take(line, &FrameReply::Next(None)),
+        // No card has a longer frame.
+        Err(_) => sink.take(line, &FrameReply::Next(None)),
+    }
+}
+
+fn grant<S: Shelf, K: FrameSink>(
+    card: &mut FrameCard<S>,
+    line: usize,
+    request: Request<'_>,
+    sink: &mut K,
+) -> Result<(), SinkFailed>
+    requires { line < line_count card.old }
+    ensures { Hands S.store K.takes K.misses K.failures (at line (line_event.request (request_of request.entry))) card.old card.new sink.old sink.new result }
+{
+    match card.request(line, request) {
+        Ok(report) => sink.take(line, &FrameReply::Report(report)),
+        Err(refusal) => sink.take(line, &FrameReply::Refused(refusal)),
+    }
 }

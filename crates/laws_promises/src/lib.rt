@@ -6,18 +6,26 @@
 //! beside. The clauses of [`lapd_card::Card::drive`] say the rest: where the card is after the events, which replies the sink
 //! has taken, what bounds storage and frames, and what stands in the octets.
 //!
-//! - `frame_call`: `drive_frames`, a card's call, with its clauses, the laws of every run, and the promises. A caller that needs no
-//!   proof calls the card itself.
+//! - `frame_call` with `frame_events`, `frame_sink` and `frame_replies`: `drive_frames`, which runs a whole list of events at a card
+//!   of frames, with what a run is, the laws of every run, and the promises. A caller that needs no proof calls the card itself.
 //! - `call`: `drive`, the same of a card of octets.
 //! - `laws`: the promises of every machine of a card that is reached, as calls without effect.
 #![tactic(auto)]
 
 mod call;
 mod frame_call;
+mod frame_events;
+mod frame_replies;
+mod frame_sink;
+#[cfg(test)]
+mod frame_tests;
 mod laws;
 #[cfg(test)]
 mod tests;
 
 pub use call::drive;
 pub use frame_call::drive_frames;
+pub use frame_events::FrameEvent;
+pub use frame_replies::{FrameReply, SentFrame};
+pub use frame_sink::FrameSink;
 pub use laws::{promises_are_kept, promises_of_octets_are_kept};

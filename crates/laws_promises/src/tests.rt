@@ -9,7 +9,7 @@ use lapd_store::SlabShelf;
 use std::alloc::Global;
 use std::test::Fail;
 
-const USUAL: Config = Config {
+pub(crate) const USUAL: Config = Config {
     lines: 1,
     terminals: 8,
     k: 7,

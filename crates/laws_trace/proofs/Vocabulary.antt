@@ -99,7 +99,8 @@ pub use Rattle.laws_line.specs.Served.{HasNothing, IsIdle, IsOfLink, IsOwed, IsS
 pub use Rattle.laws_line.specs.Share.{is_granted}
 pub use Rattle.laws_line.specs.Steady.{Brings, BringsMalformed, IsBy, IsDeactivated, IsOf, timer_of}
 pub use Rattle.laws_line.specs.Timers.{HaveTheirTimers, is_needed, left_by, runs_then}
-pub use Rattle.laws_line.specs.card.Among.{AreTakesAt, IsTakenAmong, takes_at}
+pub use Rattle.laws_line.specs.card.Among.{IsTakenAmong}
+pub use Rattle.model_card.specs.Takes.{AreTakesAt, takes_at}
 pub use Rattle.laws_line.specs.card.PromisesOfTakes.{IsWaiting}
 pub use Rattle.laws_line.specs.card.Timers.{AllHaveTheirTimers, one_more, runs_at_callers}
 pub use Rattle.laws_link.proofs.Counted.{kept-after}

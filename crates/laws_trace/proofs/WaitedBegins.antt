@@ -1,20 +1,10 @@
 -- What waited on a link begins, where a line is only called for its next frame, as often as the configuration says: the law.
 use Rattle.laws_trace.proofs.Vocabulary.{◌≡◌, ℕ, ◌<◌, ◌≤◌, List, [], ◌∷◌, ◌++◌, Some, option_map, refl, sym, ap, ◌∙◌, subst, arith, eq-eqb, All, flat_map-append, ControlFrame, Config, next, gave, taken, next_of, frames_to_go, most_frames, control_text, HasNothing, to-go-few, Card, line_at, at, moments, fresh_is_sound, AreTakesAt, takes_at, IsTakenAmong, IsWaiting, line-sound, card-drains, card-waits, all-left, all-right, config-stays, fresh, CardEvent as Event, after, card_answer as answer, after_all, IsAtLine, AreAtLines, CardIsSound as IsSound, always_sound, Always, trace_frame_in as frame_in, trace, frames_begun, IsAmong, IsInRange}
 use Rattle.model_line.specs.Machine as lines
+pub use Rattle.model_card.proofs.OfPorts.Steps.{moments-append as moments-both}
+pub use Rattle.model_card.proofs.Runs.{after_all-append as after-both}
 use Rattle.laws_trace.specs.WaitedBegins.{AllThatWaitedBegins}
 use Rattle.laws_trace.proofs.Units.{given-frames}
-
--- a run behind a run
-pub after-both : (card : Card) (front behind : List Event) → after_all card (front ++ behind) ≡ after_all (after_all card front) behind
-unfolding after_all
-after-both card [] behind = refl
-after-both card (e ∷ front) behind = after-both (after e card) front behind
-
--- a moment of a run is seen in its trace
-pub moments-both : (card : Card) (front behind : List Event) → moments card (front ++ behind) ≡ moments card front ++ moments (after_all card front) behind
-unfolding moments after_all
-moments-both card [] behind = refl
-moments-both card (e ∷ front) behind = ap (λ ms. record { card = card; event = e; answer = answer e card } ∷ ms) (moments-both (after e card) front behind)
 
 frames-both : (number : ℕ) (card : Card) (front behind : List Event)
     → frames_begun (trace number (moments card (front ++ behind))) ≡ frames_begun (trace number (moments card front)) ++ frames_begun (trace number (moments (after_all card front) behind))

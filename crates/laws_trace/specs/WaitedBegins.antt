@@ -6,7 +6,7 @@ use Rattle.laws_line.specs.Drains.{most_frames, control_text}
 use Rattle.model_card.specs.Card.{fresh, line_at}
 use Rattle.model_card.specs.Event.{Event}
 use Rattle.model_card.specs.Run.{after_all, moments}
-use Rattle.laws_line.specs.card.Among.{AreTakesAt, takes_at}
+use Rattle.model_card.specs.Takes.{AreTakesAt, takes_at}
 use Rattle.laws_line.specs.card.PromisesOfTakes.{IsWaiting}
 use Rattle.laws_trace.specs.Trace.{trace, frames_begun, IsAmong}
 

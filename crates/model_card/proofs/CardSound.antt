@@ -1,6 +1,5 @@
 -- A card is sound as it begins, and each event keeps it so.
-use Rattle.model_card.proofs.Vocabulary.{◌≡◌, ℕ, ◌+◌, ◌*◌, ◌≤◌, Bool, false, ◌&&◌, List, [], ◌∷◌, nat_le, ap, ◌∙◌, arith, sum_by, leb-false, All-head, All-tail, sum_by-replicate, Config, one, fresh_line, slots_of, slots_grow, fresh_slots, Card, fresh, line_at, used, Event, CardsStaySound, after, after_all, IsAtLine, AreAtLines, IsSound}
-use Rattle.model_line.specs.Machine as lines
+use Rattle.model_card.proofs.Vocabulary.{◌≡◌, ℕ, ◌+◌, ◌*◌, ◌≤◌, Bool, false, ◌&&◌, List, [], ◌∷◌, nat_le, ap, ◌∙◌, arith, leb-false, All-head, All-tail, sum_by-replicate, Config, one, fresh_line, slots_of, slots_grow, fresh_slots, Card, fresh, used, Event, CardsStaySound, after, after_all, IsAtLine, AreAtLines, IsSound}
 use Rattle.model_line.specs.Sound as line
 use Rattle.model_card.proofs.Steps.{has_lines, by_room, line_sound, after_lines, fresh_lines, one_line}
 
@@ -9,19 +8,7 @@ room_found : (takes : Bool) (slots in_use : ℕ) → (takes && nat_le slots in_u
 room_found takes slots in_use e h = grind (arith, leb-false)
 
 slots_within : (card : Card) (e : Event) → IsSound card → IsAtLine card e → used (after e card) ≤ card.config.slots
-slots_within card e s within =
-    by_room (λ ls a. sum_by (slots_of card.config) ls ≤ card.config.slots) e card
-    (λ full. s.slots)
-    (λ served.
-    let l = line_at e.line card in
-    let h = has_lines card s in
-    let room = room_found (lines.takes_slot card.config e.what l) card.config.slots (used card) served s.slots in
-    omega (
-      arith,
-      room,
-      slots_grow card.config e.what l s.config (line_sound card e.line h within),
-      one_line (slots_of card.config) card e.line (lines.after card.config e.what l) h within,
-    ))
+slots_within card e s within = grind (arith, by_room, has_lines, room_found, slots_grow, line_sound, one_line)
 
 pub after_is_sound : (card : Card) (e : Event) → IsSound card → IsAtLine card e → IsSound (after e card)
 after_is_sound card e s within = grind (arith, after_lines, has_lines, slots_within)

@@ -1,5 +1,5 @@
 -- An event at a card is one at one of its lines, or finds the pool full.
-use Rattle.model_card.proofs.Vocabulary.{◌≡◌, ◌==◌, ℕ, get_or, eqb-true, eq-eqb, and_parts, get_or-set_same, get_or-set_other, ◌+◌, ◌<◌, Bool, true, false, List, ◌∷◌, length, set, refl, ◌∙◌, cond, arith, length-set, sum_by, count_by, All, length-replicate, All-set, All-replicate, sum_by-set, sum_by-cons, PoolFull, Config, Answer, refused, Line, fresh_line, after_sound, fresh_sound, Event, Card, fresh, line_at, wants_room, after, answer, IsSound}
+use Rattle.model_card.proofs.Vocabulary.{◌≡◌, ◌==◌, ℕ, eqb-true, eq-eqb, and_parts, get_or-set_same, get_or-set_other, ◌+◌, ◌<◌, Bool, true, false, List, ◌∷◌, length, set, ◌∙◌, cond, arith, length-set, sum_by, count_by, All, length-replicate, All-set, All-replicate, sum_by-set, sum_by-cons, PoolFull, Config, Answer, refused, Line, fresh_line, after_sound, fresh_sound, Event, Card, fresh, line_at, wants_room, after, answer, IsSound}
 use Rattle.model_line.specs.Machine as lines
 use Rattle.model_line.specs.Sound as line
 
@@ -29,18 +29,7 @@ pub by_line : (card : Card) (e : Event) (number : ℕ) → HasLines card → e.l
     → (e.line ≡ number → wants_room e card ≡ false
     → P true (lines.after card.config e.what (line_at number card)) (lines.answer card.config e.what (line_at number card)))
     → P (e.line == number) (line_at number (after e card)) (answer e card)
-by_line card e number h here P elsewhere full served =
-    by_room (λ ls a. P (e.line == number) (get_or ls number (fresh_line card.config)) a) e card (unserved (e.line == number) refl) (met (e.line == number) refl)
-  where
-    x : Line
-    x = lines.after card.config e.what (line_at e.line card)
-
-    unserved : (b : Bool) → (e.line == number) ≡ b → wants_room e card ≡ true → P b (line_at number card) (refused PoolFull)
-    unserved b other w = grind (arith, eqb-true, and_parts)
-
-    met : (b : Bool) → (e.line == number) ≡ b → wants_room e card ≡ false
-        → P b (get_or (set card.lines e.line x) number (fresh_line card.config)) (lines.answer card.config e.what (line_at e.line card))
-    met b other w = grind (arith, eq-eqb, get_or-set_other, x, eqb-true, get_or-set_same)
+by_line card e number h here P elsewhere full served = grind (arith, by_room, eqb-true, and_parts, eq-eqb, get_or-set_other, get_or-set_same)
 
 pub after_lines : (e : Event) (card : Card) → HasLines card → e.line < card.config.lines → HasLines (after e card)
 after_lines e card h within =

@@ -8,18 +8,15 @@
 //! lists (`Laws`). Nothing of these is of octets on a line: a card of octets is this card with a port at each line
 //! ([`ports`]).
 //!
-//! The code of a card stands above, in another crate. Here is the type that it shares with the definitions:
+//! The code of a card stands above, in another crate.
 //!
-//! - `events`: `FrameEvent`, what happens at a card for frames.
 //! - `laws`: what holds of whole runs, as calls without effect.
 //! - `ports`: the same of a card of octets.
 #![tactic(auto)]
 
-mod events;
 mod laws;
 pub mod ports;
 
-pub use events::FrameEvent;
 pub use laws::{
     cards_stay_sound, deliveries_numbered, drops_change_nothing, drops_cost_nothing,
     frames_amortised, frames_amortised_from_zero, frames_by_event, lines_isolated, pool_never_full,

@@ -10,6 +10,13 @@ use Rattle.laws_line.proofs.OfCard.Meanwhile.{at-another, at-next, few-lines, li
 is-the-next : (w : line_event.Event) → is_take w ≡ true → w ≡ next
 is-the-next w is = grind arith
 
+pub is-call : (number : ℕ) (e : Event) → (e.line == number && is_take e.what) ≡ true → e ≡ at number next
+is-call number e is =
+    let parts = and_parts (e.line == number) (is_take e.what) is in
+    let line-is = eqb-true e.line number parts.0 in
+    let what-is = is-the-next e.what parts.1 in
+    λ i. record { line = line-is i; what = what-is i }
+
 module _ (number link tei : ℕ) (f : ControlFrame) where
   -- an event at the line finds room, or changes nothing
   own-line : (card : Card) (e : Event) (x : Line) (b : Bool) → number < length card.lines → e.line ≡ number
@@ -122,10 +129,7 @@ module _ (number link tei : ℕ) (f : ControlFrame) where
           → IsTakenAmong (after e card) number events (control_text card.config link tei f))
           → IsTakenAmong card number (e ∷ events) (control_text card.config link tei f)
       by-kind true is more =
-          let parts = and_parts (e.line == number) (is_take e.what) is in
-          let line-is = eqb-true e.line number parts.0 in
-          let what-is = is-the-next e.what parts.1 in
-          let same : e ≡ at number next = λ i. record { line = line-is i; what = what-is i } in
+          let same = is-call number e is in
           let none : cond true 0 come + rest ≡ rest = omega arith in
           let fewer : frames_before card.config (line_at number card) link (length before) + (cond true 0 come + rest) < cond true 1 0 + takes_of number events = with-kind true is in
           let now : frames_before card.config (line_at number card) link (length before) + rest < 1 + takes_of number events = omega (arith, fewer, none) in

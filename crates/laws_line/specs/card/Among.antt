@@ -1,20 +1,11 @@
 -- Calls for the next frame of one line among the events of a card.
-use Rattle.std.specs.Prelude.{◌≡◌, ℕ, ◌+◌, ◌==◌, List, [], ◌∷◌, ◌++◌, All, Some, None, if◌then◌else◌}
+use Rattle.std.specs.Prelude.{◌≡◌, ℕ, List, ◌∷◌, ◌++◌, Some, None}
 use Rattle.model_line.specs.Event.{next}
 use Rattle.model_line.specs.Taken.{Taken, taken}
 use Rattle.laws_line.specs.Served.{HasNothing}
 use Rattle.model_card.specs.Card.{Card, line_at}
 use Rattle.model_card.specs.Event.{Event, at}
 use Rattle.model_card.specs.Run.{after_all}
-
--- What happens at a line are calls for its next frame; at the others anything may.
-abbrev pub AreTakesAt : ℕ → List Event → Type 0
-AreTakesAt number events = All (λ e. e.line ≡ number → e.what ≡ next) events
-
--- How many they are.
-abbrev pub takes_at : ℕ → List Event → ℕ
-takes_at number [] = 0
-takes_at number (e ∷ events) = (if e.line == number then 1 else 0) + takes_at number events
 
 -- Of these events of a card one is a call for the next frame of the line, which gives this frame.
 pub record IsTakenAmong (card : Card) (number : ℕ) (events : List Event) (frame : List ℕ) : Type 0 where

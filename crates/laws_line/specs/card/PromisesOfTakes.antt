@@ -5,13 +5,14 @@ use Rattle.model_line.specs.declared.config.Config.{Config}
 use Rattle.model_line.specs.Event.{next, gave}
 use Rattle.model_line.specs.Line.{Line, link_count, service_at, place_at, tei_at, link_at}
 use Rattle.laws_line.specs.Drains.{control_text, most_frames, most_frames_before}
-use Rattle.laws_line.specs.Among.{is_take, go_first}
+use Rattle.laws_line.specs.Among.{go_first}
 use Rattle.laws_line.specs.Requests.{deactivates}
 use Rattle.model_card.specs.Card.{Card, line_at}
 use Rattle.model_card.specs.Event.{Event, at}
 use Rattle.model_card.specs.Machine.{after, answer}
 use Rattle.model_card.specs.Run.{after_all}
-use Rattle.laws_line.specs.card.Among.{AreTakesAt, takes_at, IsTakenAmong}
+use Rattle.model_card.specs.Takes.{AreTakesAt, is_take, takes_at, takes_of}
+use Rattle.laws_line.specs.card.Among.{IsTakenAmong}
 
 -- Wherever in a list of events: of the card after any front of it, and of the events behind that.
 abbrev pub Wherever : (Card → List Event → Type 0) → Card → List Event → Type 0
@@ -23,16 +24,12 @@ pub record IsWaiting (c : Config) (l : Line) (link tei : ℕ) (before : List Con
   pub on_line : tei_at (place_at link) l ≡ Some tei
   pub waits : (link_at link l).waiting ≡ before ++ f ∷ behind
 
--- How many messages of TEI management and unit data come at a line by other events than calls for its next frame; and how many these are.
+-- How many messages of TEI management and unit data come at a line by other events than calls for its next frame.
 unfoldable pub come_first_at : ℕ → Card → List Event → ℕ
 come_first_at number card [] = 0
 come_first_at number card (e ∷ events) =
     (if e.line == number && is_take e.what then 0 else go_first (line_at number (after e card)) - go_first (line_at number card))
     + come_first_at number (after e card) events
-
-abbrev pub takes_of : ℕ → List Event → ℕ
-takes_of number [] = 0
-takes_of number (e ∷ events) = (if e.line == number && is_take e.what then 1 else 0) + takes_of number events
 
 -- At the place of a link of a line stays this TEI.
 unfoldable pub StaysAt : ℕ → ℕ → ℕ → Card → List Event → Type 0

@@ -5,7 +5,7 @@ use Rattle.lapd_tei.specs.Events as teis
 use Rattle.model_line.specs.declared.config.Field.TheVariants as field
 use Rattle.model_line.specs.Machine as lines
 
-abbrev usual : Config
+abbrev pub usual : Config
 usual = record { lines = 1; terminals = 8; k = 7; k16 = 7; queue = 8; unit_queue = 4; control = 4; slots = 64; n201 = 260; n200 = 3; side = Network }
 
 abbrev on_0 : Request → Event

@@ -3,6 +3,7 @@ use Rattle.laws_order.proofs.Vocabulary.{arith, ◌≡◌, ℕ, ◌+◌, ◌≤�
 use Rattle.model_bits.specs.Sent.{frame}
 use Rattle.laws_wire.proofs.Spelled.{came-whole}
 use Rattle.model_bits.specs.Stream as stream
+pub use Rattle.model_card.proofs.OfPorts.PortGoesOn.{frames_among-append}
 
 -- ---- a frame comes as it is
 
@@ -41,11 +42,6 @@ heard-beyond n201 a (v ∷ b) =
       now ++ later.0,
       ap (heard_in n201) (sym (append_assoc a (v ∷ []) b)) ∙ later.1 ∙ ap (λ l. l ++ later.0) (heard_with n201 a v) ∙ append_assoc (heard_in n201 a) now later.0,
     )
-
-pub frames_among-append : (xs ys : List Item) → frames_among (xs ++ ys) ≡ frames_among xs ++ frames_among ys
-frames_among-append [] ys = refl
-frames_among-append (idle ∷ xs) ys = frames_among-append xs ys
-frames_among-append (frame octets ∷ xs) ys = ap (λ fs. octets ∷ fs) (frames_among-append xs ys)
 
 -- ---- one direction
 

@@ -17,11 +17,6 @@ unfolding after_all meant_all
 meant_both m [] behind = refl
 meant_both m (e ∷ front) behind = grind (arith, meant_both (after e m) front behind, append_assoc)
 
--- both count calls alike
-same_takes : (number : ℕ) (fs : List frames.Event) → pulls.takes_at number fs ≡ takes_at number fs
-same_takes number [] = refl
-same_takes number (f ∷ fs) = ap (λ n. cond (f.line == number) 1 0 + n) (same_takes number fs)
-
 -- ---- the latest call among events
 
 pub record IsLatest (number : ℕ) (fs : List frames.Event) : Type 0 where
@@ -145,7 +140,7 @@ module _ (c : Config) (events : List Event) (number : ℕ) (ranged : IsInRange c
       let enough : pulls.most_pulls_behind c.n201 (most_frames c) ≤ pulls_at number h.pulls = h.enough in
       let pulled : pulls_behind m.card.config.n201 (port_at number m) (most_frames c) ≤ pulls_at number h.pulls =
       subst (λ (x : Config). pulls_behind x.n201 (port_at number m) (most_frames c) ≤ pulls_at number h.pulls) (sym same) (omega (arith, most, enough)) in
-      subst (λ n. most_frames c < n) (same_takes number calls) (pulls_are_takes.enough m h.pulls number (most_frames c) sound lines few h.only pulled)
+      pulls_are_takes.enough m h.pulls number (most_frames c) sound lines few h.only pulled
 
   pub x : IsLatest number calls
   x = let some = many in latest number calls only (omega (arith, some))

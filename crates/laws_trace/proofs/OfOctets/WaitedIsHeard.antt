@@ -4,7 +4,8 @@ use Rattle.model_bits.specs.Stream as stream
 use Rattle.model_card.specs.Card as cards
 use Rattle.model_card.specs.Run as runs
 use Rattle.laws_trace.proofs.WaitedBegins.{all-that-waited-begins}
-use Rattle.laws_trace.specs.octets.WaitedIsHeard.{IsHeardSince, AllThatWaitedIsHeard}
+use Rattle.laws_line.specs.card.WaitingIsHeard.{IsHeardSince}
+use Rattle.laws_trace.specs.octets.WaitedIsHeard.{AllThatWaitedIsHeard}
 use Rattle.laws_trace.proofs.OfOctets.Emptied as emptied
 use Rattle.laws_trace.proofs.OfOctets.FramesGoOut.{meaning, lines, all-frames-go-out}
 use Rattle.laws_trace.proofs.OfOctets.Seen.{begun_given}
@@ -57,15 +58,17 @@ module _ (c : Config) (events : List Event) (number : ℕ) (ranged : IsInRange c
   heard link tei front f behind waits =
       let out = given_frames_are_heard.so_far c h.before number ranged (emptied.before_lines c events number ranged all within h) within in
       let way = map stream.frame out.on_its_way in
+      let among = still_among (control_text c link tei f) since way (waited link tei front f behind waits) in
       record {
-        more = way ++ events_of since;
+        front = among.front;
+        back = among.back;
         goes_on =
             sym (all-frames-go-out c events number ranged all within h)
             ∙ ap events_of both
             ∙ events_of_both (frames_to_hear c h.before number) since
             ∙ ap (λ events. events ++ events_of since) out.heard
-            ∙ append_assoc (stream.heard_in c.n201 (octets_given c h.before number)) way (events_of since);
-        among = still_among (control_text c link tei f) since way (waited link tei front f behind waits);
+            ∙ append_assoc (stream.heard_in c.n201 (octets_given c h.before number)) way (events_of since)
+            ∙ ap (λ events. stream.heard_in c.n201 (octets_given c h.before number) ++ events) among.split;
       }
 
 pub all-that-waited-is-heard : OfEachLine AllThatWaitedIsHeard

@@ -1,23 +1,16 @@
 -- What waited on a link is heard at the other end.
-use Rattle.std.specs.Prelude.{◌≡◌, ℕ, List, ◌++◌}
-use Rattle.model_bits.specs.Stream as stream
+use Rattle.std.specs.Prelude.{ℕ, List}
 use Rattle.model_link.specs.declared.frames.ControlFrame.{ControlFrame}
 use Rattle.model_line.specs.declared.config.Config.{Config}
 use Rattle.laws_line.specs.Drains.{control_text}
 use Rattle.model_card.specs.Card.{line_at}
 use Rattle.laws_line.specs.card.PromisesOfTakes.{IsWaiting}
-use Rattle.laws_trace.specs.Trace.{IsAmong}
+use Rattle.laws_line.specs.card.WaitingIsHeard.{IsHeardSince}
 use Rattle.model_card.specs.ports.Card.{fresh}
 use Rattle.model_card.specs.ports.Event.{Event}
 use Rattle.model_card.specs.ports.GoingOut.{as_octets, octets_given}
 use Rattle.model_card.specs.ports.Run.{after_all}
 use Rattle.laws_trace.specs.octets.Pulled.{EndsInPulls}
-
--- A frame is among those that a receiver hears in octets beyond what was heard in a beginning of them.
-pub record IsHeardSince (n201 : ℕ) (before octets frame : List ℕ) : Type 0 where
-  pub more : List stream.Event
-  pub goes_on : stream.heard_in n201 octets ≡ stream.heard_in n201 before ++ more
-  pub among : IsAmong (stream.frame frame) more
 
 -- Once a line was only pulled, each control frame that waited on a link before is heard since; two alike may be one.
 abbrev pub AllThatWaitedIsHeard : Config → List Event → ℕ → Type 0

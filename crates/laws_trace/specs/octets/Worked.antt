@@ -22,7 +22,7 @@ use Rattle.model_card.specs.ports.Run.{moments}
 use Rattle.laws_trace.specs.octets.FramesGoOut.{IsReadable}
 use Rattle.laws_trace.specs.octets.Granted.{units_to_hear}
 use Rattle.laws_trace.specs.octets.UnitsAreHeard.{units_heard, AreHeard, AreAllHeard}
-use Rattle.laws_trace.specs.octets.WaitedIsHeard.{IsHeardSince}
+use Rattle.laws_line.specs.card.WaitingIsHeard.{IsHeardSince}
 
 abbrev asks : Request → Event
 asks r = at 0 (request r)
@@ -84,7 +84,7 @@ none_there x [] back e = cc e
 none_there x (y ∷ front) back e = cc e
 
 never : IsHeardSince 260 [] [] (0x00 ∷ 0x81 ∷ 0x73 ∷ []) → ⊥
-never h = none_there (stream.frame (0x00 ∷ 0x81 ∷ 0x73 ∷ [])) h.among.front h.among.back (h.goes_on ∙ h.among.split)
+never h = none_there (stream.frame (0x00 ∷ 0x81 ∷ 0x73 ∷ [])) h.front h.back h.goes_on
 
 -- Where a receiver hears a frame whose check is bad, what goes out is no frame.
 bad_check : All (IsReadable usual) (stream.dropped Fcs ∷ []) → ⊥

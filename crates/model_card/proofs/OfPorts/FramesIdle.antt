@@ -1,5 +1,5 @@
 -- An idle line: a flag begins on it, and 1s after a flag make it idle again.
-use Rattle.model_card.proofs.OfPorts.Vocabulary.{◌≡◌, ◌≢◌, ℕ, zero, suc, ◌+◌, ◌-◌, ◌<◌, ◌≤◌, subst, Bool, true, false, List, [], ◌∷◌, ◌++◌, replicate, option_to_list, None, refl, ap, ◌∙◌, arith, append-nil, flag, heard_at, heard_until, run_of, open_gap, one_more, given_up_event, closed_event, heard_at-one, heard_at-zero, heard_at-flag, heard_at-abort, open_gap-one, open_gap-zero, open_gap-abort, after_flag, heard_until-onto}
+use Rattle.model_card.proofs.OfPorts.Vocabulary.{◌≡◌, ℕ, zero, suc, ◌+◌, ◌-◌, ◌<◌, ◌≤◌, subst, Bool, true, List, [], ◌∷◌, ◌++◌, replicate, option_to_list, None, refl, ap, ◌∙◌, arith, append-nil, flag, heard_at, heard_until, run_of, open_gap, one_more, given_up_event, heard_at-one, heard_at-abort, open_gap-one, open_gap-zero, open_gap-abort, after_flag, heard_until-onto}
 use mathlib.Core.List.{reverse_aux}
 use Rattle.model_bits.proofs.RoundTripPlaces.{hears}
 
@@ -19,14 +19,7 @@ ones_pass room (suc n) past rest few none =
 
 -- a flag on an idle line brings nothing
 pub hears_first_flag : (room : ℕ) (past : List Bool) → IdleAt past → hears room past flag ≡ []
-hears_first_flag room past idle =
-    let begun = false ∷ past in
-    let ones = replicate 6 true in
-    let other : run_of past ≢ 6 = λ six. omega (arith, six, idle.ones) in
-    let six = ones_pass room 6 begun (false ∷ []) (omega arith) (open_gap-zero past other ∙ ap (one_more false) idle.no_gap) in
-    ap (λ o. option_to_list o ++ hears room begun (ones ++ false ∷ [])) (heard_at-zero room past other)
-    ∙ six.0
-    ∙ ap (λ o. option_to_list o ++ []) (heard_at-flag room (reverse_aux ones begun) refl ∙ ap (closed_event room) six.1)
+hears_first_flag room past idle = grind (arith, ones_pass, open_gap-zero)
 
 -- seven 1s or more after a flag bring nothing, and the line is idle behind them
 pub record IdleAgain (room : ℕ) (before after : List Bool) : Type 0 where

@@ -1,5 +1,5 @@
 -- What is heard in bits are octets, and so is what a card of octets hears.
-use Rattle.model_card.proofs.OfPorts.Vocabulary.{arith, ◌≡◌, ℕ, ◌<◌, ◌-◌, Bool, true, false, ◌||◌, cond, nat_lt, List, [], ◌∷◌, ◌++◌, length, drop, reverse, Option, Some, None, option_map, option_and_then, option_to_list, subst, All, All-nil, All-cons, All-append, All-tail, All-head, All-take, bits, octets_sent, octets_are_those_sent, judged_as, AreOctets, Port, after, gained, meant, meant_all, octet, port_at}
+use Rattle.model_card.proofs.OfPorts.Vocabulary.{arith, ◌≡◌, ℕ, ◌<◌, ◌-◌, Bool, true, false, cond, nat_lt, List, [], ◌∷◌, ◌++◌, length, reverse, Option, Some, None, option_map, option_and_then, option_to_list, subst, All, All-nil, All-cons, All-append, All-tail, All-head, All-take, bits, octets_sent, octets_are_those_sent, judged_as, AreOctets, Port, after, gained, meant, meant_all, port_at}
 use Rattle.model_bits.specs.Stream as stream
 use Rattle.model_bits.specs.Stream.{ends_flag, has_abort, since_flag, text_event, gap_event, closed_by_flag, given_up, heard_at, heard_until, heard_in, room_for}
 use Rattle.model_line.specs.Event as line
@@ -20,10 +20,7 @@ text_octets room text (Some octets) e =
 
 -- what a flag closes, and what an abort gives up
 closed_octets : (room : ℕ) (g : List Bool) → All HasOctets (option_to_list (closed_by_flag room g))
-closed_octets room g = go (nat_lt (length g) 8 || has_abort g)
-  where
-    go : (b : Bool) → All HasOctets (option_to_list (cond b None (Some (gap_event room (reverse (drop 7 g))))))
-    go b = grind (arith, text_octets)
+closed_octets room g = grind (arith, text_octets)
 
 given_up_octets : (g : List Bool) → All HasOctets (option_to_list (given_up g))
 given_up_octets g = grind (arith, nat_lt, option_to_list)

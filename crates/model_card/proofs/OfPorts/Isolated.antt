@@ -169,10 +169,7 @@ elsewhere_goes number m e ls ps h within other a = grind (arith, eq-eqb, line_el
 
 moment_goes : (number : ℕ) (m : OctetCard) (e : Event) (ls : List Line) (ps : List Port) → HasLines m.card → IsAtLine m e → number < length m.ports → IsAloneAt number m ls ps
     → Goes number e m ls ps (after e m) (answer e m) ((e.line == number) && not (is_pool_full (answer e m)))
-moment_goes number m e ls ps h within few a = go (e.line == number) refl
-  where
-    go : (b : Bool) → (e.line == number) ≡ b → Goes number e m ls ps (after e m) (answer e m) (b && not (is_pool_full (answer e m)))
-    go b other = grind (arith, elsewhere_goes, eqb-true, own_goes)
+moment_goes number m e ls ps h within few a = grind (arith, elsewhere_goes, eqb-true, own_goes)
 
 -- ---- lists of events
 

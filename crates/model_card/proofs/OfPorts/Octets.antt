@@ -1,5 +1,5 @@
 -- Frames that are heard take their octets of the stream.
-use Rattle.model_card.proofs.OfPorts.Vocabulary.{◌≡◌, ℕ, ◌+◌, ◌*◌, ◌-◌, ◌≤◌, Bool, List, [], ◌∷◌, length, nat_le, cond, arith, count_by, sum_by, leb-true, length-take-le, sum_by-cons, room_for, IsWeight, weight_of_heard, judged_as, is_frame, is_long_frame}
+use Rattle.model_card.proofs.OfPorts.Vocabulary.{◌≡◌, ℕ, ◌+◌, ◌*◌, ◌≤◌, Bool, List, [], ◌∷◌, length, nat_le, cond, arith, count_by, sum_by, leb-true, length-take-le, sum_by-cons, room_for, IsWeight, weight_of_heard, judged_as, is_frame, is_long_frame}
 use Rattle.model_bits.specs.Stream as stream
 use Rattle.model_bits.specs.Stream.{Event}
 

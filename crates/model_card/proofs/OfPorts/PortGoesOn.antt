@@ -95,7 +95,7 @@ port_goes_on n201 pull p ask h = pull_goes_on n201 p ask
 
 -- ---- one after the other
 
-frames_among-append : (xs ys : List Item) → frames_among (xs ++ ys) ≡ frames_among xs ++ frames_among ys
+pub frames_among-append : (xs ys : List Item) → frames_among (xs ++ ys) ≡ frames_among xs ++ frames_among ys
 frames_among-append [] ys = refl
 frames_among-append (idle ∷ xs) ys = frames_among-append xs ys
 frames_among-append (frame octets ∷ xs) ys = ap (λ fs. octets ∷ fs) (frames_among-append xs ys)

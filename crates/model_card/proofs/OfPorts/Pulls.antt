@@ -4,7 +4,8 @@ use Rattle.model_line.specs.Event as line
 use Rattle.model_card.specs.Event as frames
 use Rattle.model_card.specs.ports.GoingOut.{OfEachLine}
 use Rattle.model_card.specs.ports.Port as port
-use Rattle.model_card.specs.ports.Pulls.{ArePullsAt, pulls_at, is_pull, pulls_of, AreTakesAt, takes_at, is_take, takes_of, longest_text, pulls_behind, HasFewLeft, PullsAreTakes}
+use Rattle.model_card.specs.Takes.{AreTakesAt, takes_at, is_take, takes_of}
+use Rattle.model_card.specs.ports.Pulls.{ArePullsAt, pulls_at, is_pull, pulls_of, longest_text, pulls_behind, HasFewLeft, PullsAreTakes}
 use Rattle.model_card.proofs.OfPorts.Codec.{asked_at, said_is}
 use Rattle.model_card.proofs.OfPorts.GoingOut.{fresh_at}
 use Rattle.model_card.proofs.OfPorts.PortGoesOn.{ready_where}
@@ -117,10 +118,7 @@ Spent n201 before after pulls takes = length (left_of after) + 8 * pulls ≤ len
 
 port_spends : (n201 : ℕ) (e : port.Event) (p : Port) (ask : line.Event → line.Answer) → GivesShort n201 ask → IsTextOf p
     → let o = port.meant n201 e p in Spent n201 p (port.after e (option_map ask o) p) (cond (is_pull e) 1 0) (take_count o)
-port_spends n201 pull p ask short h =
-    let o = port.meant n201 pull p in
-    subst (λ takes. Spent n201 p (port.after pull (option_map ask o) p) 1 takes) (call_counts (is_due p)) (pull_is n201 p ask short h).fewer
-port_spends n201 other p ask short h = omega arith
+port_spends n201 e p ask short h = grind (arith, call_counts, pull_is)
 
 -- at a card
 own_spends : (m : OctetCard) (e : Event) → IsSound m → IsAtLine m e

@@ -1,9 +1,7 @@
 -- Pulls of a line are calls for its next frame.
 use Rattle.std.specs.Prelude.{◌≡◌, ℕ, ◌==◌, ◌&&◌, ◌+◌, ◌*◌, ◌/◌, ◌<◌, ◌≤◌, Bool, true, false, List, [], ◌∷◌, length, All, if◌then◌else◌}
 use Rattle.model_line.specs.declared.config.Config.{Config}
-use Rattle.model_line.specs.Event as line
-use Rattle.model_line.specs.Event.{next}
-use Rattle.model_card.specs.Event as frames
+use Rattle.model_card.specs.Takes.{AreTakesAt, takes_at, takes_of}
 use Rattle.model_card.specs.ports.Card.{OctetCard, fresh, port_at}
 use Rattle.model_card.specs.ports.Event.{Event}
 use Rattle.model_card.specs.ports.GoingOut.{OfEachLine}
@@ -20,15 +18,7 @@ abbrev pub pulls_at : ℕ → List Event → ℕ
 pulls_at number [] = 0
 pulls_at number (e ∷ events) = (if e.line == number then 1 else 0) + pulls_at number events
 
--- The same of calls for the next frame.
-abbrev pub AreTakesAt : ℕ → List frames.Event → Type 0
-AreTakesAt number events = All (λ e. e.line ≡ number → e.what ≡ next) events
-
-abbrev pub takes_at : ℕ → List frames.Event → ℕ
-takes_at number [] = 0
-takes_at number (e ∷ events) = (if e.line == number then 1 else 0) + takes_at number events
-
--- Or anything happens at the line, too. How many of these events are its pulls, and how many calls for its next frame.
+-- Or anything happens at the line, too. How many of these events are its pulls.
 abbrev pub is_pull : port.Event → Bool
 is_pull pull = true
 is_pull other = false
@@ -36,14 +26,6 @@ is_pull other = false
 abbrev pub pulls_of : ℕ → List Event → ℕ
 pulls_of number [] = 0
 pulls_of number (e ∷ events) = (if e.line == number && is_pull e.what then 1 else 0) + pulls_of number events
-
-abbrev pub is_take : line.Event → Bool
-is_take next = true
-is_take other = false
-
-abbrev pub takes_of : ℕ → List frames.Event → ℕ
-takes_of number [] = 0
-takes_of number (e ∷ events) = (if e.line == number && is_take e.what then 1 else 0) + takes_of number events
 
 -- The bits of the longest frame at worst: four octets, N201 of information and two of the check, a 0 stuffed after every
 -- fifth bit, and the closing flag (Q.921 clauses 2.2, 2.6, 2.7 and 5.9.3).

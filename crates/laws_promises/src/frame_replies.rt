@@ -1,7 +1,7 @@
 //! What events at a card are answered with.
 
+use lapd_card::{NextFrame, Report};
 use lapd_frame::Refusal;
-use lapd_line::{NextFrame, Report};
 
 /// The next frame, as it was taken.
 #[derive(Clone, Copy, PartialEq, Eq, Debug)]

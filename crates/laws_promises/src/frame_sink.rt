@@ -2,13 +2,13 @@
 
 ghost use Rattle.std.specs.Prelude.{◌≡◌, ℕ, OnOk, OnErr};
 ghost use Rattle.model_line.specs.Event.{Answer};
-ghost use Rattle.lapd_card.specs.FrameReply.{answer_of};
+ghost use Rattle.laws_promises.specs.FrameReply.{answer_of};
 ghost use Rattle.lapd_card.specs.Sink.{one_failure_more};
 
 use crate::frame_replies::FrameReply;
-use crate::sink::SinkFailed;
+use lapd_card::SinkFailed;
 
-/// Takes the answers to a list of events at a [`FrameCard`](crate::FrameCard), in order, as [`crate::Sink`] takes those of a
+/// Takes the answers to a list of events at a [`FrameCard`](lapd_card::FrameCard), in order, as [`lapd_card::Sink`] takes those of a
 /// card of octets.
 pub trait FrameSink {
     /// What a sink is before and after it takes a reply, that of an event at a line.

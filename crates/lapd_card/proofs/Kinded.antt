@@ -1,26 +1,17 @@
 -- A card of either kind.
-use Rattle.lapd_card.proofs.Vocabulary.{◌≡◌, ℕ, Bool, true, false, cond, Option, Result, Ok, Err, IfOk, IfErr, sym, ap, refl, subst, ◌∙◌, None, option_map, option_to_list, IsInRange, Timer, Refusal, refusal, Request, Report, Card, line_at, Event, at, moment_counted, moment_of, all_counted, Store, counters_in, OctetCard, report_told}
+use Rattle.lapd_card.proofs.Vocabulary.{◌≡◌, ℕ, Result, Ok, Err, OnOk, OnErr, sym, ap, refl, subst, ◌∙◌, option_map, option_to_list, IsInRange, Card, Event, at, moment_counted, moment_of, all_counted, Store, counters_in, OctetCard}
 use Rattle.lapd_card.specs.declared.kinds.AnyCard.{AnyCard}
 use Rattle.lapd_card.specs.declared.kinds.AnyCard.TheVariants.{Octets, Frames}
 use Rattle.lapd_card.specs.Kinds.{Machine, with_ports, alone, card_in, AnyStands, AnyLeads, CardStands, FrameCardStands, shelf_of}
-use Rattle.std.proofs.Common.{Some}
-use Rattle.lapd_frame.specs.declared.refusals.Refusal.TheVariants.{PoolFull}
 use Rattle.model_line.specs.Event as line
-use Rattle.model_line.specs.Machine.{of_request, unless_refused_told}
-unfoldable use Rattle.model_line.specs.Machine.{answer as line_answer, takes_slot}
-use Rattle.model_card.specs.Machine as machine
-use Rattle.model_card.specs.ports.Card as octet_card
 use Rattle.model_card.specs.ports.Codec.{frame_moment}
 use Rattle.model_card.specs.ports.Event as octet_event
 use Rattle.model_card.specs.ports.Port as port
-use Rattle.model_card.specs.ports.Port.{answer_of}
 use Rattle.lapd_card.specs.Card as octets
 use Rattle.lapd_card.specs.FrameCard as frames
-use Rattle.lapd_card.specs.FrameReply as frame_reply
 use Rattle.lapd_card.specs.FrameStands as frame_stands
-use Rattle.lapd_card.specs.Reply as reply
 use Rattle.lapd_card.specs.Stands as octets_stand
-use Rattle.lapd_card.proofs.OneOctet.{IsPassedOn, expiry_passes, request_passes, meant_is, passed_after, passed_answer, same_result}
+use Rattle.lapd_card.proofs.OneOctet.{IsPassedOn, meant_is, passed_after}
 use Rattle.lapd_card.specs.Kinds as kinds
 
 -- what holds of each machine for which a card for octets stands, or one for frames
@@ -64,53 +55,12 @@ module _ {e : port.Event} {f : line.Event} (on : IsPassedOn e f) where
         (λ m s. leads.counted m s ∙ ap (λ o. all_counted (counters_in old.frames.lines) (option_to_list (option_map (frame_moment m) o))) (meant_is on i m));
   })
 
--- it tells or refuses what the card of frames does
-abbrev IsSaid : line.Answer → Type 0
-IsSaid (line.told t) = Unit {0}
-IsSaid (line.refused why) = Unit {0}
-IsSaid (line.gave next) = ⊥
-
-same_answer : (a b : line.Answer) → IsSaid a → IsSaid b → answer_of a ≡ answer_of b → a ≡ b
-same_answer (line.told t) (line.told u) _ _ is = cc
-same_answer (line.told t) (line.refused why) _ _ is = absurd (cc)
-same_answer (line.refused why) (line.told u) _ _ is = absurd (cc)
-same_answer (line.refused why) (line.refused other) _ _ is = cc
-same_answer (line.gave next) b a_said _ is = absurd a_said
-same_answer a (line.gave next) _ b_said is = absurd b_said
-
-expiry_said : (i : ℕ) (timer : Timer) (card : Card) → IsSaid (machine.answer (at i (line.expiry timer)) card)
-unfolding line_answer takes_slot
-expiry_said i timer card = tt
-
-request_said : (i : ℕ) (r : Request) (card : Card) → IsSaid (machine.answer (at i (line.request r)) card)
-unfolding line_answer
-request_said i r card = go (machine.wants_room (at i (line.request r)) card) (refusal card.config false r (line_at i card))
-  where
-    go : (b : Bool) (o : Option Refusal) → IsSaid (cond b (line.refused PoolFull) (unless_refused_told o (of_request card.config r (line_at i card))))
-    go true o = tt
-    go false None = tt
-    go false (Some why) = tt
-
-pub expiry_told : (i : ℕ) (timer : Timer) (r : Report) (m : OctetCard) → port.told (report_told r) ≡ octet_card.answer (octet_event.at i (port.expiry timer)) m
-    → line.told (report_told r) ≡ machine.answer (at i (line.expiry timer)) m.card
-expiry_told i timer r m is =
-    same_answer (line.told (report_told r)) _ tt (expiry_said i timer m.card) (is ∙ passed_answer (expiry_passes timer) i m)
-
-result_said : (result : Result Report Refusal) → IsSaid (frame_reply.answer_of_result result)
-result_said (Ok report) = tt
-result_said (Err why) = tt
-
-pub request_told : (i : ℕ) (r : Request) (result : Result Report Refusal) (m : OctetCard) → reply.answer_of_result result ≡ octet_card.answer (octet_event.at i (port.request r)) m
-    → frame_reply.answer_of_result result ≡ machine.answer (at i (line.request r)) m.card
-request_told i r result m is =
-    same_answer (frame_reply.answer_of_result result) _ (result_said result) (request_said i r m.card) (sym (same_result result) ∙ is ∙ passed_answer (request_passes r) i m)
-
 -- ---- results
 
-pub if_ok_then : {X E : Type 0} {P Q : X → Type 0} (r : Result X E) → ((x : X) → P x → Q x) → IfOk r P → IfOk r Q
-if_ok_then (Ok x) h p = h x p
-if_ok_then (Err e) h p = tt
+pub if_accepted : {X E P Q : Type 0} (r : Result X E) → (P → Q) → OnOk r P → OnOk r Q
+if_accepted (Ok x) h p = h p
+if_accepted (Err e) h p = tt
 
-pub if_err_then : {X E : Type 0} {P Q : E → Type 0} (r : Result X E) → ((e : E) → P e → Q e) → IfErr r P → IfErr r Q
-if_err_then (Ok x) h p = tt
-if_err_then (Err e) h p = h e p
+pub if_refused : {X E P Q : Type 0} (r : Result X E) → (P → Q) → OnErr r P → OnErr r Q
+if_refused (Ok x) h p = tt
+if_refused (Err e) h p = h p

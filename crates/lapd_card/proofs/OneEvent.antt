@@ -1,5 +1,5 @@
 -- An event at a card is one at one of its lines.
-use Rattle.lapd_card.proofs.Vocabulary.{arith, if◌then◌else◌, ◌≡◌, ℕ, ◌<◌, ◌-◌, false, List, [], ◌++◌, length, nat_le, refl, sym, ap, subst, ◌∙◌, Some, None, IsSome, Option, Ok, Err, Result, IfOk, IfErr, IfSome, OnErr, lt-ltb, append-nil, set-get_or, set, map, flat_map, sum_by, zip, Refusal, Service, none_counted, Report, report_told, Config, refusal, Request, slots_of, octets_of, Card, line_at, used, is_full, state, Event, at, wants_room, after, refused_by_the_table, IfErr-weaker, IfOk-weaker, moment_counted, Store, used_slots, stored_octets, used_slots-held, stored_octets-held, slots-machines, octets-machines, slots-pairs, octets-pairs, owned_octets, Owned, FrameLine, config_of, Held, counters_of, IsFit, owned, Stands, HasPast, Leads, answer_of_result, Room, room_in, room, RefusesBy, refuses_by}
+use Rattle.lapd_card.proofs.Vocabulary.{arith, if◌then◌else◌, ◌≡◌, ℕ, ◌<◌, ◌-◌, false, List, [], ◌++◌, length, nat_le, refl, sym, ap, subst, ◌∙◌, Some, None, IsSome, Option, Ok, Err, Result, IfOk, IfErr, IfSome, OnOk, OnErr, lt-ltb, append-nil, set-get_or, set, map, flat_map, sum_by, zip, Refusal, Service, none_counted, BareReport, answer_of_request, told_beside, Config, refusal, Request, slots_of, octets_of, Card, line_at, used, is_full, state, Event, at, wants_room, after, refused_by_the_table, IfErr-weaker, moment_counted, Store, used_slots, stored_octets, used_slots-held, stored_octets-held, slots-machines, octets-machines, slots-pairs, octets-pairs, owned_octets, Owned, FrameLine, config_of, Held, counters_of, IsFit, owned, Stands, HasPast, Leads, Room, room_in, room, RefusesBy, refuses_by}
 use Rattle.lapd_line.specs.Stands as line
 use Rattle.model_bits.specs.Stream as stream
 use Rattle.model_line.specs.Event as line_event
@@ -114,37 +114,38 @@ refuses_so number service tei m (Ok x) is = refuses_by m number service tei x (s
 refuses_so number service tei m (Err why) is = tt
 
 -- A request, as a line answers it to a card: refused, where the table has a row for it, and else accepted.
-pub record Requested {S : Type 0} (store : S → Store) (r : Request) (card : Held S) (i slots : ℕ) (x : FrameLine) (result : Result Report Refusal) (y : FrameLine) (t : S) (w : Marks) : Type 0 where
+pub record Requested {S : Type 0} (store : S → Store) (r : Request) (card : Held S) (i slots : ℕ) (x : FrameLine) (result : Result Unit Refusal) (o : BareReport) (y : FrameLine) (t : S) (w : Marks) : Type 0 where
   pub most : slots ≡ card.config.slots
   pub refused : IfErr result (λ why. (others : List Owned) (l : machine.Line) → line.Stands x (store card.shelf) others l → refusal (config_of x) (nat_le slots (used_slots (store card.shelf))) r l ≡ Some why)
-  pub accepted : IfOk result (λ report. (others : List Owned) (l : machine.Line) → line.Stands x (store card.shelf) others l → refusal (config_of x) (nat_le slots (used_slots (store card.shelf))) r l ≡ None)
+  pub accepted : OnOk result ((others : List Owned) (l : machine.Line) → line.Stands x (store card.shelf) others l → refusal (config_of x) (nat_le slots (used_slots (store card.shelf))) r l ≡ None)
   pub unchanged : OnErr result (y ≡ x)
   pub kept : OnErr result (t ≡ card.shelf)
   pub unmarked : OnErr result (w ≡ card.waiting)
-  pub told : IfOk result (λ report. (others : List Owned) (l : machine.Line) → line.Stands x (store card.shelf) others l → line_event.told (report_told report) ≡ lines.answer (config_of x) (line_event.request r) l)
-  pub leads : IfOk result (λ report. line.Leads (line_event.request r) x (store card.shelf) y (store t))
-  pub looked : IfOk result (λ report. Looked i card.waiting y w)
+  pub told : OnOk result ((others : List Owned) (l : machine.Line) → line.Stands x (store card.shelf) others l → line_event.told (told_beside None o) ≡ lines.answer (config_of x) (line_event.request r) l)
+  pub leads : OnOk result (line.Leads (line_event.request r) x (store card.shelf) y (store t))
+  pub looked : OnOk result (Looked i card.waiting y w)
 
-module _ {S : Type 0} (store : S → Store) {r : Request} {card self : Held S} {i slots : ℕ} {x : FrameLine} (call : Called store card self i x) {y : FrameLine} {t : S} {w : Marks} where
+module _ {S : Type 0} (store : S → Store) {r : Request} {card self : Held S} {i slots : ℕ} {x : FrameLine} (call : Called store card self i x) {o : BareReport} {y : FrameLine} {t : S} {w : Marks} where
   -- the card refuses and accepts with its line
-  pub request_refused : (result : Result Report Refusal) → Requested store r card i slots x result y t w → IfErr result (λ why. (m : Card) → Stands store self m → refusal m.config (is_full m) r (line_at i m) ≡ Some why)
+  pub request_refused : (result : Result Unit Refusal) → Requested store r card i slots x result o y t w → IfErr result (λ why. (m : Card) → Stands store self m → refusal m.config (is_full m) r (line_at i m) ≡ Some why)
   request_refused result asked = IfErr-weaker result _ _ (λ why. refusal_is store call r slots (Some why) asked.most) asked.refused
 
-  pub request_accepted : (result : Result Report Refusal) → Requested store r card i slots x result y t w → IfOk result (λ report. (m : Card) → Stands store self m → refusal m.config (is_full m) r (line_at i m) ≡ None)
-  request_accepted result asked = IfOk-weaker result _ _ (λ report. refusal_is store call r slots None asked.most) asked.accepted
+  pub request_accepted : (result : Result Unit Refusal) → Requested store r card i slots x result o y t w → OnOk result ((m : Card) → Stands store self m → refusal m.config (is_full m) r (line_at i m) ≡ None)
+  request_accepted (Ok done) asked = refusal_is store call r slots None asked.most asked.accepted
+  request_accepted (Err why) asked = tt
 
-  pub request_told : (result : Result Report Refusal) → Requested store r card i slots x result y t w → (m : Card) → Stands store self m → answer_of_result result ≡ answer (at i (line_event.request r)) m
+  pub request_told : (result : Result Unit Refusal) → Requested store r card i slots x result o y t w → (m : Card) → Stands store self m → answer_of_request result o ≡ answer (at i (line_event.request r)) m
   request_told (Err why) asked m s = sym ((refused_by_the_table.refused_exactly m i r why).1 (request_refused (Err why) asked m s))
-  request_told (Ok report) asked m s =
-      answers store call (line_event.request r) (λ a. line_event.told (report_told report) ≡ a) asked.told m s (accepted_has_room r i m (request_accepted (Ok report) asked m s))
+  request_told (Ok done) asked m s =
+      answers store call (line_event.request r) (λ a. line_event.told (told_beside None o) ≡ a) asked.told m s (accepted_has_room r i m (request_accepted (Ok done) asked m s))
 
   -- one that is refused leaves the card as it is
-  pub request_unchanged : (result : Result Report Refusal) → Requested store r card i slots x result y t w → OnErr result (record { config = card.config; lines = set card.lines i y; shelf = t; waiting = w } ≡ self)
+  pub request_unchanged : (result : Result Unit Refusal) → Requested store r card i slots x result o y t w → OnErr result (record { config = card.config; lines = set card.lines i y; shelf = t; waiting = w } ≡ self)
   request_unchanged result asked = grind (arith, set-get_or)
 
-  pub request_leads : (result : Result Report Refusal) → Requested store r card i slots x result y t w
+  pub request_leads : (result : Result Unit Refusal) → Requested store r card i slots x result o y t w
       → Leads store (at i (line_event.request r)) self (record { config = card.config; lines = set card.lines i y; shelf = t; waiting = w })
-  request_leads (Ok report) asked = one_leads store call (line_event.request r) y t w asked.leads asked.looked (λ m s. accepted_has_room r i m (request_accepted (Ok report) asked m s))
+  request_leads (Ok done) asked = one_leads store call (line_event.request r) y t w asked.leads asked.looked (λ m s. accepted_has_room r i m (request_accepted (Ok done) asked m s))
   request_leads (Err why) asked =
       let is = request_unchanged (Err why) asked in
       let refused = request_refused (Err why) asked in

@@ -13,7 +13,6 @@ pub use Rattle.std.specs.Option.{option_map_or}
 pub use Rattle.std.specs.Prelude.{IfSome, IsTrue, OnOk, is_err, option_map, option_to_list}
 pub use Rattle.lapd_card.specs.Counted.{counters_in, counters_of}
 pub use Rattle.lapd_card.specs.FrameCard.{Held, line_count}
-pub use Rattle.lapd_card.specs.FrameReply.{answer_of_result}
 pub use Rattle.lapd_card.specs.FrameStands.{HasPast, Leads, Stands}
 pub use Rattle.lapd_card.specs.Kept.{kept_of}
 pub use Rattle.lapd_card.specs.Lines.{AreFresh, IsFit, IsFresh, LinesStand, owned}
@@ -34,7 +33,7 @@ pub use Rattle.lapd_frame.specs.declared.timers.Timer.{Timer}
 pub use Rattle.lapd_line.proofs.Stood.{held_of, octets-pairs, slots-pairs, stands_on}
 pub use Rattle.lapd_line.specs.Ports.{IsLoaded, IsSaid, PortStands, Pulls, latest_frame, latest_in, with_frame}
 pub use Rattle.lapd_line.specs.Pulls.{orders_taken}
-pub use Rattle.lapd_line.specs.Reports.{report_told, told_if, told_in}
+pub use Rattle.lapd_line.specs.Reports.{answer_of_request, delivered_in, report_told, told_beside, told_if, told_in}
 pub use Rattle.lapd_line.specs.Stands.{config_of, pairs_of}
 pub use Rattle.lapd_line.specs.declared.frame_line.FrameLine.{FrameLine}
 pub use Rattle.lapd_line.specs.declared.port.Port.{Port}

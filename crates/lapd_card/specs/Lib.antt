@@ -1,13 +1,12 @@
 -- What a card's contracts say.
 --
--- Read after those of `model_card`, in this order: Waiting, which lines have a frame to give; Start; FrameReply; and for a
+-- Read after those of `model_card`, in this order: Waiting, which lines have a frame to give; Start; and for a
 -- card in the middle of its life FrameCard, Counted, Lines and FrameStands. Of a card of octets, after those of
 -- `model_card::ports`, Card, Ports and Stands say the same; Reply, Sink, Drive and Kept (the sink of this crate), what a sink
 -- has taken. Kinds is of a card of either kind.
 pub mod Waiting
 pub mod WorkedWaiting
 pub mod Sink
-pub mod FrameReply
 pub mod Reply
 pub mod Kept
 pub mod Counted
@@ -22,9 +21,10 @@ pub mod Drive
 pub mod Kinds
 -- the words of the contracts, from where they are defined
 pub use Rattle.lapd_count.specs.Counters.{none_counted}
+pub use Rattle.lapd_frame.specs.ShortLists.{listed}
 pub use Rattle.lapd_line.specs.Ports.{IsLoaded}
 pub use Rattle.lapd_line.specs.Pulls.{orders_taken}
-pub use Rattle.lapd_line.specs.Reports.{gave_in, IsClear, octets_of, pulled_of, report_told, told_in, written}
+pub use Rattle.lapd_line.specs.Reports.{answer_of_request, delivered_in, gave_in, IsClear, octets_of, pulled_of, report_told, told_beside, told_in, written}
 pub use Rattle.lapd_link_steps.specs.Quiet.{IsQuiet}
 pub use Rattle.model_bits.specs.Heard.{heard_of}
 pub use Rattle.model_card.specs.ByEvent.{FallsByNext, RisesByExpiry, RisesByHeard, RisesByRequest}

@@ -1,7 +1,8 @@
 //! The card of octets: a card, and a port for each of its lines.
 
-ghost use Rattle.std.specs.Prelude.{◌≡◌, ◌≤◌, ◌<◌, Some, None, IsSome, IfOk, IfErr, IfSome, OnErr, get_or, slice_get, length};
-ghost use Rattle.lapd_card.specs.{none_counted, report_told, pulled_of, RisesByExpiry, RisesByRequest, may_send, room, RefusesBy, refusal, request_of, starts, head_begun_at, head_heard_at};
+ghost use Rattle.std.specs.Prelude.{◌≡◌, ◌≤◌, ◌<◌, Some, None, IsSome, IfOk, IfErr, IfSome, OnErr, slice_get, length};
+ghost use Rattle.std.specs.Option.{option_copied};
+ghost use Rattle.lapd_card.specs.{report_told, told_beside, pulled_of, RisesByExpiry, RisesByRequest, may_send, refusal, request_of, starts, head_begun_at, head_heard_at};
 ghost use Rattle.model_card.specs.Card as frames;
 ghost use Rattle.model_card.specs.ports.Card as machine;
 ghost use Rattle.model_card.specs.ports.Card.{after, answer};
@@ -11,9 +12,8 @@ ghost use Rattle.model_card.specs.ports.Port.{told};
 
 use crate::frame_card::FrameCard;
 use lapd_bits::Ended;
-use lapd_count::Counters;
 use lapd_frame::{Refusal, Service, Timer};
-use lapd_line::{BareReport, Port, Pulled, Report, Request, Room};
+use lapd_line::{BareReport, Port, Pulled, Report, Request};
 use lapd_store::Shelf;
 use model_bits::{Head, Heard};
 use std::marker::Model;
@@ -46,11 +46,20 @@ impl<S: Shelf> Model for Card<S> {
 impl<S: Shelf> Card<S> {
     ghost use Rattle.std.specs.Borrow.{sem};
     ghost use Rattle.std.specs.Io.BufRead.{Rests};
-    ghost use Rattle.lapd_card.specs.{counters_in, IsPriced, told_at, told_if_at};
+    ghost use Rattle.lapd_card.specs.{IsPriced, told_at, told_if_at};
     ghost use Rattle.lapd_card.specs.contracts.card.Card.{the_row};
     ghost use Rattle.lapd_card.specs.Card.{line_count};
     ghost use Rattle.lapd_card.specs.Reply.{answer_of_result};
     ghost use Rattle.lapd_card.specs.Stands.{Stands, Leads};
+
+    /// The card of frames inside: what is asked of neither kind of card alone, as [`FrameCard::room`] and
+    /// [`FrameCard::counters`]. A frame is counted as it is heard when its closing flag comes, and one that is sent when a
+    /// pull begins it.
+    pub fn frames(&self) -> &FrameCard<S>
+        ensures { result.now ≡ self.now.frames }
+    {
+        &self.frames
+    }
 
     /// How many lines the card has: 1 to 64.
     pub fn lines(&self) -> usize
@@ -78,7 +87,7 @@ impl<S: Shelf> Card<S> {
     }
 
     /// Takes an octet as [`Card::octet`] does, and answers without references; none where it ended nothing, so that there is
-    /// nothing to tell and no report to make. [`Card::lend`] makes the report of the bare one.
+    /// nothing to tell and no report to make. [`Card::contents`] lends contents that it delivered.
     #[inline(always)]
     pub fn hear(&mut self, line: usize, octet: u8) -> Option<BareReport>
         requires { line < line_count self.old }
@@ -103,14 +112,15 @@ impl<S: Shelf> Card<S> {
         }
     }
 
-    /// The report of what the latest octet of a line led to. Contents that it delivered are lent until the card's next event.
-    // The report borrows from the card, so that no event can come while contents are lent. Whatever the event
-    // changed was changed in a step before this one: no loan is proved beside a later write.
-    pub fn lend(&self, line: usize, bare: &BareReport) -> Report<'_>
+    /// The contents that the latest octet of a line delivered, which led to this report. They are lent until the card's next
+    /// event.
+    // They borrow from the card, so that no event can come while they are lent. Whatever the event changed was changed in a
+    // step before this one: no loan is proved beside a later write.
+    pub fn contents(&self, line: usize, report: &BareReport) -> Option<&[u8]>
         requires { line < line_count self.now }
-        ensures { report_told result ≡ told_at self.now.ports line bare.now }
+        ensures { told_beside (option_copied result) report.now ≡ told_at self.now.ports line report.now }
     {
-        self.ports[line].lend(bare)
+        report.contents(self.ports[line].latest_frame())
     }
 
     /// A timer of a line expired. One that does not run has no effect, and nothing is reported.
@@ -124,7 +134,9 @@ impl<S: Shelf> Card<S> {
         // What may be sent rises by k + 1 where the timer was running, else by nothing.
         ensures frames { (m : machine.OctetCard) → Stands S.store self.old m → RisesByExpiry line timer m.card }
     {
-        self.frames.expire(line, timer)
+        let mut bare = BareReport::nothing();
+        self.frames.expire(line, timer, &mut bare);
+        Report::of(&bare, None)
     }
 
     /// Serves a request of layer 3 or management at a line. One that is refused changes nothing, on this line or any other.
@@ -146,7 +158,9 @@ impl<S: Shelf> Card<S> {
         // What may be sent rises by one where it is accepted, else by nothing.
         ensures frames { (m : machine.OctetCard) → Stands S.store self.old m → RisesByRequest line (request_of request.entry) m.card }
     {
-        self.frames.request(line, request)
+        let mut bare = BareReport::nothing();
+        self.frames.request(line, request, &mut bare)?;
+        Ok(Report::of(&bare, None))
     }
 
     /// Gives the next octet of a line, low bit first. Where fewer than eight bits are left to send, the frame that is next
@@ -189,21 +203,6 @@ impl<S: Shelf> Card<S> {
         self.frames.state(line, service, tei)
     }
 
-    /// How much room the link of a service with this TEI has for contents, as [`FrameCard::room`] tells it.
-    ///
-    /// # Errors
-    ///
-    /// There is no such link: `BadTei` where the TEI is over 126, `NoLink` where it is not on the line.
-    pub fn room(&self, line: usize, service: Service, tei: u8) -> Result<Room, Refusal>
-        requires { line < line_count self.now }
-        ensures told { (m : machine.OctetCard) → Stands S.store self.now m → result ≡ room line service tei m.card }
-        // A request to send contents that are not too long is refused for room exactly by it.
-        ensures refuses { (m : machine.OctetCard) → Stands S.store self.now m
-            → IfOk result (λ room. RefusesBy room line service tei m.card) }
-    {
-        self.frames.room(line, service, tei)
-    }
-
     /// How the frame that a pull of the line began last begins, and how long it is; none where none was begun yet. After a
     /// pull that has begun a frame it is that frame, until a pull begins another.
     pub fn begun(&self, line: usize) -> Option<Head>
@@ -222,21 +221,12 @@ impl<S: Shelf> Card<S> {
         self.ports[line].heard()
     }
 
-    /// What was counted of a line since the card's start, as [`FrameCard::counters`] has it: a frame as it is heard when its
-    /// closing flag comes, and one that is sent when a pull begins it.
-    pub fn counters(&self, line: usize) -> &Counters
-        requires { line < line_count self.now }
-        ensures { result.now ≡ get_or (counters_in self.now.frames.lines) line none_counted }
-    {
-        self.frames.counters(line)
-    }
-
     fn report(&self, line: usize, bare: &Option<BareReport>) -> Report<'_>
         requires { line < line_count self.now }
         ensures { report_told result ≡ told_if_at self.now.ports line bare.now }
     {
         match bare {
-            Some(bare) => self.lend(line, bare),
+            Some(bare) => Report::of(bare, self.contents(line, bare)),
             None => Report::nothing(),
         }
     }

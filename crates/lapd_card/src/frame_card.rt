@@ -2,7 +2,7 @@
 
 ghost use Rattle.std.specs.Prelude.{◌≡◌, ◌≤◌, ◌<◌, ◌↔◌, true, length, drop, Some, None, IsSome, IfOk, IfErr, IfSome, IsErr, OnOk, OnErr, get_or};
 ghost use Rattle.std.specs.Option.{option_copied};
-ghost use Rattle.lapd_card.specs.{none_counted, IsQuiet, report_told, told_in, octets_of, gave_in, written, IsClear, heard_of, RisesByHeard, RisesByExpiry, RisesByRequest, FallsByNext, room, RefusesBy, has_next, next_waiting, came, cause_of, refusal, request_of, starts, limit, IsLoaded, orders_taken};
+ghost use Rattle.lapd_card.specs.{none_counted, IsQuiet, answer_of_request, delivered_in, listed, told_beside, told_in, octets_of, gave_in, written, IsClear, heard_of, RisesByHeard, RisesByExpiry, RisesByRequest, FallsByNext, room, RefusesBy, has_next, next_waiting, came, cause_of, refusal, request_of, starts, limit, IsLoaded, orders_taken};
 ghost use Rattle.model_bits.specs.Stream as stream;
 ghost use Rattle.model_card.specs.Card as machine;
 ghost use Rattle.model_card.specs.Event.{at};
@@ -15,7 +15,7 @@ ghost use Rattle.model_line.specs.Event.{told, hears, expiry, next};
 use crate::stored::frame_limit;
 use lapd_count::Counters;
 use lapd_frame::{Order, Refusal, Service, ShortList, Timer};
-use lapd_line::{BareReport, Config, FrameLine, Marks, NextFrame, Port, Report, Request, Room};
+use lapd_line::{BareReport, Config, FrameLine, Marks, NextFrame, Port, Request, Room};
 use lapd_store::Shelf;
 use model_bits::Heard;
 use model_line::Fault;
@@ -61,7 +61,6 @@ impl<S: Shelf> Model for FrameCard<S> {
 impl<S: Shelf> FrameCard<S> {
     ghost use Rattle.lapd_card.specs.Counted.{counters_in};
     ghost use Rattle.lapd_card.specs.FrameCard.{line_count, room_for_frames};
-    ghost use Rattle.lapd_card.specs.FrameReply.{answer_of_result};
     ghost use Rattle.lapd_card.specs.FrameStands.{Stands, Leads};
 
     /// How many lines the card has: 1 to 64.
@@ -78,27 +77,12 @@ impl<S: Shelf> FrameCard<S> {
         usize::from(self.config.n201) + 4
     }
 
-    /// Takes a frame that came from a line, from its address to its information, without its check, and tells what it
-    /// led to. One that is too short, or longer than N201 has room for, is answered as these octets between flags would
-    /// be (Q.921 clause 2.9). Contents that it delivers are lent from the octets themselves.
-    pub fn frame<'a>(&mut self, line: usize, octets: &'a [u8]) -> Report<'a>
-        requires { line < line_count self.old }
-        ensures told { (m : machine.Card) → Stands S.store self.old m
-            → told (report_told result) ≡ answer (at line (hears (came self.old.config.n201 octets.now))) m }
-        ensures after { Leads S.store (at line (hears (came self.old.config.n201 octets.now))) self.old self.new }
-        // What may be sent rises by two at most for the frame, and by k more where that is an REJ with a valid N(R).
-        ensures frames { (m : machine.Card) → Stands S.store self.old m → RisesByHeard line (came self.old.config.n201 octets.now) m }
-    {
-        let mut bare = BareReport::nothing();
-        self.hear(line, octets, &mut bare);
-        self.lend(line, octets, &bare)
-    }
-
-    /// Takes a frame as [`FrameCard::frame`] does, and tells what it led to in a report without references, in which nothing is
-    /// told yet. [`FrameCard::lend`] makes the report of it, and [`FrameCard::contents`] lends the contents alone. Where the
-    /// answer is true, it tells nothing but orders for timers.
+    /// Takes a frame that came from a line, from its address to its information, without its check, and tells in the report,
+    /// in which nothing is told yet, what it led to. One that is too short, or longer than N201 has room for, is answered as
+    /// these octets between flags would be (Q.921 clause 2.9). [`FrameCard::contents`] lends contents that it delivers. Where
+    /// the answer is true, it tells nothing but orders for timers.
     #[inline(always)]
-    pub fn hear(&mut self, line: usize, octets: &[u8], report: &mut BareReport) -> bool
+    pub fn frame(&mut self, line: usize, octets: &[u8], report: &mut BareReport) -> bool
         requires within { line < line_count self.old }
         requires clear { IsClear report.old }
         ensures told { (m : machine.Card) → Stands S.store self.old m
@@ -106,6 +90,8 @@ impl<S: Shelf> FrameCard<S> {
             ≡ answer (at line (hears (came self.old.config.n201 octets.now))) m }
         ensures after { Leads S.store (at line (hears (came self.old.config.n201 octets.now))) self.old self.new }
         ensures quiet { result ≡ true → IsQuiet report.new }
+        // What may be sent rises by two at most for the frame, and by k more where that is an REJ with a valid N(R).
+        ensures frames { (m : machine.Card) → Stands S.store self.old m → RisesByHeard line (came self.old.config.n201 octets.now) m }
     {
         let lane = &mut self.lines[line];
         let is_quiet = lane.frame(octets, report, &mut self.shelf);
@@ -113,35 +99,28 @@ impl<S: Shelf> FrameCard<S> {
         is_quiet
     }
 
-    /// The report of what a frame of these octets led to at a line, with the contents that it delivered.
-    pub fn lend<'a>(&self, line: usize, octets: &'a [u8], bare: &BareReport) -> Report<'a>
-        requires { line < line_count self.now }
-        ensures { report_told result ≡ told_in (octets_of (Some (came self.now.config.n201 octets.now))) bare.now }
-    {
-        self.lines[line].lend(octets, bare)
-    }
-
-    /// The contents alone that a frame of these octets delivered at a line.
+    /// The contents that a frame of these octets delivered at a line, which led to this report. They are lent from the octets
+    /// themselves.
     #[inline(always)]
-    pub fn contents<'a>(&self, line: usize, octets: &'a [u8], bare: &BareReport) -> Option<&'a [u8]>
+    pub fn contents<'a>(&self, line: usize, octets: &'a [u8], report: &BareReport) -> Option<&'a [u8]>
         requires { line < line_count self.now }
-        ensures { option_copied result ≡ (told_in (octets_of (Some (came self.now.config.n201 octets.now))) bare.now).contents }
+        ensures { option_copied result ≡ delivered_in (octets_of (Some (came self.now.config.n201 octets.now))) report.now }
     {
-        self.lines[line].contents(octets, bare)
+        self.lines[line].contents(octets, report)
     }
 
     /// The controller of a line told a fault in place of a frame. It is reported with its cause and counted, and has
     /// no other effect (Q.921 clauses 2.7, 2.9 and 2.10).
-    pub fn failed(&mut self, line: usize, fault: Fault) -> Report<'static>
-        requires { line < line_count self.old }
+    pub fn failed(&mut self, line: usize, fault: Fault, report: &mut BareReport)
+        requires within { line < line_count self.old }
+        requires clear { IsClear report.old }
         ensures told { (m : machine.Card) → Stands S.store self.old m
-            → told (report_told result) ≡ answer (at line (hears (stream.dropped (cause_of fault)))) m }
+            → told (told_beside None report.new) ≡ answer (at line (hears (stream.dropped (cause_of fault)))) m }
         ensures after { Leads S.store (at line (hears (stream.dropped (cause_of fault)))) self.old self.new }
     {
         let lane = &mut self.lines[line];
-        let report = lane.failed(fault);
+        lane.failed(fault, report);
         self.waiting.set(line, lane.has_next());
-        report
     }
 
     /// Takes what the port of a line has heard, and tells in the report what it led to.
@@ -248,20 +227,20 @@ impl<S: Shelf> FrameCard<S> {
     }
 
     /// A timer of a line expired. One that does not run has no effect, and nothing is reported.
-    pub fn expire(&mut self, line: usize, timer: Timer) -> Report<'static>
-        requires { line < line_count self.old }
+    pub fn expire(&mut self, line: usize, timer: Timer, report: &mut BareReport)
+        requires within { line < line_count self.old }
+        requires clear { IsClear report.old }
         ensures told { (m : machine.Card) → Stands S.store self.old m
-            → told (report_told result) ≡ answer (at line (expiry timer)) m }
+            → told (told_beside None report.new) ≡ answer (at line (expiry timer)) m }
         ensures after { Leads S.store (at line (expiry timer)) self.old self.new }
         // It starts one timer at most, so applying the orders of what falls due comes to an end.
-        ensures starts { starts (report_told result).orders ≤ 1 }
+        ensures starts { starts (listed report.new.orders) ≤ 1 }
         // What may be sent rises by k + 1 where the timer was running, else by nothing.
         ensures frames { (m : machine.Card) → Stands S.store self.old m → RisesByExpiry line timer m }
     {
         let lane = &mut self.lines[line];
-        let report = lane.expire(timer, &mut self.shelf);
+        lane.expire(timer, report, &mut self.shelf);
         self.waiting.set(line, lane.has_next());
-        report
     }
 
     /// Serves a request of layer 3 or management at a line. One that is refused changes nothing, on this line or any other.
@@ -270,24 +249,26 @@ impl<S: Shelf> FrameCard<S> {
     ///
     /// The first row that holds of those that apply to the request ([`Refusal`] has them in order); `PoolFull` exactly
     /// where the card holds as many contents as its configuration has slots.
-    pub fn request(&mut self, line: usize, request: Request<'_>) -> Result<Report<'static>, Refusal>
-        requires { line < line_count self.old }
+    pub fn request(&mut self, line: usize, request: Request<'_>, report: &mut BareReport) -> Result<(), Refusal>
+        requires within { line < line_count self.old }
+        requires clear { IsClear report.old }
         ensures refused { IfErr result (λ why. (m : machine.Card) → Stands S.store self.old m
             → refusal m.config (machine.is_full m) (request_of request.entry) (machine.line_at line m) ≡ Some why) }
         ensures unchanged { OnErr result (self.new ≡ self.old) }
-        ensures accepted { IfOk result (λ report. (m : machine.Card) → Stands S.store self.old m
+        ensures untold { OnErr result (report.new ≡ report.old) }
+        ensures accepted { OnOk result ((m : machine.Card) → Stands S.store self.old m
             → refusal m.config (machine.is_full m) (request_of request.entry) (machine.line_at line m) ≡ None) }
         ensures told { (m : machine.Card) → Stands S.store self.old m
-            → answer_of_result result ≡ answer (at line (line_event.request (request_of request.entry))) m }
+            → answer_of_request result report.new ≡ answer (at line (line_event.request (request_of request.entry))) m }
         ensures after { Leads S.store (at line (line_event.request (request_of request.entry))) self.old self.new }
         // What may be sent rises by one where it is accepted, else by nothing.
         ensures frames { (m : machine.Card) → Stands S.store self.old m → RisesByRequest line (request_of request.entry) m }
     {
         let lane = &mut self.lines[line];
-        match lane.request(request, &mut self.shelf, u32::from(self.config.slots)) {
-            Ok(report) => {
+        match lane.request(request, report, &mut self.shelf, u32::from(self.config.slots)) {
+            Ok(()) => {
                 self.waiting.set(line, lane.has_next());
-                Ok(report)
+                Ok(())
             }
             Err(why) => Err(why),
         }

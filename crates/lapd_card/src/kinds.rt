@@ -1,18 +1,17 @@
 //! A card of either kind, and what both do alike.
 
-ghost use Rattle.std.specs.Prelude.{◌≡◌, ◌≤◌, ◌<◌, Some, None, IfOk, IfErr, OnErr};
-ghost use Rattle.lapd_card.specs.{refusal, request_of, report_told};
+ghost use Rattle.std.specs.Prelude.{◌≡◌, ◌≤◌, ◌<◌, Some, None, IfErr, OnOk, OnErr};
+ghost use Rattle.lapd_card.specs.{answer_of_request, refusal, request_of, told_beside, IsClear};
 ghost use Rattle.model_card.specs.Card as machine;
 ghost use Rattle.model_card.specs.Event.{at};
 ghost use Rattle.model_line.specs.Event as line_event;
 ghost use Rattle.model_line.specs.Event.{told};
-ghost use Rattle.lapd_card.specs.FrameReply.{answer_of_result};
 ghost use Rattle.lapd_card.specs.Kinds.{Machine, card_in, answer, stored, frames_of, line_count, FrameCardStands, AnyStands, AnyLeads};
 
 use crate::card::Card;
 use crate::frame_card::FrameCard;
 use lapd_frame::{Refusal, Timer};
-use lapd_line::{Report, Request};
+use lapd_line::{BareReport, Request};
 use lapd_store::RawShelf;
 
 /// A card that takes and gives octets, or one that takes and gives whole frames, over a shelf of raw memory.
@@ -47,33 +46,36 @@ impl AnyCard {
     }
 
     /// A timer of a line expired.
-    pub fn expire(&mut self, line: usize, timer: Timer) -> Report<'static>
-        requires { line < line_count self.old }
+    pub fn expire(&mut self, line: usize, timer: Timer, report: &mut BareReport)
+        requires within { line < line_count self.old }
+        requires clear { IsClear report.old }
         ensures told { (m : Machine) → AnyStands self.old m
-            → told (report_told result) ≡ answer (at line (line_event.expiry timer)) m }
+            → told (told_beside None report.new) ≡ answer (at line (line_event.expiry timer)) m }
         ensures after { AnyLeads (at line (line_event.expiry timer)) self.old self.new }
     {
         match self {
-            AnyCard::Octets(card) => card.expire(line, timer),
-            AnyCard::Frames(card) => card.expire(line, timer),
+            AnyCard::Octets(card) => card.frames.expire(line, timer, report),
+            AnyCard::Frames(card) => card.expire(line, timer, report),
         }
     }
 
     /// Serves a request at a line.
-    pub fn request(&mut self, line: usize, request: Request<'_>) -> Result<Report<'static>, Refusal>
-        requires { line < line_count self.old }
+    pub fn request(&mut self, line: usize, request: Request<'_>, report: &mut BareReport) -> Result<(), Refusal>
+        requires within { line < line_count self.old }
+        requires clear { IsClear report.old }
         ensures refused { IfErr result (λ why. (m : Machine) → AnyStands self.old m
             → refusal (card_in m).config (machine.is_full (card_in m)) (request_of request.entry) (machine.line_at line (card_in m)) ≡ Some why) }
         ensures unchanged { OnErr result (self.new ≡ self.old) }
-        ensures accepted { IfOk result (λ report. (m : Machine) → AnyStands self.old m
+        ensures untold { OnErr result (report.new ≡ report.old) }
+        ensures accepted { OnOk result ((m : Machine) → AnyStands self.old m
             → refusal (card_in m).config (machine.is_full (card_in m)) (request_of request.entry) (machine.line_at line (card_in m)) ≡ None) }
         ensures told { (m : Machine) → AnyStands self.old m
-            → answer_of_result result ≡ answer (at line (line_event.request (request_of request.entry))) m }
+            → answer_of_request result report.new ≡ answer (at line (line_event.request (request_of request.entry))) m }
         ensures after { AnyLeads (at line (line_event.request (request_of request.entry))) self.old self.new }
     {
         match self {
-            AnyCard::Octets(card) => card.request(line, request),
-            AnyCard::Frames(card) => card.request(line, request),
+            AnyCard::Octets(card) => card.frames.request(line, request, report),
+            AnyCard::Frames(card) => card.request(line, request, report),
         }
     }
 

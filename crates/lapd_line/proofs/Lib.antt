@@ -2,6 +2,7 @@
 pub mod Vocabulary
 pub mod LinkSteps
 pub mod Quiet
+mod Silent
 pub mod MarkBits
 pub mod AwakeSteps
 pub mod LayerSteps

@@ -1,11 +1,12 @@
 -- What a call on the entities of a line does to the line.
-use Rattle.lapd_line.proofs.Vocabulary.{◌≡◌, fold-append, List, [], ◌++◌, Option, Some, None, refl, sym, ap, ◌∙◌, subst, false≢true, Cause, Timer, Owned, Store, SameLimits, Config, Event, LineTold, told, dropped, hears, expiry, aim_of_expiry, after, answer, IsSome, Counters, More, with_all, heard_shown, shown, answer_shown, told_shown, FrameLine, LinkLayer, BareReport, Report, Serves, aim_of_event, report_told, told_in, Leads, LeadsIfHeard, answer_if_heard, config_of, with_counted, bare_shown}
+use Rattle.lapd_line.proofs.Vocabulary.{◌≡◌, fold-append, List, [], ◌++◌, Option, Some, None, refl, sym, ap, ◌∙◌, subst, false≢true, Cause, Timer, Owned, Store, SameLimits, Config, Event, LineTold, told, dropped, hears, expiry, aim_of_expiry, after, answer, IsSome, Counters, More, with_all, heard_shown, shown, answer_shown, told_shown, FrameLine, LinkLayer, BareReport, Serves, aim_of_event, told_beside, told_in, Leads, LeadsIfHeard, answer_if_heard, config_of, with_counted, bare_shown}
 use Rattle.model_bits.specs.Stream as stream
 use Rattle.lapd_count.specs.Counters.{with_more}
 use Rattle.model_line.specs.Line as machine
 use Rattle.lapd_line.specs.LinkLayer as layer
 use Rattle.lapd_line.specs.Reports.{octets_of}
 use Rattle.lapd_line.specs.Stands.{Stands}
+use Rattle.lapd_line.proofs.Silent.{expiry_silent, silent_told}
 
 -- what was counted is no matter for what a line stands for
 pub recounted : (l : FrameLine) (k : Counters) (s : Store) (others : List Owned) (m : machine.Line) → Stands l s others m → Stands (record l { counters = k }) s others m
@@ -47,9 +48,9 @@ heard_leads old {o = o} (Some x) some served is =
     (λ others m st. ap (λ a. heard_shown (config_of old).side (Some x) ++ answer_shown (config_of old).side a) (sym (heard_told old (Some x) served others m st))) is
 
 -- what is dropped leaves all as it is
-pub dropped_told : (c : Config) (cause : Cause) (m : machine.Line) (t : LineTold) → t ≡ dropped cause → told t ≡ answer c (hears (stream.dropped cause)) m
+pub dropped_told : (c : Config) (cause : Cause) (m : machine.Line) (o : BareReport) → told_in [] o ≡ dropped cause → told (told_beside None o) ≡ answer c (hears (stream.dropped cause)) m
 unfolding answer
-dropped_told c cause m t is = ap told is
+dropped_told c cause m o is = ap told (silent_told o is refl)
 
 pub dropped_leads : {old new : FrameLine} (s : Store) (cause : Cause) (o : BareReport) → told_in [] o ≡ dropped cause → new ≡ with_counted old (bare_shown o)
     → Leads (hears (stream.dropped cause)) old s new s
@@ -62,10 +63,10 @@ dropped_leads {old} s cause o says is = record {
 }
 
 -- a timer has expired
-pub expiry_told : {e new : LinkLayer} {s t : Store} {o : BareReport} (timer : Timer) (r : Report) → report_told r ≡ told_in [] o → Serves (aim_of_expiry timer) [] e s new t o
-    → (others : List Owned) (m : machine.Line) → layer.Stands e s others m → told (report_told r) ≡ answer e.config (expiry timer) m
+pub expiry_told : {e new : LinkLayer} {s t : Store} {o : BareReport} (timer : Timer) → Serves (aim_of_expiry timer) [] e s new t o
+    → (others : List Owned) (m : machine.Line) → layer.Stands e s others m → told (told_beside None o) ≡ answer e.config (expiry timer) m
 unfolding answer
-expiry_told timer r is served others m st = ap told (is ∙ served.told others m st)
+expiry_told {e} {o = o} timer served others m st = ap told (silent_told o (served.told others m st) (expiry_silent e.config m timer))
 
 pub expired : {old new : FrameLine} {s : Store} {e : LinkLayer} {t : Store} {o : BareReport} (timer : Timer) → Serves (aim_of_expiry timer) [] old.layer s e t o
     → new ≡ gone_on old e (bare_shown o) → Leads (expiry timer) old s new t

@@ -26,12 +26,3 @@ clear_tells_nothing {r} octets clear = cause_alone octets r.cause clear ∙ ap (
 pub link_told : (octets info : List ℕ) (r : BareReport) (start : ℕ) → info ≡ drop start octets
     → told_in octets (record r { start = start; cause = None }) ≡ told_of_link (told_with info r)
 link_told octets info r start is = grind (arith, none_else)
-
--- contents are lent where they were delivered
-pub some_lent : (delivered unit : Bool) (contents : List ℕ) → (delivered || unit) ≡ true
-    → Some contents ≡ option_or (if delivered then Some contents else None) (if unit then Some contents else None)
-some_lent delivered unit contents is = grind arith
-
-pub none_lent : (delivered unit : Bool) (contents : List ℕ) → (delivered || unit) ≡ false
-    → None ≡ option_or (if delivered then Some contents else None) (if unit then Some contents else None)
-none_lent delivered unit contents is = grind arith

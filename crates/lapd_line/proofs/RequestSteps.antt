@@ -1,5 +1,5 @@
 -- A request of a line: what its arms say as one refusal, and what the line makes of it.
-use Rattle.lapd_line.proofs.Vocabulary.{◌≡◌, ℕ, Bool, true, false, List, [], ◌∷◌, ◌++◌, Option, Some, None, Result, IfErr, OnOk, refl, sym, ap, subst, ◌∙◌, cond, Refusal, Service, Owned, Store, Config, told, after, answer, unless_refused, unless_refused_told, Aim, of_aim, Row, first_that_holds, bad_tei, bad_tei_or_group, no_link, no_link_nor_group, wrong_state, too_long, queue_full, unit_queue_full, pool_full, refusal, Request, request_of, Establish, Release, Data, Unit, Assign, Remove, Check, SetBusy, ClearBusy, Deactivate, Down, aim_of_request, at_requested, LinkRequest, link_refusal, FrameLine, LinkLayer, BareReport, Report, Serves, bare_shown, report_told, told_in, answer_shown, told_shown, Leads, config_of}
+use Rattle.lapd_line.proofs.Vocabulary.{◌≡◌, ℕ, Bool, true, false, List, [], ◌∷◌, ◌++◌, Option, Some, None, Result, IfErr, OnOk, refl, sym, ap, subst, ◌∙◌, cond, Refusal, Service, Owned, Store, Config, told, after, answer, unless_refused, unless_refused_told, Aim, of_aim, Row, first_that_holds, bad_tei, bad_tei_or_group, no_link, no_link_nor_group, wrong_state, too_long, queue_full, unit_queue_full, pool_full, refusal, Request, request_of, Establish, Release, Data, Unit, Assign, Remove, Check, SetBusy, ClearBusy, Deactivate, Down, aim_of_request, at_requested, LinkRequest, link_refusal, FrameLine, LinkLayer, BareReport, Serves, bare_shown, told_beside, answer_shown, told_shown, Leads, config_of}
 use Rattle.model_line.specs.Event as line_event
 use Rattle.model_line.specs.Line as machine
 use Rattle.model_line.specs.declared.requests.Request as asking
@@ -11,6 +11,7 @@ use Rattle.lapd_line.proofs.LayerRequests.{establish_rows, release_rows, data_ro
 use Rattle.std.proofs.lemmas.Result.{IfErr-weaker}
 use Rattle.lapd_line.proofs.LinkSteps.{on_ok}
 use Rattle.lapd_line.proofs.LineSteps.{gone_on, leads_on}
+use Rattle.lapd_line.proofs.Silent.{request_silent, silent_told}
 
 -- a request that is this one is refused, or granted, as this one
 module _ {X : Type 0} (e : LinkLayer) (s : Store) (full : Bool) {r this : Request} (is : r ≡ this) {f : machine.Line → Option Refusal}
@@ -77,12 +78,12 @@ with_room c full (Deactivate service tei) l e = e
 with_room c full Down l e = e
 
 -- the entities tell what the machine answers to a request that is granted
-pub request_told : {e new : LinkLayer} {s t : Store} {o : BareReport} (full : Bool) (r : Request) (report : Report)
-    → ((others : List Owned) (m : machine.Line) → layer.Stands e s others m → refusal e.config full r m ≡ None) → Serves (aim_of_request r) [] e s new t o → report_told report ≡ told_in [] o
-    → (others : List Owned) (m : machine.Line) → layer.Stands e s others m → told (report_told report) ≡ answer e.config (line_event.request r) m
+pub request_told : {e new : LinkLayer} {s t : Store} {o : BareReport} (full : Bool) (r : Request)
+    → ((others : List Owned) (m : machine.Line) → layer.Stands e s others m → refusal e.config full r m ≡ None) → Serves (aim_of_request r) [] e s new t o
+    → (others : List Owned) (m : machine.Line) → layer.Stands e s others m → told (told_beside None o) ≡ answer e.config (line_event.request r) m
 unfolding answer
-request_told {e} full r report granted served is others m st =
-    ap told (is ∙ served.told others m st)
+request_told {e} {o = o} full r granted served others m st =
+    ap told (silent_told o (served.told others m st) (request_silent e.config m r))
     ∙ ap (λ why. unless_refused_told why (of_aim e.config (unless_refused why (aim_of_request r m)) m)) (sym (with_room e.config full r m (granted others m st)))
 
 -- and the line goes on

@@ -50,7 +50,7 @@ pub use Rattle.lapd_line.specs.Marks.{AreMarked, IsLowestFrom, IsMark, IsMarkedA
 pub use Rattle.lapd_line.specs.Octets.{OctetsLead, OctetsStand, octets_config}
 pub use Rattle.lapd_line.specs.Ports.{IsLoaded, IsSaid, PortStands, Pulls, latest_frame, or_latest, with_frame}
 pub use Rattle.lapd_line.specs.Pulls.{HasTaken, Takes, TakesNext, Took, orders_taken}
-pub use Rattle.lapd_line.specs.Reports.{gave_in, report_told, told_if, told_in}
+pub use Rattle.lapd_line.specs.Reports.{gave_in, report_told, told_beside, told_if, told_in}
 pub use Rattle.lapd_line.specs.Requests.{event_of, link_refusal, management_refusal, may_ask}
 pub use Rattle.lapd_line.specs.Stands.{Leads, LeadsIfHeard, answer_if_heard, config_of, pairs_of as line_pairs}
 pub use Rattle.lapd_line.specs.Starts.{AreBegun, IsBegun}

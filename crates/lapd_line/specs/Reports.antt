@@ -3,15 +3,16 @@
 -- An answer has room for four notes and four orders, by value. No clause needs to speak of that room: an answer
 -- equals what the machine tells, so a list that was cut would break the clause. That four suffice is
 -- `answers_are_short` of `laws_line`.
-use Rattle.std.specs.Prelude.{ℕ, List, [], take, drop, Option, Some, None, option_map, if◌then◌else◌}
-use Rattle.std.specs.Option.{option_copied, option_or}
+use Rattle.std.specs.Prelude.{ℕ, List, [], take, Option, Some, None, option_map, Result, Ok, Err}
+use Rattle.std.specs.Option.{option_copied}
 use Rattle.model_bits.specs.Stream as stream
 use Rattle.lapd_frame.specs.ShortLists.{listed}
-use Rattle.model_line.specs.Event.{LineTold, Answer, gave, nothing}
+use Rattle.lapd_frame.specs.declared.refusals.Refusal.{Refusal}
+use Rattle.model_line.specs.Event.{LineTold, Answer, told, refused, gave, nothing}
 use Rattle.model_line.specs.Event as line
 use Rattle.model_card.specs.ports.Port as port
 use Rattle.lapd_link_steps.specs.declared.report.BareReport.{BareReport}
-pub use Rattle.lapd_link_steps.specs.Reports.{IsClear, cause_in, has_contents}
+pub use Rattle.lapd_link_steps.specs.Reports.{IsClear, cause_in, delivered_in, has_contents}
 use Rattle.lapd_line.specs.declared.next_frame.NextFrame.{NextFrame}
 use Rattle.lapd_line.specs.declared.reports.Report.{Report}
 use Rattle.lapd_line.specs.declared.pulled.Pulled.{Pulled}
@@ -24,15 +25,19 @@ report_told r =
 abbrev pub without_contents : LineTold → LineTold
 without_contents t = record t { contents = None }
 
--- What it tells, with the contents that it names lent from these octets.
+-- What a report without references tells, with these contents beside it,
+abbrev pub told_beside : Option (List ℕ) → BareReport → LineTold
+told_beside contents o =
+    record { notes = listed o.notes; contents = contents; cause = cause_in o; orders = listed o.orders; lost = o.lost }
+
+-- or with those that it names in these octets.
 abbrev pub told_in : List ℕ → BareReport → LineTold
-told_in octets o = record {
-  notes = listed o.notes;
-  contents = option_or (if o.delivered then Some (drop o.start octets) else None) (if o.unit then Some (drop o.start octets) else None);
-  cause = cause_in o;
-  orders = listed o.orders;
-  lost = o.lost;
-}
+told_in octets o = told_beside (delivered_in octets o) o
+
+-- What a request is answered with: where it is accepted, what its report tells, and else why it is refused.
+abbrev pub answer_of_request : Result Unit Refusal → BareReport → Answer
+answer_of_request (Ok done) o = told (told_beside None o)
+answer_of_request (Err why) o = refused why
 
 -- The same where there is an outcome, and nothing where there is none.
 abbrev pub told_if : List ℕ → Option BareReport → LineTold

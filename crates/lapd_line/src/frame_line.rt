@@ -1,19 +1,18 @@
 //! The line: one call for each thing that happens.
 
-ghost use Rattle.std.specs.Prelude.{◌≡◌, ◌≤◌, List, false, true, None, Some, IfOk, IfErr, OnErr, nat_le};
+ghost use Rattle.std.specs.Prelude.{◌≡◌, ◌≤◌, List, false, true, None, Some, IfOk, IfErr, OnOk, OnErr, nat_le};
 ghost use Rattle.std.specs.Option.{option_copied};
-ghost use Rattle.lapd_line.specs.{none_counted, Owned, Holds, Store, used_slots, heard_of, came, cause_of, told, hears, answer, refusal, request_of, IsInRange, starts, IsQuiet, bare_shown, with_counted, report_told, told_in, octets_of, IsClear, Leads, LeadsIfHeard, answer_if_heard, config_of};
+ghost use Rattle.lapd_line.specs.{none_counted, Owned, Holds, Store, used_slots, heard_of, came, cause_of, told, hears, answer, refusal, request_of, IsInRange, starts, IsQuiet, bare_shown, with_counted, told_in, told_beside, delivered_in, octets_of, listed, IsClear, Leads, LeadsIfHeard, answer_if_heard, config_of};
 ghost use Rattle.model_bits.specs.Stream as stream;
 ghost use Rattle.model_line.specs.Event as line_event;
 ghost use Rattle.model_line.specs.Line as machine;
 
 use crate::came::{came, cause_of, octets_of};
-use crate::counting::count_told;
 use crate::fault::StartFault;
 use crate::link_layer::LinkLayer;
 use crate::links::Links;
 use crate::marks::Marks;
-use crate::reports::{Report, lent, tell_drop};
+use crate::reports::tell_drop;
 use crate::units::Units;
 use lapd_count::Counters;
 use lapd_frame::{Refusal, Timer};
@@ -105,17 +104,13 @@ impl FrameLine {
         if report.is_quiet() {
             return true;
         }
-        count_told(
-            &mut self.counters,
-            &report.notes,
-            report.cause(),
-            report.lost,
-        );
+        self.counters
+            .told(report.notes(), report.cause(), report.lost);
         false
     }
 
     /// Takes a frame that a controller brings, from its address to its information, without its check, and tells in the report
-    /// what it led to. [`FrameLine::lend`] lends contents that it delivers from these octets. Where the answer is true, it
+    /// what it led to. [`FrameLine::contents`] lends contents that it delivers from these octets. Where the answer is true, it
     /// tells nothing but orders for timers.
     ///
     /// What it is heard as is what a deframer would hear in its octets on an idle line (`frames_are_heard` of
@@ -132,55 +127,41 @@ impl FrameLine {
         self.heard(came(octets, self.layer.config.n201), report, shelf)
     }
 
-    /// The report of what a frame of these octets led to, with the contents that it delivered.
-    pub fn lend<'a>(&self, octets: &'a [u8], bare: &BareReport) -> Report<'a>
-        ensures { report_told result ≡ told_in (octets_of (Some (came (config_of self.now).n201 octets.now))) bare.now }
-    {
-        Report::of(bare, octets_of(came(octets, self.layer.config.n201)))
-    }
-
-    /// The contents alone.
-    #[tactic(auto, using(crate::proofs::ReportSteps::none_lent))]
+    /// The contents that a frame of these octets delivered, which led to this report.
     #[inline(always)]
-    pub fn contents<'a>(&self, octets: &'a [u8], bare: &BareReport) -> Option<&'a [u8]>
-        ensures { option_copied result ≡ (told_in (octets_of (Some (came (config_of self.now).n201 octets.now))) bare.now).contents }
+    pub fn contents<'a>(&self, octets: &'a [u8], report: &BareReport) -> Option<&'a [u8]>
+        ensures { option_copied result ≡ delivered_in (octets_of (Some (came (config_of self.now).n201 octets.now))) report.now }
     {
-        if bare.has_contents() {
-            lent(bare, octets_of(came(octets, self.layer.config.n201)))
-        } else {
-            None
-        }
+        report.contents(octets_of(came(octets, self.layer.config.n201)))
     }
 
     /// A controller tells a fault in place of a frame. It is reported with its cause, and changes nothing.
     ///
     /// What it is heard as is what a deframer would hear in the octets of such a fault (`frames_are_heard` of
     /// `model_card::ports`).
-    pub fn failed(&mut self, fault: Fault) -> Report<'static>
+    pub fn failed(&mut self, fault: Fault, report: &mut BareReport)
+        requires clear { IsClear report.old }
         ensures told { (m : machine.Line)
-            → told (report_told result) ≡ answer (config_of self.old) (hears (stream.dropped (cause_of fault))) m }
+            → told (told_beside None report.new) ≡ answer (config_of self.old) (hears (stream.dropped (cause_of fault))) m }
         ensures after { (store : Store) → Leads (hears (stream.dropped (cause_of fault))) self.old store self.new store }
     {
-        let mut bare = BareReport::nothing();
-        tell_drop(&mut bare, cause_of(fault));
-        self.count(&bare);
-        Report::of(&bare, &[])
+        tell_drop(report, cause_of(fault));
+        self.count(report);
     }
 
     /// A timer expires: T200 or T203 of a link, or T201 of the check of a TEI (Q.921 clause 5.9). Where it does not
     /// run, nothing happens (profile).
-    pub fn expire<S: Shelf>(&mut self, timer: Timer, shelf: &mut S) -> Report<'static>
-        requires { (others : List Owned) × (m : machine.Line) × Stands self.old (S.store shelf.old) others m }
+    pub fn expire<S: Shelf>(&mut self, timer: Timer, report: &mut BareReport, shelf: &mut S)
+        requires clear { IsClear report.old }
+        requires stands { (others : List Owned) × (m : machine.Line) × Stands self.old (S.store shelf.old) others m }
         ensures told { (others : List Owned) (m : machine.Line) → Stands self.old (S.store shelf.old) others m
-            → told (report_told result) ≡ answer (config_of self.old) (line_event.expiry timer) m }
+            → told (told_beside None report.new) ≡ answer (config_of self.old) (line_event.expiry timer) m }
         // It starts one timer at most.
-        ensures starts { starts (report_told result).orders ≤ 1 }
+        ensures starts { starts (listed report.new.orders) ≤ 1 }
         ensures after { Leads (line_event.expiry timer) self.old (S.store shelf.old) self.new (S.store shelf.new) }
     {
-        let mut bare = BareReport::nothing();
-        self.layer.expire(timer, &mut bare, shelf);
-        self.count(&bare);
-        Report::of(&bare, &[])
+        self.layer.expire(timer, report, shelf);
+        self.count(report);
     }
 
     /// Serves a request of layer 3 or management (Q.921 clause 4.1.1). One that is refused changes nothing. The whole
@@ -193,29 +174,27 @@ impl FrameLine {
     pub fn request<S: Shelf>(
         &mut self,
         request: Request<'_>,
+        report: &mut BareReport,
         shelf: &mut S,
         slots: u32,
-    ) -> Result<Report<'static>, Refusal>
+    ) -> Result<(), Refusal>
+        requires clear { IsClear report.old }
         requires stands { (others : List Owned) × (m : machine.Line) × Stands self.old (S.store shelf.old) others m }
         requires slots { slots ≤ (S.store shelf.old).slots }
         ensures refused { IfErr result (λ why. (others : List Owned) (m : machine.Line) → Stands self.old (S.store shelf.old) others m
             → refusal (config_of self.old) (nat_le slots (used_slots (S.store shelf.old))) (request_of request.entry) m ≡ Some why) }
         ensures unchanged { OnErr result (self.new ≡ self.old) }
         ensures kept { OnErr result (shelf.new ≡ shelf.old) }
-        ensures accepted { IfOk result (λ report. (others : List Owned) (m : machine.Line) → Stands self.old (S.store shelf.old) others m
+        ensures untold { OnErr result (report.new ≡ report.old) }
+        ensures accepted { OnOk result ((others : List Owned) (m : machine.Line) → Stands self.old (S.store shelf.old) others m
             → refusal (config_of self.old) (nat_le slots (used_slots (S.store shelf.old))) (request_of request.entry) m ≡ None) }
-        ensures told { IfOk result (λ report. (others : List Owned) (m : machine.Line) → Stands self.old (S.store shelf.old) others m
-            → told (report_told report) ≡ answer (config_of self.old) (line_event.request (request_of request.entry)) m) }
-        ensures after { IfOk result (λ report.
+        ensures told { OnOk result ((others : List Owned) (m : machine.Line) → Stands self.old (S.store shelf.old) others m
+            → told (told_beside None report.new) ≡ answer (config_of self.old) (line_event.request (request_of request.entry)) m) }
+        ensures after { OnOk result (
             Leads (line_event.request (request_of request.entry)) self.old (S.store shelf.old) self.new (S.store shelf.new)) }
     {
-        let mut bare = BareReport::nothing();
-        match self.layer.request(request, &mut bare, shelf, slots) {
-            Ok(()) => {
-                self.count(&bare);
-                Ok(Report::of(&bare, &[]))
-            }
-            Err(why) => Err(why),
-        }
+        self.layer.request(request, report, shelf, slots)?;
+        self.count(report);
+        Ok(())
     }
 }

@@ -63,7 +63,7 @@ impl Line {
             (λ v. OctetsLead (port.octet octet) self.old (S.store shelf.old) v (S.store shelf.new))) }
     {
         let bare = self.hear(octet, shelf);
-        self.port.lend(&bare)
+        Report::of(&bare, bare.contents(self.port.latest_frame()))
     }
 
     /// Takes an octet, and tells without references what it led to.
@@ -87,7 +87,9 @@ impl Line {
         ensures starts { starts (report_told result).orders ≤ 1 }
         ensures after { OctetsLead (port.expiry timer) self.old (S.store shelf.old) self.new (S.store shelf.new) }
     {
-        self.frames.expire(timer, shelf)
+        let mut bare = BareReport::nothing();
+        self.frames.expire(timer, &mut bare, shelf);
+        Report::of(&bare, None)
     }
 
     /// Serves a request, or refuses it and changes nothing, as [`FrameLine::request`] has it.
@@ -114,7 +116,9 @@ impl Line {
         ensures after { IfOk result (λ report.
             OctetsLead (port.request (request_of request.entry)) self.old (S.store shelf.old) self.new (S.store shelf.new)) }
     {
-        self.frames.request(request, shelf, slots)
+        let mut bare = BareReport::nothing();
+        self.frames.request(request, &mut bare, shelf, slots)?;
+        Ok(Report::of(&bare, None))
     }
 
     /// Gives the next octet of the line, low bit first. Where fewer than eight bits are left to send, the frame that is

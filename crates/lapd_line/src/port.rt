@@ -1,16 +1,14 @@
 //! The port of a line: what stands between its octets and its frames.
 
 ghost use Rattle.std.specs.Prelude.{◌≡◌, ℕ, ◌+◌, ◌*◌, ◌<◌, ◌≤◌, ◌^◌, ◌∷◌, ◌++◌, [], length, get_or, IsTrue, Option, IfOk};
-ghost use Rattle.lapd_line.specs.{without_octets, head_of, heard_of, Answer, head_begun, head_heard, gained, is_due, fresh_port, held_at, orders_taken, report_told, told_in, PortStands, IsSaid, latest_in, latest_frame, or_latest, with_frame};
+ghost use Rattle.lapd_line.specs.{without_octets, head_of, heard_of, Answer, head_begun, head_heard, gained, is_due, fresh_port, held_at, orders_taken, PortStands, IsSaid, latest_in, latest_frame, or_latest, with_frame};
 ghost use Rattle.model_card.specs.ports.Port as machine;
 
 use crate::came::octets_of;
 use crate::fault::StartFault;
 use crate::pulled::Pulled;
-use crate::reports::Report;
 use lapd_bits::{Deframer, Ended, Framer};
 use lapd_frame::{Order, ShortList};
-use lapd_link::BareReport;
 use model_bits::{Head, Heard};
 use std::alloc::Global;
 
@@ -77,11 +75,11 @@ impl Port {
         self.deframer.latest()
     }
 
-    /// The report of what the latest octet led to, with the contents that it delivered lent until the next octet.
-    pub fn lend(&self, bare: &BareReport) -> Report<'_>
-        ensures { report_told result ≡ told_in (latest_frame self.now) bare.now }
+    /// The octets of the frame that the latest octet has ended, lent until the next octet; none where it ended no frame.
+    pub fn latest_frame(&self) -> &[u8]
+        ensures { result.now ≡ latest_frame self.now }
     {
-        Report::of(bare, octets_of(self.latest()))
+        octets_of(self.latest())
     }
 
     /// Whether fewer than eight bits are left to send, so that the next pull needs a frame to begin.

@@ -2,7 +2,7 @@
 
 ghost use Rattle.std.specs.Prelude.{◌≡◌, ℕ, List};
 ghost use Rattle.std.specs.Option.{option_copied};
-ghost use Rattle.lapd_line.specs.{dropped, IsClear, told_in, nothing, report_told, without_contents};
+ghost use Rattle.lapd_line.specs.{dropped, IsClear, told_in, told_beside, nothing, report_told, without_contents};
 
 use lapd_frame::{Note, Order, ShortList};
 use lapd_link::BareReport;
@@ -66,29 +66,17 @@ impl Report<'_> {
 }
 
 impl<'a> Report<'a> {
-    /// What a report without references says, with contents lent from the octets of a frame.
-    pub(crate) fn of(bare: &BareReport, octets: &'a [u8]) -> Report<'a>
-        ensures { report_told result ≡ told_in octets.now bare.now }
+    /// What a report without references says, with these contents beside it.
+    pub fn of(bare: &BareReport, delivered: Option<&'a [u8]>) -> Report<'a>
+        ensures { report_told result ≡ told_beside (option_copied delivered.entry) bare.now }
     {
         Report {
             notes: bare.notes,
             orders: bare.orders,
-            delivered: lent(bare, octets),
+            delivered,
             cause: bare.cause(),
             lost: bare.lost,
         }
-    }
-}
-
-/// The contents that the frame of these octets delivered.
-#[tactic(auto, using(crate::proofs::ReportSteps::some_lent, crate::proofs::ReportSteps::none_lent))]
-pub(crate) fn lent<'a>(bare: &BareReport, octets: &'a [u8]) -> Option<&'a [u8]>
-    ensures { option_copied result ≡ (told_in octets.now bare.now).contents }
-{
-    if bare.has_contents() {
-        Some(octets.get(bare.start..).unwrap_or(&[]))
-    } else {
-        None
     }
 }
 

@@ -1,4 +1,5 @@
 -- Lemmas of this crate.
+mod Contents
 pub mod Vocabulary
 pub mod Steps
 pub mod Giving

@@ -1,5 +1,5 @@
 -- What a report says of itself.
-use Rattle.std.specs.Prelude.{◌≡◌, ◌||◌, Bool, false, List, [], Option, Some, None, if◌then◌else◌}
+use Rattle.std.specs.Prelude.{◌≡◌, ◌||◌, ℕ, Bool, false, List, [], drop, Option, Some, None, if◌then◌else◌}
 use Rattle.std.specs.Option.{option_or}
 use Rattle.model_bits.specs.declared.heard.Cause.{Cause}
 use Rattle.model_bits.specs.declared.heard.Cause.TheVariants.{Unserved}
@@ -21,6 +21,10 @@ pub record IsClear (r : BareReport) : Type 0 where
 -- Whether contents were delivered.
 abbrev pub has_contents : BareReport → Bool
 has_contents r = r.delivered || r.unit
+
+-- They lie in the octets of the frame that brought them.
+abbrev pub delivered_in : List ℕ → BareReport → Option (List ℕ)
+delivered_in octets r = option_or (if r.delivered then Some (drop r.start octets) else None) (if r.unit then Some (drop r.start octets) else None)
 
 -- Why something was dropped.
 abbrev pub cause_in : BareReport → Option Cause

@@ -1,6 +1,7 @@
 //! What an event is answered with.
 
 ghost use Rattle.std.specs.Prelude.{◌≡◌, ◌≤◌, ◌||◌, true};
+ghost use Rattle.std.specs.Option.{option_copied};
 ghost use Rattle.lapd_frame.specs.ShortLists.{listed};
 
 use lapd_frame::{Note, Order, ShortList};
@@ -39,7 +40,7 @@ pub struct BareReport {
 }
 
 impl BareReport {
-    ghost use Rattle.lapd_link_steps.specs.{IsQuiet, IsClear, cause_in, has_contents};
+    ghost use Rattle.lapd_link_steps.specs.{IsQuiet, IsClear, cause_in, delivered_in, has_contents};
 
     /// Nothing is told yet.
     #[inline(always)]
@@ -61,17 +62,17 @@ impl BareReport {
     }
 
     /// What layer 3 and management are told, in order.
-    pub fn note_list(&self) -> &ShortList<Note>
-        ensures { listed result.now ≡ listed self.now.notes }
+    pub fn notes(&self) -> &[Note]
+        ensures { result.now ≡ listed self.now.notes }
     {
-        &self.notes
+        self.notes.as_slice()
     }
 
     /// What is to be done with timers, in order.
-    pub fn order_list(&self) -> &ShortList<Order>
-        ensures { listed result.now ≡ listed self.now.orders }
+    pub fn orders(&self) -> &[Order]
+        ensures { result.now ≡ listed self.now.orders }
     {
-        &self.orders
+        self.orders.as_slice()
     }
 
     /// Why something was dropped.
@@ -85,18 +86,24 @@ impl BareReport {
         }
     }
 
-    /// How many control frames and messages of TEI management found no place to wait.
-    pub fn lost(&self) -> u8
-        ensures { result ≡ self.now.lost }
-    {
-        self.lost
-    }
-
     /// Whether contents were delivered, of an I-frame or a UI frame.
     pub fn has_contents(&self) -> bool
         ensures { result ≡ has_contents self.now }
     {
         self.delivered || self.unit
+    }
+
+    /// The contents that were delivered, which lie in the octets of the frame that brought them.
+    #[tactic(auto, using(crate::proofs::Contents::some_delivered, crate::proofs::Contents::none_delivered))]
+    #[inline(always)]
+    pub fn contents<'a>(&self, octets: &'a [u8]) -> Option<&'a [u8]>
+        ensures { option_copied result ≡ delivered_in octets.now self.now }
+    {
+        if self.has_contents() {
+            Some(octets.get(self.start..).unwrap_or(&[]))
+        } else {
+            None
+        }
     }
 
     /// Whether nothing is told but orders for timers, as mostly.

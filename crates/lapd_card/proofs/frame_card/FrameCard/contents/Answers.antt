@@ -1,5 +1,5 @@
 -- Hand-written answers for `FrameCard::contents`.
-use Rattle.lapd_card.proofs.Vocabulary.{Some, ap, ◌∙◌, told_in}
+use Rattle.lapd_card.proofs.Vocabulary.{Some, ap, ◌∙◌, delivered_in}
 use Rattle.lapd_line.specs.Reports.{octets_of}
 use Rattle.model_line.specs.Came.{came}
 use Rattle.lapd_card.proofs.OneLine.{line-there, has_config}
@@ -11,5 +11,5 @@ index-requires g c = line-there g.S.Shelf.store _ c.args.self.now c.args.line _ 
 pub returns : goal.returns
 returns g c =
     c.contents.ensures
-    ∙ ap (λ d. (told_in (octets_of (Some (came d.n201 c.args.octets.now))) c.args.bare.now).contents)
+    ∙ ap (λ d. delivered_in (octets_of (Some (came d.n201 c.args.octets.now))) c.args.report.now)
     (has_config g.S.Shelf.store (record { past = c.self.invariant; same = c.self.view_is; within = c.requires; is = c.index.ensures }))

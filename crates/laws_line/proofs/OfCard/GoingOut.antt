@@ -1,5 +1,5 @@
 -- A control frame that waits at a line of octets goes out: a receiver hears it.
-use Rattle.laws_line.proofs.Vocabulary.{Bool, List, None, Option, Some, [], ap, append-nil, append_assoc, arith, cond, eq-eqb, false, length, map, option_map, refl, subst, suc, sym, true, zero, ℕ, ◌&&◌, ◌++◌, ◌+◌, ◌<◌, ◌==◌, ◌∙◌, ◌∷◌, ◌≡◌, ◌≤◌, ControlFrame, next, answer as line_answer, place_at, tei_at, taken, next_of, Config, Card, line_at, at, card_after, after_all as frames_after, moments as frame_moments, CardIsSound as IsSound, is_take, control_text, most_frames_before, IsTakenAmong, IsWaiting, IsNotDeactivated, is_deactivated_at, takes_of, StaysAt, come_first_at}
+use Rattle.laws_line.proofs.Vocabulary.{List, None, Option, Some, [], ap, append-nil, append_assoc, arith, eq-eqb, false, length, map, option_map, refl, subst, sym, ℕ, ◌++◌, ◌+◌, ◌<◌, ◌∙◌, ◌∷◌, ◌≡◌, ◌≤◌, ControlFrame, next, answer as line_answer, place_at, tei_at, taken, next_of, Config, Card, line_at, at, card_after, after_all as frames_after, moments as frame_moments, CardIsSound as IsSound, control_text, most_frames_before, IsTakenAmong, IsWaiting, IsNotDeactivated, is_deactivated_at, takes_of, StaysAt, come_first_at}
 use Rattle.std.proofs.lemmas.Grind.{flat_map-append}
 use Rattle.std.proofs.lemmas.List.{length-map, map-append}
 use Rattle.model_bits.specs.Sent.{Item, idle}
@@ -26,36 +26,12 @@ use Rattle.model_card.proofs.OfPorts.Pulls.{pulls_are_takes}
 use Rattle.model_card.proofs.OfPorts.Reaching.{reached_sound, reached_after_all}
 use Rattle.model_card.proofs.OfPorts.Steps.{moments-append, config_stays as octets_config_stays}
 use Rattle.model_card.specs.ports.Pulls.{pulls_behind, most_pulls_behind}
-use Rattle.laws_line.proofs.OfCard.Amid.{is-call}
 use Rattle.laws_line.proofs.OfCard.Spelling.{head}
-use Rattle.laws_line.proofs.OfCard.Meanwhile.{line-sound}
+use Rattle.laws_line.proofs.OfCard.Meanwhile.{call-behind, line-sound}
 use Rattle.laws_line.proofs.OfCard.Wherever.{all-left, waiting-taken}
 use Rattle.laws_line.specs.card.WaitingIsHeard.{IsHeardSince, WaitingIsHeard}
 
 -- ---- calls among events of frames
-
--- The call behind so many others of the line.
-record IsCallBehind (number count : ℕ) (es : List frames.Event) : Type 0 where
-  front : List frames.Event
-  back : List frames.Event
-  split : es ≡ front ++ at number next ∷ back
-  before : takes_of number front ≡ count
-
-later-call : (number : ℕ) (e : frames.Event) (es : List frames.Event) (b : Bool) (k n : ℕ) → (e.line == number && is_take e.what) ≡ b → cond b 1 0 + k ≡ n
-    → IsCallBehind number k es → IsCallBehind number n (e ∷ es)
-later-call number e es b k n is sum x =
-    let one : takes_of number (e ∷ x.front) ≡ cond b 1 0 + takes_of number x.front = ap (λ c. cond c 1 0 + takes_of number x.front) is in
-    record { front = e ∷ x.front; back = x.back; split = ap (λ l. e ∷ l) x.split; before = omega (arith, sum, x.before, one) }
-
-call-behind : (number count : ℕ) (es : List frames.Event) → count < takes_of number es → IsCallBehind number count es
-call-behind number count [] more = absurd (omega arith)
-call-behind number count (e ∷ es) more = go count (e.line == number && is_take e.what) refl more (λ k less. call-behind number k es less)
-  where
-    go : (n : ℕ) (b : Bool) → (e.line == number && is_take e.what) ≡ b → n < cond b 1 0 + takes_of number es
-        → ((k : ℕ) → k < takes_of number es → IsCallBehind number k es) → IsCallBehind number n (e ∷ es)
-    go n false is less rest = later-call number e es false n n is (omega arith) (rest n (omega (arith, less)))
-    go zero true is less rest = record { front = []; back = es; split = ap (λ x. x ∷ es) (is-call number e is); before = refl }
-    go (suc n) true is less rest = later-call number e es true n (suc n) is (omega arith) (rest n (omega (arith, less)))
 
 -- What the calls of a list are answered with, one of its parts after the other.
 answers-append : (number : ℕ) (card : Card) (a b : List frames.Event)

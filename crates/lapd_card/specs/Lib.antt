@@ -1,13 +1,12 @@
 -- What a card's contracts say.
 --
--- Read after those of `model_card`, in this order: Waiting, which lines have a frame to give; Start; FrameReply; and for a
+-- Read after those of `model_card`, in this order: Waiting, which lines have a frame to give; Start; and for a
 -- card in the middle of its life FrameCard, Counted, Lines and FrameStands. Of a card of octets, after those of
 -- `model_card::ports`, Card, Ports and Stands say the same; Reply, Sink, Drive and Kept (the sink of this crate), what a sink
 -- has taken. Kinds is of a card of either kind.
 pub mod Waiting
 pub mod WorkedWaiting
 pub mod Sink
-pub mod FrameReply
 pub mod Reply
 pub mod Kept
 pub mod Counted

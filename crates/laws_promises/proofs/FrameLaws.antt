@@ -1,5 +1,5 @@
 -- The laws of the machine hold of the events of a card's list, and of every front of it.
-use Rattle.laws_promises.proofs.Vocabulary.{◌≡◌, ℕ, ◌<◌, List, take, refl, sym, subst, All, All-map, All-take, All-weaker, Card, Config, IsAtLine, IsSound, Stands, reached-sound, frames_amortised, rejects_are_long}
+use Rattle.laws_promises.proofs.Vocabulary.{arith, ◌≡◌, ℕ, ◌<◌, List, take, sym, subst, All, All-map, All-take, All-weaker, Card, Config, IsAtLine, IsSound, Stands, reached-sound, frames_amortised, rejects_are_long}
 use Rattle.model_line.specs.Sound.{IsInRange}
 use Rattle.model_card.specs.ByEvent.{ArePriced}
 use Rattle.model_card.specs.Card.{fresh}
@@ -25,11 +25,7 @@ use Rattle.laws_promises.proofs.Linear.{TakesItsOctets, all_take, is_linear}
 
 -- An event is at its line, whatever the longest information field is; so events are at lines of the machine.
 line_is : (n201 : ℕ) (e : rust.FrameEvent) → (event_of n201 e).line ≡ line_of e
-line_is n201 (rust.TheVariants.Frame line octets) = refl
-line_is n201 (rust.TheVariants.Failed line fault) = refl
-line_is n201 (rust.TheVariants.Next line) = refl
-line_is n201 (rust.TheVariants.Expire line timer) = refl
-line_is n201 (rust.TheVariants.Request line request) = refl
+line_is n201 e = grind arith
 
 events_at_lines : {S : Type 0} (store : S → Store) (card : Held S) (n201 : ℕ) (events : List rust.FrameEvent) → All (λ e. line_of e < line_count card) events → (m : Card) → Stands store card m
     → AreAtLines m (events_of n201 events)

@@ -1,5 +1,5 @@
 -- The frames sent are linear in the octets of the frames that came.
-use Rattle.laws_promises.proofs.Vocabulary.{◌≡◌, ℕ, ◌+◌, ◌*◌, ◌≤◌, Bool, true, false, ◌&&◌, ◌||◌, not, List, [], ◌∷◌, length, map, take, refl, sym, subst, cond, arith, nat_lt, nat_le, nat_eq, count_by, All, slice_index, ◌%◌, ltb-false, leb-true, All-nil, All-cons, All-head, All-tail, All-weaker, sum_by-cons, mul-le-mul_left, Short, came, is_too_short, hears_frame, hears_long_frame, is_frame, is_long_frame, Card, may_send, window, sent, heard, long_heard, accepted, expired, rejected, after, answer, Moment, after_all, IsSound, frames_amortised, rejects_are_long}
+use Rattle.laws_promises.proofs.Vocabulary.{◌≡◌, ℕ, ◌+◌, ◌*◌, ◌≤◌, Bool, false, List, [], ◌∷◌, length, map, take, sym, subst, cond, arith, count_by, All, ltb-false, leb-true, All-nil, All-cons, All-head, All-tail, All-weaker, sum_by-cons, mul-le-mul_left, Short, came, is_too_short, hears_frame, hears_long_frame, is_frame, is_long_frame, Card, may_send, window, sent, heard, long_heard, accepted, expired, rejected, after, answer, Moment, after_all, IsSound, frames_amortised, rejects_are_long}
 use Rattle.model_bits.specs.Stream as stream
 use Rattle.model_line.specs.Event as line
 use Rattle.model_card.specs.Event.{Event}
@@ -16,41 +16,19 @@ pub record TakesItsOctets (n201 : ℕ) (e : Event) : Type 0 where
   pub seven : 7 * cond (hears_long_frame e.what) 1 0 ≤ octets_of n201 e
 
 three : (octets : List ℕ) → is_too_short octets ≡ false → 3 ≤ length octets
-three octets = go (nat_lt (length octets) 3) (nat_eq (length octets) 3 && not (nat_eq (slice_index octets 2 % 4) 3)) refl
-  where
-    go : (few odd : Bool) → nat_lt (length octets) 3 ≡ few → (few || odd) ≡ false → 3 ≤ length octets
-    go true odd e never = cc
-    go false odd e whole = ltb-false (length octets) 3 e
+three octets = grind (arith, ltb-false)
 
 abbrev heard_as : ℕ → List ℕ → Bool → Bool → stream.Event
 heard_as n201 octets short long = cond short (stream.dropped Short) (cond long (stream.overlong (take 4 octets)) (stream.frame octets))
 
 frame_six : (n201 : ℕ) (octets : List ℕ) → 6 * cond (is_frame (came n201 octets)) 1 0 ≤ octets_taken n201 (came n201 octets)
-frame_six n201 octets = go (is_too_short octets) (nat_lt (n201 + 4) (length octets)) refl
-  where
-    go : (short long : Bool) → is_too_short octets ≡ short → 6 * cond (is_frame (heard_as n201 octets short long)) 1 0 ≤ octets_taken n201 (heard_as n201 octets short long)
-    go true long e = omega arith
-    go false true e = omega arith
-    go false false e = let few = three octets e in omega (arith, few)
+frame_six n201 octets = grind (arith, three)
 
 frame_seven : (n201 : ℕ) (octets : List ℕ) → 7 * cond (is_long_frame (came n201 octets)) 1 0 ≤ octets_taken n201 (came n201 octets)
-frame_seven n201 octets = go (is_too_short octets) (nat_lt (n201 + 4) (length octets)) (nat_le 4 (length octets)) refl
-  where
-    four : (b : Bool) → nat_le 4 (length octets) ≡ b → 7 * cond b 1 0 ≤ length octets + 3
-    four true e = let few : 4 ≤ length octets = leb-true 4 (length octets) e in omega (arith, few)
-    four false e = omega arith
-
-    go : (short long b : Bool) → nat_le 4 (length octets) ≡ b → 7 * cond (is_long_frame (heard_as n201 octets short long)) 1 0 ≤ octets_taken n201 (heard_as n201 octets short long)
-    go true long b e = omega arith
-    go false true b e = omega arith
-    go false false b e = four (nat_le 4 (length octets)) refl
+frame_seven n201 octets = grind (arith, leb-true)
 
 takes : (n201 : ℕ) (e : rust.FrameEvent) → TakesItsOctets n201 (event_of n201 e)
-takes n201 (rust.TheVariants.Frame number octets) = record { six = frame_six n201 octets.now; seven = frame_seven n201 octets.now }
-takes n201 (rust.TheVariants.Failed number fault) = record { six = omega arith; seven = omega arith }
-takes n201 (rust.TheVariants.Next number) = record { six = omega arith; seven = omega arith }
-takes n201 (rust.TheVariants.Expire number timer) = record { six = omega arith; seven = omega arith }
-takes n201 (rust.TheVariants.Request number r) = record { six = omega arith; seven = omega arith }
+takes n201 e = grind (arith, frame_six, frame_seven)
 
 pub all_take : (n201 : ℕ) (events : List rust.FrameEvent) → All (TakesItsOctets n201) (map (event_of n201) events)
 all_take n201 [] = All-nil (TakesItsOctets n201)

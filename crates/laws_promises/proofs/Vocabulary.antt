@@ -1,11 +1,10 @@
 -- The words of std and of the crates below with which the proofs of this crate speak, from where they are defined.
-pub use Rattle.std.proofs.Common.{Bool, List, None, Option, Some, [], ap, arith, cond, false, get_or, length, map, nat_eq, nat_le, nat_lt, not, refl, rules, subst, sym, take, true, true≢false, ℕ, ◌&&◌, ◌*◌, ◌++◌, ◌+◌, ◌<◌, ◌||◌, ◌∙◌, ◌∷◌, ◌≡◌, ◌≤◌}
+pub use Rattle.std.proofs.Common.{Bool, List, [], ap, arith, cond, false, get_or, length, map, refl, rules, subst, sym, take, true, ℕ, ◌*◌, ◌++◌, ◌+◌, ◌<◌, ◌∙◌, ◌∷◌, ◌≡◌, ◌≤◌}
 pub use Rattle.std.proofs.Math.Nat.{mul-le-mul_left}
 pub use Rattle.std.proofs.lemmas.Bool.{leb-true, ltb-false, ltb-true}
 pub use Rattle.std.proofs.lemmas.List.Elements.{All-cons, All-head, All-map, All-nil, All-tail, All-take, All-weaker}
 pub use Rattle.std.proofs.lemmas.List.Sums.{sum_by-cons}
-pub use Rattle.std.specs.Option.{option_map_or}
-pub use Rattle.std.specs.Prelude.{All, count_by, option_map, slice_index, ◌%◌}
+pub use Rattle.std.specs.Prelude.{All, count_by, option_map}
 pub use Rattle.lapd_frame.specs.declared.timers.Order.{Order}
 pub use Rattle.laws_line.proofs.OfCard.Brief.{causes-are-told, others-stay}
 pub use Rattle.laws_line.proofs.OfCard.Wherever.{come-to-an-end, waiting-taken}
@@ -21,8 +20,8 @@ pub use Rattle.model_card.specs.Machine.{after, answer}
 pub use Rattle.model_card.specs.Run.{IsAtLine, Moment, after_all, one_more, run}
 unfoldable pub use Rattle.model_card.specs.Run.{moments}
 pub use Rattle.model_card.specs.Sound.{IsSound}
-pub use Rattle.model_card.specs.ports.Card.{OctetCard, port_at}
-pub use Rattle.model_card.specs.ports.Port.{Answer, Port, is_due, left_of, pull, pulled, refused, told}
+pub use Rattle.model_card.specs.ports.Card.{OctetCard}
+pub use Rattle.model_card.specs.ports.Port.{Port, left_of, pulled}
 pub use Rattle.model_card.specs.ports.Run.{meant_all}
 pub use Rattle.model_line.specs.Came.{came, is_too_short}
 pub use Rattle.model_line.specs.Counts.{hears_frame, hears_long_frame, is_frame, is_long_frame}

@@ -22,7 +22,7 @@ ghost use Rattle.laws_promises.specs.Promises.{Promises};
 use crate::frame_events::FrameEvent;
 use crate::frame_replies::{FrameReply, SentFrame};
 use crate::frame_sink::FrameSink;
-use lapd_card::{FrameCard, Request, SinkFailed, SinkFault};
+use lapd_card::{BareReport, FrameCard, Report, Request, SinkFailed, SinkFault};
 use lapd_store::Shelf;
 
 /// The octets of the longest frame without its check: four, and the greatest N201 of a configuration.
@@ -105,20 +105,22 @@ fn answer<S: Shelf, K: FrameSink>(
     requires { line_of event < line_count card.old }
     ensures { Hands S.store K.takes K.misses K.failures (event_of card.old.config.n201 event.entry) card.old card.new sink.old sink.new result }
 {
+    let mut report = BareReport::nothing();
     match event {
-        FrameEvent::Frame(line, octets) => sink.take(
-            line,
-            &FrameReply::Report(card.frame(line, octets)),
-        ),
-        FrameEvent::Failed(line, fault) => sink.take(
-            line,
-            &FrameReply::Report(card.failed(line, fault)),
-        ),
+        FrameEvent::Frame(line, octets) => {
+            card.frame(line, octets, &mut report);
+            let contents = card.contents(line, octets, &report);
+            sink.take(line, &FrameReply::Report(Report::of(&report, contents)))
+        }
+        FrameEvent::Failed(line, fault) => {
+            card.failed(line, fault, &mut report);
+            sink.take(line, &FrameReply::Report(Report::of(&report, None)))
+        }
         FrameEvent::Next(line) => hand_on(card, line, sink),
-        FrameEvent::Expire(line, timer) => sink.take(
-            line,
-            &FrameReply::Report(card.expire(line, timer)),
-        ),
+        FrameEvent::Expire(line, timer) => {
+            card.expire(line, timer, &mut report);
+            sink.take(line, &FrameReply::Report(Report::of(&report, None)))
+        }
         FrameEvent::Request(line, request) => grant(card, line, request, sink),
     }
 }
@@ -155,8 +157,9 @@ fn grant<S: Shelf, K: FrameSink>(
     requires { line < line_count card.old }
     ensures { Hands S.store K.takes K.misses K.failures (at line (line_event.request (request_of request.entry))) card.old card.new sink.old sink.new result }
 {
-    match card.request(line, request) {
-        Ok(report) => sink.take(line, &FrameReply::Report(report)),
+    let mut report = BareReport::nothing();
+    match card.request(line, request, &mut report) {
+        Ok(()) => sink.take(line, &FrameReply::Report(Report::of(&report, None))),
         Err(refusal) => sink.take(line, &FrameReply::Refused(refusal)),
     }
 }

@@ -1,16 +1,16 @@
 -- The words with which the proofs of this crate speak, from where they are defined.
-pub use Rattle.std.proofs.Common.{Bool, Err, IsSome, List, None, Ok, Option, Some, [], ap, append-nil, append_assoc, arith, cond, eq-eqb, eqb-true, false, get_or, inl, inr, is_some, length, length-set, nat_le, nat_lt, not, refl, set, subst, suc, sym, true, true≢false, zero, ℕ, ◌&&◌, ◌*◌, ◌++◌, ◌+◌, ◌-◌, ◌<◌, ◌==◌, ◌↔◌, ◌∙◌, ◌∷◌, ◌≡◌, ◌≢◌, ◌≤◌}
+pub use Rattle.std.proofs.Common.{Bool, Err, IsSome, List, None, Ok, Option, Some, [], ap, append-nil, append_assoc, arith, cond, eq-eqb, eqb-true, false, get_or, is_some, length, length-set, nat_le, nat_lt, not, refl, set, subst, suc, sym, true, zero, ℕ, ◌&&◌, ◌*◌, ◌++◌, ◌+◌, ◌-◌, ◌<◌, ◌==◌, ◌↔◌, ◌∙◌, ◌∷◌, ◌≡◌, ◌≤◌}
 pub use Rattle.std.proofs.Math.Dec.{eqb-suc-zero}
 pub use Rattle.std.proofs.Math.Nat.{mul-le-mul_left, sub-eq-zero_of_le}
-pub use Rattle.std.proofs.lemmas.Bool.{and_parts, false≢true, le-ltb, leb-false, leb-true, lt-leb}
+pub use Rattle.std.proofs.lemmas.Bool.{and_parts, le-ltb, leb-false, leb-true, lt-leb}
 pub use Rattle.std.proofs.lemmas.List.{get_or-replicate, get_or-set_other, get_or-set_same, length-replicate, set-get_or}
-pub use Rattle.std.proofs.lemmas.List.Elements.{All-cons, All-get_or, All-head, All-nil, All-push, All-replicate, All-set, All-tail}
+pub use Rattle.std.proofs.lemmas.List.Elements.{All-cons, All-head, All-nil, All-push, All-replicate, All-set, All-tail}
 pub use Rattle.std.proofs.lemmas.List.Folds.{sum_by-replicate}
 pub use Rattle.std.proofs.lemmas.List.Sums.{get_or-le-sum_by, sum_by-cons, sum_by-le, sum_by-set}
 pub use Rattle.std.proofs.lemmas.Option.{none-some}
 pub use Rattle.std.specs.Prelude.{All, count_by, filter, fold, map, option_to_list, sum_by}
 pub use Rattle.lapd_frame.specs.declared.refusals.Refusal.{Refusal}
-pub use Rattle.lapd_frame.specs.declared.refusals.Refusal.TheVariants.{BadTei, NoLink, PoolFull, QueueFull, TooLong, WrongState}
+pub use Rattle.lapd_frame.specs.declared.refusals.Refusal.TheVariants.{BadTei, NoLink, PoolFull, TooLong, WrongState}
 pub use Rattle.lapd_frame.specs.declared.services.Service.{Service}
 pub use Rattle.lapd_frame.specs.declared.timers.Timer.{Timer}
 pub use Rattle.model_bits.specs.declared.heard.Cause.{Cause}
@@ -25,7 +25,7 @@ pub use Rattle.model_card.specs.Machine.{after, answer, wants_room}
 pub use Rattle.model_card.specs.Numbered.{IsNext, LinkName, arrived, contents_of, delivered, one_more, received_by, restarts}
 pub use Rattle.model_card.specs.Promises.{HasLink, IsAmortised, IsNotRefusedForPool}
 pub use Rattle.model_card.specs.Reached.{IsReached}
-pub use Rattle.model_card.specs.Room.{RefusesBy, free, room}
+pub use Rattle.model_card.specs.Room.{RefusesBy, room}
 pub use Rattle.model_card.specs.Run.{AreAtLines, IsAtLine, Moment, Run}
 unfoldable pub use Rattle.model_card.specs.Run.{after_all, moments}
 pub use Rattle.model_card.specs.Sound.{IsSound}
@@ -46,7 +46,7 @@ pub use Rattle.model_line.specs.Counts.{is_pool_full, one}
 pub use Rattle.model_line.specs.Effect.{Effect, of_aim}
 pub use Rattle.model_line.specs.Event.{Answer, dropped, expiry, hears, next, refused, request, told}
 pub use Rattle.model_line.specs.Laws.{cause_in, orders_in}
-pub use Rattle.model_line.specs.Line.{Line, fresh_line, has_tei, link_at, link_count, link_of, terms}
+pub use Rattle.model_line.specs.Line.{Line, fresh_line, link_at, link_count}
 pub use Rattle.model_line.specs.Machine.{unless_refused, unless_refused_told}
 pub use Rattle.model_line.specs.Refusal.{Row, bad_tei, bad_tei_or_group, first_that_holds, no_link, no_link_nor_group, pool_full, queue_full, refusal, too_long, unit_queue_full, wrong_state}
 pub use Rattle.model_line.specs.Request.{Data, Request, Unit}
@@ -57,7 +57,5 @@ pub use Rattle.model_line.specs.Stored.{slots_of, stored_in}
 pub use Rattle.model_line.specs.declared.config.Config.{Config}
 pub use Rattle.model_link.proofs.Delivering.{counted_on, delivery}
 pub use Rattle.model_link.specs.Deliveries.{Arrived}
-pub use Rattle.model_link.specs.Link.{Link, is_multiple_frame, queue_of}
-pub use Rattle.model_link.specs.Room.{refusal_for, room_of}
 pub use Rattle.model_link.specs.Told.{starts}
 pub use Rattle.model_link.specs.declared.rooms.Room.{Room}

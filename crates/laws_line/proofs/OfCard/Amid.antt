@@ -1,21 +1,10 @@
 -- A control frame that waits at a line of a card is taken by one of so many calls also where other events of that line are
 -- between them.
-use Rattle.laws_line.proofs.Vocabulary.{◌≡◌, ℕ, ◌+◌, ◌-◌, ◌<◌, ◌≤◌, ◌==◌, ◌&&◌, Bool, true, false, cond, List, [], ◌∷◌, ◌++◌, length, get_or, set, Some, refl, sym, ap, subst, ◌∙◌, ◌⊎◌, inl, inr, arith, eqb-false, and_parts, get_or-set_same, All-head, All-tail, ControlFrame, next, Line, fresh_line, link_count, service_at, place_at, tei_at, link_at, Taken, taken, Card, line_at, at, wants_room, IsAtLine, AreAtLines, after_all, after_is_sound, eqb-true, is_take, go_first, frames_before, control_text, deactivates, CardEvent as Event, card_after as after, CardIsSound as IsSound, IsTakenAmong, come_first_at, takes_of, is_deactivated_at, StaysAt, IsNotDeactivated}
-use Rattle.model_line.specs.Event as line_event
+use Rattle.laws_line.proofs.Vocabulary.{◌≡◌, ℕ, ◌+◌, ◌-◌, ◌<◌, ◌≤◌, ◌==◌, ◌&&◌, Bool, true, false, cond, List, [], ◌∷◌, ◌++◌, length, get_or, set, Some, refl, sym, ap, subst, ◌∙◌, ◌⊎◌, inl, inr, arith, eqb-false, get_or-set_same, All-head, All-tail, ControlFrame, next, Line, fresh_line, link_count, service_at, place_at, tei_at, link_at, Taken, taken, Card, line_at, at, wants_room, IsAtLine, AreAtLines, after_all, after_is_sound, eqb-true, is_take, go_first, frames_before, control_text, deactivates, CardEvent as Event, card_after as after, CardIsSound as IsSound, IsTakenAmong, come_first_at, takes_of, is_deactivated_at, StaysAt, IsNotDeactivated}
 use Rattle.model_line.specs.Machine as lines
 use Rattle.laws_line.proofs.Among.{no-farther-off, other-waits}
 use Rattle.laws_line.proofs.Ordered.{next-goes}
-use Rattle.laws_line.proofs.OfCard.Meanwhile.{at-another, at-next, few-lines, line-sound}
-
-is-the-next : (w : line_event.Event) → is_take w ≡ true → w ≡ next
-is-the-next w is = grind arith
-
-pub is-call : (number : ℕ) (e : Event) → (e.line == number && is_take e.what) ≡ true → e ≡ at number next
-is-call number e is =
-    let parts = and_parts (e.line == number) (is_take e.what) is in
-    let line-is = eqb-true e.line number parts.0 in
-    let what-is = is-the-next e.what parts.1 in
-    λ i. record { line = line-is i; what = what-is i }
+use Rattle.laws_line.proofs.OfCard.Meanwhile.{at-another, at-next, few-lines, is-call, line-sound}
 
 module _ (number link tei : ℕ) (f : ControlFrame) where
   -- an event at the line finds room, or changes nothing

@@ -1,11 +1,10 @@
 -- A control frame that waits at a line of octets goes out: a receiver hears it.
-use Rattle.laws_line.proofs.Vocabulary.{Bool, List, None, Option, Some, [], ap, append-nil, append_assoc, arith, cond, eq-eqb, false, length, map, option_map, refl, subst, suc, sym, true, zero, ℕ, ◌&&◌, ◌++◌, ◌+◌, ◌<◌, ◌==◌, ◌∙◌, ◌∷◌, ◌≡◌, ◌≤◌, ControlFrame, next, answer as line_answer, place_at, tei_at, taken, next_of, Config, Card, line_at, at, card_after, after_all as frames_after, moments as frame_moments, CardIsSound as IsSound, link_frame_of as frame_of, terms, service_at, head_of, sapi_of, Service, is_take, control_text, most_frames_before, IsTakenAmong, IsWaiting, IsNotDeactivated, is_deactivated_at, takes_of, StaysAt, come_first_at}
+use Rattle.laws_line.proofs.Vocabulary.{List, None, Option, Some, [], ap, append-nil, append_assoc, arith, eq-eqb, false, length, map, option_map, refl, subst, sym, ℕ, ◌++◌, ◌+◌, ◌<◌, ◌∙◌, ◌∷◌, ◌≡◌, ◌≤◌, ControlFrame, next, answer as line_answer, place_at, tei_at, taken, next_of, Config, Card, line_at, at, card_after, after_all as frames_after, moments as frame_moments, CardIsSound as IsSound, control_text, most_frames_before, IsTakenAmong, IsWaiting, IsNotDeactivated, is_deactivated_at, takes_of, StaysAt, come_first_at}
 use Rattle.std.proofs.lemmas.Grind.{flat_map-append}
 use Rattle.std.proofs.lemmas.List.{length-map, map-append}
 use Rattle.model_bits.specs.Sent.{Item, idle}
 use Rattle.model_bits.specs.Stream as stream
 use Rattle.model_bits.specs.Stream.{heard_in}
-use Rattle.model_bits.specs.StuffingLaws.{AreOctets}
 use Rattle.model_line.specs.Event.{NextFrame}
 unfoldable use Rattle.model_line.specs.Machine.{takes_slot}
 use Rattle.model_card.specs.Event as frames
@@ -27,36 +26,12 @@ use Rattle.model_card.proofs.OfPorts.Pulls.{pulls_are_takes}
 use Rattle.model_card.proofs.OfPorts.Reaching.{reached_sound, reached_after_all}
 use Rattle.model_card.proofs.OfPorts.Steps.{moments-append, config_stays as octets_config_stays}
 use Rattle.model_card.specs.ports.Pulls.{pulls_behind, most_pulls_behind}
-use Rattle.laws_line.proofs.OfCard.Amid.{is-call}
 use Rattle.laws_line.proofs.OfCard.Spelling.{head}
-use Rattle.laws_line.proofs.OfCard.Meanwhile.{line-sound}
+use Rattle.laws_line.proofs.OfCard.Meanwhile.{call-behind, line-sound}
 use Rattle.laws_line.proofs.OfCard.Wherever.{all-left, waiting-taken}
 use Rattle.laws_line.specs.card.WaitingIsHeard.{IsHeardSince, WaitingIsHeard}
 
 -- ---- calls among events of frames
-
--- The call behind so many others of the line.
-record IsCallBehind (number count : ℕ) (es : List frames.Event) : Type 0 where
-  front : List frames.Event
-  back : List frames.Event
-  split : es ≡ front ++ at number next ∷ back
-  before : takes_of number front ≡ count
-
-later-call : (number : ℕ) (e : frames.Event) (es : List frames.Event) (b : Bool) (k n : ℕ) → (e.line == number && is_take e.what) ≡ b → cond b 1 0 + k ≡ n
-    → IsCallBehind number k es → IsCallBehind number n (e ∷ es)
-later-call number e es b k n is sum x =
-    let one : takes_of number (e ∷ x.front) ≡ cond b 1 0 + takes_of number x.front = ap (λ c. cond c 1 0 + takes_of number x.front) is in
-    record { front = e ∷ x.front; back = x.back; split = ap (λ l. e ∷ l) x.split; before = omega (arith, sum, x.before, one) }
-
-call-behind : (number count : ℕ) (es : List frames.Event) → count < takes_of number es → IsCallBehind number count es
-call-behind number count [] more = absurd (omega arith)
-call-behind number count (e ∷ es) more = go count (e.line == number && is_take e.what) refl more (λ k less. call-behind number k es less)
-  where
-    go : (n : ℕ) (b : Bool) → (e.line == number && is_take e.what) ≡ b → n < cond b 1 0 + takes_of number es
-        → ((k : ℕ) → k < takes_of number es → IsCallBehind number k es) → IsCallBehind number n (e ∷ es)
-    go n false is less rest = later-call number e es false n n is (omega arith) (rest n (omega (arith, less)))
-    go zero true is less rest = record { front = []; back = es; split = ap (λ x. x ∷ es) (is-call number e is); before = refl }
-    go (suc n) true is less rest = later-call number e es true n (suc n) is (omega arith) (rest n (omega (arith, less)))
 
 -- What the calls of a list are answered with, one of its parts after the other.
 answers-append : (number : ℕ) (card : Card) (a b : List frames.Event)
@@ -68,9 +43,7 @@ answer-now : (number : ℕ) (card : Card) (back : List frames.Event)
     → calls_answered number (runs.moments card (at number next ∷ back))
     ≡ option_map next_of (taken card.config (line_at number card)) ∷ calls_answered number (runs.moments (card_after (at number next) card) back)
 unfolding frame_moments line_answer takes_slot
-answer-now number card back =
-    ap (λ b. cond b (option_map next_of (taken card.config (line_at number card)) ∷ []) [] ++ calls_answered number (runs.moments (card_after (at number next) card) back))
-    (eq-eqb number number refl)
+answer-now number card back = grind (arith, eq-eqb)
 
 stays-first : (number link tei : ℕ) (card : Card) (a b : List frames.Event) → StaysAt number link tei card (a ++ b) → StaysAt number link tei card a
 unfolding StaysAt
@@ -176,14 +149,7 @@ all-but-last (y ∷ front) (z ∷ heard) x left few e =
 -- a control frame consists of octets
 text-octets : (card : Card) (number link tei : ℕ) (f : ControlFrame) → IsSound card → number < card.config.lines
     → tei_at (place_at link) (line_at number card) ≡ Some tei → as_octets (control_text card.config link tei f) ≡ control_text card.config link tei f
-text-octets card number link tei f s few on =
-    let c = card.config in
-    let small = (line-sound card number s few).management.table.range (place_at link) tei on in
-    let a = (frame_of (terms c (service_at link) tei) f).address in
-    exact (control_text c link tei f) (subst AreOctets (sym (append-nil (head_of c.side a f.control))) (head c.side a f.control (few-sapi (service_at link)) (omega (arith, small))))
-  where
-    few-sapi : (service : Service) → sapi_of service < 64
-    few-sapi service = grind arith
+text-octets card number link tei f s few on = grind (arith, line-sound, exact, append-nil, head)
 
 -- ---- what is heard
 
@@ -212,18 +178,10 @@ module _ (m : OctetCard) (number : ℕ) (events : List Event) (text : List ℕ) 
   but-last = heard p ++ (first ++ stream.frame text ∷ hear (texts t.middle))
 
   texts-are : texts calls ≡ texts t.front ++ (text ∷ (texts t.middle ++ texts (t.last ∷ [])))
-  texts-are =
-      ap texts t.are ∙ texts-append t.front (Some t.given ∷ (t.middle ++ t.last ∷ []))
-      ∙ ap (λ x. texts t.front ++ (x ∷ texts (t.middle ++ t.last ∷ []))) (ap as_octets t.is ∙ small)
-      ∙ ap (λ l. texts t.front ++ (text ∷ l)) (texts-append t.middle (t.last ∷ []))
+  texts-are = grind (arith, texts-append)
 
   all-are : p'.items ≡ p.items ++ map item_of calls → hear (frames_among (items_sent p')) ≡ but-last ++ hear (texts (t.last ∷ []))
-  all-are put =
-      ap hear (ap (λ l. frames_among (map sent l)) put ∙ ap frames_among (map-append sent p.items (map item_of calls)) ∙ frames_among-append (items_sent p) (map sent (map item_of calls)))
-      ∙ map-append stream.frame (frames_among (items_sent p)) (texts calls)
-      ∙ ap (λ l. l ++ hear (texts calls)) old.heard
-      ∙ ap (λ l. (heard p ++ hear old.on_its_way) ++ hear l) texts-are
-      ∙ simp (append_assoc, map-append)
+  all-are put = grind (arith, map-append, frames_among-append, texts-are, append_assoc)
 
   all-but : (rest : List stream.Event) → heard p' ≡ but-last ++ rest → IsHeardSince m.card.config.n201 p.given p'.given text
   all-but rest is =

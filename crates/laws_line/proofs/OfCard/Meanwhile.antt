@@ -1,5 +1,6 @@
 -- A line of a card after so many calls for its next frame, whatever happened at the other lines meanwhile.
-use Rattle.laws_line.proofs.Vocabulary.{◌≡◌, ◌≢◌, ℕ, zero, suc, ◌+◌, ◌<◌, ◌≤◌, ◌==◌, Bool, true, false, cond, List, [], ◌∷◌, ◌++◌, length, get_or, set, refl, sym, ap, ◌∙◌, arith, eqb-false, get_or-set_same, get_or-set_other, All-nil, All-cons, All-head, All-tail, All-get_or, ControlFrame, Config, next, Line, fresh_line, taken, Card, line_at, at, wants_room, IsAtLine, AreAtLines, after_all, after_is_sound, eqb-true, HasNothing, after_takes, frames_to_go, IsEnough, control_text, IsTakenWithin, CardEvent as Event, card_after as after, CardIsSound as IsSound, AreTakesAt, takes_at, IsTakenAmong, IsIdleAmong, IsWaiting}
+use Rattle.laws_line.proofs.Vocabulary.{◌≡◌, ◌≢◌, ℕ, zero, suc, ◌+◌, ◌<◌, ◌≤◌, ◌==◌, ◌&&◌, and_parts, All, is_take, takes_of, subst, Bool, true, false, cond, List, [], ◌∷◌, ◌++◌, length, get_or, set, refl, sym, ap, ◌∙◌, arith, eqb-false, get_or-set_same, get_or-set_other, All-nil, All-cons, All-head, All-tail, All-get_or, ControlFrame, Config, next, Line, fresh_line, taken, Card, line_at, at, wants_room, IsAtLine, AreAtLines, after_all, after_is_sound, eqb-true, HasNothing, after_takes, frames_to_go, IsEnough, control_text, IsTakenWithin, CardEvent as Event, card_after as after, CardIsSound as IsSound, AreTakesAt, takes_at, IsTakenAmong, IsIdleAmong, IsWaiting}
+use Rattle.model_line.specs.Event as line_event
 use Rattle.model_line.specs.Machine as lines
 use Rattle.model_line.specs.Sound as line_sound
 use Rattle.laws_line.proofs.Draining.{drains, idles}
@@ -19,6 +20,16 @@ at-next card number few = get_or-set_same card.lines number (lines.after card.co
 
 is-next : (number : ℕ) (e : Event) → (e.line ≡ number → e.what ≡ next) → e.line ≡ number → e ≡ at number next
 is-next number e h same = let what = h same in λ i. record { line = same i; what = what i }
+
+is-the-next : (w : line_event.Event) → is_take w ≡ true → w ≡ next
+is-the-next w is = grind arith
+
+pub is-call : (number : ℕ) (e : Event) → (e.line == number && is_take e.what) ≡ true → e ≡ at number next
+is-call number e is =
+    let parts = and_parts (e.line == number) (is_take e.what) is in
+    let line-is = eqb-true e.line number parts.0 in
+    let what-is = is-the-next e.what parts.1 in
+    λ i. record { line = line-is i; what = what-is i }
 
 module _ (number : ℕ) where
   pub few-lines : (card : Card) → IsSound card → number < card.config.lines → number < length card.lines
@@ -48,48 +59,51 @@ module _ (number : ℕ) where
       ap (λ e. line_at number (after e card)) (is-next number e here same) ∙ at-next card number (few-lines card s few))
       (λ b. let apart = eqb-false e.line number b in at-another card number e (λ same. apart (sym same)))
 
-  -- the next before which so many were
-  record Found (card : Card) (events : List Event) (k : ℕ) : Type 0 where
-    front : List Event
-    back : List Event
-    split : events ≡ front ++ at number next ∷ back
-    count : takes_at number front ≡ k
-    lines : AreAtLines card front
-    takes : AreTakesAt number front
-
   abbrev pub IsServed : Event → Type 0
   IsServed e = e.line ≡ number → e.what ≡ next
 
-  behind-one : (card : Card) (e : Event) (events : List Event) (k j : ℕ) → IsAtLine card e → IsServed e → cond (e.line == number) 1 0 + j ≡ k → Found card events j → Found card (e ∷ events) k
-  behind-one card e events k j line pull-here sum x =
-      let counted : takes_at number x.front ≡ j = x.count in
-      record {
-        front = e ∷ x.front;
-        back = x.back;
-        split = ap (λ es. e ∷ es) x.split;
-        count = ap (λ n. cond (e.line == number) 1 0 + n) counted ∙ sum;
-        lines = All-cons (IsAtLine card) e x.front line x.lines;
-        takes = All-cons IsServed e x.front pull-here x.takes;
-      }
+-- Where only the next frame is called for, all that happens at the line are calls.
+same-takes : (number : ℕ) (events : List Event) → AreTakesAt number events → takes_of number events ≡ takes_at number events
+same-takes number [] takes = refl
+same-takes number (e ∷ events) takes =
+    let one = go (e.line == number) refl (All-head (IsServed number) e events takes) in
+    let rest = same-takes number events (All-tail (IsServed number) e events takes) in
+    omega (arith, one, rest)
+  where
+    go : (b : Bool) → (e.line == number) ≡ b → IsServed number e → cond {A = ℕ} (b && is_take e.what) 1 0 ≡ cond b 1 0
+    go b is served = grind (arith, eqb-true)
 
-  at-front : (card : Card) (e : Event) (events : List Event) → e ≡ at number next → Found card (e ∷ events) 0
-  at-front card e events same =
-      record { front = []; back = events; split = ap (λ e. e ∷ events) same; count = refl; lines = All-nil (IsAtLine card); takes = All-nil IsServed }
+-- The call behind so many others of the line.
+pub record IsCallBehind (number count : ℕ) (es : List Event) : Type 0 where
+  pub front : List Event
+  pub back : List Event
+  pub split : es ≡ front ++ at number next ∷ back
+  pub before : takes_of number front ≡ count
 
-  found : (card : Card) (events : List Event) (k : ℕ) → AreAtLines card events → AreTakesAt number events → k < takes_at number events → Found card events k
-  found card [] k lines takes less = absurd (omega (arith, less))
-  found card (e ∷ events) k lines takes less =
-      let line = All-head (IsAtLine card) e events lines in
-      let here = All-head IsServed e events takes in
-      by-bit k (e.line == number) refl less line here
-      (λ j fewer. found card events j (All-tail (IsAtLine card) e events lines) (All-tail IsServed e events takes) fewer)
-    where
-      by-bit : (k : ℕ) (b : Bool) → (e.line == number) ≡ b → k < cond b 1 0 + takes_at number events → IsAtLine card e → IsServed e
-          → ((j : ℕ) → j < takes_at number events → Found card events j) → Found card (e ∷ events) k
-      by-bit zero true is less line here more = at-front card e events (is-next number e here (eqb-true e.line number is))
-      by-bit (suc k) true is less line here more =
-          behind-one card e events (suc k) k line here (ap (λ b. cond b 1 0 + k) is ∙ omega arith) (more k (omega (arith, less)))
-      by-bit k false is less line here more = behind-one card e events k k line here (ap (λ b. cond b 1 0 + k) is ∙ omega arith) (more k (omega (arith, less)))
+later-call : (number : ℕ) (e : Event) (es : List Event) (b : Bool) (k n : ℕ) → (e.line == number && is_take e.what) ≡ b → cond b 1 0 + k ≡ n
+    → IsCallBehind number k es → IsCallBehind number n (e ∷ es)
+later-call number e es b k n is sum x =
+    let one : takes_of number (e ∷ x.front) ≡ cond b 1 0 + takes_of number x.front = ap (λ c. cond c 1 0 + takes_of number x.front) is in
+    record { front = e ∷ x.front; back = x.back; split = ap (λ l. e ∷ l) x.split; before = omega (arith, sum, x.before, one) }
+
+pub call-behind : (number count : ℕ) (es : List Event) → count < takes_of number es → IsCallBehind number count es
+call-behind number count [] more = absurd (omega arith)
+call-behind number count (e ∷ es) more = go count (e.line == number && is_take e.what) refl more (λ k less. call-behind number k es less)
+  where
+    go : (n : ℕ) (b : Bool) → (e.line == number && is_take e.what) ≡ b → n < cond b 1 0 + takes_of number es
+        → ((k : ℕ) → k < takes_of number es → IsCallBehind number k es) → IsCallBehind number n (e ∷ es)
+    go n false is less rest = later-call number e es false n n is (omega arith) (rest n (omega (arith, less)))
+    go zero true is less rest = record { front = []; back = es; split = ap (λ x. x ∷ es) (is-call number e is); before = refl }
+    go (suc n) true is less rest = later-call number e es true n (suc n) is (omega arith) (rest n (omega (arith, less)))
+
+-- What holds of all of a list holds of its parts.
+pub all-left : {X : Type 0} (P : X → Type 0) (xs ys : List X) → All P (xs ++ ys) → All P xs
+all-left P [] ys h = All-nil P
+all-left P (x ∷ xs) ys h = All-cons P x xs (All-head P x (xs ++ ys) h) (all-left P xs ys (All-tail P x (xs ++ ys) h))
+
+pub all-right : {X : Type 0} (P : X → Type 0) (xs ys : List X) → All P (xs ++ ys) → All P ys
+all-right P [] ys h = h
+all-right P (x ∷ xs) ys h = all-right P xs ys (All-tail P x (xs ++ ys) h)
 
 -- The laws.
 pub line-sound : (card : Card) (number : ℕ) → IsSound card → number < card.config.lines → line_sound.IsSound card.config (line_at number card)
@@ -106,9 +120,12 @@ card-idles card number events s few lines takes nothing = grind (arith, line-aft
 module _ (card : Card) (number : ℕ) (s : IsSound card) (few : number < card.config.lines) (events : List Event) (all : AreAtLines card events) (takes : AreTakesAt number events) where
   pub taken-from : (frame : List ℕ) → IsTakenWithin card.config (takes_at number events) (line_at number card) frame → IsTakenAmong card number events frame
   taken-from frame h =
-      let x = found number card events h.takes all takes h.few in
+      let x = call-behind number h.takes events (omega (arith, h.few, same-takes number events takes)) in
+      let rest = at number next ∷ x.back in
+      let lines = all-left (IsAtLine card) x.front rest (subst (AreAtLines card) x.split all) in
+      let only = all-left (IsServed number) x.front rest (subst (AreTakesAt number) x.split takes) in
       let there : line_at number (after_all card x.front) ≡ after_takes card.config h.takes (line_at number card) =
-      line-after number x.front card s few x.lines x.takes ∙ ap (λ k. after_takes card.config k (line_at number card)) x.count in
+      line-after number x.front card s few lines only ∙ ap (λ k. after_takes card.config k (line_at number card)) (sym (same-takes number x.front only) ∙ x.before) in
       record { front = x.front; back = x.back; split = x.split; one = h.one; taken_is = ap (taken card.config) there ∙ h.taken_is; is = h.is }
 
   pub card-waits : (link tei : ℕ) (before : List ControlFrame) (f : ControlFrame) (behind : List ControlFrame) → IsWaiting card.config (line_at number card) link tei before f behind

@@ -1,20 +1,12 @@
 -- The laws of a line's takes wherever they come in a list of events.
-use Rattle.laws_line.proofs.Vocabulary.{◌<◌, List, [], ◌∷◌, ◌++◌, length, sym, ap, subst, arith, All-nil, All-cons, All-head, All-tail, Config, gave, next_of, Card, line_at, IsAtLine, AreAtLines, after_all, after_is_sound, always_sound, option_map, All, HasNothing, CardEvent as Event, card_after as after, CardIsSound as IsSound, Wherever, WaitingIsTaken, CallsComeToAnEnd}
+use Rattle.laws_line.proofs.Vocabulary.{◌<◌, List, [], ◌∷◌, ◌++◌, length, sym, ap, subst, arith, All-nil, All-head, All-tail, Config, gave, next_of, Card, line_at, IsAtLine, AreAtLines, after_all, after_is_sound, always_sound, option_map, HasNothing, CardEvent as Event, card_after as after, CardIsSound as IsSound, Wherever, WaitingIsTaken, CallsComeToAnEnd}
 use Rattle.model_line.specs.Machine as lines
 use Rattle.laws_line.proofs.Bounds.{to-go-few}
 use Rattle.laws_line.proofs.Soon.{few-before, others-fit}
 use Rattle.laws_line.proofs.OfCard.Amid.{taken-amid}
 use Rattle.laws_line.proofs.OfCard.Meanwhile.{IsServed, line-sound, card-drains, card-idles}
+pub use Rattle.laws_line.proofs.OfCard.Meanwhile.{all-left, all-right}
 pub use Rattle.model_card.proofs.Runs.{config_stays as config-stays}
-
--- What holds of all of a list holds of its parts.
-pub all-left : {X : Type 0} (P : X → Type 0) (xs ys : List X) → All P (xs ++ ys) → All P xs
-all-left P [] ys h = All-nil P
-all-left P (x ∷ xs) ys h = All-cons P x xs (All-head P x (xs ++ ys) h) (all-left P xs ys (All-tail P x (xs ++ ys) h))
-
-pub all-right : {X : Type 0} (P : X → Type 0) (xs ys : List X) → All P (xs ++ ys) → All P ys
-all-right P [] ys h = h
-all-right P (x ∷ xs) ys h = all-right P xs ys (All-tail P x (xs ++ ys) h)
 
 -- A law of sound cards holds behind every front.
 Law : (Card → List Event → Type 0) → Type 0

@@ -1,5 +1,7 @@
 -- What a run keeps at one end of a circuit.
-use Rattle.laws_order.proofs.Vocabulary.{◌≡◌, ℕ, ◌<◌, ◌≤◌, ◌==◌, Bool, cond, List, [], ◌∷◌, ◌++◌, length, append_assoc, Option, None, Some, option_map, option_to_list, refl, sym, ap, ◌∙◌, subst, arith, append-nil, eq-eqb, All, All-append, All-cons, All-head, All-nil, AreOctets, Config, NextFrame, OctetCard, port_at, gained, is_due, left_of, longest_text, IsAtLine, AreAtLines, IsSoundPort, meant_at_lines, refined_card, on_its_way, heard_frames_are_octets, IsOnItsWay, pulls_are_takes, always_sound, fresh_octets_sound, port_sound, config_stays, moments-append, all-right, contents_given, HasOctets, GivesOctets, seen, seen_told, trace, trace_of, frames_begun, frames-are-octets, IsInRange}
+use Rattle.laws_order.proofs.Vocabulary.{◌≡◌, ℕ, ◌<◌, ◌≤◌, ◌==◌, Bool, cond, List, [], ◌∷◌, ◌++◌, length, append_assoc, Option, None, Some, option_map, option_to_list, refl, sym, ap, ◌∙◌, subst, arith, append-nil, eq-eqb, All, All-append, All-cons, All-head, All-nil, AreOctets, Config, NextFrame, OctetCard, port_at, gained, is_due, left_of, longest_text, IsAtLine, AreAtLines, IsSoundPort, meant_at_lines, refined_card, on_its_way, heard_frames_are_octets, IsOnItsWay, pulls_are_takes, port_sound, config_stays, moments-append, all-right, contents_given, HasOctets, GivesOctets, seen, seen_told, trace, trace_of, frames_begun, frames-are-octets, IsInRange}
+use Rattle.model_card.specs.ports.Reached.{IsReached}
+use Rattle.model_card.proofs.OfPorts.Reaching.{reached_after_all, reached_fresh, reached_sound}
 use Rattle.std.proofs.lemmas.Grind.{flat_map-append}
 use Rattle.model_bits.specs.Stream as stream
 use Rattle.model_line.specs.Event as line
@@ -128,8 +130,11 @@ module _ (c : Config) (ranged : IsInRange c) (s : Termination) (h : Ran c s) whe
   pub config : s.card.card.config ≡ c
   config = ap (λ (m : OctetCard). m.card.config) h.is ∙ config_stays (fresh c) h.events
 
+  reached : IsReached s.card
+  reached = subst IsReached (sym h.is) (reached_after_all (fresh c) h.events (reached_fresh c ranged) h.at_lines)
+
   pub sound : IsSound s.card
-  sound = subst IsSound (sym h.is) (always_sound (fresh c) h.events (fresh_octets_sound c ranged) h.at_lines)
+  sound = reached_sound s.card reached
 
   pub within-ports : s.line < length s.card.ports
   within-ports = omega (arith, h.within, sound.count, ap (λ (x : Config). x.lines) config)
@@ -138,7 +143,7 @@ module _ (c : Config) (ranged : IsInRange c) (s : Termination) (h : Ran c s) whe
   sound-port = grind (arith, config, port_sound, sound)
 
   pub on-line : IsOnItsWay (port_of s)
-  on-line = subst (λ (m : OctetCard). IsOnItsWay (port_at s.line m)) (sym h.is) (on_its_way c h.events s.line ranged h.at_lines h.within)
+  on-line = on_its_way s.card s.line reached (subst (λ (x : Config). s.line < x.lines) (sym config) h.within)
 
   pub few-left : length (left_of (port_of s)) ≤ longest_text c.n201
   few-left = subst (λ (m : OctetCard). length (left_of (port_at s.line m)) ≤ longest_text c.n201) (sym h.is) (pulls_are_takes.left c h.events s.line ranged h.at_lines h.within)

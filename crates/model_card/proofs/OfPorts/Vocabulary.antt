@@ -1,5 +1,5 @@
 -- The words with which the proofs of this crate speak, from where they are defined.
-pub use Rattle.std.proofs.Common.{Bool, IfSome, List, None, Option, Some, [], ap, append-nil, append_assoc, arith, cond, drop, eq-eqb, eqb-true, false, flat_map, get_or, inl, inr, length, length-append, length-drop, length-set, map, nat_eq, nat_le, nat_lt, not, option_and_then, option_map, option_to_list, refl, replicate, reverse, set, slice_get, slice_index, subst, suc, sym, take, true, true≢false, zero, ℕ, ⊎_elim, ◌%◌, ◌&&◌, ◌*◌, ◌++◌, ◌+◌, ◌-◌, ◌/◌, ◌<◌, ◌==◌, ◌^◌, ◌||◌, ◌∙◌, ◌∷◌, ◌≡◌, ◌≢◌, ◌≤◌, ◌⊎◌}
+pub use Rattle.std.proofs.Common.{Bool, IfSome, List, None, Option, Some, [], ap, append-nil, append_assoc, arith, cond, drop, eq-eqb, eqb-true, false, flat_map, get_or, inl, inr, length, length-append, length-drop, length-set, map, nat_eq, nat_le, nat_lt, not, option_and_then, option_map, option_to_list, refl, replicate, reverse, set, slice_get, slice_index, subst, suc, sym, take, true, zero, ℕ, ◌%◌, ◌&&◌, ◌*◌, ◌++◌, ◌+◌, ◌-◌, ◌/◌, ◌<◌, ◌==◌, ◌∙◌, ◌∷◌, ◌≡◌, ◌≤◌, ◌⊎◌}
 pub use Rattle.std.proofs.Math.Nat.{mul-le-mul_left, mul-le-mul_right}
 pub use Rattle.std.proofs.Math.Seq.{drop-append_seam}
 pub use Rattle.std.proofs.lemmas.Bool.{and_left, cases_lt, le-ltb, leb-true, lt-ltb, ltb-false, ltb-true, ne_eqb, or_from}
@@ -12,26 +12,24 @@ pub use Rattle.std.proofs.lemmas.Option.{none-some}
 pub use Rattle.std.specs.Option.{option_map_or}
 pub use Rattle.std.specs.Prelude.{All, count_by, filter, fold, map, sum_by}
 pub use Rattle.lapd_frame.specs.declared.refusals.Refusal.TheVariants.{PoolFull}
-pub use Rattle.model_bits.proofs.BitLemmas.{bits-append, bits-push, bits-two_octets, length-bits, low_bits-mod, low_bits-number_of_n, number_of-lt}
+pub use Rattle.model_bits.proofs.BitLemmas.{bits-append, bits-push, length-bits, low_bits-mod, low_bits-number_of_n}
 pub use Rattle.model_bits.proofs.Division.Unique.{is_good-check, length-check}
-pub use Rattle.model_bits.proofs.Hearing.{heard_at-abort, heard_at-flag, heard_at-one, heard_at-zero, open_gap-abort, open_gap-one, open_gap-zero}
+pub use Rattle.model_bits.proofs.Hearing.{heard_at-abort, heard_at-one, open_gap-abort, open_gap-one, open_gap-zero}
 pub use Rattle.model_bits.proofs.Items.{line_text-push}
 pub use Rattle.model_bits.proofs.OneEvent.{one_event_an_octet}
-pub use Rattle.model_bits.proofs.RoundTripFrame.{check_octets, checked}
+pub use Rattle.model_bits.proofs.RoundTripFrame.{checked}
 pub use Rattle.model_bits.proofs.RoundTripPlaces.{after_flag, after_text, heard_until-onto, hears_text, reverse_aux-append}
 pub use Rattle.model_bits.proofs.StreamLengths.{IsWeight, judged_as, weight_of_heard}
-pub use Rattle.model_bits.proofs.StuffingCounted.{stuffed-counted}
-pub use Rattle.model_bits.proofs.StuffingLengths.{stuffed_after-at_least}
 pub use Rattle.model_bits.proofs.StuffingOctets.{octets_are_those_sent, octets_sent-stuffed}
 pub use Rattle.model_bits.proofs.StuffingShape.{NoSix-stuffed}
 pub use Rattle.model_bits.specs.Bits.{bits, flag, number_of}
 unfoldable pub use Rattle.model_bits.specs.Bits.{low_bits}
 pub use Rattle.model_bits.specs.Check.{check, is_good}
-pub use Rattle.model_bits.specs.Framer.{item_octets, last_octets, runs_low}
-pub use Rattle.model_bits.specs.OpenGap.{closed_event, given_up_event, kept_count, one_more, open_gap, run_of}
+pub use Rattle.model_bits.specs.Framer.{item_octets, last_octets}
+pub use Rattle.model_bits.specs.OpenGap.{given_up_event, kept_count, one_more, open_gap, run_of}
 pub use Rattle.model_bits.specs.Sent.{Item, frame, frame_text, idle, item_text, line_text}
 pub use Rattle.model_bits.specs.Stream.{gap_event, heard_at, heard_in, heard_until, is_short, judged, room_for}
-pub use Rattle.model_bits.specs.Stuffing.{octets_sent, stuffed, unstuffed}
+pub use Rattle.model_bits.specs.Stuffing.{octets_sent, stuffed}
 pub use Rattle.model_bits.specs.StuffingLaws.{AreOctets}
 pub use Rattle.model_bits.specs.declared.heard.Cause.{Cause}
 pub use Rattle.model_card.specs.Card.{Card}

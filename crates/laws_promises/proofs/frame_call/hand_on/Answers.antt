@@ -1,5 +1,5 @@
 -- Hand-written answers for `hand_on`.
-use Rattle.laws_promises.proofs.Vocabulary.{ℕ, ◌<◌, refl, rules, ap, arith, Card, Stands}
+use Rattle.laws_promises.proofs.Vocabulary.{◌<◌, refl, ap, arith, Card, Stands}
 use Rattle.std.specs.Prelude.{Result, OnOk, OnErr}
 use Rattle.lapd_card.specs.FrameCard.{Held, room_for_frames}
 use Rattle.model_line.proofs.Ranges.{ranges_of}

@@ -17,9 +17,6 @@ pub at-next : (card : Card) (number : ℕ) → number < length card.lines → li
 unfolding lines.takes_slot
 at-next card number few = get_or-set_same card.lines number (lines.after card.config next (line_at number card)) (fresh_line card.config) few
 
-is-next : (number : ℕ) (e : Event) → (e.line ≡ number → e.what ≡ next) → e.line ≡ number → e ≡ at number next
-is-next number e h same = let what = h same in λ i. record { line = same i; what = what i }
-
 module _ (number : ℕ) where
   pub few-lines : (card : Card) → IsSound card → number < card.config.lines → number < length card.lines
   few-lines card s few = omega (arith, few, s.count)
@@ -27,9 +24,7 @@ module _ (number : ℕ) where
   -- the line after all of them
   one-event : (c : Config) (n : ℕ) (b : Bool) (l l' : Line) → (b ≡ true → l' ≡ lines.after c next l) → (b ≡ false → l' ≡ l) → after_takes c n l' ≡ after_takes c (cond b 1 0 + n) l
   unfolding after_takes
-  one-event c n true l l' x y =
-      let one : suc n ≡ 1 + n = omega arith in
-      ap (after_takes c n) (x refl) ∙ ap (λ k. after_takes c k l) one
+  one-event c n true l l' x y = grind arith
   one-event c n false l l' x y =
       let none : n ≡ 0 + n = omega arith in
       ap (after_takes c n) (y refl) ∙ ap (λ k. after_takes c k l) none
@@ -45,7 +40,7 @@ module _ (number : ℕ) where
       ∙ one-event card.config (takes_at number events) (e.line == number) (line_at number card) (line_at number (after e card))
       (λ b.
       let same = eqb-true e.line number b in
-      ap (λ e. line_at number (after e card)) (is-next number e here same) ∙ at-next card number (few-lines card s few))
+      ap (λ e. line_at number (after e card)) (let what = here same in λ i. record { line = same i; what = what i }) ∙ at-next card number (few-lines card s few))
       (λ b. let apart = eqb-false e.line number b in at-another card number e (λ same. apart (sym same)))
 
   -- the next before which so many were
@@ -86,7 +81,7 @@ module _ (number : ℕ) where
     where
       by-bit : (k : ℕ) (b : Bool) → (e.line == number) ≡ b → k < cond b 1 0 + takes_at number events → IsAtLine card e → IsServed e
           → ((j : ℕ) → j < takes_at number events → Found card events j) → Found card (e ∷ events) k
-      by-bit zero true is less line here more = at-front card e events (is-next number e here (eqb-true e.line number is))
+      by-bit zero true is less line here more = at-front card e events (let what = here (eqb-true e.line number is) in λ i. record { line = (eqb-true e.line number is) i; what = what i })
       by-bit (suc k) true is less line here more =
           behind-one card e events (suc k) k line here (ap (λ b. cond b 1 0 + k) is ∙ omega arith) (more k (omega (arith, less)))
       by-bit k false is less line here more = behind-one card e events k k line here (ap (λ b. cond b 1 0 + k) is ∙ omega arith) (more k (omega (arith, less)))
@@ -107,9 +102,7 @@ module _ (card : Card) (number : ℕ) (s : IsSound card) (few : number < card.co
   pub taken-from : (frame : List ℕ) → IsTakenWithin card.config (takes_at number events) (line_at number card) frame → IsTakenAmong card number events frame
   taken-from frame h =
       let x = found number card events h.takes all takes h.few in
-      let there : line_at number (after_all card x.front) ≡ after_takes card.config h.takes (line_at number card) =
-      line-after number x.front card s few x.lines x.takes ∙ ap (λ k. after_takes card.config k (line_at number card)) x.count in
-      record { front = x.front; back = x.back; split = x.split; one = h.one; taken_is = ap (taken card.config) there ∙ h.taken_is; is = h.is }
+      grind (arith, line-after)
 
   pub card-waits : (link tei : ℕ) (before : List ControlFrame) (f : ControlFrame) (behind : List ControlFrame) → IsWaiting card.config (line_at number card) link tei before f behind
       → IsEnough card.config (takes_at number events) (line_at number card) link (length before) → IsTakenAmong card number events (control_text card.config link tei f)

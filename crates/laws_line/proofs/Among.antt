@@ -1,7 +1,5 @@
 -- A control frame that waits is taken by one of so many calls also where other events of its line are between them.
-use Rattle.laws_line.proofs.Vocabulary.{◌≡◌, ℕ, ◌+◌, ◌-◌, ◌<◌, ◌≤◌, Bool, false, cond, List, [], ◌∷◌, ◌++◌, length, take, Option, Some, refl, sym, ap, ◌∙◌, ◌⊎◌, inl, inr, arith, append_assoc, append-nil, length-append, eq-eqb, Service, Parts, ControlFrame, State, Terms, Link, event-follows, as_heard, is_overlong, waiting_left, room, put, Change, one_more_waits, Config, hears, request, next, LineTold, Answer, Aim, of_change, of_aim, Line, link_count, service_at, place_at, tei_at, terms, link_at, Taken, taken, IsInRange, after_sound, Event, expiry, after, answer, IsSound, deactivates, IsBy, frames_before, control_text, after_events, is_take, takes_in, go_first, comes_first, come_first, StaysOnLine, IsTakenIn}
-use Rattle.model_link.specs.Events as link
-use Rattle.model_link.specs.Machine as links
+use Rattle.laws_line.proofs.Vocabulary.{◌≡◌, ℕ, ◌+◌, ◌-◌, ◌<◌, ◌≤◌, Bool, false, cond, List, [], ◌∷◌, ◌++◌, length, take, Option, Some, refl, sym, ap, ◌∙◌, ◌⊎◌, inl, inr, arith, append_assoc, append-nil, length-append, eq-eqb, Service, Parts, ControlFrame, State, Terms, Link, event-follows, as_heard, is_overlong, waiting_left, room, put, Change, one_more_waits, Config, hears, request, next, LineTold, Answer, Aim, of_change, of_aim, Line, link_count, service_at, place_at, tei_at, terms, link_at, Taken, taken, IsInRange, after_sound, Event, expiry, after, answer, IsSound, deactivates, IsBy, frames_before, control_text, after_events, is_take, takes_in, go_first, comes_first, come_first, StaysOnLine, IsTakenIn, link_overlong, link_offer, link_received, link_frame, link_cleared, LinkEvent, link_after}
 use Rattle.laws_line.proofs.Happening.{IsGivenUp, Happens, event-happens}
 use Rattle.laws_line.proofs.Ordered.{next-goes}
 use Rattle.laws_line.proofs.Downs.{by-down}
@@ -28,42 +26,34 @@ one-at-most c e l = grind (arith, meanwhile)
 Waits : List ControlFrame → List ControlFrame → Type 0
 Waits ws ws' = (more : List ControlFrame) × (ws' ≡ ws ++ more)
 
-abbrev IsOffer : link.Event → Type 0
-IsOffer e = (e ≡ link.offer) ⊎ (e ≡ link.cleared)
+abbrev IsOffer : LinkEvent → Type 0
+IsOffer e = (e ≡ link_offer) ⊎ (e ≡ link_cleared)
 
-by-heard : (t : Terms) (f : Parts) (l : Link) (to : State) (b : Bool) → Waits l.waiting (waiting_left t (link.received (cond b link.overlong (link.frame f))) l to)
+by-heard : (t : Terms) (f : Parts) (l : Link) (to : State) (b : Bool) → Waits l.waiting (waiting_left t (link_received (cond b link_overlong (link_frame f))) l to)
 unfolding Waits
 by-heard t f l to b = grind arith
 
-left-waiting : (t : Terms) (e : link.Event) (l : Link) (to : State) → (IsOffer e → ⊥) → Waits l.waiting (waiting_left t (as_heard t e) l to)
+left-waiting : (t : Terms) (e : LinkEvent) (l : Link) (to : State) → (IsOffer e → ⊥) → Waits l.waiting (waiting_left t (as_heard t e) l to)
 unfolding Waits
-left-waiting t (link.received (link.frame f)) l to other = by-heard t f l to (is_overlong t f.control f.info)
-left-waiting t link.offer l to other = absurd (other (inl refl))
-left-waiting t link.cleared l to other = absurd (other (inr refl))
-left-waiting t another l to other = (take (room t l) (put another l to), refl)
+left-waiting t (link_received (link_frame f)) l to other = by-heard t f l to (is_overlong t f.control f.info)
+left-waiting t e l to other = grind arith
 
 module _ (c : Config) (ranged : IsInRange c) (number tei : ℕ) (few : number < link_count c) where
   abbrev frames : Line → List ControlFrame
   frames l = (link_at number l).waiting
 
-  no-offer : (e : Event) (a : Answer) (service : Service) (other : ℕ) (event : link.Event) → is_take e ≡ false → IsBy c e a service other event → IsOffer event → ⊥
+  no-offer : (e : Event) (a : Answer) (service : Service) (other : ℕ) (event : LinkEvent) → is_take e ≡ false → IsBy c e a service other event → IsOffer event → ⊥
   no-offer e a service other event apart by o = grind arith
-
-  -- where a link is given up, that is asked for
-  not-up : (e : Event) (l : Line) (a : Answer) → deactivates (service_at number) tei e ≡ false → tei_at (place_at number) l ≡ Some tei
-      → IsGivenUp (service_at number) number e l a → ⊥
-  not-up e l a up at x = grind (arith, eq-eqb)
 
   stays : (e : Event) (l : Line) → is_take e ≡ false → deactivates (service_at number) tei e ≡ false → tei_at (place_at number) l ≡ Some tei → tei_at (place_at number) (after c e l) ≡ Some tei
       → Happens c number e l (after c e l) (answer c e l) → Waits (frames l) (frames (after c e l))
   unfolding Waits
   stays e l apart up at at' (inl same) = ([], ap (λ (x : Link). x.waiting) same ∙ sym (append-nil (frames l)))
   stays e l apart up at at' (inr (inl (inl moved, gone))) = absurd (moved (at' ∙ sym at))
-  stays e l apart up at at' (inr (inl (inr down, gone))) = absurd (not-up e l (answer c e l) up at down)
+  stays e l apart up at at' (inr (inl (inr down, gone))) = absurd (grind (arith, eq-eqb))
   stays e l apart up at at' (inr (inr one)) =
       let t = terms c (service_at number) one.tei in
-      let own = links.after t one.event (link_at number l) in
-      let w = left-waiting t one.event (link_at number l) own.state (no-offer e (answer c e l) (service_at number) one.tei one.event apart one.by) in
+      let w = left-waiting t one.event (link_at number l) (link_after t one.event (link_at number l)).state (no-offer e (answer c e l) (service_at number) one.tei one.event apart one.by) in
       (w.0, ap (λ (x : Link). x.waiting) one.is ∙ (event-follows t one.event (link_at number l)).leaves.waiting ∙ w.1)
 
   abbrev Waiting : Line → List ControlFrame → ControlFrame → List ControlFrame → Type 0

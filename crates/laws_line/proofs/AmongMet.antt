@@ -1,6 +1,5 @@
 -- A line that meets what the law of calls among other events asks, and what that gives.
-use Rattle.laws_line.proofs.Vocabulary.{◌≡◌, ℕ, zero, suc, true, [], ◌∷◌, replicate, Some, refl, arith, Fcs, ReceiveReady, Ua, Call, reading, header_of, control_of, unnumbered_of, supervisory_of, seq, distance_of, named, response, hears, request, next, Line, place_at, tei_at, after_sound, bits_dropped as dropped, after, IsSound, StaysOnLine, IsTakenIn, control_text, small, asked, both_wait, still_on_line, events, one_comes, frames_first, takes_are}
-use Rattle.lapd_tei.specs.Events as teis
+use Rattle.laws_line.proofs.Vocabulary.{◌≡◌, ℕ, zero, suc, true, [], ◌∷◌, replicate, Some, refl, arith, Fcs, ReceiveReady, Ua, Call, reading, header_of, control_of, unnumbered_of, supervisory_of, seq, distance_of, named, response, hears, request, next, Line, place_at, tei_at, after_sound, bits_dropped as dropped, after, IsSound, StaysOnLine, IsTakenIn, control_text, small, asked, both_wait, still_on_line, events, one_comes, frames_first, takes_are, course, tei_refusal}
 use Rattle.model_line.specs.Request
 use Rattle.laws_line.proofs.Among.{taken-in}
 use Rattle.laws_line.proofs.Leaving.{next-moves, same-place}
@@ -20,11 +19,11 @@ abbrev unit_asked : Line
 unit_asked = after small (request (Request.Unit Call 127 (0xAB ∷ []))) check_in
 
 check-on_line : tei_at (place_at 0) check_in ≡ Some 64
-unfolding after reading header_of control_of unnumbered_of supervisory_of teis.course teis.refusal seq distance_of named
+unfolding after reading header_of control_of unnumbered_of supervisory_of course tei_refusal seq distance_of named
 check-on_line = refl
 
 unit-on_line : tei_at (place_at 0) unit_asked ≡ Some 64
-unfolding after reading header_of control_of unnumbered_of supervisory_of teis.course teis.refusal seq distance_of named
+unfolding after reading header_of control_of unnumbered_of supervisory_of course tei_refusal seq distance_of named
 unit-on_line = refl
 
 unit-sound : IsSound small unit_asked

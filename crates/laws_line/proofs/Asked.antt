@@ -1,13 +1,7 @@
 -- An event accepts for a link what its request asks and its answer grants.
-use Rattle.laws_line.proofs.Vocabulary.{arith, ◌≡◌, ℕ, Bool, true, false, cond, List, [], ◌∷◌, Option, Some, None, is_some, refl, nat_lt, option_map_or, Refusal, Service, Timer, LinkTimer, accepted, contents_of, not_not, Config, hears, request, next, Aim, at_link, at_timer, aim_of_expiry, Line, place_in, link_in, terms, unless_refused_told, of_request, aim_of_heard, Row, first_that_holds, Request, at_requested, at_deactivated, aim_of_request, heard_aims, Event, expiry, answer, unless_refused, refusal, Data, no_share, ending, share_aimed, share_of, is_link, is_granted, asked_for, asked_by}
-use Rattle.model_bits.specs.Stream as stream
-use Rattle.model_link.specs.Events as link
+use Rattle.laws_line.proofs.Vocabulary.{arith, ◌≡◌, ℕ, Bool, true, false, cond, List, [], ◌∷◌, Option, Some, None, is_some, refl, nat_lt, option_map_or, Refusal, Service, Timer, LinkTimer, accepted, contents_of, not_not, Config, hears, request, next, Aim, at_link, at_timer, aim_of_expiry, Line, place_in, link_in, terms, unless_refused_told, of_request, aim_of_heard, Row, first_that_holds, Request, at_requested, at_deactivated, aim_of_request, heard_aims, Event, expiry, answer, unless_refused, refusal, Data, no_share, ending, share_aimed, share_of, is_link, is_granted, asked_for, asked_by, link_received, LinkData, LinkRequest, LinkEvent, StreamEvent, skipped}
 use Rattle.model_link.specs.Requests as requests
-use Rattle.model_line.proofs.ProperAims.{skipped}
-
--- a row that does not hold is passed over
-pub passed : (row : Row) (rows : List Row) → first_that_holds (row ∷ rows) ≡ None → (row.holds ≡ false) × (first_that_holds rows ≡ None)
-passed row rows e = skipped row.holds row.why (first_that_holds rows) e
+use Rattle.model_line.proofs.RoomForAll.{passed}
 
 -- contents that the line does not refuse are not refused by their link
 by-tests : (serves long full : Bool) (why why2 why3 why4 : Refusal) → serves ≡ true → long ≡ false → full ≡ false
@@ -16,25 +10,21 @@ by-tests serves long full why why2 why3 why4 s l f = rw (s, l, f) refl
 
 pub link-grants : (c : Config) (service : Service) (tei place : ℕ) (contents : List ℕ) (l : Line) → place_in l tei ≡ Some place
     → refusal c false (Data service tei contents) l ≡ None
-    → requests.refusal (terms c service tei) (link_in l service place) false (link.Data contents) ≡ None
+    → requests.refusal (terms c service tei) (link_in l service place) false (LinkData contents) ≡ None
 link-grants c service tei place contents l at e = grind (arith, passed, not_not, by-tests, nat_lt)
 
 module _ (c : Config) (l : Line) (number : ℕ) where
   abbrev Accepts : List (List ℕ) → Aim → Type 0
   Accepts more aim = (share_aimed c number l aim).accepted ≡ more
 
-  at-link : (service : Service) (tei place : ℕ) (e : link.Event) → accepted (terms c service tei) e (link_in l service place) ≡ []
-      → Accepts [] (at_link service tei place e)
-  at-link service tei place e none = grind arith
-
   ends : (b : Bool) → (cond b ending no_share).accepted ≡ []
   ends b = grind arith
 
-  by-heard : (e : stream.Event) → Accepts [] (aim_of_heard c l e)
-  by-heard = heard_aims c l (Accepts []) (λ cause. refl) (λ service tei place what at. at-link service tei place (link.received what) refl) (λ info. ends _) (λ parts service to. refl)
+  by-heard : (e : StreamEvent) → Accepts [] (aim_of_heard c l e)
+  by-heard = heard_aims c l (Accepts []) (λ cause. refl) (λ service tei place what at. grind arith) (λ info. ends _) (λ parts service to. refl)
 
   by-timer : (service : Service) (tei : ℕ) (timer : LinkTimer) (o : Option ℕ) → Accepts [] (at_timer service tei timer o)
-  by-timer service tei timer o = grind (arith, at-link)
+  by-timer service tei timer o = grind arith
 
   by-expiry : (timer : Timer) → Accepts [] (aim_of_expiry timer l)
   by-expiry timer = grind (arith, by-timer, ends)
@@ -42,27 +32,17 @@ module _ (c : Config) (l : Line) (number : ℕ) where
   nothing-more : (b : Bool) → cond {A = List (List ℕ)} b [] [] ≡ []
   nothing-more b = grind arith
 
-  requested : (service : Service) (tei : ℕ) (what : link.Request) (o : Option ℕ) → contents_of what ≡ []
+  requested : (service : Service) (tei : ℕ) (what : LinkRequest) (o : Option ℕ) → contents_of what ≡ []
       → Accepts [] (at_requested service tei what o)
-  requested service tei what o none = grind (arith, at-link, is_some, nothing-more)
+  requested service tei what o none = grind (arith, is_some, nothing-more)
 
   deactivated : (service : Service) (tei : ℕ) (o : Option ℕ) → Accepts [] (at_deactivated service tei o)
-  deactivated service tei o = grind (arith, at-link)
-
-  contents-asked : (service : Service) (tei : ℕ) (contents : List ℕ) → refusal c false (Data service tei contents) l ≡ None → (o : Option ℕ) → place_in l tei ≡ o
-      → Accepts (cond (option_map_or (is_link number service) o false) (contents ∷ []) []) (at_requested service tei (link.Data contents) o)
-  contents-asked service tei contents e o at = grind (arith, is_some, link-grants)
+  deactivated service tei o = grind arith
 
   granted : (r : Request) → refusal c false r l ≡ None → Accepts (asked_for number r l) (aim_of_request r l)
-  granted r e = grind (arith, requested, contents-asked, deactivated, ends)
+  granted r e = grind (arith, requested, is_some, link-grants, deactivated, ends)
 
 pub asked-is : (c : Config) (e : Event) (l : Line) (number : ℕ) → (share_of c number e l).accepted ≡ asked_by number e l (answer c e l)
 unfolding answer
 asked-is c (hears e) l number = by-heard c l number e
-asked-is c (expiry timer) l number = by-expiry c l number timer
-asked-is c (request r) l number = go (refusal c false r l) refl
-  where
-    go : (o : Option Refusal) → refusal c false r l ≡ o
-        → (share_aimed c number l (unless_refused o (aim_of_request r l))).accepted ≡ cond (is_granted (unless_refused_told o (of_request c r l))) (asked_for number r l) []
-    go o e = grind (arith, granted)
-asked-is c next l number = refl
+asked-is c e l number = grind (arith, by-expiry, granted)

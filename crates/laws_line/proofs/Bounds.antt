@@ -3,14 +3,8 @@ use Rattle.laws_line.proofs.Vocabulary.{ℕ, ◌+◌, ◌-◌, ◌≤◌, ◌<�
 use Rattle.model_line.proofs.LineRises.{window_most}
 
 -- of a link
-pub bit-most : (b : Bool) → cond b 1 0 ≤ 1
-bit-most b = grind arith
-
-window-few : (b : Bool) (k used unsent : ℕ) → cond b (min (k - used) unsent) 0 ≤ k
-window-few b k used unsent = grind arith
-
 at-most : (c : Config) (l : Line) → IsSound c l → (n : ℕ) → n < link_count c → to_go_at_link c l n ≤ c.control + max c.k c.k16 + 1
-at-most c l s n few = grind (arith, window-few, bit-most, window_most)
+at-most c l s n few = grind (arith, window_most)
 
 pub to-go-few : (c : Config) (l : Line) → IsSound c l → frames_to_go c l ≤ most_frames c
 to-go-few c l s = grind (arith, sum_bounded, at-most)

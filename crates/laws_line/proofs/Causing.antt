@@ -1,17 +1,14 @@
 -- Why a message of TEI management comes to wait: each event of a line.
-use Rattle.laws_line.proofs.Vocabulary.{◌≡◌, ◌⊎◌, inl, inr, ℕ, ◌<◌, true, false, [], ◌∷◌, length, Option, None, refl, sym, ◌∙◌, subst, arith, option_map_or, Address, Refusal, Service, T201, Parts, LinkTimer, Management, heard_in, Config, hears, request, next, Answer, Aim, at_management, of_aim, at_timer, Line, place_in, has_tei, unless_refused_told, addressed, aim_of_heard, Taken, taken, line_of, wrong_side, bad_tei, no_link, tei_taken, table_full, check_running, control_full, Request, Establish, Release, Assign, Remove, SetBusy, ClearBusy, Deactivate, at_requested, at_deactivated, aim_of_request, IsInRange, next_walk, ranges_of, not_not, Down, T200, T203, Event, expiry, after, answer, unless_refused, refusal, Data, Unit, Check, IsSound, Hears, HasCause, IsTaken, HaveCauses, lost_in, Said, Says, Serves, Expires, Grants, is_granted}
-use Rattle.model_bits.specs.Stream as stream
-use Rattle.model_link.specs.Events as link
+use Rattle.laws_line.proofs.Vocabulary.{◌≡◌, ◌⊎◌, inl, inr, ℕ, ◌<◌, true, false, [], ◌∷◌, length, Option, None, refl, sym, ◌∙◌, subst, arith, option_map_or, Address, Refusal, Service, T201, Parts, LinkTimer, Management, heard_in, Config, hears, request, next, Answer, Aim, at_management, of_aim, at_timer, Line, place_in, has_tei, unless_refused_told, addressed, aim_of_heard, Taken, taken, line_of, wrong_side, bad_tei, no_link, tei_taken, table_full, check_running, control_full, Request, Establish, Release, Assign, Remove, SetBusy, ClearBusy, Deactivate, at_requested, at_deactivated, aim_of_request, IsInRange, next_walk, ranges_of, not_not, Down, T200, T203, Event, expiry, after, answer, unless_refused, refusal, Data, Unit, Check, IsSound, Hears, HasCause, IsTaken, HaveCauses, lost_in, Said, Says, Serves, Expires, Grants, is_granted, LinkReceived, LinkRelease, LinkEstablish, LinkClearBusy, LinkRequest, LinkData, LinkSetBusy, stream_frame, StreamEvent, serve, free_place-is, is_some}
 use Rattle.lapd_tei.specs.Events as teis
-use Rattle.lapd_tei.specs.Rows as rows
 use Rattle.lapd_tei.specs.Words as words
-use Rattle.laws_line.proofs.Asked.{passed}
 use Rattle.laws_line.proofs.Granting.{not-refused}
-use Rattle.laws_line.proofs.GroupAims.{IsUi, hears-said, heard-aims-at}
+use Rattle.laws_line.proofs.GroupAims.{IsUi, heard-aims-at}
 use Rattle.laws_line.proofs.LinkMoves.{IsOne, taken-one}
-use Rattle.laws_line.proofs.Managing.{by-two, by-three, managed}
-use Rattle.laws_line.proofs.Messaging.{serves, told-or-not, expires, puts-on, takes-off, begins-asked}
+use Rattle.laws_line.proofs.Managing.{by-two, managed}
+use Rattle.laws_line.proofs.Messaging.{serves, told-or-not, expires, begins-asked, gone, waits}
 use Rattle.laws_line.proofs.Downs.{by-down}
+use Rattle.model_line.proofs.RoomForAll.{passed}
 
 -- How many messages an event of TEI management loses is what the line tells.
 module _ (c : Config) (l : Line) (e : teis.Event) where
@@ -20,10 +17,10 @@ module _ (c : Config) (l : Line) (e : teis.Event) where
 
 -- A message of a terminal is an event of TEI management.
 module _ (c : Config) (l : Line) where
-  pub to-group : (address : Address) (what : link.Received) (m : Aim) → address.sapi ≡ 63 → address.tei ≡ 127 → addressed l address what m ≡ m
+  pub to-group : (address : Address) (what : LinkReceived) (m : Aim) → address.sapi ≡ 63 → address.tei ≡ 127 → addressed l address what m ≡ m
   to-group address what m sapi group = grind arith
 
-  heard-aim : (e : Event) (said : Said) (h : Hears c e said) → aim_of_heard c l (stream.frame h.octets) ≡ at_management (teis.message h.parts.info)
+  heard-aim : (e : Event) (said : Said) (h : Hears c e said) → aim_of_heard c l (stream_frame h.octets) ≡ at_management (teis.message h.parts.info)
   heard-aim e said h = grind (arith, to-group)
 
   served : (e : Event) (said : Said) → IsSound c l → length l.management.places < 63 → Hears c e said
@@ -63,20 +60,19 @@ module _ (c : Config) (l : Line) where
       let bad = passed (bad_tei tei) (tei_taken tei l ∷ table_full l ∷ []) none in
       let taken = passed (tei_taken tei l) (table_full l ∷ []) bad.1 in
       let full = passed (table_full l) [] taken.1 in
-      by-step (Assign tei) (teis.assign tei) none refl (by-two _ _ _ _ taken.0 full.0) (puts-on tei l.management taken.0 full.0)
+      by-step (Assign tei) (teis.assign tei) none refl (by-two _ _ _ _ taken.0 full.0) (grind (arith, is_some, free_place-is))
   grants (Remove tei) none =
-      let ours = passed (wrong_side c) (bad_tei tei ∷ no_link tei l ∷ control_full l ∷ []) none in
-      let bad = passed (bad_tei tei) (no_link tei l ∷ control_full l ∷ []) ours.1 in
+      let bad = passed (bad_tei tei) (no_link tei l ∷ control_full l ∷ []) (passed (wrong_side c) (bad_tei tei ∷ no_link tei l ∷ control_full l ∷ []) none).1 in
       let unknown = passed (no_link tei l) (control_full l ∷ []) bad.1 in
       let full = passed (control_full l) [] unknown.1 in
-      by-step (Remove tei) (teis.remove tei) none refl (by-two _ _ _ _ unknown.0 full.0) (takes-off tei l.management full.0 (not_not (has_tei tei l) unknown.0))
+      by-step (Remove tei) (teis.remove tei) none refl (by-two _ _ _ _ unknown.0 full.0) (grind (arith, waits, gone))
   grants (Check tei) none =
       let ours = passed (wrong_side c) (bad_tei tei ∷ no_link tei l ∷ check_running l ∷ control_full l ∷ []) none in
       let bad = passed (bad_tei tei) (no_link tei l ∷ check_running l ∷ control_full l ∷ []) ours.1 in
       let unknown = passed (no_link tei l) (check_running l ∷ control_full l ∷ []) bad.1 in
       let running = passed (check_running l) (control_full l ∷ []) unknown.1 in
       let full = passed (control_full l) [] running.1 in
-      by-step (Check tei) (teis.check tei) none refl (by-three _ _ _ _ _ _ unknown.0 running.0 full.0) (begins-asked tei l.management full.0)
+      by-step (Check tei) (teis.check tei) none refl (rw (unknown.0, running.0, full.0) refl) (begins-asked tei l.management full.0)
   grants Down none = down-granted
   grants other none = tt
 
@@ -84,7 +80,7 @@ module _ (c : Config) (l : Line) where
   granted e r is = subst (λ x. is_granted (answer c x l) ≡ true → Granted r (after c x l).management (lost_in (answer c x l))) (sym is) (λ g. grants r (not-refused c r l g))
 
 -- Without a cause TEI management stays.
-module _ (c : Config) (l : Line) (e : stream.Event) where
+module _ (c : Config) (l : Line) (e : StreamEvent) where
   abbrev Caused : Aim → Type 0
   Caused aim = ((of_aim c aim l).line.management ≡ l.management) ⊎ ((said : Said) × Hears c (hears e) said)
 
@@ -93,9 +89,9 @@ module _ (c : Config) (l : Line) (e : stream.Event) where
   unfolding teis.course teis.refusal
   by-message parts ui = go (told-or-not l.management parts.info)
     where
-      go : ((rows.serve (heard_in parts.info) (words.begun l.management)).now ≡ l.management) ⊎ ((said : Said) × Says parts.info said) → Caused (at_management (teis.message parts.info))
+      go : ((serve (heard_in parts.info) (words.begun l.management)).now ≡ l.management) ⊎ ((said : Said) × Says parts.info said) → Caused (at_management (teis.message parts.info))
       go (inl stays) = inl (managed c l (teis.message parts.info) ∙ stays)
-      go (inr (said, says)) = inr (said, hears-said c e parts said ui says)
+      go (inr (said, says)) = inr (said, (grind arith))
 
   heard-caused : Caused (aim_of_heard c l e)
   heard-caused = heard-aims-at c l e Caused (λ cause. inl refl) (λ service tei place what. inl refl) (λ parts ui. by-message parts ui)
@@ -108,24 +104,11 @@ module _ (c : Config) (l : Line) where
   by-timer : (service : Service) (tei : ℕ) (timer : LinkTimer) (o : Option ℕ) → (of_aim c (at_timer service tei timer o) l).line.management ≡ l.management
   by-timer service tei timer o = grind arith
 
-  by-asked : (service : Service) (tei : ℕ) (what : link.Request) (o : Option ℕ) → (of_aim c (at_requested service tei what o) l).line.management ≡ l.management
+  by-asked : (service : Service) (tei : ℕ) (what : LinkRequest) (o : Option ℕ) → (of_aim c (at_requested service tei what o) l).line.management ≡ l.management
   by-asked service tei what o = grind arith
 
-  by-deactivated : (service : Service) (tei : ℕ) (o : Option ℕ) → (of_aim c (at_deactivated service tei o) l).line.management ≡ l.management
-  by-deactivated service tei o = grind arith
-
   asked-caused : (r : Request) (a : Answer) → is_granted a ≡ true → FromCause (request r) (of_aim c (aim_of_request r l) l).line a
-  asked-caused (Establish service tei) a g = inl (by-asked service tei link.Establish (place_in l tei))
-  asked-caused (Release service tei) a g = inl (by-asked service tei link.Release (place_in l tei))
-  asked-caused (Data service tei contents) a g = inl (by-asked service tei (link.Data contents) (place_in l tei))
-  asked-caused (Unit service tei contents) a g = inl refl
-  asked-caused (SetBusy service tei) a g = inl (by-asked service tei link.SetBusy (place_in l tei))
-  asked-caused (ClearBusy service tei) a g = inl (by-asked service tei link.ClearBusy (place_in l tei))
-  asked-caused (Deactivate service tei) a g = inl (by-deactivated service tei (place_in l tei))
-  asked-caused (Assign tei) a g = inr (inr (inr (inr (record { asked = Assign tei; by = refl; granted = g; its = refl }))))
-  asked-caused (Remove tei) a g = inr (inr (inr (inr (record { asked = Remove tei; by = refl; granted = g; its = refl }))))
-  asked-caused (Check tei) a g = inr (inr (inr (inr (record { asked = Check tei; by = refl; granted = g; its = refl }))))
-  asked-caused Down a g = inr (inr (inr (inr (record { asked = Down; by = refl; granted = g; its = refl }))))
+  asked-caused r a g = grind (arith, by-asked, granted)
 
   -- A call for the next frame takes a message, or leaves all of TEI management.
   took : (a : Answer) (t : Taken) → IsOne c l t → FromCause next t.line a
@@ -136,18 +119,8 @@ module _ (c : Config) (l : Line) where
 
   caused : (e : Event) → IsSound c l → FromCause e (after c e l) (answer c e l)
   unfolding after answer
-  caused (hears e) s = go (heard-caused c l e)
-    where
-      go : Caused c l e (aim_of_heard c l e) → FromCause (hears e) (of_aim c (aim_of_heard c l e) l).line (answer c (hears e) l)
-      go o = grind arith
-  caused (expiry (T200 service tei)) s = inl (by-timer service tei LinkTimer.T200 (place_in l tei))
-  caused (expiry (T203 service tei)) s = inl (by-timer service tei LinkTimer.T203 (place_in l tei))
-  caused (expiry T201) s = inr (inr (inr (inl refl)))
-  caused (request r) s = go (refusal c false r l)
-    where
-      go : (o : Option Refusal) → FromCause (request r) (of_aim c (unless_refused o (aim_of_request r l)) l).line (unless_refused_told o (of_aim c (unless_refused o (aim_of_request r l)) l))
-      go o = grind (arith, asked-caused)
-  caused next s = next-caused s (answer c next l)
+  caused (hears e) s = grind (arith, heard-caused)
+  caused e s = grind (arith, by-timer, asked-caused, next-caused)
 
 pub have-causes : (c : Config) (e : Event) (l : Line) → IsInRange c → IsSound c l → HaveCauses c e l (after c e l) (answer c e l)
 have-causes c e l ranged s = grind (arith, ranges_of, served, expired, granted, caused)

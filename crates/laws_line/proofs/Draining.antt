@@ -1,6 +1,5 @@
 -- With calls for the next frame alone the frames to go become fewer, until nothing waits.
-use Rattle.laws_line.proofs.Vocabulary.{◌≡◌, ℕ, zero, suc, ◌+◌, ◌≤◌, ◌<◌, List, [], ◌∷◌, slice_get, Option, Some, None, is_some, refl, ap, ◌∙◌, ◌⊎◌, ⊎_elim, arith, IfSome, option_map_or, option_or, unwrap_or, All-head, All-tail, Link, nothing-to_send, Config, next, may_send, is_given, Line, link_count, service_at, place_at, tei_at, terms, terms_at, link_at, Taken, with_given_frame, link_taken, first_taken, taken, next_of, line_of, IsInRange, IsSoundAt, after_sound, next_falls, fresh_gives_nothing, round_below, option_map, All, one, after, answer, IsSound, HasNothing, after_takes, frames_to_go, IsIdling}
-use Rattle.model_link.specs.Machine as links
+use Rattle.laws_line.proofs.Vocabulary.{◌≡◌, ℕ, zero, suc, ◌+◌, ◌≤◌, ◌<◌, List, [], ◌∷◌, slice_get, Option, Some, None, is_some, refl, ap, ◌∙◌, ◌⊎◌, ⊎_elim, arith, IfSome, option_map_or, option_or, unwrap_or, All-head, All-tail, Link, nothing-to_send, Config, next, may_send, is_given, Line, link_count, service_at, place_at, tei_at, terms, terms_at, link_at, Taken, with_given_frame, link_taken, first_taken, taken, next_of, line_of, IsInRange, IsSoundAt, after_sound, next_falls, fresh_gives_nothing, round_below, option_map, All, one, after, answer, IsSound, HasNothing, after_takes, frames_to_go, IsIdling, link_given}
 use Rattle.laws_line.proofs.Serving.{none-waits}
 use Rattle.laws_line.proofs.Silence.{sends-none}
 use Rattle.laws_line.proofs.Going.{TakesOne, taken-falls}
@@ -11,15 +10,8 @@ module _ (c : Config) (l : Line) (s : IsSound c l) (h : HasNothing c l) where
   none-of_link number few = go (tei_at (place_at number) l) refl (s.links number few)
     where
       go : (o : Option ℕ) → tei_at (place_at number) l ≡ o → IsSoundAt c number (link_at number l) o → link_taken c l number ≡ None
-      go None e begins =
-          ap (λ (x : Link). option_map (with_given_frame c l number (terms_at c number l)) (links.given (terms_at c number l) x)) begins
-          ∙ ap (option_map (with_given_frame c l number (terms_at c number l))) (fresh_gives_nothing (terms_at c number l))
-      go (Some tei) e sound =
-          let t : terms_at c number l ≡ terms c (service_at number) tei = ap (λ o. terms c (service_at number) (unwrap_or o 0)) e in
-          let none : links.given (terms_at c number l) (link_at number l) ≡ None =
-          ap (λ t. links.given t (link_at number l)) t ∙ nothing-to_send (terms c (service_at number) tei) (link_at number l)
-          (sends-none (terms c (service_at number) tei) (link_at number l) sound (h.links number few tei e)) in
-          ap (option_map (with_given_frame c l number (terms_at c number l))) none
+      go None e begins = grind (arith, option_map, fresh_gives_nothing)
+      go (Some tei) e sound = grind (arith, nothing-to_send, sends-none, option_map)
 
   none-first : (ns : List ℕ) → All (λ n. n < link_count c) ns → first_taken c l ns ≡ None
   none-first [] few = refl
@@ -74,20 +66,10 @@ taken-given c l t e = ap (λ o. one (is_some (option_map next_of o))) e
 
 pub ends : (c : Config) → IsInRange c → (n : ℕ) (l : Line) → IsSound c l → may_send c l ≤ n → taken c (after_takes c n l) ≡ None
 unfolding after_takes
-ends c ranged zero l s few = go (taken c l) refl
-  where
-    go : (o : Option Taken) → taken c l ≡ o → taken c l ≡ None
-    go None e = e
-    go (Some t) e =
-        let given = taken-given c l t e in
-        let falls = (next_falls c ranged l s).0 in
-        absurd (omega (arith, few, given, falls))
+ends c ranged zero l s few = grind (arith, taken-given, next_falls)
 ends c ranged (suc n) l s few = go (taken c l) refl (ends c ranged n (after c next l) (after_sound c ranged next l s))
   where
     go : (o : Option Taken) → taken c l ≡ o → (may_send c (after c next l) ≤ n → taken c (after_takes c n (after c next l)) ≡ None)
         → taken c (after_takes c n (after c next l)) ≡ None
     go None e more = ap (λ x. taken c (after_takes c n x)) (same-after c l e) ∙ ap (taken c) (all-stay c n l e) ∙ e
-    go (Some t) e more =
-        let given = taken-given c l t e in
-        let falls = (next_falls c ranged l s).0 in
-        more (omega (arith, few, given, falls))
+    go (Some t) e more = grind (arith, taken-given, next_falls)

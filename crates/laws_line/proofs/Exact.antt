@@ -5,26 +5,17 @@ use Rattle.laws_line.proofs.Silence.{silent, sends-none}
 -- Of a link.
 none-may : (b x y : Bool) (k o n s : ℕ) → nat_lt o k ≡ x → nat_lt s n ≡ y → cond b (min (k - o) (n - s)) 0 ≡ 0 → (b && x && y) ≡ false
 none-may false x y k o n s e f h = refl
-none-may true false y k o n s e f h = refl
-none-may true true false k o n s e f h = refl
-none-may true true true k o n s e f h =
-    let room = ltb-true o k e in
-    let some = ltb-true s n f in
-    absurd (omega (arith, h, room, some))
+none-may b x y k o n s e f h = grind (arith, ltb-true)
 
 none-go : (b x y : Bool) (k o n s : ℕ) → nat_lt o k ≡ x → nat_lt s n ≡ y → (b && x && y) ≡ false → cond b (min (k - o) (n - s)) 0 ≡ 0
-none-go false x y k o n s e f h = refl
-none-go true false y k o n s e f h = let full = ltb-false o k e in omega (arith, full)
-none-go true true false k o n s e f h = let sent = ltb-false s n f in omega (arith, sent)
-none-go true true true k o n s e f h = absurd (cc)
+none-go b x y k o n s e f h = grind (arith, ltb-false)
 
-empty : {X : Type 0} (xs : List X) → length xs ≡ 0 → xs ≡ []
+pub empty : {X : Type 0} (xs : List X) → length xs ≡ 0 → xs ≡ []
 empty [] e = refl
 empty (x ∷ xs) e = absurd (omega (arith, e))
 
 off : (b : Bool) → cond {A = ℕ} b 1 0 ≡ 0 → b ≡ false
-off true e = absurd (omega (arith, e))
-off false e = refl
+off b e = grind arith
 
 module _ (t : Terms) (l : Link) where
   abbrev up : Bool
@@ -40,9 +31,8 @@ module _ (t : Terms) (l : Link) where
   from-nothing : HasNothingToSend t l → link_to_go t l ≡ 0
   from-nothing h =
       let waits : length l.waiting ≡ 0 = ap length h.waiting in
-      let goes = none-go up (nat_lt (outstanding l) t.k) (nat_lt l.s (length l.contents)) t.k (outstanding l) (length l.contents) l.s refl refl h.information in
       let owed : cond {A = ℕ} l.pending 1 0 ≡ 0 = ap (λ b. cond {A = ℕ} b 1 0) h.pending in
-      omega (arith, waits, goes, owed)
+      omega (arith, waits, (none-go up (nat_lt (outstanding l) t.k) (nat_lt l.s (length l.contents)) t.k (outstanding l) (length l.contents) l.s refl refl h.information), owed)
 
 -- Of all links.
 each-none : (f : ℕ → ℕ) (a n : ℕ) → sum_by f (range_with_len a n) ≡ 0 → (j : ℕ) → a ≤ j → j < a + n → f j ≡ 0
@@ -55,10 +45,8 @@ each-none f a (suc n) e j low high =
 all-none : (f : ℕ → ℕ) (a n : ℕ) → ((j : ℕ) → a ≤ j → j < a + n → f j ≡ 0) → sum_by f (range_with_len a n) ≡ 0
 all-none f a zero h = refl
 all-none f a (suc n) h =
-    let sum = sum_by-cons f a (range_with_len (a + 1) n) in
-    let first = h a (omega arith) (omega arith) in
     let rest = all-none f (a + 1) n (λ j low high. h j (omega (arith, low)) (omega (arith, high))) in
-    omega (arith, sum, first, rest)
+    omega (arith, (sum_by-cons f a (range_with_len (a + 1) n)), (h a (omega arith) (omega arith)), rest)
 
 module _ (c : Config) (l : Line) where
   nothing-left : IsSound c l → frames_to_go c l ≡ 0 → HasNothing c l
@@ -75,15 +63,13 @@ module _ (c : Config) (l : Line) where
   link-none s h n few = go (tei_at (place_at n) l) refl (s.links n few)
     where
       go : (o : Option ℕ) → tei_at (place_at n) l ≡ o → IsSoundAt c n (link_at n l) o → link_to_go (terms c (service_at n) 0) (link_at n l) ≡ 0
-      go None e is_fresh = ap (link_to_go (terms c (service_at n) 0)) is_fresh
-      go (Some tei) e sound = from-nothing (terms c (service_at n) tei) (link_at n l) (sends-none (terms c (service_at n) tei) (link_at n l) sound (h.links n few tei e))
+      go o e is_fresh = grind (arith, from-nothing, sends-none)
 
   none-to-go : IsSound c l → HasNothing c l → frames_to_go c l ≡ 0
   none-to-go s h =
       let messages : length l.management.waiting ≡ 0 = ap length h.messages in
       let units : length l.units ≡ 0 = ap length h.units in
-      let all = all-none (to_go_at_link c l) 0 (link_count c) (λ j low high. link-none s h j (omega (arith, high))) in
-      omega (arith, messages, units, all)
+      omega (arith, messages, units, (all-none (to_go_at_link c l) 0 (link_count c) (λ j low high. link-none s h j (omega (arith, high)))))
 
   pub exactly-none : IsSound c l → (frames_to_go c l ≡ 0) ↔ HasNothing c l
   exactly-none s = (nothing-left s, none-to-go s)

@@ -1,9 +1,7 @@
 -- A caller that obeys the orders of a line's answers runs the timers that the line runs.
-use Rattle.laws_line.proofs.Vocabulary.{◌≡◌, ◌≢◌, ℕ, ◌+◌, ◌*◌, ◌<◌, ◌==◌, ◌&&◌, Bool, true, false, is_some, List, ◌++◌, length, get_or, set, Option, Some, None, refl, ap, sym, ◌∙◌, subst, arith, length-set, eq-eqb, true≢false, cases_eq, get_or-set_same, get_or-set_other, none-some, Service, Call, Packet, same_service, Order, Timer, T201, LinkTimer, Link, is_same, obeyed, runs, timer_at, Follows, Management, IsAt, IsSoundTable, place_of, at-off, at-within, place_of-is, Config, runs_at, is_running, Line, link_number, link_in, terms, with_link, place_at-number, service_at-number, number_within, eqb-true, T200, T203, fresh, IsSound}
-use Rattle.model_link.specs.Events as link
-use Rattle.model_link.specs.Machine as links
+use Rattle.laws_line.proofs.Vocabulary.{◌≡◌, ◌≢◌, ℕ, ◌+◌, ◌*◌, ◌<◌, ◌==◌, ◌&&◌, Bool, true, false, is_some, List, ◌++◌, length, get_or, set, Option, Some, None, refl, ap, sym, ◌∙◌, subst, arith, length-set, eq-eqb, true≢false, cases_eq, get_or-set_same, get_or-set_other, none-some, Service, Call, Packet, same_service, Order, Timer, T201, LinkTimer, Link, is_same, obeyed, runs, timer_at, Follows, Management, IsAt, IsSoundTable, place_of, at-off, at-within, place_of-is, Config, runs_at, is_running, Line, link_number, link_in, terms, with_link, place_at-number, service_at-number, number_within, eqb-true, T200, T203, fresh, IsSound, link_cleared, link_told}
 use Rattle.lapd_tei.specs.Laws as tei_laws
-use Rattle.laws_line.proofs.Obeyed.{Steers, as_it_was, steers-event, t201-obeyed, t201-leaves, obeyed-append, service-same, services-equal, both-true}
+use Rattle.laws_line.proofs.Obeyed.{Steers, as_it_was, steers-event, obeyed-append, service-same, services-equal, both-true}
 use Rattle.laws_line.proofs.Places.{has-no-place, has-place, stays-placed}
 
 -- A link's timer of the line, by its link_timer.
@@ -27,14 +25,6 @@ alike before after same k service o = grind arith
 pub same-running : (before after : Line) → after.management.places ≡ before.management.places → is_some after.management.check ≡ is_some before.management.check → after.links ≡ before.links
     → (timer : Timer) → is_running timer after ≡ is_running timer before
 same-running before after places check links timer = grind (arith, alike)
-
--- Two timers of links are different, where service or TEI are.
-other-timers : (one other : LinkTimer) (c : Config) (s s' : Service) (n n' : ℕ) → (same_service s s' && (n == n')) ≡ false
-    → is_same (timer_at (terms c s n) one) (timer_of other s' n') ≡ false
-other-timers one other c s s' n n' e = grind arith
-
-pub t201-other : (k : LinkTimer) (s : Service) (n : ℕ) → is_same T201 (timer_of k s n) ≡ false
-t201-other k s n = grind arith
 
 its-timer : (c : Config) (k : LinkTimer) (s : Service) (n : ℕ) → timer_at (terms c s n) k ≡ timer_of k s n
 its-timer c k s n = grind arith
@@ -64,9 +54,6 @@ module _ (c : Config) (l : Line) (s : IsSound c l) (service : Service) (tei plac
   abbrev pub Steered : Timer → Type 0
   Steered timer = obeyed timer (left timer (is_running timer l)) orders ≡ is_running timer (with_link n y l)
 
-  own-timer : (k : LinkTimer) → Steered (timer_of k service tei)
-  own-timer k = grind (arith, running-of, here, its-timer, there)
-
   -- another link's is left, and runs where it ran
   apart : (s' : Service) (n' : ℕ) → (same_service service s' && (tei == n')) ≡ false → (p' : ℕ) → place_of n' l.management.places ≡ Some p' → link_number p' s' ≢ n
   apart s' n' other p' e same =
@@ -80,19 +67,16 @@ module _ (c : Config) (l : Line) (s : IsSound c l) (service : Service) (tei plac
   same-place k s' n' other o e = grind (arith, get_or-set_other, apart)
 
   other-timer : (k : LinkTimer) (s' : Service) (n' : ℕ) → (same_service service s' && (tei == n')) ≡ false → Steered (timer_of k s' n')
-  other-timer k s' n' other = grind (arith, other-timers, running-of, same-place)
+  other-timer k s' n' other = grind (arith, running-of, same-place)
 
   link-timer : (k : LinkTimer) (s' : Service) (n' : ℕ) → Steered (timer_of k s' n')
-  link-timer k s' n' = grind (arith, other-timer, both-true, services-equal, eqb-true, own-timer)
+  link-timer k s' n' = grind (arith, other-timer, both-true, services-equal, eqb-true, running-of, here, its-timer, there)
 
   pub one-steered : (timer : Timer) → Steered timer
   one-steered = each-timer Steered (steers.others T201 (is_running T201 l) refl refl) link-timer
 
 pub and-false : (b : Bool) → (b && false) ≡ false
 and-false b = grind arith
-
-no-timer : (k : LinkTimer) → runs k None ≡ false
-no-timer k = refl
 
 -- three lists of orders, one after the other
 chain : (timer : Timer) (b b1 b2 b3 : Bool) (xs ys zs : List Order) → obeyed timer b xs ≡ b1 → obeyed timer b1 ys ≡ b2 → obeyed timer b2 zs ≡ b3
@@ -107,10 +91,7 @@ module _ (c : Config) (l : Line) (s : IsSound c l) (m : Management) (sound : IsS
   now = record l { management = m }
 
   leaves : (k : LinkTimer) (s' : Service) (n' : ℕ) (b : Bool) → obeyed (timer_of k s' n') b orders ≡ b
-  leaves k s' n' b = t201-leaves (timer_of k s' n') (t201-other k s' n') b before orders (is_some m.check) follows
-
-  pub t201-stays : obeyed T201 before orders ≡ is_some m.check
-  t201-stays = t201-obeyed before orders (is_some m.check) follows
+  leaves k s' n' b = grind arith
 
   -- the table stays
   pub management-stays : m.places ≡ l.management.places → (k : LinkTimer) (s' : Service) (n' : ℕ)
@@ -166,10 +147,7 @@ module _ (c : Config) (l : Line) (s : IsSound c l) (m : Management) (sound : IsS
     comes k s' n' = leaves k s' n' (is_running (timer_of k s' n') l) ∙ go (tei == n') refl
       where
         go : (b : Bool) → (tei == n') ≡ b → is_running (timer_of k s' n') l ≡ is_running (timer_of k s' n') opened
-        go true e = subst (λ n. is_running (timer_of k s' n) l ≡ is_running (timer_of k s' n) opened) (eqb-true tei n' e) (its-own k s')
-        go false e =
-            elsewhere place (Some tei) joined.is_there joined.within k s' n' (λ same. true≢false (sym (eq-eqb tei n' (some-same tei n' same)) ∙ e))
-            (λ at. none-some n' (sym joined.was_free ∙ at))
+        go b e = grind (arith, eqb-true, its-own, elsewhere, eq-eqb, some-same, none-some)
 
   -- a TEI leaves: its timers are stopped
   module _ (tei place : ℕ) (gone : tei_laws.HasLeft l.management.places m.places tei place) where
@@ -186,16 +164,16 @@ module _ (c : Config) (l : Line) (s : IsSound c l) (m : Management) (sound : IsS
     second-is = get_or-set_other l.links (link_number place Call) (link_number place Packet) fresh fresh (λ e. omega (arith, e))
 
     abbrev pub call : List Order
-    call = (links.told (terms c Call tei) link.cleared first).orders
+    call = (link_told (terms c Call tei) link_cleared first).orders
 
     abbrev pub packet : List Order
-    packet = (links.told (terms c Packet tei) link.cleared second).orders
+    packet = (link_told (terms c Packet tei) link_cleared second).orders
 
     by-call : Steers (terms c Call tei) as_it_was call first fresh
-    by-call = steers-event (terms c Call tei) link.cleared first
+    by-call = steers-event (terms c Call tei) link_cleared first
 
     by-packet : Steers (terms c Packet tei) as_it_was packet second fresh
-    by-packet = steers-event (terms c Packet tei) link.cleared second
+    by-packet = steers-event (terms c Packet tei) link_cleared second
 
     placed : place_of tei l.management.places ≡ Some place
     placed = has-place l.management.places tei place s.management.table gone.was_there
@@ -215,32 +193,17 @@ module _ (c : Config) (l : Line) (s : IsSound c l) (m : Management) (sound : IsS
     its-own-left k Call =
         chain (timer_of k Call tei) (is_running (timer_of k Call tei) l) false false false call packet orders
         (ap (λ b. obeyed (timer_of k Call tei) b call) (ran k Call)
-        ∙ subst (λ timer. obeyed timer (runs k first.running) call ≡ false) (its-timer c k Call tei) (by-call.own k ∙ no-timer k))
-        (by-packet.others (timer_of k Call tei) false (other-timers LinkTimer.T200 k c Packet Call tei tei refl) (other-timers LinkTimer.T203 k c Packet Call tei tei refl))
+        ∙ subst (λ timer. obeyed timer (runs k first.running) call ≡ false) (its-timer c k Call tei) (by-call.own k ∙ refl))
+        (by-packet.others (timer_of k Call tei) false (grind arith) (grind arith))
         (leaves k Call tei false)
-    its-own-left k Packet =
-        chain (timer_of k Packet tei) (is_running (timer_of k Packet tei) l) (is_running (timer_of k Packet tei) l) false false call packet orders
-        (by-call.others (timer_of k Packet tei) _ (other-timers LinkTimer.T200 k c Call Packet tei tei refl) (other-timers LinkTimer.T203 k c Call Packet tei tei refl))
-        (ap (λ b. obeyed (timer_of k Packet tei) b packet) (ran k Packet ∙ ap (λ (z : Link). runs k z.running) (sym second-is))
-        ∙ subst (λ timer. obeyed timer (runs k second.running) packet ≡ false) (its-timer c k Packet tei) (by-packet.own k ∙ no-timer k))
-        (leaves k Packet tei false)
+    its-own-left k Packet = grind (arith, chain, ran, second-is, its-timer, leaves)
 
     pub goes : (k : LinkTimer) (s' : Service) (n' : ℕ) → obeyed (timer_of k s' n') (is_running (timer_of k s' n') l) (call ++ packet ++ orders) ≡ is_running (timer_of k s' n') closed
     goes k s' n' = go (tei == n') refl
       where
         go : (b : Bool) → (tei == n') ≡ b → obeyed (timer_of k s' n') (is_running (timer_of k s' n') l) (call ++ packet ++ orders) ≡ is_running (timer_of k s' n') closed
-        go true e =
-            subst (λ n. obeyed (timer_of k s' n) (is_running (timer_of k s' n) l) (call ++ packet ++ orders) ≡ is_running (timer_of k s' n) closed) (eqb-true tei n' e)
-            (its-own-left k s' ∙ sym (stopped k s'))
-        go false e =
-            let b = is_running (timer_of k s' n') l in
-            let apart : (z : Service) → (same_service z s' && (tei == n')) ≡ false = λ z. ap (λ x. same_service z s' && x) e ∙ and-false (same_service z s') in
-            chain (timer_of k s' n') b b b b call packet orders
-            (by-call.others (timer_of k s' n') b (other-timers LinkTimer.T200 k c Call s' tei n' (apart Call)) (other-timers LinkTimer.T203 k c Call s' tei n' (apart Call)))
-            (by-packet.others (timer_of k s' n') b (other-timers LinkTimer.T200 k c Packet s' tei n' (apart Packet)) (other-timers LinkTimer.T203 k c Packet s' tei n' (apart Packet)))
-            (leaves k s' n' b)
-            ∙ elsewhere place None gone.is_free gone.within k s' n' (λ same. none-some n' same)
-            (λ at. true≢false (sym (eq-eqb tei n' (some-same tei n' (sym gone.was_there ∙ at))) ∙ e))
+        go true e = grind (arith, eqb-true, its-own-left, stopped)
+        go false e = grind (arith, apart, and-false, chain, leaves, elsewhere, none-some, eq-eqb, some-same)
 
     pub t201-goes : obeyed T201 before (call ++ packet ++ orders) ≡ is_some m.check
-    t201-goes = chain T201 before before before (is_some m.check) call packet orders (by-call.others T201 before refl refl) (by-packet.others T201 before refl refl) t201-stays
+    t201-goes = chain T201 before before before (is_some m.check) call packet orders (by-call.others T201 before refl refl) (by-packet.others T201 before refl refl) (grind arith)

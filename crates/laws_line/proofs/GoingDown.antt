@@ -56,13 +56,12 @@ module _ (c : Config) (l : Line) where
   deactivated-keeps service tei = go (refusal c false (Deactivate service tei) l) (place_in l tei)
     where
       go : (o : Option Refusal) (p : Option ℕ) → Keeps l (of_aim c (unless_refused o (at_deactivated service tei p)) l).line
-      go (Some why) p = same l
-      go None None = same l
       go None (Some place) = record {
         places = refl;
         quiet = λ q. record { messages = q.messages; units = q.units; check = q.check };
         begun = λ number h. begins-still l.links (link_number place service) number fresh h;
       }
+      go o p = grind (arith, same)
 
   deactivated-begins : (service : Service) (tei place : ℕ) → IsSound c l → place_in l tei ≡ Some place
       → link_at (link_number place service) (after c (request (Deactivate service tei)) l) ≡ fresh
@@ -74,9 +73,6 @@ module _ (c : Config) (l : Line) where
   each r is = grind (arith, down-keeps, deactivated-keeps)
 
 -- Which of a list is a request: the first, or one of the others.
-here-or-behind : (r x : Request) (rs : List Request) → Contains (r ∷ rs) x → (r ≡ x) ⊎ Contains rs x
-here-or-behind r x rs has = grind arith
-
 in-none : (x : Request) → Contains [] x → ⊥
 in-none x (k, few, is) = omega (arith, few)
 
@@ -107,7 +103,7 @@ module _ (c : Config) (ranged : IsInRange c) where
       ⊎_elim
       (λ here. (keeps rs (after c (request r) l) then).quiet (subst (λ r. IsQuiet (after c (request r) l)) (sym here) (down-quiet c l)))
       (λ behind. quiet rs (after c (request r) l) then behind)
-      (here-or-behind r Down rs has)
+      (grind arith)
 
   begins : (rs : List Request) (l : Line) → IsSound c l → Only rs → (service : Service) (tei place : ℕ) → place_in l tei ≡ Some place
       → Contains rs (Deactivate service tei) → link_at (link_number place service) (end rs l) ≡ fresh
@@ -116,14 +112,13 @@ module _ (c : Config) (ranged : IsInRange c) where
   begins (r ∷ rs) l s only service tei place on has =
       let then = All-tail (λ r. takes_down r ≡ true) r rs only in
       let next = after c (request r) l in
-      let first = each c l r (All-head (λ r. takes_down r ≡ true) r rs only) in
       ⊎_elim
       (λ here.
       (keeps rs next then).begun (link_number place service)
       (subst (λ r. link_at (link_number place service) (after c (request r) l) ≡ fresh) (sym here) (deactivated-begins c l service tei place s on)))
       (λ behind.
-      begins rs next (after_sound c ranged (request r) l s) then service tei place (ap (place_of tei) first.places ∙ on) behind)
-      (here-or-behind r (Deactivate service tei) rs has)
+      begins rs next (after_sound c ranged (request r) l s) then service tei place (ap (place_of tei) (each c l r (All-head (λ r. takes_down r ≡ true) r rs only)).places ∙ on) behind)
+      (grind arith)
 
 -- So after all of them.
 silent : (t : Terms) → IsSilent t fresh

@@ -1,14 +1,7 @@
 -- What the user's side hears of the network for the group: unit data, and messages of TEI management.
-use Rattle.laws_line.proofs.Vocabulary.{◌≡◌, ℕ, ◌==◌, cond, List, Option, Some, None, Ok, refl, ap, ◌∙◌, arith, le-leb, Tei, Unserved, Address, Control, Service, Parts, Spells, reading, service_of, sapi_of, reading-again, place_of-is, Config, LineTold, hears, Aim, at_none, Line, place_in, drop_for, management_sapi, to_service, addressed, message_of, aim_of_reading, heard_side, aim_of_heard, group_told, told_at, at_side, IsToGroup, dropped, after, answer, at_place, line_group_tei as group_tei, IsSound, OnlyTells, IsToManagement}
-use Rattle.model_bits.specs.Stream as stream
-use Rattle.model_link.specs.Events as link
+use Rattle.laws_line.proofs.Vocabulary.{◌≡◌, ℕ, ◌==◌, cond, List, Option, Some, None, Ok, refl, ap, ◌∙◌, arith, le-leb, Tei, Unserved, Address, Control, Service, Parts, Spells, reading, service_of, sapi_of, reading-again, place_of-is, Config, LineTold, hears, Aim, at_none, Line, place_in, drop_for, management_sapi, to_service, addressed, message_of, aim_of_reading, heard_side, aim_of_heard, group_told, told_at, at_side, IsToGroup, dropped, after, answer, at_place, line_group_tei as group_tei, IsSound, OnlyTells, IsToManagement, link_frame, LinkReceived, stream_frame}
 use Rattle.laws_line.proofs.Causing.{to-group}
 use Rattle.laws_line.proofs.Hearing.{sapi-is, by-none}
-
--- a frame that is read is this to the line
-of-reading : (c : Config) (l : Line) (parts : Parts) (octets : List ℕ) → reading (heard_side c) octets ≡ Ok parts
-    → aim_of_heard c l (stream.frame octets) ≡ at_side c parts (addressed l parts.address (link.frame parts) (message_of parts.control parts.info))
-of-reading c l parts octets read = ap (aim_of_reading c l) read
 
 -- no TEI of a line is the group's
 none-there : (c : Config) (l : Line) → IsSound c l → place_in l group_tei ≡ None
@@ -19,7 +12,7 @@ none-there c l s = go (place_in l group_tei) refl
     go (Some place) is = absurd (omega (arith, s.management.table.range place group_tei (place_of-is l.management.places group_tei place is).1))
 
 -- so a frame to the group is for no link
-for-nobody : (c : Config) (l : Line) (a : Address) (service : Service) (what : link.Received) (m : Aim) → IsSound c l → service_of a.sapi ≡ Some service → a.tei ≡ group_tei
+for-nobody : (c : Config) (l : Line) (a : Address) (service : Service) (what : LinkReceived) (m : Aim) → IsSound c l → service_of a.sapi ≡ Some service → a.tei ≡ group_tei
     → addressed l a what m ≡ drop_for Tei
 for-nobody c l a service what m s sapi group =
     ap (λ n. cond (n == management_sapi) (cond (a.tei == group_tei) m (drop_for Tei)) (to_service l a.tei what (service_of n))) (sapi-is a.sapi service sapi)
@@ -31,19 +24,16 @@ for-nobody c l a service what m s sapi group =
     by-service by = grind arith
 
 -- and a UI of a service is unit data
-group-is : (c : Config) (parts : Parts) (service : Service) (t : LineTold) → IsToGroup c parts service → told_at c c.side parts t ≡ group_told service parts.info
-group-is c parts service t to = grind (arith, le-leb)
-
 pub group-read : (c : Config) (l : Line) (parts : Parts) (octets : List ℕ) (service : Service) → IsSound c l → reading (heard_side c) octets ≡ Ok parts
-    → IsToGroup c parts service → OnlyTells (group_told service parts.info) l (after c (hears (stream.frame octets)) l) (answer c (hears (stream.frame octets)) l)
+    → IsToGroup c parts service → OnlyTells (group_told service parts.info) l (after c (hears (stream_frame octets)) l) (answer c (hears (stream_frame octets)) l)
 group-read c l parts octets service s read to =
-    by-none c l (stream.frame octets) (group_told service parts.info)
-    (of-reading c l parts octets read
-    ∙ ap (at_side c parts) (for-nobody c l parts.address service (link.frame parts) (message_of parts.control parts.info) s to.sapi to.group)
-    ∙ ap at_none (group-is c parts service (dropped Tei) to))
+    by-none c l (stream_frame octets) (group_told service parts.info)
+    ((ap (aim_of_reading c l) read)
+    ∙ ap (at_side c parts) (for-nobody c l parts.address service (link_frame parts) (message_of parts.control parts.info) s to.sapi to.group)
+    ∙ ap at_none (grind (arith, le-leb)))
 
 pub group-unit : (c : Config) (l : Line) (parts : Parts) (octets : List ℕ) (service : Service) → IsSound c l → Spells (heard_side c) parts octets
-    → IsToGroup c parts service → OnlyTells (group_told service parts.info) l (after c (hears (stream.frame octets)) l) (answer c (hears (stream.frame octets)) l)
+    → IsToGroup c parts service → OnlyTells (group_told service parts.info) l (after c (hears (stream_frame octets)) l) (answer c (hears (stream_frame octets)) l)
 group-unit c l parts octets service s spelled to = group-read c l parts octets service s (reading-again (heard_side c) parts octets spelled) to
 
 -- What is for TEI management is not served.
@@ -55,13 +45,13 @@ module _ (c : Config) (parts : Parts) (to : IsToManagement c parts) where
   by-control k = grind (arith, no-unit)
 
 pub managed-read : (c : Config) (l : Line) (parts : Parts) (octets : List ℕ) → reading (heard_side c) octets ≡ Ok parts
-    → IsToManagement c parts → OnlyTells (dropped Unserved) l (after c (hears (stream.frame octets)) l) (answer c (hears (stream.frame octets)) l)
+    → IsToManagement c parts → OnlyTells (dropped Unserved) l (after c (hears (stream_frame octets)) l) (answer c (hears (stream_frame octets)) l)
 managed-read c l parts octets read to =
-    by-none c l (stream.frame octets) (dropped Unserved)
-    (of-reading c l parts octets read
-    ∙ ap (at_side c parts) (to-group c l parts.address (link.frame parts) (message_of parts.control parts.info) to.sapi to.group)
+    by-none c l (stream_frame octets) (dropped Unserved)
+    ((ap (aim_of_reading c l) read)
+    ∙ ap (at_side c parts) (to-group c l parts.address (link_frame parts) (message_of parts.control parts.info) to.sapi to.group)
     ∙ by-control c parts to parts.control)
 
 pub managed-dropped : (c : Config) (l : Line) (parts : Parts) (octets : List ℕ) → Spells (heard_side c) parts octets
-    → IsToManagement c parts → OnlyTells (dropped Unserved) l (after c (hears (stream.frame octets)) l) (answer c (hears (stream.frame octets)) l)
+    → IsToManagement c parts → OnlyTells (dropped Unserved) l (after c (hears (stream_frame octets)) l) (answer c (hears (stream_frame octets)) l)
 managed-dropped c l parts octets spelled to = managed-read c l parts octets (reading-again (heard_side c) parts octets spelled) to

@@ -1,10 +1,6 @@
 -- What is handed on of what is heard.
-use Rattle.laws_line.proofs.Vocabulary.{arith, ◌≡◌, ℕ, Bool, true, false, cond, ◌==◌, List, [], ◌∷◌, Option, Some, None, Result, Ok, Err, is_some, refl, sym, ap, ◌∙◌, ◌⊎◌, inl, inr, list_any, option_or, All-head, All-tail, none-some, Cause, Extension, Sapi, Tei, Unserved, Address, Control, ReadFault, BadExtension, Undefined, WrongSize, Short, Long, Note, Refusal, Service, Timer, T201, Parts, reading, long_reading, service_of, reading-found, Terms, LinkTimer, IsOwn, Link, is_data, is_unit, notes-own, event-tells, contents_heard, unit_heard, data_due, unit_due, delivered-was-heard, event-unit, data-is, within-is, place_of-is, Config, hears, request, next, nothing, Aim, at_none, at_link, at_management, at_units, of_aim, at_timer, aim_of_expiry, Line, place_in, link_in, terms, unless_refused_told, drop_for, management_sapi, to_service, addressed, message_of, aim_of_reading, unless_at_link, aim_of_long, heard_side, aim_of_heard, group_told, IsToGroup, side_aims, Request, Establish, Release, Assign, Remove, SetBusy, ClearBusy, Deactivate, at_requested, at_deactivated, aim_of_request, IsInRange, sound_in, Down, at_no_link, All, T200, T203, Event, expiry, answer, unless_refused, group_tei, at_place, refusal, Data, Unit, Check, IsSound, IsFor, IsTo, contents_in, due, is_data_of, is_unit_of, IsHeard}
-use Rattle.model_bits.specs.Stream as stream
-use Rattle.model_link.specs.Events as link
-use Rattle.model_link.specs.Machine as links
+use Rattle.laws_line.proofs.Vocabulary.{arith, ◌≡◌, ℕ, Bool, true, false, cond, ◌==◌, List, [], ◌∷◌, Option, Some, None, Result, Ok, Err, is_some, refl, sym, ap, ◌∙◌, ◌⊎◌, inl, inr, list_any, option_or, All-head, All-tail, none-some, Cause, Extension, Sapi, Tei, Unserved, Address, Control, ReadFault, BadExtension, Undefined, WrongSize, Short, Long, Note, Refusal, Service, Timer, T201, Parts, reading, long_reading, service_of, reading-found, Terms, LinkTimer, IsOwn, Link, is_data, is_unit, notes-own, event-tells, contents_heard, unit_heard, data_due, unit_due, delivered-was-heard, event-unit, data-is, within-is, place_of-is, Config, hears, request, next, nothing, Aim, at_none, at_link, at_management, at_units, of_aim, at_timer, aim_of_expiry, Line, place_in, link_in, terms, unless_refused_told, drop_for, management_sapi, to_service, addressed, message_of, aim_of_reading, unless_at_link, aim_of_long, heard_side, aim_of_heard, group_told, IsToGroup, side_aims, Request, Establish, Release, Assign, Remove, SetBusy, ClearBusy, Deactivate, at_requested, at_deactivated, aim_of_request, IsInRange, sound_in, Down, at_no_link, All, T200, T203, Event, expiry, answer, unless_refused, group_tei, at_place, refusal, Data, Unit, Check, IsSound, IsFor, IsTo, contents_in, due, is_data_of, is_unit_of, IsHeard, link_undefined, link_overlong, LinkReceived, link_received, LinkEstablish, LinkRelease, link_expired, LinkClearBusy, link_frame, link_requested, LinkRequest, LinkData, link_wrong_size, LinkSetBusy, LinkEvent, link_told, stream_overlong, bits_dropped, stream_frame, StreamEvent, check, assigning, remove, tei_expiry, TeiEvent}
 use Rattle.model_link.specs.Sound as link_sound
-use Rattle.lapd_tei.specs.Events as teis
 use Rattle.laws_line.proofs.Told.{its-own}
 use Rattle.laws_line.proofs.Hearing.{sapi-is, spelled-for, read-event}
 use Rattle.laws_line.proofs.Downs.{by-down}
@@ -12,19 +8,19 @@ use Rattle.laws_line.proofs.Downs.{by-down}
 -- What a frame brings to layer 3 is handed on.
 pub due-read : (c : Config) (l : Line) (service : Service) (tei place : ℕ) (parts : Parts) (octets : List ℕ) → IsInRange c → IsSound c l
     → reading (heard_side c) octets ≡ Ok parts → IsTo l service tei place parts.address
-    → contents_in (answer c (hears (stream.frame octets)) l) ≡ due (terms c service tei) parts (link_in l service place)
+    → contents_in (answer c (hears (stream_frame octets)) l) ≡ due (terms c service tei) parts (link_in l service place)
 due-read c l service tei place parts octets ranged s read f =
     let t = terms c service tei in
-    let e = link.received (link.frame parts) in
+    let e = link_received (link_frame parts) in
     let says = (read-event c l service tei place parts octets read f).answer_is in
     let sound = sound_in c ranged l s service tei place (place_of-is l.management.places tei place f.on_line).1 in
     ap contents_in says.is ∙ says.contents
-    ∙ ap (λ d. option_or d (links.told t e (link_in l service place)).unit) (data-is t (link_in l service place) e)
+    ∙ ap (λ d. option_or d (link_told t e (link_in l service place)).unit) (data-is t (link_in l service place) e)
     ∙ ap (option_or (data_due t e (link_in l service place))) (event-unit t (link_in l service place) sound e)
 
 pub due-is : (c : Config) (l : Line) (service : Service) (tei place : ℕ) (parts : Parts) (octets : List ℕ) → IsInRange c → IsSound c l
     → IsFor c l service tei place parts octets
-    → contents_in (answer c (hears (stream.frame octets)) l) ≡ due (terms c service tei) parts (link_in l service place)
+    → contents_in (answer c (hears (stream_frame octets)) l) ≡ due (terms c service tei) parts (link_in l service place)
 due-is c l service tei place parts octets ranged s f =
     let x = spelled-for c l service tei place parts octets f in due-read c l service tei place parts octets ranged s x.0 x.1
 
@@ -41,27 +37,23 @@ own-all t (n ∷ ns) all =
     ((rw (here.0, rest.0) refl), (rw (here.1, rest.1) refl))
 
 -- What a link hands on was heard, and is noted.
-pub record FromFrame (t : Terms) (e : link.Event) (ns : List Note) (contents : List ℕ) : Type 0 where
+pub record FromFrame (t : Terms) (e : LinkEvent) (ns : List Note) (contents : List ℕ) : Type 0 where
   pub is : ((contents_heard e ≡ Some contents) × (list_any (is_data_of t.service t.tei) ns ≡ true))
       ⊎ ((unit_heard e ≡ Some contents) × (list_any (is_unit_of t.service t.tei) ns ≡ true))
 
-handed-on : (t : Terms) (l : Link) → link_sound.IsSound t l → (e : link.Event) (contents : List ℕ)
-    → option_or (links.told t e l).delivered (links.told t e l).unit ≡ Some contents → FromFrame t e (links.told t e l).notes contents
-handed-on t l s e contents h = go (links.told t e l).delivered refl h
+handed-on : (t : Terms) (l : Link) → link_sound.IsSound t l → (e : LinkEvent) (contents : List ℕ)
+    → option_or (link_told t e l).delivered (link_told t e l).unit ≡ Some contents → FromFrame t e (link_told t e l).notes contents
+handed-on t l s e contents h = go (link_told t e l).delivered refl h
   where
     ns : List Note
-    ns = (links.told t e l).notes
+    ns = (link_told t e l).notes
 
-    own : (list_any (is_data_of t.service t.tei) (links.told t e l).notes ≡ list_any is_data (links.told t e l).notes) × (list_any (is_unit_of t.service t.tei) (links.told t e l).notes ≡ list_any is_unit (links.told t e l).notes)
-    own = own-all t (links.told t e l).notes (notes-own t e l)
+    own : (list_any (is_data_of t.service t.tei) (link_told t e l).notes ≡ list_any is_data (link_told t e l).notes) × (list_any (is_unit_of t.service t.tei) (link_told t e l).notes ≡ list_any is_unit (link_told t e l).notes)
+    own = own-all t (link_told t e l).notes (notes-own t e l)
 
-    go : (d : Option (List ℕ)) → (links.told t e l).delivered ≡ d → option_or d (links.told t e l).unit ≡ Some contents → FromFrame t e (links.told t e l).notes contents
-    go (Some x) is e' =
-        let heard = delivered-was-heard t l e x is in
-        record { is = inl (heard ∙ e', own.0 ∙ (event-tells t e l).1 ∙ ap (λ o. is_some o) is) }
-    go None is e' =
-        let due : unit_due t e ≡ Some contents = sym (event-unit t l s e) ∙ e' in
-        record { is = inr (within-is t.n201 (unit_heard e) contents due, own.1 ∙ (event-tells t e l).3 ∙ ap (λ o. is_some o) e') }
+    go : (d : Option (List ℕ)) → (link_told t e l).delivered ≡ d → option_or d (link_told t e l).unit ≡ Some contents → FromFrame t e (link_told t e l).notes contents
+    go (Some x) is e' = record { is = inl ((delivered-was-heard t l e x is) ∙ e', own.0 ∙ (event-tells t e l).1 ∙ ap (λ o. is_some o) is) }
+    go None is e' = grind (arith, event-unit, within-is, event-tells, is_some)
 
 unit-noted : (service : Service) → list_any (is_unit_of service group_tei) (Note.Unit service group_tei ∷ []) ≡ true
 unit-noted service = grind arith
@@ -71,21 +63,21 @@ module _ (c : Config) (ranged : IsInRange c) (l : Line) (s : IsSound c l) where
   abbrev HandsOn : List ℕ → Aim → Type 0
   HandsOn contents aim = (of_aim c aim l).told.contents ≡ Some contents
 
-  from-link : (service : Service) (tei place : ℕ) (e : link.Event) → place_in l tei ≡ Some place → (contents : List ℕ)
+  from-link : (service : Service) (tei place : ℕ) (e : LinkEvent) → place_in l tei ≡ Some place → (contents : List ℕ)
       → HandsOn contents (at_link service tei place e)
-      → FromFrame (terms c service tei) e (links.told (terms c service tei) e (link_in l service place)).notes contents
+      → FromFrame (terms c service tei) e (link_told (terms c service tei) e (link_in l service place)).notes contents
   from-link service tei place e on contents h =
       handed-on (terms c service tei) (link_in l service place)
       (sound_in c ranged l s service tei place (place_of-is l.management.places tei place on).1) e contents h
 
   -- no contents by what is no frame of a link
-  none-by-link : (service : Service) (tei place : ℕ) (e : link.Event) → place_in l tei ≡ Some place → contents_heard e ≡ None → unit_heard e ≡ None
+  none-by-link : (service : Service) (tei place : ℕ) (e : LinkEvent) → place_in l tei ≡ Some place → contents_heard e ≡ None → unit_heard e ≡ None
       → (contents : List ℕ) → HandsOn contents (at_link service tei place e) → ⊥
   none-by-link service tei place e on no-contents no-unit contents h =
       by-case (from-link service tei place e on contents h).is
     where
-      by-case : ((contents_heard e ≡ Some contents) × (list_any (is_data_of service tei) (links.told (terms c service tei) e (link_in l service place)).notes ≡ true))
-          ⊎ ((unit_heard e ≡ Some contents) × (list_any (is_unit_of service tei) (links.told (terms c service tei) e (link_in l service place)).notes ≡ true)) → ⊥
+      by-case : ((contents_heard e ≡ Some contents) × (list_any (is_data_of service tei) (link_told (terms c service tei) e (link_in l service place)).notes ≡ true))
+          ⊎ ((unit_heard e ≡ Some contents) × (list_any (is_unit_of service tei) (link_told (terms c service tei) e (link_in l service place)).notes ≡ true)) → ⊥
       by-case o = grind (arith, none-some)
 
   abbrev Silent : Aim → Type 0
@@ -97,20 +89,20 @@ module _ (c : Config) (ranged : IsInRange c) (l : Line) (s : IsSound c l) where
   drops : (why : Cause) → Silent (drop_for why)
   drops why = dropped (drop_for why) refl
 
-  managed : (e : teis.Event) → Silent (at_management e)
+  managed : (e : TeiEvent) → Silent (at_management e)
   managed e = grind (arith, dropped)
 
-  placed : (service : Service) (tei : ℕ) (what : link.Received) → contents_heard (link.received what) ≡ None → unit_heard (link.received what) ≡ None
+  placed : (service : Service) (tei : ℕ) (what : LinkReceived) → contents_heard (link_received what) ≡ None → unit_heard (link_received what) ≡ None
       → (o : Option ℕ) → place_in l tei ≡ o → Silent (at_place service tei what o)
   placed service tei what no-contents no-unit None e = drops Tei
-  placed service tei what no-contents no-unit (Some place) e = none-by-link service tei place (link.received what) e no-contents no-unit
+  placed service tei what no-contents no-unit (Some place) e = none-by-link service tei place (link_received what) e no-contents no-unit
 
-  sent-to : (tei : ℕ) (what : link.Received) → contents_heard (link.received what) ≡ None → unit_heard (link.received what) ≡ None
+  sent-to : (tei : ℕ) (what : LinkReceived) → contents_heard (link_received what) ≡ None → unit_heard (link_received what) ≡ None
       → (o : Option Service) → Silent (to_service l tei what o)
   sent-to tei what no-contents no-unit None = drops Sapi
   sent-to tei what no-contents no-unit (Some service) = placed service tei what no-contents no-unit (place_in l tei) refl
 
-  not-read : (address : Address) (what : link.Received) (m : Aim) → Silent m → contents_heard (link.received what) ≡ None → unit_heard (link.received what) ≡ None
+  not-read : (address : Address) (what : LinkReceived) (m : Aim) → Silent m → contents_heard (link_received what) ≡ None → unit_heard (link_received what) ≡ None
       → Silent (addressed l address what m)
   not-read address what m silent no-contents no-unit = go (address.sapi == management_sapi) (address.tei == group_tei)
     where
@@ -119,50 +111,34 @@ module _ (c : Config) (ranged : IsInRange c) (l : Line) (s : IsSound c l) where
       go true false = drops Tei
       go false group = sent-to address.tei what no-contents no-unit (service_of address.sapi)
 
-  unless-silent : (aim : Aim) → Silent aim → Silent (unless_at_link aim)
-  unless-silent aim x = grind (arith, drops)
-
   too-long : (r : Result Long ReadFault) → Silent (aim_of_long l r)
-  too-long (Ok (Long.Information address)) = not-read address link.overlong (drop_for Unserved) (drops Unserved) refl refl
-  too-long (Ok (Long.Unnumbered address)) =
-      unless-silent (addressed l address link.overlong (drop_for Unserved)) (not-read address link.overlong (drop_for Unserved) (drops Unserved) refl refl)
+  too-long (Ok (Long.Information address)) = not-read address link_overlong (drop_for Unserved) (drops Unserved) refl refl
+  too-long (Ok (Long.Unnumbered address)) = grind (arith, drops, not-read)
   too-long (Err BadExtension) = drops Extension
-  too-long (Err (Undefined address)) = not-read address link.undefined (drop_for Unserved) (drops Unserved) refl refl
-  too-long (Err (WrongSize address)) = not-read address link.wrong_size (drop_for Unserved) (drops Unserved) refl refl
+  too-long (Err (Undefined address)) = not-read address link_undefined (drop_for Unserved) (drops Unserved) refl refl
+  too-long (Err (WrongSize address)) = not-read address link_wrong_size (drop_for Unserved) (drops Unserved) refl refl
   too-long (Err Short) = drops Unserved
-
-  message-silent : (k : Control) (info : List ℕ) → Silent (message_of k info)
-  message-silent k info = grind (arith, managed, drops)
 
   -- no contents by what is not heard
   timer-silent : (service : Service) (tei : ℕ) (timer : LinkTimer) (o : Option ℕ) → place_in l tei ≡ o → Silent (at_timer service tei timer o)
   timer-silent service tei timer None e = dropped (at_none nothing) refl
-  timer-silent service tei timer (Some place) e = none-by-link service tei place (link.expired timer) e refl refl
+  timer-silent service tei timer (Some place) e = none-by-link service tei place (link_expired timer) e refl refl
 
   pub expiry-silent : (timer : Timer) → Silent (aim_of_expiry timer l)
   expiry-silent (T200 service tei) = timer-silent service tei LinkTimer.T200 (place_in l tei) refl
   expiry-silent (T203 service tei) = timer-silent service tei LinkTimer.T203 (place_in l tei) refl
-  expiry-silent T201 = managed teis.expiry
+  expiry-silent T201 = managed tei_expiry
 
-  asked-silent : (service : Service) (tei : ℕ) (what : link.Request) (o : Option ℕ) → place_in l tei ≡ o → Silent (at_requested service tei what o)
+  asked-silent : (service : Service) (tei : ℕ) (what : LinkRequest) (o : Option ℕ) → place_in l tei ≡ o → Silent (at_requested service tei what o)
   asked-silent service tei what None e = dropped (at_none nothing) refl
-  asked-silent service tei what (Some place) e = none-by-link service tei place (link.requested what false) e refl refl
+  asked-silent service tei what (Some place) e = none-by-link service tei place (link_requested what false) e refl refl
 
   deactivated-silent : (service : Service) (tei : ℕ) (o : Option ℕ) → place_in l tei ≡ o → Silent (at_deactivated service tei o)
   deactivated-silent service tei o e = grind (arith, dropped, none-by-link)
 
   pub request-silent : (r : Request) → Silent (aim_of_request r l)
-  request-silent (Establish service tei) = asked-silent service tei link.Establish (place_in l tei) refl
-  request-silent (Release service tei) = asked-silent service tei link.Release (place_in l tei) refl
-  request-silent (Data service tei contents) = asked-silent service tei (link.Data contents) (place_in l tei) refl
-  request-silent (Unit service tei contents) = dropped (at_units (record { service = service; tei = tei; contents = contents })) refl
-  request-silent (Assign tei) = managed (teis.assign tei)
-  request-silent (Remove tei) = managed (teis.remove tei)
-  request-silent (Check tei) = managed (teis.check tei)
-  request-silent (SetBusy service tei) = asked-silent service tei link.SetBusy (place_in l tei) refl
-  request-silent (ClearBusy service tei) = asked-silent service tei link.ClearBusy (place_in l tei) refl
-  request-silent (Deactivate service tei) = deactivated-silent service tei (place_in l tei) refl
-  request-silent Down = dropped at_no_link (by-down c l (λ f. f.told.contents ≡ None) refl)
+  request-silent (Establish service tei) = asked-silent service tei LinkEstablish (place_in l tei) refl
+  request-silent r = grind (arith, asked-silent, dropped, managed, deactivated-silent, by-down)
 
   -- contents by a frame that was heard
   pub record Heard (octets contents : List ℕ) (ns : List Note) : Type 0 where
@@ -172,7 +148,7 @@ module _ (c : Config) (ranged : IsInRange c) (l : Line) (s : IsSound c l) where
     pub place : ℕ
     pub read : reading (heard_side c) octets ≡ Ok parts
     pub whose : IsTo l service tei place parts.address
-    pub is : FromFrame (terms c service tei) (link.received (link.frame parts)) ns contents
+    pub is : FromFrame (terms c service tei) (link_received (link_frame parts)) ns contents
 
   -- or by one to the group
   pub record FromGroup (octets contents : List ℕ) (ns : List Note) : Type 0 where
@@ -195,14 +171,14 @@ module _ (c : Config) (ranged : IsInRange c) (l : Line) (s : IsSound c l) where
   by-reading : (octets : List ℕ) (r : Result Parts ReadFault) → reading (heard_side c) octets ≡ r → Hears octets (aim_of_reading c l r)
   by-reading octets (Ok parts) read =
       side_aims c parts (Hears octets) (silently octets (drop_for Unserved) (drops Unserved)) to-group
-      (addressed l parts.address (link.frame parts) (message_of parts.control parts.info))
+      (addressed l parts.address (link_frame parts) (message_of parts.control parts.info))
       (go (parts.address.sapi == management_sapi) (parts.address.tei == group_tei))
     where
       to-group : (service : Service) → IsToGroup c parts service → Hears octets (at_none (group_told service parts.info))
       to-group service to contents h = grind (arith, unit-noted)
 
       at-its-place : (service : Service) → service_of parts.address.sapi ≡ Some service → (o : Option ℕ) → place_in l parts.address.tei ≡ o
-          → Hears octets (at_place service parts.address.tei (link.frame parts) o)
+          → Hears octets (at_place service parts.address.tei (link_frame parts) o)
       at-its-place service sapi None e = silently octets (drop_for Tei) (drops Tei)
       at-its-place service sapi (Some place) e = λ contents h. inl (record {
         parts = parts;
@@ -211,30 +187,30 @@ module _ (c : Config) (ranged : IsInRange c) (l : Line) (s : IsSound c l) where
         place = place;
         read = read;
         whose = record { sapi = sapi-is parts.address.sapi service sapi; tei_is = refl; on_line = e };
-        is = from-link service parts.address.tei place (link.received (link.frame parts)) e contents h;
+        is = from-link service parts.address.tei place (link_received (link_frame parts)) e contents h;
       })
 
-      of-service : (o : Option Service) → service_of parts.address.sapi ≡ o → Hears octets (to_service l parts.address.tei (link.frame parts) o)
+      of-service : (o : Option Service) → service_of parts.address.sapi ≡ o → Hears octets (to_service l parts.address.tei (link_frame parts) o)
       of-service None e = silently octets (drop_for Sapi) (drops Sapi)
       of-service (Some service) e = at-its-place service e (place_in l parts.address.tei) refl
 
-      go : (known group : Bool) → Hears octets (cond known (cond group (message_of parts.control parts.info) (drop_for Tei)) (to_service l parts.address.tei (link.frame parts) (service_of parts.address.sapi)))
-      go true true = silently octets (message_of parts.control parts.info) (message-silent parts.control parts.info)
+      go : (known group : Bool) → Hears octets (cond known (cond group (message_of parts.control parts.info) (drop_for Tei)) (to_service l parts.address.tei (link_frame parts) (service_of parts.address.sapi)))
+      go true true = silently octets (message_of parts.control parts.info) (grind (arith, managed, drops))
       go true false = silently octets (drop_for Tei) (drops Tei)
       go false group = of-service (service_of parts.address.sapi) refl
   by-reading octets (Err BadExtension) read = silently octets (drop_for Extension) (drops Extension)
-  by-reading octets (Err (Undefined address)) read = silently octets (addressed l address link.undefined (drop_for Unserved)) (not-read address link.undefined (drop_for Unserved) (drops Unserved) refl refl)
-  by-reading octets (Err (WrongSize address)) read = silently octets (addressed l address link.wrong_size (drop_for Unserved)) (not-read address link.wrong_size (drop_for Unserved) (drops Unserved) refl refl)
+  by-reading octets (Err (Undefined address)) read = silently octets (addressed l address link_undefined (drop_for Unserved)) (not-read address link_undefined (drop_for Unserved) (drops Unserved) refl refl)
+  by-reading octets (Err (WrongSize address)) read = silently octets (addressed l address link_wrong_size (drop_for Unserved)) (not-read address link_wrong_size (drop_for Unserved) (drops Unserved) refl refl)
   by-reading octets (Err Short) read = silently octets (drop_for Unserved) (drops Unserved)
 
-  pub heard-by : (e : stream.Event) (contents : List ℕ) → HandsOn contents (aim_of_heard c l e)
+  pub heard-by : (e : StreamEvent) (contents : List ℕ) → HandsOn contents (aim_of_heard c l e)
       → let ns = (of_aim c (aim_of_heard c l e) l).told.notes in
-      (octets : List ℕ) × (e ≡ stream.frame octets) × (Heard octets contents ns ⊎ FromGroup octets contents ns)
-  heard-by (stream.frame octets) contents h = (octets, refl, by-reading octets (reading (heard_side c) octets) refl contents h)
-  heard-by (stream.overlong head) contents h = absurd (too-long (long_reading (heard_side c) head) contents h)
-  heard-by (stream.dropped cause) contents h = absurd (dropped (drop_for cause) refl contents h)
+      (octets : List ℕ) × (e ≡ stream_frame octets) × (Heard octets contents ns ⊎ FromGroup octets contents ns)
+  heard-by (stream_frame octets) contents h = (octets, refl, by-reading octets (reading (heard_side c) octets) refl contents h)
+  heard-by (stream_overlong head) contents h = absurd (too-long (long_reading (heard_side c) head) contents h)
+  heard-by (bits_dropped cause) contents h = absurd (dropped (drop_for cause) refl contents h)
 
-heard-as : (c : Config) (l : Line) (e : stream.Event) (contents : List ℕ) (ranged : IsInRange c) (s : IsSound c l) (octets : List ℕ) → e ≡ stream.frame octets
+heard-as : (c : Config) (l : Line) (e : StreamEvent) (contents : List ℕ) (ranged : IsInRange c) (s : IsSound c l) (octets : List ℕ) → e ≡ stream_frame octets
     → let noted = (of_aim c (aim_of_heard c l e) l).told.notes in
     Heard c ranged l s octets contents noted ⊎ FromGroup c ranged l s octets contents noted → IsHeard c l (hears e) (answer c (hears e) l) contents
 unfolding answer

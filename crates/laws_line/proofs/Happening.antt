@@ -1,11 +1,7 @@
 -- What an event of a line is to one of its links.
-use Rattle.laws_line.proofs.Vocabulary.{◌≡◌, ◌≢◌, ℕ, ◌<◌, Bool, true, false, ◌==◌, length, get_or, set, Option, Some, None, refl, sym, ◌∙◌, subst, arith, eq-eqb, true≢false, IfSome, inl, inr, ◌⊎◌, ⊎_elim, get_or-set_same, get_or-set_other, Refusal, Service, Call, Packet, Link, IsAt, Change, Gained, Left, Config, hears, request, next, Answer, told, is_change_at, Aim, at_link, at_management, told_of_management, of_change, of_aim, aim_of_expiry, Line, link_number, service_at, place_at, tei_at, link_at, link_in, terms, link_count, unless_refused_told, aim_of_heard, Taken, taken, aim_of_request, IsProper, place_at-number, service_at-number, heard_proper, expiry_proper, request_proper, taken_walk, next_walk, at_no_link, eqb-true, option_map, fresh, Event, expiry, after, answer, unless_refused, refusal, IsSound, IsMoved, IsBy, IsDeactivated, IsOf}
-use Rattle.model_link.specs.Events as link
-use Rattle.model_link.specs.Machine as links
-use Rattle.lapd_tei.specs.Events as teis
+use Rattle.laws_line.proofs.Vocabulary.{◌≡◌, ◌≢◌, ℕ, ◌<◌, Bool, true, false, ◌==◌, length, get_or, set, Option, Some, None, refl, sym, ◌∙◌, subst, arith, eq-eqb, true≢false, IfSome, inl, inr, ◌⊎◌, ⊎_elim, get_or-set_same, get_or-set_other, Refusal, Service, Call, Packet, Link, IsAt, Change, Gained, Left, Config, hears, request, next, Answer, told, is_change_at, Aim, at_link, at_management, told_of_management, of_change, of_aim, aim_of_expiry, Line, link_number, service_at, place_at, tei_at, link_at, link_in, terms, link_count, unless_refused_told, aim_of_heard, Taken, taken, aim_of_request, IsProper, place_at-number, service_at-number, heard_proper, expiry_proper, request_proper, taken_walk, next_walk, at_no_link, eqb-true, option_map, fresh, Event, expiry, after, answer, unless_refused, refusal, IsSound, IsMoved, IsBy, IsDeactivated, IsOf, link_cleared, link_offer, LinkEvent, link_after, tei_after, tei_told, TeiEvent, begin_here, begin_away}
 use Rattle.lapd_tei.specs.Laws as tei_laws
 use Rattle.lapd_tei.proofs.LawLemmas as tei_lemmas
-use Rattle.model_line.proofs.LinksSound.{begin_here, begin_away}
 use Rattle.laws_line.proofs.Tied.{Ties, heard-ties, expiry-ties, request-ties}
 use Rattle.laws_line.proofs.Told.{moved}
 use Rattle.laws_line.proofs.Downs.{by-down}
@@ -21,9 +17,9 @@ pub record IsGivenUp (service : Service) (number : ℕ) (e : Event) (before : Li
 pub record HasOne (c : Config) (service : Service) (number : ℕ) (e : Event) (before after : Line) (answer : Answer) : Type 0 where
   pub tei : ℕ
   pub on_line : tei_at (place_at number) before ≡ Some tei
-  pub event : link.Event
+  pub event : LinkEvent
   pub by : IsBy c e answer service tei event
-  pub is : link_at number after ≡ links.after (terms c service tei) event (link_at number before)
+  pub is : link_at number after ≡ link_after (terms c service tei) event (link_at number before)
 
 abbrev pub Happens : Config → ℕ → Event → Line → Line → Answer → Type 0
 Happens c number e before after answer =
@@ -32,19 +28,19 @@ Happens c number e before after answer =
     ⊎ HasOne c (service_at number) number e before after answer
 
 -- An event of a link is by what comes, or it is deactivated.
-pub by-or-down : (c : Config) (e : Event) (a : Answer) (service : Service) (tei : ℕ) (le : link.Event)
-    → IsOf c e a service tei le → IsBy c e a service tei le ⊎ ((le ≡ link.cleared) × IsDeactivated e a service tei)
+pub by-or-down : (c : Config) (e : Event) (a : Answer) (service : Service) (tei : ℕ) (le : LinkEvent)
+    → IsOf c e a service tei le → IsBy c e a service tei le ⊎ ((le ≡ link_cleared) × IsDeactivated e a service tei)
 by-or-down c e a service tei le by = grind arith
 
 module _ (c : Config) (l : Line) (s : IsSound c l) (number : ℕ) (few : number < link_count c) (e : Event) (a : Answer) where
   abbrev Goes : Line → Type 0
   Goes l' = Happens c number e l l' a
 
-  at-its-link : (service : Service) (tei place : ℕ) (le : link.Event) → IsAt l.management.places place tei
+  at-its-link : (service : Service) (tei place : ℕ) (le : LinkEvent) → IsAt l.management.places place tei
       → IsOf c e a service tei le → Goes (of_aim c (at_link service tei place le) l).line
   at-its-link service tei place le at by = go (link_number place service == number) refl
     where
-      ended : link_number place service ≡ number → le ≡ link.cleared → IsDeactivated e a service tei
+      ended : link_number place service ≡ number → le ≡ link_cleared → IsDeactivated e a service tei
           → IsGivenUp service (link_number place service) e l a × (link_at (link_number place service) (of_aim c (at_link service tei place le) l).line ≡ fresh)
       ended same is down = grind (arith, place_at-number, get_or-set_same)
 
@@ -66,23 +62,21 @@ module _ (c : Config) (l : Line) (s : IsSound c l) (number : ℕ) (few : number 
             subst (λ k. link_at k (of_aim c (at_link service tei place le) l).line ≡ fresh) at_number down.1,
           )))
           (by-or-down c e a service tei le by)
-      go false other =
-          let apart : number ≢ link_number place service = λ same. true≢false (sym (eq-eqb (link_number place service) number (sym same)) ∙ other) in
-          inl (get_or-set_other l.links (link_number place service) number (links.after (terms c service tei) le (link_in l service place)) fresh apart)
+      go false other = grind (arith, eq-eqb, get_or-set_other)
 
   -- a TEI comes to a place, or leaves it
-  at-its-place : (me : teis.Event) (o : Option Change) (place : ℕ)
+  at-its-place : (me : TeiEvent) (o : Option Change) (place : ℕ)
       → is_change_at (place_at number) o ≡ (place == place_at number) → place < length l.management.places
-      → tei_laws.Moves l.management.places o (teis.after me l.management).places → (l' : Line)
+      → tei_laws.Moves l.management.places o (tei_after me l.management).places → (l' : Line)
       → l'.links ≡ set (set l.links (link_number place Call) fresh) (link_number place Packet) fresh
-      → l'.management.places ≡ (teis.after me l.management).places → (b : Bool) → (place == place_at number) ≡ b → Goes l'
+      → l'.management.places ≡ (tei_after me l.management).places → (b : Bool) → (place == place_at number) ≡ b → Goes l'
   at-its-place me o place at within moves l' ls ps b same = grind (arith, moved, begin_here, eqb-true, begin_away, eq-eqb)
 
-  managed : (me : teis.Event) → tei_laws.IsInRange me → Goes (of_aim c (at_management me) l).line
-  managed me fits = go (teis.told me l.management).change (tei_lemmas.changes_are_told me l.management fits s.management)
+  managed : (me : TeiEvent) → tei_laws.IsInRange me → Goes (of_aim c (at_management me) l).line
+  managed me fits = go (tei_told me l.management).change (tei_lemmas.changes_are_told me l.management fits s.management)
     where
-      go : (o : Option Change) → tei_laws.Moves l.management.places o (teis.after me l.management).places
-          → Goes (of_change c o (told_of_management (teis.told me l.management)) (record l { management = teis.after me l.management })).line
+      go : (o : Option Change) → tei_laws.Moves l.management.places o (tei_after me l.management).places
+          → Goes (of_change c o (told_of_management (tei_told me l.management)) (record l { management = tei_after me l.management })).line
       go None m = inl refl
       go (Some (Gained tei place)) m = at-its-place me (Some (Gained tei place)) place refl m.within m _ refl refl (place == place_at number) refl
       go (Some (Left tei place)) m = at-its-place me (Some (Left tei place)) place refl m.within m _ refl refl (place == place_at number) refl
@@ -98,17 +92,13 @@ module _ (c : Config) (l : Line) (s : IsSound c l) (number : ℕ) where
   abbrev Offered : Link → Type 0
   Offered x =
       (x ≡ link_at number l)
-      ⊎ ((tei : ℕ) × (tei_at (place_at number) l ≡ Some tei) × (x ≡ links.after (terms c (service_at number) tei) link.offer (link_at number l)))
+      ⊎ ((tei : ℕ) × (tei_at (place_at number) l ≡ Some tei) × (x ≡ link_after (terms c (service_at number) tei) link_offer (link_at number l)))
 
   abbrev Fate : Taken → Type 0
   Fate t = Offered (link_at number t.line)
 
-  given-at : (n tei : ℕ) → n < link_count c → tei_at (place_at n) l ≡ Some tei
-      → Offered (get_or (set l.links n (links.after (terms c (service_at n) tei) link.offer (link_at n l))) number fresh)
-  given-at n tei few at = grind (arith, eqb-true, get_or-set_same, get_or-set_other, eq-eqb)
-
   taken-fate : IfSome (taken c l) Fate
-  taken-fate = taken_walk c l s Fate (λ m ms e. inl refl) (λ u us e. inl refl) (λ n tei few at sound g e. given-at n tei few at)
+  taken-fate = taken_walk c l s Fate (λ m ms e. inl refl) (λ u us e. inl refl) (λ n tei few at sound g e. grind (arith, eqb-true, get_or-set_same, get_or-set_other, eq-eqb))
 
   pub next-happens : Happens c number next l (after c next l) (answer c next l)
   unfolding after answer

@@ -39,25 +39,13 @@ module _ (count turn : ℕ) (low : turn ≤ count) where
   nearer : (number other j : ℕ) → number < count → IsAtPlace count turn j other → j < way_round count turn number → way_round count (other + 1) number + 1 ≤ way_round count turn number
   nearer number other j few at less = grind (arith, nat_le, leb-true, leb-false)
 
-  -- a whole round is before the link that was served last
-  pub served-last : (number : ℕ) → number < count → way_round count (number + 1) number + 1 ≡ count
-  served-last number few = grind (arith, nat_le, leb-true)
-
   -- The link that is served comes no later in the round than one that has something to give.
   pub comes-first : (P : ℕ → Type 0) (number other : ℕ) (before behind : List ℕ) → number < count → ns ≡ before ++ other ∷ behind → All P before → (P number → ⊥)
       → (other ≡ number) ⊎ (way_round count (other + 1) number + 1 ≤ way_round count turn number)
   comes-first P number other before behind few place passed not =
       let at : get_or ns (length before) 0 ≡ other = ap (λ xs. get_or xs (length before) 0) place ∙ get_or-append_seam before other behind 0 in
       let total : length ns ≡ length before + length (other ∷ behind) = ap length place ∙ length-append before (other ∷ behind) in
-      let n = whole in
-      let small : length before < count = omega (arith, total, n) in
+      let small : length before < count = omega (arith, total, whole) in
       let mine = place-is number few in
       let here : IsAtPlace count turn (length before) other = subst (IsAtPlace count turn (length before)) at (at-place (length before) small) in
-      ⊎_elim
-      (λ less. absurd (not (subst P (sym (ap (λ xs. get_or xs (way_round count turn number) 0) place ∙ get_or_append_left before (other ∷ behind) 0 (way_round count turn number) less) ∙ mine)
-      (All-get_or P before (way_round count turn number) 0 less passed))))
-      (λ more. ⊎_elim
-      (λ less. inr (nearer number other (length before) few here less))
-      (λ same. let equal : length before ≡ way_round count turn number = omega (arith, more, same) in inl (sym at ∙ ap (λ i. get_or ns i 0) equal ∙ mine))
-      (cases_lt (length before) (way_round count turn number)))
-      (cases_lt (way_round count turn number) (length before))
+      grind (arith, get_or_append_left, nearer, cases_lt)

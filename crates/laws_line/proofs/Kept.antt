@@ -1,11 +1,7 @@
 -- What an event makes of the contents of a link of a line.
-use Rattle.laws_line.proofs.Vocabulary.{◌≡◌, ◌≢◌, ℕ, ◌<◌, zero, suc, Bool, true, false, cond, ◌==◌, List, [], ◌∷◌, length, get_or, set, Option, Some, None, refl, sym, ◌∙◌, subst, arith, eq-eqb, true≢false, IfSome, option_map_or, get_or-set_same, get_or-set_other, Service, Call, Packet, Link, Terms, Share, share, Comes, event-done, same-comes, restarted, offer-leaves, Moves, Management, IsAt, Places, Change, Gained, Left, Config, hears, request, next, LineTold, is_change_at, Aim, at_link, at_management, told_of_management, of_change, of_aim, Line, link_number, service_at, place_at, link_at, link_in, terms, link_count, aim_of_heard, aim_of_expiry, Taken, taken, line_of, aim_of_request, IsInRange, IsProper, sound_in, taken_walk, next_walk, heard_proper, expiry_proper, request_proper, at_no_link, eqb-true, fresh, Event, expiry, after, unless_refused, refusal, IsSound, no_share, ending, share_aimed, share_of}
-use Rattle.model_link.specs.Events as link
-use Rattle.model_link.specs.Machine as links
-use Rattle.lapd_tei.specs.Events as teis
+use Rattle.laws_line.proofs.Vocabulary.{◌≡◌, ◌≢◌, ℕ, ◌<◌, zero, suc, Bool, true, false, cond, ◌==◌, List, [], ◌∷◌, length, get_or, set, Option, Some, None, refl, sym, ◌∙◌, subst, arith, eq-eqb, true≢false, IfSome, option_map_or, get_or-set_same, get_or-set_other, Service, Call, Packet, Link, Terms, Share, share, Comes, event-done, same-comes, restarted, offer-leaves, Moves, Management, IsAt, Places, Change, Gained, Left, Config, hears, request, next, LineTold, is_change_at, Aim, at_link, at_management, told_of_management, of_change, of_aim, Line, link_number, service_at, place_at, link_at, link_in, terms, link_count, aim_of_heard, aim_of_expiry, Taken, taken, line_of, aim_of_request, IsInRange, IsProper, sound_in, taken_walk, next_walk, heard_proper, expiry_proper, request_proper, at_no_link, eqb-true, fresh, Event, expiry, after, unless_refused, refusal, IsSound, no_share, ending, share_aimed, share_of, link_offer, LinkEvent, link_after, tei_told, tei_after, begin_here, begin_away}
 use Rattle.lapd_tei.proofs.LawLemmas as tei_lemmas
 use Rattle.laws_line.proofs.Downs.{by-down}
-use Rattle.model_line.proofs.LinksSound.{begin_here, begin_away}
 
 -- What a share leads to, of links.
 abbrev pub Goes : Share → Link → Link → Type 0
@@ -21,14 +17,14 @@ module _ (c : Config) (ranged : IsInRange c) (l : Line) (s : IsSound c l) (numbe
   abbrev pub Parts : Aim → Type 0
   Parts aim = Goes (share_aimed c number l aim) (link_at number l) (link_at number (of_aim c aim l).line)
 
-  at_its_link : (service : Service) (tei place : ℕ) (e : link.Event) → IsAt l.management.places place tei → Parts (at_link service tei place e)
+  at_its_link : (service : Service) (tei place : ℕ) (e : LinkEvent) → IsAt l.management.places place tei → Parts (at_link service tei place e)
   at_its_link service tei place e at = go (link_number place service == number) refl
     where
       t : Terms
       t = terms c service tei
 
       x : Link
-      x = links.after t e (link_in l service place)
+      x = link_after t e (link_in l service place)
 
       go : (b : Bool) → (link_number place service == number) ≡ b
           → Goes (cond b (share t e (link_in l service place)) no_share) (link_at number l) (get_or (set l.links (link_number place service) x) number fresh)
@@ -45,9 +41,7 @@ module _ (c : Config) (ranged : IsInRange c) (l : Line) (s : IsSound c l) (numbe
 
   place_parts : (place : ℕ) → place < length l.management.places → (b : Bool) → (place == place_at number) ≡ b
       → Goes (cond b ending no_share) (link_at number l) (get_or (set (set l.links (link_number place Call) fresh) (link_number place Packet) fresh) number fresh)
-  place_parts place within true here =
-      let at = eqb-true place (place_at number) here in
-      begins (link_at number l) _ (begin_here l.links place number (sym at) (omega (arith, within, s.places, s.count)))
+  place_parts place within true here = grind (arith, eqb-true, begins, begin_here)
   place_parts place within false away =
       let apart : place_at number ≢ place = λ is. true≢false (sym (eq-eqb place (place_at number) (sym is)) ∙ away) in
       stays (link_at number l) _ (begin_away l.links place number apart)
@@ -61,8 +55,8 @@ module _ (c : Config) (ranged : IsInRange c) (l : Line) (s : IsSound c l) (numbe
   pub aim_parts : (aim : Aim) → IsProper c l aim → Parts aim
   aim_parts (at_link service tei place e) proper = at_its_link service tei place e proper
   aim_parts (at_management e) proper =
-      change_parts (teis.told e l.management).change (told_of_management (teis.told e l.management)) (teis.after e l.management).places
-      (teis.after e l.management) (tei_lemmas.changes_are_told e l.management proper s.management)
+      change_parts (tei_told e l.management).change (told_of_management (tei_told e l.management)) (tei_after e l.management).places
+      (tei_after e l.management) (tei_lemmas.changes_are_told e l.management proper s.management)
   aim_parts at_no_link proper = stays (link_at number l) _ (by-down c l (λ f. link_at number f.line ≡ link_at number l) refl)
   aim_parts other proper = stays (link_at number l) (link_at number l) refl
 
@@ -84,7 +78,7 @@ set_keeps (y ∷ ys) (suc n) (suc number) x h = set_keeps ys n number x h
 abbrev Keeps : Line → ℕ → Taken → Type 0
 Keeps l number t = Same (link_at number l) (link_at number t.line)
 
-offer-same : (t : Terms) (l : Link) → Same l (links.after t link.offer l)
+offer-same : (t : Terms) (l : Link) → Same l (link_after t link_offer l)
 offer-same t l = let x = offer-leaves t l in record { contents = x.contents; acknowledged = x.acknowledged }
 
 taken_keeps : (c : Config) (l : Line) → IsSound c l → (number : ℕ) → IfSome (taken c l) (Keeps l number)
@@ -92,7 +86,7 @@ taken_keeps c l s number =
     taken_walk c l s (Keeps l number) (λ m ms e. same (link_at number l)) (λ u us e. same (link_at number l))
     (λ n tei few at sound g e.
     let t = terms c (service_at n) tei in
-    set_keeps l.links n number (links.after t link.offer (link_at n l)) (offer-same t (link_at n l)))
+    set_keeps l.links n number (link_after t link_offer (link_at n l)) (offer-same t (link_at n l)))
 
 next_keeps : (c : Config) (l : Line) → IsSound c l → (number : ℕ) → Same (link_at number l) (link_at number (option_map_or line_of (taken c l) l))
 next_keeps c l s number = next_walk c l (Keeps l number) (λ o m. Same (link_at number l) (link_at number m)) (taken_keeps c l s number) (same (link_at number l)) (λ t h. h)
@@ -108,6 +102,5 @@ pub event-goes : (c : Config) → IsInRange c → (e : Event) (l : Line) (number
 unfolding after
 event-goes c ranged (hears e) l number s few = aim_parts c ranged l s number few (aim_of_heard c l e) (heard_proper c l e)
 event-goes c ranged (expiry timer) l number s few = aim_parts c ranged l s number few (aim_of_expiry timer l) (expiry_proper c l timer)
-event-goes c ranged (request r) l number s few =
-    aim_parts c ranged l s number few (unless_refused (refusal c false r l) (aim_of_request r l)) (request_proper c l r)
+event-goes c ranged (request r) l number s few = grind (arith, aim_parts, request_proper)
 event-goes c ranged next l number s few = stays_same (link_at number l) _ (next_keeps c l s number)

@@ -1,9 +1,5 @@
 -- By notes layer 3 knows which links are up: each event.
-use Rattle.laws_line.proofs.Vocabulary.{◌≡◌, ℕ, ◌==◌, ◌&&◌, Bool, true, false, cond, List, [], ◌++◌, set, get_or, Option, Some, None, refl, ap, sym, ◌∙◌, subst, arith, eq-eqb, true≢false, inl, inr, next_walk, fold, option_map_or, get_or-set_other, fold-append, none-some, Note, Refusal, Service, Call, Packet, same_service, T201, is_up, Link, offer_among, ControlFrame, Terms, LinkTimer, layer_3_knows, notes-own, Moves, Management, IsAt, IsSoundTable, is_on, place_of, Change, Gained, Left, at-off, place_of-is, Config, hears, request, next, at_link, at_management, at_units, told_of_management, of_change, of_aim, at_timer, Line, link_number, service_at, place_at, place_in, link_at, link_in, terms, with_link, fresh_line, unless_refused_told, aim_of_heard, Taken, taken, line_of, with_unit, with_given_frame, Request, Establish, Release, Assign, Remove, SetBusy, ClearBusy, Deactivate, at_requested, at_deactivated, aim_of_request, IsProper, heard_aims, request_proper, Down, eqb-true, T200, T203, fresh, LinkCourse as Course, begun, Event, expiry, notes_of, after, answer, unless_refused, with_message, refusal, Data, Unit, Check, IsSound, up_by_note, taken_for_up, link_is_up, is_up_of}
-use Rattle.model_bits.specs.Stream as stream
-use Rattle.model_link.specs.Events as link
-use Rattle.model_link.specs.Machine as links
-use Rattle.lapd_tei.specs.Events as teis
+use Rattle.laws_line.proofs.Vocabulary.{◌≡◌, ℕ, ◌==◌, ◌&&◌, Bool, true, false, cond, List, [], ◌++◌, set, get_or, Option, Some, None, refl, ap, sym, ◌∙◌, subst, arith, eq-eqb, true≢false, inl, inr, next_walk, fold, option_map_or, get_or-set_other, fold-append, none-some, Note, Refusal, Service, Call, Packet, same_service, T201, is_up, Link, offer_among, ControlFrame, Terms, LinkTimer, layer_3_knows, notes-own, Moves, Management, IsAt, IsSoundTable, is_on, place_of, Change, Gained, Left, at-off, place_of-is, Config, hears, request, next, at_link, at_management, at_units, told_of_management, of_change, of_aim, at_timer, Line, link_number, service_at, place_at, place_in, link_at, link_in, terms, with_link, fresh_line, unless_refused_told, aim_of_heard, Taken, taken, line_of, with_unit, with_given_frame, Request, Establish, Release, Assign, Remove, SetBusy, ClearBusy, Deactivate, at_requested, at_deactivated, aim_of_request, IsProper, heard_aims, request_proper, Down, eqb-true, T200, T203, fresh, LinkCourse as Course, begun, Event, expiry, notes_of, after, answer, unless_refused, with_message, refusal, Data, Unit, Check, IsSound, up_by_note, taken_for_up, link_is_up, is_up_of, link_offer, link_received, LinkEstablish, LinkRelease, link_expired, LinkClearBusy, link_requested, LinkRequest, LinkData, link_cleared, LinkSetBusy, LinkEvent, link_told, link_after, StreamEvent, message, tei_told, check, tei_after, remove, assigning, tei_expiry, TeiEvent}
 use Rattle.lapd_tei.specs.Laws as tei_laws
 use Rattle.lapd_tei.proofs.LawLemmas as tei_lemmas
 use Rattle.laws_line.proofs.Following.{some-same, and-false}
@@ -21,7 +17,7 @@ abbrev Up : Line → List Note → Line → Type 0
 Up before notes after = (service : Service) (tei : ℕ) → fold (up_by_note service tei) (is_up_of service tei before) notes ≡ is_up_of service tei after
 
 -- An event of one link.
-module _ (c : Config) (l : Line) (s : IsSound c l) (service : Service) (tei place : ℕ) (e : link.Event) (at : IsAt l.management.places place tei) where
+module _ (c : Config) (l : Line) (s : IsSound c l) (service : Service) (tei place : ℕ) (e : LinkEvent) (at : IsAt l.management.places place tei) where
   abbrev t : Terms
   t = terms c service tei
 
@@ -29,10 +25,10 @@ module _ (c : Config) (l : Line) (s : IsSound c l) (service : Service) (tei plac
   x = link_in l service place
 
   abbrev y : Link
-  y = links.after t e x
+  y = link_after t e x
 
   abbrev its : List Note
-  its = (links.told t e x).notes
+  its = (link_told t e x).notes
 
   abbrev then-up : Service → ℕ → Type 0
   then-up s' n' = fold (up_by_note s' n') (is_up_of s' n' l) its ≡ is_up_of s' n' (with_link (link_number place service) y l)
@@ -52,22 +48,22 @@ module _ (c : Config) (l : Line) (s : IsSound c l) (service : Service) (tei plac
   link-up s' n' = by-link s' n' (same_service service s' && (tei == n')) refl
 
 -- Notes of TEIs say nothing of links.
-tei-note : (service : Service) (tei : ℕ) (up : Bool) (e : teis.Event) (o : Option Change) (ns : List Note) → ByChange e o ns → fold (up_by_note service tei) up ns ≡ up
+tei-note : (service : Service) (tei : ℕ) (up : Bool) (e : TeiEvent) (o : Option Change) (ns : List Note) → ByChange e o ns → fold (up_by_note service tei) up ns ≡ up
 tei-note service tei up e o ns is = grind arith
 
 -- An event of TEI management.
-module _ (c : Config) (l : Line) (s : IsSound c l) (e : teis.Event) (fits : tei_laws.IsInRange e) where
+module _ (c : Config) (l : Line) (s : IsSound c l) (e : TeiEvent) (fits : tei_laws.IsInRange e) where
   abbrev m : Management
-  m = teis.after e l.management
+  m = tei_after e l.management
 
   sound : IsSoundTable m.places
   sound = (tei_lemmas.sound-after e l.management fits s.management).table
 
   abbrev ns : List Note
-  ns = (teis.told e l.management).notes
+  ns = (tei_told e l.management).notes
 
   abbrev changed : Option Change → Line
-  changed o = (of_change c o (told_of_management (teis.told e l.management)) (record l { management = m })).line
+  changed o = (of_change c o (told_of_management (tei_told e l.management)) (record l { management = m })).line
 
   comes-up : (tei place : ℕ) → tei_laws.HasJoined l.management.places m.places tei place → (s' : Service) (n' : ℕ) (b : Bool) → (tei == n') ≡ b
       → is_up_of s' n' l ≡ is_up_of s' n' (changed (Some (Gained tei place)))
@@ -87,10 +83,10 @@ module _ (c : Config) (l : Line) (s : IsSound c l) (e : teis.Event) (fits : tei_
     second = get_or (set l.links (link_number place Call) fresh) (link_number place Packet) fresh
 
     abbrev call : List Note
-    call = (links.told (terms c Call tei) link.cleared first).notes
+    call = (link_told (terms c Call tei) link_cleared first).notes
 
     abbrev packet : List Note
-    packet = (links.told (terms c Packet tei) link.cleared second).notes
+    packet = (link_told (terms c Packet tei) link_cleared second).notes
 
     placed : place_of tei l.management.places ≡ Some place
     placed = has-place l.management.places tei place s.management.table gone.was_there
@@ -102,41 +98,26 @@ module _ (c : Config) (l : Line) (s : IsSound c l) (e : teis.Event) (fits : tei_
     leaving z n' = fold (up_by_note z n') (fold (up_by_note z n') (is_up_of z n' l) call) packet ≡ is_up_of z n' (changed (Some (Left tei place)))
 
     own-leaves : (z : Service) → leaving z tei
-    own-leaves Call =
-        ap (λ b. fold (up_by_note Call tei) (fold (up_by_note Call tei) b call) packet) (ap (λ o. option_map_or (link_is_up Call l) o false) placed)
-        ∙ ap (λ b. fold (up_by_note Call tei) b packet) (own-notes (terms c Call tei) (is_up first) call (notes-own (terms c Call tei) link.cleared first) ∙ layer_3_knows (terms c Call tei) link.cleared first)
-        ∙ other-notes (terms c Packet tei) Call tei refl false packet (notes-own (terms c Packet tei) link.cleared second) ∙ sym (gone-down Call)
-    own-leaves Packet =
-        ap (λ b. fold (up_by_note Packet tei) b packet) (other-notes (terms c Call tei) Packet tei refl (is_up_of Packet tei l) call (notes-own (terms c Call tei) link.cleared first))
-        ∙ ap (λ b. fold (up_by_note Packet tei) b packet)
-        (ap (λ o. option_map_or (link_is_up Packet l) o false) placed
-        ∙ ap is_up (sym (get_or-set_other l.links (link_number place Call) (link_number place Packet) fresh fresh (λ e. omega (arith, e)))))
-        ∙ own-notes (terms c Packet tei) (is_up second) packet (notes-own (terms c Packet tei) link.cleared second) ∙ layer_3_knows (terms c Packet tei) link.cleared second
-        ∙ sym (gone-down Packet)
+    own-leaves Call = grind (arith, placed, own-notes, notes-own, layer_3_knows, other-notes, gone-down)
+    own-leaves Packet = grind (arith, other-notes, notes-own, placed, get_or-set_other, own-notes, layer_3_knows, gone-down)
 
     leaves-up : (z : Service) (n' : ℕ) (b : Bool) → (tei == n') ≡ b → leaving z n'
     leaves-up z n' true same = subst (λ n. leaving z n) (eqb-true tei n' same) (own-leaves z)
     leaves-up z n' false other =
         let apart : (y : Service) → (same_service y z && (tei == n')) ≡ false = λ y. ap (λ b. same_service y z && b) other ∙ and-false (same_service y z) in
-        ap (λ b. fold (up_by_note z n') b packet) (other-notes (terms c Call tei) z n' (apart Call) (is_up_of z n' l) call (notes-own (terms c Call tei) link.cleared first))
-        ∙ other-notes (terms c Packet tei) z n' (apart Packet) (is_up_of z n' l) packet (notes-own (terms c Packet tei) link.cleared second)
+        ap (λ b. fold (up_by_note z n') b packet) (other-notes (terms c Call tei) z n' (apart Call) (is_up_of z n' l) call (notes-own (terms c Call tei) link_cleared first))
+        ∙ other-notes (terms c Packet tei) z n' (apart Packet) (is_up_of z n' l) packet (notes-own (terms c Packet tei) link_cleared second)
         ∙ sym (read.elsewhere false is_up refl c l s m sound place None gone.is_free gone.within z n' (λ same. none-some n' same)
         (λ at. true≢false (sym (eq-eqb tei n' (some-same tei n' (sym gone.was_there ∙ at))) ∙ other)))
 
   by-change : (o : Option Change) → Moves l.management.places o m.places → ByChange e o ns
-      → Up l (of_change c o (told_of_management (teis.told e l.management)) (record l { management = m })).told.notes (changed o)
-  by-change None moves is = λ s' n'. tei-note s' n' (is_up_of s' n' l) e None ns is ∙ sym (read.same-read false is_up s' n' l (record l { management = m }) moves refl)
+      → Up l (of_change c o (told_of_management (tei_told e l.management)) (record l { management = m })).told.notes (changed o)
   by-change (Some (Gained tei place)) joined is = λ s' n'.
       tei-note s' n' (is_up_of s' n' l) e (Some (Gained tei place)) ns is ∙ comes-up tei place joined s' n' (tei == n') refl
-  by-change (Some (Left tei place)) gone is = λ s' n'.
-      fold-append (up_by_note s' n') (is_up_of s' n' l) (ns ++ call tei place gone) (packet tei place gone)
-      ∙ ap (λ b. fold (up_by_note s' n') b (packet tei place gone))
-      (fold-append (up_by_note s' n') (is_up_of s' n' l) ns (call tei place gone)
-      ∙ ap (λ b. fold (up_by_note s' n') b (call tei place gone)) (tei-note s' n' (is_up_of s' n' l) e (Some (Left tei place)) ns is))
-      ∙ leaves-up tei place gone s' n' (tei == n') refl
+  by-change o moves is = grind (arith, tei-note, read.same-read, fold-append, leaves-up)
 
   pub management-up : Up l (of_aim c (at_management e) l).told.notes (of_aim c (at_management e) l).line
-  management-up = by-change (teis.told e l.management).change (tei_lemmas.changes_are_told e l.management fits s.management) (noted e l.management s.management)
+  management-up = by-change (tei_told e l.management).change (tei_lemmas.changes_are_told e l.management fits s.management) (noted e l.management s.management)
 
 -- An offer notes nothing.
 either : (b : Bool) (u v : Course) → u.notes ≡ [] → v.notes ≡ [] → (cond b u v).notes ≡ []
@@ -145,53 +126,49 @@ either b u v one other = grind arith
 offer-among : (t : Terms) (x : Link) (ws : List ControlFrame) → (offer_among t ws (begun x)).notes ≡ []
 offer-among t x ws = grind (arith, either)
 
-offer-notes : (t : Terms) (x : Link) → (links.told t link.offer x).notes ≡ []
-offer-notes t x = offer-among t x x.waiting
-
 -- Each event.
 module _ (c : Config) (l : Line) (s : IsSound c l) where
-  aimed : (service : Service) (tei place : ℕ) (e : link.Event) → place_in l tei ≡ Some place
+  aimed : (service : Service) (tei place : ℕ) (e : LinkEvent) → place_in l tei ≡ Some place
       → Up l (of_aim c (at_link service tei place e) l).told.notes (of_aim c (at_link service tei place e) l).line
   aimed service tei place e at = link-up c l s service tei place e (place_of-is l.management.places tei place at).1
 
-  heard-up : (e : stream.Event) → Up l (of_aim c (aim_of_heard c l e) l).told.notes (of_aim c (aim_of_heard c l e) l).line
+  heard-up : (e : StreamEvent) → Up l (of_aim c (aim_of_heard c l e) l).told.notes (of_aim c (aim_of_heard c l e) l).line
   heard-up =
       heard_aims c l (λ aim. Up l (of_aim c aim l).told.notes (of_aim c aim l).line) (λ cause. λ service tei. refl)
-      (λ service tei place what at. aimed service tei place (link.received what) at) (λ info. management-up c l s (teis.message info) tt) (λ parts its to service tei. refl)
+      (λ service tei place what at. aimed service tei place (link_received what) at) (λ info. management-up c l s (message info) tt) (λ parts its to service tei. refl)
 
   timer-up : (service : Service) (tei : ℕ) (k : LinkTimer) (o : Option ℕ) → place_in l tei ≡ o → Up l (of_aim c (at_timer service tei k o) l).told.notes (of_aim c (at_timer service tei k o) l).line
   timer-up service tei k None e = λ s' n'. refl
-  timer-up service tei k (Some place) e = aimed service tei place (link.expired k) e
+  timer-up service tei k (Some place) e = aimed service tei place (link_expired k) e
 
-  asked-up : (service : Service) (tei : ℕ) (what : link.Request) (o : Option ℕ) → place_in l tei ≡ o
+  asked-up : (service : Service) (tei : ℕ) (what : LinkRequest) (o : Option ℕ) → place_in l tei ≡ o
       → Up l (of_aim c (at_requested service tei what o) l).told.notes (of_aim c (at_requested service tei what o) l).line
   asked-up service tei what None e = λ s' n'. refl
-  asked-up service tei what (Some place) e = aimed service tei place (link.requested what false) e
+  asked-up service tei what (Some place) e = aimed service tei place (link_requested what false) e
 
   deactivated-up : (service : Service) (tei : ℕ) (o : Option ℕ) → place_in l tei ≡ o
       → Up l (of_aim c (at_deactivated service tei o) l).told.notes (of_aim c (at_deactivated service tei o) l).line
   deactivated-up service tei None e = λ s' n'. refl
-  deactivated-up service tei (Some place) e = aimed service tei place link.cleared e
+  deactivated-up service tei (Some place) e = aimed service tei place link_cleared e
 
   request-up : (r : Request) → IsProper c l (aim_of_request r l) → Up l (of_aim c (aim_of_request r l) l).told.notes (of_aim c (aim_of_request r l) l).line
-  request-up (Establish service tei) proper = asked-up service tei link.Establish (place_in l tei) refl
-  request-up (Release service tei) proper = asked-up service tei link.Release (place_in l tei) refl
-  request-up (Data service tei contents) proper = asked-up service tei (link.Data contents) (place_in l tei) refl
-  request-up (Unit service tei contents) proper =
-      λ s' n'. sym (read.same-read false is_up s' n' l (of_aim c (at_units (record { service = service; tei = tei; contents = contents })) l).line refl refl)
-  request-up (Assign tei) proper = management-up c l s (teis.assign tei) proper
-  request-up (Remove tei) proper = management-up c l s (teis.remove tei) proper
-  request-up (Check tei) proper = management-up c l s (teis.check tei) proper
-  request-up (SetBusy service tei) proper = asked-up service tei link.SetBusy (place_in l tei) refl
-  request-up (ClearBusy service tei) proper = asked-up service tei link.ClearBusy (place_in l tei) refl
+  request-up (Establish service tei) proper = asked-up service tei LinkEstablish (place_in l tei) refl
+  request-up (Release service tei) proper = asked-up service tei LinkRelease (place_in l tei) refl
+  request-up (Data service tei contents) proper = asked-up service tei (LinkData contents) (place_in l tei) refl
+  request-up (Unit service tei contents) proper = grind (arith, read.same-read)
+  request-up (Assign tei) proper = management-up c l s (assigning tei) proper
+  request-up (Remove tei) proper = management-up c l s (remove tei) proper
+  request-up (Check tei) proper = management-up c l s (check tei) proper
+  request-up (SetBusy service tei) proper = asked-up service tei LinkSetBusy (place_in l tei) refl
+  request-up (ClearBusy service tei) proper = asked-up service tei LinkClearBusy (place_in l tei) refl
   request-up (Deactivate service tei) proper = deactivated-up service tei (place_in l tei) refl
   request-up Down proper = by-down c l (λ f. Up l f.told.notes f.line) (λ s' n'. sym (read.same-read false is_up s' n' l (given_up l).line refl refl))
 
   offered-up : (service : Service) (tei place : ℕ) → IsAt l.management.places place tei → (s' : Service) (n' : ℕ)
-      → is_up_of s' n' l ≡ is_up_of s' n' (with_link (link_number place service) (links.after (terms c service tei) link.offer (link_in l service place)) l)
+      → is_up_of s' n' l ≡ is_up_of s' n' (with_link (link_number place service) (link_after (terms c service tei) link_offer (link_in l service place)) l)
   offered-up service tei place at s' n' =
-      sym (ap (λ ns. fold (up_by_note s' n') (is_up_of s' n' l) ns) (offer-notes (terms c service tei) (link_in l service place)))
-      ∙ link-up c l s service tei place link.offer at s' n'
+      sym (ap (λ ns. fold (up_by_note s' n') (is_up_of s' n' l) ns) (offer-among (terms c service tei) (link_in l service place) (link_in l service place).waiting))
+      ∙ link-up c l s service tei place link_offer at s' n'
 
   took : (t : Taken) → IsOne c l t → Up l [] t.line
   took t (inl x) = subst (λ (u : Taken). Up l [] u.line) (sym x.1) (λ s' n'. sym (read.same-read false is_up s' n' l (with_message l x.0).line refl refl))
@@ -199,9 +176,9 @@ module _ (c : Config) (l : Line) (s : IsSound c l) where
   took t (inr (inr x)) =
       subst (λ (u : Taken). Up l [] u.line) (sym x.is)
       (λ s' n'.
-      subst (λ n. is_up_of s' n' l ≡ is_up_of s' n' (with_link n (links.after (terms c (service_at x.number) x.tei) link.offer (link_at n l)) l)) (number-is x.number)
+      subst (λ n. is_up_of s' n' l ≡ is_up_of s' n' (with_link n (link_after (terms c (service_at x.number) x.tei) link_offer (link_at n l)) l)) (number-is x.number)
       (offered-up (service_at x.number) x.tei (place_at x.number) x.on_line s' n')
-      ∙ sym (read.same-read false is_up s' n' (with_link x.number (links.after (terms c (service_at x.number) x.tei) link.offer (link_at x.number l)) l)
+      ∙ sym (read.same-read false is_up s' n' (with_link x.number (link_after (terms c (service_at x.number) x.tei) link_offer (link_at x.number l)) l)
       (with_given_frame c l x.number (terms c (service_at x.number) x.tei) x.what).line refl refl))
 
   next-up : Up l [] (option_map_or line_of (taken c l) l)
@@ -213,13 +190,8 @@ unfolding after answer
 known-up c (hears e) l service tei s = heard-up c l s e service tei
 known-up c (expiry (T200 by n)) l service tei s = timer-up c l s by n LinkTimer.T200 (place_in l n) refl service tei
 known-up c (expiry (T203 by n)) l service tei s = timer-up c l s by n LinkTimer.T203 (place_in l n) refl service tei
-known-up c (expiry T201) l service tei s = management-up c l s teis.expiry tt service tei
-known-up c (request r) l service tei s = go (refusal c false r l) (request_proper c l r)
-  where
-    go : (o : Option Refusal) → IsProper c l (unless_refused o (aim_of_request r l))
-        → fold (up_by_note service tei) (is_up_of service tei l) (notes_of (unless_refused_told o (of_aim c (unless_refused o (aim_of_request r l)) l)))
-        ≡ is_up_of service tei (of_aim c (unless_refused o (aim_of_request r l)) l).line
-    go o proper = grind (arith, request-up)
+known-up c (expiry T201) l service tei s = management-up c l s tei_expiry tt service tei
+known-up c (request r) l service tei s = grind (arith, request_proper, request-up)
 known-up c next l service tei s = next-up c l s service tei
 
 pub begins-down : (c : Config) (service : Service) (tei : ℕ) → is_up_of service tei (fresh_line c) ≡ false

@@ -1,9 +1,5 @@
 -- By notes and granted requests management knows which TEIs are on the line: each event.
-use Rattle.laws_line.proofs.Vocabulary.{arith, ◌≡◌, ℕ, ◌==◌, Bool, true, false, cond, not, is_some, nat_lt, List, ◌++◌, set, get_or, replicate, Option, Some, None, refl, ap, sym, ◌∙◌, subst, eq-eqb, true≢false, next_walk, fold, option_map_or, get_or-set_same, fold-append, none-some, Note, Refusal, NoLink, ControlFull, Service, Call, Packet, T201, is_up, LinkTimer, notes-own, refusal_if, Moves, Management, IdentityRemove, take_off, is_checked, nothing_happens, no_room, send, leave, left, end_check, IsSoundTable, Places, is_on, place_of, Change, Gained, Left, is_on-at, place_of-is, Config, hears, request, next, at_link, at_management, told_of_management, of_change, of_aim, at_timer, Line, link_number, place_in, has_tei, link_in, terms, fresh_line, unless_refused_told, aim_of_heard, Taken, taken, line_of, has_management, Request, Establish, Release, Assign, Remove, SetBusy, ClearBusy, Deactivate, at_requested, at_deactivated, aim_of_request, IsProper, heard_aims, request_proper, Down, option_map, eqb-true, T200, T203, fresh, Event, expiry, after, answer, unless_refused, refusal, Data, Unit, Check, IsSound, on_by_note, on_by_request, taken_for_on}
-use Rattle.model_bits.specs.Stream as stream
-use Rattle.model_link.specs.Events as link
-use Rattle.model_link.specs.Machine as links
-use Rattle.lapd_tei.specs.Events as teis
+use Rattle.laws_line.proofs.Vocabulary.{arith, ◌≡◌, ℕ, ◌==◌, Bool, true, false, cond, not, is_some, nat_lt, List, ◌++◌, set, get_or, replicate, Option, Some, None, refl, ap, sym, ◌∙◌, subst, eq-eqb, true≢false, next_walk, fold, option_map_or, get_or-set_same, fold-append, none-some, Note, Refusal, NoLink, ControlFull, Service, Call, Packet, T201, is_up, LinkTimer, notes-own, refusal_if, Moves, Management, IdentityRemove, take_off, is_checked, nothing_happens, no_room, send, leave, left, end_check, IsSoundTable, Places, is_on, place_of, Change, Gained, Left, is_on-at, place_of-is, Config, hears, request, next, at_link, at_management, told_of_management, of_change, of_aim, at_timer, Line, link_number, place_in, has_tei, link_in, terms, fresh_line, unless_refused_told, aim_of_heard, Taken, taken, line_of, has_management, Request, Establish, Release, Assign, Remove, SetBusy, ClearBusy, Deactivate, at_requested, at_deactivated, aim_of_request, IsProper, heard_aims, request_proper, Down, option_map, eqb-true, T200, T203, fresh, Event, expiry, after, answer, unless_refused, refusal, Data, Unit, Check, IsSound, on_by_note, on_by_request, taken_for_on, link_received, LinkEstablish, LinkRelease, LinkClearBusy, LinkRequest, LinkData, link_cleared, LinkSetBusy, LinkEvent, link_told, StreamEvent, message, tei_unless_refused, course, tei_told, tei_after, check, assigning, remove, tei_refusal, tei_expiry, TeiEvent, skipped, not_not}
 use Rattle.lapd_tei.specs.Laws as tei_laws
 use Rattle.lapd_tei.specs.Words as words
 use Rattle.lapd_tei.proofs.LawLemmas as tei_lemmas
@@ -15,7 +11,6 @@ use Rattle.laws_line.proofs.Readings as read
 use Rattle.laws_line.proofs.TeiNotes.{ByChange, GainedBy, LeftBy, noted}
 use Rattle.laws_line.proofs.TimersFollow.{nowhere}
 use Rattle.laws_line.proofs.Downs.{by-down}
-use Rattle.model_line.proofs.ProperAims.{skipped}
 
 -- A TEI is on the line where it has a place.
 on-placed : (tei : ℕ) (places : Places) → is_on tei places ≡ is_some (place_of tei places)
@@ -26,58 +21,47 @@ on-placed tei places = go (place_of tei places) refl
     go (Some place) e = is_on-at places place tei (place_of-is places tei place e).1
 
 -- What an event of TEI management itself says of a TEI, with its notes.
-abbrev asked-on : ℕ → Bool → teis.Event → Bool
-asked-on tei on (teis.assign asked) = cond (asked == tei) true on
-asked-on tei on (teis.remove asked) = cond (asked == tei) false on
+abbrev asked-on : ℕ → Bool → TeiEvent → Bool
+asked-on tei on (assigning asked) = cond (asked == tei) true on
+asked-on tei on (remove asked) = cond (asked == tei) false on
 asked-on tei on other = on
 
-comes-on : (tei by : ℕ) (e : teis.Event) (ns : List Note) → GainedBy e by ns → (on : Bool) → fold (on_by_note tei) (asked-on tei on e) ns ≡ cond (by == tei) true on
+comes-on : (tei by : ℕ) (e : TeiEvent) (ns : List Note) → GainedBy e by ns → (on : Bool) → fold (on_by_note tei) (asked-on tei on e) ns ≡ cond (by == tei) true on
 comes-on tei by e ns is on = grind arith
 
-leaves-on : (tei by : ℕ) (e : teis.Event) (ns : List Note) → LeftBy e by ns → (on : Bool) → fold (on_by_note tei) (asked-on tei on e) ns ≡ cond (by == tei) false on
+leaves-on : (tei by : ℕ) (e : TeiEvent) (ns : List Note) → LeftBy e by ns → (on : Bool) → fold (on_by_note tei) (asked-on tei on e) ns ≡ cond (by == tei) false on
 leaves-on tei by e ns is on = grind arith
 
 -- An assignment and a removal that are granted change the table.
-not-not : (b : Bool) → not b ≡ false → b ≡ true
-not-not b e = grind arith
-
 left-some : (tei : ℕ) (o : Option ℕ) → is_some o ≡ true → option_map (left tei) o ≡ None → ⊥
 left-some tei o some e = grind (arith, none-some)
 
-left-by : (tei : ℕ) (m : Management) (b : Bool) → (leave tei ((cond b end_check nothing_happens) (send (IdentityRemove tei) (words.begun m)))).told.change ≡ None
-    → option_map (left tei) (place_of tei m.places) ≡ None
-left-by tei m b e = grind arith
-
 module _ (c : Config) (l : Line) where
-  assigned : (tei : ℕ) → refusal c false (Assign tei) l ≡ None → (teis.told (teis.assign tei) l.management).change ≡ None → ⊥
-  unfolding teis.course teis.refusal
-  assigned tei granted e = grind (arith, skipped, nat_lt, is_some, none-some, not-not)
+  assigned : (tei : ℕ) → refusal c false (Assign tei) l ≡ None → (tei_told (assigning tei) l.management).change ≡ None → ⊥
+  unfolding course tei_refusal
+  assigned tei granted e = grind (arith, skipped, nat_lt, is_some, none-some, not_not)
 
-  removed : (tei : ℕ) → refusal c false (Remove tei) l ≡ None → (teis.told (teis.remove tei) l.management).change ≡ None → ⊥
-  unfolding teis.course teis.refusal
+  removed : (tei : ℕ) → refusal c false (Remove tei) l ≡ None → (tei_told (remove tei) l.management).change ≡ None → ⊥
+  unfolding course tei_refusal
   removed tei granted e =
-      let ours = skipped (not (has_management c.side)) _ _ granted in
-      let bad = skipped (nat_lt 126 tei) _ _ ours.1 in
-      let unknown = skipped (not (has_tei tei l)) _ _ bad.1 in
+      let unknown = skipped (not (has_tei tei l)) _ _ (skipped (nat_lt 126 tei) _ _ (skipped (not (has_management c.side)) _ _ granted).1).1 in
       let full = skipped (no_room l.management.waiting) _ _ unknown.1 in
-      left-some tei (place_of tei l.management.places) (sym (on-placed tei l.management.places) ∙ not-not (has_tei tei l) unknown.0)
-      (left-by tei l.management (is_checked tei l.management.check)
-      (subst (λ o. (teis.unless_refused o (take_off tei) l.management).told.change ≡ None)
-      (ap (λ b. refusal_if b NoLink (refusal_if (no_room l.management.waiting) ControlFull None)) unknown.0 ∙ ap (λ b. refusal_if b ControlFull None) full.0) e))
+      left-some tei (place_of tei l.management.places) (sym (on-placed tei l.management.places) ∙ not_not (has_tei tei l) unknown.0)
+      (grind arith)
 
 -- What is taken for on the line is on it.
 abbrev Knows : Line → (Bool → Bool) → ℕ → List Note → Line → Type 0
 Knows before asked tei notes after = fold (on_by_note tei) (asked (has_tei tei before)) notes ≡ has_tei tei after
 
-module _ (c : Config) (l : Line) (s : IsSound c l) (e : teis.Event) (fits : tei_laws.IsInRange e) (tei : ℕ) where
+module _ (c : Config) (l : Line) (s : IsSound c l) (e : TeiEvent) (fits : tei_laws.IsInRange e) (tei : ℕ) where
   abbrev m : Management
-  m = teis.after e l.management
+  m = tei_after e l.management
 
   table : IsSoundTable m.places
   table = (tei_lemmas.sound-after e l.management fits s.management).table
 
   abbrev ns : List Note
-  ns = (teis.told e l.management).notes
+  ns = (tei_told e l.management).notes
 
   comes : (by place : ℕ) → tei_laws.HasJoined l.management.places m.places by place → (b : Bool) → (by == tei) ≡ b → cond b true (has_tei tei l) ≡ is_on tei m.places
   comes by place joined true same =
@@ -100,57 +84,38 @@ module _ (c : Config) (l : Line) (s : IsSound c l) (e : teis.Event) (fits : tei_
       ∙ sym (on-placed tei m.places)
 
   by-change : (o : Option Change) → (o ≡ None → asked-on tei (has_tei tei l) e ≡ has_tei tei l) → Moves l.management.places o m.places → ByChange e o ns
-      → let f = of_change c o (told_of_management (teis.told e l.management)) (record l { management = m }) in Knows l (λ on. asked-on tei on e) tei f.told.notes f.line
+      → let f = of_change c o (told_of_management (tei_told e l.management)) (record l { management = m }) in Knows l (λ on. asked-on tei on e) tei f.told.notes f.line
   by-change None plain moves is = ap (λ xs. fold (on_by_note tei) (asked-on tei (has_tei tei l) e) xs) is ∙ plain refl ∙ ap (is_on tei) (sym moves)
   by-change (Some (Gained by place)) plain joined is = comes-on tei by e ns is (has_tei tei l) ∙ comes by place joined (by == tei) refl
-  by-change (Some (Left by place)) plain gone is =
-      let second = get_or (set l.links (link_number place Call) fresh) (link_number place Packet) fresh in
-      let call = (links.told (terms c Call by) link.cleared (link_in l Call place)).notes in
-      let packet = (links.told (terms c Packet by) link.cleared second).notes in
-      let now = cond (by == tei) false (has_tei tei l) in
-      fold-append (on_by_note tei) (asked-on tei (has_tei tei l) e) (ns ++ call) packet
-      ∙ ap (λ b. fold (on_by_note tei) b packet)
-      (fold-append (on_by_note tei) (asked-on tei (has_tei tei l) e) ns call ∙ ap (λ b. fold (on_by_note tei) b call) (leaves-on tei by e ns is (has_tei tei l))
-      ∙ link-notes (terms c Call by) tei now call (notes-own (terms c Call by) link.cleared (link_in l Call place)))
-      ∙ link-notes (terms c Packet by) tei now packet (notes-own (terms c Packet by) link.cleared second)
-      ∙ goes by place gone (by == tei) refl
+  by-change (Some (Left by place)) plain gone is = grind (arith, fold-append, leaves-on, link-notes, notes-own, goes)
 
-  pub management-knows : ((teis.told e l.management).change ≡ None → asked-on tei (has_tei tei l) e ≡ has_tei tei l)
+  pub management-knows : ((tei_told e l.management).change ≡ None → asked-on tei (has_tei tei l) e ≡ has_tei tei l)
       → Knows l (λ on. asked-on tei on e) tei (of_aim c (at_management e) l).told.notes (of_aim c (at_management e) l).line
   management-knows plain = grind (arith, by-change, tei_lemmas.changes_are_told, noted)
 
 -- Each event.
 module _ (c : Config) (l : Line) (s : IsSound c l) (tei : ℕ) where
-  link-knows : (service : Service) (by place : ℕ) (e : link.Event) → Knows l (λ on. on) tei (of_aim c (at_link service by place e) l).told.notes (of_aim c (at_link service by place e) l).line
+  link-knows : (service : Service) (by place : ℕ) (e : LinkEvent) → Knows l (λ on. on) tei (of_aim c (at_link service by place e) l).told.notes (of_aim c (at_link service by place e) l).line
   link-knows service by place e =
-      link-notes (terms c service by) tei (has_tei tei l) (links.told (terms c service by) e (link_in l service place)).notes (notes-own (terms c service by) e (link_in l service place))
+      link-notes (terms c service by) tei (has_tei tei l) (link_told (terms c service by) e (link_in l service place)).notes (notes-own (terms c service by) e (link_in l service place))
 
-  heard-knows : (e : stream.Event) → Knows l (λ on. on) tei (of_aim c (aim_of_heard c l e) l).told.notes (of_aim c (aim_of_heard c l e) l).line
+  heard-knows : (e : StreamEvent) → Knows l (λ on. on) tei (of_aim c (aim_of_heard c l e) l).told.notes (of_aim c (aim_of_heard c l e) l).line
   heard-knows =
       heard_aims c l (λ aim. Knows l (λ on. on) tei (of_aim c aim l).told.notes (of_aim c aim l).line) (λ cause. refl)
-      (λ service by place what at. link-knows service by place (link.received what)) (λ info. management-knows c l s (teis.message info) tt tei (λ none. refl)) (λ parts service to. refl)
-
-  timer-knows : (service : Service) (by : ℕ) (k : LinkTimer) (o : Option ℕ) → Knows l (λ on. on) tei (of_aim c (at_timer service by k o) l).told.notes (of_aim c (at_timer service by k o) l).line
-  timer-knows service by k o = grind (arith, link-knows)
-
-  asked-knows : (service : Service) (by : ℕ) (what : link.Request) (o : Option ℕ) → Knows l (λ on. on) tei (of_aim c (at_requested service by what o) l).told.notes (of_aim c (at_requested service by what o) l).line
-  asked-knows service by what o = grind (arith, link-knows)
-
-  deactivated-knows : (service : Service) (by : ℕ) (o : Option ℕ) → Knows l (λ on. on) tei (of_aim c (at_deactivated service by o) l).told.notes (of_aim c (at_deactivated service by o) l).line
-  deactivated-knows service by o = grind (arith, link-knows)
+      (λ service by place what at. link-knows service by place (link_received what)) (λ info. management-knows c l s (message info) tt tei (λ none. refl)) (λ parts service to. refl)
 
   request-knows : (r : Request) → refusal c false r l ≡ None → IsProper c l (aim_of_request r l)
       → Knows l (λ on. on_by_request tei on r) tei (of_aim c (aim_of_request r l) l).told.notes (of_aim c (aim_of_request r l) l).line
-  request-knows (Establish service by) granted proper = asked-knows service by link.Establish (place_in l by)
-  request-knows (Release service by) granted proper = asked-knows service by link.Release (place_in l by)
-  request-knows (Data service by contents) granted proper = asked-knows service by (link.Data contents) (place_in l by)
+  request-knows (Establish service by) granted proper = grind (arith, link-knows)
+  request-knows (Release service by) granted proper = grind (arith, link-knows)
+  request-knows (Data service by contents) granted proper = grind (arith, link-knows)
   request-knows (Unit service by contents) granted proper = refl
-  request-knows (Assign by) granted proper = management-knows c l s (teis.assign by) proper tei (λ none. absurd (assigned c l by granted none))
-  request-knows (Remove by) granted proper = management-knows c l s (teis.remove by) proper tei (λ none. absurd (removed c l by granted none))
-  request-knows (Check by) granted proper = management-knows c l s (teis.check by) proper tei (λ none. refl)
-  request-knows (SetBusy service by) granted proper = asked-knows service by link.SetBusy (place_in l by)
-  request-knows (ClearBusy service by) granted proper = asked-knows service by link.ClearBusy (place_in l by)
-  request-knows (Deactivate service by) granted proper = deactivated-knows service by (place_in l by)
+  request-knows (Assign by) granted proper = management-knows c l s (assigning by) proper tei (λ none. absurd (assigned c l by granted none))
+  request-knows (Remove by) granted proper = management-knows c l s (remove by) proper tei (λ none. absurd (removed c l by granted none))
+  request-knows (Check by) granted proper = management-knows c l s (check by) proper tei (λ none. refl)
+  request-knows (SetBusy service by) granted proper = grind (arith, link-knows)
+  request-knows (ClearBusy service by) granted proper = grind (arith, link-knows)
+  request-knows (Deactivate service by) granted proper = grind (arith, link-knows)
   request-knows Down granted proper = by-down c l (λ f. Knows l (λ on. on) tei f.told.notes f.line) refl
 
   took-on : (t : Taken) → IsOne c l t → has_tei tei l ≡ has_tei tei t.line
@@ -162,15 +127,10 @@ module _ (c : Config) (l : Line) (s : IsSound c l) (tei : ℕ) where
 pub known-on : (c : Config) (e : Event) (l : Line) (tei : ℕ) → IsSound c l → taken_for_on tei (has_tei tei l) e (answer c e l) ≡ has_tei tei (after c e l)
 unfolding after answer
 known-on c (hears e) l tei s = heard-knows c l s tei e
-known-on c (expiry (T200 by n)) l tei s = timer-knows c l s tei by n LinkTimer.T200 (place_in l n)
-known-on c (expiry (T203 by n)) l tei s = timer-knows c l s tei by n LinkTimer.T203 (place_in l n)
-known-on c (expiry T201) l tei s = management-knows c l s teis.expiry tt tei (λ none. refl)
-known-on c (request r) l tei s = go (refusal c false r l) refl (request_proper c l r)
-  where
-    go : (o : Option Refusal) → refusal c false r l ≡ o → IsProper c l (unless_refused o (aim_of_request r l))
-        → taken_for_on tei (has_tei tei l) (request r) (unless_refused_told o (of_aim c (unless_refused o (aim_of_request r l)) l))
-        ≡ has_tei tei (of_aim c (unless_refused o (aim_of_request r l)) l).line
-    go o granted proper = grind (arith, request-knows)
+known-on c (expiry (T200 by n)) l tei s = grind (arith, link-knows)
+known-on c (expiry (T203 by n)) l tei s = grind (arith, link-knows)
+known-on c (expiry T201) l tei s = management-knows c l s tei_expiry tt tei (λ none. refl)
+known-on c (request r) l tei s = grind (arith, request_proper, request-knows)
 known-on c next l tei s = next-on c l s tei
 
 pub begins-off : (c : Config) (tei : ℕ) → has_tei tei (fresh_line c) ≡ false

@@ -1,44 +1,36 @@
 -- What waits on a link stays in its order, until it is taken.
-use Rattle.laws_line.proofs.Vocabulary.{◌≡◌, ℕ, zero, suc, ◌<◌, List, [], ◌∷◌, ◌++◌, slice_get, get_or, Option, Some, None, refl, sym, ap, subst, ◌∙◌, ◌⊎◌, inl, inr, ⊎_elim, arith, ◌≤◌, IfSome, option_or, unwrap_or, cases_eq, get_or-set_same, get_or-set_other, spelling, ControlFrame, Terms, Link, Given, Goes, GoesWhole, after_offers, in-turn, Config, next, Line, UnitData, link_count, service_at, place_at, tei_at, terms, terms_at, link_at, Taken, with_unit, with_given_frame, link_taken, first_taken, taken, IsInRange, after_sound, next_walk, option_map, link_frame_of as frame_of, begun as course_begun, after, with_message, IsSound, HasNothing, after_takes, frames_to_go, control_text, IsTakenWithin}
-use Rattle.model_link.specs.Events as link
-use Rattle.model_link.specs.Machine as links
+use Rattle.laws_line.proofs.Vocabulary.{◌≡◌, ℕ, zero, suc, ◌<◌, List, [], ◌∷◌, ◌++◌, slice_get, get_or, Option, Some, None, refl, sym, ap, subst, ◌∙◌, ◌⊎◌, inl, inr, ⊎_elim, arith, ◌≤◌, IfSome, option_or, unwrap_or, cases_eq, get_or-set_same, get_or-set_other, spelling, ControlFrame, Terms, Link, Given, Goes, GoesWhole, after_offers, in-turn, Config, next, Line, UnitData, link_count, service_at, place_at, tei_at, terms, terms_at, link_at, Taken, with_unit, with_given_frame, link_taken, first_taken, taken, IsInRange, after_sound, next_walk, option_map, link_frame_of as frame_of, begun as course_begun, after, with_message, IsSound, HasNothing, after_takes, frames_to_go, control_text, IsTakenWithin, link_offer, link_given, link_after}
 use Rattle.model_link.specs.Offers
 use Rattle.model_line.specs.Taken as taking
 use Rattle.laws_line.proofs.Draining.{drains}
 
 -- the first that waits is what an offer gives, and the others stay
-pub first-goes : (t : Terms) (l : Link) (f : ControlFrame) (fs : List ControlFrame) → l.waiting ≡ f ∷ fs → GoesWhole f (links.given t l)
+pub first-goes : (t : Terms) (l : Link) (f : ControlFrame) (fs : List ControlFrame) → l.waiting ≡ f ∷ fs → GoesWhole f (link_given t l)
 unfolding after_offers
 first-goes t l f fs e = in-turn t [] f fs l e
 
-pub others-wait : (t : Terms) (l : Link) (f : ControlFrame) (fs : List ControlFrame) → l.waiting ≡ f ∷ fs → (links.after t link.offer l).waiting ≡ fs
+pub others-wait : (t : Terms) (l : Link) (f : ControlFrame) (fs : List ControlFrame) → l.waiting ≡ f ∷ fs → (link_after t link_offer l).waiting ≡ fs
 others-wait t l f fs e = ap (λ ws. (Offers.offer_among t ws (course_begun l)).link.waiting) e
-
-whole-text : (c : Config) (t : Terms) (f : ControlFrame) (g : Given) → Goes f g → taking.frame_of c t g ≡ spelling c.side (frame_of t f)
-whole-text c t f g h = grind arith
 
 -- What becomes of a link where something is taken: it stays, or it gave what is taken.
 pub record Gave (c : Config) (number : ℕ) (l : Line) (t : Taken) : Type 0 where
   pub given : Given
-  pub is : links.given (terms_at c number l) (link_at number l) ≡ Some given
+  pub is : link_given (terms_at c number l) (link_at number l) ≡ Some given
   pub frame : t.frame ≡ taking.frame_of c (terms_at c number l) given
-  pub link : link_at number t.line ≡ links.after (terms_at c number l) link.offer (link_at number l)
+  pub link : link_at number t.line ≡ link_after (terms_at c number l) link_offer (link_at number l)
 
 pub record Moved (c : Config) (number : ℕ) (l : Line) (t : Taken) : Type 0 where
   pub places : t.line.management.places ≡ l.management.places
   pub fate : (link_at number t.line ≡ link_at number l) ⊎ Gave c number l t
 
 module _ (c : Config) (number : ℕ) (l : Line) (s : IsSound c l) (few : number < link_count c) where
-  by-message : (o : Option (List ℕ)) → IfSome (option_map (with_message l) o) (Moved c number l)
-  by-message o = grind arith
-
   by-unit : (o : Option UnitData) → IfSome (option_map (with_unit c l) o) (Moved c number l)
   by-unit o = grind arith
 
-  gave : (n : ℕ) (g : Given) → links.given (terms_at c n l) (link_at n l) ≡ Some g → Moved c number l (with_given_frame c l n (terms_at c n l) g)
+  gave : (n : ℕ) (g : Given) → link_given (terms_at c n l) (link_at n l) ≡ Some g → Moved c number l (with_given_frame c l n (terms_at c n l) g)
   gave n g e = grind (arith, get_or-set_same, get_or-set_other, cases_eq)
 
-  by-link : (n : ℕ) (o : Option Given) → links.given (terms_at c n l) (link_at n l) ≡ o → IfSome (option_map (with_given_frame c l n (terms_at c n l)) o) (Moved c number l)
+  by-link : (n : ℕ) (o : Option Given) → link_given (terms_at c n l) (link_at n l) ≡ o → IfSome (option_map (with_given_frame c l n (terms_at c n l)) o) (Moved c number l)
   by-link n o e = grind (arith, gave)
 
   either : (o o' : Option Taken) → IfSome o (Moved c number l) → IfSome o' (Moved c number l) → IfSome (option_or o o') (Moved c number l)
@@ -46,22 +38,19 @@ module _ (c : Config) (number : ℕ) (l : Line) (s : IsSound c l) (few : number 
 
   by-round : (ns : List ℕ) → IfSome (first_taken c l ns) (Moved c number l)
   by-round [] = tt
-  by-round (n ∷ ns) = either (link_taken c l n) (first_taken c l ns) (by-link n (links.given (terms_at c n l) (link_at n l)) refl) (by-round ns)
-
-  pub taken-moved : IfSome (taken c l) (Moved c number l)
-  taken-moved = grind (arith, either, by-message, option_map, slice_get, by-unit, by-round)
+  by-round (n ∷ ns) = either (link_taken c l n) (first_taken c l ns) (by-link n (link_given (terms_at c n l) (link_at n l)) refl) (by-round ns)
 
 -- A call for the next frame leaves a link as it is, or takes what it gave.
 pub record Moves (c : Config) (number : ℕ) (l : Line) (o : Option Taken) (l' : Line) : Type 0 where
   pub places : l'.management.places ≡ l.management.places
   pub fate : (link_at number l' ≡ link_at number l)
-      ⊎ ((t : Taken) × (g : Given) × (o ≡ Some t) × (links.given (terms_at c number l) (link_at number l) ≡ Some g)
-      × (t.frame ≡ taking.frame_of c (terms_at c number l) g) × (link_at number l' ≡ links.after (terms_at c number l) link.offer (link_at number l)))
+      ⊎ ((t : Taken) × (g : Given) × (o ≡ Some t) × (link_given (terms_at c number l) (link_at number l) ≡ Some g)
+      × (t.frame ≡ taking.frame_of c (terms_at c number l) g) × (link_at number l' ≡ link_after (terms_at c number l) link_offer (link_at number l)))
 
 pub next-moves : (c : Config) (number : ℕ) (l : Line) → IsSound c l → number < link_count c → Moves c number l (taken c l) (after c next l)
 unfolding after
 next-moves c number l s few =
-    next_walk c l (Moved c number l) (Moves c number l) (taken-moved c number l s few) (record { places = refl; fate = inl refl })
+    next_walk c l (Moved c number l) (Moves c number l) (grind (arith, either, option_map, slice_get, by-unit, by-round)) (record { places = refl; fate = inl refl })
     (λ t x. record { places = x.places; fate = ⊎_elim (λ same. inl same) (λ (y : Gave c number l t). inr (t, y.given, refl, y.is, y.frame, y.link)) x.fate })
 
 -- A frame is taken at once, or by a later call.
@@ -78,17 +67,11 @@ not-empty [] f behind e = cc
 not-empty (b ∷ bs) f behind e = cc
 
 module _ (c : Config) (ranged : IsInRange c) (number tei : ℕ) (few : number < link_count c) where
-  terms-are : (l : Line) → tei_at (place_at number) l ≡ Some tei → terms_at c number l ≡ terms c (service_at number) tei
-  terms-are l at = ap (λ o. terms c (service_at number) (unwrap_or o 0)) at
-
   pub same-place : (l l' : Line) → l'.management.places ≡ l.management.places → tei_at (place_at number) l ≡ Some tei → tei_at (place_at number) l' ≡ Some tei
   same-place l l' e at = ap (λ ps. get_or ps (place_at number) None) e ∙ at
 
-  pub given-whole : (t : Terms) (l : Link) (f : ControlFrame) (fs : List ControlFrame) (g : Given) → l.waiting ≡ f ∷ fs → links.given t l ≡ Some g → Goes f g
-  given-whole t l f fs g e e' = subst (GoesWhole f) e' (first-goes t l f fs e)
-
   pub text-is : (l : Line) (f : ControlFrame) (g : Given) → tei_at (place_at number) l ≡ Some tei → Goes f g → taking.frame_of c (terms_at c number l) g ≡ control_text c number tei f
-  text-is l f g at h = whole-text c (terms_at c number l) f g h ∙ ap (λ t. spelling c.side (frame_of t f)) (terms-are l at)
+  text-is l f g at h = (grind arith) ∙ ap (λ t. spelling c.side (frame_of t f)) (ap (λ o. terms c (service_at number) (unwrap_or o 0)) at)
 
   pub goes-out : (n : ℕ) (l : Line) → IsSound c l → tei_at (place_at number) l ≡ Some tei → (before : List ControlFrame) (f : ControlFrame) (behind : List ControlFrame)
       → (link_at number l).waiting ≡ before ++ f ∷ behind → HasNothing c (after_takes c n l) → IsTakenWithin c n l (control_text c number tei f)
@@ -97,20 +80,18 @@ module _ (c : Config) (ranged : IsInRange c) (number tei : ℕ) (few : number < 
   goes-out (suc n) l s at before f behind e h =
       let p = next-moves c number l s few in
       let s' = after_sound c ranged next l s in
-      let at' = same-place l (after c next l) p.places at in
       step n l at before f behind e p.fate
-      (λ before' e'. goes-out n (after c next l) s' at' before' f behind e' h)
+      (λ before' e'. goes-out n (after c next l) s' (same-place l (after c next l) p.places at) before' f behind e' h)
     where
       step : (n : ℕ) (l : Line) → tei_at (place_at number) l ≡ Some tei → (before : List ControlFrame) (f : ControlFrame) (behind : List ControlFrame)
           → (link_at number l).waiting ≡ before ++ f ∷ behind
           → (link_at number (after c next l) ≡ link_at number l)
-          ⊎ ((t : Taken) × (g : Given) × (taken c l ≡ Some t) × (links.given (terms_at c number l) (link_at number l) ≡ Some g)
-          × (t.frame ≡ taking.frame_of c (terms_at c number l) g) × (link_at number (after c next l) ≡ links.after (terms_at c number l) link.offer (link_at number l)))
+          ⊎ ((t : Taken) × (g : Given) × (taken c l ≡ Some t) × (link_given (terms_at c number l) (link_at number l) ≡ Some g)
+          × (t.frame ≡ taking.frame_of c (terms_at c number l) g) × (link_at number (after c next l) ≡ link_after (terms_at c number l) link_offer (link_at number l)))
           → ((before' : List ControlFrame) → (link_at number (after c next l)).waiting ≡ before' ++ f ∷ behind → IsTakenWithin c n (after c next l) (control_text c number tei f))
           → IsTakenWithin c (suc n) l (control_text c number tei f)
       step n l at before f behind e (inl same) more = later c n l _ (more before (ap (λ (x : Link). x.waiting) same ∙ e))
-      step n l at [] f behind e (inr (t, g, some, given, frame, moved)) more =
-          now c n l t _ some (frame ∙ text-is l f g at (given-whole (terms_at c number l) (link_at number l) f behind g e given))
+      step n l at [] f behind e (inr (t, g, some, given, frame, moved)) more = grind (arith, now, text-is, first-goes)
       step n l at (b ∷ bs) f behind e (inr (t, g, some, given, frame, moved)) more =
           later c n l _ (more bs (ap (λ (x : Link). x.waiting) moved ∙ others-wait (terms_at c number l) (link_at number l) b (bs ++ f ∷ behind) e))
 

@@ -1,9 +1,7 @@
 -- What holds of a link that begins, and is kept by each event of a link, holds of all links of a line.
-use Rattle.laws_line.proofs.Vocabulary.{arith, ◌≡◌, ℕ, zero, suc, ◌<◌, false, List, [], ◌∷◌, get_or, set, Option, Some, refl, sym, subst, ◌⊎◌, inl, inr, IfSome, option_map_or, option_or, unwrap_or, All-head, All-tail, Link, Given, Terms, Change, Config, hears, request, next, LineTold, Aim, at_link, at_management, told_of_management, of_change, of_aim, Line, UnitData, link_number, service_at, place_at, tei_at, link_at, link_in, terms, link_count, aim_of_heard, aim_of_expiry, Taken, with_unit, with_given_frame, link_taken, first_taken, taken, line_of, aim_of_request, IsInRange, IsSoundAt, IsProper, sound_in, fresh_gives_nothing, heard_proper, expiry_proper, request_proper, taken_walk, next_walk, terms_in_range, at_no_link, option_map, All, fresh, Event, expiry, after, unless_refused, with_message, refusal, IsSound}
-use Rattle.model_link.specs.Events as link
-use Rattle.model_link.specs.Machine as links
+use Rattle.laws_line.proofs.Vocabulary.{arith, ◌≡◌, ℕ, zero, suc, ◌<◌, false, List, [], ◌∷◌, get_or, set, Option, Some, refl, sym, subst, ◌⊎◌, inl, inr, IfSome, option_map_or, option_or, unwrap_or, All-head, All-tail, Link, Given, Terms, Change, Config, hears, request, next, LineTold, Aim, at_link, at_management, told_of_management, of_change, of_aim, Line, UnitData, link_number, service_at, place_at, tei_at, link_at, link_in, terms, link_count, aim_of_heard, aim_of_expiry, Taken, with_unit, with_given_frame, link_taken, first_taken, taken, line_of, aim_of_request, IsInRange, IsSoundAt, IsProper, sound_in, fresh_gives_nothing, heard_proper, expiry_proper, request_proper, taken_walk, next_walk, terms_in_range, at_no_link, option_map, All, fresh, Event, expiry, after, unless_refused, with_message, refusal, IsSound, link_offer, LinkEvent, link_given, link_after, down, tei_told}
 use Rattle.model_link.specs.Sound as link_sound
-use Rattle.lapd_tei.specs.Events as teis
+use Rattle.model_line.proofs.TakenWalk.{either}
 
 -- What is taken: a message, unit data, or a frame of a link of a TEI on the line.
 pub record OfLink (c : Config) (l : Line) (t : Taken) : Type 0 where
@@ -12,37 +10,34 @@ pub record OfLink (c : Config) (l : Line) (t : Taken) : Type 0 where
   pub tei : ℕ
   pub on_line : tei_at (place_at number) l ≡ Some tei
   pub what : Given
-  pub given : links.given (terms c (service_at number) tei) (link_at number l) ≡ Some what
+  pub given : link_given (terms c (service_at number) tei) (link_at number l) ≡ Some what
   pub is : t ≡ with_given_frame c l number (terms c (service_at number) tei) what
 
 abbrev pub IsOne : Config → Line → Taken → Type 0
 IsOne c l t = ((octets : List ℕ) × (t ≡ with_message l octets)) ⊎ ((unit : UnitData) × (t ≡ with_unit c l unit)) ⊎ OfLink c l t
 
-first_of : (P : Taken → Type 0) (o rest : Option Taken) → IfSome o P → IfSome rest P → IfSome (option_or o rest) P
-first_of P o rest h h' = grind arith
-
 module _ (c : Config) (l : Line) (s : IsSound c l) where
   of-link : (n : ℕ) → n < link_count c → IfSome (link_taken c l n) (OfLink c l)
   of-link n few = known (tei_at (place_at n) l) refl (s.links n few)
     where
-      gave : (tei : ℕ) → tei_at (place_at n) l ≡ Some tei → (o : Option Given) → links.given (terms c (service_at n) tei) (link_at n l) ≡ o
+      gave : (tei : ℕ) → tei_at (place_at n) l ≡ Some tei → (o : Option Given) → link_given (terms c (service_at n) tei) (link_at n l) ≡ o
           → IfSome (option_map (with_given_frame c l n (terms c (service_at n) tei)) o) (OfLink c l)
       gave tei e o given = grind arith
 
       known : (o : Option ℕ) → tei_at (place_at n) l ≡ o → IsSoundAt c n (link_at n l) o
-          → let t = terms c (service_at n) (unwrap_or o 0) in IfSome (option_map (with_given_frame c l n t) (links.given t (link_at n l))) (OfLink c l)
+          → let t = terms c (service_at n) (unwrap_or o 0) in IfSome (option_map (with_given_frame c l n t) (link_given t (link_at n l))) (OfLink c l)
       known o e is_fresh = grind (arith, fresh_gives_nothing, option_map, gave)
 
   pub of-links : (ns : List ℕ) → All (λ n. n < link_count c) ns → IfSome (first_taken c l ns) (OfLink c l)
   of-links [] all = tt
   of-links (n ∷ ns) all =
-      first_of (OfLink c l) (link_taken c l n) (first_taken c l ns) (of-link n (All-head (λ n. n < link_count c) n ns all))
+      either (OfLink c l) (link_taken c l n) (first_taken c l ns) (of-link n (All-head (λ n. n < link_count c) n ns all))
       (of-links ns (All-tail (λ n. n < link_count c) n ns all))
 
   pub taken-one : IfSome (taken c l) (IsOne c l)
   taken-one = grind (arith, taken_walk)
 
-module _ (P : Link → Type 0) (begins : P fresh) (keeps : (t : Terms) (e : link.Event) (x : Link) → link_sound.IsInRange t → link_sound.IsSound t x → P x → P (links.after t e x)) where
+module _ (P : Link → Type 0) (begins : P fresh) (keeps : (t : Terms) (e : LinkEvent) (x : Link) → link_sound.IsInRange t → link_sound.IsSound t x → P x → P (link_after t e x)) where
   -- one link is another
   set_holds : (all : List Link) (n number : ℕ) (x : Link) → ((m : ℕ) → P (get_or all m fresh)) → P x → P (get_or (set all n x) number fresh)
   set_holds [] n number x all h = begins
@@ -57,14 +52,8 @@ module _ (P : Link → Type 0) (begins : P fresh) (keeps : (t : Terms) (e : link
     changed o r now all = grind (arith, set_holds)
 
     aimed : (aim : Aim) → IsProper c l aim → P (link_at number (of_aim c aim l).line)
-    aimed (at_link service tei place e) proper =
-        let t = terms c service tei in
-        set_holds l.links (link_number place service) number (links.after t e (link_in l service place)) h
-        (keeps t e (link_in l service place) (terms_in_range c ranged service tei (s.management.table.range place tei proper)) (sound_in c ranged l s service tei place proper)
-        (h (link_number place service)))
-    aimed (at_management e) proper = changed (teis.told e l.management).change (told_of_management (teis.told e l.management)) _ h
-    aimed at_no_link proper = changed (teis.told teis.down l.management).change (told_of_management (teis.told teis.down l.management)) _ h
-    aimed other proper = h number
+    aimed (at_link service tei place e) proper = grind (arith, set_holds, terms_in_range, sound_in)
+    aimed aim proper = grind (arith, changed)
 
     took : (t : Taken) → IsOne c l t → P (link_at number t.line)
     took t (inl x) = subst (λ (u : Taken). P (link_at number u.line)) (sym x.1) (h number)
@@ -72,8 +61,8 @@ module _ (P : Link → Type 0) (begins : P fresh) (keeps : (t : Terms) (e : link
     took t (inr (inr x)) =
         let terms_of = terms c (service_at x.number) x.tei in
         subst (λ (u : Taken). P (link_at number u.line)) (sym x.is)
-        (set_holds l.links x.number number (links.after terms_of link.offer (link_at x.number l)) h
-        (keeps terms_of link.offer (link_at x.number l) (terms_in_range c ranged (service_at x.number) x.tei (s.management.table.range (place_at x.number) x.tei x.on_line))
+        (set_holds l.links x.number number (link_after terms_of link_offer (link_at x.number l)) h
+        (keeps terms_of link_offer (link_at x.number l) (terms_in_range c ranged (service_at x.number) x.tei (s.management.table.range (place_at x.number) x.tei x.on_line))
         (subst (IsSoundAt c x.number (link_at x.number l)) x.on_line (s.links x.number x.few)) (h x.number)))
 
     called : P (link_at number (option_map_or line_of (taken c l) l))

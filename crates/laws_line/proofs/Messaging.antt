@@ -1,6 +1,5 @@
 -- What each event does to TEI management, as the rows of the law have it.
-use Rattle.laws_line.proofs.Vocabulary.{◌≡◌, ◌⊎◌, inl, inr, ℕ, ◌+◌, ◌*◌, ◌/◌, ◌%◌, ◌≤◌, ◌<◌, ◌==◌, ◌&&◌, nat_le, nat_lt, Bool, true, false, not, cond, List, [], ◌∷◌, length, Option, Some, None, IsSome, IfSome, is_some, refl, sym, ◌∙◌, subst, arith, true≢false, filter, find, prefix_len, ltb-false, and_parts, nat_tests, All-nil, All-cons, none-some, Management, Remembered, Period, Message, IdentityAssigned, IdentityDenied, IdentityCheckRequest, IdentityRemove, heard_in, heard_of_type, IsSoundCheck, IsSoundQueue, Places, is_free, is_on, place_of, free_place, free_tei, no_room, lost_after, freed, is_of_other, unserved, begin_check, end_check, send, remembered-on, one_is_free, free_tei-is, free_place-is, place_of-is, option_map, eqb-true, All, TeiCheck as Check, TeiIsSound as IsSound, Course, tei_begun as begun, tei_with_message as with_message, Said, asks, verifies, responds, IsSpelled, Says, Waits, FindsNoRoom, IsSent, LineIsSilent as IsSilent, KeepsTeis, Leaves, tei_for, IsAnswered, new_check, is_answered, RespondsTo, Responds, Serves, IsOver, ExpiresIn, Expires, check_without, IsPutOn}
-use Rattle.lapd_tei.specs.Rows as rows
+use Rattle.laws_line.proofs.Vocabulary.{◌≡◌, ◌⊎◌, inl, inr, ℕ, ◌+◌, ◌*◌, ◌/◌, ◌%◌, ◌≤◌, ◌<◌, ◌==◌, ◌&&◌, nat_le, nat_lt, Bool, true, false, not, cond, List, [], ◌∷◌, length, Option, Some, None, IsSome, IfSome, is_some, refl, sym, ◌∙◌, subst, arith, true≢false, filter, find, prefix_len, ltb-false, and_parts, nat_tests, All-nil, All-cons, none-some, Management, Remembered, Period, Message, IdentityAssigned, IdentityDenied, IdentityCheckRequest, IdentityRemove, heard_in, heard_of_type, IsSoundCheck, IsSoundQueue, Places, is_free, is_on, place_of, free_place, free_tei, no_room, lost_after, freed, is_of_other, unserved, begin_check, end_check, send, remembered-on, one_is_free, free_tei-is, free_place-is, place_of-is, option_map, eqb-true, All, TeiCheck as Check, TeiIsSound as IsSound, Course, tei_begun as begun, tei_with_message as with_message, Said, asks, verifies, responds, IsSpelled, Says, Waits, FindsNoRoom, IsSent, LineIsSilent as IsSilent, KeepsTeis, Leaves, tei_for, IsAnswered, new_check, is_answered, RespondsTo, Responds, Serves, IsOver, ExpiresIn, Expires, check_without, IsPutOn, assign_new, respond, removed, take_off, count, remembered_in, rows_verify, expire_period, put_on, rows_is_for, expire_check, assign, serve, rows_tei_in, tei_counted, rows_request}
 use Rattle.laws_line.proofs.Places.{is-off}
 
 -- whether there is room for one more
@@ -22,11 +21,11 @@ sent : (message : Message) (m after : Management) (lost : ℕ) → IsSoundQueue 
 sent message m after lost s queue told = grind (arith, no-room, waits)
 
 -- what is remembered for an Ri
-pub tei-for : (ri : ℕ) (rs : List Remembered) → rows.remembered_in ri rs ≡ tei_for ri rs
+pub tei-for : (ri : ℕ) (rs : List Remembered) → remembered_in ri rs ≡ tei_for ri rs
 tei-for ri [] = refl
 tei-for ri (r ∷ rs) = go (r.ri == ri) (tei-for ri rs)
   where
-    go : (b : Bool) → rows.remembered_in ri rs ≡ tei_for ri rs → option_map rows.tei_in (cond b (Some r) (find (rows.is_for ri) rs)) ≡ cond b (Some r.tei) (tei_for ri rs)
+    go : (b : Bool) → remembered_in ri rs ≡ tei_for ri rs → option_map rows_tei_in (cond b (Some r) (find (rows_is_for ri) rs)) ≡ cond b (Some r.tei) (tei_for ri rs)
     go b rest = grind arith
 
 -- where no place is free each has its TEI
@@ -47,7 +46,7 @@ module _ (ri : ℕ) (m : Management) (s : IsSound m) (few : length m.places < 63
   denies c room unknown none is = grind (arith, waits, full, none-free)
 
   assigns-new : no_room m.waiting ≡ false → tei_for ri m.remembered ≡ None → (place tei : Option ℕ) → free_place m.places ≡ place → free_tei m.places ≡ tei
-      → Answers (rows.assign_new ri place tei (begun m))
+      → Answers (assign_new ri place tei (begun m))
   assigns-new room unknown None other at free = denies _ room unknown at refl
   assigns-new room unknown (Some place) None at free = absurd (none-is-some (free_tei m.places) free (one_is_free m.places 64 63 few))
     where
@@ -69,7 +68,7 @@ module _ (ri : ℕ) (m : Management) (s : IsSound m) (few : length m.places < 63
         }));
       }
 
-  assigns : no_room m.waiting ≡ false → (o : Option ℕ) → rows.remembered_in ri m.remembered ≡ o → Answers (rows.assign ri o (begun m))
+  assigns : no_room m.waiting ≡ false → (o : Option ℕ) → remembered_in ri m.remembered ≡ o → Answers (assign ri o (begun m))
   assigns room None e = assigns-new room (sym (tei-for ri m.remembered) ∙ e) (free_place m.places) (free_tei m.places) refl refl
   assigns room (Some tei) e = record {
     message = IdentityAssigned ri tei;
@@ -83,14 +82,14 @@ module _ (ri : ℕ) (m : Management) (s : IsSound m) (few : length m.places < 63
     });
   }
 
-  requests : let c = rows.request ri (begun m) in Serves (asks ri) m c.now c.told.lost
+  requests : let c = rows_request ri (begun m) in Serves (asks ri) m c.now c.told.lost
   requests = grind (arith, no-room, assigns)
 
 -- A check begins.
 pub begins : (tei : ℕ) (m : Management) → let c = begin_check tei (begun m) in KeepsTeis (Some (new_check tei)) m c.now
 begins tei m = record { places = refl; remembered = refl; check_is = refl }
 
-verified : (tei : ℕ) (m : Management) → IsSound m → let c = rows.verify tei (begun m) in Serves (verifies tei) m c.now c.told.lost
+verified : (tei : ℕ) (m : Management) → IsSound m → let c = rows_verify tei (begun m) in Serves (verifies tei) m c.now c.told.lost
 verified tei m s = grind (arith, sent, begins)
 
 -- A TEI on the line leaves it.
@@ -108,32 +107,21 @@ gone tei check m after on places forgotten ends = go (place_of tei m.places) ref
 second-is : (n : ℕ) → nat_le 2 (n + 1) ≡ nat_lt 0 n
 second-is n = grind (arith, nat_tests)
 
-responds-to : (check : Check) (m : Management) → IsSound m → is_on check.tei m.places ≡ true
-    → let c = rows.count check.tei (rows.counted check) (begun m) in RespondsTo true (is_answered check) check m c.now c.told.lost
-responds-to check m s on = grind (arith, nat_le, second-is, sent, gone, nat_lt, ltb-false)
-
 responded : (tei : ℕ) (m : Management) → IsSound m → (o : Option Check) → IfSome o (IsSoundCheck m.places)
-    → let c = rows.respond tei o (begun m) in Responds tei o m c.now c.told.lost
+    → let c = respond tei o (begun m) in Responds tei o m c.now c.told.lost
 responded tei m s None sound = record { same = refl; told = refl }
-responded tei m s (Some check) sound = go (check.tei == tei) refl
-  where
-    go : (b : Bool) → (check.tei == tei) ≡ b
-        → let c = (cond b (rows.count tei (rows.counted check)) unserved) (begun m) in RespondsTo b (is_answered check) check m c.now c.told.lost
-    go true same =
-        subst (λ n. let c = rows.count n (rows.counted check) (begun m) in RespondsTo true (is_answered check) check m c.now c.told.lost)
-        (eqb-true check.tei tei same) (responds-to check m s sound.on_line)
-    go false other = record { same = refl; told = refl }
+responded tei m s (Some check) sound = grind (arith, eqb-true, nat_le, second-is, sent, gone, nat_lt, ltb-false)
 
 -- A message of a terminal, as its octets spell it.
 module _ (m : Management) where
   abbrev served_as : List ℕ → Course
-  served_as info = rows.serve (heard_in info) (begun m)
+  served_as info = serve (heard_in info) (begun m)
 
   ai : (action : ℕ) → ((2 * action + 1) % 2 ≡ 1) × ((2 * action + 1) / 2 ≡ action)
   ai action = (omega arith, omega arith)
 
   -- a verify, and an answer, whatever its Ri
-  as-spelled : (info : List ℕ) (type ri action : ℕ) → IsSpelled info type ri action → served_as info ≡ rows.serve (heard_of_type type ri action) (begun m)
+  as-spelled : (info : List ℕ) (type ri action : ℕ) → IsSpelled info type ri action → served_as info ≡ serve (heard_of_type type ri action) (begun m)
   as-spelled info type ri action h = grind (arith, ai)
 
   pub serves : (said : Said) (info : List ℕ) → IsSound m → length m.places < 63 → Says info said → let c = served_as info in Serves said m c.now c.told.lost
@@ -151,7 +139,7 @@ module _ (m : Management) where
     spelled kind action is half = grind arith
 
     by-type : (request response verify : Bool) → (type == 1 && last / 2 == 127) ≡ request → (type == 5) ≡ response → (type == 7) ≡ verify
-        → Told (entity ∷ high ∷ low ∷ type ∷ last ∷ []) (rows.serve (heard_of_type type (256 * high + low) (last / 2)) (begun m))
+        → Told (entity ∷ high ∷ low ∷ type ∷ last ∷ []) (serve (heard_of_type type (256 * high + low) (last / 2)) (begun m))
     by-type true response verify one two three =
         let both = and_parts (type == 1) (last / 2 == 127) one in
         inr (asks (256 * high + low), spelled 1 127 (eqb-true type 1 both.0) (eqb-true (last / 2) 127 both.1))
@@ -161,35 +149,23 @@ module _ (m : Management) where
 
   pub told-or-not : (info : List ℕ) → Told info (served_as info)
   told-or-not [] = inl refl
-  told-or-not (entity ∷ high ∷ low ∷ type ∷ last ∷ []) = go (entity == 0x0F && last % 2 == 1) refl
-    where
-      go : (b : Bool) → (entity == 0x0F && last % 2 == 1) ≡ b
-          → Told (entity ∷ high ∷ low ∷ type ∷ last ∷ []) (rows.serve (cond b (heard_of_type type (256 * high + low) (last / 2)) None) (begun m))
-      go b e = grind (arith, and_parts, by-type, eqb-true)
+  told-or-not (entity ∷ high ∷ low ∷ type ∷ last ∷ []) = grind (arith, and_parts, by-type, eqb-true)
   told-or-not other = inl refl
 
 -- T201 expires.
 over : (check : Check) (m : Management) → is_on check.tei m.places ≡ true → (b : Bool)
-    → let c = (cond b (rows.removed check.tei) end_check) (begun m) in IsSilent m c.now c.told.lost × IsOver b check m c.now
+    → let c = (cond b (removed check.tei) end_check) (begun m) in IsSilent m c.now c.told.lost × IsOver b check m c.now
 over check m on b = grind (arith, gone)
 
 expires-in : (p : Period) (check : Check) (m : Management) → IsSound m → is_on check.tei m.places ≡ true
-    → let c = rows.expire_period check p (begun m) in ExpiresIn p check m c.now c.told.lost
+    → let c = expire_period check p (begun m) in ExpiresIn p check m c.now c.told.lost
 expires-in p check m s on = grind (arith, sent, over)
 
 pub expires : (m : Management) → IsSound m → (o : Option Check) → IfSome o (IsSoundCheck m.places)
-    → let c = rows.expire_check o (begun m) in Expires o m c.now c.told.lost
+    → let c = expire_check o (begun m) in Expires o m c.now c.told.lost
 expires m s o sound = grind (arith, expires-in)
 
 -- Management asks.
-pub puts-on : (tei : ℕ) (m : Management) → is_on tei m.places ≡ false → not (is_some (free_place m.places)) ≡ false
-    → let c = rows.put_on tei (begun m) in IsPutOn tei m c.now c.told.lost
-puts-on tei m off some = grind (arith, is_some, free_place-is)
-
-pub takes-off : (tei : ℕ) (m : Management) → no_room m.waiting ≡ false → is_on tei m.places ≡ true
-    → let c = rows.take_off tei (begun m) in Waits (IdentityRemove tei) m c.now c.told.lost × Leaves tei (check_without tei m.check) m c.now
-takes-off tei m room on = grind (arith, waits, gone)
-
 pub begins-asked : (tei : ℕ) (m : Management) → no_room m.waiting ≡ false
     → let c = begin_check tei (begun m) in Waits (IdentityCheckRequest tei) m c.now c.told.lost × KeepsTeis (Some (new_check tei)) m c.now
 begins-asked tei m room = (waits (IdentityCheckRequest tei) m _ _ room refl refl, begins tei m)

@@ -1,7 +1,5 @@
 -- What obeying the orders of a link, or of TEI management, comes to for each timer of a line.
-use Rattle.laws_line.proofs.Vocabulary.{arith, ◌≡◌, ℕ, ◌==◌, ◌&&◌, Bool, true, false, cond, List, ◌++◌, ap, ◌∙◌, eq-eqb, fold-append, Service, Order, Timer, T201, same_service, LinkTimer, Terms, Link, is_same, obey, obeyed, IsTimed, ComesInStep, runs, timer_at, stays-in-step, comes-in-step, leaves-others, Follows}
-use Rattle.model_link.specs.Events as link
-use Rattle.model_link.specs.Machine as links
+use Rattle.laws_line.proofs.Vocabulary.{arith, ◌≡◌, ℕ, ◌==◌, ◌&&◌, Bool, true, false, cond, List, ◌++◌, ap, ◌∙◌, eq-eqb, fold-append, Service, Order, Timer, T201, same_service, LinkTimer, Terms, Link, is_same, obey, obeyed, IsTimed, ComesInStep, runs, timer_at, stays-in-step, comes-in-step, leaves-others, Follows, link_expired, LinkEvent, link_told, link_after}
 
 pub obeyed-append : (timer : Timer) (b : Bool) (xs ys : List Order) → obeyed timer b (xs ++ ys) ≡ obeyed timer (obeyed timer b xs) ys
 obeyed-append timer b xs ys = fold-append (obey timer) b xs ys
@@ -17,13 +15,6 @@ pub both-true : (a b : Bool) → (a && b) ≡ true → (a ≡ true) × (b ≡ tr
 both-true a b e = grind arith
 
 -- T201 of TEI management
-pub t201-obeyed : (before : Bool) (orders : List Order) (after : Bool) → Follows before orders after → obeyed T201 before orders ≡ after
-t201-obeyed before orders after h = grind arith
-
-pub t201-leaves : (timer : Timer) → is_same T201 timer ≡ false → (running before : Bool) (orders : List Order) (after : Bool) → Follows before orders after
-    → obeyed timer running orders ≡ running
-t201-leaves timer other running before orders after h = grind arith
-
 -- What a caller does with a link's timers, which it left as `left` says, by the orders of an event: each of the link's
 -- runs where the link runs it, and each other is as it was.
 pub record Steers (t : Terms) (left : Timer → Bool → Bool) (orders : List Order) (before after : Link) : Type 0 where
@@ -34,7 +25,7 @@ pub record Steers (t : Terms) (left : Timer → Bool → Bool) (orders : List Or
 abbrev pub as_it_was : Timer → Bool → Bool
 as_it_was timer running = running
 
-pub steers-event : (t : Terms) (e : link.Event) (l : Link) → Steers t as_it_was (links.told t e l).orders l (links.after t e l)
+pub steers-event : (t : Terms) (e : LinkEvent) (l : Link) → Steers t as_it_was (link_told t e l).orders l (link_after t e l)
 steers-event t e l = record { own = λ k. stays-in-step t e l k; others = λ timer running one two. leaves-others t e l timer running one two }
 
 -- the same where a timer has expired, which runs no more at the caller's
@@ -44,28 +35,10 @@ without expired timer running = cond (is_same expired timer) false running
 itself : (s : Service) (tei : ℕ) → (same_service s s && (tei == tei)) ≡ true
 itself s tei = grind (arith, eq-eqb)
 
-comes : (t : Terms) (l : Link) (k : LinkTimer) → IsTimed l → (b : Bool) → runs k l.running ≡ b → ComesInStep t (link.expired k) l k
+comes : (t : Terms) (l : Link) (k : LinkTimer) → IsTimed l → (b : Bool) → runs k l.running ≡ b → ComesInStep t (link_expired k) l k
 comes t l k h b e = grind (arith, comes-in-step, stays-in-step)
 
 pub steers-expiry : (t : Terms) (k : LinkTimer) (l : Link) → IsTimed l
-    → Steers t (without (timer_at t k)) (links.told t (link.expired k) l).orders l (links.after t (link.expired k) l)
-steers-expiry t LinkTimer.T200 l h = record {
-  own = own;
-  others = λ timer running one two.
-      ap (λ b. obeyed timer (cond b false running) (links.told t (link.expired LinkTimer.T200) l).orders) one
-      ∙ leaves-others t (link.expired LinkTimer.T200) l timer running one two;
-}
-  where
-    own : (k : LinkTimer) → obeyed (timer_at t k) (without (timer_at t LinkTimer.T200) (timer_at t k) (runs k l.running)) (links.told t (link.expired LinkTimer.T200) l).orders
-        ≡ runs k (links.after t (link.expired LinkTimer.T200) l).running
-    own k = grind (arith, itself, comes, stays-in-step)
-steers-expiry t LinkTimer.T203 l h = record {
-  own = own;
-  others = λ timer running one two.
-      ap (λ b. obeyed timer (cond b false running) (links.told t (link.expired LinkTimer.T203) l).orders) two
-      ∙ leaves-others t (link.expired LinkTimer.T203) l timer running one two;
-}
-  where
-    own : (k : LinkTimer) → obeyed (timer_at t k) (without (timer_at t LinkTimer.T203) (timer_at t k) (runs k l.running)) (links.told t (link.expired LinkTimer.T203) l).orders
-        ≡ runs k (links.after t (link.expired LinkTimer.T203) l).running
-    own k = grind (arith, itself, comes, stays-in-step)
+    → Steers t (without (timer_at t k)) (link_told t (link_expired k) l).orders l (link_after t (link_expired k) l)
+steers-expiry t LinkTimer.T200 l h = grind (arith, leaves-others, itself, comes, stays-in-step)
+steers-expiry t LinkTimer.T203 l h = grind (arith, leaves-others, itself, comes, stays-in-step)

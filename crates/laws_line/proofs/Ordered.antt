@@ -1,13 +1,11 @@
 -- A control frame that waits is taken in its turn: after the messages, the unit data, and at most one frame of each other
 -- link for each of its own that goes before it.
-use Rattle.laws_line.proofs.Vocabulary.{◌≡◌, ◌≢◌, ℕ, zero, suc, ◌+◌, ◌*◌, ◌<◌, ◌≤◌, List, [], ◌∷◌, ◌++◌, length, drop, slice_get, Option, Some, None, refl, sym, ap, subst, ◌∙◌, ◌⊎◌, inl, inr, ⊎_elim, arith, option_map_or, option_or, cases_eq, get_or-set_same, get_or-set_other, ControlFrame, Link, Given, GoesWhole, Message, Config, next, Line, UnitData, link_count, place_at, tei_at, terms_at, link_at, Taken, with_unit, with_given_frame, link_taken, first_taken, round, taken, line_of, IsInRange, after_sound, option_map, fresh, after, with_message, IsSound, IsInTurn, way_round, frames_before, IsEnough, control_text, IsTakenWithin}
-use Rattle.model_link.specs.Events as link
-use Rattle.model_link.specs.Machine as links
+use Rattle.laws_line.proofs.Vocabulary.{◌≡◌, ◌≢◌, ℕ, zero, suc, ◌+◌, ◌*◌, ◌<◌, ◌≤◌, List, [], ◌∷◌, ◌++◌, length, drop, slice_get, Option, Some, None, refl, sym, ap, subst, ◌∙◌, ◌⊎◌, inl, inr, ⊎_elim, arith, option_map_or, option_or, cases_eq, get_or-set_same, get_or-set_other, ControlFrame, Link, Given, GoesWhole, Message, Config, next, Line, UnitData, link_count, place_at, tei_at, terms_at, link_at, Taken, with_unit, with_given_frame, link_taken, first_taken, round, taken, line_of, IsInRange, after_sound, option_map, fresh, after, with_message, IsSound, IsInTurn, way_round, frames_before, IsEnough, control_text, IsTakenWithin, link_offer, link_given, link_after, nat_le, leb-true}
 use Rattle.lapd_tei.specs.Messages as messages
 use Rattle.laws_line.proofs.InTurn.{links_take_turns}
 use Rattle.laws_line.proofs.Serving.{none-waits}
-use Rattle.laws_line.proofs.InRounds.{served-last, comes-first}
-use Rattle.laws_line.proofs.Leaving.{first-goes, others-wait, now, later, not-empty, same-place, given-whole, text-is, next-moves, waits-and-goes}
+use Rattle.laws_line.proofs.InRounds.{comes-first}
+use Rattle.laws_line.proofs.Leaving.{first-goes, others-wait, now, later, not-empty, same-place, text-is, next-moves, waits-and-goes}
 
 -- What is taken is the frame, or it comes nearer.
 abbrev pub Nearer : Config → ℕ → Line → List ControlFrame → ControlFrame → List ControlFrame → ℕ → Line → Type 0
@@ -22,30 +20,16 @@ module _ (c : Config) (ranged : IsInRange c) (number tei : ℕ) (few : number < 
   one-less : {X : Type 0} (xs ys : List X) (x : X) → xs ≡ x ∷ ys → length (drop 1 xs) + 1 ≡ length xs
   one-less xs ys x e = ap (λ zs. length (drop 1 zs) + 1) e ∙ (let n : length ys + 1 ≡ length (x ∷ ys) = omega arith in n) ∙ sym (ap length e)
 
-  by-message : (before : List ControlFrame) → (link_at number l).waiting ≡ before ++ f ∷ behind → (m : Message) (ms : List Message) → l.management.waiting ≡ m ∷ ms
-      → Step before (with_message l (messages.frame_of c.side m))
-  by-message before e m ms e' = let n = one-less l.management.waiting ms m e' in inr (before, e, omega (arith, n))
-
   by-unit : (before : List ControlFrame) → (link_at number l).waiting ≡ before ++ f ∷ behind → (u : UnitData) (us : List UnitData) → l.units ≡ u ∷ us → Step before (with_unit c l u)
   by-unit before e u us e' = let n = one-less l.units us u e' in inr (before, e, omega (arith, n))
 
   -- its own link gives
-  own-gives : (before : List ControlFrame) → (link_at number l).waiting ≡ before ++ f ∷ behind → (g : Given) → links.given (terms_at c number l) (link_at number l) ≡ Some g
+  own-gives : (before : List ControlFrame) → (link_at number l).waiting ≡ before ++ f ∷ behind → (g : Given) → link_given (terms_at c number l) (link_at number l) ≡ Some g
       → Step before (with_given_frame c l number (terms_at c number l) g)
-  own-gives [] e g given = inl (text-is c ranged number tei few l f g at (given-whole c ranged number tei few (terms_at c number l) (link_at number l) f behind g e given))
-  own-gives (b ∷ bs) e g given =
-      let given = links.after (terms_at c number l) link.offer (link_at number l) in
-      let here : link_at number (with_given_frame c l number (terms_at c number l) g).line ≡ given = get_or-set_same l.links number given fresh (omega (arith, few, s.count)) in
-      let last : way_round (link_count c) (number + 1) number + 1 ≡ link_count c = served-last (link_count c) l.turn s.turn number few in
-      let sum : (1 + length bs) * link_count c ≡ link_count c + length bs * link_count c = omega arith in
-      inr (bs, ap (λ (x : Link). x.waiting) here ∙ others-wait (terms_at c number l) (link_at number l) b (bs ++ f ∷ behind) e, omega (arith, last, sum))
+  own-gives [] e g given = inl (text-is c ranged number tei few l f g at (subst (GoesWhole f) given (first-goes (terms_at c number l) (link_at number l) f behind e)))
+  own-gives (b ∷ bs) e g given = grind (arith, get_or-set_same, nat_le, leb-true, others-wait)
 
-  -- another link gives
-  other-gives : (before : List ControlFrame) → (link_at number l).waiting ≡ before ++ f ∷ behind → (other : ℕ) (g : Given) → number ≢ other
-      → way_round (link_count c) (other + 1) number + 1 ≤ way_round (link_count c) l.turn number → Step before (with_given_frame c l other (terms_at c other l) g)
-  other-gives before e other g apart nearer = grind (arith, get_or-set_other)
-
-  gives-some : (before : List ControlFrame) → (link_at number l).waiting ≡ before ++ f ∷ behind → links.given (terms_at c number l) (link_at number l) ≡ None → ⊥
+  gives-some : (before : List ControlFrame) → (link_at number l).waiting ≡ before ++ f ∷ behind → link_given (terms_at c number l) (link_at number l) ≡ None → ⊥
   gives-some [] e none = subst (GoesWhole f) none (first-goes (terms_at c number l) (link_at number l) f behind e)
   gives-some (b ∷ bs) e none = subst (GoesWhole b) none (first-goes (terms_at c number l) (link_at number l) b (bs ++ f ∷ behind) e)
 
@@ -54,15 +38,13 @@ module _ (c : Config) (ranged : IsInRange c) (number tei : ℕ) (few : number < 
 
   by-given : (before : List ControlFrame) → (link_at number l).waiting ≡ before ++ f ∷ behind → (other : ℕ) (t : Taken)
       → (other ≡ number) ⊎ ((number ≢ other) × (way_round (link_count c) (other + 1) number + 1 ≤ way_round (link_count c) l.turn number))
-      → (o : Option Given) → links.given (terms_at c other l) (link_at other l) ≡ o → option_map (with_given_frame c l other (terms_at c other l)) o ≡ Some t → Step before t
+      → (o : Option Given) → link_given (terms_at c other l) (link_at other l) ≡ o → option_map (with_given_frame c l other (terms_at c other l)) o ≡ Some t → Step before t
   by-given before e other t which None given is = absurd (cc)
   by-given before e other t (inl same) (Some g) given is =
       let made : with_given_frame c l other (terms_at c other l) g ≡ t = cc in
       subst (Step before) (ap (λ n. with_given_frame c l n (terms_at c n l) g) (sym same) ∙ made)
-      (own-gives before e g (subst (λ n. links.given (terms_at c n l) (link_at n l) ≡ Some g) same given))
-  by-given before e other t (inr x) (Some g) given is =
-      let made : with_given_frame c l other (terms_at c other l) g ≡ t = cc in
-      subst (Step before) made (other-gives before e other g x.0 x.1)
+      (own-gives before e g (subst (λ n. link_given (terms_at c n l) (link_at n l) ≡ Some g) same given))
+  by-given before e other t (inr x) (Some g) given is = grind (arith, get_or-set_other)
 
   by-turn : (before : List ControlFrame) → (link_at number l).waiting ≡ before ++ f ∷ behind → (t : Taken) (other : ℕ) → IsInTurn c l other t → Step before t
   by-turn before e t other x =
@@ -70,23 +52,19 @@ module _ (c : Config) (ranged : IsInRange c) (number tei : ℕ) (few : number < 
       (⊎_elim (λ same. inl (sym same))
       (λ apart. ⊎_elim (λ same. inl same) (λ nearer. inr (apart, nearer))
       (comes-first (link_count c) l.turn s.turn (λ n. link_taken c l n ≡ None) number other x.before x.behind few x.place x.passed
-      (λ none. gives-some before e (none-taken (links.given (terms_at c number l) (link_at number l)) none))))
+      (λ none. gives-some before e (none-taken (link_given (terms_at c number l) (link_at number l)) none))))
       (cases_eq number other))
-      (links.given (terms_at c other l) (link_at other l)) refl x.given
+      (link_given (terms_at c other l) (link_at other l)) refl x.given
 
   by-all : (before : List ControlFrame) → (link_at number l).waiting ≡ before ++ f ∷ behind → (t : Taken) → taken c l ≡ Some t
       → (ms : List Message) → l.management.waiting ≡ ms → (us : List UnitData) → l.units ≡ us
       → option_or (option_map (with_message l) (option_map (messages.frame_of c.side) (slice_get ms 0))) (option_or (option_map (with_unit c l) (slice_get us 0)) (first_taken c l (round c l))) ≡ Some t
       → Step before t
-  by-all before e t some (m ∷ ms) em us eu is = let made : with_message l (messages.frame_of c.side m) ≡ t = cc in subst (Step before) made (by-message before e m ms em)
-  by-all before e t some [] em (u ∷ us) eu is = let made : with_unit c l u ≡ t = cc in subst (Step before) made (by-unit before e u us eu)
   by-all before e t some [] em [] eu is =
       let turn =
       links_take_turns c l t (ap (λ ms. option_map (with_message l) (option_map (messages.frame_of c.side) (slice_get ms 0))) em) (ap (λ us. option_map (with_unit c l) (slice_get us 0)) eu) some in
       by-turn before e t turn.0 turn.1
-
-  pub taken-step : (before : List ControlFrame) → (link_at number l).waiting ≡ before ++ f ∷ behind → (t : Taken) → taken c l ≡ Some t → Step before t
-  taken-step before e t some = by-all before e t some l.management.waiting refl l.units refl some
+  by-all before e t some ms em us eu is = grind (arith, one-less, by-unit)
 
   -- so a call takes it, or it comes nearer
   abbrev Goes : List ControlFrame → Line → Type 0
@@ -94,8 +72,7 @@ module _ (c : Config) (ranged : IsInRange c) (number tei : ℕ) (few : number < 
       ((t : Taken) × (taken c l ≡ Some t) × (t.frame ≡ control_text c number tei f)) ⊎ Nearer c number l before f behind (frames_before c l number (length before)) l'
 
   by-taken : (before : List ControlFrame) → (link_at number l).waiting ≡ before ++ f ∷ behind → (o : Option Taken) → taken c l ≡ o → Goes before (option_map_or line_of o l)
-  by-taken before e (Some t) some = ⊎_elim (λ is. inl (t, some, is)) (λ nearer. inr nearer) (taken-step before e t some)
-  by-taken before e None some = absurd (not-empty before f behind (sym e ∙ ((none-waits c l s some).links number few tei at).waiting))
+  by-taken before e o some = grind (arith, by-all, not-empty, none-waits)
 
   pub next-goes : (before : List ControlFrame) → (link_at number l).waiting ≡ before ++ f ∷ behind → Goes before (after c next l)
   unfolding after

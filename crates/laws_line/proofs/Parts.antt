@@ -1,14 +1,11 @@
 -- Each event of a line is one of one of its parts, or nothing changes.
-use Rattle.laws_line.proofs.Vocabulary.{◌≡◌, ◌≢◌, ◌⊎◌, inl, inr, ℕ, ◌<◌, true, false, ◌==◌, List, [], ◌∷◌, ◌++◌, length, get_or, set, Option, Some, None, refl, sym, ap, subst, arith, append-nil, append_assoc, eq-eqb, get_or-set_other, Refusal, Service, Call, Packet, Timer, T201, Change, LinkTimer, Config, is_change_at, Aim, at_link, at_management, told_of_management, of_change, of_aim, hears, request, next, told, nothing, at_timer, aim_of_expiry, Line, UnitData, link_number, link_count, place_at, tei_at, place_in, link_at, unless_refused_told, aim_of_heard, Request, Establish, Release, Assign, Remove, SetBusy, ClearBusy, Deactivate, at_requested, at_deactivated, aim_of_request, IsProper, heard_proper, expiry_proper, request_proper, Down, eqb-true, T200, T203, fresh, Event, expiry, after, answer, unless_refused, refusal, Data, Check, IsSound, noted_behind, IsManaged, IsGranted, IsOfPart, line_of_link as of_link, line_of_management as of_management, of_units, of_group, of_down, of_next, SaysNothing, IsOneEvent, is_granted, BringsMessage, IsOfManagement, GivesUp}
-use Rattle.model_bits.specs.Stream as stream
+use Rattle.laws_line.proofs.Vocabulary.{◌≡◌, ◌≢◌, ◌⊎◌, inl, inr, ℕ, ◌<◌, true, false, ◌==◌, List, [], ◌∷◌, ◌++◌, length, get_or, set, Option, Some, None, refl, sym, ap, subst, arith, append-nil, append_assoc, eq-eqb, get_or-set_other, Refusal, Service, Call, Packet, Timer, T201, Change, LinkTimer, Config, is_change_at, Aim, at_link, at_management, told_of_management, of_change, of_aim, hears, request, next, told, nothing, at_timer, aim_of_expiry, Line, UnitData, link_number, link_count, place_at, tei_at, place_in, link_at, unless_refused_told, aim_of_heard, Request, Establish, Release, Assign, Remove, SetBusy, ClearBusy, Deactivate, at_requested, at_deactivated, aim_of_request, IsProper, heard_proper, expiry_proper, request_proper, Down, eqb-true, T200, T203, fresh, Event, expiry, after, answer, unless_refused, refusal, Data, Check, IsSound, noted_behind, IsManaged, IsGranted, IsOfPart, line_of_link as of_link, line_of_management as of_management, of_units, of_group, of_down, of_next, SaysNothing, IsOneEvent, is_granted, BringsMessage, IsOfManagement, GivesUp, link_received, LinkEstablish, LinkRelease, link_expired, LinkClearBusy, link_requested, LinkRequest, LinkData, link_cleared, LinkSetBusy, LinkEvent, StreamEvent, begin_here, begin_away}
 use Rattle.lapd_tei.specs.Events as teis
 use Rattle.lapd_tei.specs.Laws as tei_laws
 use Rattle.lapd_tei.proofs.LawLemmas as tei_lemmas
-use Rattle.model_link.specs.Events as link
 use Rattle.laws_line.proofs.Alone.{is-alone}
 use Rattle.laws_line.proofs.Granting.{not-refused}
 use Rattle.laws_line.proofs.GroupAims.{heard-aims-at}
-use Rattle.model_line.proofs.LinksSound.{begin_here, begin_away}
 use Rattle.laws_line.proofs.Places.{has-place}
 use Rattle.laws_line.proofs.Tied.{Ties, heard-ties, expiry-ties, request-ties}
 use Rattle.laws_line.proofs.Told.{moved}
@@ -40,9 +37,6 @@ module _ (c : Config) (l : Line) (s : IsSound c l) (me : teis.Event) (fits : tei
   line-is : (o : Option Change) → there o ≡ record l { management = teis.after me l.management; links = (there o).links }
   line-is o = grind arith
 
-  places-are : (o : Option Change) → (there o).management.places ≡ places
-  places-are o = grind arith
-
   noted-is : (o : Option Change) → (of_change c o (told_of_management (teis.told me l.management)) (record l { management = teis.after me l.management })).told.notes
       ≡ (teis.told me l.management).notes ++ noted_behind c l o
   noted-is o = grind (arith, get_or-set_other, append_assoc, append-nil)
@@ -52,7 +46,7 @@ module _ (c : Config) (l : Line) (s : IsSound c l) (me : teis.Event) (fits : tei
   lost-is o = grind arith
 
   pub managed : IsManaged c l (of_aim c (at_management me) l).line (told (of_aim c (at_management me) l).told) me
-  managed = grind (arith, of-links, tei_lemmas.changes_are_told, line-is, places-are, noted-is, lost-is)
+  managed = grind (arith, of-links, tei_lemmas.changes_are_told, line-is, noted-is, lost-is)
 
 -- A message of a terminal, the expiry of T201, and a request of management that is granted.
 module _ (c : Config) (l : Line) (s : IsSound c l) where
@@ -69,8 +63,7 @@ module _ (c : Config) (l : Line) (s : IsSound c l) where
 
   -- a request that is granted is of a TEI of at most 126
   in-range : (r : Request) (me : teis.Event) → aim_of_request r l ≡ at_management me → refusal c false r l ≡ None → tei_laws.IsInRange me
-  in-range r me aim none =
-      subst (IsProper c l) aim (subst (λ o. IsProper c l (unless_refused o (aim_of_request r l))) none (request_proper c l r))
+  in-range r me aim none = grind (arith, request_proper)
 
   asked : (e : Event) (r : Request) (me : teis.Event) → aim_of_request r l ≡ at_management me → (e ≡ request r) × (is_granted (answer c e l) ≡ true) → Managed e me
   asked e r me aim by =
@@ -109,25 +102,25 @@ module _ (c : Config) (l : Line) (s : IsSound c l) (e : Event) where
       let f = of_aim c aim l in
       IsProper c l aim → Ties c e (told f.told) aim → IsOfPart c l e (told f.told) ⊎ ((f.line ≡ l) × SaysNothing (told f.told))
 
-  at-its-link : (service : Service) (tei place : ℕ) (event : link.Event) → Falls (at_link service tei place event)
+  at-its-link : (service : Service) (tei place : ℕ) (event : LinkEvent) → Falls (at_link service tei place event)
   at-its-link service tei place event proper by = inl (of_link service tei place event (has-place l.management.places tei place s.management.table proper) by)
 
   timer-falls : (service : Service) (tei : ℕ) (timer : LinkTimer) (o : Option ℕ) → Falls (at_timer service tei timer o)
   timer-falls service tei timer None proper by = inr (refl, refl)
-  timer-falls service tei timer (Some place) proper by = at-its-link service tei place (link.expired timer) proper by
+  timer-falls service tei timer (Some place) proper by = at-its-link service tei place (link_expired timer) proper by
 
-  asked-falls : (service : Service) (tei : ℕ) (what : link.Request) (o : Option ℕ) → Falls (at_requested service tei what o)
+  asked-falls : (service : Service) (tei : ℕ) (what : LinkRequest) (o : Option ℕ) → Falls (at_requested service tei what o)
   asked-falls service tei what None proper by = inr (refl, refl)
-  asked-falls service tei what (Some place) proper by = at-its-link service tei place (link.requested what false) proper by
+  asked-falls service tei what (Some place) proper by = at-its-link service tei place (link_requested what false) proper by
 
   deactivated-falls : (service : Service) (tei : ℕ) (o : Option ℕ) → Falls (at_deactivated service tei o)
   deactivated-falls service tei None proper by = inr (refl, refl)
-  deactivated-falls service tei (Some place) proper by = at-its-link service tei place link.cleared proper by
+  deactivated-falls service tei (Some place) proper by = at-its-link service tei place link_cleared proper by
 
-heard-falls : (c : Config) (l : Line) (s : IsSound c l) (e : stream.Event) → Falls c l s (hears e) (aim_of_heard c l e)
+heard-falls : (c : Config) (l : Line) (s : IsSound c l) (e : StreamEvent) → Falls c l s (hears e) (aim_of_heard c l e)
 heard-falls c l s e =
     heard-aims-at c l e (Falls c l s (hears e)) (λ cause proper by. inr (refl, refl))
-    (λ service tei place what. at-its-link c l s (hears e) service tei place (link.received what))
+    (λ service tei place what. at-its-link c l s (hears e) service tei place (link_received what))
     (λ parts ui proper by. inl (of_management (teis.message parts.info) (record {
       network = ui.network;
       parts = parts;
@@ -148,11 +141,11 @@ module _ (c : Config) (l : Line) (s : IsSound c l) where
   expiry-falls T201 = λ proper by. inl (of_management teis.expiry refl)
 
   request-falls : (r : Request) → Falls c l s (request r) (aim_of_request r l)
-  request-falls (Establish service tei) = asked-falls c l s (request (Establish service tei)) service tei link.Establish (place_in l tei)
-  request-falls (Release service tei) = asked-falls c l s (request (Release service tei)) service tei link.Release (place_in l tei)
-  request-falls (Data service tei contents) = asked-falls c l s (request (Data service tei contents)) service tei (link.Data contents) (place_in l tei)
-  request-falls (SetBusy service tei) = asked-falls c l s (request (SetBusy service tei)) service tei link.SetBusy (place_in l tei)
-  request-falls (ClearBusy service tei) = asked-falls c l s (request (ClearBusy service tei)) service tei link.ClearBusy (place_in l tei)
+  request-falls (Establish service tei) = asked-falls c l s (request (Establish service tei)) service tei LinkEstablish (place_in l tei)
+  request-falls (Release service tei) = asked-falls c l s (request (Release service tei)) service tei LinkRelease (place_in l tei)
+  request-falls (Data service tei contents) = asked-falls c l s (request (Data service tei contents)) service tei (LinkData contents) (place_in l tei)
+  request-falls (SetBusy service tei) = asked-falls c l s (request (SetBusy service tei)) service tei LinkSetBusy (place_in l tei)
+  request-falls (ClearBusy service tei) = asked-falls c l s (request (ClearBusy service tei)) service tei LinkClearBusy (place_in l tei)
   request-falls (Deactivate service tei) = deactivated-falls c l s (request (Deactivate service tei)) service tei (place_in l tei)
   request-falls (Request.Unit service tei contents) = λ proper by.
       inl (of_units (record { service = service; tei = tei; contents = contents }) (record { by = refl; granted = refl }))

@@ -1,10 +1,9 @@
 -- Lines that meet what the laws of what waits ask, and what those give.
-use Rattle.laws_line.proofs.Vocabulary.{◌+◌, ◌≤◌, length, refl, inl, arith, hears, request, fresh_line, Assign, after_sound, fresh_sound, IsSound, IsEnough, small, sabme_octets, poll_octets, before_poll, call_link, one_waits, asked, two_to_go, before_sabme}
-use Rattle.model_bits.specs.Stream as stream
+use Rattle.laws_line.proofs.Vocabulary.{◌+◌, ◌≤◌, length, refl, inl, arith, hears, request, fresh_line, Assign, after_sound, fresh_sound, IsSound, IsEnough, small, sabme_octets, poll_octets, before_poll, call_link, one_waits, asked, two_to_go, before_sabme, stream_frame}
 
 pub before-sound : IsSound small before_poll
 before-sound =
-    after_sound small refl (hears (stream.frame sabme_octets)) before_sabme (after_sound small refl (request (Assign 64)) (fresh_line small) (fresh_sound small refl))
+    after_sound small refl (hears (stream_frame sabme_octets)) before_sabme (after_sound small refl (request (Assign 64)) (fresh_line small) (fresh_sound small refl))
 
 pub room : length (call_link before_poll).waiting + 1 ≤ 2
 room = omega (arith, one_waits)
@@ -14,4 +13,4 @@ enough = inl (omega (arith, two_to_go))
 
 -- Behind the poll two frames wait: the second is taken within the calls that are enough for whatever waits,
 pub asked-sound : IsSound small asked
-asked-sound = after_sound small refl (hears (stream.frame poll_octets)) before_poll before-sound
+asked-sound = after_sound small refl (hears (stream_frame poll_octets)) before_poll before-sound

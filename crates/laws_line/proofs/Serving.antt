@@ -1,8 +1,5 @@
 -- What is taken.
-use Rattle.laws_line.proofs.Vocabulary.{◌≡◌, ℕ, ◌+◌, ◌<◌, false, cond, List, [], ◌∷◌, ◌++◌, drop, take, slice_get, get_or, set, Option, Some, None, refl, sym, ap, ◌∙◌, subst, arith, zero-add, append-nil, IfSome, range_with_len, option_or, option_map_or, get_or-set_same, take-append-drop, All-head, All-tail, All-nil, All-cons, All-get_or, All-append, get_or-range_with_len, length-range_with_len, none-some, Refusal, Service, Timer, LinkTimer, Link, is_information, Given, IsInOrder, IsOffered, given-in-order, given-is-offered, carried-is, offer-counts, nothing-given, Message, Config, hears, request, next, Aim, at_units, of_aim, at_timer, aim_of_expiry, aim_of_heard, Request, at_requested, at_deactivated, aim_of_request, heard_aims, Line, UnitData, link_count, service_at, place_at, tei_at, terms, terms_at, link_at, with_link, unless_refused_told, Taken, with_unit, with_given_frame, link_taken, first_taken, round, taken, IsSoundAt, round_below, at_no_link, option_map, All, fresh, link_one as one, frame_of, Event, expiry, refusal, is_granted, after, answer, unless_refused, with_message, IsSound, IsSilent, IsSilentAt, IsItsTurn, IsOfLink, IsOwed, HasNothing, line_contents_of as contents_of, IsServed, unit_asked, units_behind, units_left, UnitsWait, TurnStays}
-use Rattle.model_bits.specs.Stream as stream
-use Rattle.model_link.specs.Events as link
-use Rattle.model_link.specs.Machine as links
+use Rattle.laws_line.proofs.Vocabulary.{◌≡◌, ℕ, ◌+◌, ◌<◌, false, cond, List, [], ◌∷◌, ◌++◌, drop, take, slice_get, get_or, set, Option, Some, None, refl, sym, ap, ◌∙◌, subst, arith, zero-add, append-nil, IfSome, range_with_len, option_or, option_map_or, get_or-set_same, take-append-drop, All-head, All-tail, All-nil, All-cons, All-get_or, All-append, get_or-range_with_len, length-range_with_len, none-some, Refusal, Service, Timer, LinkTimer, Link, is_information, Given, IsInOrder, IsOffered, given-in-order, given-is-offered, carried-is, offer-counts, nothing-given, Message, Config, hears, request, next, Aim, at_units, of_aim, at_timer, aim_of_expiry, aim_of_heard, Request, at_requested, at_deactivated, aim_of_request, heard_aims, Line, UnitData, link_count, service_at, place_at, tei_at, terms, terms_at, link_at, with_link, unless_refused_told, Taken, with_unit, with_given_frame, link_taken, first_taken, round, taken, IsSoundAt, round_below, at_no_link, option_map, All, fresh, link_one as one, frame_of, Event, expiry, refusal, is_granted, after, answer, unless_refused, with_message, IsSound, IsSilent, IsSilentAt, IsItsTurn, IsOfLink, IsOwed, HasNothing, line_contents_of as contents_of, IsServed, unit_asked, units_behind, units_left, UnitsWait, TurnStays, LinkRequest, link_offer, link_given, link_after, StreamEvent}
 use Rattle.model_link.specs.Sound as link_sound
 use Rattle.laws_line.proofs.Silence.{silent}
 use Rattle.laws_line.proofs.Downs.{by-down}
@@ -22,27 +19,16 @@ module _ (c : Config) (l : Line) (s : IsSound c l) where
   LinkFate number None = IsSilentAt c l number
   LinkFate number (Some t) = IsItsTurn c l number → IsOfLink c (contents_of l) l t.line t.frame
 
-  -- one link
-  fresh-gives : (number : ℕ) → link_at number l ≡ fresh → links.given (terms_at c number l) (link_at number l) ≡ None
-  fresh-gives number e = ap (links.given (terms_at c number l)) e
-
   by-link : (number : ℕ) → number < link_count c → LinkFate number (link_taken c l number)
   by-link number few = go (tei_at (place_at number) l) refl (s.links number few)
     where
       at-tei : (tei : ℕ) → tei_at (place_at number) l ≡ Some tei → link_sound.IsSound (terms c (service_at number) tei) (link_at number l)
-          → (o : Option Given) → links.given (terms c (service_at number) tei) (link_at number l) ≡ o
+          → (o : Option Given) → link_given (terms c (service_at number) tei) (link_at number l) ≡ o
           → LinkFate number (option_map (with_given_frame c l number (terms c (service_at number) tei)) o)
-      at-tei tei at sound None e =
-          let t = terms c (service_at number) tei in (
-          λ other at'. subst (λ n. IsSilent (terms c (service_at number) n) (link_at number l)) (same-tei at at')
-          (silent t (link_at number l) sound (nothing-given t (link_at number l) e))
-          )
-        where
-          same-tei : {n m : ℕ} → tei_at (place_at number) l ≡ Some n → tei_at (place_at number) l ≡ Some m → n ≡ m
-          same-tei e e' = let both : Some _ ≡ Some _ = sym e ∙ e' in cc
+      at-tei tei at sound None e = grind (arith, silent, nothing-given)
       at-tei tei at sound (Some g) e =
           let t = terms c (service_at number) tei in
-          let after_it = links.after t link.offer (link_at number l) in
+          let after_it = link_after t link_offer (link_at number l) in
           let carried : IsOffered (contents_of l number) (link_at number l).s g.frame g.contents =
           subst (λ o. IfSome o (λ g. IsOffered (link_at number l).contents (link_at number l).s g.frame g.contents)) e (given-is-offered t (link_at number l) sound) in
           let counts : after_it.s ≡ (link_at number l).s + one (is_information g.frame.control) =
@@ -68,7 +54,7 @@ module _ (c : Config) (l : Line) (s : IsSound c l) where
           )
 
       go : (o : Option ℕ) → tei_at (place_at number) l ≡ o → IsSoundAt c number (link_at number l) o → LinkFate number (link_taken c l number)
-      go o e begins = grind (arith, option_map, fresh-gives, none-some, at-tei)
+      go o e begins = grind (arith, option_map, none-some, at-tei)
 
   -- all links of a round
   abbrev Idle : ℕ → Type 0
@@ -118,12 +104,8 @@ module _ (c : Config) (l : Line) (s : IsSound c l) where
       subst Idle (get_or-range_with_len 0 (link_count c) number 0 few ∙ zero-add number)
       (All-get_or Idle numbers number 0 (omega (arith, length-range_with_len 0 (link_count c), few)) all)
 
-  by-all : (m : Option Message) → slice_get l.management.waiting 0 ≡ m → (u : Option UnitData) → slice_get l.units 0 ≡ u
-      → Fate (option_or (option_map (with_message l) (option_map (frame_of c.side) m)) (option_or (option_map (with_unit c l) u) (first_taken c l (round c l))))
-  by-all m e u e' = grind (arith, no-first, by-round, round_below, whole-round)
-
   taken-is : Fate (taken c l)
-  taken-is = by-all (slice_get l.management.waiting 0) refl (slice_get l.units 0) refl
+  taken-is = grind (arith, no-first, by-round, round_below, whole-round)
 
   pub none-waits : taken c l ≡ None → HasNothing c l
   none-waits e = subst Fate e taken-is
@@ -145,10 +127,7 @@ module _ (c : Config) where
   abbrev units_by : Aim → List UnitData → List UnitData
   units_by aim units = left_by aim units ++ unit_of aim
 
-  aim-units : (l m : Line) (aim : Aim) → m.units ≡ l.units → (of_aim c aim m).line.units ≡ units_by aim l.units
-  aim-units l m aim e = grind (arith, append-nil, by-down)
-
-  none-heard : (l : Line) (e : stream.Event) → units_by (aim_of_heard c l e) l.units ≡ l.units
+  none-heard : (l : Line) (e : StreamEvent) → units_by (aim_of_heard c l e) l.units ≡ l.units
   none-heard l e =
       let none = append-nil l.units in
       heard_aims c l (λ aim. units_by aim l.units ≡ l.units) (λ cause. none) (λ service tei place what at. none) (λ info. none) (λ parts service to. none) e
@@ -159,26 +138,16 @@ module _ (c : Config) where
   by-expiry : (l : Line) (timer : Timer) → units_by (aim_of_expiry timer l) l.units ≡ l.units
   by-expiry l timer = grind (arith, by-timer, append-nil)
 
-  by-asked : (service : Service) (tei : ℕ) (what : link.Request) (o : Option ℕ) (units : List UnitData) → units_by (at_requested service tei what o) units ≡ units ++ []
+  by-asked : (service : Service) (tei : ℕ) (what : LinkRequest) (o : Option ℕ) (units : List UnitData) → units_by (at_requested service tei what o) units ≡ units ++ []
   by-asked service tei what o units = grind arith
 
-  by-deactivated : (service : Service) (tei : ℕ) (o : Option ℕ) (units : List UnitData) → units_by (at_deactivated service tei o) units ≡ units ++ []
-  by-deactivated service tei o units = grind arith
-
   by-request : (l : Line) (r : Request) → units_by (aim_of_request r l) l.units ≡ units_behind r l.units ++ unit_asked r
-  by-request l r = grind (arith, by-asked, by-deactivated)
+  by-request l r = grind (arith, by-asked)
 
 pub units-wait : (c : Config) (e : Event) (l : Line) → UnitsWait e l (after c e l) (answer c e l)
 unfolding after answer
-units-wait c (hears e) l = aim-units c l l (aim_of_heard c l e) refl ∙ none-heard c l e
-units-wait c (expiry timer) l = aim-units c l l (aim_of_expiry timer l) refl ∙ by-expiry c l timer
-units-wait c (request r) l = go (refusal c false r l)
-  where
-    go : (o : Option Refusal) → (of_aim c (unless_refused o (aim_of_request r l)) l).line.units
-        ≡ units_left r (unless_refused_told o (of_aim c (unless_refused o (aim_of_request r l)) l)) l.units
-        ++ cond (is_granted (unless_refused_told o (of_aim c (unless_refused o (aim_of_request r l)) l))) (unit_asked r) []
-    go o = grind (arith, aim-units, by-request, append-nil)
-units-wait c next l = tt
+units-wait c (hears e) l = (grind (arith, append-nil, by-down)) ∙ none-heard c l e
+units-wait c e l = grind (arith, append-nil, by-down, by-expiry, by-request)
 
 -- Whose turn it is stays.
 pub turn-stays : (c : Config) (e : Event) (l : Line) → TurnStays e l (after c e l)

@@ -59,12 +59,8 @@ module _ (octets : List ℕ) (m : Management) (s : IsSound m) where
   verifies : (tei : ℕ) → Noted (message octets) ((cond (may_be_checked tei m) (begin_check tei) unserved) (begun m))
   verifies tei = either (message octets) (may_be_checked tei m) (begin_check tei) unserved (begun m) (λ begins. refl) (λ stays. refl)
 
-  by-type : (type ri action : ℕ) (request response verify : Bool) → (type == 1 && action == 127) ≡ request → (type == 5) ≡ response → (type == 7) ≡ verify
-      → Noted (message octets) (serve (heard_of_type type ri action) (begun m))
-  by-type type ri action request response verify one two three = grind (arith, asks, responds, verifies)
-
   by-frame : (type ri action : ℕ) (b : Bool) → Noted (message octets) (serve (cond b (heard_of_type type ri action) None) (begun m))
-  by-frame type ri action b = grind (arith, by-type)
+  by-frame type ri action b = grind (arith, asks, responds, verifies)
 
   serves : (heard : List ℕ) → Noted (message octets) (serve (heard_in heard) (begun m))
   serves heard = grind (arith, by-frame)

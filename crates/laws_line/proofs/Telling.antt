@@ -38,9 +38,7 @@ module _ (before after : Management) (ri tei : ℕ) (more : after.waiting ≡ be
   -- of the rows only those of an identity request tell one
   asked : (own : ℕ) (message : Message) → after.waiting ≡ before.waiting ++ message ∷ []
       → IsToldAgain own before after message ⊎ IsAssigned own before after message ⊎ IsDenied own before after message → is_on tei after.places ≡ true
-  asked own message behind (inl again) =
-      let is : again.tei ≡ tei = ap action_of (sym again.message_is ∙ same message behind) in
-      ap (λ ps. is_on tei ps) again.stays.places ∙ ap (λ n. is_on n before.places) (sym is) ∙ again.on_line
+  asked own message behind (inl again) = grind (arith, same)
   asked own message behind (inr (inl new)) =
       let is : new.tei ≡ tei = ap action_of (sym new.message_is ∙ same message behind) in
       ap (λ n. is_on n after.places) (sym is)

@@ -1,9 +1,5 @@
 -- Where all that a link keeps goes, layer 3 learns it.
-use Rattle.laws_line.proofs.Vocabulary.{arith, ◌≡◌, ◌≢◌, ℕ, Bool, true, false, cond, ◌||◌, ◌&&◌, ◌==◌, List, [], ◌∷◌, get_or, Option, Some, None, is_some, refl, sym, ap, ◌∙◌, subst, true≢false, eq-eqb, ◌⊎◌, inl, inr, ⊎_elim, list_any, option_map_or, get_or-set_same, All-head, All-tail, none-some, Note, Refusal, Service, Timer, T201, same_service, Terms, LinkTimer, IsOwn, notes-own, is_loss, tells_loss, is_release, ends, share, Management, IsAt, Change, place_of-is, Config, request, LineTold, told, nothing, hears, next, is_change_at, Aim, at_none, at_link, at_management, at_units, told_of_management, of_change, of_aim, at_timer, aim_of_expiry, Line, link_number, service_at, place_at, tei_at, place_in, link_in, terms, unless_refused_told, aim_of_heard, Request, Establish, Release, Assign, Remove, SetBusy, ClearBusy, Deactivate, at_requested, at_deactivated, aim_of_request, IsProper, place_at-number, service_at-number, heard_aims, request_proper, Down, at_no_link, eqb-true, All, T200, T203, Event, expiry, after, answer, unless_refused, refusal, Data, Unit, Check, IsSound, no_share, ending, share_aimed, share_of, is_link, is_loss_of, IsTold}
-use Rattle.model_bits.specs.Stream as stream
-use Rattle.model_link.specs.Events as link
-use Rattle.model_link.specs.Machine as links
-use Rattle.lapd_tei.specs.Events as teis
+use Rattle.laws_line.proofs.Vocabulary.{arith, ◌≡◌, ◌≢◌, ℕ, Bool, true, false, cond, ◌||◌, ◌&&◌, ◌==◌, List, [], ◌∷◌, get_or, Option, Some, None, is_some, refl, sym, ap, ◌∙◌, subst, true≢false, eq-eqb, ◌⊎◌, inl, inr, ⊎_elim, list_any, option_map_or, get_or-set_same, All-head, All-tail, none-some, Note, Refusal, Service, Timer, T201, same_service, Terms, LinkTimer, IsOwn, notes-own, is_loss, tells_loss, is_release, ends, share, Management, IsAt, Change, place_of-is, Config, request, LineTold, told, nothing, hears, next, is_change_at, Aim, at_none, at_link, at_management, at_units, told_of_management, of_change, of_aim, at_timer, aim_of_expiry, Line, link_number, service_at, place_at, tei_at, place_in, link_in, terms, unless_refused_told, aim_of_heard, Request, Establish, Release, Assign, Remove, SetBusy, ClearBusy, Deactivate, at_requested, at_deactivated, aim_of_request, IsProper, place_at-number, service_at-number, heard_aims, request_proper, Down, at_no_link, eqb-true, All, T200, T203, Event, expiry, after, answer, unless_refused, refusal, Data, Unit, Check, IsSound, no_share, ending, share_aimed, share_of, is_link, is_loss_of, IsTold, link_received, LinkRelease, LinkEstablish, link_expired, LinkClearBusy, link_requested, LinkRequest, LinkData, link_cleared, LinkSetBusy, LinkEvent, link_told, StreamEvent, message, tei_told, check, tei_after, remove, assigning, tei_expiry, TeiEvent}
 use Rattle.lapd_tei.specs.Laws as tei_laws
 use Rattle.lapd_tei.proofs.LawLemmas as tei_lemmas
 
@@ -16,10 +12,7 @@ own-loss t n own = grind (arith, its-own)
 
 own-losses : (t : Terms) (ns : List Note) → All (IsOwn t) ns → list_any (is_loss_of t.service t.tei) ns ≡ tells_loss ns
 own-losses t [] all = refl
-own-losses t (n ∷ ns) all =
-    let here = own-loss t n (All-head (IsOwn t) n ns all) in
-    let rest = own-losses t ns (All-tail (IsOwn t) n ns all) in
-    rw (here, rest) refl
+own-losses t (n ∷ ns) all = rw ((own-loss t n (All-head (IsOwn t) n ns all)), (own-losses t ns (All-tail (IsOwn t) n ns all))) refl
 
 one-of : (a b : Bool) → (a || b) ≡ true → (a ≡ true) ⊎ (b ≡ true)
 one-of a b e = grind arith
@@ -34,7 +27,7 @@ module _ (c : Config) (l : Line) (s : IsSound c l) (number : ℕ) where
   Tells e aim = (share_aimed c number l aim).empties ≡ true → IsTold number e l (of_aim c aim l).line (told (of_aim c aim l).told)
 
   -- an event of this link
-  at-link : (event : Event) (service : Service) (tei place : ℕ) (e : link.Event) → IsAt l.management.places place tei
+  at-link : (event : Event) (service : Service) (tei place : ℕ) (e : LinkEvent) → IsAt l.management.places place tei
       → (ends (terms c service tei) e (link_in l service place) ≡ true → link_number place service ≡ number
       → IsTold number event l (of_aim c (at_link service tei place e) l).line (told (of_aim c (at_link service tei place e) l).told))
       → Tells event (at_link service tei place e)
@@ -56,10 +49,10 @@ module _ (c : Config) (l : Line) (s : IsSound c l) (number : ℕ) where
           (λ y. inr (inl (record {
             tei = tei;
             at_place = x.0;
-            noted = subst (λ v. list_any (is_loss_of v tei) (links.told t e (link_in l service place)).notes ≡ true) x.1
-                (own-losses t (links.told t e (link_in l service place)).notes (notes-own t e (link_in l service place)) ∙ y);
+            noted = subst (λ v. list_any (is_loss_of v tei) (link_told t e (link_in l service place)).notes ≡ true) x.1
+                (own-losses t (link_told t e (link_in l service place)).notes (notes-own t e (link_in l service place)) ∙ y);
           })))
-          (one-of (ends t e (link_in l service place)) (tells_loss (links.told t e (link_in l service place)).notes) some)
+          (one-of (ends t e (link_in l service place)) (tells_loss (link_told t e (link_in l service place)).notes) some)
 
   changes : (event : Event) (o : Option Change) (r : LineTold) (m : Management) → tei_laws.Moves l.management.places o m.places
       → (cond (is_change_at (place_at number) o) ending no_share).empties ≡ true
@@ -72,42 +65,38 @@ module _ (c : Config) (l : Line) (s : IsSound c l) (number : ℕ) where
       places-are : (o : Option Change) → get_or m.places (place_at number) None ≡ tei_at (place_at number) (of_change c o r (record l { management = m })).line
       places-are o = grind arith
 
-  management : (event : Event) (e : teis.Event) → tei_laws.IsInRange e → Tells event (at_management e)
+  management : (event : Event) (e : TeiEvent) → tei_laws.IsInRange e → Tells event (at_management e)
   management event e fits =
-      changes event (teis.told e l.management).change (told_of_management (teis.told e l.management)) (teis.after e l.management)
+      changes event (tei_told e l.management).change (told_of_management (tei_told e l.management)) (tei_after e l.management)
       (tei_lemmas.changes_are_told e l.management fits s.management)
 
   no-loss : (event : Event) (aim : Aim) → (share_aimed c number l aim).empties ≡ false → Tells event aim
   no-loss event aim none some = absurd (true≢false (sym some ∙ none))
 
   -- what is heard
-  pub heard-tells : (event : Event) (e : stream.Event) → Tells event (aim_of_heard c l e)
+  pub heard-tells : (event : Event) (e : StreamEvent) → Tells event (aim_of_heard c l e)
   heard-tells event =
       heard_aims c l (Tells event) (λ cause. no-loss event (at_none _) refl)
-      (λ service tei place what at. at-link event service tei place (link.received what) (place_of-is l.management.places tei place at).1 (λ y is. absurd (true≢false (sym y))))
-      (λ info. management event (teis.message info) tt) (λ parts service to. no-loss event (at_none _) refl)
+      (λ service tei place what at. at-link event service tei place (link_received what) (place_of-is l.management.places tei place at).1 (λ y is. absurd (true≢false (sym y))))
+      (λ info. management event (message info) tt) (λ parts service to. no-loss event (at_none _) refl)
 
   timer-tells : (event : Event) (service : Service) (tei : ℕ) (timer : LinkTimer) (o : Option ℕ) → place_in l tei ≡ o → Tells event (at_timer service tei timer o)
   timer-tells event service tei timer None e = no-loss event (at_none nothing) refl
-  timer-tells event service tei timer (Some place) e = at-link event service tei place (link.expired timer) (place_of-is l.management.places tei place e).1 (λ y is. absurd (true≢false (sym y)))
+  timer-tells event service tei timer (Some place) e = at-link event service tei place (link_expired timer) (place_of-is l.management.places tei place e).1 (λ y is. absurd (true≢false (sym y)))
 
   pub expiry-tells : (event : Event) (timer : Timer) → Tells event (aim_of_expiry timer l)
   expiry-tells event (T200 service tei) = timer-tells event service tei LinkTimer.T200 (place_in l tei) refl
   expiry-tells event (T203 service tei) = timer-tells event service tei LinkTimer.T203 (place_in l tei) refl
-  expiry-tells event T201 = management event teis.expiry tt
+  expiry-tells event T201 = management event tei_expiry tt
 
   -- what is asked for
   neither : (b : Bool) → cond b false false ≡ true → ⊥
   neither b e = grind arith
 
-  asked-tells : (event : Event) (service : Service) (tei : ℕ) (what : link.Request) (o : Option ℕ) → place_in l tei ≡ o → is_release what ≡ false
-      → Tells event (at_requested service tei what o)
-  asked-tells event service tei what o e x = grind (arith, no-loss, at-link, place_of-is, neither, is_some)
-
-  release-tells : (service : Service) (tei : ℕ) (o : Option ℕ) → place_in l tei ≡ o → Tells (request (Release service tei)) (at_requested service tei link.Release o)
+  release-tells : (service : Service) (tei : ℕ) (o : Option ℕ) → place_in l tei ≡ o → Tells (request (Release service tei)) (at_requested service tei LinkRelease o)
   release-tells service tei None e = no-loss (request (Release service tei)) (at_none nothing) refl
   release-tells service tei (Some place) e =
-      at-link (request (Release service tei)) service tei place (link.requested link.Release false) (place_of-is l.management.places tei place e).1
+      at-link (request (Release service tei)) service tei place (link_requested LinkRelease false) (place_of-is l.management.places tei place e).1
       (λ y is. inl (record {
         service = service;
         tei = tei;
@@ -119,7 +108,7 @@ module _ (c : Config) (l : Line) (s : IsSound c l) (number : ℕ) where
   deactivated-tells : (service : Service) (tei : ℕ) (o : Option ℕ) → place_in l tei ≡ o → Tells (request (Deactivate service tei)) (at_deactivated service tei o)
   deactivated-tells service tei None e = no-loss (request (Deactivate service tei)) (at_none nothing) refl
   deactivated-tells service tei (Some place) e =
-      at-link (request (Deactivate service tei)) service tei place link.cleared (place_of-is l.management.places tei place e).1
+      at-link (request (Deactivate service tei)) service tei place link_cleared (place_of-is l.management.places tei place e).1
       (λ y is. inl (record {
         service = service;
         tei = tei;
@@ -129,27 +118,11 @@ module _ (c : Config) (l : Line) (s : IsSound c l) (number : ℕ) where
       }))
 
   pub request-tells : (r : Request) → IsProper c l (aim_of_request r l) → Tells (request r) (aim_of_request r l)
-  request-tells (Establish service tei) proper = asked-tells _ service tei link.Establish (place_in l tei) refl refl
-  request-tells (Release service tei) proper = release-tells service tei (place_in l tei) refl
-  request-tells (Data service tei contents) proper = asked-tells _ service tei (link.Data contents) (place_in l tei) refl refl
-  request-tells (Unit service tei contents) proper = no-loss _ (at_units (record { service = service; tei = tei; contents = contents })) refl
-  request-tells (Assign tei) proper = management _ (teis.assign tei) proper
-  request-tells (Remove tei) proper = management _ (teis.remove tei) proper
-  request-tells (Check tei) proper = management _ (teis.check tei) proper
-  request-tells (SetBusy service tei) proper = asked-tells _ service tei link.SetBusy (place_in l tei) refl refl
-  request-tells (ClearBusy service tei) proper = asked-tells _ service tei link.ClearBusy (place_in l tei) refl refl
-  request-tells (Deactivate service tei) proper = deactivated-tells service tei (place_in l tei) refl
-  request-tells Down proper = no-loss _ at_no_link refl
+  request-tells (Establish service tei) proper = grind (arith, no-loss, at-link, place_of-is, neither, is_some)
+  request-tells r proper = grind (arith, release-tells, no-loss, at-link, place_of-is, neither, is_some, management, deactivated-tells)
 
 pub loss-told : (c : Config) (e : Event) (l : Line) (number : ℕ) → IsSound c l → (share_of c number e l).empties ≡ true
     → IsTold number e l (after c e l) (answer c e l)
 unfolding after answer
 loss-told c (hears e) l number s = heard-tells c l s number (hears e) e
-loss-told c (expiry timer) l number s = expiry-tells c l s number (expiry timer) timer
-loss-told c (request r) l number s = go (refusal c false r l) (request_proper c l r)
-  where
-    go : (o : Option Refusal) → IsProper c l (unless_refused o (aim_of_request r l)) → (share_aimed c number l (unless_refused o (aim_of_request r l))).empties ≡ true
-        → IsTold number (request r) l (of_aim c (unless_refused o (aim_of_request r l)) l).line (unless_refused_told o (of_aim c (unless_refused o (aim_of_request r l)) l))
-    go None proper = request-tells c l s number r proper
-    go (Some why) proper = λ none. absurd (true≢false (sym none))
-loss-told c next l number s = λ none. absurd (true≢false (sym none))
+loss-told c e l number s = grind (arith, expiry-tells, request_proper, request-tells)

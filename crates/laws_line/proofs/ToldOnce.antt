@@ -1,11 +1,7 @@
 -- Contents that an answer hands on are noted once.
-use Rattle.laws_line.proofs.Vocabulary.{◌≡◌, ℕ, ◌+◌, false, cond, List, [], ◌∷◌, ◌++◌, length, Option, Some, None, option_to_list, refl, ◌⊎◌, arith, count_by, option_or, sum_by-cons, sum_by-append, Note, Refusal, Service, Timer, Terms, LinkTimer, Link, is_data, is_unit, event-tells, Change, place_of-is, Config, request, hears, next, Aim, at_link, at_management, told_of_management, of_change, of_aim, at_timer, aim_of_expiry, Line, place_in, link_in, terms, unless_refused_told, aim_of_heard, Request, Establish, Release, Assign, Remove, SetBusy, ClearBusy, Deactivate, at_requested, at_deactivated, aim_of_request, IsInRange, sound_in, heard_aims, Down, Event, expiry, answer, unless_refused, refusal, Data, Unit, Check, IsSound, tells_contents, IsNotedOnce}
-use Rattle.model_bits.specs.Stream as stream
-use Rattle.model_link.specs.Events as link
-use Rattle.model_link.specs.Machine as links
+use Rattle.laws_line.proofs.Vocabulary.{◌≡◌, ℕ, ◌+◌, false, cond, List, [], ◌∷◌, ◌++◌, length, Option, Some, None, option_to_list, refl, ◌⊎◌, arith, count_by, option_or, sum_by-cons, sum_by-append, Note, Refusal, Service, Timer, Terms, LinkTimer, Link, is_data, is_unit, event-tells, Change, place_of-is, Config, request, hears, next, Aim, at_link, at_management, told_of_management, of_change, of_aim, at_timer, aim_of_expiry, Line, place_in, link_in, terms, unless_refused_told, aim_of_heard, Request, Establish, Release, Assign, Remove, SetBusy, ClearBusy, Deactivate, at_requested, at_deactivated, aim_of_request, IsInRange, sound_in, heard_aims, Down, Event, expiry, answer, unless_refused, refusal, Data, Unit, Check, IsSound, tells_contents, IsNotedOnce, link_received, LinkEstablish, LinkRelease, link_expired, LinkClearBusy, link_requested, LinkRequest, LinkData, link_cleared, LinkSetBusy, LinkEvent, link_told, StreamEvent, message, tei_told, check, tei_after, remove, assigning, TeiEvent}
 use Rattle.model_link.specs.Sound as link_sound
 use Rattle.laws_link.proofs.Once as link_once
-use Rattle.lapd_tei.specs.Events as teis
 use Rattle.laws_line.proofs.TeiNotes.{ByChange, noted}
 use Rattle.laws_line.proofs.Downs.{by-down}
 
@@ -16,34 +12,23 @@ one-note n = grind arith
 both : (ns : List Note) → count_by tells_contents ns ≡ count_by is_data ns + count_by is_unit ns
 both [] = refl
 both (n ∷ ns) =
-    let rest = both ns in
     let all = sum_by-cons (λ n. cond (tells_contents n) 1 0) n ns in
-    let data-all = sum_by-cons (λ n. cond (is_data n) 1 0) n ns in
     let unit-all = sum_by-cons (λ n. cond (is_unit n) 1 0) n ns in
-    omega (arith, rest, all, data-all, unit-all, one-note n)
+    omega (arith, (both ns), all, (sum_by-cons (λ n. cond (is_data n) 1 0) n ns), unit-all, one-note n)
 
 -- A link's.
 either-one : (d u : Option (List ℕ)) → (d ≡ None) ⊎ (u ≡ None) → length (option_to_list d) + length (option_to_list u) ≡ length (option_to_list (option_or d u))
 either-one d u one = grind arith
 
-link-once : (t : Terms) (l : Link) → link_sound.IsSound t l → (e : link.Event)
-    → count_by tells_contents (links.told t e l).notes ≡ length (option_to_list (option_or (links.told t e l).delivered (links.told t e l).unit))
+link-once : (t : Terms) (l : Link) → link_sound.IsSound t l → (e : LinkEvent)
+    → count_by tells_contents (link_told t e l).notes ≡ length (option_to_list (option_or (link_told t e l).delivered (link_told t e l).unit))
 link-once t l s e =
     let noted = link_once.noted-once t l s e in
-    let one = either-one (links.told t e l).delivered (links.told t e l).unit (event-tells t e l).2 in
-    omega (arith, both (links.told t e l).notes, noted.contents, noted.unit, one)
+    omega (arith, both (link_told t e l).notes, noted.contents, noted.unit, (either-one (link_told t e l).delivered (link_told t e l).unit (event-tells t e l).2))
 
 -- A link whose TEI leaves the line tells of no contents.
-cleared-none : (t : Terms) (l : Link) → count_by tells_contents (links.told t link.cleared l).notes ≡ 0
+cleared-none : (t : Terms) (l : Link) → count_by tells_contents (link_told t link_cleared l).notes ≡ 0
 cleared-none t l = grind arith
-
--- TEI management's: none is of contents.
-management-none : (e : teis.Event) (o : Option Change) (ns : List Note) → ByChange e o ns → count_by tells_contents ns ≡ 0
-management-none e o ns by = grind arith
-
-three-none : (a b c : List Note) → count_by tells_contents a ≡ 0 → count_by tells_contents b ≡ 0 → count_by tells_contents c ≡ 0
-    → count_by tells_contents (a ++ b ++ c) ≡ 0
-three-none a b c one two three = grind (arith, sum_by-append)
 
 -- What an event aims at.
 module _ (c : Config) (ranged : IsInRange c) (l : Line) (s : IsSound c l) where
@@ -52,49 +37,46 @@ module _ (c : Config) (ranged : IsInRange c) (l : Line) (s : IsSound c l) where
       let t = (of_aim c aim l).told in
       count_by tells_contents t.notes ≡ length (option_to_list t.contents)
 
-  at-its-link : (service : Service) (tei place : ℕ) (e : link.Event) → place_in l tei ≡ Some place → Once (at_link service tei place e)
+  at-its-link : (service : Service) (tei place : ℕ) (e : LinkEvent) → place_in l tei ≡ Some place → Once (at_link service tei place e)
   at-its-link service tei place e on =
       link-once (terms c service tei) (link_in l service place)
       (sound_in c ranged l s service tei place (place_of-is l.management.places tei place on).1) e
 
-  changed-once : (e : teis.Event) (o : Option Change) → ByChange e o (teis.told e l.management).notes
-      → let t = (of_change c o (told_of_management (teis.told e l.management)) (record l { management = teis.after e l.management })).told in
+  changed-once : (e : TeiEvent) (o : Option Change) → ByChange e o (tei_told e l.management).notes
+      → let t = (of_change c o (told_of_management (tei_told e l.management)) (record l { management = tei_after e l.management })).told in
       count_by tells_contents t.notes ≡ length (option_to_list t.contents)
-  changed-once e o by = grind (arith, three-none, management-none, cleared-none)
+  changed-once e o by = grind (arith, sum_by-append, cleared-none)
 
-  managed : (e : teis.Event) → Once (at_management e)
-  managed e = changed-once e (teis.told e l.management).change (noted e l.management s.management)
+  managed : (e : TeiEvent) → Once (at_management e)
+  managed e = changed-once e (tei_told e l.management).change (noted e l.management s.management)
 
-  heard-once : (e : stream.Event) → Once (aim_of_heard c l e)
+  heard-once : (e : StreamEvent) → Once (aim_of_heard c l e)
   heard-once =
-      heard_aims c l Once (λ cause. refl) (λ service tei place what on. at-its-link service tei place (link.received what) on)
-      (λ info. managed (teis.message info)) (λ parts service to. refl)
+      heard_aims c l Once (λ cause. refl) (λ service tei place what on. at-its-link service tei place (link_received what) on)
+      (λ info. managed (message info)) (λ parts service to. refl)
 
   timer-once : (service : Service) (tei : ℕ) (timer : LinkTimer) (o : Option ℕ) → place_in l tei ≡ o → Once (at_timer service tei timer o)
   timer-once service tei timer None on = refl
-  timer-once service tei timer (Some place) on = at-its-link service tei place (link.expired timer) on
+  timer-once service tei timer (Some place) on = at-its-link service tei place (link_expired timer) on
 
   expiry-once : (timer : Timer) → Once (aim_of_expiry timer l)
   expiry-once timer = grind (arith, timer-once, managed)
 
-  asked-once : (service : Service) (tei : ℕ) (what : link.Request) (o : Option ℕ) → place_in l tei ≡ o → Once (at_requested service tei what o)
+  asked-once : (service : Service) (tei : ℕ) (what : LinkRequest) (o : Option ℕ) → place_in l tei ≡ o → Once (at_requested service tei what o)
   asked-once service tei what None on = refl
-  asked-once service tei what (Some place) on = at-its-link service tei place (link.requested what false) on
-
-  deactivated-once : (service : Service) (tei : ℕ) (o : Option ℕ) → place_in l tei ≡ o → Once (at_deactivated service tei o)
-  deactivated-once service tei o on = grind (arith, at-its-link)
+  asked-once service tei what (Some place) on = at-its-link service tei place (link_requested what false) on
 
   request-once : (r : Request) → Once (aim_of_request r l)
-  request-once (Establish service tei) = asked-once service tei link.Establish (place_in l tei) refl
-  request-once (Release service tei) = asked-once service tei link.Release (place_in l tei) refl
-  request-once (Data service tei contents) = asked-once service tei (link.Data contents) (place_in l tei) refl
+  request-once (Establish service tei) = asked-once service tei LinkEstablish (place_in l tei) refl
+  request-once (Release service tei) = asked-once service tei LinkRelease (place_in l tei) refl
+  request-once (Data service tei contents) = asked-once service tei (LinkData contents) (place_in l tei) refl
   request-once (Unit service tei contents) = refl
-  request-once (Assign tei) = managed (teis.assign tei)
-  request-once (Remove tei) = managed (teis.remove tei)
-  request-once (Check tei) = managed (teis.check tei)
-  request-once (SetBusy service tei) = asked-once service tei link.SetBusy (place_in l tei) refl
-  request-once (ClearBusy service tei) = asked-once service tei link.ClearBusy (place_in l tei) refl
-  request-once (Deactivate service tei) = deactivated-once service tei (place_in l tei) refl
+  request-once (Assign tei) = managed (assigning tei)
+  request-once (Remove tei) = managed (remove tei)
+  request-once (Check tei) = managed (check tei)
+  request-once (SetBusy service tei) = asked-once service tei LinkSetBusy (place_in l tei) refl
+  request-once (ClearBusy service tei) = asked-once service tei LinkClearBusy (place_in l tei) refl
+  request-once (Deactivate service tei) = grind (arith, at-its-link)
   request-once Down = by-down c l (λ f. count_by tells_contents f.told.notes ≡ length (option_to_list f.told.contents)) refl
 
 pub told-once : (c : Config) (e : Event) (l : Line) → IsInRange c → IsSound c l → IsNotedOnce (answer c e l)

@@ -1,13 +1,10 @@
 -- The user's side has no TEI management.
-use Rattle.laws_line.proofs.Vocabulary.{arith, ◌≡◌, ℕ, Bool, false, not, [], ◌∷◌, Option, None, refl, sym, ap, ◌∙◌, next_walk, option_map_or, User, Network, Refusal, Service, Management, expire_check, join_at, put_on, LinkTimer, Config, at_management, of_aim, hears, at_timer, Line, place_in, Taken, taken, line_of, wrong_side, bad_tei, no_link, check_running, control_full, Request, Establish, Release, Assign, Remove, SetBusy, ClearBusy, Deactivate, at_requested, at_deactivated, aim_of_request, has_management, Down, tei_begun as begun, Event, after, refusal, Data, Unit, Check, IsSound, IsUnmanaged, UsersManageNothing}
-use Rattle.model_bits.specs.Stream as stream
-use Rattle.lapd_tei.specs.Events as teis
-use Rattle.model_link.specs.Events as link
-use Rattle.laws_line.proofs.Asked.{passed}
+use Rattle.laws_line.proofs.Vocabulary.{arith, ◌≡◌, ℕ, Bool, false, not, [], ◌∷◌, Option, None, refl, sym, ap, ◌∙◌, next_walk, option_map_or, User, Network, Refusal, Service, Management, expire_check, join_at, put_on, LinkTimer, Config, at_management, of_aim, hears, at_timer, Line, place_in, Taken, taken, line_of, wrong_side, bad_tei, no_link, check_running, control_full, Request, Establish, Release, Assign, Remove, SetBusy, ClearBusy, Deactivate, at_requested, at_deactivated, aim_of_request, has_management, Down, tei_begun as begun, Event, after, refusal, Data, Unit, Check, IsSound, IsUnmanaged, UsersManageNothing, LinkRelease, LinkEstablish, LinkClearBusy, LinkRequest, LinkData, LinkSetBusy, StreamEvent, assigning, tei_unless_refused, course, tei_after, tei_refusal, tei_expiry, TeiEvent}
 use Rattle.laws_line.proofs.GroupAims.{heard-aims-at}
 use Rattle.laws_line.proofs.LinkMoves.{IsOne, taken-one}
 use Rattle.laws_line.proofs.Managing.{managed}
 use Rattle.laws_line.proofs.Downs.{by-down}
+use Rattle.model_line.proofs.RoomForAll.{passed}
 
 sides : User ≡ Network → ⊥
 sides e = cc e
@@ -18,22 +15,19 @@ record IsIdle (m : Management) : Type 0 where
   remembered : m.remembered ≡ []
   check : m.check ≡ None
 
-idle-t201 : (m : Management) → m.check ≡ None → teis.course teis.expiry m ≡ begun m
-unfolding teis.course teis.refusal
+idle-t201 : (m : Management) → m.check ≡ None → course tei_expiry m ≡ begun m
+unfolding course tei_refusal
 idle-t201 m none = ap (λ o. expire_check o (begun m)) none
 
 joined : (m : Management) (tei : ℕ) → IsIdle m → (p : Option ℕ) → IsIdle (join_at tei p (begun m)).now
 joined m tei h p = grind arith
 
-put-on : (m : Management) (tei : ℕ) → IsIdle m → (o : Option Refusal) → IsIdle (teis.unless_refused o (put_on tei) m).now
-put-on m tei h o = grind (arith, joined)
-
-assigned : (m : Management) (tei : ℕ) → IsIdle m → IsIdle (teis.after (teis.assign tei) m)
-unfolding teis.course
-assigned m tei h = put-on m tei h (teis.refusal (teis.assign tei) m)
+assigned : (m : Management) (tei : ℕ) → IsIdle m → IsIdle (tei_after (assigning tei) m)
+unfolding course
+assigned m tei h = grind (arith, joined)
 
 module _ (c : Config) (l : Line) (user : c.side ≡ User) (s : IsSound c l) (h : IsUnmanaged l) where
-  by-management : (e : teis.Event) → IsIdle (teis.after e l.management) → IsUnmanaged (of_aim c (at_management e) l).line
+  by-management : (e : TeiEvent) → IsIdle (tei_after e l.management) → IsUnmanaged (of_aim c (at_management e) l).line
   by-management e idle = grind (arith, managed)
 
   idle : IsIdle l.management
@@ -42,7 +36,7 @@ module _ (c : Config) (l : Line) (user : c.side ≡ User) (s : IsSound c l) (h :
   same : (l' : Line) → l'.management ≡ l.management → IsUnmanaged l'
   same l' is = grind arith
 
-  by-heard : (e : stream.Event) → IsUnmanaged (after c (hears e) l)
+  by-heard : (e : StreamEvent) → IsUnmanaged (after c (hears e) l)
   unfolding after
   by-heard e =
       heard-aims-at c l e (λ aim. IsUnmanaged (of_aim c aim l).line) (λ cause. same _ refl)
@@ -51,30 +45,23 @@ module _ (c : Config) (l : Line) (user : c.side ≡ User) (s : IsSound c l) (h :
   by-timer : (service : Service) (tei : ℕ) (timer : LinkTimer) (o : Option ℕ) → IsUnmanaged (of_aim c (at_timer service tei timer o) l).line
   by-timer service tei timer o = grind (arith, same)
 
-  by-asked : (service : Service) (tei : ℕ) (what : link.Request) (o : Option ℕ) → IsUnmanaged (of_aim c (at_requested service tei what o) l).line
+  by-asked : (service : Service) (tei : ℕ) (what : LinkRequest) (o : Option ℕ) → IsUnmanaged (of_aim c (at_requested service tei what o) l).line
   by-asked service tei what o = grind (arith, same)
 
-  by-deactivated : (service : Service) (tei : ℕ) (o : Option ℕ) → IsUnmanaged (of_aim c (at_deactivated service tei o) l).line
-  by-deactivated service tei o = grind (arith, same)
-
   -- nothing of TEI management but an assignment is granted
-  not-ours : (b : Bool) → b ≡ has_management c.side → not b ≡ false → ⊥
-  not-ours b is e = grind arith
-
   by-request : (r : Request) → refusal c false r l ≡ None → IsUnmanaged (of_aim c (aim_of_request r l) l).line
-  by-request (Establish service tei) none = by-asked service tei link.Establish (place_in l tei)
-  by-request (Release service tei) none = by-asked service tei link.Release (place_in l tei)
-  by-request (Data service tei contents) none = by-asked service tei (link.Data contents) (place_in l tei)
+  by-request (Establish service tei) none = by-asked service tei LinkEstablish (place_in l tei)
+  by-request (Release service tei) none = by-asked service tei LinkRelease (place_in l tei)
+  by-request (Data service tei contents) none = by-asked service tei (LinkData contents) (place_in l tei)
   by-request (Unit service tei contents) none = same _ refl
-  by-request (SetBusy service tei) none = by-asked service tei link.SetBusy (place_in l tei)
-  by-request (ClearBusy service tei) none = by-asked service tei link.ClearBusy (place_in l tei)
-  by-request (Deactivate service tei) none = by-deactivated service tei (place_in l tei)
+  by-request (SetBusy service tei) none = by-asked service tei LinkSetBusy (place_in l tei)
+  by-request (ClearBusy service tei) none = by-asked service tei LinkClearBusy (place_in l tei)
+  by-request (Deactivate service tei) none = grind (arith, same)
   by-request Down none = by-down c l (λ f. IsUnmanaged f.line) (record { messages = refl; remembered = h.remembered; check = refl })
-  by-request (Assign tei) none = by-management (teis.assign tei) (assigned l.management tei idle)
+  by-request (Assign tei) none = by-management (assigning tei) (assigned l.management tei idle)
   by-request (Remove tei) none =
-      absurd (not-ours (has_management c.side) refl (passed (wrong_side c) (bad_tei tei ∷ no_link tei l ∷ control_full l ∷ []) none).0)
-  by-request (Check tei) none =
-      absurd (not-ours (has_management c.side) refl (passed (wrong_side c) (bad_tei tei ∷ no_link tei l ∷ check_running l ∷ control_full l ∷ []) none).0)
+      absurd (grind arith)
+  by-request (Check tei) none = grind (arith, passed)
 
   -- a call takes none of nothing
   took : (t : Taken) → IsOne c l t → IsUnmanaged t.line

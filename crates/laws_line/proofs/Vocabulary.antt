@@ -14,7 +14,7 @@ pub use Rattle.std.specs.Option.{option_map_or, option_or, unwrap_or}
 pub use Rattle.std.specs.Prelude.{All, Contains, count_by, fold, map, sum_by}
 pub use Rattle.model_bits.specs.declared.heard.Cause.{Cause}
 pub use Rattle.model_bits.specs.declared.heard.Cause.TheVariants.{Extension, Fcs, Sapi, Tei, Unserved}
-pub use Rattle.model_bits.specs.Stream.{dropped as bits_dropped}
+pub use Rattle.model_bits.specs.Stream.{dropped as bits_dropped, Event as StreamEvent, frame as stream_frame, overlong as stream_overlong}
 pub use Rattle.lapd_frame.proofs.Spelling.{reading-again, reading-found}
 pub use Rattle.lapd_frame.specs.Grammar.{AreOctets, Parts, Spells, cr_bit, head_of, one_of, row, second_octet, spelling}
 pub use Rattle.lapd_frame.specs.Reading.{long_reading}
@@ -44,7 +44,9 @@ pub use Rattle.lapd_seq.specs.declared.numbers.Seq.{Seq}
 pub use Rattle.model_link.proofs.OwnNotes.{notes-own}
 pub use Rattle.model_link.proofs.SoundEvents.{sound-after}
 pub use Rattle.model_link.proofs.TellRows.{cleared-orders, cleared-tells, event-tells, two-orders}
+pub use Rattle.model_link.specs.Events.{ClearBusy as LinkClearBusy, Data as LinkData, Establish as LinkEstablish, Event as LinkEvent, Received as LinkReceived, Release as LinkRelease, Request as LinkRequest, SetBusy as LinkSetBusy, cleared as link_cleared, expired as link_expired, frame as link_frame, offer as link_offer, overlong as link_overlong, received as link_received, requested as link_requested, undefined as link_undefined, wrong_size as link_wrong_size}
 pub use Rattle.model_link.specs.Link.{Link, frame_of as link_frame_of, fresh, outstanding, unsent}
+pub use Rattle.model_link.specs.Machine.{after as link_after, course as link_course, given as link_given, told as link_told}
 pub use Rattle.model_link.specs.Notes.{IsOwn, is_data, is_unit}
 pub use Rattle.model_link.specs.Offers.{is_awaiting_acknowledgement, is_established, may_send_information, offer_among, with_one_sent}
 pub use Rattle.model_link.specs.Sound.{IsSound as LinkIsSound, is_information}
@@ -63,12 +65,12 @@ pub use Rattle.lapd_tei.proofs.LawLemmas.{one_more_waits}
 pub use Rattle.lapd_tei.proofs.Memories.{remembered-on}
 pub use Rattle.lapd_tei.proofs.Pigeonholes.{one_is_free}
 pub use Rattle.lapd_tei.proofs.Tables.{at-off, at-within, free_place-is, free_tei-is, is_on-at, not_not, place_of-is}
-pub use Rattle.lapd_tei.specs.Events.{Event as TeiEvent, assign as assigning, check, down, expiry as tei_expiry, message, refusal_if, remove, step, unless_refused as tei_unless_refused}
+pub use Rattle.lapd_tei.specs.Events.{Event as TeiEvent, assign as assigning, check, down, expiry as tei_expiry, message, refusal_if, remove, step, unless_refused as tei_unless_refused, after as tei_after, told as tei_told}
 unfoldable pub use Rattle.lapd_tei.specs.Events.{course, refusal as tei_refusal}
 pub use Rattle.lapd_tei.specs.Laws.{Follows, Moves, stop_of}
 pub use Rattle.lapd_tei.specs.Machine.{Management, TeiTold}
 pub use Rattle.lapd_tei.specs.Messages.{action_of, frame_of, heard_in, heard_of_type}
-pub use Rattle.lapd_tei.specs.Rows.{assign, assign_new, count, counted as tei_counted, doubled, expire_check, expire_period, is_checked, is_unanswered, join_at, may_be_checked, nothing_happens, put_on, remembered_in, removed, respond, responses, serve, take_off}
+pub use Rattle.lapd_tei.specs.Rows.{assign, assign_new, count, counted as tei_counted, doubled, expire_check, expire_period, is_checked, is_unanswered, join_at, may_be_checked, nothing_happens, put_on, remembered_in, removed, respond, responses, serve, take_off, is_for as rows_is_for, request as rows_request, tei_in as rows_tei_in, verify as rows_verify}
 pub use Rattle.lapd_tei.specs.Sound.{IsAt, IsSound as TeiIsSound, IsSoundCheck, IsSoundQueue, IsSoundTable}
 pub use Rattle.lapd_tei.specs.Table.{Places, free_place, free_tei, has, is_free, is_on, place_of}
 pub use Rattle.lapd_tei.specs.Words.{Course, Step, begin_check, begun as tei_begun, check_is, end_check, freed, is_of_other, leave, left, lose_one, lost_after, no_room, send, unserved, with_message as tei_with_message}
@@ -86,12 +88,12 @@ pub use Rattle.model_line.proofs.Drops.{drop_costs_nothing, heard_leaves}
 pub use Rattle.model_line.proofs.EventsReject.{event_rejects}
 pub use Rattle.model_line.proofs.EventsRise.{event_rises}
 pub use Rattle.model_line.proofs.LineSound.{after_sound, fresh_sound}
-pub use Rattle.model_line.proofs.LinksSound.{sound_in}
+pub use Rattle.model_line.proofs.LinksSound.{sound_in, begin_away, begin_here}
 pub use Rattle.model_line.proofs.NextRises.{next_falls}
 pub use Rattle.model_line.proofs.NotPool.{line_not_pool}
 pub use Rattle.model_line.proofs.Numbers.{at_place as line_at_place, number_within, place_at-number, service_at-number, sum_bounded, sum_changed}
 pub use Rattle.model_line.proofs.Offered.{fresh_gives_nothing}
-pub use Rattle.model_line.proofs.ProperAims.{expiry_proper, heard_aims, heard_proper, request_proper}
+pub use Rattle.model_line.proofs.ProperAims.{expiry_proper, heard_aims, heard_proper, request_proper, skipped}
 pub use Rattle.model_line.proofs.Ranges.{ranges_of, terms_in_range}
 pub use Rattle.model_line.proofs.Sides.{WhereServed, everywhere, side_aims, side_where}
 pub use Rattle.model_line.proofs.Starts.{expiry_starts}
@@ -106,7 +108,7 @@ pub use Rattle.model_line.specs.Heard.{addressed, aim_of_heard, aim_of_long, aim
 pub use Rattle.model_line.specs.Laws.{notes_in, orders_in}
 pub use Rattle.model_line.specs.Line.{Line, UnitData, fresh_line, has_tei, link_at, link_count, link_in, link_number, link_of, place_at, place_in, service_at, tei_at, terms, terms_at, window, with_link}
 pub use Rattle.model_line.specs.Machine.{of_request, unless_refused, unless_refused_told}
-unfoldable pub use Rattle.model_line.specs.Machine.{after, answer}
+unfoldable pub use Rattle.model_line.specs.Machine.{after, answer, takes_slot as line_takes_slot}
 pub use Rattle.model_line.specs.Refusal.{Row, bad_tei, check_running, control_full, first_that_holds, no_link, pool_full, queue_full, table_full, tei_taken, too_long, wrong_side, wrong_state, refusal}
 pub use Rattle.model_line.specs.Request.{Assign, Check, ClearBusy, Data, Deactivate, Down, Establish, Release, Remove, Request, SetBusy, Unit}
 pub use Rattle.model_line.specs.Requested.{aim_of_request, at_deactivated, at_requested}

@@ -17,11 +17,7 @@ module _ (t : Terms) (l : Link) (h : IsSound t l) where
 
   offering : (ws : List ControlFrame) → All (IsWaitingFrame t) ws → May (offer_among t ws (begun l))
   offering (f ∷ fs) frames = λ is. absurd (true≢false (sym is ∙ (All-head (IsWaitingFrame t) f fs frames).without_contents))
-  offering [] frames =
-      let one_more = (give_information then changed with_one_sent then pending_is false) (begun l) in
-      tested (may_send_information t l) refl _ _
-      (λ e. both_ways May (is_awaiting_acknowledgement one_more.link) one_more (start T200 one_more) (λ is. may-go e) (λ is. may-go e))
-      (both_ways May l.pending _ _ (λ is. absurd (true≢false (sym is))) tt)
+  offering [] frames = grind (arith, tested, both_ways, may-go)
 
   from-sent : (c : Course) (o : Option Sent) → IfSome o (λ s. IsTrue (is_information s.frame.control) → MayGo t l)
       → IfSome (given_of t l c o) (λ g. IsTrue (is_i_frame g) → MayGo t l)

@@ -13,9 +13,6 @@ counted share all all' a a' h e e' c = grind arith
 pub counted-after : (t : Terms) (e : Event) (l : Link) (h : History) → IsSound t l → IsCounted h l → IsCounted (with_share h (share t e l)) (after t e l)
 counted-after t e l h s is = grind (arith, counted, event-done)
 
-pub counted-fresh : IsCounted nothing_yet fresh
-counted-fresh = record { accepted = refl; acknowledged = refl }
-
 pub counted-all : (t : Terms) → IsInRange t → (es : List Event) (l : Link) (h : History) → IsSound t l → IsCounted h l
     → IsCounted (with_all t es l h) (after_all t es l)
 unfolding with_all after_all
@@ -24,4 +21,4 @@ counted-all t r (e ∷ es) l h s is =
     counted-all t r es (after t e l) (with_share h (share t e l)) (sound-after t r e l s) (counted-after t e l h s is)
 
 pub counted-always : (t : Terms) (es : List Event) → IsInRange t → IsCounted (with_all t es fresh nothing_yet) (after_all t es fresh)
-counted-always t es r = counted-all t r es fresh nothing_yet (sound-fresh t r) counted-fresh
+counted-always t es r = counted-all t r es fresh nothing_yet (sound-fresh t r) (record { accepted = refl; acknowledged = refl })

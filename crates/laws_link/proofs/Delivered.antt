@@ -2,11 +2,8 @@
 use Rattle.laws_link.proofs.Vocabulary.{◌≡◌, ℕ, Bool, cond, not, List, Some, None, ap, ◌∙◌, arith, nat_lt, nat_le, ltb-true, ltb-false, leb-true, leb-false, false_from_ne_true, true_from_ne_false, Terms, Link, Arrived, information_in, eligible_of, told, delivered-at_once, contents_heard, Event}
 
 module _ (t : Terms) (l : Link) where
-  from-eligible : (b : Bool) (i j : Arrived) → cond b (Some i) None ≡ Some j → Some i.contents ≡ Some j.contents
-  from-eligible b i j e = grind arith
-
   heard : (e : Event) (i : Arrived) → eligible_of t l (information_in e) ≡ Some i → contents_heard e ≡ Some i.contents
-  heard e i o = grind (arith, from-eligible)
+  heard e i o = grind arith
 
   pub delivered-was-heard : (e : Event) (contents : List ℕ) → (told t e l).delivered ≡ Some contents → contents_heard e ≡ Some contents
   delivered-was-heard e contents d =

@@ -4,11 +4,7 @@ use Rattle.laws_link.proofs.Columns.{at, at-busy, at-running, at-waiting, hears,
 
 module _ (t : Terms) where
   by-a-frame : (here : State) (l : Link) (f : Parts) (b : Bool) (control : Control) → Row t (hears f b control) (at here l)
-  by-a-frame Established l f b (Information ns nr p) = grind arith
-  by-a-frame Established l f b other = grind arith
-  by-a-frame TimerRecovery l f b (Information ns nr p) = grind arith
-  by-a-frame TimerRecovery l f b other = grind arith
-  by-a-frame other l f b control = grind arith
+  by-a-frame here l f b control = grind arith
 
   malformed : (here : State) (l : Link)
       → Row t (received undefined) (at here l) × Row t (received wrong_size) (at here l) × Row t (received overlong) (at here l)
@@ -23,15 +19,6 @@ module _ (t : Terms) where
   by-offer : (here : State) (l : Link) (ws : List ControlFrame) (owed : Bool) → Row t offer (at-waiting here ws owed l)
   by-offer here l ws owed = grind arith
 
-  by-clearing : (here : State) (l : Link) → Row t cleared (at here l)
-  by-clearing here l = grind arith
-
   pub each-row : (e : Event) (l : Link) → Row t e l
   each-row (received (frame f)) l = by-a-frame l.state l f f.address.command f.control
-  each-row (received undefined) l = (malformed l.state l).0
-  each-row (received wrong_size) l = (malformed l.state l).1
-  each-row (received overlong) l = (malformed l.state l).2
-  each-row (expired timer) l = by-timer timer l.state l l.running
-  each-row (requested request full) l = by-request request full l.state l l.own_busy l.rejecting
-  each-row offer l = by-offer l.state l l.waiting l.pending
-  each-row cleared l = by-clearing l.state l
+  each-row e l = grind (arith, malformed, by-timer, by-request, by-offer)

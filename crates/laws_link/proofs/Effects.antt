@@ -18,14 +18,11 @@ module _ (t : Terms) (l : Link) where
       → let c = Requests.release_in here t (begun l) in (l.state ≡ here → IsReleasedIn here t l c.link c.notes c.lost)
   released here s most = grind (arith, put, emptied)
 
-  begins-busy : (b : Bool) → l.own_busy ≡ b → Takes SetBusy (cond b (begun l) ((own_busy_is true then report_ready t) (begun l)))
-  begins-busy b e = grind (arith, put)
-
   ends-busy : (b : Bool) → l.own_busy ≡ b → Takes ClearBusy (cond b ((own_busy_is false then report_ready t) (begun l)) (begun l))
   ends-busy b e = grind (arith, put)
 
   granted : (request : Request) → Requests.serves l.state request ≡ true → l.a ≤ length l.contents → Takes request (Requests.granted t request (begun l))
-  granted request s most = grind (arith, put, released, drop-append-le, begins-busy, ends-busy)
+  granted request s most = grind (arith, put, released, drop-append-le, ends-busy)
 
   served : (b : Bool) (o : Option Refusal) → cond b o (Some WrongState) ≡ None → b ≡ true
   served b o e = grind arith

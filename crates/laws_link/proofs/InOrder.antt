@@ -10,14 +10,7 @@ module _ (t : Terms) (l : Link) (h : IsSound t l) where
   offering : (ws : List ControlFrame) → l.waiting ≡ ws → InOrder (offer_among t ws (begun l))
   offering (f ∷ fs) w =
       inl (record { waited = w; bare = (All-head (IsWaitingFrame t) f fs (subst (All (IsWaitingFrame t)) w h.frames)).without_contents; owed = refl })
-  offering [] w =
-      let one_more = (give_information then changed with_one_sent then pending_is false) (begun l) in
-      told_ways InOrder (may_send_information t l) _ _
-      (λ e.
-      let goes : InOrder one_more = inr (inl (record { none = w; may = may-go t l h e; is = refl; rest = w; owed = refl })) in
-      let goes_timed : InOrder (start T200 one_more) = inr (inl (record { none = w; may = may-go t l h e; is = refl; rest = w; owed = refl })) in
-      told_ways InOrder (is_awaiting_acknowledgement one_more.link) one_more (start T200 one_more) (λ b. goes) (λ b. goes_timed))
-      (λ e. told_ways InOrder l.pending _ _ (λ owed. inr (inr (record { none = w; may_not = none-goes t l h e; was_owed = owed; is = refl; rest = w; owed = refl }))) (λ none. tt))
+  offering [] w = grind (arith, told_ways, may-go, none-goes)
 
   from-sent : (c : Course) (o : Option Sent) → IfSome o (λ s. IsInOrder t l c.link s.frame)
       → IfSome (given_of t l c o) (λ g. IsInOrder t l c.link g.frame)

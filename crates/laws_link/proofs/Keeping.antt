@@ -5,7 +5,7 @@ use Rattle.model_link.specs.Requests
 use Rattle.laws_link.proofs.Queueing.{On, words}
 use Rattle.laws_link.proofs.Moves.{Goes, Empties, Restarts, Moves}
 use Rattle.laws_link.proofs.Delivered.{not-over}
-use Rattle.laws_link.proofs.QueueRows.{is_ui, count, Stay, Move, still, frames_in_4, released_in_4, established_in_4, frames_in_5, t200_in_5, frames_in_6, t200_in_6, frames_in_7, timer_in_7, frames_in_8, t200_in_8, failed_moves, set_busy, clear_busy}
+use Rattle.laws_link.proofs.QueueRows.{is_ui, count, Stay, Move, still, frames_in_4, released_in_4, established_in_4, frames_in_5, t200_in_5, frames_in_6, t200_in_6, frames_in_7, timer_in_7, frames_in_8, t200_in_8, set_busy, clear_busy}
 
 -- What a share leads to: the history that it makes, and what of the contents that were kept it leaves.
 pub record Comes (share : Share) (all : List (List ℕ)) (a : ℕ) (all' : List (List ℕ)) (a' : ℕ) : Type 0 where
@@ -20,11 +20,6 @@ Follows n s a' s' = (s' ≡ s + n) ⊎ ((n ≡ 0) × (s' ≡ a'))
 pub record Done (share : Share) (all : List (List ℕ)) (a s n : ℕ) (all' : List (List ℕ)) (a' s' : ℕ) : Type 0 where
   pub comes : Comes share all a all' a'
   pub follows : Follows n s a' s'
-
--- some more are acknowledged, and others are accepted
-went-on : (all more : List (List ℕ)) (a n : ℕ) → a + n ≤ length all
-    → Comes (record { restarts = false; empties = false; accepted = more; acknowledged = n }) all a (all ++ more) (a + n)
-went-on all more a n few = grind (arith, drop-append-le, drop-drop)
 
 emptied : (all more : List (List ℕ)) (a n : ℕ) → a ≤ length all
     → Comes (record { restarts = false; empties = true; accepted = more; acknowledged = n }) all a (take a all) a
@@ -44,28 +39,17 @@ row zeroed loss n = record { restarts = zeroed; empties = loss; accepted = []; a
 
 pub done : (all : List (List ℕ)) (a s n : ℕ) (all' : List (List ℕ)) (a' s' : ℕ) (loss zeroed : Bool) (unit : Option (List ℕ)) → a ≤ length all
     → Moves all a s n all' a' s' loss zeroed unit → Done (row zeroed loss n) all a s 0 all' a' s'
-done all a s n all' a' s' loss zeroed unit few h =
-    ⊎_elim by-going (λ other. ⊎_elim by-emptying by-restarting other) h
+done all a s n all' a' s' loss zeroed unit few h = grind (arith, by-going, by-emptying, by-restarting)
   where
     by-going : Goes all a s n all' a' s' loss zeroed unit → Done (row zeroed loss n) all a s 0 all' a' s'
     by-going g =
-        let x : Comes (row false false n) all a (all ++ []) (a + n) = went-on all [] a n g.among in
-        let y : Comes (row false false n) all a all' a' =
-        subst (λ xs. Comes (row false false n) all a xs a') (append-nil all ∙ sym g.contents) (subst (λ m. Comes (row false false n) all a (all ++ []) m) (sym g.acknowledged) x) in
-        record {
-          comes = subst (λ z. Comes (row z loss n) all a all' a') (sym g.goes_on) (subst (λ b. Comes (row false b n) all a all' a') (sym g.no_loss) y);
-          follows = ⊎_elim (λ e. inl (e ∙ omega arith)) (λ e. inr (refl, e)) g.sent;
-        }
+        let x : Comes (row false false n) all a (all ++ []) (a + n) = grind (arith, drop-append-le, drop-drop) in
+        grind (arith, append-nil)
 
     by-emptying : Empties all a all' a' s' loss zeroed unit → Done (row zeroed loss n) all a s 0 all' a' s'
     by-emptying g =
         let x : Comes (row false true n) all a (take a all) a = emptied all [] a n few in
-        let y : Comes (row false true n) all a all' a' =
-        subst (λ xs. Comes (row false true n) all a xs a') (sym g.contents) (subst (λ m. Comes (row false true n) all a (take a all) m) (sym g.acknowledged) x) in
-        record {
-          comes = subst (λ z. Comes (row z loss n) all a all' a') (sym g.goes_on) (subst (λ b. Comes (row false b n) all a all' a') (sym g.told) y);
-          follows = inr (refl, g.sent);
-        }
+        grind arith
 
     by-restarting : Restarts all a n all' a' s' loss zeroed unit → Done (row zeroed loss n) all a s 0 all' a' s'
     by-restarting g = grind (arith, restarted)
@@ -88,7 +72,7 @@ module _ (t : Terms) (l : Link) (h : IsSound t l) where
   -- what leaves the contents and V(A)
   leaves : (all : List (List ℕ)) (a : ℕ) (loss zeroed : Bool) → all ≡ l.contents → a ≡ l.a → loss ≡ false → zeroed ≡ false
       → Comes (row zeroed loss 0) l.contents l.a all a
-  leaves all a loss zeroed e e' q on = grind (arith, went-on, few, append-nil, add-zero)
+  leaves all a loss zeroed e e' q on = grind (arith, drop-append-le, drop-drop, few, append-nil, add-zero)
 
   unmoved-by : (f : Step) → Leads (On (Stay t l h.ordered h.accepted)) f (On (Stay t l h.ordered h.accepted)) → Moved 0 (f (begun l))
   unfolding Moved
@@ -107,12 +91,8 @@ module _ (t : Terms) (l : Link) (h : IsSound t l) where
   by-state : (here : State) → l.state ≡ here → (b : Bool) (octets : List ℕ) (control : Control) → is_ui control ≡ false
       → Moved (acknowledged_by (number_of t control octets) l) (frame_in here t b octets control (begun l))
   unfolding Moved
-  by-state TeiAssigned e b octets control is =
-      subst (λ n. Moved n (frame_in TeiAssigned t b octets control (begun l))) (sym (none-counts TeiAssigned e (number_of t control octets) refl))
-      (frames_in_4 t l h.ordered h.accepted (settled TeiAssigned e) octets control is)
-  by-state AwaitingEstablishment e b octets control is =
-      subst (λ n. Moved n (frame_in AwaitingEstablishment t b octets control (begun l))) (sym (none-counts AwaitingEstablishment e (number_of t control octets) refl))
-      (frames_in_5 t l h.ordered h.accepted (settled AwaitingEstablishment e) octets control is)
+  by-state TeiAssigned e b octets control is = grind (arith, Moved, none-counts, frames_in_4, settled)
+  by-state AwaitingEstablishment e b octets control is = grind (arith, Moved, none-counts, frames_in_5, settled)
   by-state AwaitingRelease e b octets control is =
       subst (λ n. Moved n (frame_in AwaitingRelease t b octets control (begun l))) (sym (none-counts AwaitingRelease e (number_of t control octets) refl))
       (frames_in_6 t l h.ordered h.accepted (settled AwaitingRelease e) octets control is)
@@ -128,7 +108,7 @@ module _ (t : Terms) (l : Link) (h : IsSound t l) where
 
   malformed : (here : State) (e : ErrorCode) → Moved 0 (malformed_in here t e (begun l))
   unfolding Moved
-  malformed here e = grind (arith, failed_moves, unmoved-by, words)
+  malformed here e = grind (arith, still, words, unmoved-by)
 
   -- Timers.
   unmoved : Moved 0 (begun l)
@@ -166,11 +146,7 @@ module _ (t : Terms) (l : Link) (h : IsSound t l) where
   unfolding Moved
   granted Events.Establish o e = by-row 0 (Requests.granted t Events.Establish (begun l)) (established_in_4 t l h.ordered h.accepted)
   granted Events.Release o e = releases l.state refl (served (Requests.serves l.state Events.Release) o e)
-  granted (Events.Data octets) o e =
-      record {
-        comes = subst (λ a. Comes (record { restarts = false; empties = false; accepted = octets ∷ []; acknowledged = 0 }) l.contents l.a (l.contents ++ octets ∷ []) a) (add-zero l.a) (went-on l.contents (octets ∷ []) l.a 0 (omega (arith, few)));
-        follows = inl (sym (add-zero l.s));
-      }
+  granted (Events.Data octets) o e = grind (arith, add-zero, drop-append-le, drop-drop)
   granted Events.SetBusy o e = by-row 0 (Requests.granted t Events.SetBusy (begun l)) (set_busy t l h.ordered h.accepted)
   granted Events.ClearBusy o e = by-row 0 (Requests.granted t Events.ClearBusy (begun l)) (clear_busy t l h.ordered h.accepted)
 
@@ -244,15 +220,6 @@ module _ (t : Terms) (l : Link) (h : IsSound t l) where
       → (cond b (leave_unserved (begun l)) (deliver_unit t octets (begun l))).unit ≡ cond (nat_le (length octets) t.n201) (Some octets) None
   by-length octets b e = grind (arith, not-over)
 
-  ui-in : (here : State) (b : Bool) (octets : List ℕ) (p : Bool)
-      → (frame_in here t b octets (Ui p) (begun l)).unit ≡ within t.n201 (in_ui_frame (Ui p) octets)
-  ui-in here b octets p = grind (arith, by-length, nat_lt)
-
-  unit-in : (b : Bool) (octets : List ℕ) (control : Control) → (d : Bool) → is_ui control ≡ d
-      → (frame_step t b octets control (begun l)).unit ≡ within t.n201 (in_ui_frame control octets)
-  unit-in b octets (Ui p) d e = ui-in l.state b octets p
-  unit-in b octets other d e = no-unit _ _ (by-state l.state refl b octets other refl)
-
   set-busy : Moved 0 (Requests.granted t Events.SetBusy (begun l))
   unfolding Moved
   set-busy = set_busy t l h.ordered h.accepted
@@ -261,10 +228,6 @@ module _ (t : Terms) (l : Link) (h : IsSound t l) where
   unfolding Moved
   clear-busy = clear_busy t l h.ordered h.accepted
 
-  unit-asked : (request : Events.Request) (full : Bool) (o : Option Refusal) → Requests.refusal t l full request ≡ o
-      → (elim o as (λ o. Course) [ None ↦ Requests.granted t request (begun l) | Some _ ↦ begun l ]).unit ≡ None
-  unit-asked request full o e = grind (arith, no-unit, set-busy, clear-busy)
-
   unit-offered : (ws : List ControlFrame) → (offer_among t ws (begun l)).unit ≡ None
   unit-offered ws = grind (arith, both_ways)
 
@@ -272,11 +235,5 @@ module _ (t : Terms) (l : Link) (h : IsSound t l) where
   unit-cleared here = grind arith
 
   pub event-unit : (e : Events.Event) → (course t e l).unit ≡ unit_due t e
-  event-unit (Events.received (Events.frame f)) = unit-in f.address.command f.info f.control (is_ui f.control) refl
-  event-unit (Events.received Events.undefined) = no-unit 0 _ (malformed l.state ErrorCode.L)
-  event-unit (Events.received Events.wrong_size) = no-unit 0 _ (malformed l.state ErrorCode.N)
-  event-unit (Events.received Events.overlong) = no-unit 0 _ (malformed l.state ErrorCode.O)
-  event-unit (Events.expired timer) = no-unit 0 _ (expires (is_running timer l) timer)
-  event-unit (Events.requested request full) = unit-asked request full (Requests.refusal t l full request) refl
-  event-unit Events.offer = unit-offered l.waiting
-  event-unit Events.cleared = unit-cleared l.state
+  event-unit (Events.received (Events.frame f)) = grind (arith, by-length, nat_lt, no-unit, by-state)
+  event-unit e = grind (arith, no-unit, malformed, expires, set-busy, clear-busy, unit-offered, unit-cleared)

@@ -7,9 +7,6 @@ up_by TeiAssigned asked = false
 up_by AwaitingEstablishment asked = not asked
 up_by other asked = true
 
-pub is-up-by : (here : State) (l : Link) → is_up_in here l ≡ up_by here l.asked
-is-up-by here l = grind arith
-
 -- in this state, and known to layer 3 as what it is
 pub record In (here state : State) (asked up : Bool) : Type 0 where
   pub state_is : state ≡ here
@@ -83,25 +80,16 @@ module _ (up : Bool) where
     pub indicates : (t : Terms) → Leads X (establish_indication t then enter Established) Ends
     indicates t = record { leads = λ c h. record { known_is = one-more up c.notes (Note.EstablishIndication t.service t.tei) } }
 
-    pub confirm_up : (t : Terms) → Leads X (establish_confirm t) Up
-    confirm_up t = record { leads = λ c h. record { is = one-more up c.notes (Note.EstablishConfirm t.service t.tei) } }
-
-    pub indication_up : (t : Terms) → Leads X (discard then establish_indication t) Up
-    indication_up t = record { leads = λ c h. record { is = one-more up c.notes (Note.EstablishIndication t.service t.tei) } }
-
   -- from state 4
   pub confirms_in_4 : (t : Terms) → Leads (At TeiAssigned) (release_confirm t) (At TeiAssigned)
   confirms_in_4 t = grind (arith, one-more)
 
   -- from state 5
-  pub not-asked : (asked k : Bool) → asked ≡ false → k ≡ not asked → k ≡ true
-  not-asked asked k e h = h ∙ ap not e
-
   pub established_up : (t : Terms) → Leads (At AwaitingEstablishment) (depending_on is_asked (establish_confirm t) (depending_on has_outstanding (discard then establish_indication t) nothing)) Up
   established_up t =
-      tested_leads is_asked (confirm_up t)
-      (depending_leads has_outstanding (indication_up t)
-      (record { leads = λ c h. record { is = not-asked c.link.asked (known up c.notes) h.told h.holds.known_is } }))
+      tested_leads is_asked (record { leads = λ c h. record { is = one-more up c.notes (Note.EstablishConfirm t.service t.tei) } })
+      (depending_leads has_outstanding (record { leads = λ c h. record { is = one-more up c.notes (Note.EstablishIndication t.service t.tei) } })
+      (record { leads = λ c h. record { is = (h.holds.known_is ∙ ap not h.told) } }))
 
   pub zero_enters : Leads Up (zero_numbers then start T203 then enter Established) Ends
   zero_enters = record { leads = λ c h. record { known_is = h.is } }

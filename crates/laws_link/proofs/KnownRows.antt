@@ -1,7 +1,7 @@
 -- What layer 3 is told is what becomes of the link: the rows by state, and every event.
 use Rattle.laws_link.proofs.Vocabulary.{arith, ◌≡◌, ℕ, Bool, true, false, List, [], ◌∷◌, Option, Some, None, refl, sym, subst, ◌∙◌, Control, Ua, Dm, ErrorCode, Refusal, State, TeiAssigned, AwaitingEstablishment, AwaitingRelease, Established, TimerRecovery, LinkTimer, T200, ControlFrame, Terms, Link, Course, begun, establish_in_4, Leads, then_leads, nothing_leads, depending_leads, known, is_up_in, is_up, Event, Request, cleared, expired, frame, offer, overlong, received, requested, undefined, wrong_size, offer_among, after, course, expired_in, frame_in, frame_step, is_running, malformed_in, told, told_of_clearing}
 use Rattle.model_link.specs.Requests
-use Rattle.laws_link.proofs.Knowing.{up_by, is-up-by, At, Ends, at_ends, established_up, zero_enters, words, ends, rows}
+use Rattle.laws_link.proofs.Knowing.{up_by, At, Ends, at_ends, established_up, zero_enters, words, ends, rows}
 
 module _ (up : Bool) (t : Terms) where
   frame_knows : (here : State) (b : Bool) (octets : List ℕ) (control : Control) → Leads (At up here) (frame_in here t b octets control) (Ends up)
@@ -26,27 +26,19 @@ module _ (up : Bool) (t : Terms) where
   establish_knows : Leads (At up TeiAssigned) (establish_in_4 t) (Ends up)
   establish_knows = search ends depth 12 fits 4000
 
-  offers_know : (here : State) (ws : List ControlFrame) → Leads (At up here) (offer_among t ws) (Ends up)
-  offers_know here [] = search ends depth 12 fits 4000
-  offers_know here (f ∷ fs) = search ends depth 12 fits 4000
-
--- the TEI leaves the line
-cleared-knows : (t : Terms) (here : State) (l : Link) → known (is_up_in here l) (told_of_clearing here t (begun l)).notes ≡ false
-cleared-knows t here l = grind arith
-
 -- an establishment is granted in state 4 alone
 module _ (t : Terms) (l : Link) where
   here : At (is_up l) l.state (begun l)
-  here = record { state_is = refl; known_is = is-up-by l.state l }
+  here = record { state_is = refl; known_is = grind arith }
 
   unchanged : Ends (is_up l) (begun l)
-  unchanged = record { known_is = is-up-by l.state l }
+  unchanged = record { known_is = grind arith }
 
   frames : (b : Bool) (octets : List ℕ) (control : Control) → Ends (is_up l) (frame_step t b octets control (begun l))
   frames b octets control = (frame_knows (is_up l) t l.state b octets control).leads (begun l) here
 
   establishes : l.state ≡ TeiAssigned → Ends (is_up l) (establish_in_4 t (begun l))
-  establishes at = (establish_knows (is_up l) t).leads (begun l) (record { state_is = at; known_is = subst (λ x. is_up l ≡ up_by x l.asked) at (is-up-by l.state l) })
+  establishes at = (establish_knows (is_up l) t).leads (begun l) (record { state_is = at; known_is = subst (λ x. is_up l ≡ up_by x l.asked) at (grind arith) })
 
   granted : (request : Request) (full : Bool) → Requests.refusal t l full request ≡ None → Ends (is_up l) (Requests.granted t request (begun l))
   granted request full e = grind (arith, establishes, rows, here, at_ends, words)
@@ -57,13 +49,7 @@ module _ (t : Terms) (l : Link) where
 
   event-knows : (e : Event) → Ends (is_up l) (course t e l)
   event-knows (received (frame f)) = frames f.address.command f.info f.control
-  event-knows (received undefined) = (malformed_knows (is_up l) t l.state ErrorCode.L).leads (begun l) here
-  event-knows (received wrong_size) = (malformed_knows (is_up l) t l.state ErrorCode.N).leads (begun l) here
-  event-knows (received overlong) = (malformed_knows (is_up l) t l.state ErrorCode.O).leads (begun l) here
-  event-knows (expired timer) = (depending_leads (is_running timer) (expired_knows (is_up l) t l.state timer) (at_ends (is_up l) nothing_leads)).leads (begun l) here
-  event-knows (requested request full) = requests request full (Requests.refusal t l full request) refl
-  event-knows offer = (offers_know (is_up l) t l.state l.waiting).leads (begun l) here
-  event-knows cleared = record { known_is = cleared-knows t l.state l }
+  event-knows e = grind (arith, malformed_knows, here, depending_leads, expired_knows, at_ends, nothing_leads, requests, ends)
 
 pub layer_3_knows : (t : Terms) (e : Event) (l : Link) → known (is_up l) (told t e l).notes ≡ is_up (after t e l)
-layer_3_knows t e l = (event-knows t l e).known_is ∙ sym (is-up-by (after t e l).state (after t e l))
+layer_3_knows t e l = (event-knows t l e).known_is ∙ sym (grind arith)

@@ -55,19 +55,9 @@ module _ (all : List (List ℕ)) (a s : ℕ) (ordered : a ≤ s) (most : s ≤ l
   by-number : (t : Terms) (f : ℕ → Step) → ((m : ℕ) → a ≤ m → m ≤ s → Leads (On Stays) (f m) (On (Moves all a s (m - a)))) → (c : Course) → On Stays c → (nr : Seq) (o : Option ℕ) → named a s nr ≡ o
       → On (Moves all a s (option_map_or (beyond a) o 0)) (elim o [ None ↦ (error t ErrorCode.J then re_establish t) c | Some n ↦ f n c ])
   by-number t f x c h nr None e = stays ((error t ErrorCode.J then re_establish t) c) ((note_keeps Stays (Note.Error t.service t.tei ErrorCode.J) refl).leads c h)
-  by-number t f x c h nr (Some m) e =
-      let between = named-within a s m nr e in
-      (x m between.0 between.1).leads c h
-
-  with-numbers : (t : Terms) (nr : Seq) (f : ℕ → Step) (c : Course) (a' s' : ℕ) (o : Option ℕ) → a' ≡ a → s' ≡ s
-      → On (Moves all a s (option_map_or (beyond a) (named a s nr) 0)) (elim (named a s nr) [ None ↦ (error t ErrorCode.J then re_establish t) c | Some n ↦ f n c ])
-      → On (Moves all a s (option_map_or (beyond a) (named a s nr) 0)) (elim (named a' s' nr) [ None ↦ (error t ErrorCode.J then re_establish t) c | Some n ↦ f n c ])
-  with-numbers t nr f c a' s' o e e' h = rw (e, e') h
+  by-number t f x c h nr (Some m) e = grind (arith, named-within)
 
   pub number_moves : (t : Terms) (nr : Seq) {f : ℕ → Step}
       → ((m : ℕ) → a ≤ m → m ≤ s → Leads (On Stays) (f m) (On (Moves all a s (m - a))))
       → Leads (On Stays) (by_number t nr f) (On (Moves all a s (option_map_or (beyond a) (named a s nr) 0)))
-  number_moves t nr {f} x =
-      record {
-        leads = λ c h. with-numbers t nr f c c.link.a c.link.s None h.acknowledged h.sent (by-number t f x c h nr (named a s nr) refl);
-      }
+  number_moves t nr {f} x = grind (arith, by-number)

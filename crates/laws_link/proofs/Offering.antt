@@ -23,11 +23,7 @@ module _ (t : Terms) (l : Link) (h : IsSound t l) where
 
   offered : (ws : List ControlFrame) → All (IsWaitingFrame t) ws → Offers-it (offer_among t ws (begun l))
   offered (f ∷ fs) frames = alone l.contents l.s f.command f.control (All-head (IsWaitingFrame t) f fs frames).without_contents
-  offered [] frames =
-      let one_more = (give_information then changed with_one_sent then pending_is false) (begun l) in
-      tested (may_send_information t l) refl _ _
-      (λ e. both_ways Offers-it (is_awaiting_acknowledgement one_more.link) one_more (start T200 one_more) (information e) (information e))
-      (both_ways Offers-it l.pending _ _ (alone l.contents l.s false (ReceiveReady (seq l.r) false) refl) tt)
+  offered [] frames = grind (arith, tested, both_ways, information, alone)
 
   from-sent : (c : Course) (o : Option Sent) → IfSome o (λ s. IsOffered l.contents l.s s.frame s.contents)
       → IfSome (given_of t l c o) (λ g. IsOffered l.contents l.s g.frame g.contents)
@@ -59,14 +55,8 @@ counts-it t l c = c.link.s ≡ l.s + one (option_map_or is_i_frame (given_of t l
 
 module _ (t : Terms) (l : Link) (h : IsSound t l) where
   counting : (ws : List ControlFrame) → All (IsWaitingFrame t) ws → counts-it t l (offer_among t ws (begun l))
-  counting (f ∷ fs) frames =
-      let bare = (All-head (IsWaitingFrame t) f fs frames).without_contents in
-      sym (add-zero l.s) ∙ ap (λ b. l.s + one b) (sym bare)
-  counting [] frames =
-      let one_more = (give_information then changed with_one_sent then pending_is false) (begun l) in
-      both_ways (counts-it t l) (may_send_information t l) _ _
-      (both_ways (counts-it t l) (is_awaiting_acknowledgement one_more.link) one_more (start T200 one_more) refl refl)
-      (both_ways (counts-it t l) l.pending _ _ (sym (add-zero l.s)) (sym (add-zero l.s)))
+  counting (f ∷ fs) frames = sym (add-zero l.s) ∙ ap (λ b. l.s + one b) (sym ((All-head (IsWaitingFrame t) f fs frames).without_contents))
+  counting [] frames = grind (arith, both_ways, add-zero)
 
   pub offer-counts : (after t offer l).s ≡ l.s + one (option_map_or is_i_frame (given t l) false)
   offer-counts = counting l.waiting h.frames

@@ -22,8 +22,7 @@ none-counted p [] e = refl
 none-counted p (n ∷ ns) e =
     let parts = or_parts (p n) (list_any p ns) e in
     let one : cond {A = ℕ} (p n) 1 0 ≡ 0 = ap (λ b. cond {A = ℕ} b 1 0) parts.0 in
-    let rest = none-counted p ns parts.1 in
-    sum_by-cons (λ n. cond (p n) 1 0) n ns ∙ omega (arith, one, rest)
+    sum_by-cons (λ n. cond (p n) 1 0) n ns ∙ omega (arith, one, (none-counted p ns parts.1))
 
 some-counted : (p : Note → Bool) (ns : List Note) → list_any p ns ≡ true → 1 ≤ count_by p ns
 some-counted p [] e = absurd (cc)
@@ -64,12 +63,8 @@ module _ (t : Terms) (l : Link) where
   i-frame : (here : State) (b : Bool) (octets : List ℕ) (ns nr : Seq) (p : Bool) → AtMostOne (frame_in here t b octets (Information ns nr p) (begun l))
   i-frame here b octets ns nr p = grind (arith, information, keeps-in-7)
 
-  data-frame : (b : Bool) (octets : List ℕ) (control : Control) (contents : List ℕ) → in_i_frame control octets ≡ Some contents → AtMostOne (frame_step t b octets control (begun l))
-  data-frame b octets control contents h = grind (arith, i-frame, none-some)
-
   data-few : (e : Event) (contents : List ℕ) → contents_heard e ≡ Some contents → AtMostOne (course t e l)
-  data-few (received (frame f)) contents h = data-frame f.address.command f.info f.control contents h
-  data-few other contents h = absurd (none-some contents h)
+  data-few e contents h = grind (arith, contents, i-frame, none-some)
 
   abbrev OneUnit : Course → Type 0
   OneUnit c = count_by is_unit c.notes ≤ 1

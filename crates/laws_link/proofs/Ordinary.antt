@@ -1,7 +1,6 @@
 -- Most words of the tables leave V(S) and own busy, and tell no loss; an error that is told may end own busy.
 use Rattle.laws_link.proofs.Vocabulary.{arith, ◌≡◌, ℕ, Bool, true, false, ◌||◌, List, [], ◌∷◌, ◌++◌, refl, ap, ◌∙◌, ◌⊎◌, inl, list_any, list_any-append, Note, ErrorCode, Terms, Link, Course, begun, ◌then◌, Leads, keeping_then, nothing_leads, depending_leads, bit_leads, is_loss, tells_loss, is_anew, tells_anew, leaves, number_leads, deliver, deliver_unit, note}
 use Rattle.model_link.specs.MultipleFrame
-use Rattle.laws_link.proofs.Queueing.{no_loss-note}
 
 abbrev pub BusyIn : Link → Bool → List Note → Type 0
 BusyIn l busy notes = (busy ≡ l.own_busy) ⊎ ((busy ≡ false) × (list_any tells_anew notes ≡ true))
@@ -29,7 +28,7 @@ module _ (l : Link) where
   still-busy c n o = grind (arith, told-still)
 
   pub note_ordinary : (n : Note) → is_loss n ≡ false → Leads (Ordinary l) (note n) (Ordinary l)
-  note_ordinary n e = record { leads = λ c h. record { sent = h.sent; busy = still-busy c n h.busy; no_loss = no_loss-note c.notes n e ∙ h.no_loss } }
+  note_ordinary n e = record { leads = λ c h. record { sent = h.sent; busy = still-busy c n h.busy; no_loss = (grind (arith, list_any-append)) ∙ h.no_loss } }
 
   pub deliver_ordinary : (t : Terms) (octets : List ℕ) → Leads (Ordinary l) (deliver t octets) (Ordinary l)
   deliver_ordinary t octets = record { leads = λ c h. (note_ordinary (Note.Data t.service t.tei) refl).leads c h }
@@ -39,6 +38,6 @@ module _ (l : Link) where
 
   -- an error after which the link is established anew
   pub failed : (t : Terms) (e : ErrorCode) → is_anew e ≡ true → Leads (Ordinary l) (MultipleFrame.failed t e) (Ordinary l)
-  failed t e anew = grind (arith, list_any-append, no_loss-note)
+  failed t e anew = grind (arith, list_any-append)
 
 pub ruleset words = (leaves, keeping_then, nothing_leads, depending_leads, bit_leads, note_ordinary, deliver_ordinary, unit_ordinary, failed, refl, number_leads)

@@ -16,14 +16,8 @@ module _ (ws : List ControlFrame) where
   acknowledge_owes : (n : ℕ) → Leads (Half ws) (acknowledge n) (Half ws)
   acknowledge_owes n = record { leads = λ c h. h }
 
-  start_owes : (timer : LinkTimer) → Leads (Half ws) (start timer) (Half ws)
-  start_owes timer = record { leads = λ c h. h }
-
   in_7_owes : (n : ℕ) → Leads (Half ws) (acknowledged_by_information_in_7 n) (Half ws)
-  in_7_owes n = search (keeping_then, nothing_leads, depending_leads, acknowledge_owes, start_owes) depth 12 fits 4000
-
-says-ready : (b : Bool) (r : ℕ) → receipt (cond b (ReceiveNotReady (seq r) true) (ReceiveReady (seq r) true)) ≡ Some (seq r)
-says-ready b r = grind arith
+  in_7_owes n = search (keeping_then, nothing_leads, depending_leads, acknowledge_owes) depth 12 fits 4000
 
 put : (room : Bool) (ws : List ControlFrame) (f : ControlFrame) (r : ℕ) → receipt f.control ≡ Some (seq r)
     → HasReceipt ws (cond room (ws ++ f ∷ []) ws) r ⊎ (1 ≤ cond {A = ℕ} room 0 (0 + 1))
@@ -31,7 +25,7 @@ put room ws f r e = grind arith
 
 module _ (t : Terms) (l : Link) where
   in-sequence : (p : Bool) (octets : List ℕ) → Half l.waiting (MultipleFrame.in_sequence t p octets (begun l))
-  in-sequence p octets = grind (arith, put, nat_lt, says-ready)
+  in-sequence p octets = grind (arith, put, nat_lt)
 
   contents : (ns : Seq) (p : Bool) (octets : List ℕ) → Half l.waiting (MultipleFrame.contents_in_7_8 t ns p octets (begun l))
   contents ns p octets = grind (arith, both_ways, in-sequence)

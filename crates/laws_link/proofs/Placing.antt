@@ -45,10 +45,7 @@ module _ (most : ℕ) where
 
   pub placed : (fs ws : List ControlFrame)
       → (queued most ws fs ≡ ws ++ take (most - length ws) fs) × (unplaced most ws 0 fs ≡ length (drop (most - length ws) fs))
-  placed fs ws =
-      ⊎_elim (λ less. from-none (most - length ws) fs ws (partly (most - length ws) fs ws 0 (omega (arith, less))))
-      (λ more. none more (most - length ws) (omega (arith, more)))
-      (cases_lt (length ws) most)
+  placed fs ws = grind (arith, from-none, partly, none, cases_lt)
     where
       none : most ≤ length ws → (m : ℕ) → zero ≡ m → (queued most ws fs ≡ ws ++ take m fs) × (unplaced most ws 0 fs ≡ length (drop m fs))
       none more m e = grind (arith, queued, unplaced, from-none, no-room, le-ltb)

@@ -51,13 +51,8 @@ module _ (t : Terms) (l : Link) (ordered : l.a ≤ l.s) (most : l.s ≤ length l
   established_in_4 = still (establish_in_4 t) (search words)
 
   -- State 5.
-  answered-in-5 : (IsTrue l.asked → length l.contents ≡ l.a) → (b : Bool) → l.asked ≡ b → (d : Bool) → has_outstanding l ≡ d
-      → On (Move 0) ((zero_numbers then start T203 then enter Established)
-      (cond b (establish_confirm t (begun l)) (cond d ((discard then establish_indication t) (begun l)) (begun l))))
-  answered-in-5 none b e d e' = grind (arith, none-left, drop_all, begins, length-take-le, same-place)
-
   pub frames_in_5 : (IsTrue l.asked → length l.contents ≡ l.a) → (octets : List ℕ) (control : Control) → is_ui control ≡ false → On (Move 0) (AwaitingEstablishment.frame_in_5 t octets control (begun l))
-  frames_in_5 none octets control is = grind (arith, answered-in-5, still, words)
+  frames_in_5 none octets control is = grind (arith, none-left, drop_all, begins, length-take-le, same-place, still, words)
 
   pub t200_in_5 : On (Move 0) (AwaitingEstablishment.t200_in_5 t (begun l))
   t200_in_5 = grind (arith, On, words, both_ways, nat_lt, still)
@@ -106,16 +101,13 @@ module _ (t : Terms) (l : Link) (ordered : l.a ≤ l.s) (most : l.s ≤ length l
   moved : {n : ℕ} (f : Step) → Leads (On Stay) f (On (Move n)) → On (Move n) (f (begun l))
   moved f x = x.leads (begun l) begins
 
-  pub failed_moves : (e : ErrorCode) → On (Move 0) (failed t e (begun l))
-  failed_moves e = still (failed t e) (search words)
-
   contents_lead : (ns : Seq) (p : Bool) (octets : List ℕ) → Leads (On Stay) (contents_in_7_8 t ns p octets) (On Stay)
   contents_lead ns p octets = search words depth 12 fits 4000
 
   information : (ns nr : Seq) (p : Bool) (octets : List ℕ) (f : ℕ → Step)
       → ((m : ℕ) → l.a ≤ m → m ≤ l.s → Leads (On Stay) (f m) (On (Move (m - l.a)))) → (b : Bool)
       → On (Move (count l.a l.s (cond b None (Some nr)))) (by_bit b (failed t ErrorCode.O) (contents_in_7_8 t ns p octets then by_number t nr f) (begun l))
-  information ns nr p octets f x true = failed_moves ErrorCode.O
+  information ns nr p octets f x true = (still (failed t ErrorCode.O) (search words))
   information ns nr p octets f x false = moved (contents_in_7_8 t ns p octets then by_number t nr f) (keeping_then (contents_lead ns p octets) (numbers nr x))
 
   pub frames_in_7 : (b : Bool) (octets : List ℕ) (control : Control) → is_ui control ≡ false
@@ -126,8 +118,8 @@ module _ (t : Terms) (l : Link) (ordered : l.a ≤ l.s) (most : l.s ≤ length l
   frames_in_7 b octets (Reject nr pf) is = moved (Established.frame_in_7 t b octets (Reject nr pf)) (search (words, numbers, in-7-by-rej) depth 12 fits 4000)
   frames_in_7 b octets (Sabme p) is = sabme-again p (has_outstanding l) refl
   frames_in_7 b octets (Disc p) is = inr (inl (record { contents = refl; acknowledged = refl; sent = refl; told = refl; goes_on = refl; no_unit = refl }))
-  frames_in_7 b octets (Dm false) is = failed_moves ErrorCode.E
-  frames_in_7 b octets (Frmr f) is = failed_moves ErrorCode.K
+  frames_in_7 b octets (Dm false) is = (still (failed t ErrorCode.E) (search words))
+  frames_in_7 b octets (Frmr f) is = (still (failed t ErrorCode.K) (search words))
   frames_in_7 b octets (Ui p) is = absurd (true≢false is)
   frames_in_7 b octets other is = still (Established.frame_in_7 t b octets other) (search words)
 
@@ -140,15 +132,15 @@ module _ (t : Terms) (l : Link) (ordered : l.a ≤ l.s) (most : l.s ≤ length l
   frames_in_8 b octets (Sabme p) is = sabme-again p (has_outstanding l) refl
   frames_in_8 b octets (Disc p) is = inr (inl (record { contents = refl; acknowledged = refl; sent = refl; told = refl; goes_on = refl; no_unit = refl }))
   frames_in_8 b octets (Ua f) is = still (TimerRecovery.frame_in_8 t b octets (Ua f)) (search words)
-  frames_in_8 b octets (Dm true) is = failed_moves ErrorCode.B
-  frames_in_8 b octets (Dm false) is = failed_moves ErrorCode.E
-  frames_in_8 b octets (Frmr f) is = failed_moves ErrorCode.K
+  frames_in_8 b octets (Dm true) is = (still (failed t ErrorCode.B) (search words))
+  frames_in_8 b octets (Dm false) is = (still (failed t ErrorCode.E) (search words))
+  frames_in_8 b octets (Frmr f) is = (still (failed t ErrorCode.K) (search words))
   frames_in_8 b octets (Ui p) is = absurd (true≢false is)
   frames_in_8 b octets (Xid pf) is = still (TimerRecovery.frame_in_8 t b octets (Xid pf)) (search words)
   frames_in_8 b octets other is = moved (TimerRecovery.frame_in_8 t b octets other) (search (words, numbers, in-8) depth 12 fits 4000)
 
   pub t200_in_8 : On (Move 0) (TimerRecovery.t200_in_8 t (begun l))
-  t200_in_8 = grind (arith, On, words, both_ways, nat_lt, still, failed_moves)
+  t200_in_8 = grind (arith, On, words, both_ways, nat_lt, still)
 
   -- Requests of layer 3.
   pub set_busy : On (Move 0) (set_busy_in_7_8 t (begun l))

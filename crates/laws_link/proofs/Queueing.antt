@@ -9,18 +9,11 @@ Claim = List (List ℕ) → ℕ → ℕ → Bool → Bool → Option (List ℕ) 
 abbrev pub On : Claim → Course → Type 0
 On Q c = Q c.link.contents c.link.a c.link.s (tells_loss c.notes) c.zeroed c.unit
 
--- one more note that tells no loss
-pub no_loss-note : (ns : List Note) (n : Note) → is_loss n ≡ false → tells_loss (ns ++ n ∷ []) ≡ tells_loss ns
-no_loss-note ns n e = grind (arith, list_any-append)
-
 module _ (Q : Claim) where
-  noting : (n : Note) → is_loss n ≡ false → (c : Course) → On Q c → Q c.link.contents c.link.a c.link.s (tells_loss (c.notes ++ n ∷ [])) c.zeroed c.unit
-  noting n e c h = subst (λ b. Q c.link.contents c.link.a c.link.s b c.zeroed c.unit) (sym (no_loss-note c.notes n e)) h
-
   pub note_keeps : (n : Note) → is_loss n ≡ false → Leads (On Q) (note n) (On Q)
-  note_keeps n e = record { leads = λ c h. noting n e c h }
+  note_keeps n e = record { leads = λ c h. (subst (λ b. Q c.link.contents c.link.a c.link.s b c.zeroed c.unit) (sym (grind (arith, list_any-append))) h) }
 
   pub deliver_keeps : (t : Terms) (octets : List ℕ) → Leads (On Q) (deliver t octets) (On Q)
-  deliver_keeps t octets = record { leads = λ c h. noting (Note.Data t.service t.tei) refl c h }
+  deliver_keeps t octets = record { leads = λ c h. (subst (λ b. Q c.link.contents c.link.a c.link.s b c.zeroed c.unit) (sym (grind (arith, list_any-append))) h) }
 
 pub ruleset words = (leaves, keeping_then, nothing_leads, depending_leads, bit_leads, note_keeps, refl, deliver_keeps)

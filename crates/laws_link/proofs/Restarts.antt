@@ -15,19 +15,16 @@ none-anew may = absurd may
 words : (t : Terms) → Kept t (Unit {0}) ⊥ (Unit {0}) On (λ p q c. On c) On
 words t = search none-anew depth 12 fits 4000
 
-clash : {X : Type 0} {b : Bool} → GoesOn b → b ≡ true → X
-clash h e = absurd (true≢false (sym e ∙ h.on))
-
 module _ (t : Terms) (l : Link) where
   begins : On (begun l)
   begins = record { on = refl }
 
   goes-on : (here : State) (b : Bool) (octets : List ℕ) (control : Control) → Fits (Unit {0}) ⊥ (Unit {0}) control
       → {X : Type 0} → (frame_in here t b octets control (begun l)).zeroed ≡ true → X
-  goes-on here b octets control may e = clash ((frame_row (words t) here b octets control may).leads (begun l) begins) e
+  goes-on here b octets control may e = absurd (true≢false (sym e ∙ ((frame_row (words t) here b octets control may).leads (begun l) begins).on))
 
   other : (e : Event) → FitsEvent (Unit {0}) ⊥ (Unit {0}) e → {X : Type 0} → restarts t e l ≡ true → X
-  other e may is = clash ((event_row (words t) e may).leads (begun l) begins) is
+  other e may is = absurd (true≢false (sym is ∙ ((event_row (words t) e may).leads (begun l) begins).on))
 
   by-sabme : (here : State) (b p : Bool) (octets : List ℕ) → (frame_in here t b octets (Sabme p) (begun l)).zeroed ≡ true
       → IsEstablished (Sabme p) (frame_in here t b octets (Sabme p) (begun l)).link

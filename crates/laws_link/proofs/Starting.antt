@@ -2,23 +2,15 @@
 use Rattle.laws_link.proofs.Vocabulary.{arith, ◌≡◌, cond, List, [], ◌∷◌, Option, Some, None, IfSome, Start, Stop, ControlFrame, LinkTimer, T200, T203, Terms, Link, course, after, given, given_of, Course, Sent, begun, runs, timer_at, orders_for, LeavesTimers, told_ways, offer, offer_among}
 
 -- no order where no timer was started, and the same runs
-none-ordered : (t : Terms) (running : Option LinkTimer) → orders_for t running None running ≡ []
+pub none-ordered : (t : Terms) (running : Option LinkTimer) → orders_for t running None running ≡ []
 none-ordered t running = grind arith
-
--- T200 was started where it did not run
-t200-ordered : (t : Terms) (running : Option LinkTimer)
-    → orders_for t running (Some T200) (Some T200) ≡ Start (timer_at t T200) ∷ cond (runs T203 running) (Stop (timer_at t T203) ∷ []) []
-t200-ordered t running = grind arith
 
 module _ (t : Terms) (l : Link) where
   abbrev Leaves : Course → Type 0
   Leaves c = LeavesTimers t l c.link (orders_for t l.running c.started c.link.running)
 
-  offering : (ws : List ControlFrame) → Leaves (offer_among t ws (begun l))
-  offering ws = grind (arith, none-ordered, told_ways, t200-ordered)
-
   from-sent : (c : Course) (o : Option Sent) → Leaves c → IfSome (given_of t l c o) (λ g. LeavesTimers t l c.link g.orders)
   from-sent c o x = grind arith
 
   pub given-leaves : IfSome (given t l) (λ g. LeavesTimers t l (after t offer l) g.orders)
-  given-leaves = from-sent (course t offer l) (course t offer l).sent (offering l.waiting)
+  given-leaves = from-sent (course t offer l) (course t offer l).sent (grind (arith, none-ordered, told_ways))

@@ -56,29 +56,13 @@ module _ (Asks : ℕ → Type 0) (t : Terms) (l : Link) where
   sabme-again : (p out : Bool)
       → let c = (send t (response (Ua p)) then clear_flags then error t ErrorCode.F) (begun l) in
       Row Asks (Unit {0}) l ((zero_numbers then start T203 then enter Established) (cond out ((discard then establish_indication t) c) c))
-  sabme-again p true = record { sent = inr (inr (inr (refl, refl))); busy = inr (refl, refl); loss = λ some. tt }
-  sabme-again p false = record { sent = inr (inr (inr (refl, refl))); busy = inr (refl, refl); loss = λ some. tt }
+  sabme-again p out = grind arith
 
   pub frames_in_7 : (b : Bool) (octets : List ℕ) (control : Control)
       → ((nr : Seq) (n : ℕ) → asked_from Established b control ≡ Some nr → named l.a l.s nr ≡ Some n → Asks n)
       → Row Asks (MayEndBy control) l (frame_in_7 t b octets control (begun l))
   frames_in_7 b octets (Information ns nr p) asks = still Asks _ t l (frame_in_7 t b octets (Information ns nr p)) (search words depth 20 fits 20000)
-  frames_in_7 b octets (ReceiveReady nr pf) asks = still Asks _ t l (frame_in_7 t b octets (ReceiveReady nr pf)) (search words depth 20 fits 20000)
-  frames_in_7 b octets (ReceiveNotReady nr pf) asks = still Asks _ t l (frame_in_7 t b octets (ReceiveNotReady nr pf)) (search words depth 20 fits 20000)
-  frames_in_7 b octets (Reject nr pf) asks =
-      let before = peer_busy_is false then MultipleFrame.answered t b pf then unsolicited t (MultipleFrame.is_final b pf) in
-      let known : Leads (Ordinary l) before (Ordinary l) = search words depth 12 fits 8000 in
-      by-number Asks _ t l nr acknowledged_by_rej_in_7 (before (begun l))
-      (record { holds = known.leads (begun l) (begins l); a = same-a b pf })
-      (λ n names. let h = known.leads (begun l) (begins l) in record { sent = inr (inl (asks nr n refl names)); busy = h.busy; loss = λ some. absurd (true≢false (sym some ∙ h.no_loss)) })
-    where
-      same-a : (b pf : Bool) → ((peer_busy_is false then MultipleFrame.answered t b pf then unsolicited t (MultipleFrame.is_final b pf)) (begun l)).link.a ≡ l.a
-      same-a b pf = grind arith
-  frames_in_7 b octets (Sabme p) asks = sabme-again p (has_outstanding l)
-  frames_in_7 b octets (Disc p) asks = record { sent = inr (inr (inl (refl, refl))); busy = inl refl; loss = λ some. tt }
-  frames_in_7 b octets (Dm false) asks = fails Asks _ t l ErrorCode.E refl
-  frames_in_7 b octets (Frmr f) asks = fails Asks _ t l ErrorCode.K refl
-  frames_in_7 b octets other asks = still Asks _ t l (frame_in_7 t b octets other) (search words)
+  frames_in_7 b octets control asks = grind (arith, still, words, by-number, begins, sabme-again, fails)
 
   -- the answer to an enquiry, and other supervisory frames of state 8
   recovering : (busy : Bool) (timer : LinkTimer) (nr : Seq) → ((n : ℕ) → named l.a l.s nr ≡ Some n → Asks n) → (Ends : Type 0)
@@ -109,10 +93,7 @@ module _ (Asks : ℕ → Type 0) (t : Terms) (l : Link) where
       → ((nr : Seq) (n : ℕ) → asked_from here b control ≡ Some nr → named l.a l.s nr ≡ Some n → Asks n)
       → Row Asks (MayEndBy control) l (frame_in here t b octets control (begun l))
   frames TeiAssigned e b octets control asks = frames_in_4 octets control
-  frames AwaitingEstablishment e b octets control asks = frames_in_5 octets control
-  frames AwaitingRelease e b octets control asks = frames_in_6 octets control
-  frames Established e b octets control asks = frames_in_7 b octets control asks
-  frames TimerRecovery e b octets control asks = frames_in_8 b octets control asks
+  frames here e b octets control asks = grind (arith, frames_in_5, frames_in_6, frames_in_7, frames_in_8)
 
   pub any-frame : (b : Bool) (octets : List ℕ) (control : Control)
       → ((nr : Seq) (n : ℕ) → asked_from l.state b control ≡ Some nr → named l.a l.s nr ≡ Some n → Asks n)
@@ -136,33 +117,28 @@ pub record Steady (t : Terms) (e : Event) (l : Link) : Type 0 where
   pub loss : empties t e l ≡ true → MayLose e
 
 module _ (t : Terms) (l : Link) where
-  busy-by : (e : Event) (c : Course) → Busy l c → MovesBusy e l c.link c.notes
-  busy-by e c o = grind arith
-
   -- of a row of a frame or of an expiry
   abbrev Sent : Event → Course → Type 0
   Sent e c = (c.link.s ≡ l.s) ⊎ AsksFrom e l c.link.s ⊎ ((tells_loss c.notes ≡ true) × (c.link.s ≡ c.link.a)) ⊎ ((c.zeroed ≡ true) × (c.link.s ≡ 0))
 
   by-frame : (f : Parts) → Steady t (received (frame f)) l
   by-frame f =
-      let e = received (frame f) in
-      let x = any-frame (AsksFrom e l) t l f.address.command f.info f.control (λ nr n asked names. record { nr = nr; asked = asked; names = names }) in
-      record { sent = sent x.sent; busy = busy-by e (course t e l) x.busy; loss = x.loss }
+      let x = any-frame (AsksFrom (received (frame f)) l) t l f.address.command f.info f.control (λ nr n asked names. record { nr = nr; asked = asked; names = names }) in
+      record { sent = sent x.sent; busy = grind arith; loss = x.loss }
     where
       sent : Sent (received (frame f)) (course t (received (frame f)) l) → MovesSent t (received (frame f)) l (after t (received (frame f)) l)
       sent o = grind arith
 
   by-malformed : (what : Received) → Row (AsksFrom (received what) l) ⊥ l (received_step t what (begun l)) → Steady t (received what) l
-  by-malformed what x = grind (arith, busy-by)
+  by-malformed what x = grind arith
 
   expires : {Ends : Type 0} (timer : LinkTimer) (b : Bool) → Row (AsksFrom (expired timer) l) Ends l (expired_in l.state timer t (begun l))
       → Row (AsksFrom (expired timer) l) Ends l (cond b (expired_in l.state timer t (begun l)) (begun l))
-  expires timer true x = x
-  expires timer false x = ordinary (AsksFrom (expired timer) l) _ t l (begun l) (begins l)
+  expires timer b x = grind (arith, ordinary, begins)
 
   by-expiry : (timer : LinkTimer) (Ends : Type 0) → (Ends → MayLose (expired timer))
       → Row (AsksFrom (expired timer) l) Ends l (expired_step t timer (begun l)) → Steady t (expired timer) l
-  by-expiry timer Ends ends x = grind (arith, busy-by)
+  by-expiry timer Ends ends x = grind arith
 
   -- of a request
   record Asked (request : Request) (full refused : Bool) (c : Course) : Type 0 where
@@ -181,8 +157,7 @@ module _ (t : Terms) (l : Link) where
 
   asked : (request : Request) (full : Bool) (o : Option Refusal)
       → Asked request full (is_some o) (elim o as (λ o. Course) [ None ↦ Requests.granted t request (begun l) | Some _ ↦ begun l ])
-  asked request full None = granted request full
-  asked request full (Some w) = record { sent = inl refl; busy = inl refl; loss = λ some. absurd (true≢false (sym some)) }
+  asked request full o = grind (arith, granted)
 
   by-request : (request : Request) (full : Bool) → Steady t (requested request full) l
   by-request request full = grind (arith, asked)
@@ -201,11 +176,4 @@ module _ (t : Terms) (l : Link) where
 
   pub event-steady : (e : Event) → Steady t e l
   event-steady (received (frame f)) = by-frame f
-  event-steady (received undefined) = by-malformed undefined (malformed (AsksFrom (received undefined) l) t l l.state ErrorCode.L refl)
-  event-steady (received wrong_size) = by-malformed wrong_size (malformed (AsksFrom (received wrong_size) l) t l l.state ErrorCode.N refl)
-  event-steady (received overlong) = by-malformed overlong (malformed (AsksFrom (received overlong) l) t l l.state ErrorCode.O refl)
-  event-steady (expired T200) = by-expiry T200 (Unit {0}) (λ x. x) (expires T200 (is_running T200 l) (t200 (AsksFrom (expired T200) l) t l l.state))
-  event-steady (expired T203) = by-expiry T203 ⊥ (λ x. x) (expires T203 (is_running T203 l) (t203 (AsksFrom (expired T203) l) t l l.state))
-  event-steady (requested request full) = by-request request full
-  event-steady offer = by-offer
-  event-steady cleared = record { sent = inr (inr (inr (inr (refl, refl)))); busy = inr (inr (refl, inl tt)); loss = λ some. tt }
+  event-steady e = grind (arith, by-malformed, malformed, by-expiry, expires, t200, t203, by-request, by-offer)

@@ -14,28 +14,18 @@ module _ (t : Terms) where
   frame_timed here b octets other = search rows depth 14 fits 6000
 
   expired_timed : (here : State) (timer : LinkTimer) → Leads (At here) (expired_in here timer t) Ends
-  expired_timed AwaitingEstablishment T200 = search ends depth 12 fits 4000
-  expired_timed AwaitingRelease T200 = search ends depth 12 fits 4000
-  expired_timed TimerRecovery T200 = search ends depth 12 fits 4000
-  expired_timed other timer = search ends depth 12 fits 4000
-
-  malformed_timed : (here : State) (e : ErrorCode) → Leads (At here) (malformed_in here t e) Ends
-  malformed_timed Established e = failed_timed t e
-  malformed_timed other e = search ends depth 12 fits 4000
+  expired_timed here timer = grind (arith, ends, here)
 
 -- as the law says it, and back
-of-law : (here : State) (l : Link) → IsTimedIn here l → TimedBy here l.running l.a l.s
-of-law here l h = grind arith
-
 to-law : (here : State) (l : Link) → TimedBy here l.running l.a l.s → IsTimedIn here l
 to-law here l h = grind arith
 
 module _ (t : Terms) (l : Link) (timed : IsTimed l) where
   here : At l.state (begun l)
-  here = record { state_is = refl; timer = of-law l.state l timed.timer }
+  here = record { state_is = refl; timer = grind arith }
 
   unchanged : Ends (begun l)
-  unchanged = record { timer = of-law l.state l timed.timer }
+  unchanged = record { timer = grind arith }
 
   frames : (b : Bool) (octets : List ℕ) (control : Control) → Ends (frame_step t b octets control (begun l))
   frames b octets control = (frame_timed t l.state b octets control).leads (begun l) here
@@ -60,28 +50,13 @@ goes l at h b e = grind (arith, goes_on)
 established : (here : State) (x y z : Bool) → (is_established here && x && y && z) ≡ true → here ≡ Established
 established here x y z e = grind arith
 
-at-established : (state : State) (running : Option LinkTimer) (a s : ℕ) → state ≡ Established → TimedBy state running a s → TimedBy Established running a s
-at-established state running a s e h = subst (λ x. TimedBy x running a s) e h
-
 offers : (t : Terms) (l : Link) → IsTimed l → (ws : List ControlFrame) → Ends (offer_among t ws (begun l))
 unfolding gone
-offers t l timed (f ∷ fs) = record { timer = of-law l.state l timed.timer }
-offers t l timed [] =
-    told_ways Ends (may_send_information t l) _ _
-    (λ e.
-    let at : l.state ≡ Established = established l.state _ _ _ e in
-    goes l at (at-established l.state l.running l.a l.s at (of-law l.state l timed.timer)) (runs T200 l.running) refl)
-    (λ e. told_ways Ends l.pending _ _ (λ e. record { timer = of-law l.state l timed.timer }) (λ e. record { timer = of-law l.state l timed.timer }))
+offers t l timed ws = grind (arith, told_ways, established, goes)
 
 event-timed : (t : Terms) (e : Event) (l : Link) → IsTimed l → Ends (course t e l)
 event-timed t (received (frame f)) l h = frames t l h f.address.command f.info f.control
-event-timed t (received undefined) l h = (malformed_timed t l.state ErrorCode.L).leads (begun l) (here t l h)
-event-timed t (received wrong_size) l h = (malformed_timed t l.state ErrorCode.N).leads (begun l) (here t l h)
-event-timed t (received overlong) l h = (malformed_timed t l.state ErrorCode.O).leads (begun l) (here t l h)
-event-timed t (expired timer) l h = told_ways Ends (is_running timer l) _ _ (λ e. (expired_timed t l.state timer).leads (begun l) (here t l h)) (λ e. unchanged t l h)
-event-timed t (requested request full) l h = requests t l h request (Requests.refusal t l full request)
-event-timed t offer l h = offers t l h l.waiting
-event-timed t cleared l h = record { timer = refl }
+event-timed t e l h = grind (arith, failed_timed, ends, here, told_ways, expired_timed, unchanged, requests, offers)
 
 pub timed-after : (t : Terms) (e : Event) (l : Link) → IsTimed l → IsTimed (after t e l)
 timed-after t e l h = record { timer = to-law (after t e l).state (after t e l) (event-timed t e l h).timer }

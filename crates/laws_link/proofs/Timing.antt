@@ -69,9 +69,6 @@ module _ {X : Course → Type 0} where
   pub failed_timed : (t : Terms) (e : ErrorCode) → Leads X (failed t e) Ends
   failed_timed t e = record { leads = λ c h. record { timer = refl } }
 
-  pub recovered_timed : (timer : LinkTimer) (m : ℕ) → Leads X (recovered timer m) Ends
-  recovered_timed timer m = grind arith
-
 -- T200 is started anew, and the state stays
 pub restart_5 : Leads (At AwaitingEstablishment) (start T200) (At AwaitingEstablishment)
 restart_5 = record { leads = λ c h. record { state_is = h.state_is; timer = refl } }
@@ -92,9 +89,6 @@ nearer running a s m from o = grind arith
 pub acknowledge_7 : (m : ℕ) → Leads (Named Established m) (acknowledge m) (At Established)
 acknowledge_7 m = grind (arith, nearer)
 
-pub all_acknowledged_7 : (m : ℕ) → Leads (Passed (Named Established m) (is_all_sent m) true) (acknowledge m then start T203) (At Established)
-all_acknowledged_7 m = grind (arith, eqb-true)
-
 pub acknowledge_start_7 : (m : ℕ) → Leads (Named Established m) (acknowledge m then start T200) (At Established)
 acknowledge_start_7 m = record { leads = λ c h. record { state_is = h.holds.state_is; timer = inl refl } }
 
@@ -105,7 +99,7 @@ pub to_named : {here : State} {m : ℕ} {f : Step} → Leads (Named here m) f (A
 to_named {here} {m} {f} x = to_less (λ c h. enough here c.link.state c.link.running c.link.a c.link.s h) x
 
 pub acknowledged_7 : (m : ℕ) → Leads (Named Established m) (acknowledged_in_7 m) (At Established)
-acknowledged_7 m = grind (arith, tested_leads, all_acknowledged_7, from_more, depending_leads, acknowledge_start_7, unnamed, nothing_leads)
+acknowledged_7 m = grind (arith, tested_leads, eqb-true, from_more, depending_leads, acknowledge_start_7, unnamed, nothing_leads)
 
 pub acknowledged_by_information_7 : (m : ℕ) → Leads (Named Established m) (acknowledged_by_information_in_7 m) (At Established)
 acknowledged_by_information_7 m = depending_leads _ (acknowledge_7 m) (acknowledged_7 m)
@@ -115,7 +109,7 @@ pub acknowledge_8 : (m : ℕ) → Leads (Named TimerRecovery m) (acknowledge m) 
 acknowledge_8 m = record { leads = λ c h. record { state_is = h.holds.state_is; timer = h.holds.timer } }
 
 pub acknowledged_8 : (final : Bool) (timer : LinkTimer) (m : ℕ) → Leads (Named TimerRecovery m) (acknowledged_in_8 timer final m) Ends
-acknowledged_8 final timer m = bit_leads final (recovered_timed timer m) (to_named (acknowledge_8 m))
+acknowledged_8 final timer m = bit_leads final (grind arith) (to_named (acknowledge_8 m))
 
 -- by the N(R): an invalid one, or the one number that it names
 pub by-number : (here : State) (t : Terms) (nr : Seq) (f : ℕ → Step) → ((m : ℕ) → Leads (Named here m) (f m) Ends) → (c : Course) → At here c

@@ -1,7 +1,5 @@
 -- By how much an aim raises what a line may still send.
-use Rattle.model_line.proofs.Vocabulary.{◌≡◌, ℕ, refl, arith, Service, Link, event-rises, Config, may_send, fresh_line, link_count, terms, IsInRange}
-use Rattle.model_link.specs.Events as link
-use Rattle.model_link.specs.Rises as rises
+use Rattle.model_line.proofs.Vocabulary.{◌≡◌, ℕ, refl, arith, Service, Link, event-rises, Config, may_send, fresh_line, link_count, terms, IsInRange, LinkEvent, rises_price, rises_may_send}
 use Rattle.lapd_tei.specs.Machine as tei
 use Rattle.lapd_tei.proofs.LawLemmas as tei_lemmas
 use Rattle.model_line.proofs.Ranges.{terms_in_range}
@@ -9,10 +7,10 @@ use Rattle.model_line.proofs.Sums.{Rise, all_begin}
 
 -- What a link may send, of whatever TEI.
 abbrev pub may_send_of : Config → Service → Link → ℕ
-may_send_of c service x = rises.may_send (terms c service 0) x
+may_send_of c service x = rises_may_send (terms c service 0) x
 
-abbrev pub price_of : Config → Service → ℕ → link.Event → Link → ℕ
-price_of c service tei e x = rises.price (terms c service tei) e x
+abbrev pub price_of : Config → Service → ℕ → LinkEvent → Link → ℕ
+price_of c service tei e x = rises_price (terms c service tei) e x
 
 pub sends : (c : Config) → IsInRange c → Rise c (may_send_of c) tei.may_send (price_of c) 1
 sends c ranged = record {

@@ -1,6 +1,5 @@
 -- What an event is to the parts of a line keeps the line sound.
-use Rattle.model_line.proofs.Vocabulary.{◌≡◌, ℕ, ◌<◌, [], ◌∷◌, ◌++◌, length, get_or, set, Option, Some, None, ap, sym, ◌∙◌, subst, arith, length-set, length-append, get_or-set_other, All-nil, All-cons, All-append, Moves, Management, IsAt, Change, Gained, Left, Call, Packet, fresh, Config, LineTold, Line, link_number, link_at, place_at, Aim, at_none, at_link, at_management, at_units, at_no_link, without_units, of_change, of_management, of_aim, IsInRange, IsSoundAt, IsSound, IsUnitData}
-use Rattle.lapd_tei.specs.Events as teis
+use Rattle.model_line.proofs.Vocabulary.{◌≡◌, ℕ, ◌<◌, [], ◌∷◌, ◌++◌, length, get_or, set, Option, Some, None, ap, sym, ◌∙◌, subst, arith, length-set, length-append, get_or-set_other, All-nil, All-cons, All-append, Moves, Management, IsAt, Change, Gained, Left, Call, Packet, fresh, Config, LineTold, Line, link_number, link_at, place_at, Aim, at_none, at_link, at_management, at_units, at_no_link, without_units, of_change, of_management, of_aim, IsInRange, IsSoundAt, IsSound, IsUnitData, TeiEvent, tei_down, tei_told, tei_after}
 use Rattle.lapd_tei.specs.Laws as tei_laws
 use Rattle.lapd_tei.specs.Sound as tei
 use Rattle.lapd_tei.proofs.LawLemmas as tei_laws_lemmas
@@ -32,15 +31,13 @@ module _ (c : Config) (ranged : IsInRange c) where
   -- the links after a change of the table
   links_moved : (l : Line) (change : Option Change) (m : Management) (told : LineTold) → IsSound c l → tei.IsSound m
       → Moves l.management.places change m.places → IsSound c (of_change c change told (record l { management = m })).line
-  links_moved l None m told s ms same =
-      with_links c l s m l.links l.turn ms (ap (λ p. length p) same ∙ s.places) s.count s.turn
-      (λ n few. subst (λ p. IsSoundAt c n (link_at n l) (get_or p (place_at n) None)) (sym same) (s.links n few))
+  links_moved l None m told s ms same = grind (arith, with_links)
   links_moved l (Some (Gained tei place)) m told s ms joined = place_changed l m place (Some tei) s ms joined.is_there joined.within
   links_moved l (Some (Left tei place)) m told s ms left = place_changed l m place None s ms left.is_free left.within
 
-  pub management_event_sound : (l : Line) (e : teis.Event) → IsSound c l → tei_laws.IsInRange e → IsSound c (of_management c e l).line
+  pub management_event_sound : (l : Line) (e : TeiEvent) → IsSound c l → tei_laws.IsInRange e → IsSound c (of_management c e l).line
   management_event_sound l e s fits =
-      links_moved l (teis.told e l.management).change (teis.after e l.management) _ s
+      links_moved l (tei_told e l.management).change (tei_after e l.management) _ s
       (tei_laws_lemmas.sound-after e l.management fits s.management) (tei_laws_lemmas.changes_are_told e l.management fits s.management)
 
   pub aim_sound : (l : Line) (aim : Aim) → IsSound c l → IsProper c l aim → IsSound c (of_aim c aim l).line
@@ -52,4 +49,4 @@ module _ (c : Config) (ranged : IsInRange c) where
       (All-append (IsUnitData c) l.units (unit ∷ []) s.units (All-cons (IsUnitData c) unit [] proper.0 (All-nil (IsUnitData c))))
       (omega (arith, proper.1, length-append l.units (unit ∷ [])))
   aim_sound l at_no_link s proper =
-      management_event_sound (without_units l) teis.down (with_units c l s [] (All-nil (IsUnitData c)) (omega arith)) tt
+      management_event_sound (without_units l) tei_down (with_units c l s [] (All-nil (IsUnitData c)) (omega arith)) tt

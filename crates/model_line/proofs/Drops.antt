@@ -1,9 +1,5 @@
 -- What is dropped changes nothing, and costs nothing.
-use Rattle.model_line.proofs.Vocabulary.{arith, ◌≡◌, ℕ, Bool, true, [], Option, Some, None, IsSome, refl, ap, ◌∙◌, unwrap_or, set-get_or, none-some, Cause, Unserved, Service, Terms, LinkTimer, fresh, orders_for, Change, Config, LineTold, hears, told, may_send, cause_in, Line, link_number, link_in, with_link, terms, aim_of_heard, Effect, unserved_cause, told_of_link, of_link, of_change, of_management, of_aim, unserved_leaves}
-use Rattle.model_bits.specs.Stream as stream
-use Rattle.model_link.specs.Events as link
-use Rattle.model_link.specs.Machine as links
-use Rattle.lapd_tei.specs.Events as teis
+use Rattle.model_line.proofs.Vocabulary.{arith, ◌≡◌, ℕ, Bool, true, [], Option, Some, None, IsSome, refl, ap, ◌∙◌, unwrap_or, set-get_or, none-some, Cause, Unserved, Service, Terms, LinkTimer, fresh, orders_for, Change, Config, LineTold, hears, told, may_send, cause_in, Line, link_number, link_in, with_link, terms, aim_of_heard, Effect, unserved_cause, told_of_link, of_link, of_change, of_management, of_aim, unserved_leaves, LinkReceived, link_received, link_told, link_told_of, TeiEvent, tei_message, StreamEvent}
 use Rattle.lapd_tei.proofs.LawLemmas as tei_lemmas
 use Rattle.model_line.specs.Event.{dropped}
 use Rattle.model_line.specs.Machine as lines
@@ -18,42 +14,35 @@ abbrev Leaves : Line → Effect → Type 0
 Leaves l out = (cause : Cause) → out.told.cause ≡ Some cause → (out.told ≡ dropped cause) × (out.line ≡ l)
 
 -- a timer that ran before and runs after is neither started nor stopped
-no_orders : (t : Terms) (running : Option LinkTimer) → orders_for t running None running ≡ []
-no_orders t running = grind arith
-
-link_leaves : (c : Config) (service : Service) (tei place : ℕ) (what : link.Received) (l : Line) → Leaves l (of_link c service tei place (link.received what) l)
+link_leaves : (c : Config) (service : Service) (tei place : ℕ) (what : LinkReceived) (l : Line) → Leaves l (of_link c service tei place (link_received what) l)
 link_leaves c service tei place what l cause h =
     let t = terms c service tei in
     let n = link_number place service in
     let x = link_in l service place in
-    let known = unserved_is (links.told t (link.received what) x).unserved cause h in
+    let known = unserved_is (link_told t (link_received what) x).unserved cause h in
     let same = unserved_leaves t x what known.0 in
-    let told : told_of_link (links.told t (link.received what) x) ≡ dropped Unserved =
-    ap (λ course. told_of_link (links.told_of t x course)) same ∙ ap (λ orders. record (dropped Unserved) { orders = orders }) (no_orders t x.running) in (
+    let told : told_of_link (link_told t (link_received what) x) ≡ dropped Unserved =
+    ap (λ course. told_of_link (link_told_of t x course)) same ∙ ap (λ orders. record (dropped Unserved) { orders = orders }) (grind arith) in (
       told ∙ ap dropped known.1,
       ap (λ course. with_link n course.link l) same ∙ ap (λ ls. record l { links = ls }) (set-get_or l.links n fresh),
     )
 
--- what becomes of a TEI adds no cause
-cause_stays : (c : Config) (change : Option Change) (t : LineTold) (l : Line) → (of_change c change t l).told.cause ≡ t.cause
-cause_stays c change t l = grind arith
-
-management_leaves : (c : Config) (event : teis.Event) (l : Line) → Leaves l (of_management c event l)
-management_leaves c event l cause h = grind (arith, unserved_is, cause_stays, tei_lemmas.unserved_changes_nothing)
+management_leaves : (c : Config) (event : TeiEvent) (l : Line) → Leaves l (of_management c event l)
+management_leaves c event l cause h = grind (arith, unserved_is, tei_lemmas.unserved_changes_nothing)
 
 -- what is heard whose answer names a cause
-pub heard_leaves : (c : Config) (e : stream.Event) (l : Line) (cause : Cause) → cause_in (lines.answer c (hears e) l) ≡ Some cause
+pub heard_leaves : (c : Config) (e : StreamEvent) (l : Line) (cause : Cause) → cause_in (lines.answer c (hears e) l) ≡ Some cause
     → (lines.answer c (hears e) l ≡ told (dropped cause)) × (lines.after c (hears e) l ≡ l)
 unfolding lines.answer lines.after
 heard_leaves c e l cause h =
     let left = go e cause h in
     (ap told left.0, left.1)
   where
-    go : (e : stream.Event) → Leaves l (of_aim c (aim_of_heard c l e) l)
+    go : (e : StreamEvent) → Leaves l (of_aim c (aim_of_heard c l e) l)
     go =
         heard_aims c l (λ aim. Leaves l (of_aim c aim l)) (λ why cause h. (ap dropped (ap (λ o. unwrap_or o why) h), refl))
         (λ service tei place what at. link_leaves c service tei place what l)
-        (λ info. management_leaves c (teis.message info) l)
+        (λ info. management_leaves c (tei_message info) l)
         (λ parts service to cause h. absurd (none-some cause h))
 
 -- a cause that is named
@@ -61,6 +50,6 @@ pub named_cause : (o : Option Cause) → IsSome o → (cause : Cause) × (o ≡ 
 named_cause o h = grind arith
 
 -- and what may be sent stays
-pub drop_costs_nothing : (c : Config) (e : stream.Event) (l : Line) → IsSome (cause_in (lines.answer c (hears e) l))
+pub drop_costs_nothing : (c : Config) (e : StreamEvent) (l : Line) → IsSome (cause_in (lines.answer c (hears e) l))
     → may_send c (lines.after c (hears e) l) ≡ may_send c l
 drop_costs_nothing c e l h = grind (arith, named_cause, heard_leaves)

@@ -6,9 +6,5 @@ use Rattle.model_line.proofs.RejectsHeard.{heard_rejects}
 pub expiry_none : (l : Line) (timer : Timer) → rejects_aimed l (aim_of_expiry timer l) ≡ false
 expiry_none l = expiry_aims l (λ aim. rejects_aimed l aim ≡ false) refl (λ service tei place timer at. refl) refl
 
-pub request_none : (c : Config) (l : Line) (r : Request) → rejects_aimed l (unless_refused (refusal c false r l) (aim_of_request r l)) ≡ false
-request_none c l =
-    request_aims c l (λ takes aim. rejects_aimed l aim ≡ false) (λ takes. refl) (λ service tei place what at. refl) (λ service tei place at. refl) (λ e range. refl) (λ unit is few. refl) refl
-
 pub event_rejects : (c : Config) (e : Event) (l : Line) → IsRejectHeard c e l
-event_rejects c e l = grind (arith, heard_rejects, expiry_none, request_none)
+event_rejects c e l = grind (arith, heard_rejects, expiry_none, request_aims)

@@ -1,8 +1,7 @@
 -- By how much an event raises what a line sends and may still send.
-use Rattle.model_line.proofs.Vocabulary.{◌≡◌, ℕ, ◌+◌, ◌*◌, ◌≤◌, Bool, false, max, Option, Some, None, is_some, refl, ap, sym, subst, cond, arith, Service, Refusal, T200, T203, T201, LinkTimer, Management, expire_check, Course, Config, Event, hears, expiry, request, next, one, may_send, rejects_aimed, is_accepted, is_given, at_timer, aim_of_expiry, runs_at, Rises, Line, place_in, link_in, terms, after, answer, unless_refused, unless_refused_told, aim_of_heard, at_management, told_of_management, of_change, of_management, of_aim, refusal, Request, aim_of_request, IsInRange, IsSound}
+use Rattle.model_line.proofs.Vocabulary.{◌≡◌, ℕ, ◌+◌, ◌*◌, ◌≤◌, Bool, false, max, Option, Some, None, is_some, refl, ap, sym, subst, cond, arith, Service, Refusal, T200, T203, T201, LinkTimer, Management, expire_check, Course, Config, Event, hears, expiry, request, next, one, may_send, rejects_aimed, is_accepted, is_given, at_timer, aim_of_expiry, runs_at, Rises, Line, place_in, link_in, terms, after, answer, unless_refused, unless_refused_told, aim_of_heard, at_management, told_of_management, of_change, of_management, of_aim, refusal, Request, aim_of_request, IsInRange, IsSound, tei_refusal, tei_course, tei_expiry}
 use Rattle.model_link.specs.Requests as requests
 use Rattle.model_link.specs.declared.timers.LinkTimer.TheVariants as link_timer
-use Rattle.lapd_tei.specs.Events as teis
 use Rattle.lapd_tei.specs.Words.{begun}
 use Rattle.lapd_tei.specs.declared.check.Check as checks
 use Rattle.model_line.proofs.AimsRise.{sends}
@@ -13,8 +12,8 @@ use Rattle.model_line.proofs.NextRises.{next_falls}
 use Rattle.model_line.proofs.Sums.{price_at, aim_rises}
 
 -- T201 that does not run has no effect
-idle_t201 : (m : Management) → m.check ≡ None → teis.course teis.expiry m ≡ begun m
-unfolding teis.course teis.refusal
+idle_t201 : (m : Management) → m.check ≡ None → tei_course tei_expiry m ≡ begun m
+unfolding tei_course tei_refusal
 idle_t201 m e = ap (λ o. expire_check o (begun m)) e
 
 module _ (c : Config) (ranged : IsInRange c) (l : Line) (s : IsSound c l) where
@@ -23,15 +22,13 @@ module _ (c : Config) (ranged : IsInRange c) (l : Line) (s : IsSound c l) where
       → price_at (sends c ranged) l (at_timer service tei timer o) ≤ (max c.k c.k16 + 1) * one (runs_at service timer o l)
   timer_costs service tei timer o = grind (arith, window_most)
 
-  t201_rises : may_send c (of_management c teis.expiry l).line ≤ may_send c l + (max c.k c.k16 + 1) * one (is_some l.management.check)
+  t201_rises : may_send c (of_management c tei_expiry l).line ≤ may_send c l + (max c.k c.k16 + 1) * one (is_some l.management.check)
   t201_rises = go l.management.check refl
     where
       go : (o : Option checks.Check) → l.management.check ≡ o
-          → may_send c (of_management c teis.expiry l).line ≤ may_send c l + (max c.k c.k16 + 1) * one (is_some o)
-      go None e =
-          subst (λ (x : Course). may_send c (of_change c x.told.change (told_of_management x.told) (record l { management = x.now })).line ≤ may_send c l + (max c.k c.k16 + 1) * 0)
-          (sym (idle_t201 l.management e)) (omega arith)
-      go (Some check) e = omega (arith, aim_rises (sends c ranged) l (at_management teis.expiry) ranged s tt)
+          → may_send c (of_management c tei_expiry l).line ≤ may_send c l + (max c.k c.k16 + 1) * one (is_some o)
+      go None e = grind (arith, idle_t201)
+      go (Some check) e = omega (arith, aim_rises (sends c ranged) l (at_management tei_expiry) ranged s tt)
 
   -- a request
   request_costs : (r : Request) → price_at (sends c ranged) l (unless_refused (refusal c false r l) (aim_of_request r l)) ≤ 1
@@ -61,6 +58,4 @@ module _ (c : Config) (ranged : IsInRange c) (l : Line) (s : IsSound c l) where
   event_rises (expiry (T203 service tei)) =
       let aim = aim_of_expiry (T203 service tei) l in
       omega (arith, aim_rises (sends c ranged) l aim ranged s (expiry_proper c l (T203 service tei)), timer_costs service tei link_timer.T203 (place_in l tei))
-  event_rises (expiry T201) = omega (arith, t201_rises)
-  event_rises (request r) = omega (arith, request_rises r (refusal c false r l) (request_proper c l r) (request_costs r))
-  event_rises next = omega (arith, (next_falls c ranged l s).0)
+  event_rises e = grind (arith, t201_rises, request_rises, request_proper, request_costs, next_falls)

@@ -1,7 +1,5 @@
 -- What is heard, and what it costs.
-use Rattle.model_line.proofs.Vocabulary.{ℕ, ◌+◌, ◌*◌, ◌≤◌, max, arith, Service, Config, hears, hears_frame, one, rejects, rejects_aimed, Line, window, aim_of_heard, Aim, at_link, IsInRange}
-use Rattle.model_bits.specs.Stream as stream
-use Rattle.model_link.specs.Events as link
+use Rattle.model_line.proofs.Vocabulary.{ℕ, ◌+◌, ◌*◌, ◌≤◌, max, arith, Service, Config, hears, hears_frame, one, rejects, rejects_aimed, Line, window, aim_of_heard, Aim, at_link, IsInRange, LinkReceived, link_received, StreamEvent}
 use Rattle.model_line.proofs.AimsRise.{sends}
 use Rattle.model_line.proofs.ProperAims.{heard_aims}
 use Rattle.model_line.proofs.Sums.{price_at}
@@ -17,13 +15,10 @@ module _ (c : Config) (ranged : IsInRange c) (l : Line) where
   abbrev CostsAsFrame : Aim → Type 0
   CostsAsFrame aim = price aim ≤ 2 + max c.k c.k16 * one (rejects_aimed l aim)
 
-  received_costs : (service : Service) (tei place : ℕ) (what : link.Received) → CostsAsFrame (at_link service tei place (link.received what))
-  received_costs service tei place what = grind (arith, window_most)
-
-  heard_costs : (e : stream.Event) → CostsAsFrame (aim_of_heard c l e)
+  heard_costs : (e : StreamEvent) → CostsAsFrame (aim_of_heard c l e)
   heard_costs e =
-      heard_aims c l CostsAsFrame (λ what. omega arith) (λ service tei place what at. received_costs service tei place what)
+      heard_aims c l CostsAsFrame (λ what. omega arith) (λ service tei place what at. grind (arith, window_most))
       (λ info. omega arith) (λ parts service to. omega arith) e
 
-  pub event_costs : (e : stream.Event) → price (aim_of_heard c l e) ≤ 2 * one (hears_frame (hears e)) + max c.k c.k16 * one (rejects c (hears e) l)
+  pub event_costs : (e : StreamEvent) → price (aim_of_heard c l e) ≤ 2 * one (hears_frame (hears e)) + max c.k c.k16 * one (rejects c (hears e) l)
   event_costs e = grind (arith, heard_costs)

@@ -1,6 +1,5 @@
 -- A line is sound as it begins, and each event keeps it so.
-use Rattle.model_line.proofs.Vocabulary.{replicate, get_or, None, subst, sym, length-replicate, get_or-replicate, All-nil, arith, fresh, sound-empty, Config, Event, Line, link_count, place_at, fresh_line, after, taken, line_of, option_map_or, IsInRange, IsSoundAt, IsSound, IsUnitData}
-use Rattle.model_line.specs.Machine.{aim_of}
+use Rattle.model_line.proofs.Vocabulary.{replicate, get_or, None, subst, sym, length-replicate, get_or-replicate, All-nil, arith, fresh, sound-empty, Config, Event, Line, link_count, place_at, fresh_line, after, taken, line_of, option_map_or, IsInRange, IsSoundAt, IsSound, IsUnitData, aim_of}
 use Rattle.model_line.proofs.AimsSound.{aim_sound}
 use Rattle.model_line.proofs.Numbers.{place_within}
 use Rattle.model_line.proofs.EventWalk.{by_part}
@@ -16,15 +15,13 @@ after_sound c ranged e l s =
     by_part c l (λ what m. IsSound c m) (λ what. aim_sound c ranged l (aim_of c what l) s (event_proper c l what)) (next_sound c ranged l s) e
 
 pub fresh_sound : (c : Config) → IsInRange c → IsSound c (fresh_line c)
-fresh_sound c ranged = record {
-  management = sound-empty c.terminals;
-  places = length-replicate c.terminals None;
-  count = length-replicate (link_count c) fresh;
-  links = λ n few.
-      subst (IsSoundAt c n (get_or (replicate (link_count c) fresh) n fresh))
-      (sym (get_or-replicate c.terminals (place_at n) None None (place_within n c.terminals few)))
-      (get_or-replicate (link_count c) n fresh fresh few);
-  units = All-nil (IsUnitData c);
-  few_units = omega arith;
-  turn = omega arith;
-}
+fresh_sound c ranged =
+    record {
+      management = sound-empty c.terminals;
+      places = length-replicate c.terminals None;
+      count = length-replicate (link_count c) fresh;
+      links = grind (arith, get_or-replicate, place_within);
+      units = All-nil (IsUnitData c);
+      few_units = omega arith;
+      turn = omega arith;
+    }

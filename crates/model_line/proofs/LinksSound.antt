@@ -1,7 +1,5 @@
 -- What keeps the links of a line sound.
-use Rattle.model_line.proofs.Vocabulary.{◌≡◌, ◌≢◌, ℕ, ◌+◌, ◌*◌, ◌≤◌, ◌<◌, List, length, get_or, set, Option, Some, None, ap, ◌∙◌, subst, arith, length-set, cases_eq, get_or-set_same, get_or-set_other, Service, Call, Packet, Link, fresh, sound-after, sound-fresh, IsAt, Places, at-within, Config, Line, link_number, service_at, place_at, link_count, link_at, link_in, with_link, terms, of_link, IsInRange, IsSoundAt, IsSound}
-use Rattle.model_link.specs.Events as link
-use Rattle.model_link.specs.Machine as links
+use Rattle.model_line.proofs.Vocabulary.{◌≡◌, ◌≢◌, ℕ, ◌+◌, ◌*◌, ◌≤◌, ◌<◌, List, length, get_or, set, Option, Some, None, ap, ◌∙◌, subst, arith, length-set, cases_eq, get_or-set_same, get_or-set_other, Service, Call, Packet, Link, fresh, sound-after, sound-fresh, IsAt, Places, at-within, Config, Line, link_number, service_at, place_at, link_count, link_at, link_in, with_link, terms, of_link, IsInRange, IsSoundAt, IsSound, LinkEvent, link_after}
 use Rattle.model_link.specs.Sound as link_sound
 use Rattle.model_line.proofs.Numbers.{place_at-number, service_at-number, number_within, at_place}
 use Rattle.model_line.proofs.Ranges.{terms_in_range}
@@ -28,14 +26,7 @@ module _ (c : Config) (ranged : IsInRange c) where
       let number = link_number place service in
       let within : place < c.terminals = omega (arith, s.places, at-within l.management.places place tei at) in
       let here = s.links number (number_within place c.terminals service within) in
-      let there : get_or l.management.places (place_at number) None ≡ Some tei =
-      ap (λ p. get_or l.management.places p None) (place_at-number place service) ∙ at in
-      let known : link_sound.IsSound (terms c (service_at number) tei) (link_at number l) = subst (IsSoundAt c number (link_at number l)) there here in
-      subst (λ x. link_sound.IsSound (terms c x tei) (link_at number l)) (service_at-number place service) known
-
-  pub sound_at : (places : Places) (service : Service) (tei place : ℕ) (x : Link) → IsAt places place tei
-      → link_sound.IsSound (terms c service tei) x → IsSoundAt c (link_number place service) x (get_or places (place_at (link_number place service)) None)
-  sound_at places service tei place x at h = grind (arith, place_at-number, service_at-number)
+      grind (arith, place_at-number, service_at-number)
 
   -- one link is another
   pub with_one : (all : List Link) (places : Places) (number : ℕ) (x : Link) → number < length all
@@ -50,15 +41,15 @@ module _ (c : Config) (ranged : IsInRange c) where
       (with_one l.links l.management.places number x (omega (arith, s.count, few)) here s.links)
 
   -- an event of a link
-  pub link_event_sound : (l : Line) → IsSound c l → (service : Service) (tei place : ℕ) (e : link.Event) → IsAt l.management.places place tei
+  pub link_event_sound : (l : Line) → IsSound c l → (service : Service) (tei place : ℕ) (e : LinkEvent) → IsAt l.management.places place tei
       → IsSound c (of_link c service tei place e l).line
   link_event_sound l s service tei place e at =
       let within : place < c.terminals = omega (arith, s.places, at-within l.management.places place tei at) in
       let t = terms c service tei in
       let range = terms_in_range c ranged service tei (s.management.table.range place tei at) in
       let after = sound-after t range e (link_in l service place) (sound_in l s service tei place at) in
-      with_link_sound l (link_number place service) (links.after t e (link_in l service place)) s
-      (number_within place c.terminals service within) (sound_at l.management.places service tei place _ at after)
+      with_link_sound l (link_number place service) (link_after t e (link_in l service place)) s
+      (number_within place c.terminals service within) (grind (arith, place_at-number, service_at-number))
 
   -- both links of a place begin, for whatever TEI the table has there
   fresh_at : (number : ℕ) (o : Option ℕ) → ((tei : ℕ) → o ≡ Some tei → tei ≤ 126) → IsSoundAt c number fresh o

@@ -1,8 +1,5 @@
 -- A frame that is taken is no longer among those that may be sent.
-use Rattle.model_line.proofs.Vocabulary.{◌≡◌, ℕ, ◌+◌, ◌*◌, ◌≤◌, ◌<◌, List, ◌∷◌, Option, Some, is_some, arith, Link, Given, Terms, event-rises, offer-falls, frame_of, Message, IsAt, Config, one, may_send, Line, UnitData, link_count, service_at, place_at, terms, link_at, Taken, with_message, with_unit, with_given_frame, taken, next_of, option_map, after, answer, FallsByNext, IsInRange, IsSound}
-use Rattle.model_link.specs.Events as link
-use Rattle.model_link.specs.Machine as links
-use Rattle.model_link.specs.Rises as rises
+use Rattle.model_line.proofs.Vocabulary.{◌≡◌, ℕ, ◌+◌, ◌*◌, ◌≤◌, ◌<◌, List, ◌∷◌, Option, Some, is_some, arith, Link, Given, Terms, event-rises, offer-falls, frame_of, Message, IsAt, Config, one, may_send, Line, UnitData, link_count, service_at, place_at, terms, link_at, Taken, with_message, with_unit, with_given_frame, taken, next_of, option_map, after, answer, FallsByNext, IsInRange, IsSound, offer, given, link_after, rises_sent}
 use Rattle.model_link.specs.Sound as link_sounds
 use Rattle.model_line.proofs.AimsRise.{may_send_of}
 use Rattle.model_line.proofs.TakenWalk.{taken_walk, next_walk}
@@ -14,7 +11,7 @@ abbrev pub TakesOne : Config → Line → Taken → Type 0
 TakesOne c l t = (1 + may_send c t.line ≤ may_send c l) × (may_send c l ≤ may_send c t.line + 2)
 
 -- what a link gives is sent
-gives : (t : Terms) (l : Link) (g : Given) → links.given t l ≡ Some g → rises.sent t link.offer l ≡ 1
+gives : (t : Terms) (l : Link) (g : Given) → given t l ≡ Some g → rises_sent t offer l ≡ 1
 gives t l g e = grind (arith, is_some)
 
 module _ (c : Config) (ranged : IsInRange c) (l : Line) (s : IsSound c l) where
@@ -25,15 +22,14 @@ module _ (c : Config) (ranged : IsInRange c) (l : Line) (s : IsSound c l) where
   unit_falls u us e = grind arith
 
   given_falls : (n tei : ℕ) → n < link_count c → IsAt l.management.places (place_at n) tei → link_sounds.IsSound (terms c (service_at n) tei) (link_at n l)
-      → (g : Given) → links.given (terms c (service_at n) tei) (link_at n l) ≡ Some g → TakesOne c l (with_given_frame c l n (terms c (service_at n) tei) g)
+      → (g : Given) → given (terms c (service_at n) tei) (link_at n l) ≡ Some g → TakesOne c l (with_given_frame c l n (terms c (service_at n) tei) g)
   given_falls n tei few at sound g e =
       let t = terms c (service_at n) tei in
       let range = terms_in_range c ranged (service_at n) tei (s.management.table.range (place_at n) tei at) in
-      let own = event-rises t range (link_at n l) sound link.offer in
       let least = offer-falls t range (link_at n l) sound in
-      let sums = one_changed c (may_send_of c) l.links n (links.after t link.offer (link_at n l)) s.count few in
+      let sums = one_changed c (may_send_of c) l.links n (link_after t offer (link_at n l)) s.count few in
       let sent = gives t (link_at n l) g e in
-      (omega (arith, own, sums, sent), omega (arith, least, sums, sent))
+      (omega (arith, (event-rises t range (link_at n l) sound offer), sums, sent), omega (arith, least, sums, sent))
 
 -- and so it is with a call that gives a frame; any other leaves what may be sent
 abbrev Falls : Config → Line → Option Taken → Line → Type 0

@@ -18,12 +18,6 @@ others (row ∷ more) none = go (is_pool row.why) row.holds refl none (others mo
         → (list_any pools more ≡ false → IsOther (first_that_holds more)) → IsOther (cond holds (Some row.why) (first_that_holds more))
     go pool holds is e rest = grind arith
 
-refused_otherwise : (c : Config) (r : Request) (l : Line) → list_any pools (rows c false r l) ≡ false
-refused_otherwise c r l = grind arith
-
-not_pool : (o : Option Refusal) (outcome : Effect) → IsOther o → is_pool_full (unless_refused_told o outcome) ≡ false
-not_pool o outcome h = grind arith
-
 pub line_not_pool : (c : Config) (e : Event) (l : Line) → is_pool_full (answer c e l) ≡ false
 unfolding answer
-line_not_pool c e l = grind (arith, not_pool, others, refused_otherwise)
+line_not_pool c e l = grind (arith, others)

@@ -12,18 +12,15 @@ use Rattle.std.specs.Option.{unwrap_or}
 abbrev pub IsNotShort : List ℕ → Type 0
 IsNotShort octets = (4 ≤ length octets) ⊎ ((length octets ≡ 3) × (slice_index octets 2 % 4 ≡ 3))
 
-behind_four : (a b c d : ℕ) (info : List ℕ) → 4 ≤ length (a ∷ b ∷ c ∷ d ∷ info)
-behind_four a b c d info = omega arith
-
 third : (without with_pf : ℕ) (pf : Bool) → without % 4 ≡ 3 → with_pf % 4 ≡ 3 → cond pf with_pf without % 4 ≡ 3
 third without with_pf pf h k = grind arith
 
 one_octet : (a b without with_pf : ℕ) (pf : Bool) (info : List ℕ) → without % 4 ≡ 3 → with_pf % 4 ≡ 3 → IsNotShort (a ∷ b ∷ (one_of without with_pf pf ++ info))
-one_octet a b without with_pf pf info h k = grind (arith, third, behind_four)
+one_octet a b without with_pf pf info h k = grind (arith, third)
 
 -- what the grammar spells
 pub not_short : (side : Side) (a : Address) (c : Control) (info : List ℕ) → IsNotShort (spelling side (record { address = a; control = c; info = info }))
-not_short side a c info = grind (arith, behind_four, one_octet)
+not_short side a c info = grind (arith, one_octet)
 
 abbrev IsLong : Taken → Type 0
 IsLong t = IsNotShort t.frame

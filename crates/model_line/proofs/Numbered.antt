@@ -1,10 +1,7 @@
 -- What an event delivers at a link of a line: the next eligible I-frame's contents, or none; or its numbers begin anew.
-use Rattle.model_line.proofs.Vocabulary.{◌&&◌, ◌≡◌, ◌≢◌, ℕ, ◌<◌, Bool, true, false, cond, ◌==◌, List, [], ◌∷◌, length, get_or, set, Option, Some, None, is_some, refl, ap, sym, ◌∙◌, subst, inl, inr, arith, eqb-true, eq-eqb, true≢false, All, list_any, option_or, option_map_or, get_or-set_same, get_or-set_other, All-head, All-tail, Note, Service, Call, Packet, Terms, Link, fresh, is_data, done, delivery, counted_on, event-delivers, IsOwn, notes-own, event-tells, Moves, Management, IsAt, Places, Change, Config, Answer, LineTold, told, nothing, same_service, arrived_aimed, arrived, is_change_at, restarts_aimed, restarts, is_data_of, delivered_in, delivered_at, delivered, Line, link_number, service_at, place_at, tei_at, link_at, link_in, terms, link_count, Aim, at_none, at_link, at_management, at_units, at_no_link, told_of_link, told_of_management, of_change, of_aim, IsSound}
+use Rattle.model_line.proofs.Vocabulary.{◌&&◌, ◌≡◌, ◌≢◌, ℕ, ◌<◌, Bool, true, false, cond, ◌==◌, List, [], ◌∷◌, length, get_or, set, Option, Some, None, is_some, refl, ap, sym, ◌∙◌, subst, inl, inr, arith, eqb-true, eq-eqb, true≢false, All, list_any, option_or, option_map_or, get_or-set_same, get_or-set_other, All-head, All-tail, Note, Service, Call, Packet, Terms, Link, fresh, is_data, done, delivery, counted_on, event-delivers, IsOwn, notes-own, event-tells, Moves, Management, IsAt, Places, Change, Config, Answer, LineTold, told, nothing, same_service, arrived_aimed, arrived, is_change_at, restarts_aimed, restarts, is_data_of, delivered_in, delivered_at, delivered, Line, link_number, service_at, place_at, tei_at, link_at, link_in, terms, link_count, Aim, at_none, at_link, at_management, at_units, at_no_link, told_of_link, told_of_management, of_change, of_aim, IsSound, LinkEvent, link_told, link_after, course, tei_told, tei_after}
 use Rattle.std.proofs.Math.Bool.{and-false, and-true, and-or_distrib_right}
 use Rattle.model_link.specs.Deliveries as arrivals
-use Rattle.model_link.specs.Events as link
-use Rattle.model_link.specs.Machine as links
-use Rattle.lapd_tei.specs.Events as teis
 use Rattle.lapd_tei.proofs.GivenUp as tei_given_up
 use Rattle.lapd_tei.proofs.LawLemmas as tei_laws
 use Rattle.model_line.proofs.AimsSound.{IsProper}
@@ -31,9 +28,8 @@ data_in : (t : Terms) (ns : List Note) (service : Service) (tei : ℕ) → All (
     → list_any (is_data_of service tei) ns ≡ (list_any is_data ns && is_of t service tei)
 data_in t [] service tei all = refl
 data_in t (n ∷ ns) service tei all =
-    let here = data_of t n service tei (All-head (IsOwn t) n ns all) in
     let rest = data_in t ns service tei (All-tail (IsOwn t) n ns all) in
-    rw (here, rest) (sym (and-or_distrib_right (is_data n) (list_any is_data ns) (is_of t service tei)))
+    rw ((data_of t n service tei (All-head (IsOwn t) n ns all)), rest) (sym (and-or_distrib_right (is_data n) (list_any is_data ns) (is_of t service tei)))
 
 -- Deliveries, as an answer tells them.
 
@@ -45,23 +41,22 @@ pub none_at : (number : ℕ) (l : Line) (a : Answer) → ((service : Service) (t
 none_at number l a none = grind arith
 
 -- what a link delivers is what its answer tells, to that link alone
-told_own : (t : Terms) (e : link.Event) (l : Link)
-    → delivered_in t.service t.tei (told (told_of_link (links.told t e l))) ≡ (links.course t e l).delivered
+told_own : (t : Terms) (e : LinkEvent) (l : Link)
+    → delivered_in t.service t.tei (told (told_of_link (link_told t e l))) ≡ (course t e l).delivered
 told_own t e l =
-    let tells = event-tells t e l in
-    let ns = (links.course t e l).notes in
-    let has = data_in t ns t.service t.tei (notes-own t e l) ∙ ap (λ b. list_any is_data ns && b) (of_itself t) ∙ and-true (list_any is_data ns) ∙ tells.1 in
-    ap (λ b. cond b (option_or (links.course t e l).delivered (links.course t e l).unit) None) has ∙ go (links.course t e l).delivered (links.course t e l).unit
+    let ns = (course t e l).notes in
+    let has = data_in t ns t.service t.tei (notes-own t e l) ∙ ap (λ b. list_any is_data ns && b) (of_itself t) ∙ and-true (list_any is_data ns) ∙ (event-tells t e l).1 in
+    ap (λ b. cond b (option_or (course t e l).delivered (course t e l).unit) None) has ∙ go (course t e l).delivered (course t e l).unit
   where
     go : (d u : Option (List ℕ)) → cond (is_some d) (option_or d u) None ≡ d
     go d u = grind arith
 
-told_others : (t : Terms) (e : link.Event) (l : Link) (service : Service) (tei : ℕ) → ((service ≡ t.service) × (tei ≡ t.tei) → ⊥)
-    → delivered_in service tei (told (told_of_link (links.told t e l))) ≡ None
+told_others : (t : Terms) (e : LinkEvent) (l : Link) (service : Service) (tei : ℕ) → ((service ≡ t.service) × (tei ≡ t.tei) → ⊥)
+    → delivered_in service tei (told (told_of_link (link_told t e l))) ≡ None
 told_others t e l service tei other =
-    let ns = (links.course t e l).notes in
+    let ns = (course t e l).notes in
     let none = data_in t ns service tei (notes-own t e l) ∙ ap (λ b. list_any is_data ns && b) (of_no_other t service tei other) ∙ and-false (list_any is_data ns) in
-    ap (λ b. cond b (option_or (links.course t e l).delivered (links.course t e l).unit) None) none
+    ap (λ b. cond b (option_or (course t e l).delivered (course t e l).unit) None) none
 
 -- Links by their numbers.
 
@@ -73,8 +68,7 @@ abbrev pub Part : ℕ → Option arrivals.Arrived → ℕ → Option (List ℕ) 
 Part r arrived r' delivered restarts = done (counted_on r (delivery r arrived)) (delivery r arrived) r' delivered restarts
 
 pub brings_none : (r r' : ℕ) (a : Option arrivals.Arrived) (d : Option (List ℕ)) (z : Bool) → a ≡ None → r' ≡ r → d ≡ None → z ≡ false → Part r a r' d z
-brings_none r r' a d z none same nothing_delivered goes_on =
-    subst (λ x. Part r x r' d z) (sym none) (inl (record { number = same; delivered = nothing_delivered; goes_on = goes_on }))
+brings_none r r' a d z none same nothing_delivered goes_on = grind arith
 
 begins_anew : (r r' : ℕ) (a : Option arrivals.Arrived) (d : Option (List ℕ)) (z : Bool) → r' ≡ 0 → d ≡ None → z ≡ true → Part r a r' d z
 begins_anew r r' a d z number none begins = inr (record { number = number; delivered = none; begins = begins })
@@ -91,37 +85,33 @@ module _ (c : Config) (l : Line) (s : IsSound c l) (number : ℕ) (few : number 
       (delivered number l (told (of_aim c aim l).told)) (restarts_aimed c number l aim)
 
   -- an event of a link
-  at_its_link : (service : Service) (tei place : ℕ) (e : link.Event) → IsAt l.management.places place tei → Parts (at_link service tei place e)
+  at_its_link : (service : Service) (tei place : ℕ) (e : LinkEvent) → IsAt l.management.places place tei → Parts (at_link service tei place e)
   at_its_link service tei place e at = go (link_number place service == number) refl
     where
       t : Terms
       t = terms c service tei
 
       x : Link
-      x = links.after t e (link_in l service place)
+      x = link_after t e (link_in l service place)
 
       a : Answer
-      a = told (told_of_link (links.told t e (link_in l service place)))
+      a = told (told_of_link (link_told t e (link_in l service place)))
 
       go : (b : Bool) → (link_number place service == number) ≡ b
-          → Part (link_at number l).r (cond b (arrivals.eligible t e (link_in l service place)) None) (get_or (set l.links (link_number place service) (links.after t e (link_in l service place))) number fresh).r
-          (delivered number l (told (told_of_link (links.told t e (link_in l service place)))))
+          → Part (link_at number l).r (cond b (arrivals.eligible t e (link_in l service place)) None) (get_or (set l.links (link_number place service) (link_after t e (link_in l service place))) number fresh).r
+          (delivered number l (told (told_of_link (link_told t e (link_in l service place)))))
           (cond b (arrivals.restarts t e (link_in l service place)) false)
       go true same =
           let is : link_number place service ≡ number = eqb-true (link_number place service) number same in
           let there : get_or (set l.links (link_number place service) x) (link_number place service) fresh ≡ x =
           get_or-set_same l.links (link_number place service) x fresh (omega (arith, is, few, s.count)) in
           let its : tei_at (place_at (link_number place service)) l ≡ Some tei = ap (λ p. tei_at p l) (place_at-number place service) ∙ at in
-          let by_it : delivered (link_number place service) l a ≡ (links.course t e (link_in l service place)).delivered =
+          let by_it : delivered (link_number place service) l a ≡ (course t e (link_in l service place)).delivered =
           ap (λ o. option_map_or (delivered_at (service_at (link_number place service)) a) o None) its
           ∙ ap (λ v. delivered_in v tei a) (service_at-number place service) ∙ told_own t e (link_in l service place) in
           subst (λ n. Part (link_at n l).r (arrivals.eligible t e (link_in l service place)) (get_or (set l.links (link_number place service) x) n fresh).r (delivered n l a) (arrivals.restarts t e (link_in l service place))) is
           (rw (there, by_it) (event-delivers t (link_in l service place) e))
-      go false other =
-          let apart : number ≢ link_number place service = λ is. true≢false (sym (eq-eqb (link_number place service) number (sym is)) ∙ other) in
-          let kept : get_or (set l.links (link_number place service) x) number fresh ≡ link_at number l =
-          get_or-set_other l.links (link_number place service) number x fresh apart in
-          brings_none (link_at number l).r _ None (delivered number l a) false refl (ap (λ (y : Link). y.r) kept) (by_tei (tei_at (place_at number) l) refl apart) refl
+      go false other = grind (arith, eq-eqb, get_or-set_other, brings_none, by_tei)
         where
           by_tei : (o : Option ℕ) → tei_at (place_at number) l ≡ o → number ≢ link_number place service
               → option_map_or (delivered_at (service_at number) a) o None ≡ None
@@ -135,17 +125,7 @@ module _ (c : Config) (l : Line) (s : IsSound c l) (number : ℕ) (few : number 
   -- an event of TEI management: both links of a place begin, and the others stay
   place_parts : (place : ℕ) (r : LineTold) → place < length l.management.places → r.contents ≡ None → (b : Bool) → (place == place_at number) ≡ b
       → Part (link_at number l).r None (get_or (set (set l.links (link_number place Call) fresh) (link_number place Packet) fresh) number fresh).r (delivered number l (told r)) b
-  place_parts place r within none true here =
-      let at = eqb-true place (place_at number) here in
-      let all = set (set l.links (link_number place Call) fresh) (link_number place Packet) fresh in
-      let begins : get_or all number fresh ≡ fresh = begin_here l.links place number (sym at) (omega (arith, within, s.places, s.count)) in
-      begins_anew (link_at number l).r (get_or all number fresh).r None (delivered number l (told r)) true (ap (λ (y : Link). y.r) begins)
-      (none_at number l (told r) (λ service tei. none_in service tei r none)) refl
-  place_parts place r within none false away =
-      let apart : place_at number ≢ place = λ is. true≢false (sym (eq-eqb place (place_at number) (sym is)) ∙ away) in
-      let all = set (set l.links (link_number place Call) fresh) (link_number place Packet) fresh in
-      brings_none (link_at number l).r (get_or all number fresh).r None (delivered number l (told r)) false refl
-      (ap (λ (y : Link). y.r) (begin_away l.links place number apart)) (none_at number l (told r) (λ service tei. none_in service tei r none)) refl
+  place_parts place r within none b here = grind (arith, eqb-true, begin_here, begins_anew, none_at, none_in, eq-eqb, brings_none, begin_away)
 
   change_parts : (o : Option Change) (r : LineTold) (new : Places) (m : Management) → r.contents ≡ None → Moves l.management.places o new
       → let of = of_change c o r (record l { management = m }) in
@@ -153,12 +133,7 @@ module _ (c : Config) (l : Line) (s : IsSound c l) (number : ℕ) (few : number 
   change_parts o r new m none moves = grind (arith, brings_none, none_at, none_in, place_parts)
 
   pub aim_parts : (aim : Aim) → IsProper c l aim → HasNoContents aim → Parts aim
-  aim_parts (at_none t) proper none = brings_none _ _ _ _ _ refl refl (none_at number l (told t) none) refl
-  aim_parts (at_link service tei place e) proper none = at_its_link service tei place e proper
   aim_parts (at_management e) proper none =
-      change_parts (teis.told e l.management).change (told_of_management (teis.told e l.management)) (teis.after e l.management).places
-      (teis.after e l.management) refl (tei_laws.changes_are_told e l.management proper s.management)
-  aim_parts (at_units unit) proper none = brings_none _ _ _ _ _ refl refl (none_at number l (told nothing) (λ service tei. none_in service tei nothing refl)) refl
-  aim_parts at_no_link proper none =
-      rw (tei_given_up.down_gives_up l.management).told
-      (brings_none _ _ _ _ _ refl refl (none_at number l (told nothing) (λ service tei. none_in service tei nothing refl)) refl)
+      change_parts (tei_told e l.management).change (told_of_management (tei_told e l.management)) (tei_after e l.management).places
+      (tei_after e l.management) refl (tei_laws.changes_are_told e l.management proper s.management)
+  aim_parts aim proper none = grind (arith, brings_none, none_at, at_its_link, none_in, tei_given_up.down_gives_up)

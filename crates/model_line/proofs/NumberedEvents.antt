@@ -1,12 +1,9 @@
 -- Each event of a line is what a link's numbers say of it.
-use Rattle.model_line.proofs.Vocabulary.{arith, ◌≡◌, ℕ, zero, suc, ◌<◌, Bool, true, false, cond, List, [], ◌∷◌, get_or, set, Option, Some, None, refl, sym, true≢false, Refusal, Service, Link, fresh, offer-keeps-r, transfer-goes-on, Config, Event, hears, expiry, request, next, gave, refused, arrived_aimed, arrived, restarts_aimed, restarts, delivered, Line, link_at, terms, service_at, link_count, after, answer, takes_slot, unless_refused, unless_refused_told, aim_of_heard, aim_of_expiry, Aim, at_link, of_aim, Taken, taken, line_of, next_of, option_map, option_map_or, refusal, aim_of_request, IsSound}
-use Rattle.model_link.specs.Events as link
-use Rattle.model_link.specs.Machine as links
+use Rattle.model_line.proofs.Vocabulary.{arith, ◌≡◌, ℕ, zero, suc, ◌<◌, Bool, true, false, cond, List, [], ◌∷◌, get_or, set, Option, Some, None, refl, sym, true≢false, Refusal, Service, Link, fresh, offer-keeps-r, transfer-goes-on, Config, Event, hears, expiry, request, next, gave, refused, arrived_aimed, arrived, restarts_aimed, restarts, delivered, Line, link_at, terms, service_at, link_count, after, answer, takes_slot, unless_refused, unless_refused_told, aim_of_heard, aim_of_expiry, Aim, at_link, of_aim, Taken, taken, line_of, next_of, option_map, option_map_or, refusal, aim_of_request, IsSound, LinkEvent, offer, link_after, aim_of}
 use Rattle.model_line.proofs.Numbered.{Part, brings_none, none_at, HasNoContents, aim_parts}
 use Rattle.model_line.proofs.AimsSound.{IsProper}
 use Rattle.model_line.proofs.ProperAims.{brings_data, event_aims, heard_proper, expiry_proper, request_proper}
 use Rattle.model_line.proofs.TakenWalk.{taken_walk, next_walk}
-use Rattle.model_line.specs.Machine.{aim_of}
 
 -- No aim has contents but at a link.
 event_none : (c : Config) (l : Line) (e : Event) → HasNoContents (aim_of c e l)
@@ -31,7 +28,7 @@ next_keeps c l number s =
     (taken_walk c l s (KeepsR l number) (λ m ms e. refl) (λ u us e. refl)
     (λ n tei few at sound g e.
     let t = terms c (service_at n) tei in
-    set_keeps_r l.links n number (links.after t link.offer (link_at n l)) (offer-keeps-r t (link_at n l))))
+    set_keeps_r l.links n number (link_after t offer (link_at n l)) (offer-keeps-r t (link_at n l))))
     refl (λ t h. h)
 
 -- Any event.
@@ -40,15 +37,7 @@ pub event_parts : (c : Config) (e : Event) (l : Line) (number : ℕ) → IsSound
 unfolding after answer
 event_parts c (hears e) l number s few = aim_parts c l s number few (aim_of_heard c l e) (heard_proper c l e) (event_none c l (hears e))
 event_parts c (expiry timer) l number s few = aim_parts c l s number few (aim_of_expiry timer l) (expiry_proper c l timer) (event_none c l (expiry timer))
-event_parts c (request r) l number s few = go (refusal c false r l) (request_proper c l r) (event_none c l (request r))
-  where
-    go : (o : Option Refusal) → IsProper c l (unless_refused o (aim_of_request r l)) → HasNoContents (unless_refused o (aim_of_request r l))
-        → Part (link_at number l).r (arrived_aimed c number l (unless_refused o (aim_of_request r l)))
-        (link_at number (of_aim c (unless_refused o (aim_of_request r l)) l).line).r
-        (delivered number l (unless_refused_told o (of_aim c (unless_refused o (aim_of_request r l)) l)))
-        (restarts_aimed c number l (unless_refused o (aim_of_request r l)))
-    go None proper none = aim_parts c l s number few (aim_of_request r l) proper none
-    go (Some why) proper none = brings_none _ _ _ _ _ refl refl (none_at number l (refused why) (λ service tei. refl)) refl
+event_parts c (request r) l number s few = grind (arith, request_proper, event_none, aim_parts, brings_none, none_at)
 event_parts c next l number s few =
     brings_none _ _ _ _ _ refl (next_keeps c l number s) (none_at number l (gave (option_map next_of (taken c l))) (λ service tei. refl)) refl
 
@@ -64,12 +53,9 @@ module _ (c : Config) (number : ℕ) (l : Line) where
   abbrev BringsNone : Aim → Type 0
   BringsNone aim = (arrived_aimed c number l aim ≡ None) × (restarts_aimed c number l aim ≡ false)
 
-  at_transfer : (service : Service) (tei place : ℕ) (e : link.Event) → brings_data e ≡ true → BringsNone (at_link service tei place e)
-  at_transfer service tei place e takes = grind (arith, neither, transfer-goes-on)
-
   pub slot_brings_nothing : (e : Event) → takes_slot c e l ≡ true → BringsNothing c number e l
   slot_brings_nothing e takes =
       let none =
       event_aims c l (λ takes aim. takes ≡ true → BringsNone aim) (λ b takes. (refl, refl)) (λ cause takes. (refl, refl)) (λ parts service to takes. (refl, refl))
-      (λ service tei place e at takes. at_transfer service tei place e takes) (λ e range takes. absurd (true≢false (sym takes))) (λ unit is few takes. (refl, refl)) (λ takes. absurd (true≢false (sym takes))) e takes in
+      (λ service tei place e at takes. grind (arith, neither, transfer-goes-on)) (λ e range takes. absurd (true≢false (sym takes))) (λ unit is few takes. (refl, refl)) (λ takes. absurd (true≢false (sym takes))) e takes in
       record { arrives = none.0; goes_on = none.1 }

@@ -26,8 +26,7 @@ sum_elsewhere : (f g : ℕ → ℕ) (a n i : ℕ) → i < a → ((j : ℕ) → j
 sum_elsewhere f g a zero i past same = refl
 sum_elsewhere f g a (suc n) i past same =
     let head : g a ≡ f a = same a (λ e. omega (arith, past, e)) in
-    let rest = sum_elsewhere f g (a + 1) n i (omega (arith, past)) same in
-    sum_by-cons g a (range_with_len (a + 1) n) ∙ omega (arith, head, rest) ∙ sym (sum_by-cons f a (range_with_len (a + 1) n))
+    sum_by-cons g a (range_with_len (a + 1) n) ∙ omega (arith, head, (sum_elsewhere f g (a + 1) n i (omega (arith, past)) same)) ∙ sym (sum_by-cons f a (range_with_len (a + 1) n))
 
 pub sum_changed : (f g : ℕ → ℕ) (a n i : ℕ) → a ≤ i → i < a + n → ((j : ℕ) → j ≢ i → g j ≡ f j)
     → sum_by g (range_with_len a n) + f i ≡ sum_by f (range_with_len a n) + g i
@@ -41,13 +40,11 @@ sum_changed f g a (suc n) i from to same =
     omega (arith, here, there, rest, sum_by-cons g a (range_with_len (a + 1) n), sum_by-cons f a (range_with_len (a + 1) n)))
     (λ other.
     let head : g a ≡ f a = same a (λ e. other (sym e)) in
-    let rest = sum_changed f g (a + 1) n i (omega (arith, from, other)) (omega (arith, to)) same in
-    omega (arith, head, rest, sum_by-cons g a (range_with_len (a + 1) n), sum_by-cons f a (range_with_len (a + 1) n)))
+    omega (arith, head, (sum_changed f g (a + 1) n i (omega (arith, from, other)) (omega (arith, to)) same), sum_by-cons g a (range_with_len (a + 1) n), sum_by-cons f a (range_with_len (a + 1) n)))
     (cases_eq i a)
 
 pub sum_bounded : (f : ℕ → ℕ) (a n m : ℕ) → ((j : ℕ) → j < a + n → f j ≤ m) → sum_by f (range_with_len a n) ≤ n * m
 sum_bounded f a zero m below = omega arith
 sum_bounded f a (suc n) m below =
-    let head = below a (omega arith) in
     let rest = sum_bounded f (a + 1) n m (λ j h. below j (omega (arith, h))) in
-    omega (arith, head, rest, sum_by-cons f a (range_with_len (a + 1) n))
+    omega (arith, (below a (omega arith)), rest, sum_by-cons f a (range_with_len (a + 1) n))

@@ -16,10 +16,6 @@ IsShort c t s = length (octets_sent c t s) ≤ t.n201 + 4
 contents_short : (t : Terms) (l : Link) → IsSound t l → length (unwrap_or (slice_get l.contents l.s) []) ≤ t.n201
 contents_short t l s = grind (arith, slice_get_cases)
 
-information_short : (c : Config) (t : Terms) (l : Link) → IsSound t l
-    → length (spelling c.side (record { address = address_at t true; control = (next_information l).control; info = unwrap_or (slice_get l.contents l.s) [] })) ≤ t.n201 + 4
-information_short c t l s = omega (arith, contents_short t l s)
-
 sent_short : (c : Config) (t : Terms) (l : Link) → IsSound t l → (ws : List ControlFrame) → All (IsWaitingFrame t) ws
     → IfSome (offer_among t ws (begun l)).sent (IsShort c t)
 sent_short c t l s (f ∷ fs) frames = omega (arith, (All-head (IsWaitingFrame t) f fs frames).octets)
@@ -31,7 +27,7 @@ sent_short c t l s [] frames = go (may_send_information t l) l.pending
     go : (may pending : Bool) → IfSome (cond may (send_information (begun l)) (cond pending (send_acknowledgement (begun l)) (begun l))).sent (IsShort c t)
     go true pending =
         let given = (give_information then changed with_one_sent then pending_is false) (begun l) in
-        either (is_awaiting_acknowledgement given.link) given (information_short c t l s)
+        either (is_awaiting_acknowledgement given.link) given (omega (arith, contents_short t l s))
     go false true = omega arith
     go false false = tt
 

@@ -1,72 +1,55 @@
 -- What holds of each aim that events can have holds of the aim of every event.
-use Rattle.model_line.proofs.Vocabulary.{arith, ◌≡◌, ℕ, ◌<◌, Bool, true, false, ◌&&◌, not, List, length, Option, Some, None, is_some, Result, Ok, Err, cond, ltb-false, leb-false, Cause, Unserved, Address, Control, ReadFault, BadExtension, Undefined, WrongSize, Short, Long, Refusal, Service, Timer, Parts, reading, long_reading, LinkTimer, place_of-is, IsAt, Config, Event, hears, expiry, request, next, nothing, Line, UnitData, place_in, takes_slot, Request, Data, Aim, at_none, at_link, at_management, at_units, at_no_link, drop_for, at_place, to_service, addressed, message_of, aim_of_reading, unless_at_link, aim_of_long, heard_side, aim_of_heard, group_told, IsToGroup, at_timer, aim_of_expiry, at_requested, at_deactivated, aim_of_request, carries_contents, refusal, unless_refused, IsUnitData}
-use Rattle.model_bits.specs.Stream as stream
-use Rattle.model_link.specs.Events as link
-use Rattle.lapd_tei.specs.Events as teis
+use Rattle.model_line.proofs.Vocabulary.{arith, ◌≡◌, ℕ, ◌<◌, Bool, true, false, ◌&&◌, not, List, length, Option, Some, None, is_some, Result, Ok, Err, cond, ltb-false, leb-false, Cause, Unserved, Address, Control, ReadFault, BadExtension, Undefined, WrongSize, Short, Long, Refusal, Service, Timer, Parts, reading, long_reading, LinkTimer, place_of-is, IsAt, Config, Event, hears, expiry, request, next, nothing, Line, UnitData, place_in, takes_slot, Request, Data, Aim, at_none, at_link, at_management, at_units, at_no_link, drop_for, at_place, to_service, addressed, message_of, aim_of_reading, unless_at_link, aim_of_long, heard_side, aim_of_heard, group_told, IsToGroup, at_timer, aim_of_expiry, at_requested, at_deactivated, aim_of_request, carries_contents, refusal, unless_refused, IsUnitData, LinkReceived, LinkRequest, link_expired, link_received, link_requested, link_overlong, LinkEvent, link_undefined, link_wrong_size, link_cleared, link_frame, LinkData, TeiEvent, tei_message, tei_expiry, StreamEvent, stream_frame, dropped, overlong, aim_of}
 use Rattle.lapd_tei.specs.Laws as tei_laws
-use Rattle.model_line.specs.Machine.{aim_of}
 use Rattle.model_line.proofs.AimsSound.{IsProper}
 use Rattle.model_line.proofs.Sides.{side_aims, unit_tei}
 
 -- What a frame that was read brings to a link is of some kind.
-abbrev pub AreFor : (link.Received → Type 0) → Result Parts ReadFault → Type 0
-AreFor W (Ok parts) = W (link.frame parts)
-AreFor W (Err fault) = W link.undefined × W link.wrong_size
+abbrev pub AreFor : (LinkReceived → Type 0) → Result Parts ReadFault → Type 0
+AreFor W (Ok parts) = W (link_frame parts)
+AreFor W (Err fault) = W link_undefined × W link_wrong_size
 
 -- What holds of the aims that frames have: none, a link of a TEI on the line, or TEI management.
 module _ (c : Config) (l : Line) (P : Aim → Type 0) (none : (cause : Cause) → P (drop_for cause))
-    (W : link.Received → Type 0)
-    (to_its_link : (service : Service) (tei place : ℕ) (what : link.Received) → W what → place_in l tei ≡ Some place → P (at_link service tei place (link.received what)))
-    (to_management : (info : List ℕ) → P (at_management (teis.message info)))
+    (W : LinkReceived → Type 0)
+    (to_its_link : (service : Service) (tei place : ℕ) (what : LinkReceived) → W what → place_in l tei ≡ Some place → P (at_link service tei place (link_received what)))
+    (to_management : (info : List ℕ) → P (at_management (tei_message info)))
     (to_group : (parts : Parts) (service : Service) → IsToGroup c parts service → P (at_none (group_told service parts.info))) where
-  at_place_aims : (service : Service) (tei : ℕ) (what : link.Received) → W what → (o : Option ℕ) → place_in l tei ≡ o → P (at_place service tei what o)
-  at_place_aims service tei what w o e = grind arith
+  to_service_aims : (tei : ℕ) (what : LinkReceived) → W what → (o : Option Service) → P (to_service l tei what o)
+  to_service_aims tei what w o = grind arith
 
-  to_service_aims : (tei : ℕ) (what : link.Received) → W what → (o : Option Service) → P (to_service l tei what o)
-  to_service_aims tei what w o = grind (arith, at_place_aims)
-
-  addressed_aims : (address : Address) (what : link.Received) → W what → (message : Aim) → P message → P (addressed l address what message)
+  addressed_aims : (address : Address) (what : LinkReceived) → W what → (message : Aim) → P message → P (addressed l address what message)
   addressed_aims address what w message p = grind (arith, to_service_aims)
-
-  message_aims : (k : Control) (info : List ℕ) → P (message_of k info)
-  message_aims k info = grind arith
 
   pub reading_aims : (r : Result Parts ReadFault) → AreFor W r → P (aim_of_reading c l r)
   reading_aims (Ok parts) w =
-      side_aims c parts P (none _) (to_group parts) (addressed l parts.address (link.frame parts) (message_of parts.control parts.info))
-      (addressed_aims parts.address (link.frame parts) w (message_of parts.control parts.info) (message_aims parts.control parts.info))
+      side_aims c parts P (none _) (to_group parts) (addressed l parts.address (link_frame parts) (message_of parts.control parts.info))
+      (addressed_aims parts.address (link_frame parts) w (message_of parts.control parts.info) (grind arith))
   reading_aims (Err BadExtension) w = none _
-  reading_aims (Err (Undefined address)) w = addressed_aims address link.undefined w.0 (drop_for Unserved) (none _)
-  reading_aims (Err (WrongSize address)) w = addressed_aims address link.wrong_size w.1 (drop_for Unserved) (none _)
+  reading_aims (Err (Undefined address)) w = addressed_aims address link_undefined w.0 (drop_for Unserved) (none _)
+  reading_aims (Err (WrongSize address)) w = addressed_aims address link_wrong_size w.1 (drop_for Unserved) (none _)
   reading_aims (Err Short) w = none _
 
   unless_aims : (aim : Aim) → P aim → P (unless_at_link aim)
   unless_aims aim p = grind arith
 
-  pub long_aims : W link.overlong → W link.undefined × W link.wrong_size → (r : Result Long ReadFault) → P (aim_of_long l r)
-  long_aims w fault r = grind (arith, addressed_aims, unless_aims)
-
 -- Of whatever is heard.
 module _ (c : Config) (l : Line) (P : Aim → Type 0) (none : (cause : Cause) → P (drop_for cause))
-    (to_its_link : (service : Service) (tei place : ℕ) (what : link.Received) → place_in l tei ≡ Some place → P (at_link service tei place (link.received what)))
-    (to_management : (info : List ℕ) → P (at_management (teis.message info)))
+    (to_its_link : (service : Service) (tei place : ℕ) (what : LinkReceived) → place_in l tei ≡ Some place → P (at_link service tei place (link_received what)))
+    (to_management : (info : List ℕ) → P (at_management (tei_message info)))
     (to_group : (parts : Parts) (service : Service) → IsToGroup c parts service → P (at_none (group_told service parts.info))) where
-  any_reading : (r : Result Parts ReadFault) → AreFor (λ what. ℕ) r
-  any_reading r = grind arith
-
-  pub heard_aims : (e : stream.Event) → P (aim_of_heard c l e)
-  heard_aims (stream.frame octets) =
+  pub heard_aims : (e : StreamEvent) → P (aim_of_heard c l e)
+  heard_aims (stream_frame octets) =
       reading_aims c l P none (λ what. ℕ) (λ service tei place what w at. to_its_link service tei place what at) to_management to_group
-      (reading (heard_side c) octets) (any_reading (reading (heard_side c) octets))
-  heard_aims (stream.overlong head) =
-      long_aims c l P none (λ what. ℕ) (λ service tei place what w at. to_its_link service tei place what at) to_management to_group
-      0 (0, 0) (long_reading (heard_side c) head)
-  heard_aims (stream.dropped cause) = none _
+      (reading (heard_side c) octets) (grind arith)
+  heard_aims (overlong head) =
+      (grind (arith, addressed_aims, unless_aims))
+  heard_aims (dropped cause) = none _
 
 -- Of an expiry.
 module _ (l : Line) (P : Aim → Type 0) (none : P (at_none nothing))
-    (to_link : (service : Service) (tei place : ℕ) (timer : LinkTimer) → IsAt l.management.places place tei → P (at_link service tei place (link.expired timer)))
-    (to_management : P (at_management teis.expiry)) where
+    (to_link : (service : Service) (tei place : ℕ) (timer : LinkTimer) → IsAt l.management.places place tei → P (at_link service tei place (link_expired timer)))
+    (to_management : P (at_management tei_expiry)) where
   timer_aims : (service : Service) (tei : ℕ) (timer : LinkTimer) (o : Option ℕ) → place_in l tei ≡ o → P (at_timer service tei timer o)
   timer_aims service tei timer None e = none
   timer_aims service tei timer (Some place) e = to_link service tei place timer (place_of-is l.management.places tei place e).1
@@ -75,8 +58,8 @@ module _ (l : Line) (P : Aim → Type 0) (none : P (at_none nothing))
   expiry_aims timer = grind (arith, timer_aims)
 
 -- Of a request, by whether it takes a slot.
-abbrev pub brings_data : link.Event → Bool
-brings_data (link.requested (link.Data contents) full) = true
+abbrev pub brings_data : LinkEvent → Bool
+brings_data (link_requested (LinkData contents) full) = true
 brings_data other = false
 
 -- a row that does not hold is passed over
@@ -84,14 +67,14 @@ pub skipped : (b : Bool) (why : Refusal) (o : Option Refusal) → cond b (Some w
 skipped b why o e = grind arith
 
 module _ (c : Config) (l : Line) (P : Bool → Aim → Type 0) (none : (takes : Bool) → P takes (at_none nothing))
-    (to_link : (service : Service) (tei place : ℕ) (what : link.Request) → IsAt l.management.places place tei
-    → P (brings_data (link.requested what false)) (at_link service tei place (link.requested what false)))
-    (to_cleared : (service : Service) (tei place : ℕ) → IsAt l.management.places place tei → P false (at_link service tei place link.cleared))
-    (to_management : (e : teis.Event) → tei_laws.IsInRange e → P false (at_management e))
+    (to_link : (service : Service) (tei place : ℕ) (what : LinkRequest) → IsAt l.management.places place tei
+    → P (brings_data (link_requested what false)) (at_link service tei place (link_requested what false)))
+    (to_cleared : (service : Service) (tei place : ℕ) → IsAt l.management.places place tei → P false (at_link service tei place link_cleared))
+    (to_management : (e : TeiEvent) → tei_laws.IsInRange e → P false (at_management e))
     (to_units : (unit : UnitData) → IsUnitData c unit → length l.units < c.unit_queue → P true (at_units unit))
     (to_no_link : P false at_no_link) where
-  requested_aims : (service : Service) (tei : ℕ) (what : link.Request) (o : Option ℕ) → place_in l tei ≡ o
-      → P (brings_data (link.requested what false)) (at_requested service tei what o)
+  requested_aims : (service : Service) (tei : ℕ) (what : LinkRequest) (o : Option ℕ) → place_in l tei ≡ o
+      → P (brings_data (link_requested what false)) (at_requested service tei what o)
   requested_aims service tei what None e = none _
   requested_aims service tei what (Some place) e = to_link service tei place what (place_of-is l.management.places tei place e).1
 
@@ -99,29 +82,26 @@ module _ (c : Config) (l : Line) (P : Bool → Aim → Type 0) (none : (takes : 
   deactivated_aims service tei None e = none _
   deactivated_aims service tei (Some place) e = to_cleared service tei place (place_of-is l.management.places tei place e).1
 
-  granted_aims : (r : Request) → refusal c false r l ≡ None → P (carries_contents r && true) (aim_of_request r l)
-  granted_aims r e = grind (arith, requested_aims, skipped, unit_tei, ltb-false, leb-false, deactivated_aims)
-
   pub request_aims : (r : Request) → P (carries_contents r && not (is_some (refusal c false r l))) (unless_refused (refusal c false r l) (aim_of_request r l))
-  request_aims r = grind (arith, is_some, granted_aims)
+  request_aims r = grind (arith, is_some, requested_aims, skipped, unit_tei, ltb-false, leb-false, deactivated_aims)
 
 -- Of any event, by whether it takes a slot.
 module _ (c : Config) (l : Line) (P : Bool → Aim → Type 0) (none : (takes : Bool) → P takes (at_none nothing)) (drop : (cause : Cause) → P false (drop_for cause))
     (to_group : (parts : Parts) (service : Service) → IsToGroup c parts service → P false (at_none (group_told service parts.info)))
-    (to_link : (service : Service) (tei place : ℕ) (e : link.Event) → IsAt l.management.places place tei → P (brings_data e) (at_link service tei place e))
-    (to_management : (e : teis.Event) → tei_laws.IsInRange e → P false (at_management e))
+    (to_link : (service : Service) (tei place : ℕ) (e : LinkEvent) → IsAt l.management.places place tei → P (brings_data e) (at_link service tei place e))
+    (to_management : (e : TeiEvent) → tei_laws.IsInRange e → P false (at_management e))
     (to_units : (unit : UnitData) → IsUnitData c unit → length l.units < c.unit_queue → P true (at_units unit))
     (to_no_link : P false at_no_link) where
   pub event_aims : (e : Event) → P (takes_slot c e l) (aim_of c e l)
   unfolding takes_slot
   event_aims (hears e) =
-      heard_aims c l (P false) drop (λ service tei place what at. to_link service tei place (link.received what) (place_of-is l.management.places tei place at).1)
-      (λ info. to_management (teis.message info) tt) to_group e
+      heard_aims c l (P false) drop (λ service tei place what at. to_link service tei place (link_received what) (place_of-is l.management.places tei place at).1)
+      (λ info. to_management (tei_message info) tt) to_group e
   event_aims (expiry timer) =
-      expiry_aims l (P false) (none false) (λ service tei place timer at. to_link service tei place (link.expired timer) at) (to_management teis.expiry tt) timer
+      expiry_aims l (P false) (none false) (λ service tei place timer at. to_link service tei place (link_expired timer) at) (to_management tei_expiry tt) timer
   event_aims (request r) =
-      request_aims c l P none (λ service tei place what at. to_link service tei place (link.requested what false) at)
-      (λ service tei place at. to_link service tei place link.cleared at) to_management to_units to_no_link r
+      request_aims c l P none (λ service tei place what at. to_link service tei place (link_requested what false) at)
+      (λ service tei place at. to_link service tei place link_cleared at) to_management to_units to_no_link r
   event_aims next = none false
 
 -- So the aim of each event is one that a line can have.
@@ -131,7 +111,7 @@ module _ (c : Config) (l : Line) where
       event_aims c l (λ takes aim. IsProper c l aim) (λ takes. tt) (λ cause. tt) (λ parts service to. tt) (λ service tei place e at. at)
       (λ e range. range) (λ unit is few. (is, few)) tt
 
-  pub heard_proper : (e : stream.Event) → IsProper c l (aim_of_heard c l e)
+  pub heard_proper : (e : StreamEvent) → IsProper c l (aim_of_heard c l e)
   heard_proper e = event_proper (hears e)
 
   pub expiry_proper : (timer : Timer) → IsProper c l (aim_of_expiry timer l)

@@ -27,10 +27,6 @@ pub record Ranges (c : Config) : Type 0 where
 pub ranges_of : (c : Config) → IsInRange c → Ranges c
 ranges_of c h = grind (arith, passed, within)
 
--- The window of each service.
-windowed : (c : Config) → Ranges c → (service : Service) → Within 1 127 (window c service) × (window c service ≤ c.queue)
-windowed c r service = grind arith
-
 -- So the parameters of a link are in range.
 pub terms_in_range : (c : Config) → IsInRange c → (service : Service) (tei : ℕ) → tei ≤ 126 → links.IsInRange (terms c service tei)
-terms_in_range c h service tei o = grind (arith, ranges_of, windowed)
+terms_in_range c h service tei o = grind (arith, ranges_of)

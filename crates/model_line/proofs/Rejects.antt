@@ -26,12 +26,9 @@ field_of_three third fourth e = grind (arith, ne_eqb)
 sized_no_reject : (address : Address) (k : Control) (info : List ℕ) → reject_number k ≡ None → NoReject (sized address k info)
 sized_no_reject address k info h = grind arith
 
-checked_no_reject : (octets : List ℕ) (address : Address) (o : Option Control) → NoRejectControl o → NoReject (completed octets (checked address o))
-checked_no_reject octets address o h = grind (arith, sized_no_reject)
-
 header_no_reject : (side : Side) (octets : List ℕ) (first second third fourth : ℕ) → third % 4 ≡ 3 → NoReject (completed octets (header_of side first second third fourth))
 unfolding header_of
-header_no_reject side octets first second third fourth e = grind (arith, checked_no_reject, field_of_three, unnumbered_no_reject)
+header_no_reject side octets first second third fourth e = grind (arith, sized_no_reject, field_of_three, unnumbered_no_reject)
 
 pub three_no_reject : (side : Side) (first second third : ℕ) → NoReject (reading side (first ∷ second ∷ third ∷ []))
 unfolding reading

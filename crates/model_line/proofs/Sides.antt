@@ -1,6 +1,5 @@
 -- What a frame is on each side of a line.
-use Rattle.model_line.proofs.Vocabulary.{◌≡◌, ℕ, ◌≤◌, nat_lt, arith, false, Option, Some, eqb-true, leb-true, ltb-false, Unserved, Side, User, Network, Control, Service, Parts, service_of, Config, LineTold, Aim, at_none, at_link, at_management, at_units, at_no_link, group_told, told_of_ui, told_of_group, told_at, managed_at, at_side, last_unit_tei, IsToGroup}
-use Rattle.lapd_tei.specs.Events as teis
+use Rattle.model_line.proofs.Vocabulary.{◌≡◌, ℕ, ◌≤◌, nat_lt, arith, false, Option, Some, eqb-true, leb-true, ltb-false, Unserved, Side, User, Network, Control, Service, Parts, service_of, Config, LineTold, Aim, at_none, at_link, at_management, at_units, at_no_link, group_told, told_of_ui, told_of_group, told_at, managed_at, at_side, last_unit_tei, IsToGroup, TeiEvent}
 use Rattle.model_line.specs.Event.{dropped}
 use Rattle.model_line.specs.Sides.{group_tei}
 
@@ -18,22 +17,12 @@ everywhere c P aim p = grind arith
 -- So it holds of what a frame is on the side of the card, if it holds of what is not served and of the group's unit data.
 module _ (c : Config) (parts : Parts) (P : Aim → Type 0) (unserved : P (at_none (dropped Unserved)))
     (to_group : (service : Service) → IsToGroup c parts service → P (at_none (group_told service parts.info))) where
-  of_ui : (service : Service) (told : LineTold) → c.side ≡ User → service_of parts.address.sapi ≡ Some service → parts.address.tei ≡ group_tei
-      → P (at_none told) → (k : Control) → parts.control ≡ k → P (at_none (told_of_ui c service k parts.info told))
-  of_ui service told side sapi group p k is = grind (arith, leb-true)
-
   of_group : (told : LineTold) → c.side ≡ User → P (at_none told) → (o : Option Service) → service_of parts.address.sapi ≡ o
       → P (at_none (told_of_group c parts o told))
-  of_group told side p o sapi = grind (arith, of_ui, eqb-true)
-
-  of_none : (told : LineTold) → P (at_none told) → (side : Side) → c.side ≡ side → P (at_none (told_at c side parts told))
-  of_none told p side is = grind (arith, of_group)
-
-  of_managed : (event : teis.Event) → (c.side ≡ Network → P (at_management event)) → (side : Side) → c.side ≡ side → P (managed_at side event)
-  of_managed event p side is = grind arith
+  of_group told side p o sapi = grind (arith, leb-true, eqb-true)
 
   pub side_where : (aim : Aim) → WhereServed c P aim → P (at_side c parts aim)
-  side_where aim p = grind (arith, of_none, of_managed)
+  side_where aim p = grind (arith, of_group)
 
   pub side_aims : (aim : Aim) → P aim → P (at_side c parts aim)
   side_aims aim p = side_where aim (everywhere c P aim p)

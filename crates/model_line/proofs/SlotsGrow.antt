@@ -1,9 +1,5 @@
 -- By how many slots a line's contents grow.
-use Rattle.model_line.proofs.Vocabulary.{◌≡◌, ℕ, ◌+◌, ◌≤◌, Bool, length, is_some, IfSome, refl, cond, arith, length-drop, Service, Link, queue_of, queue-after, Config, Event, one, Line, fresh_line, link_count, service_at, place_at, link_at, terms, after, takes_slot, Taken, taken, line_of, option_map_or, IsInRange, IsSound, slots_of}
-use Rattle.model_link.specs.Events as link
-use Rattle.model_link.specs.Machine as links
-use Rattle.model_link.specs.Rises as rises
-use Rattle.model_line.specs.Machine.{aim_of}
+use Rattle.model_line.proofs.Vocabulary.{◌≡◌, ℕ, ◌+◌, ◌≤◌, Bool, length, is_some, IfSome, refl, cond, arith, length-drop, Service, Link, queue_of, queue-after, Config, Event, one, Line, fresh_line, link_count, service_at, place_at, link_at, terms, after, takes_slot, Taken, taken, line_of, option_map_or, IsInRange, IsSound, slots_of, LinkEvent, offer, link_after, rises_grows, aim_of}
 use Rattle.model_line.proofs.EventWalk.{by_part}
 use Rattle.model_line.proofs.ProperAims.{brings_data, event_aims, event_proper}
 use Rattle.model_line.proofs.TakenWalk.{taken_walk, next_walk}
@@ -12,8 +8,8 @@ use Rattle.model_line.proofs.Sums.{Rise, price_at, aim_rises, one_changed, all_b
 abbrev kept : Service → Link → ℕ
 kept service x = length (queue_of x)
 
-abbrev grows_of : Config → Service → ℕ → link.Event → Link → ℕ
-grows_of c service tei e x = rises.grows (terms c service tei) e x
+abbrev grows_of : Config → Service → ℕ → LinkEvent → Link → ℕ
+grows_of c service tei e x = rises_grows (terms c service tei) e x
 
 grows : (c : Config) → Rise c kept (λ m. 0) (grows_of c) 0
 grows c = grind (arith, queue-after)
@@ -22,13 +18,10 @@ grows c = grind (arith, queue-after)
 at_most_one : (b : Bool) → cond {A = ℕ} b 0 1 ≤ 1
 at_most_one b = grind arith
 
-link_takes : (c : Config) (service : Service) (tei : ℕ) (e : link.Event) (x : Link) → grows_of c service tei e x ≤ one (brings_data e)
-link_takes c service tei e x = grind (arith, at_most_one, is_some)
-
 event_takes : (c : Config) (l : Line) (e : Event) → price_at (grows c) l (aim_of c e l) ≤ one (takes_slot c e l)
 event_takes c l =
     event_aims c l (λ takes aim. price_at (grows c) l aim ≤ one takes) (λ takes. omega arith) (λ cause. omega arith) (λ parts service to. omega arith)
-    (λ service tei place e at. link_takes c service tei e _) (λ e range. omega arith) (λ unit is few. omega arith) (omega arith)
+    (λ service tei place e at. grind (arith, at_most_one, is_some)) (λ e range. omega arith) (λ unit is few. omega arith) (omega arith)
 
 -- calls for the next frame take none
 abbrev GrowsNot : Config → Line → Taken → Type 0
@@ -39,17 +32,13 @@ taken_grows c l s =
     taken_walk c l s (GrowsNot c l) (λ m ms e. omega arith) (λ u us e. omega (arith, length-drop 1 l.units))
     (λ n tei few at sound g e.
     let t = terms c (service_at n) tei in
-    let own = queue-after t (s.management.table.range (place_at n) tei at) link.offer (link_at n l) sound in
-    omega (arith, own, one_changed c kept l.links n (links.after t link.offer (link_at n l)) s.count few))
-
-next_grows : (c : Config) (l : Line) → IsSound c l → slots_of c (option_map_or line_of (taken c l) l) ≤ slots_of c l
-next_grows c l s = next_walk c l (GrowsNot c l) (λ o m. slots_of c m ≤ slots_of c l) (taken_grows c l s) (omega arith) (λ t h. h)
+    omega (arith, (queue-after t (s.management.table.range (place_at n) tei at) offer (link_at n l) sound), one_changed c kept l.links n (link_after t offer (link_at n l)) s.count few))
 
 pub slots_grow : (c : Config) (e : Event) (l : Line) → IsInRange c → IsSound c l → slots_of c (after c e l) ≤ slots_of c l + one (takes_slot c e l)
 slots_grow c e l ranged s =
     by_part c l (λ what m. slots_of c m ≤ slots_of c l + one (takes_slot c what l))
     (λ what. omega (arith, aim_rises (grows c) l (aim_of c what l) ranged s (event_proper c l what), event_takes c l what))
-    (omega (arith, next_grows c l s)) e
+    (omega (arith, (next_walk c l (GrowsNot c l) (λ o m. slots_of c m ≤ slots_of c l) (taken_grows c l s) (omega arith) (λ t h. h)))) e
 
 -- a line that begins has none
 pub fresh_slots : (c : Config) → slots_of c (fresh_line c) ≡ 0

@@ -1,8 +1,6 @@
 -- An expiry starts at most one timer.
-use Rattle.model_line.proofs.Vocabulary.{◌≡◌, ℕ, ◌≤◌, List, [], ◌∷◌, ◌++◌, length, Option, Some, None, refl, arith, Service, Call, Packet, Order, Start, Stop, Timer, one-start, Link, orders_for, starts, Terms, LinkTimer, IsBrief, told_brief, Change, Gained, Left, Config, expiry, aim_of_expiry, orders_in, Line, link_in, terms, answer, told_of_management, of_link, of_change, of_aim}
-use Rattle.model_link.specs.Events as link
+use Rattle.model_line.proofs.Vocabulary.{◌≡◌, ℕ, ◌≤◌, List, [], ◌∷◌, ◌++◌, length, Option, Some, None, refl, arith, Service, Call, Packet, Order, Start, Stop, Timer, one-start, Link, orders_for, starts, Terms, LinkTimer, IsBrief, told_brief, Change, Gained, Left, Config, expiry, aim_of_expiry, orders_in, Line, link_in, terms, answer, told_of_management, of_link, of_change, of_aim, link_expired, link_cleared, tei_told, tei_after, tei_expiry}
 use Rattle.model_link.specs.Machine as links
-use Rattle.lapd_tei.specs.Events as teis
 use Rattle.lapd_tei.specs.Machine as tei
 use Rattle.model_line.proofs.ProperAims.{expiry_aims}
 
@@ -28,9 +26,6 @@ cleared_orders : (t : Terms) (before : Option LinkTimer) → starts (orders_for 
 unfolding starts
 cleared_orders t before = grind arith
 
-cleared_starts : (t : Terms) (l : Link) → starts (links.told t link.cleared l).orders ≡ 0
-cleared_starts t l = cleared_orders t l.running
-
 three : (xs ys zs : List Order) → starts xs ≡ 0 → starts ys ≡ 0 → length zs ≤ 1 → starts (xs ++ ys ++ zs) ≤ 1
 three xs ys zs x y z = grind (arith, before_starts, starts_few)
 
@@ -39,22 +34,22 @@ module _ (c : Config) where
   change_starts None t l h = omega (arith, starts_few t.orders, h.orders)
   change_starts (Some (Gained n place)) t l h = omega (arith, starts_few t.orders, h.orders)
   change_starts (Some (Left n place)) t l h =
-      let call = of_link c Call n place link.cleared l in
-      three call.told.orders (of_link c Packet n place link.cleared call.line).told.orders t.orders
-      (cleared_starts (terms c Call n) (link_in l Call place)) (cleared_starts (terms c Packet n) (link_in call.line Packet place)) h.orders
+      let call = of_link c Call n place link_cleared l in
+      three call.told.orders (of_link c Packet n place link_cleared call.line).told.orders t.orders
+      (cleared_orders (terms c Call n) (link_in l Call place).running) (cleared_orders (terms c Packet n) (link_in call.line Packet place).running) h.orders
 
-  timer_starts : (l : Line) (service : Service) (n place : ℕ) (timer : LinkTimer) → starts (of_link c service n place (link.expired timer) l).told.orders ≤ 1
+  timer_starts : (l : Line) (service : Service) (n place : ℕ) (timer : LinkTimer) → starts (of_link c service n place (link_expired timer) l).told.orders ≤ 1
   timer_starts l service n place timer =
       let t = terms c service n in
       let x = link_in l service place in
-      let course = links.course t (link.expired timer) x in
+      let course = links.course t (link_expired timer) x in
       one-start t x.running course.started course.link.running
 
   aim_starts : (timer : Timer) (l : Line) → starts (of_aim c (aim_of_expiry timer l) l).told.orders ≤ 1
   aim_starts timer l =
       expiry_aims l (λ aim. starts (of_aim c aim l).told.orders ≤ 1) none_starts (λ service n place timer at. timer_starts l service n place timer)
-      (change_starts (teis.told teis.expiry l.management).change (teis.told teis.expiry l.management)
-      (record l { management = teis.after teis.expiry l.management }) (told_brief teis.expiry l.management)) timer
+      (change_starts (tei_told tei_expiry l.management).change (tei_told tei_expiry l.management)
+      (record l { management = tei_after tei_expiry l.management }) (told_brief tei_expiry l.management)) timer
 
 pub expiry_starts : (c : Config) (timer : Timer) (l : Line) → starts (orders_in (answer c (expiry timer) l)) ≤ 1
 unfolding answer

@@ -1,7 +1,6 @@
 -- A sound line holds at most so many octets, and at most N201 octets in each slot.
-use Rattle.model_line.proofs.Vocabulary.{ℕ, zero, suc, ◌+◌, ◌*◌, ◌≤◌, ◌<◌, List, length, arith, sum_by, All, range_with_len, All-drop, sum_by-le, sum_by-cons, Network, spelling, queue_of, IsWaitingFrame, ControlFrame, Terms, Config, Line, link_count, service_at, terms, link_at, IsSound, held_by_link, held_in, slots_by_link, slots_of, total_length, unit_length, octets_by_link, stored_in}
+use Rattle.model_line.proofs.Vocabulary.{ℕ, zero, suc, ◌+◌, ◌*◌, ◌≤◌, ◌<◌, List, length, arith, sum_by, All, range_with_len, All-drop, sum_by-le, sum_by-cons, Network, spelling, queue_of, IsWaitingFrame, ControlFrame, Terms, Config, Line, link_count, service_at, terms, link_at, IsSound, held_by_link, held_in, slots_by_link, slots_of, total_length, unit_length, octets_by_link, stored_in, rises_held}
 use Rattle.model_link.specs.Link.{frame_of}
-use Rattle.model_link.specs.Rises as links
 use Rattle.model_line.specs.Stored.{octets_of}
 use Rattle.model_line.proofs.Numbers.{sum_bounded}
 use Rattle.model_line.proofs.SoundParts.{any_link}
@@ -9,20 +8,17 @@ use Rattle.model_line.proofs.SoundParts.{any_link}
 -- of the control frames of a link
 ring_few : (t : Terms) (most : ℕ) (ws : List ControlFrame) → All (IsWaitingFrame t) ws → length ws ≤ most
     → sum_by (λ f. length (spelling Network (frame_of t f))) ws ≤ 4 * most
-ring_few t most ws frames few =
-    let octets = sum_by-le (λ f. length (spelling Network (frame_of t f))) 4 ws (λ k d within. (frames k d within).octets) in
-    omega (arith, octets, few)
+ring_few t most ws frames few = omega (arith, (sum_by-le (λ f. length (spelling Network (frame_of t f))) 4 ws (λ k d within. (frames k d within).octets)), few)
 
 link_few : (c : Config) (l : Line) → IsSound c l → (n : ℕ) → n < link_count c → held_by_link c l n ≤ 4 * c.control
 link_few c l s n few =
-    any_link c l s n few (λ t x. links.held t x ≤ 4 * c.control) (omega arith)
+    any_link c l s n few (λ t x. rises_held t x ≤ 4 * c.control) (omega arith)
     (λ tei at sound. ring_few (terms c (service_at n) tei) c.control (link_at n l).waiting sound.frames sound.ring)
 
 -- of what waits and is remembered
 pub held_few : (c : Config) (l : Line) → IsSound c l → held_in c l ≤ 8 * c.control * c.terminals + 32 + 12
 held_few c l s =
-    let rings = sum_bounded (held_by_link c l) 0 (link_count c) (4 * c.control) (λ n few. link_few c l s n (omega (arith, few))) in
-    omega (arith, s.management.queue.few, s.management.memory.few, rings)
+    omega (arith, s.management.queue.few, s.management.memory.few, (sum_bounded (held_by_link c l) 0 (link_count c) (4 * c.control) (λ n few. link_few c l s n (omega (arith, few)))))
 
 -- ---- contents
 
@@ -30,9 +26,8 @@ held_few c l s =
 scaled : (f g : ℕ → ℕ) (m a n : ℕ) → ((j : ℕ) → j < a + n → f j ≤ g j * m) → sum_by f (range_with_len a n) ≤ sum_by g (range_with_len a n) * m
 scaled f g m a zero below = omega arith
 scaled f g m a (suc n) below =
-    let head = below a (omega arith) in
     let rest = scaled f g m (a + 1) n (λ j few. below j (omega (arith, few))) in
-    rw (sum_by-cons f a (range_with_len (a + 1) n), sum_by-cons g a (range_with_len (a + 1) n)) (omega (arith, head, rest))
+    rw (sum_by-cons f a (range_with_len (a + 1) n), sum_by-cons g a (range_with_len (a + 1) n)) (omega (arith, (below a (omega arith)), rest))
 
 queue_octets : (c : Config) (l : Line) → IsSound c l → (n : ℕ) → n < link_count c → octets_by_link l n ≤ slots_by_link l n * c.n201
 queue_octets c l s n few =

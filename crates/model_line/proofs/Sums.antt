@@ -1,9 +1,6 @@
 -- Sums over the parts of a line, and by how much an event of a part raises them.
-use Rattle.model_line.proofs.Vocabulary.{◌≡◌, ℕ, zero, suc, ◌+◌, ◌≤◌, ◌<◌, List, [], ◌∷◌, length, get_or, set, Option, Some, None, refl, ap, ◌∙◌, arith, length-append, length-set, replicate, sum_by, range_with_len, cases_lt, get_or-set_same, get_or-set_other, get_or-replicate, get_or_past, length-replicate, sum_by-cons, Service, Call, Packet, Link, fresh, Moves, Management, IsAt, Change, Gained, Left, at-within, Config, LineTold, Line, fresh_line, link_number, link_count, service_at, link_in, terms, Aim, at_none, at_link, at_management, at_units, at_no_link, without_units, of_link, of_change, told_of_management, of_aim, IsInRange, IsSound, IsUnitData, All-nil, sum_of_links}
-use Rattle.model_link.specs.Events as link
-use Rattle.model_link.specs.Machine as links
+use Rattle.model_line.proofs.Vocabulary.{◌≡◌, ℕ, zero, suc, ◌+◌, ◌≤◌, ◌<◌, List, [], ◌∷◌, length, get_or, set, Option, Some, None, refl, ap, ◌∙◌, arith, length-append, length-set, replicate, sum_by, range_with_len, cases_lt, get_or-set_same, get_or-set_other, get_or-replicate, get_or_past, length-replicate, sum_by-cons, Service, Call, Packet, Link, fresh, Moves, Management, IsAt, Change, Gained, Left, at-within, Config, LineTold, Line, fresh_line, link_number, link_count, service_at, link_in, terms, Aim, at_none, at_link, at_management, at_units, at_no_link, without_units, of_link, of_change, told_of_management, of_aim, IsInRange, IsSound, IsUnitData, All-nil, sum_of_links, LinkEvent, link_after, TeiEvent, tei_down, tei_told, tei_after}
 use Rattle.model_link.specs.Sound as link_sounds
-use Rattle.lapd_tei.specs.Events as teis
 use Rattle.lapd_tei.proofs.LawLemmas as tei_lemmas
 use Rattle.model_line.proofs.AimsSound.{IsProper}
 use Rattle.model_line.proofs.SoundParts.{with_units}
@@ -30,28 +27,23 @@ module _ (c : Config) (f : Service → Link → ℕ) where
   both_begin none all place size within =
       let call = link_number place Call in
       let packet = link_number place Packet in
-      let first = one_changed all call fresh size (number_within place c.terminals Call within) in
       let second = one_changed (set all call fresh) packet fresh (length-set all call fresh ∙ size) (number_within place c.terminals Packet within) in
-      omega (arith, first, second, none (service_at call), none (service_at packet))
-
-  -- all links begin
-  always_fresh : (n i : ℕ) → get_or (replicate n fresh) i fresh ≡ fresh
-  always_fresh n i = grind (arith, get_or-replicate, get_or_past, length-replicate, cases_lt)
+      omega (arith, (one_changed all call fresh size (number_within place c.terminals Call within)), second, none (service_at call), none (service_at packet))
 
   pub all_begin : ((service : Service) → f service fresh ≡ 0) → (a n : ℕ) → sum_by (at_number (fresh_line c).links) (range_with_len a n) ≡ 0
   all_begin none a zero = refl
   all_begin none a (suc n) =
-      let head : at_number (fresh_line c).links a ≡ 0 = ap (f (service_at a)) (always_fresh (link_count c) a) ∙ none (service_at a) in
+      let head : at_number (fresh_line c).links a ≡ 0 = ap (f (service_at a)) (grind (arith, get_or-replicate, get_or_past, length-replicate, cases_lt)) ∙ none (service_at a) in
       omega (arith, head, all_begin none (a + 1) n, sum_by-cons (at_number (fresh_line c).links) a (range_with_len (a + 1) n))
 
 -- The number of a link rises by a price of the event, and that of TEI management by one at most.
-pub record Rise (c : Config) (f : Service → Link → ℕ) (g : Management → ℕ) (price : Service → ℕ → link.Event → Link → ℕ) (most : ℕ) : Type 0 where
+pub record Rise (c : Config) (f : Service → Link → ℕ) (g : Management → ℕ) (price : Service → ℕ → LinkEvent → Link → ℕ) (most : ℕ) : Type 0 where
   pub begins : (service : Service) → f service fresh ≡ 0
-  pub link : (service : Service) (tei : ℕ) → tei ≤ 126 → (e : link.Event) (x : Link) → link_sounds.IsSound (terms c service tei) x
-      → f service (links.after (terms c service tei) e x) ≤ f service x + price service tei e x
-  pub management : (e : teis.Event) (m : Management) → g (teis.after e m) ≤ g m + most
+  pub link : (service : Service) (tei : ℕ) → tei ≤ 126 → (e : LinkEvent) (x : Link) → link_sounds.IsSound (terms c service tei) x
+      → f service (link_after (terms c service tei) e x) ≤ f service x + price service tei e x
+  pub management : (e : TeiEvent) (m : Management) → g (tei_after e m) ≤ g m + most
 
-module _ {c : Config} {f : Service → Link → ℕ} {g : Management → ℕ} {price : Service → ℕ → link.Event → Link → ℕ} {most : ℕ} (h : Rise c f g price most) where
+module _ {c : Config} {f : Service → Link → ℕ} {g : Management → ℕ} {price : Service → ℕ → LinkEvent → Link → ℕ} {most : ℕ} (h : Rise c f g price most) where
   -- The sum, with the units that wait.
   abbrev pub total : Line → ℕ
   total l = g l.management + length l.units + sum_of_links c (at_number c f l.links)
@@ -64,36 +56,28 @@ module _ {c : Config} {f : Service → Link → ℕ} {g : Management → ℕ} {p
   price_at l (at_units unit) = 1
   price_at l at_no_link = most
 
-  link_rises : (l : Line) → IsInRange c → IsSound c l → (service : Service) (tei place : ℕ) (e : link.Event) → IsAt l.management.places place tei
+  link_rises : (l : Line) → IsInRange c → IsSound c l → (service : Service) (tei place : ℕ) (e : LinkEvent) → IsAt l.management.places place tei
       → total (of_link c service tei place e l).line ≤ total l + price service tei e (link_in l service place)
   link_rises l ranged s service tei place e at =
       let n = link_number place service in
-      let x = links.after (terms c service tei) e (link_in l service place) in
+      let x = link_after (terms c service tei) e (link_in l service place) in
       let within : place < c.terminals = omega (arith, s.places, at-within l.management.places place tei at) in
-      let own = h.link service tei (s.management.table.range place tei at) e (link_in l service place) (sound_in c ranged l s service tei place at) in
       let sums = one_changed c f l.links n x s.count (number_within place c.terminals service within) in
       let before : f (service_at n) (link_in l service place) ≡ f service (link_in l service place) = ap (λ y. f y (link_in l service place)) (service_at-number place service) in
       let after : f (service_at n) x ≡ f service x = ap (λ y. f y x) (service_at-number place service) in
-      omega (arith, own, sums, before, after)
+      omega (arith, (h.link service tei (s.management.table.range place tei at) e (link_in l service place) (sound_in c ranged l s service tei place at)), sums, before, after)
 
   change_rises : (l : Line) (m : Management) (change : Option Change) (told : LineTold) → IsSound c l
       → g m ≤ g l.management + most → Moves l.management.places change m.places
       → total (of_change c change told (record l { management = m })).line ≤ total l + most
-  change_rises l m None told s more moves = omega (arith, more)
   change_rises l m (Some (Gained tei place)) told s more joined =
       omega (arith, more, both_begin c f h.begins l.links place s.count (omega (arith, joined.within, s.places)))
-  change_rises l m (Some (Left tei place)) told s more left =
-      omega (arith, more, both_begin c f h.begins l.links place s.count (omega (arith, left.within, s.places)))
+  change_rises l m change told s more moves = grind (arith, both_begin)
 
   pub aim_rises : (l : Line) (aim : Aim) → IsInRange c → IsSound c l → IsProper c l aim → total (of_aim c aim l).line ≤ total l + price_at l aim
-  aim_rises l (at_none what) ranged s proper = omega arith
-  aim_rises l (at_link service tei place event) ranged s proper = link_rises l ranged s service tei place event proper
-  aim_rises l (at_management e) ranged s proper =
-      change_rises l (teis.after e l.management) (teis.told e l.management).change (told_of_management (teis.told e l.management)) s
-      (h.management e l.management) (tei_lemmas.changes_are_told e l.management proper s.management)
-  aim_rises l (at_units unit) ranged s proper = omega (arith, length-append l.units (unit ∷ []))
   aim_rises l at_no_link ranged s proper =
-      let rises = change_rises (without_units l) (teis.after teis.down l.management) (teis.told teis.down l.management).change
-      (told_of_management (teis.told teis.down l.management)) (with_units c l s [] (All-nil (IsUnitData c)) (omega arith))
-      (h.management teis.down l.management) (tei_lemmas.changes_are_told teis.down l.management tt s.management) in
+      let rises = change_rises (without_units l) (tei_after tei_down l.management) (tei_told tei_down l.management).change
+      (told_of_management (tei_told tei_down l.management)) (with_units c l s [] (All-nil (IsUnitData c)) (omega arith))
+      (h.management tei_down l.management) (tei_lemmas.changes_are_told tei_down l.management tt s.management) in
       omega (arith, rises)
+  aim_rises l aim ranged s proper = grind (arith, link_rises, change_rises, tei_lemmas.changes_are_told, length-append)

@@ -1,8 +1,6 @@
 -- What is taken leaves a line sound, and is a frame of at most the longest length.
 pub use Rattle.model_line.proofs.TakenWalk.{round_below}
-use Rattle.model_line.proofs.Vocabulary.{◌≡◌, ℕ, ◌+◌, ◌≤◌, ◌<◌, List, ◌∷◌, length, set, drop, Some, IfSome, sym, ◌∙◌, subst, arith, length-set, length-drop, All, All-head, All-drop, Side, Given, sound-after, frame_of, Message, IsAt, sound-after_offer, Config, Line, UnitData, link_count, service_at, place_at, tei_at, terms, link_at, Taken, with_message, with_unit, with_given_frame, link_taken, taken, IsInRange, IsSoundAt, IsSound, IsUnitData}
-use Rattle.model_link.specs.Events as link
-use Rattle.model_link.specs.Machine as links
+use Rattle.model_line.proofs.Vocabulary.{◌≡◌, ℕ, ◌+◌, ◌≤◌, ◌<◌, List, ◌∷◌, length, set, drop, Some, IfSome, sym, ◌∙◌, subst, arith, length-set, length-drop, All, All-head, All-drop, Side, Given, sound-after, frame_of, Message, IsAt, sound-after_offer, Config, Line, UnitData, link_count, service_at, place_at, tei_at, terms, link_at, Taken, with_message, with_unit, with_given_frame, link_taken, taken, IsInRange, IsSoundAt, IsSound, IsUnitData, offer, given, link_after}
 use Rattle.model_link.specs.Sound as link_sounds
 use Rattle.model_line.specs.Taken as taking
 use Rattle.model_line.proofs.LinksSound.{with_one}
@@ -16,26 +14,20 @@ pub record TakesSoundly (c : Config) (l : Line) (t : Taken) : Type 0 where
   pub line : IsSound c t.line
   pub size : length t.frame ≤ c.n201 + 4
 
-message_length : (side : Side) (m : Message) → length (frame_of side m) ≡ 8
-message_length side m = grind arith
-
 module _ (c : Config) (ranged : IsInRange c) (l : Line) (s : IsSound c l) where
   message_sound : (m : Message) (ms : List Message) → l.management.waiting ≡ m ∷ ms → TakesSoundly c l (with_message l (frame_of c.side m))
-  message_sound m ms e = grind (arith, with_links, sound-after_offer, message_length, ranges_of)
+  message_sound m ms e = grind (arith, with_links, sound-after_offer, ranges_of)
 
   unit_sound : (u : UnitData) (us : List UnitData) → l.units ≡ u ∷ us → TakesSoundly c l (with_unit c l u)
-  unit_sound u us e = record {
-    line = with_units c l s (drop 1 l.units) (All-drop (IsUnitData c) 1 l.units s.units) (omega (arith, length-drop 1 l.units, s.few_units));
-    size = omega (arith, (All-head (IsUnitData c) u us (subst (All (IsUnitData c)) e s.units)).size);
-  }
+  unit_sound u us e = grind (arith, with_units c l s (drop 1 l.units) (All-drop (IsUnitData c) 1 l.units s.units) (omega (arith, length-drop 1 l.units, s.few_units)))
 
   given_sound : (n tei : ℕ) → n < link_count c → IsAt l.management.places (place_at n) tei → link_sounds.IsSound (terms c (service_at n) tei) (link_at n l)
-      → (g : Given) → links.given (terms c (service_at n) tei) (link_at n l) ≡ Some g → TakesSoundly c l (with_given_frame c l n (terms c (service_at n) tei) g)
+      → (g : Given) → given (terms c (service_at n) tei) (link_at n l) ≡ Some g → TakesSoundly c l (with_given_frame c l n (terms c (service_at n) tei) g)
   given_sound n tei few at sound g e =
       let t = terms c (service_at n) tei in
-      let x = links.after t link.offer (link_at n l) in
+      let x = link_after t offer (link_at n l) in
       let range = terms_in_range c ranged (service_at n) tei (s.management.table.range (place_at n) tei at) in
-      let here : IsSoundAt c n x (tei_at (place_at n) l) = subst (IsSoundAt c n x) (sym at) (sound-after t range link.offer (link_at n l) sound) in
+      let here : IsSoundAt c n x (tei_at (place_at n) l) = subst (IsSoundAt c n x) (sym at) (sound-after t range offer (link_at n l) sound) in
       let short : length (taking.frame_of c t g) ≤ t.n201 + 4 = subst (λ o. IfSome o (λ g. length (taking.frame_of c t g) ≤ t.n201 + 4)) e (given_short c t (link_at n l) sound) in
       record {
         line =

@@ -1,6 +1,5 @@
 -- What holds of each frame that can be taken holds of the one that is.
-use Rattle.model_line.proofs.Vocabulary.{◌≡◌, ℕ, zero, suc, ◌+◌, ◌≤◌, ◌<◌, List, [], ◌∷◌, take, drop, slice_get, Option, Some, None, option_map, IfSome, arith, All, range_with_len, option_or, All-nil, All-cons, All-head, All-tail, All-drop, All-take, All-append, Given, frame_of, Message, IsAt, Config, Line, UnitData, link_count, service_at, place_at, terms, link_at, Taken, with_message, with_unit, with_given_frame, link_taken, first_taken, round, taken, line_of, option_map_or, IsSound}
-use Rattle.model_link.specs.Machine as links
+use Rattle.model_line.proofs.Vocabulary.{◌≡◌, ℕ, zero, suc, ◌+◌, ◌≤◌, ◌<◌, List, [], ◌∷◌, take, drop, slice_get, Option, Some, None, option_map, IfSome, arith, All, range_with_len, option_or, All-nil, All-cons, All-head, All-tail, All-drop, All-take, All-append, Given, frame_of, Message, IsAt, Config, Line, UnitData, link_count, service_at, place_at, terms, link_at, Taken, with_message, with_unit, with_given_frame, link_taken, first_taken, round, taken, line_of, option_map_or, IsSound, given}
 use Rattle.model_link.specs.Sound as link_sound
 use Rattle.model_line.proofs.SoundParts.{any_link}
 
@@ -19,7 +18,7 @@ round_below c l =
 mapped : {X Y : Type 0} (f : X → Y) (P : Y → Type 0) (o : Option X) → ((x : X) → o ≡ Some x → P (f x)) → IfSome (option_map f o) P
 mapped f P o h = grind arith
 
-either : (P : Taken → Type 0) (o rest : Option Taken) → IfSome o P → IfSome rest P → IfSome (option_or o rest) P
+pub either : (P : Taken → Type 0) (o rest : Option Taken) → IfSome o P → IfSome rest P → IfSome (option_or o rest) P
 either P o rest h h' = grind arith
 
 -- A message of TEI management, unit data, or a frame of a link that has a TEI.
@@ -27,13 +26,7 @@ module _ (c : Config) (l : Line) (s : IsSound c l) (P : Taken → Type 0)
     (message : (m : Message) (ms : List Message) → l.management.waiting ≡ m ∷ ms → P (with_message l (frame_of c.side m)))
     (unit : (u : UnitData) (us : List UnitData) → l.units ≡ u ∷ us → P (with_unit c l u))
     (by_link : (n tei : ℕ) → n < link_count c → IsAt l.management.places (place_at n) tei → link_sound.IsSound (terms c (service_at n) tei) (link_at n l)
-    → (g : Given) → links.given (terms c (service_at n) tei) (link_at n l) ≡ Some g → P (with_given_frame c l n (terms c (service_at n) tei) g)) where
-  message_walk : (ms : List Message) → l.management.waiting ≡ ms → IfSome (option_map (with_message l) (option_map (frame_of c.side) (slice_get ms 0))) P
-  message_walk ms e = grind arith
-
-  unit_walk : (us : List UnitData) → l.units ≡ us → IfSome (option_map (with_unit c l) (slice_get us 0)) P
-  unit_walk us e = grind arith
-
+    → (g : Given) → given (terms c (service_at n) tei) (link_at n l) ≡ Some g → P (with_given_frame c l n (terms c (service_at n) tei) g)) where
   pub link_walk : (n : ℕ) → n < link_count c → IfSome (link_taken c l n) P
   link_walk n few = grind (arith, any_link, option_map, mapped)
 
@@ -44,7 +37,7 @@ module _ (c : Config) (l : Line) (s : IsSound c l) (P : Taken → Type 0)
       (first_walk ns (All-tail (λ n. n < link_count c) n ns all))
 
   pub taken_walk : IfSome (taken c l) P
-  taken_walk = grind (arith, either, message_walk, unit_walk, first_walk, round_below)
+  taken_walk = grind (arith, either, first_walk, round_below)
 
 -- So the line after it is as it was, or what was taken is gone.
 pub next_walk : (c : Config) (l : Line) (P : Taken → Type 0) (Q : Option Taken → Line → Type 0) → IfSome (taken c l) P

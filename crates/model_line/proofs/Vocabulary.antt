@@ -31,6 +31,8 @@ pub use Rattle.lapd_frame.specs.declared.timers.Timer.TheVariants.{T200, T201, T
 pub use Rattle.lapd_tei.proofs.Brief.{IsBrief, told_brief}
 pub use Rattle.lapd_tei.proofs.LawLemmas.{sound-after_offer, sound-empty}
 pub use Rattle.lapd_tei.proofs.Tables.{at-within, place_of-is}
+unfoldable pub use Rattle.lapd_tei.specs.Events.{course as tei_course, refusal as tei_refusal}
+pub use Rattle.lapd_tei.specs.Events.{Event as TeiEvent, after as tei_after, down as tei_down, expiry as tei_expiry, message as tei_message, told as tei_told}
 pub use Rattle.lapd_tei.specs.Laws.{Moves}
 pub use Rattle.lapd_tei.specs.Machine.{Management, held}
 pub use Rattle.lapd_tei.specs.Messages.{frame_of}
@@ -42,7 +44,7 @@ pub use Rattle.lapd_tei.specs.declared.messages.Message.{Message}
 pub use Rattle.lapd_tei.specs.declared.messages.Message.TheVariants.{IdentityAssigned, IdentityCheckRequest, IdentityDenied, IdentityRemove}
 pub use Rattle.lapd_tei.specs.declared.outcome.Change.{Change}
 pub use Rattle.lapd_tei.specs.declared.outcome.Change.TheVariants.{Gained, Left}
-pub use Rattle.model_bits.specs.Stream.{dropped, overlong}
+pub use Rattle.model_bits.specs.Stream.{dropped, overlong, Event as StreamEvent, frame as stream_frame}
 pub use Rattle.model_bits.specs.declared.heard.Cause.{Cause}
 pub use Rattle.model_bits.specs.declared.heard.Cause.TheVariants.{Tei, Unserved}
 pub use Rattle.model_line.specs.Config.{is_within}
@@ -53,7 +55,7 @@ pub use Rattle.model_line.specs.Event.{Answer, Event, LineTold, expiry, gave, he
 pub use Rattle.model_line.specs.Expiry.{aim_of_expiry, at_timer, runs_at}
 pub use Rattle.model_line.specs.Laws.{FallsByNext, IsRejectHeard, Rises, cause_in, orders_in}
 pub use Rattle.model_line.specs.Line.{Line, UnitData, fresh_line, link_at, link_count, link_in, link_number, place_at, place_in, service_at, tei_at, terms, terms_at, window, with_link}
-pub use Rattle.model_line.specs.Machine.{of_request, unless_refused, unless_refused_told}
+pub use Rattle.model_line.specs.Machine.{of_request, unless_refused, unless_refused_told, aim_of}
 unfoldable pub use Rattle.model_line.specs.Machine.{after, answer, takes_slot}
 pub use Rattle.model_line.specs.Heard.{addressed, aim_of_heard, aim_of_long, aim_of_reading, at_place, drop_for, group_tei, heard_side, management_sapi, message_of, to_service, unless_at_link}
 pub use Rattle.model_line.specs.Taken.{first_taken, line_of, link_taken, message_taken, next_of, round, Taken, taken, unit_taken, with_given_frame, with_message, with_unit}
@@ -73,13 +75,13 @@ pub use Rattle.model_link.proofs.Slots.{queue-after}
 pub use Rattle.model_link.proofs.SoundEvents.{sound-after, sound-fresh}
 pub use Rattle.model_link.proofs.TellRows.{event-tells, one-start}
 pub use Rattle.model_link.proofs.Unserved.{unserved_leaves}
-pub use Rattle.model_link.specs.Events.{offer}
+pub use Rattle.model_link.specs.Events.{offer, Data as LinkData, Event as LinkEvent, Received as LinkReceived, Request as LinkRequest, cleared as link_cleared, expired as link_expired, frame as link_frame, overlong as link_overlong, received as link_received, requested as link_requested, undefined as link_undefined, wrong_size as link_wrong_size}
 pub use Rattle.model_link.specs.Link.{Link, address_at, fresh, queue_of}
-pub use Rattle.model_link.specs.Machine.{course, given, given_of}
+pub use Rattle.model_link.specs.Machine.{course, given, given_of, after as link_after, told as link_told, told_of as link_told_of}
 pub use Rattle.model_link.specs.Notes.{is_data}
 pub use Rattle.model_link.specs.Offers.{give_information, is_awaiting_acknowledgement, may_send_information, next_information, offer_among, send_acknowledgement, send_information, with_one_sent}
 pub use Rattle.model_link.specs.Requests.{is_queue_full, serves}
-pub use Rattle.model_link.specs.Rises.{reject_number}
+pub use Rattle.model_link.specs.Rises.{reject_number, grows as rises_grows, held as rises_held, may_send as rises_may_send, price as rises_price, rejects as rises_rejects, sent as rises_sent}
 pub use Rattle.model_link.specs.Sound.{IsWaitingFrame}
 pub use Rattle.model_link.specs.Steps.{Sent, changed, ◌then◌}
 pub use Rattle.model_link.specs.Told.{Given, orders_for}

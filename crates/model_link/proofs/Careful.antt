@@ -56,9 +56,6 @@ Queues queued other = Unit {0}
 pub any_contents : (request : Request) → QueuesFor (Unit {0}) request
 any_contents request = grind arith
 
-pub any_request : (e : Event) → Queues (Unit {0}) e
-any_request e = grind (arith, any_contents)
-
 pub record Careful (t : Terms) (Units Anew Taken Window Queued Offered : Type 0) (In : State → State → Type 0) (S : Course → Type 0) (P : Purse → Purse → Course → Type 0) (E : Course → Type 0) : Type 0 where
   pub is_in : (state : State) → In state state
   pub begins : (c : Course) → S c → P two two c
@@ -126,15 +123,12 @@ module _ {t : Terms} {Units Anew Taken : Type 0} {S : Course → Type 0} {P : Pu
   begins-anew : Anew → (p q : Purse) (c : Course) → P p q c → E (Words.begin_anew c)
   begins-anew may p q c h = k.ends p q _ (k.begin_anew may p q c h)
 
-  resends : (p q : Purse) (n : ℕ) (timer : LinkTimer) (c : Course) → P p q c → P p q ((Words.send_again_from n then Words.start timer) c)
-  resends p q n timer c h = k.start p q timer _ (k.send_again p q n c h)
-
   goes-back : (p q : Purse) (n : ℕ) (timer : LinkTimer) (c : Course) → P p q c → E ((Words.send_again_from n then Words.start timer) c)
-  goes-back p q n timer c h = k.ends p q _ (resends p q n timer c h)
+  goes-back p q n timer c h = k.ends p q _ (k.start p q timer _ (k.send_again p q n c h))
 
   recovers : (p q : Purse) (n : ℕ) (timer : LinkTimer) (c : Course) → P p q c
       → E ((Words.send_again_from n then Words.start timer then Words.enter Established) c)
-  recovers p q n timer c h = enters p q Established _ (resends p q n timer c h)
+  recovers p q n timer c h = enters p q Established _ (k.start p q timer _ (k.send_again p q n c h))
 
   owes : (p q : Purse) (c : Course) → c.link.own_busy ≡ false → P (another p) q c → P p q (Words.pending_is true c)
   owes p q c off h = k.owing p q c off (k.unsent p q c h)

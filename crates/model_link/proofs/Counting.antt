@@ -42,8 +42,3 @@ none-taken may = absurd may
 
 pub words : (t : Terms) (r : ℕ) → Kept t (Unit {0}) (Unit {0}) ⊥ (On (counted r None)) (λ p q c. On (done r None) c) (On (done r None))
 words t r = search (first, anew, none-taken) depth 12 fits 4000
-
--- by the N(R), whatever it names
-pub number_counts : (Q : Count) (t : Terms) (nr : Seq) {f : ℕ → Step} → ((m : ℕ) → Leads (On Q) (f m) (On Q))
-    → Leads (On Q) (by_number t nr f) (On Q)
-number_counts Q t nr x = number_leads t nr (record { leads = λ c h. h }) x

@@ -1,10 +1,10 @@
 -- Every event delivers the contents of the next eligible I-frame, if it brings it, and counts them; or the numbers
 -- begin anew.
 use Rattle.model_link.proofs.Vocabulary.{◌≡◌, ℕ, ◌+◌, ◌%◌, Bool, true, false, cond, not, ◌&&◌, ◌==◌, List, length, Option, Some, None, is_some, refl, sym, ap, subst, inl, arith, nat_lt, nat_le, ltb-true, ltb-false, leb-true, leb-false, false_from_ne_true, true_from_ne_false, Seq, seq, Control, Information, Ua, State, Established, TimerRecovery, Terms, Link, is_multiple_frame, Arrived, information_of, eligible_of, eligible, Course, begun, Step, Event, acknowledge, leave_unserved, contents_in_7_8, information_in_7_8, is_next, acknowledged_by_information_in_7, course, frame_in}
-use Rattle.model_link.proofs.Leads.{Leads, depending_leads}
+use Rattle.model_link.proofs.Leads.{Leads, depending_leads, number_leads}
 use Rattle.model_link.proofs.Kept.{FitsEvent}
 use Rattle.model_link.proofs.Contents.{contents}
-use Rattle.model_link.proofs.Counting.{Count, On, counted, done, words, number_counts}
+use Rattle.model_link.proofs.Counting.{Count, On, counted, done, words}
 use Rattle.model_link.proofs.Rows.{frame_row, event_row}
 
 -- What an eligible frame delivers while V(R) is r, and V(R) after it.
@@ -29,21 +29,14 @@ module _ (t : Terms) (l : Link) where
       (information_in_7_8 t ns nr p octets f (begun l))
   information ns nr p octets f x =
       branch-done (nat_lt t.n201 (length octets)) _ _ _ _ _ _ (inl begins)
-      (inl ((number_counts (counted _ _) t nr (x (counted _ _))).leads (contents_in_7_8 t ns p octets (begun l))
+      (inl ((number_leads t nr (record { leads = λ c h. h }) (x (counted _ _))).leads (contents_in_7_8 t ns p octets (begun l))
       (contents t l (λ r' d. On (counted r' d)) (λ r' d. record { leads = λ c h. h }) (λ r' d. record { leads = λ c h. h }) (λ r' d b. record { leads = λ c h. h }) begins ns p octets
       (record { number = refl; delivered = refl; goes_on = refl }))))
 
 -- The same in the words of eligibility.
-eligible-is : (small le multiple own : Bool) (i : Arrived) (r : ℕ) → le ≡ not small → multiple ≡ true
-    → delivery r (cond (le && multiple && not own) (Some i) None) ≡ cond small None (cond own None (cond (i.ns.value == r % 128) (Some i.contents) None))
-eligible-is small le multiple own i r e m = grind arith
-
 next-is : (small own next : Bool) (octets : List ℕ) (r : ℕ)
     → cond small r (cond own r (cond next (r + 1) r)) ≡ counted_on r (cond small None (cond own None (cond next (Some octets) None)))
 next-is small own next octets r = grind arith
-
-not-over : (b : Bool) (n m : ℕ) → nat_lt n m ≡ b → nat_le m n ≡ not b
-not-over b n m e = grind (arith, false_from_ne_true, ltb-true, leb-true, true_from_ne_false, ltb-false, leb-false)
 
 module _ (t : Terms) (l : Link) where
   -- an I-frame in state 7 or 8
@@ -55,21 +48,17 @@ module _ (t : Terms) (l : Link) where
   numbered-frame ns nr p octets f x e =
       let small = nat_lt t.n201 (length octets) in
       let next = ns.value == l.r % 128 in
-      let is : delivery l.r (eligible_of t l (Some (record { ns = ns; contents = octets }))) ≡ cond small None (cond l.own_busy None (cond next (Some octets) None)) = eligible-is small (nat_le (length octets) t.n201) (is_multiple_frame l.state) l.own_busy (record { ns = ns; contents = octets }) l.r (not-over small t.n201 (length octets) refl) e in
+      let is : delivery l.r (eligible_of t l (Some (record { ns = ns; contents = octets }))) ≡ cond small None (cond l.own_busy None (cond next (Some octets) None)) = grind arith in
       let count = next-is small l.own_busy next octets l.r in
-      subst (λ d. On (done (counted_on l.r d) d) (information_in_7_8 t ns nr p octets f (begun l))) (sym is)
-      (subst (λ n. On (done n (cond small None (cond l.own_busy None (cond next (Some octets) None)))) (information_in_7_8 t ns nr p octets f (begun l))) count (information t l ns nr p octets f x))
+      grind (arith, done, information)
 
   In : Option Arrived → Course → Type 0
   In o c = On (done (counted_on l.r (delivery l.r (eligible_of t l o))) (delivery l.r (eligible_of t l o))) c
 
   -- outside states 7 and 8 nothing is eligible
-  none-eligible : (o : Option Arrived) → is_multiple_frame l.state ≡ false → eligible_of t l o ≡ None
-  none-eligible o e = grind arith
-
   unserved : (o : Option Arrived) → is_multiple_frame l.state ≡ false → In o (leave_unserved (begun l))
   unfolding In
-  unserved o e = grind (arith, On, done, none-eligible, begins)
+  unserved o e = grind (arith, On, done, begins)
 
   -- an I-frame in any state, and another frame
   information-in : (here : State) → l.state ≡ here → (b : Bool) (octets : List ℕ) (ns nr : Seq) (p : Bool)
@@ -77,15 +66,12 @@ module _ (t : Terms) (l : Link) where
   unfolding In
   information-in Established e b octets ns nr p =
       numbered-frame ns nr p octets acknowledged_by_information_in_7 (λ Q m. search (depending_leads)) (ap is_multiple_frame e)
-  information-in TimerRecovery e b octets ns nr p = numbered-frame ns nr p octets acknowledge (λ Q m. record { leads = λ c h. h }) (ap is_multiple_frame e)
-  information-in other e b octets ns nr p = unserved (information_of (Information ns nr p) octets) (ap is_multiple_frame e)
+  information-in here e b octets ns nr p = grind (arith, numbered-frame, unserved)
 
   frames : (here : State) → l.state ≡ here → (b : Bool) (octets : List ℕ) (control : Control) → In (information_of control octets) (frame_in here t b octets control (begun l))
   unfolding In
   frames here e b octets (Information ns nr p) = information-in here e b octets ns nr p
-  frames here e b octets (Ua true) = (frame_row (words t l.r) here b octets (Ua true) tt).leads (begun l) (begins t l)
-  frames here e b octets (Ua false) = (frame_row (words t l.r) here b octets (Ua false) tt).leads (begun l) (begins t l)
-  frames here e b octets other = (frame_row (words t l.r) here b octets other tt).leads (begun l) (begins t l)
+  frames here e b octets control = grind (arith, frame_row, words, begins)
 
   -- the other events
   others : (e : Event) → FitsEvent (Unit {0}) (Unit {0}) ⊥ e → On (done l.r None) (course t e l)

@@ -24,26 +24,20 @@ pub record Direction (sender receiver : End) : Type 0 where
   pub accepted : receiver.link.r ≤ length sender.link.contents
 
 -- a report is a piece of any line, and means V(R)
-report-piece : (contents : List (List ℕ)) (high r top n : ℕ) (octets : List ℕ) (control : Control) → IsReport n control → Piece contents high r top octets control
-report-piece contents high r top n octets control h = grind arith
-
-report-means : (n : ℕ) (control : Control) → IsReport n control → Means n control
-report-means n control h = grind arith
-
 -- reports go to the end of a line
 pub carried-reports : (t : Terms) (contents : List (List ℕ)) (high r n : ℕ) (fs : List Parts) (news : List ControlFrame) → AreReports n news
     → Carried contents high r fs → Carried contents high r (fs ++ frames_of t news)
 carried-reports t contents high r n fs [] a h = subst (Carried contents high r) (sym (append-nil fs)) h
 carried-reports t contents high r n fs (f ∷ news) a h =
     subst (Carried contents high r) (append_assoc fs (frame_of t f ∷ []) (frames_of t news))
-    (carried-reports t contents high r n (fs ++ frame_of t f ∷ []) news a.1 (carried-push contents high r fs (frame_of t f) (λ r' le. report-piece contents high r' high n [] f.control a.0) h))
+    (carried-reports t contents high r n (fs ++ frame_of t f ∷ []) news a.1 (carried-push contents high r fs (frame_of t f) (λ r' le. grind arith) h))
 
 pub rising-reports : (t : Terms) (a r : ℕ) (fs : List Parts) (news : List ControlFrame) → AreReports r news
     → Rising a r fs → Rising a r (fs ++ frames_of t news)
 rising-reports t a r fs [] x h = subst (Rising a r) (sym (append-nil fs)) h
 rising-reports t a r fs (f ∷ news) x h =
     subst (Rising a r) (append_assoc fs (frame_of t f ∷ []) (frames_of t news))
-    (rising-reports t a r (fs ++ frame_of t f ∷ []) news x.1 (rising-push a r fs (frame_of t f) (report-means r f.control x.0) h))
+    (rising-reports t a r (fs ++ frame_of t f ∷ []) news x.1 (rising-push a r fs (frame_of t f) (grind arith) h))
 
 -- what waits after an event is what waited, and reports
 pub line-grows : (t : Terms) (way : List Parts) (before after : List ControlFrame) (r : ℕ) (h : Reports r before after)
@@ -63,7 +57,6 @@ pub carries-next : (contents : List (List ℕ)) (high r top a k : ℕ) (ns : Seq
 carries-next contents high r top a k ns octets e small low h next =
     let one : ns.value ≡ h.number % 128 = seq-value ns h.number h.is_seq in
     let two : ns.value ≡ r % 128 = seq-value ns r next in
-    let near : r ≤ h.number + 127 = h.near in
     let below : h.number < high = h.below in
     let same : h.number ≡ r = omega arith in
     (subst (λ i. slice_get contents i ≡ Some octets) same h.same, subst (λ i. i + 1 ≤ top) same h.next)
@@ -75,29 +68,14 @@ sender-goes n m l more r same still reports h =
     let line = line-grows n.terms n.way n.link.waiting l.waiting r reports in
     let c1 = carried-more n.link.contents more (n.link.a + n.terms.k) m.link.r (line_of n) h.carried in
     let c2 = carried-reports n.terms (n.link.contents ++ more) (n.link.a + n.terms.k) m.link.r r (line_of n) reports.news reports.are c1 in
-    record {
-      carried =
-          subst (λ fs. Carried l.contents (l.a + n.terms.k) m.link.r fs) (sym line)
-          (subst (λ cs. Carried cs (l.a + n.terms.k) m.link.r (line_of n ++ frames_of n.terms reports.news)) (sym same)
-          (subst (λ a. Carried (n.link.contents ++ more) (a + n.terms.k) m.link.r (line_of n ++ frames_of n.terms reports.news)) (sym still) c2));
-      rising = subst (λ a. Rising a m.link.r (line_of m)) (sym still) h.rising;
-      delivered = h.delivered ∙ sym (ap (λ cs. take m.link.r cs) same ∙ take-append-le m.link.r n.link.contents more h.accepted);
-      accepted = subst (λ cs. m.link.r ≤ length cs) (sym same) (let size : length (n.link.contents ++ more) ≡ length n.link.contents + length more = length-append n.link.contents more in let here : m.link.r ≤ length n.link.contents = h.accepted in omega arith);
-    }
+    grind (arith, take-append-le, length-append)
 
 -- The receiver goes on: it delivers nothing, and reports its V(R).
 pub receiver-goes : (n m : End) (l : Link) → l.r ≡ m.link.r → Reports m.link.r m.link.waiting l.waiting → Direction n m
     → Direction n (record m { link = l })
 receiver-goes n m l same reports h =
     let line = line-grows m.terms m.way m.link.waiting l.waiting m.link.r reports in
-    record {
-      carried = subst (λ r. Carried n.link.contents (n.link.a + n.terms.k) r (line_of n)) (sym same) h.carried;
-      rising =
-          subst (λ r. Rising n.link.a r (m.way ++ frames_of m.terms l.waiting)) (sym same)
-          (subst (Rising n.link.a m.link.r) (sym line) (rising-reports m.terms n.link.a m.link.r (line_of m) reports.news reports.are h.rising));
-      delivered = h.delivered ∙ ap (λ r. take r n.link.contents) (sym same);
-      accepted = subst (λ r. r ≤ length n.link.contents) (sym same) h.accepted;
-    }
+    grind (arith, rising-reports)
 
 -- The first frame of a way is lost.
 lost-carried : (contents : List (List ℕ)) (high r : ℕ) (way rest : List Parts) → Carried contents high r (way ++ rest)

@@ -14,7 +14,7 @@ abbrev pub AreReports : ℕ → List ControlFrame → Type 0
 AreReports r [] = Unit {0}
 AreReports r (f ∷ fs) = IsReport r f.control × AreReports r fs
 
-reports-push : (r : ℕ) (fs : List ControlFrame) (f : ControlFrame) → IsReport r f.control → AreReports r fs → AreReports r (fs ++ f ∷ [])
+pub reports-push : (r : ℕ) (fs : List ControlFrame) (f : ControlFrame) → IsReport r f.control → AreReports r fs → AreReports r (fs ++ f ∷ [])
 reports-push r [] f x h = (x, tt)
 reports-push r (g ∷ fs) f x h = (h.0, reports-push r fs f x h.1)
 
@@ -45,10 +45,6 @@ pub record Stay (l : Link) (S : Number) (a r : ℕ) (contents : List (List ℕ))
 abbrev pub Stays : Link → Number → ℕ → ℕ → Course → Type 0
 Stays l S a r c = Stay l S a r c.link.contents c.link.a c.link.s c.link.r c.link.waiting
 
--- reports are sent
-ready-is : (b : Bool) (n : ℕ) (pf : Bool) → IsReport n (cond b (ReceiveNotReady (seq n) pf) (ReceiveReady (seq n) pf))
-ready-is b n pf = grind arith
-
 module _ {l : Link} {S : Number} {a r : ℕ} (t : Terms) where
   sends : (f : Link → ControlFrame) → ((l' : Link) → IsReport l'.r (f l').control)
       → Leads (Stays l S a r) (λ c. (send t (f c.link) then pending_is false) c) (Stays l S a r)
@@ -64,13 +60,13 @@ module _ {l : Link} {S : Number} {a r : ℕ} (t : Terms) where
       }
 
   pub enquire_stays : Leads (Stays l S a r) (enquire t) (Stays l S a r)
-  enquire_stays = sends (λ l'. command (ready_to_receive true l')) (λ l'. ready-is l'.own_busy l'.r true)
+  enquire_stays = sends (λ l'. command (ready_to_receive true l')) (λ l'. (grind arith))
 
   pub answer_stays : Leads (Stays l S a r) (answer t) (Stays l S a r)
-  answer_stays = sends (λ l'. response (ready_to_receive true l')) (λ l'. ready-is l'.own_busy l'.r true)
+  answer_stays = sends (λ l'. response (ready_to_receive true l')) (λ l'. (grind arith))
 
   pub report_stays : Leads (Stays l S a r) (report_ready t) (Stays l S a r)
-  report_stays = sends (λ l'. response (ready_to_receive false l')) (λ l'. ready-is l'.own_busy l'.r false)
+  report_stays = sends (λ l'. response (ready_to_receive false l')) (λ l'. (grind arith))
 
   pub reject_stays : (f : Bool) → Leads (Stays l S a r) (reject t f) (Stays l S a r)
   reject_stays f = sends (λ l'. response (Reject (seq l'.r) f)) (λ l'. refl)
@@ -122,28 +118,19 @@ acknowledged n s h = record { same = h.same; acknowledged = refl; sent = tt; rec
 
 module _ (l : Link) (r : ℕ) {S : Number} (a n : ℕ) where
   -- in state 7 nothing happens only where n is V(A)
-  nothing_up : a ≤ n → Leads (Passed (Stays l S a r) (is_beyond_acknowledged n) false) nothing (Up l n r)
-  nothing_up low = grind (arith, ltb-false, acknowledged)
-
   pub acknowledge_up : Leads (Stays l S a r) (acknowledge n) (Up l n r)
   acknowledge_up = search (acknowledged)
 
   pub in_7_up : a ≤ n → Leads (Stays l S a r) (acknowledged_in_7 n) (Up l n r)
   in_7_up low =
       depending_leads (is_all_sent n) (search (acknowledged))
-      (tested_leads (is_beyond_acknowledged n) (from_more (λ c h. h.holds) (search (acknowledged))) (nothing_up low))
+      (tested_leads (is_beyond_acknowledged n) (from_more (λ c h. h.holds) (search (acknowledged))) (grind (arith, ltb-false, acknowledged)))
 
   pub information_7_up : a ≤ n → Leads (Stays l S a r) (acknowledged_by_information_in_7 n) (Up l n r)
   information_7_up low = depending_leads _ acknowledge_up (in_7_up low)
 
   pub rnr_7_up : a ≤ n → Leads (Stays l S a r) (acknowledged_by_rnr_in_7 n) (Up l n r)
   rnr_7_up low = search (acknowledged)
-
-  pub rej_7_up : a ≤ n → Leads (Stays l S a r) (acknowledged_by_rej_in_7 n) (Up l n r)
-  rej_7_up low = search (acknowledged)
-
-  pub in_8_up : (final : Bool) (timer : LinkTimer) → a ≤ n → Leads (Stays l S a r) (acknowledged_in_8 timer final n) (Up l n r)
-  in_8_up final timer low = search (bit_leads, acknowledged)
 
 -- What a received frame does: the N(R) names n, which is acknowledged.
 pub record UpBy (l : Link) (nr : Seq) (r : ℕ) (c : Course) : Type 0 where
@@ -155,8 +142,7 @@ module _ (t : Terms) (l : Link) (r : ℕ) where
       → (c : Course) → Stays l (still l.s) l.a r c → (o : Option ℕ) → named l.a l.s nr ≡ o
       → UpBy l nr r (elim o [ None ↦ (error t ErrorCode.J then re_establish t) c | Some n ↦ f n c ])
   by-number nr f x c h None e = record { stay = λ up. absurd (true≢false (sym up)) }
-  by-number nr f x c h (Some n) e =
-      record { stay = λ up. (n, e, ((x n (named-within l.a l.s n nr e).0).leads c h).stay up) }
+  by-number nr f x c h (Some n) e = grind (arith, named-within)
 
   pub number_up : (nr : Seq) (f : ℕ → Step) → ((n : ℕ) → l.a ≤ n → Leads (Stays l (still l.s) l.a r) (f n) (Up l n r))
       → Leads (Stays l (still l.s) l.a r) (by_number t nr f) (UpBy l nr r)
@@ -167,14 +153,14 @@ module _ (t : Terms) (l : Link) (r : ℕ) where
       → Leads (Stays l (still l.s) l.a r) (frame_in_7 t b octets control) (UpBy l (seq m) r)
   reports_7 b octets m (ReceiveReady nr pf) e = subst (λ n. Leads (Stays l (still l.s) l.a r) (frame_in_7 t b octets (ReceiveReady nr pf)) (UpBy l n r)) e (search (words, number_up, in_7_up) depth 12 fits 4000)
   reports_7 b octets m (ReceiveNotReady nr pf) e = subst (λ n. Leads (Stays l (still l.s) l.a r) (frame_in_7 t b octets (ReceiveNotReady nr pf)) (UpBy l n r)) e (search (words, number_up, rnr_7_up) depth 12 fits 4000)
-  reports_7 b octets m (Reject nr pf) e = subst (λ n. Leads (Stays l (still l.s) l.a r) (frame_in_7 t b octets (Reject nr pf)) (UpBy l n r)) e (search (words, number_up, rej_7_up) depth 12 fits 4000)
+  reports_7 b octets m (Reject nr pf) e = subst (λ n. Leads (Stays l (still l.s) l.a r) (frame_in_7 t b octets (Reject nr pf)) (UpBy l n r)) e (search (words, number_up, acknowledged) depth 12 fits 4000)
   reports_7 b octets m other e = absurd e
 
   reports_8 : (b : Bool) (octets : List ℕ) (m : ℕ) (control : Control) → IsReport m control
       → Leads (Stays l (still l.s) l.a r) (frame_in_8 t b octets control) (UpBy l (seq m) r)
-  reports_8 b octets m (ReceiveReady nr pf) e = subst (λ n. Leads (Stays l (still l.s) l.a r) (frame_in_8 t b octets (ReceiveReady nr pf)) (UpBy l n r)) e (search (words, number_up, in_8_up) depth 12 fits 4000)
-  reports_8 b octets m (ReceiveNotReady nr pf) e = subst (λ n. Leads (Stays l (still l.s) l.a r) (frame_in_8 t b octets (ReceiveNotReady nr pf)) (UpBy l n r)) e (search (words, number_up, in_8_up) depth 12 fits 4000)
-  reports_8 b octets m (Reject nr pf) e = subst (λ n. Leads (Stays l (still l.s) l.a r) (frame_in_8 t b octets (Reject nr pf)) (UpBy l n r)) e (search (words, number_up, in_8_up) depth 12 fits 4000)
+  reports_8 b octets m (ReceiveReady nr pf) e = subst (λ n. Leads (Stays l (still l.s) l.a r) (frame_in_8 t b octets (ReceiveReady nr pf)) (UpBy l n r)) e (search (words, number_up, bit_leads, acknowledged) depth 12 fits 4000)
+  reports_8 b octets m (ReceiveNotReady nr pf) e = subst (λ n. Leads (Stays l (still l.s) l.a r) (frame_in_8 t b octets (ReceiveNotReady nr pf)) (UpBy l n r)) e (search (words, number_up, bit_leads, acknowledged) depth 12 fits 4000)
+  reports_8 b octets m (Reject nr pf) e = subst (λ n. Leads (Stays l (still l.s) l.a r) (frame_in_8 t b octets (Reject nr pf)) (UpBy l n r)) e (search (words, number_up, bit_leads, acknowledged) depth 12 fits 4000)
   reports_8 b octets m other e = absurd e
 
   pub reports_up : (here : State) → IsTrue (is_multiple_frame here) → (b : Bool) (octets : List ℕ) (m : ℕ) (control : Control) → IsReport m control

@@ -1,8 +1,8 @@
 -- What a received I-frame does to a link that stays in states 7 and 8, for the end that it faces.
 use Rattle.model_link.proofs.Vocabulary.{arith, ◌≡◌, ℕ, ◌+◌, ◌≤◌, Bool, true, false, cond, IsTrue, List, length, Option, None, Some, refl, nat_lt, Seq, Terms, Link, is_multiple_frame, Course, begun, Step, by_number, rejecting_is, contents_in_7_8, failed, information_in_7_8, is_next, ErrorCode}
-use Rattle.model_link.proofs.Leads.{Leads}
+use Rattle.model_link.proofs.Leads.{Leads, number_leads}
 use Rattle.model_link.proofs.Contents.{contents}
-use Rattle.model_link.proofs.Counting.{Count, On, number_counts}
+use Rattle.model_link.proofs.Counting.{Count, On}
 use Rattle.model_link.proofs.Facing.{Stays, Up, UpBy, still, no-reports, answer_stays, reject_stays, number_up}
 
 -- what is delivered
@@ -39,7 +39,7 @@ module _ (t : Terms) (l : Link) where
   numbered nr r d f x y c h =
       record {
         by = (number_up t l r nr f y).leads c h.stays;
-        delivered = λ up. (number_counts (brought d) t nr (x (brought d))).leads c h.delivered;
+        delivered = λ up. (number_leads t nr (record { leads = λ c h. h }) (x (brought d))).leads c h.delivered;
       }
 
   or-failed : (b : Bool) (nr : Seq) (r : ℕ) (d : Option (List ℕ)) (u v : Course) → (is_multiple_frame u.link.state ≡ false) → Took l nr r d v → Took l nr r d (cond b u v)

@@ -1,11 +1,11 @@
 -- What the row of a frame does, said once: a claim that every word of the tables leads on is led on by every row.
-use Rattle.model_link.proofs.Vocabulary.{◌≡◌, ℕ, ◌≤◌, Bool, true, false, cond, IsTrue, List, Option, Some, None, inl, inr, refl, sym, true≢false, length-take, arith, Seq, seq, named, leb-true, Control, Information, ReceiveReady, ReceiveNotReady, Reject, Sabme, Disc, Ui, Ua, Dm, Frmr, Xid, ErrorCode, State, TeiAssigned, AwaitingEstablishment, AwaitingRelease, Established, TimerRecovery, LinkTimer, T200, T203, ControlFrame, Terms, has_outstanding, is_asked, is_peer_busy, is_own_busy, is_multiple_frame, Course, Step, ◌then◌, nothing, depending_on, frame_in_4, frame_in_5, frame_in_6, acknowledged_in_8, particulars_in_8, frame_in}
+use Rattle.model_link.proofs.Vocabulary.{◌≡◌, ℕ, ◌≤◌, Bool, true, false, cond, IsTrue, List, Option, Some, None, inl, inr, refl, sym, true≢false, length-take, arith, Seq, seq, named, leb-true, Control, Information, ReceiveReady, ReceiveNotReady, Reject, Sabme, Disc, Ui, Ua, Dm, Frmr, Xid, ErrorCode, State, TeiAssigned, AwaitingEstablishment, AwaitingRelease, Established, TimerRecovery, LinkTimer, T200, T203, ControlFrame, Terms, has_outstanding, is_asked, is_peer_busy, is_own_busy, is_multiple_frame, Course, Step, ◌then◌, nothing, depending_on, frame_in_4, frame_in_5, frame_in_6, acknowledged_in_8, particulars_in_8, frame_in, response}
 use Rattle.std.specs.Prelude.{◌&&◌}
 use Rattle.model_link.specs.Words
 use Rattle.model_link.specs.MultipleFrame
 use Rattle.model_link.specs.Established
 use Rattle.model_link.proofs.Leads.{Leads, then_leads, depending_leads, bit_leads, tested_leads, Passed, from_more, to_less}
-use Rattle.model_link.proofs.Waits.{Waits, ua_waits, dm_waits, sabme_waits, rej_waits, ready_waits}
+use Rattle.model_link.proofs.Waits.{Waits, ua_waits, sabme_waits, ready_waits, may_wait}
 use Rattle.model_link.proofs.Kept.{Purse, no_more, another, two, Fits}
 use Rattle.model_link.proofs.Careful.{Claim, At, anything, idle, Names, names, paid, starts, Careful}
 
@@ -18,12 +18,9 @@ abbrev pub one : Purse
 one = another no_more
 
 -- what `named` finds lies between V(A) and V(S)
-below-named : (b : Bool) (n m : ℕ) → cond b (Some n) None ≡ Some m → (b ≡ true) × (n ≡ m)
-below-named b n m e = grind arith
-
 pub named-within : (a s m : ℕ) (nr : Seq) → named a s nr ≡ Some m → (a ≤ m) × (m ≤ s)
 unfolding named
-named-within a s m nr e = grind (arith, below-named, leb-true)
+named-within a s m nr e = grind (arith, leb-true)
 
 module _ {t : Terms} {Units Anew Taken Window Queued Offered : Type 0} {In : State → State → Type 0} {S : Course → Type 0} {P : Purse → Purse → Course → Type 0} {E : Course → Type 0} (k : Careful t Units Anew Taken Window Queued Offered In S P E) where
   -- an N(R) names a number
@@ -75,33 +72,21 @@ module _ {t : Terms} {Units Anew Taken Window Queued Offered : Type 0} {In : Sta
   no_timer {p = p} {q = q} = record { leads = λ c h. record { known = h.known; holds = k.no_timer p q c h.holds } }
 
   pub discard : {X : Claim} {p q : Purse} → Leads (At X (P p q)) Words.discard (At (idle In) (P p q))
-  discard {p = p} {q = q} =
-      record {
-        leads = λ c h. record {
-          known = inl (let size = length-take c.link.a c.link.contents in omega (arith, size));
-          holds = k.discard p q c h.holds;
-        };
-      }
+  discard {p = p} {q = q} = grind (arith, length-take)
 
   zero : {X : Claim} {p q : Purse} → Anew → Leads (At X (P p q)) Words.zero_numbers (At anything (P p q))
   zero {p = p} {q = q} may = record { leads = λ c h. record { known = tt; holds = k.zero may p q c h.holds } }
 
   acknowledge : {p q : Purse} {here : State} (i : ℕ) → IsTrue (is_multiple_frame here)
       → Leads (At (names In i here) (P p q)) (Words.acknowledge i) (At (names In i here) (P p q))
-  acknowledge {p} {q} {here} i up =
-      record {
-        leads = λ c h. record {
-          known = record { from = omega arith; to = h.known.to; state_is = h.known.state_is };
-          holds = k.acknowledge p q i here c h.known.from h.known.to h.known.state_is up h.holds;
-        };
-      }
+  acknowledge {p} {q} {here} i up = grind arith
 
   pub ready : {X : Claim} {p q : Purse} (b : Bool)
       → Leads (At X (P (another p) q)) (λ c. (Words.send t (record { command = b; control = Words.ready_to_receive true c.link }) then Words.pending_is false) c) (At X (P p q))
   ready b = record { leads = λ c h. (send (ready_waits t b true c.link) ▹ settled).leads c h }
 
   reject : {X : Claim} {p q : Purse} (f : Bool) → Leads (At X (P (another p) q)) (Words.reject t f) (At X (P p q))
-  reject f = record { leads = λ c h. (send (rej_waits t (seq c.link.r) f) ▹ settled).leads c h }
+  reject f = record { leads = λ c h. (send (may_wait t (response (Reject (seq c.link.r) f)) refl refl (omega arith) refl) ▹ settled).leads c h }
 
   silent : {X : Claim} {p q : Purse} → Leads (At X (P (another p) q)) nothing (At X (P p q))
   silent {p = p} {q = q} = record { leads = λ c h. record { known = h.known; holds = k.unsent p q c h.holds } }
@@ -140,10 +125,6 @@ module _ {t : Terms} {Units Anew Taken Window Queued Offered : Type 0} {In : Sta
   pub begun_by : {X : Claim} {f : Step} → Leads (At X (P two two)) f E → Leads (At X S) f E
   begun_by x = from_more (λ c h. record { known = h.known; holds = k.begins c h.holds }) x
 
-  -- the contents of an I-frame
-  answered_if : {X : Claim} {p q : Purse} (b : Bool) → Leads (At X (P (another p) q)) (MultipleFrame.dropped t b) (At X (P p q))
-  answered_if b = bit_leads b (ready false) silent
-
   in_sequence : {X : Claim} {p q : Purse} → Taken → (f : Bool) (octets : List ℕ)
       → Leads (Passed (At X (P (another p) (another q))) is_own_busy false) (MultipleFrame.in_sequence t f octets) (At X (P p q))
   in_sequence {p = p} {q = q} may true octets =
@@ -153,7 +134,7 @@ module _ {t : Terms} {Units Anew Taken Window Queued Offered : Type 0} {In : Sta
 
   out_of_sequence : {X : Claim} {p q : Purse} (f : Bool) → Leads (At X (P (another p) q)) (MultipleFrame.out_of_sequence t f) (At X (P p q))
   out_of_sequence {p = p} {q = q} f =
-      depending_leads _ (answered_if f)
+      depending_leads _ (bit_leads f (ready false) silent)
       (record { leads = λ c h. (reject f).leads _ (record { known = h.known; holds = k.rejecting (another p) q c h.holds }) })
 
   passed : {X : Claim} {p q : Purse} {f : Step} {R : Course → Type 0} {b : Bool} → Leads (At X (P p q)) f R
@@ -163,7 +144,7 @@ module _ {t : Terms} {Units Anew Taken Window Queued Offered : Type 0} {In : Sta
   contents : {X : Claim} {p q : Purse} → Taken → (ns : Seq) (f : Bool) (octets : List ℕ)
       → Leads (At X (P (another p) (another q))) (MultipleFrame.contents_in_7_8 t ns f octets) (At X (P p q))
   contents may ns f octets =
-      tested_leads is_own_busy (passed (answered_if f))
+      tested_leads is_own_busy (passed (bit_leads f (ready false) silent))
       (depending_leads (MultipleFrame.is_next ns) (in_sequence may f octets) (passed (out_of_sequence f)))
 
   -- the link is established again, and an N(R) that is not valid leads to it
@@ -189,7 +170,7 @@ module _ {t : Terms} {Units Anew Taken Window Queued Offered : Type 0} {In : Sta
       → ((final : Bool) (i : ℕ) → Leads (At (Y i) (P one one)) (effect final i) E)
       → Leads (At X S) (MultipleFrame.supervisory t own busy b pf nr effect) E
   supervisory own busy b pf nr effect y w x =
-      begun_by (peer_busy busy ▹ answered_if (b && pf) ▹ y (MultipleFrame.is_final b pf) ▹ number nr w (x (MultipleFrame.is_final b pf)))
+      begun_by (peer_busy busy ▹ (bit_leads (b && pf) (ready false) silent) ▹ y (MultipleFrame.is_final b pf) ▹ number nr w (x (MultipleFrame.is_final b pf)))
 
   -- contents that are outstanding are released, and layer 3 is told
   loose : {R Q : Course → Type 0} {X : Claim} {f : Step} → Leads R f (At X Q) → Leads R f (At anything Q)
@@ -210,7 +191,7 @@ module _ {t : Terms} {Units Anew Taken Window Queued Offered : Type 0} {In : Sta
   row_in_4 : (octets : List ℕ) (control : Control) → Fits Units Anew (Unit {0}) control → Leads (At (idle In) S) (frame_in_4 t octets control) E
   row_in_4 octets (Sabme p) may =
       begun_by (send (ua_waits t p) ▹ flags ▹ zero may ▹ start T203 ▹ establish_indication ▹ enter_7)
-  row_in_4 octets (Disc p) may = begun_by (ends (send (dm_waits t p)))
+  row_in_4 octets (Disc p) may = begun_by (ends (send (may_wait t (response (Dm p)) refl refl (omega arith) refl)))
   row_in_4 octets (Ua true) may = begun_by (ends (error ErrorCode.C))
   row_in_4 octets (Ua false) may = begun_by (ends (error ErrorCode.D))
   row_in_4 octets (Ui p) may = unit_data may octets
@@ -220,7 +201,7 @@ module _ {t : Terms} {Units Anew Taken Window Queued Offered : Type 0} {In : Sta
   -- state 5
   row_in_5 : {X : Claim} (octets : List ℕ) (control : Control) → Fits Units Anew (Unit {0}) control → Leads (At X S) (frame_in_5 t octets control) E
   row_in_5 octets (Sabme p) may = begun_by (ends (send (ua_waits t p)))
-  row_in_5 octets (Disc p) may = begun_by (ends (send (dm_waits t p)))
+  row_in_5 octets (Disc p) may = begun_by (ends (send (may_wait t (response (Dm p)) refl refl (omega arith) refl)))
   row_in_5 octets (Ua true) may =
       begun_by (depending_leads is_asked (loose establish_confirm) emptied ▹ zero may ▹ start T203 ▹ enter_7)
   row_in_5 octets (Ua false) may = begun_by (ends (error ErrorCode.D))
@@ -232,7 +213,7 @@ module _ {t : Terms} {Units Anew Taken Window Queued Offered : Type 0} {In : Sta
 
   -- state 6
   row_in_6 : (octets : List ℕ) (control : Control) → Fits Units Anew (Unit {0}) control → Leads (At (idle In) S) (frame_in_6 t octets control) E
-  row_in_6 octets (Sabme p) may = begun_by (ends (send (dm_waits t p)))
+  row_in_6 octets (Sabme p) may = begun_by (ends (send (may_wait t (response (Dm p)) refl refl (omega arith) refl)))
   row_in_6 octets (Disc p) may = begun_by (ends (send (ua_waits t p)))
   row_in_6 octets (Ua true) may = begun_by (release_confirm ▹ no_timer ▹ enter_4)
   row_in_6 octets (Ua false) may = begun_by (ends (error ErrorCode.D))
@@ -293,14 +274,11 @@ module _ {t : Terms} {Units Anew Taken Window Queued Offered : Type 0} {In : Sta
   unsolicited final = bit_leads final (error ErrorCode.A) untold
 
   -- a frame in any state
-  fits-down : (control : Control) → Fits Units Anew Taken control → Fits Units Anew (Unit {0}) control
-  fits-down control may = grind arith
-
   pub frame_by : (here : State) (b : Bool) (octets : List ℕ) (control : Control) → Fits Units Anew Taken control
       → Leads (At (starts In Window here control) S) (frame_in here t b octets control) E
-  frame_by TeiAssigned b octets control may = knowing (λ a s n state x. inr (TeiAssigned, x.0, refl)) (row_in_4 octets control (fits-down control may))
-  frame_by AwaitingEstablishment b octets control may = row_in_5 octets control (fits-down control may)
-  frame_by AwaitingRelease b octets control may = knowing (λ a s n state x. inr (AwaitingRelease, x.0, refl)) (row_in_6 octets control (fits-down control may))
+  frame_by TeiAssigned b octets control may = knowing (λ a s n state x. inr (TeiAssigned, x.0, refl)) (row_in_4 octets control (grind arith))
+  frame_by AwaitingEstablishment b octets control may = row_in_5 octets control (grind arith)
+  frame_by AwaitingRelease b octets control may = knowing (λ a s n state x. inr (AwaitingRelease, x.0, refl)) (row_in_6 octets control (grind arith))
   frame_by Established b octets control may =
       row_in_7_8 Established (Established.particulars_in_7 t) (λ control'. unsolicited) (λ i. depending_leads is_peer_busy (ends (acknowledge i refl)) (acknowledged_in_7 i))
       (λ final. acknowledged_in_7) (λ final i. ends (acknowledge i refl ▹ start T200)) (λ final. again) (begun_by (ends (error ErrorCode.B))) refl b octets control may

@@ -27,10 +27,7 @@ module _ (t : Terms) (r : IsInRange t) (l : Link) (h : IsSound t l) where
 
   offered : (ws : List ControlFrame) → l.waiting ≡ ws → Gives (offer_among t ws (begun l)).sent
   unfolding Gives
-  offered [] e =
-      either (may_send_information t l) _ _
-      (either (is_awaiting_acknowledgement (with_one_sent l)) _ _ information information)
-      (either l.pending _ _ acknowledgement tt)
+  offered [] e = grind (arith, either, information, acknowledgement)
   offered (f ∷ fs) e = alone t f (All-head (IsWaitingFrame t) f fs (subst (All (IsWaitingFrame t)) e h.frames))
 
   from-sent : (c : Course) (o : Option Sent) → Gives o → IfSome (given_of t l c o) (λ g. IsGiven t g.frame g.contents)

@@ -32,17 +32,10 @@ sender-hears n m f fs l ds S ranges sound first heard h =
     let line = line-grows n.terms n.way n.link.waiting l.waiting r reports in
     let c1 = carried-higher n.link.contents (n.link.a + n.terms.k) (l.a + n.terms.k) m.link.r (line_of n) (omega arith) h.carried in
     let c2 = carried-reports n.terms n.link.contents (l.a + n.terms.k) m.link.r r (line_of n) reports.news reports.are c1 in
-    record {
-      carried =
-          subst (λ ws. Carried l.contents (l.a + n.terms.k) m.link.r ws) (sym line)
-          (subst (λ cs. Carried cs (l.a + n.terms.k) m.link.r (line_of n ++ frames_of n.terms reports.news)) (sym stay.same) c2);
-      rising = subst (λ a. Rising a m.link.r (fs ++ frames_of m.terms m.link.waiting)) (sym now) rest;
-      delivered = h.delivered ∙ ap (λ cs. take m.link.r cs) (sym stay.same);
-      accepted = subst (λ cs. m.link.r ≤ length cs) (sym stay.same) h.accepted;
-    }
+    grind (arith, line_of, frames_of)
 
 -- the contents up to a number, and the next one
-take-next : (xs : List (List ℕ)) (i : ℕ) (x : List ℕ) → slice_get xs i ≡ Some x → take i xs ++ x ∷ [] ≡ take (suc i) xs
+pub take-next : (xs : List (List ℕ)) (i : ℕ) (x : List ℕ) → slice_get xs i ≡ Some x → take i xs ++ x ∷ [] ≡ take (suc i) xs
 take-next [] i x e = absurd (cc)
 take-next (y ∷ xs) zero x e = cc
 take-next (y ∷ xs) (suc i) x e = ap (λ ys. y ∷ ys) (take-next xs i x e)
@@ -62,13 +55,7 @@ record Brings (contents : List (List ℕ)) (top r r' : ℕ) (d : Option (List �
 
 brings : (contents : List (List ℕ)) (r r' top a k : ℕ) (octets : List ℕ) (control : Control) (d : Option (List ℕ)) → k ≤ 127 → a ≤ r → r ≤ top
     → r ≤ length contents → Piece contents (a + k) r top octets control → Advance control octets r r' d → Brings contents top r r' d
-brings contents r r' top a k octets control d small low here accepted piece (inl (still, none)) =
-    record {
-      up = omega (arith, still);
-      to = omega (arith, still);
-      accepted = omega (arith, still);
-      delivered = ap (λ o. take r contents ++ option_to_list o) none ∙ append-nil (take r contents) ∙ ap (λ i. take i contents) (sym still);
-    }
+brings contents r r' top a k octets control d small low here accepted piece (inl (still, none)) = grind (arith, append-nil)
 brings contents r r' top a k octets control d small low here accepted piece (inr (one, some, next)) =
     let known = piece-next contents (a + k) r top a k octets control refl small low piece next in
     let inside : r < length contents = slice_get_within contents r octets known.0 in
@@ -95,13 +82,4 @@ receiver-hears n m f fs l ds r d ranges first advance now reports told h =
     let line = line-grows n.terms n.way n.link.waiting l.waiting r reports in
     let r1 = rising-higher m.link.a n.link.r r (line_of n) brought.up h.rising in
     let r2 = rising-reports n.terms m.link.a r (line_of n) reports.news reports.are r1 in
-    record {
-      carried =
-          subst (λ i. Carried m.link.contents high i (fs ++ frames_of m.terms m.link.waiting)) (sym now)
-          (carried-lower m.link.contents high top r (fs ++ frames_of m.terms m.link.waiting) brought.to carried.3);
-      rising =
-          subst (λ i. Rising m.link.a i (n.way ++ frames_of n.terms l.waiting)) (sym now)
-          (subst (Rising m.link.a r) (sym line) r2);
-      delivered = told ∙ ap (λ xs. xs ++ option_to_list d) h.delivered ∙ brought.delivered ∙ ap (λ i. take i m.link.contents) (sym now);
-      accepted = subst (λ i. i ≤ length m.link.contents) (sym now) brought.accepted;
-    }
+    grind (arith, frames_of, carried-lower)

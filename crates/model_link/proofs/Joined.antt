@@ -8,7 +8,7 @@ use Rattle.model_link.proofs.FacingInformation.{at-first}
 use Rattle.model_link.proofs.Direction.{Direction, frames_of, line_of, sender-goes, receiver-goes, sender-loses, receiver-loses}
 use Rattle.model_link.proofs.Taking.{frame-taken, none-delivered}
 use Rattle.model_link.proofs.Hearing.{sender-hears, receiver-hears}
-use Rattle.model_link.proofs.Sending.{offer-gave, sender-gives, receiver-gives}
+use Rattle.model_link.proofs.Sending.{offer-gave}
 
 -- A link goes on by itself: more contents may be accepted, and reports may wait.
 record Goes (l l' : Link) : Type 0 where
@@ -38,22 +38,16 @@ module _ (t : Terms) (l : Link) where
   release-leads_out : (here : State) → IsTrue (is_multiple_frame here) → IsUpIn (release_in here t (begun l)) → ⊥
   release-leads_out here before up = grind arith
 
-  granted-goes : IsTrue (is_multiple_frame l.state) → (request : Request) → IsUpIn (granted t request (begun l))
-      → Goes l (granted t request (begun l)).link
-  granted-goes before request up = grind (arith, release-leads_out, still, no-reports, by-up, set_busy_up, at-first, clear_busy_up)
-
   request-goes : IsTrue (is_multiple_frame l.state) → (request : Request) (o : Option Refusal)
       → IsUpIn (elim o [ None ↦ granted t request (begun l) | Some _ ↦ begun l ])
       → Went l (elim o [ None ↦ granted t request (begun l) | Some _ ↦ begun l ])
-  request-goes before request o up = grind (arith, granted-goes, stays)
+  request-goes before request o up = grind (arith, release-leads_out, still, no-reports, by-up, set_busy_up, at-first, clear_busy_up, stays)
 
   -- timers
   expired-goes : (here : State) → IsTrue (is_multiple_frame here) → (timer : LinkTimer) → IsUpIn (expired_in here timer t (begun l))
       → Goes l (expired_in here timer t (begun l)).link
   expired-goes Established before timer up = by-up _ ((timer_7_up t l {S = still l.s}).leads (begun l) (at-first t l)) up
-  expired-goes TimerRecovery before T200 up = by-up _ ((t200_8_up t l {S = still l.s}).leads (begun l) (at-first t l)) up
-  expired-goes TimerRecovery before T203 up = stays
-  expired-goes other before timer up = absurd (true≢false (sym before))
+  expired-goes here before timer up = grind (arith, by-up, t200_8_up, still, at-first, stays)
 
   timer-goes : IsTrue (is_multiple_frame l.state) → (timer : LinkTimer) → IsUpIn (course t (expired timer) l) → Goes l (after t (expired timer) l)
   timer-goes before timer up = either (is_running timer l) _ _ (λ u. expired-goes l.state before timer u) (λ u. stays) up
@@ -100,7 +94,7 @@ module _ (n m : End) (h : Joined n m) where
   gives up =
       let gave = offer-gave n.terms h.near_ranges n.link h.near_sound n.link.waiting refl in
       moved (with_sent n) m.way h.near_ranges (sound-after n.terms h.near_ranges offer n.link h.near_sound) up
-      (sender-gives n m (course n.terms offer n.link) gave h.there) (receiver-gives n m (course n.terms offer n.link) gave h.back)
+      (grind (arith, Carried, frames_of, Rising)) (grind (arith, Carried, frames_of, Rising))
 
   hears : (f : Parts) (fs : List Parts) → m.way ≡ f ∷ fs → IsTrue (is_multiple_frame (with_link (received (frame f)) n).link.state)
       → Joined (with_link (received (frame f)) n) (record m { way = fs })
@@ -134,15 +128,12 @@ module _ (n m : End) (h : Joined n m) where
   acted (expires timer) up =
       goes (expired timer) (none-delivered n.terms n.link (course n.terms (expired timer) n.link) (event-delivers n.terms n.link (expired timer)))
       (timer-goes n.terms n.link h.near_up timer up.0) up.0
-  acted sends up = gives up.0
-  acted receives up = first-of m.way refl up.0
-  acted loses up = loses-first
+  acted act up = grind (arith, gives, first-of, loses-first)
 
 -- either side
 pub done-at : (d : Doing) (e : Ends) → IsUp (doing d e) → Joined e.near e.far → Joined (doing d e).near (doing d e).far
 done-at (at_near act) e up h = acted e.near e.far h act up
-done-at (at_far act) e up h =
-    joined-turned (acting act (turned e)).near (acting act (turned e)).far (acted e.far e.near (joined-turned e.near e.far h) act (up.1, up.0))
+done-at (at_far act) e up h = grind (arith, joined-turned, acted)
 
 all-done : (ds : List Doing) (e : Ends) → StayUp ds e → Joined e.near e.far → Joined (doing_all ds e).near (doing_all ds e).far
 unfolding doing_all StayUp
@@ -153,11 +144,8 @@ all-done (d ∷ ds) e up h = all-done ds (doing d e) up.1 (done-at d e up.0 h)
 no-line : (n : End) → Begins n → line_of n ≡ []
 no-line n b = ap (λ way. way ++ frames_of n.terms n.link.waiting) b.way ∙ ap (λ ws. frames_of n.terms ws) b.waiting
 
-begins-direction : (n m : End) → Begins n → Begins m → Direction n m
-begins-direction n m b c = grind (arith, Carried, no-line, Rising)
-
 pub joined-first : (n m : End) → Begins n → Begins m → Joined n m
-joined-first n m b c = grind (arith, begins-direction)
+joined-first n m b c = grind (arith, no-line)
 
 -- in the words of the law
 agree : (n m : End) → Direction m n → Agree n m

@@ -75,9 +75,5 @@ pub record Kept (t : Terms) (Units Anew Taken : Type 0) (S : Course → Type 0) 
   pub sent_one : (p q : Purse) (c : Course) → P p q c → P p q (changed Offers.with_one_sent c)
   pub waiting_rest : (p q : Purse) (fs : List ControlFrame) (c : Course) → P p q c → P p q (changed (Offers.with_waiting_rest fs) c)
 
--- A claim of all frames.
-pub any_control : (control : Control) → Fits (Unit {0}) (Unit {0}) (Unit {0}) control
-any_control control = grind arith
-
 pub any_event : (e : Event) → FitsEvent (Unit {0}) (Unit {0}) (Unit {0}) e
-any_event e = grind (arith, any_control)
+any_event e = grind arith

@@ -24,8 +24,7 @@ pub both_ways : (Q : Course → Type 0) (b : Bool) (u v : Course) → Q u → Q 
 both_ways Q b u v x y = grind arith
 
 pub depending_leads : {P Q : Course → Type 0} {f g : Step} (test : Link → Bool) → Leads P f Q → Leads P g Q → Leads P (depending_on test f g) Q
-depending_leads {P} {Q} {f} {g} test x y =
-    record { leads = λ c h. both_ways Q (test c.link) (f c) (g c) (x.leads c h) (y.leads c h) }
+depending_leads {P} {Q} {f} {g} test x y = grind (arith, both_ways)
 
 pub bit_leads : {P Q : Course → Type 0} {f g : Step} (b : Bool) → Leads P f Q → Leads P g Q → Leads P (by_bit b f g) Q
 bit_leads {P} {Q} {f} {g} b x y = record { leads = λ c h. both_ways Q b (f c) (g c) (x.leads c h) (y.leads c h) }
@@ -40,10 +39,7 @@ told_ways Q b u v x y = grind arith
 
 pub tested_leads : {P Q : Course → Type 0} {f g : Step} (test : Link → Bool)
     → Leads (Passed P test true) f Q → Leads (Passed P test false) g Q → Leads P (depending_on test f g) Q
-tested_leads {P} {Q} {f} {g} test x y =
-    record {
-      leads = λ c h. told_ways Q (test c.link) (f c) (g c) (λ e. x.leads c (record { holds = h; told = e })) (λ e. y.leads c (record { holds = h; told = e }));
-    }
+tested_leads {P} {Q} {f} {g} test x y = grind (arith, told_ways)
 
 -- more known before, less wanted after
 pub from_more : {P P' Q : Course → Type 0} {f : Step} → ((c : Course) → P' c → P c) → Leads P f Q → Leads P' f Q
@@ -55,7 +51,4 @@ to_less {f} w x = record { leads = λ c h. w (f c) (x.leads c h) }
 -- by an N(R): an invalid one, or one that names a number
 pub number_leads : {P Q : Course → Type 0} (t : Terms) (nr : Seq) {f : ℕ → Step}
     → Leads P (error t ErrorCode.J then re_establish t) Q → ((n : ℕ) → Leads P (f n) Q) → Leads P (by_number t nr f) Q
-number_leads {P} {Q} t nr {f} x y = record { leads = λ c h. go c h (named c.link.a c.link.s nr) }
-  where
-    go : (c : Course) → P c → (o : Option ℕ) → Q (elim o [ None ↦ (error t ErrorCode.J then re_establish t) c | Some n ↦ f n c ])
-    go c h o = grind arith
+number_leads {P} {Q} t nr {f} x y = grind arith

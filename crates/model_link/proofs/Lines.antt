@@ -38,14 +38,10 @@ Rising a r [] = a ≤ r
 Rising a r (f ∷ fs) = (m : ℕ) × (a ≤ m) × Means m f.control × Rising m r fs
 
 -- Lines stay so.
-piece-higher : (contents : List (List ℕ)) (high high' r top : ℕ) (octets : List ℕ) (control : Control) → high ≤ high'
-    → Piece contents high r top octets control → Piece contents high' r top octets control
-piece-higher contents high high' r top octets control le h = grind arith
-
 pub carried-higher : (contents : List (List ℕ)) (high high' r : ℕ) (fs : List Parts) → high ≤ high' → Carried contents high r fs → Carried contents high' r fs
 carried-higher contents high high' r [] le h = omega arith
 carried-higher contents high high' r (f ∷ fs) le (top, up, piece, rest) =
-    (top, up, piece-higher contents high high' r top f.info f.control le piece, carried-higher contents high high' top fs le rest)
+    (top, up, (grind arith), carried-higher contents high high' top fs le rest)
 
 slice_get-append : (xs ys : List (List ℕ)) (i : ℕ) (x : List ℕ) → slice_get xs i ≡ Some x → slice_get (xs ++ ys) i ≡ Some x
 slice_get-append [] ys i x e = absurd (cc)
@@ -61,14 +57,9 @@ carried-more contents more high r [] h = h
 carried-more contents more high r (f ∷ fs) (top, up, piece, rest) =
     (top, up, piece-more contents more high r top f.info f.control piece, carried-more contents more high top fs rest)
 
-piece-lower : (contents : List (List ℕ)) (high r r' top : ℕ) (octets : List ℕ) (control : Control) → r' ≤ r
-    → Piece contents high r top octets control → Piece contents high r' top octets control
-piece-lower contents high r r' top octets control le h = grind arith
-
 pub carried-lower : (contents : List (List ℕ)) (high r r' : ℕ) (fs : List Parts) → r' ≤ r → Carried contents high r fs → Carried contents high r' fs
 carried-lower contents high r r' [] le h = omega arith
-carried-lower contents high r r' (f ∷ fs) le (top, up, piece, rest) =
-    (top, omega arith, piece-lower contents high r r' top f.info f.control le piece, rest)
+carried-lower contents high r r' (f ∷ fs) le (top, up, piece, rest) = grind arith
 
 -- one frame more at the end
 pub carried-push : (contents : List (List ℕ)) (high r : ℕ) (fs : List Parts) (f : Parts)

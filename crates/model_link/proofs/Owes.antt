@@ -73,7 +73,6 @@ module _ (t : Terms) (r : IsInRange t) (total extra : ℕ) (Window : Type 0) (pa
   discards : (p : Purse) (c : Course) → Owes t total extra p c → Owes t total extra p (discard c)
   discards p c h =
       let order : c.link.a ≤ c.link.s = h.stands.ordered in
-      let all : c.link.s ≤ length c.link.contents = h.stands.accepted in
       let e : length (take c.link.a c.link.contents) ≡ c.link.a = length-take-le c.link.a c.link.contents (omega arith) in
       spends p p c (discard c) (sound.discard p p c h.stands) (omega (arith, e)) h
 

@@ -15,11 +15,8 @@ pub notes-own : (t : Terms) (e : Event) (l : Link) → Own t (course t e l)
 notes-own t e l = (every_event (words t) e).leads (begun l) (All-nil (IsOwn t))
 
 -- An offer leaves V(R).
-either_r : (l : Link) (b : Bool) (u v : Course) → u.link.r ≡ l.r → v.link.r ≡ l.r → (cond b u v).link.r ≡ l.r
-either_r l b u v x y = grind arith
-
 pub offer-keeps-r : (t : Terms) (l : Link) → (after t offer l).r ≡ l.r
-offer-keeps-r t l = grind (arith, either_r)
+offer-keeps-r t l = grind arith
 
 -- Contents that are to be sent begin no numbers anew.
 pub transfer-goes-on : (t : Terms) (octets : List ℕ) (full : Bool) (l : Link) → (course t (requested (Data octets) full) l).zeroed ≡ false

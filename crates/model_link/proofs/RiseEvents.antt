@@ -1,6 +1,6 @@
 -- No event raises what is sent and still owed by more than its price.
 use Rattle.model_link.proofs.Vocabulary.{◌≡◌, ℕ, ◌+◌, ◌-◌, ◌*◌, ◌≤◌, Bool, true, false, cond, List, [], ◌∷◌, length, Option, Some, None, is_some, refl, ap, ◌∙◌, arith, ltb-true, and_parts, and_from, Seq, named, Control, ErrorCode, Refusal, State, LinkTimer, ControlFrame, Terms, Link, is_multiple_frame, may_send, sent, reject_number, is_valid_reject, price, sent_in_all, price_of_all, IsInRange, IsSound, Course, begun, Event, Request, cleared, expired, frame, offer, overlong, received, requested, undefined, wrong_size, begin_anew, granted, refusal, may_send_information, offer_among, send_acknowledgement, send_information, after, after_all, course, expired_in, frame_in, is_running, malformed_in, told_of_clearing}
-use Rattle.model_link.proofs.Kept.{Purse, no_more, another, two, any_control}
+use Rattle.model_link.proofs.Kept.{Purse, no_more, another, two}
 unfoldable use Rattle.model_link.proofs.Kept.{how_many}
 use Rattle.model_link.proofs.Careful.{anything, any_contents, Careful}
 use Rattle.model_link.proofs.FrameRows.{frame_by}
@@ -21,7 +21,7 @@ module _ (t : Terms) (r : IsInRange t) (l : Link) (h : IsSound t l) where
   frame-costs here e b octets control =
       let valid = is_valid_reject (reject_number control) l in
       let total = may_send t l + (2 + cond {A = ℕ} valid t.k 0) in
-      ((frame_by (costs t r total (cond {A = ℕ} valid t.k 0) (valid ≡ true) (λ w. ap (λ v. cond {A = ℕ} v t.k 0) w)) here b octets control (any_control control)).leads (begun l)
+      ((frame_by (costs t r total (cond {A = ℕ} valid t.k 0) (valid ≡ true) (λ w. ap (λ v. cond {A = ℕ} v t.k 0) w)) here b octets control (grind arith)).leads (begun l)
       (record {
         known = (e, λ nr i up reject named. ap (λ o. is_valid_reject o l) reject ∙ and_from (is_multiple_frame l.state) (is_some (named_in nr)) (ap is_multiple_frame e ∙ up) (ap is_some named));
         holds = begins total (cond {A = ℕ} valid t.k 0) two (omega arith);
@@ -44,9 +44,6 @@ module _ (t : Terms) (r : IsInRange t) (l : Link) (h : IsSound t l) where
       ((expired_by (costs t r (may_send t l + (t.k + 1)) t.k (Unit {0}) (λ w. refl)) l.state timer).leads (begun l)
       (record { known = (refl, tt); holds = begins (may_send t l + (t.k + 1)) t.k (another no_more) (omega arith) })).within
 
-  if-running : (b : Bool) (u v : Course) (n : ℕ) → owed t u ≤ may_send t l + n → owed t v ≤ may_send t l → owed t (cond b u v) ≤ may_send t l + cond {A = ℕ} b n 0
-  if-running b u v n x y = grind arith
-
   request-costs : (request : Request) (full : Bool) (o : Option Refusal) → refusal t l full request ≡ o
       → owed t (elim o [ None ↦ granted t request (begun l) | Some _ ↦ begun l ]) ≤ may_send t l + cond {A = ℕ} (is_some o) 0 1
   unfolding how_many
@@ -62,35 +59,11 @@ module _ (t : Terms) (r : IsInRange t) (l : Link) (h : IsSound t l) where
   Pays : Course → Type 0
   Pays c = (owed t c ≤ may_send t l) × (may_send t l ≤ may_send t c.link + 2 * cond {A = ℕ} (is_some c.sent) 1 0)
 
-  either-pays : (b : Bool) (u v : Course) → Pays u → Pays v → Pays (cond b u v)
-  either-pays b u v x y = grind arith
-
-  tested-pays : (b : Bool) (u v : Course) → (b ≡ true → Pays u) → (b ≡ false → Pays v) → Pays (cond b u v)
-  tested-pays b u v x y = grind arith
-
-  bit-high : (b : Bool) → cond {A = ℕ} b 1 0 ≤ 1
-  bit-high b = grind arith
-
-  information-pays : may_send_information t l ≡ true → Pays (send_information (begun l))
-  unfolding Pays
-  information-pays e = grind (arith, and_parts, ltb-true, bit-high, either-pays)
-
-  acknowledgement-pays : l.pending ≡ true → Pays (send_acknowledgement (begun l))
-  unfolding Pays
-  acknowledgement-pays e = grind arith
-
-  nothing-pays : Pays (begun l)
-  unfolding Pays
-  nothing-pays = (omega arith, omega arith)
-
   offers-pay : (ws : List ControlFrame) → l.waiting ≡ ws → Pays (offer_among t ws (begun l))
   unfolding Pays
   offers-pay [] e =
-      tested-pays (may_send_information t l) _ _ information-pays
-      (λ x. tested-pays l.pending _ _ acknowledgement-pays (λ y. nothing-pays))
-  offers-pay (f ∷ fs) e =
-      let size : length l.waiting ≡ length (f ∷ fs) = ap length e in
-      (omega (arith, size), omega (arith, size))
+      (grind arith)
+  offers-pay (f ∷ fs) e = grind arith
 
   -- Any event.
   pub event-rises : (e : Event) → owed t (course t e l) ≤ may_send t l + price t e l
@@ -99,8 +72,7 @@ module _ (t : Terms) (r : IsInRange t) (l : Link) (h : IsSound t l) where
   event-rises (received undefined) = malformed-costs ErrorCode.L
   event-rises (received wrong_size) = malformed-costs ErrorCode.N
   event-rises (received overlong) = malformed-costs ErrorCode.O
-  event-rises (expired timer) =
-      if-running (is_running timer l) _ _ (t.k + 1) (expired-costs timer) (omega arith)
+  event-rises (expired timer) = grind (arith, expired-costs)
   event-rises (requested request full) = request-costs request full (refusal t l full request) refl
   event-rises offer = let pays = offers-pay l.waiting refl in omega (arith, pays.0)
   event-rises cleared = let cost = cleared-costs l.state in omega (arith, cost)
@@ -116,5 +88,4 @@ unfolding sent_in_all price_of_all after_all
 all-rises t r [] l h = omega arith
 all-rises t r (e ∷ es) l h =
     let first : owed t (course t e l) ≤ may_send t l + price t e l = event-rises t r l h e in
-    let rest = all-rises t r es (after t e l) (sound-after t r e l h) in
-    omega (arith, first, rest)
+    omega (arith, first, (all-rises t r es (after t e l) (sound-after t r e l h)))

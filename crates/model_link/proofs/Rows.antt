@@ -1,19 +1,16 @@
 -- What a row does, said once: a claim that every word of the tables leads on is led on by every event.
-use Rattle.model_link.proofs.Vocabulary.{arith, ◌≡◌, ℕ, Bool, true, false, cond, List, [], ◌∷◌, Option, Some, None, inr, refl, Control, ErrorCode, Refusal, WrongState, State, TeiAssigned, AwaitingEstablishment, AwaitingRelease, Established, TimerRecovery, LinkTimer, T200, T203, ControlFrame, Terms, is_own_busy, Course, ◌then◌, nothing, ClearBusy, Data, Establish, Event, Release, Request, SetBusy, cleared, expired, frame, offer, overlong, received, requested, undefined, wrong_size, begin_anew, own_busy_is, report_ready, clear_busy_in_7_8, set_busy_in_7_8, granted, is_down, refusal, release_in, is_awaiting_acknowledgement, is_pending, may_send_information, offer_among, send_acknowledgement, send_information}
+use Rattle.model_link.proofs.Vocabulary.{arith, ◌≡◌, ℕ, Bool, true, false, cond, List, [], ◌∷◌, Option, Some, None, inr, refl, Control, ErrorCode, Refusal, WrongState, State, TeiAssigned, AwaitingEstablishment, AwaitingRelease, Established, TimerRecovery, LinkTimer, T200, T203, ControlFrame, Terms, is_own_busy, Course, ◌then◌, nothing, ClearBusy, Data, Establish, Event, Release, Request, SetBusy, cleared, expired, frame, offer, overlong, received, requested, undefined, wrong_size, begin_anew, own_busy_is, report_ready, clear_busy_in_7_8, set_busy_in_7_8, granted, is_down, refusal, release_in, is_awaiting_acknowledgement, is_pending, may_send_information, offer_among, send_acknowledgement, send_information, command, Disc}
 use Rattle.model_link.specs.Link.{may_repeat}
 use Rattle.model_link.specs.Machine
 use Rattle.model_link.proofs.Leads.{Leads, depending_leads, tested_leads, Passed, from_more}
-use Rattle.model_link.proofs.Waits.{sabme_waits, disc_waits}
+use Rattle.model_link.proofs.Waits.{sabme_waits, may_wait}
 use Rattle.model_link.proofs.Kept.{Purse, no_more, two, Fits, FitsEvent, Kept, any_event}
-use Rattle.model_link.proofs.Careful.{Claim, At, anything, is_at_rest, idle, paid, QueuesFor, Queues, any_request, Careful, plainly}
+use Rattle.model_link.proofs.Careful.{Claim, At, anything, is_at_rest, idle, paid, QueuesFor, Queues, Careful, plainly, any_contents}
 use Rattle.model_link.proofs.FrameRows.{one, ◌▹◌, error, release_indication, release_confirm, send, settled, flags, repeats, repeated, start, no_timer, discard, ready, untold, ends, stays, enter_4, enter_5, enter_6, enter_8, knowing, begun_by, unserved, failed, frame_by}
 
 -- what is not refused is served
 served : (b : Bool) (o : Option Refusal) (w : Refusal) → cond b o (Some w) ≡ None → b ≡ true
 served b o w e = grind arith
-
-down-rests : (state : State) → is_down state ≡ true → is_at_rest state ≡ true
-down-rests state e = grind arith
 
 module _ {t : Terms} {Units Anew Taken Window Queued Offered : Type 0} {In : State → State → Type 0} {S : Course → Type 0} {P : Purse → Purse → Course → Type 0} {E : Course → Type 0} (k : Careful t Units Anew Taken Window Queued Offered In S P E) where
   pub malformed_by : {X : Claim} (here : State) (e : ErrorCode) → Leads (At X S) (Machine.malformed_in here t e) E
@@ -28,7 +25,7 @@ module _ {t : Terms} {Units Anew Taken Window Queued Offered : Type 0} {In : Sta
       (discard k ▹ error k ErrorCode.G ▹ release_indication k ▹ no_timer k ▹ enter_4 k)
   expired_by AwaitingEstablishment T203 = stays k
   expired_by AwaitingRelease T200 =
-      depending_leads (may_repeat t) (ends k (send k (disc_waits t true) ▹ repeated k ▹ start k T200))
+      depending_leads (may_repeat t) (ends k (send k (may_wait t (command (Disc true)) refl refl (omega arith) refl) ▹ repeated k ▹ start k T200))
       (knowing k (λ a s n state x. inr (AwaitingRelease, x.0, refl)) (error k ErrorCode.H ▹ release_confirm k ▹ no_timer k ▹ enter_4 k))
   expired_by AwaitingRelease T203 = stays k
   expired_by Established timer = repeats k 0 ▹ ready k true ▹ start k T200 ▹ enter_8 k
@@ -39,8 +36,8 @@ module _ {t : Terms} {Units Anew Taken Window Queued Offered : Type 0} {In : Sta
   release_by TeiAssigned = ends k (release_confirm k)
   release_by AwaitingEstablishment = stays k
   release_by AwaitingRelease = stays k
-  release_by Established = discard k ▹ settled k ▹ send k (disc_waits t true) ▹ repeats k 0 ▹ start k T200 ▹ enter_6 k
-  release_by TimerRecovery = discard k ▹ settled k ▹ send k (disc_waits t true) ▹ repeats k 0 ▹ start k T200 ▹ enter_6 k
+  release_by Established = discard k ▹ settled k ▹ send k (may_wait t (command (Disc true)) refl refl (omega arith) refl) ▹ repeats k 0 ▹ start k T200 ▹ enter_6 k
+  release_by TimerRecovery = discard k ▹ settled k ▹ send k (may_wait t (command (Disc true)) refl refl (omega arith) refl) ▹ repeats k 0 ▹ start k T200 ▹ enter_6 k
 
   still : Leads (P one two) nothing E
   still = record { leads = λ c h. k.ends one two c h }
@@ -58,7 +55,7 @@ module _ {t : Terms} {Units Anew Taken Window Queued Offered : Type 0} {In : Sta
       → refusal t c.link full request ≡ None → E (granted t request c)
   granted_by Establish full may c h e =
       (flags k ▹ send k (sabme_waits t true) ▹ repeats k 0 ▹ start k T200 ▹ enter_5 k {X = idle In} true (λ a s n state x on. x)).leads c
-      (record { known = inr (c.link.state, k.is_in c.link.state, down-rests c.link.state (served _ _ WrongState e)); holds = h })
+      (record { known = inr (c.link.state, k.is_in c.link.state, (grind arith)); holds = h })
   granted_by Release full may c h e = (release_by c.link.state).leads c (record { known = tt; holds = h })
   granted_by (Data octets) full may c h e = k.transfer may no_more two octets full c e h
   granted_by SetBusy full may c h e = set_busy_by.leads c h
@@ -88,9 +85,6 @@ module _ {t : Terms} {Units Anew Taken Window Queued Offered : Type 0} {In : Sta
   told_of_clearing : (here : State) → Leads (At anything (P two two)) (Machine.told_of_clearing here t) (At anything (P two one))
   told_of_clearing here = grind (arith, untold, release_confirm, release_indication)
 
-  cleared_by : Anew → (here : State) → Leads (At anything S) (Machine.told_of_clearing here t then begin_anew) E
-  cleared_by may here = begun_by k (told_of_clearing here ▹ record { leads = λ c h. k.begin_anew may two one c h.holds })
-
   -- every event that is among those of the claim
   pub event_by : Window → Offered → (e : Event) → FitsEvent Units Anew Taken e → Queues Queued e → Leads S (Machine.step t e) E
   event_by w o (received (frame f)) may room =
@@ -103,7 +97,7 @@ module _ {t : Terms} {Units Anew Taken Window Queued Offered : Type 0} {In : Sta
   event_by w o (requested request full) may room =
       record { leads = λ c h. request_by request full room c (k.unsent one two c (k.begins c h)) (refusal t c.link full request) refl }
   event_by w o offer may room = record { leads = λ c h. offer_by o c.link.waiting c (k.begins c h) refl }
-  event_by w o cleared may room = record { leads = λ c h. (cleared_by may c.link.state).leads c (record { known = tt; holds = h }) }
+  event_by w o cleared may room = record { leads = λ c h. (begun_by k (told_of_clearing c.link.state ▹ record { leads = λ c h. k.begin_anew may two one c h.holds })).leads c (record { known = tt; holds = h }) }
 
 -- The same of a claim that asks for no more.
 module _ {t : Terms} {Units Anew Taken : Type 0} {S : Course → Type 0} {P : Purse → Purse → Course → Type 0} {E : Course → Type 0} (k : Kept t Units Anew Taken S P E) where
@@ -112,7 +106,7 @@ module _ {t : Terms} {Units Anew Taken : Type 0} {S : Course → Type 0} {P : Pu
       from_more (λ c h. record { known = (tt, λ nr i up e e'. tt); holds = h }) (frame_by (plainly k) here b octets control may)
 
   pub event_row : (e : Event) → FitsEvent Units Anew Taken e → Leads S (Machine.step t e) E
-  event_row e may = event_by (plainly k) tt tt e may (any_request e)
+  event_row e may = event_by (plainly k) tt tt e may (grind (arith, any_contents))
 
 -- every event, of a claim of all frames
 pub every_event : {t : Terms} {S : Course → Type 0} {P : Purse → Purse → Course → Type 0} {E : Course → Type 0}

@@ -54,22 +54,10 @@ module _ (t : Terms) (ranges : IsInRange t) (l : Link) (sound : IsSound t l) whe
       let some : l.s < length l.contents = ltb-true l.s (length l.contents) parts.1 in
       let free : l.s - l.a < t.k = ltb-true (l.s - l.a) t.k inner.1 in
       let small : t.k ≤ 127 = ranges.k_high in
-      record {
-        number = l.s;
-        is_seq = refl;
-        near = omega arith;
-        below = omega arith;
-        same = unwrapped (slice_get l.contents l.s) (get_or l.contents l.s []) (slice_get-get_or l.contents l.s [] some);
-        next = omega arith;
-      }
+      grind (arith, unwrapped (slice_get l.contents l.s) (get_or l.contents l.s []) (slice_get-get_or l.contents l.s [] some))
 
   either : (b : Bool) (u v : Course) → Gave t l u → Gave t l v → Gave t l (cond b u v)
-  either true u v x y = x
-  either false u v x y = y
-
-  either-told : (b : Bool) (u v : Course) → (b ≡ true → Gave t l u) → Gave t l v → Gave t l (cond b u v)
-  either-told true u v x y = x refl
-  either-told false u v x y = y
+  either b u v x y = grind arith
 
   -- whatever it does to the timer
   sent : (c : Course) → may_send_information t l ≡ true → l.waiting ≡ [] → c.link.contents ≡ l.contents → c.link.a ≡ l.a → c.link.r ≡ l.r
@@ -86,18 +74,5 @@ module _ (t : Terms) (ranges : IsInRange t) (l : Link) (sound : IsSound t l) whe
       }
 
   pub offer-gave : (ws : List ControlFrame) → l.waiting ≡ ws → Gave t l (offer_among t ws (begun l))
-  offer-gave [] e =
-      either-told (may_send_information t l) _ _
-      (λ may. either (is_awaiting_acknowledgement (with_one_sent l)) _ _ (sent _ may e refl refl refl refl refl) (sent _ may e refl refl refl refl refl))
-      (either l.pending _ _ (acknowledgement e) idle)
+  offer-gave [] e = grind (arith, either, sent, acknowledgement, idle)
   offer-gave (f ∷ fs) e = waited f fs e
-
--- An end that has given to its way what its link gave.
-abbrev pub having_given : End → Course → End
-having_given n c = record n { link = c.link; way = n.way ++ frame_given n.terms (given_of n.terms n.link c c.sent) }
-
-pub sender-gives : (n m : End) (c : Course) → Gave n.terms n.link c → Direction n m → Direction (having_given n c) m
-sender-gives n m c g h = grind (arith, Carried, frames_of, Rising)
-
-pub receiver-gives : (n m : End) (c : Course) → Gave n.terms n.link c → Direction m n → Direction m (having_given n c)
-receiver-gives n m c g h = grind (arith, Carried, frames_of, Rising)

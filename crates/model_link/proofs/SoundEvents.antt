@@ -1,28 +1,22 @@
 -- Every event leads from a sound link to a sound link.
 use Rattle.model_link.proofs.Vocabulary.{◌≡◌, ℕ, ◌-◌, ◌≤◌, List, [], ◌∷◌, length, drop, refl, arith, length-drop, State, Terms, Link, fresh, queue_of, IsInRange, IsSettledIn, IsSound, Course, begun, Event, after, after_all, course}
 use Rattle.model_link.proofs.Kept.{any_event}
-use Rattle.model_link.proofs.Careful.{Queues, any_request}
+use Rattle.model_link.proofs.Careful.{Queues, any_contents}
 use Rattle.model_link.proofs.Rows.{event_by}
 use Rattle.model_link.proofs.SoundRows.{settled, Stands, stand, begins}
 
-settled-in : (here : State) (l : Link) → IsSettledIn here l → settled l.a (length l.contents) here l.asked
-settled-in here l h = grind arith
-
-in-settled : (here : State) (l : Link) → settled l.a (length l.contents) here l.asked → IsSettledIn here l
-in-settled here l h = grind arith
-
 -- A sound link stands, with any number of contents that its queue has; and the other way round.
 pub sound-stands : (t : Terms) (q : ℕ) (l : Link) → length (queue_of l) ≤ q → IsSound t l → Stands t q (begun l)
-sound-stands t q l few h = grind (arith, length-drop, settled-in)
+sound-stands t q l few h = grind (arith, length-drop)
 
 stands-sound : (t : Terms) (c : Course) → Stands t t.queue c → IsSound t c.link
-stands-sound t c h = grind (arith, length-drop, in-settled)
+stands-sound t c h = grind (arith, length-drop)
 
 -- A sound link stays sound.
 pub sound-after : (t : Terms) → IsInRange t → (e : Event) (l : Link) → IsSound t l → IsSound t (after t e l)
 sound-after t r e l h =
     stands-sound t (course t e l)
-    ((event_by (stand t r.tei t.queue (Unit {0}) (λ x. refl)) tt tt e (any_event e) (any_request e)).leads (begun l) (sound-stands t t.queue l h.queue h))
+    ((event_by (stand t r.tei t.queue (Unit {0}) (λ x. refl)) tt tt e (any_event e) (grind (arith, any_contents))).leads (begun l) (sound-stands t t.queue l h.queue h))
 
 pub sound-fresh : (t : Terms) → IsInRange t → IsSound t fresh
 sound-fresh t r = stands-sound t (begun fresh) (begins t r.tei t.queue (Unit {0}) (λ x. refl) (begun fresh))

@@ -31,9 +31,6 @@ Stands t q c = Standing t q c.link.contents c.link.a c.link.s c.link.state c.lin
 settles-none : (a n : ℕ) (state : State) (asked : Bool) → n ≡ a → settled a n state asked
 settles-none a n state asked h = grind arith
 
-settles-multiple : (a n : ℕ) (state : State) (asked : Bool) → IsTrue (is_multiple_frame state) → settled a n state asked
-settles-multiple a n state asked h = grind arith
-
 -- in a state in which nothing is queued
 at-rest : (a n : ℕ) (here : State) (asked : Bool) → is_at_rest here ≡ true → settled a n here asked → n ≡ a
 at-rest a n here asked e h = grind arith
@@ -56,17 +53,14 @@ module _ {t : Terms} {q : ℕ} {contents : List (List ℕ)} {a s : ℕ} {state :
   entering : (state' : State) (asked' : Bool) → settled a (length contents) state' asked' → Standing t q contents a s state' asked' ws own pending
   entering state' asked' x = search
 
-  none-queued : idle is_in a s (length contents) state → length contents ≡ a
-  none-queued o = grind (arith, at-rest)
-
   resting : (here : State) → idle is_in a s (length contents) state → Standing t q contents a s here asked ws own pending
-  resting here i = entering here asked (settles-none a (length contents) here asked (none-queued i))
+  resting here i = entering here asked (settles-none a (length contents) here asked (grind (arith, at-rest)))
 
   asking : (b : Bool) → (IsTrue b → idle is_in a s (length contents) state) → Standing t q contents a s AwaitingEstablishment b ws own pending
-  asking b i = entering AwaitingEstablishment b (λ on. none-queued (i on))
+  asking b i = entering AwaitingEstablishment b (λ on. grind (arith, at-rest))
 
   up : (here : State) → IsTrue (is_multiple_frame here) → Standing t q contents a s here asked ws own pending
-  up here m = entering here asked (settles-multiple a (length contents) here asked m)
+  up here m = entering here asked (grind arith)
 
   -- other control frames wait
   waiting : (ws' : List ControlFrame) → length ws' ≤ t.control → All (IsWaitingFrame t) ws' → Standing t q contents a s state asked ws' own pending
@@ -85,7 +79,6 @@ module _ {t : Terms} {q : ℕ} {contents : List (List ℕ)} {a s : ℕ} {state :
 
   gone : (f : ControlFrame) (fs : List ControlFrame) → ws ≡ f ∷ fs → Standing t q contents a s state asked fs own pending
   gone f fs e =
-      let whole : length ws ≤ t.control = h.ring in
       let size : length ws ≡ length (f ∷ fs) = ap length e in
       waiting fs (omega arith) (All-tail (IsWaitingFrame t) f fs (subst (All (IsWaitingFrame t)) e h.frames))
 
@@ -96,7 +89,7 @@ module _ {t : Terms} {q : ℕ} {contents : List (List ℕ)} {a s : ℕ} {state :
 
   -- what an N(R) acknowledges, and what is to be sent again
   acknowledging : (i : ℕ) (here : State) → a ≤ i → i ≤ s → state ≡ here → IsTrue (is_multiple_frame here) → Standing t q contents i s state asked ws own pending
-  acknowledging i here from to e m = grind (arith, numbered, settles-multiple)
+  acknowledging i here from to e m = grind (arith, numbered)
 
   going-back : (i : ℕ) → a ≤ i → i ≤ s → Standing t q contents a i state asked ws own pending
   going-back i from to = grind (arith, numbered)
@@ -105,21 +98,15 @@ module _ {t : Terms} {q : ℕ} {contents : List (List ℕ)} {a s : ℕ} {state :
   discarding : Standing t q (take a contents) a a state asked ws own pending
   discarding =
       let low : a ≤ s = h.ordered in
-      let all : s ≤ length contents = h.accepted in
       let e : length (take a contents) ≡ a = length-take-le a contents (omega arith) in
       numbered (take a contents) a a (omega arith) (omega arith) (omega arith) (omega arith) (settles-none a (length (take a contents)) state asked e)
       (All-take (λ octets. length octets ≤ t.n201) a contents h.sizes)
 
-  -- what is not sent stays settled
-  settles-rest : (here : State) (n : ℕ) → n ≡ length contents - s → settled a (length contents) here asked → settled 0 n here asked
-  settles-rest here n e x = grind arith
-
   zeroing : Standing t q (drop s contents) 0 0 state asked ws own pending
   zeroing =
       let low : a ≤ s = h.ordered in
-      let room : length contents ≤ a + q = h.queue in
       let e : length (drop s contents) ≡ length contents - s = length-drop s contents in
-      numbered (drop s contents) 0 0 (omega arith) (omega arith) (omega arith) (omega arith) (settles-rest state (length (drop s contents)) e h.settles)
+      numbered (drop s contents) 0 0 (omega arith) (omega arith) (omega arith) (omega arith) (grind arith)
       (All-drop (λ octets. length octets ≤ t.n201) s contents h.sizes)
 
   -- contents that are not refused go to the queue
@@ -127,10 +114,9 @@ module _ {t : Terms} {q : ℕ} {contents : List (List ℕ)} {a s : ℕ} {state :
       → Standing t q (contents ++ octets ∷ []) a s state asked ws own pending
   queueing octets m small free =
       let low : a ≤ s = h.ordered in
-      let all : s ≤ length contents = h.accepted in
       let e : length (drop a contents) ≡ length contents - a = length-drop a contents in
       let more : length (contents ++ octets ∷ []) ≡ length contents + 1 = length-append contents (octets ∷ []) in
-      numbered (contents ++ octets ∷ []) a s low (omega arith) h.within (omega arith) (settles-multiple a (length (contents ++ octets ∷ [])) state asked m)
+      numbered (contents ++ octets ∷ []) a s low (omega arith) h.within (omega arith) (grind arith)
       (All-push (λ os. length os ≤ t.n201) contents octets h.sizes small)
 
   -- one that is not sent goes, within the window
@@ -150,11 +136,10 @@ module _ (t : Terms) (r : t.tei ≤ 126) (q : ℕ) (Queued : Type 0) (room : Que
   transfers : Queued → (octets : List ℕ) (full : Bool) (c : Course) → refusal t c.link full (Data octets) ≡ None
       → Stands t q c → Stands t q (data_in_7_8 octets c)
   transfers may octets full c e h =
-      let same = room may in
       let parts = not-refused (is_multiple_frame c.link.state) _ WrongState e in
       let small = not-first (nat_lt t.n201 (length octets)) _ TooLong parts.1 in
       let free = not-first (nat_le t.queue (length (drop c.link.a c.link.contents))) _ QueueFull small.1 in
-      queueing h octets parts.0 (ltb-false t.n201 (length octets) small.0) (omega (arith, same, leb-false t.queue (length (drop c.link.a c.link.contents)) free.0))
+      queueing h octets parts.0 (ltb-false t.n201 (length octets) small.0) (omega (arith, (room may), leb-false t.queue (length (drop c.link.a c.link.contents)) free.0))
 
   reports : (b : Bool) (c : Course) → Stands t q c → Stands t q (report_ready t (own_busy_is b c))
   reports b c h = sending (silent h b) _ r (ready_waits t false false (with_own_busy b c.link))

@@ -119,12 +119,9 @@ starts-order : (a b : Bool) (x : Timer) → starts (cond a (Start x ∷ []) (con
 unfolding starts
 starts-order a b x = grind arith
 
-at-most_one : (b : Bool) → cond {A = ℕ} b 1 0 ≤ 1
-at-most_one b = grind arith
-
 one-started : (started after : Option LinkTimer)
     → cond {A = ℕ} (runs T200 started && runs T200 after) 1 0 + cond {A = ℕ} (runs T203 started && runs T203 after) 1 0 ≤ 1
-one-started started after = grind (arith, at-most_one)
+one-started started after = grind arith
 
 pub one-start : (t : Terms) (before started after : Option LinkTimer) → starts (orders_for t before started after) ≤ 1
 one-start t before started after = grind (arith, starts-order, two, starts-append, one-started)

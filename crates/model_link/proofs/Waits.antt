@@ -1,7 +1,7 @@
 -- The frames that a link sends are frames of the exchange, of at most four octets.
 use Rattle.model_link.proofs.Vocabulary.{◌≡◌, ◌<◌, ◌≤◌, Bool, false, cond, IsTrue, length, refl, arith, Seq, seq, Network, ReceiveReady, ReceiveNotReady, Reject, Sabme, Disc, Ua, Dm, Service, IsFrame, allows, takes, row, spelling, sapi_of, Terms, ControlFrame, Link, frame_of, IsWaitingFrame, is_information, command, response, ready_to_receive}
 
-sapi-small : (service : Service) → sapi_of service < 64
+pub sapi-small : (service : Service) → sapi_of service < 64
 sapi-small service = grind arith
 
 -- a frame of a row of table 5 without information
@@ -21,22 +21,9 @@ module _ (t : Terms) where
   pub ua_waits : (f : Bool) → Waits t (response (Ua f))
   ua_waits f = may_wait t (response (Ua f)) refl refl (omega arith) refl
 
-  pub dm_waits : (f : Bool) → Waits t (response (Dm f))
-  dm_waits f = may_wait t (response (Dm f)) refl refl (omega arith) refl
-
   pub sabme_waits : (p : Bool) → Waits t (command (Sabme p))
   sabme_waits p = may_wait t (command (Sabme p)) refl refl (omega arith) refl
 
-  pub disc_waits : (p : Bool) → Waits t (command (Disc p))
-  disc_waits p = may_wait t (command (Disc p)) refl refl (omega arith) refl
-
-  pub rej_waits : (n : Seq) (f : Bool) → Waits t (response (Reject n f))
-  rej_waits n f = may_wait t (response (Reject n f)) refl refl (omega arith) refl
-
   -- RR or RNR, as a command and as a response
-  ready_among : (b busy pf : Bool) (n : Seq)
-      → Waits t (record { command = b; control = cond busy (ReceiveNotReady n pf) (ReceiveReady n pf) })
-  ready_among b busy pf n = grind (arith, may_wait)
-
   pub ready_waits : (b pf : Bool) (l : Link) → Waits t (record { command = b; control = ready_to_receive pf l })
-  ready_waits b pf l = ready_among b l.own_busy pf (seq l.r)
+  ready_waits b pf l = grind (arith, may_wait)

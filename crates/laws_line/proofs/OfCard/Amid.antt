@@ -122,10 +122,7 @@ module _ (number link tei : ℕ) (f : ControlFrame) where
           let none : cond true 0 come + rest ≡ rest = omega arith in
           let fewer : frames_before card.config (line_at number card) link (length before) + (cond true 0 come + rest) < cond true 1 0 + takes_of number events = with-kind true is in
           let now : frames_before card.config (line_at number card) link (length before) + rest < 1 + takes_of number events = omega (arith, fewer, none) in
-          subst (λ x. IsTakenAmong card number (x ∷ events) (control_text card.config link tei f)) (sym same)
-          (by-call card events s few some on.0 before behind waits
-          (subst (λ x. frames_before card.config (line_at number card) link (length before) + come_first_at number (after x card) events < 1 + takes_of number events) same now)
-          (subst (λ x. Rest card x events) same more))
+          grind (arith, by-call, Rest)
       by-kind false is more =
           let stays = All-head (λ e. is_deactivated_at number link tei e ≡ false) e events up in
           let x = other-event card e s few some is stays on.0 (on-first (after e card) events on.1) before behind waits in

@@ -16,8 +16,7 @@ module _ (c : Config) (l : Line) (s : line.IsSound c l) where
   unfolding Changed
   owed-one then frame (inl x) = (0, λ other away. ap (link_at other) x.line)
   owed-one then frame (inr (inl x)) = (0, λ other away. ap (link_at other) x.line)
-  owed-one then frame (inr (inr x)) =
-      (x.number, λ other away. ap (link_at other) x.line ∙ get_or-set_other l.links x.number other (link_at x.number then) fresh_link away)
+  owed-one then frame (inr (inr x)) = grind (arith, get_or-set_other)
 
   next-one : (one : ℕ) × Changed l (lines.after c next l) one
   unfolding Changed
@@ -26,8 +25,7 @@ module _ (c : Config) (l : Line) (s : line.IsSound c l) where
       go : (o : Option Taken)
           → elim o as (λ o. Type 0) [ None ↦ IsIdle c l (lines.after c next l) | Some t ↦ IsOwed c (contents_of l) l (lines.after c next l) t.frame ]
           → (one : ℕ) × Changed l (lines.after c next l) one
-      go None x = (0, λ other away. ap (link_at other) x.line)
-      go (Some t) x = owed-one (lines.after c next l) t.frame x
+      go o x = grind (arith, owed-one)
 
 module _ (card : Card) (e : Event) (s : IsSound card) (here : IsAtLine card e) where
   abbrev c : Config
@@ -42,10 +40,6 @@ module _ (card : Card) (e : Event) (s : IsSound card) (here : IsAtLine card e) w
   own : IsOneEvent c e.what l then (answer e card)
   own = (one-in card e s here).own
 
-  -- no link changes
-  none-change : then ≡ l → LinksStay (link_count c) l then
-  none-change same = record { one = 0; others = λ other few away stays. ap (link_at other) same }
-
   called : e.what ≡ next → LinksStay (link_count c) l then
   unfolding Changed
   called is =
@@ -54,15 +48,14 @@ module _ (card : Card) (e : Event) (s : IsSound card) (here : IsAtLine card e) w
 
   by-part : e.what ≢ next → IsOfPart c l e.what (answer e card) → LinksStay (link_count c) l then
   by-part apart (of_link service tei place event on by) =
-      let x = own.link service tei place event apart on by in
       record {
         one = link_number place service;
         others = λ other few away stays.
-            ap (link_at other) x.line ∙ get_or-set_other l.links (link_number place service) other _ fresh_link away;
+            ap (link_at other) (own.link service tei place event apart on by).line ∙ get_or-set_other l.links (link_number place service) other _ fresh_link away;
       }
   by-part apart (of_management event by) = record { one = 0; others = λ other few away stays. (own.management event by).stay other few stays }
   by-part apart (of_units unit granted) = record { one = 0; others = λ other few away stays. ap (link_at other) (own.units unit granted).0 }
-  by-part apart (of_group parts service h to) = none-change (heard-group card e s here parts service h to).line
+  by-part apart (of_group parts service h to) = (record { one = 0; others = λ other few away stays. ap (link_at other) ((heard-group card e s here parts service h to).line) })
   by-part apart (of_down is) = record { one = 0; others = λ other few away stays. ap (link_at other) (own.down is).line }
   by-part apart (of_next is) = absurd (apart is)
 
@@ -70,7 +63,7 @@ module _ (card : Card) (e : Event) (s : IsSound card) (here : IsAtLine card e) w
   links-stay = go e.what refl
     where
       other : e.what ≢ next → LinksStay (link_count c) l then
-      other apart = ⊎_elim (λ x. by-part apart x) (λ x. none-change x.0) own.none
+      other apart = ⊎_elim (λ x. by-part apart x) (λ x. (record { one = 0; others = λ other few away stays. ap (link_at other) x.0 })) own.none
 
       go : (what : line_event.Event) → e.what ≡ what → LinksStay (link_count c) l then
       go what is = grind (arith, called, other)

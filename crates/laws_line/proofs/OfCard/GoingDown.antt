@@ -10,10 +10,6 @@ unfolding lines.takes_slot
 no-slot c l r is = grind arith
 
 module _ (number : ℕ) where
-  at-request : (card : Card) (r : Request) → takes_down r ≡ true → number < length card.lines
-      → line_at number (after (at number (request r)) card) ≡ lines.after card.config (request r) (line_at number card)
-  at-request card r is few = grind (arith, no-slot, get_or-set_same)
-
   -- the line after all of them
   pub line-after : (events : List Event) (card : Card) (rs : List Request) → IsSound card → number < card.config.lines → AreAtLines card events
       → happens_at number events ≡ map request rs → All (λ r. takes_down r ≡ true) rs
@@ -29,17 +25,14 @@ module _ (number : ℕ) where
           → ((rs : List Request) → happens_at number events ≡ map request rs → All (λ r. takes_down r ≡ true) rs
           → line_at number (after_all (after e card) events) ≡ after_events card.config (map request rs) (line_at number (after e card)))
           → line_at number (after_all (after e card) events) ≡ after_events card.config (map request rs) (line_at number card)
-      go false apart rs are only more =
-          more rs are only
-          ∙ ap (after_events card.config (map request rs)) (at-another card number e (λ same. true≢false (sym (eq-eqb e.line number (sym same)) ∙ apart)))
-      go true same [] are only more = absurd (cc are)
       go true same (r ∷ rs) are only more =
           let what : e.what ≡ request r = cc are in
           let behind : happens_at number events ≡ map request rs = cc are in
           let is : e ≡ at number (request r) = let line = eqb-true e.line number same in λ i. record { line = line i; what = what i } in
           let first = All-head (λ r. takes_down r ≡ true) r rs only in
           more rs behind (All-tail (λ r. takes_down r ≡ true) r rs only)
-          ∙ ap (after_events card.config (map request rs)) (ap (λ e. line_at number (after e card)) is ∙ at-request card r first (omega (arith, few, s.count)))
+          ∙ ap (after_events card.config (map request rs)) (ap (λ e. line_at number (after e card)) is ∙ (grind (arith, no-slot, get_or-set_same)))
+      go b apart rs are only more = grind (arith, at-another, eq-eqb)
 
 pub lines-go-down-at : LinesGoDown
 lines-go-down-at card events number rs s all few are h =

@@ -15,13 +15,7 @@ module _ (name : LinkName) (card : Card) (e : Event) (h : HasLines card) (here :
   by-line false other =
       let apart : name.line ≢ e.line = λ same. true≢false (sym (eq-eqb e.line name.line (sym same)) ∙ other) in
       stays (link_named name card) _ (ap (link_at name.number) (get_or-set_other card.lines e.line name.line own (fresh_line card.config) apart))
-  by-line true same =
-      let is : e.line ≡ name.line = eqb-true e.line name.line same in
-      let now : get_or (set card.lines e.line own) e.line (fresh_line card.config) ≡ own =
-      get_or-set_same card.lines e.line own (fresh_line card.config) (omega (arith, h.count, here)) in
-      let goes = event-goes card.config h.config e.what (line_at e.line card) name.number (line_sound card e.line h here) few in
-      subst (λ n. Goes (line.share_of card.config name.number e.what (line_at n card)) (link_at name.number (line_at n card)) (link_at name.number (get_or (set card.lines e.line own) n (fresh_line card.config)))) is
-      (subst (λ (x : Line). Goes (line.share_of card.config name.number e.what (line_at e.line card)) (link_at name.number (line_at e.line card)) (link_at name.number x)) (sym now) goes)
+  by-line true same = grind (arith, eqb-true, own, get_or-set_same, event-goes, line_sound)
 
   none-goes : (b : Bool) → Goes (cond b no_share no_share) (link_named name card) (link_named name card)
   none-goes true = stays (link_named name card) (link_named name card) refl

@@ -1,5 +1,5 @@
 -- What layer 3 knows by notes: over runs of a card.
-use Rattle.laws_line.proofs.Vocabulary.{◌≡◌, List, refl, sym, ap, subst, get_or-replicate, Config, Link, fresh_line, link_count, link_at, Card, AreAtLines, fresh as fresh_link, is_up_of, taken_for_up, CardEvent as Event, CardIsSound as IsSound, NotesTell, IsNew, BeginsAnew}
+use Rattle.laws_line.proofs.Vocabulary.{arith, ◌≡◌, List, refl, sym, ap, subst, get_or-replicate, Config, Link, fresh_line, link_count, link_at, Card, AreAtLines, fresh as fresh_link, is_up_of, taken_for_up, CardEvent as Event, CardIsSound as IsSound, NotesTell, IsNew, BeginsAnew}
 use Rattle.laws_line.proofs.Knowing.{known-up, begins-down}
 use Rattle.laws_line.proofs.KnowingTeis.{begins-off}
 use Rattle.laws_line.proofs.TimersFollow.{begins-with-none}
@@ -10,14 +10,13 @@ up-known card events s all line service tei within =
     run-seen (is_up_of service tei) (λ up e a. taken_for_up service tei up a) (λ c e l sound. known-up c e l service tei sound) (λ up r. refl) card events s all line
 
 new-line : (c : Config) → IsNew c (fresh_line c)
-new-line c = record {
-  empty = λ number few.
-      let link : link_at number (fresh_line c) ≡ fresh_link = get_or-replicate (link_count c) number fresh_link fresh_link few in
-      (ap (λ (x : Link). x.contents) link, ap (λ (x : Link). x.a) link);
-  quiet = begins-with-none c;
-  down = begins-down c;
-  off = begins-off c;
-}
+new-line c =
+    record {
+      empty = grind (arith, get_or-replicate);
+      quiet = begins-with-none c;
+      down = begins-down c;
+      off = begins-off c;
+    }
 
 pub begins-anew : (c : Config) → BeginsAnew c
 begins-anew c line within = subst (IsNew c) (sym (get_or-replicate c.lines line (fresh_line c) (fresh_line c) within)) (new-line c)

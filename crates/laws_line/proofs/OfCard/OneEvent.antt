@@ -29,11 +29,8 @@ module _ (c : Config) (l : Line) (e : line_event.Event) (takes : lines.takes_slo
   no-link : (service : Service) (tei : ℕ) (event : link.Event) → IsOf c e (refused PoolFull) service tei event → ⊥
   no-link service tei event by = grind (arith, no-heard, no-expiry, no-take)
 
-  no-management : (event : teis.Event) → IsOfManagement c e (refused PoolFull) event → ⊥
-  no-management event by = grind (arith, no-heard, no-expiry)
-
   pub no-event : IsOneEvent c e l l (refused PoolFull)
-  no-event = grind (arith, no-link, no-management, no-down, no-take)
+  no-event = grind (arith, no-link, no-heard, no-expiry, no-down, no-take)
 
 module _ (card : Card) (e : Event) (s : IsSound card) (here : IsAtLine card e) where
   abbrev l : Line
@@ -44,9 +41,8 @@ module _ (card : Card) (e : Event) (s : IsSound card) (here : IsAtLine card e) w
       by_room (λ ls a. IsOneEvent card.config e.what l (get_or ls e.line (fresh_line card.config)) a) e card
       (λ full. no-event card.config l e.what (and_parts (lines.takes_slot card.config e.what l) (is_full card) full).0)
       (λ room.
-      let own = lines.after card.config e.what l in
       subst (λ (x : Line). IsOneEvent card.config e.what l x (lines.answer card.config e.what l))
-      (sym (get_or-set_same card.lines e.line own (fresh_line card.config) (omega (arith, s.count, here))))
+      (sym (get_or-set_same card.lines e.line (lines.after card.config e.what l) (fresh_line card.config) (omega (arith, s.count, here))))
       (one-event card.config e.what l (line_sound card e.line (has_lines card s) here)))
 
   pub one-in : IsOneEventIn (moment_of card e)

@@ -21,17 +21,15 @@ module _ (c : Config) (one other : ℕ → List (List ℕ)) (same : (number : �
       go : (o : Option Taken)
           → elim o as (λ o. Type 0) [ None ↦ IsIdle c l (lines.after c next l) | Some t ↦ IsOwed c one l (lines.after c next l) t.frame ]
           → elim o as (λ o. Type 0) [ None ↦ IsIdle c l (lines.after c next l) | Some t ↦ IsOwed c other l (lines.after c next l) t.frame ]
-      go None x = x
-      go (Some t) x = owed (lines.after c next l) t.frame x
+      go o x = grind (arith, owed)
 
 pub served-in : (card : Card) (events : List Event) → IsSound card → AreAtLines card events → IsServedIn card events
 served-in card events s all number within =
     let end = after_all card events in
-    let sound = always_sound card events s all in
     let config : end.config ≡ card.config = config_stays card events in
     let there : number < end.config.lines = subst (λ (c : Config). number < c.lines) (sym config) within in
     let l = line_at number end in
-    let now : IsServed end.config (contents_of l) l = served end.config l (line_sound end number (has_lines end sound) there) in
+    let now : IsServed end.config (contents_of l) l = served end.config l (line_sound end number (has_lines end (always_sound card events s all)) there) in
     serves card.config (contents_of l) (accepted_at card events number)
     (λ n few. (run-counted card events s all (record { line = number; number = n }) (within, few)).accepted) l
     (subst (λ c. IsServed c (contents_of l) l) config now)

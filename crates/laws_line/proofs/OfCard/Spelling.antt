@@ -14,8 +14,5 @@ second first nr pf small = grind (arith, both)
 field : (c : Control) → AreOctets (row c).field
 field c = grind (arith, second, one)
 
-few-cr : (side : Side) (command : Bool) → cr_bit side command ≤ 1
-few-cr side command = grind arith
-
 pub head : (side : Side) (a : Address) (c : Control) → a.sapi < 64 → a.tei < 128 → AreOctets (head_of side a c)
-head side a c sapi tei = grind (arith, both, few-cr, field)
+head side a c sapi tei = grind (arith, both, field)

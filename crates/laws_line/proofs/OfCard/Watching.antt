@@ -24,15 +24,11 @@ module _ {X : Type 0} (seen : Line → X) (watch : X → line_event.Event → An
         steps card.config e.what (line_at e.line card) (line_sound card e.line (has_lines card s) here)
         ∙ ap seen (sym (get_or-set_same card.lines e.line (lines.after card.config e.what (line_at e.line card)) (fresh_line card.config) (omega (arith, s.count, here)))))
 
-    moment-seen : (number : ℕ) (b : Bool) → (e.line == number) ≡ b
-        → cond b (watch (seen (line_at number card)) e.what (answer e card)) (seen (line_at number card)) ≡ seen (line_at number (after e card))
-    moment-seen number b is = grind (arith, eqb-true, own-line, at-another, eq-eqb)
-
   pub run-seen : (card : Card) (events : List Event) → IsSound card → AreAtLines card events → (number : ℕ)
       → fold (one_more number) (seen (line_at number card)) (moments card events) ≡ seen (line_at number (after_all card events))
   unfolding moments after_all
   run-seen card [] s all number = refl
   run-seen card (e ∷ events) s all number =
       let here = All-head (IsAtLine card) e events all in
-      ap (λ x. fold (one_more number) x (moments (after e card) events)) (moment-seen card e s here number (e.line == number) refl)
+      ap (λ x. fold (one_more number) x (moments (after e card) events)) (grind (arith, eqb-true, own-line, at-another, eq-eqb))
       ∙ run-seen (after e card) events (after_is_sound card e s here) (All-tail (IsAtLine card) e events all) number

@@ -1,6 +1,5 @@
 -- The laws of a line's takes wherever they come in a list of events.
-use Rattle.laws_line.proofs.Vocabulary.{◌<◌, List, [], ◌∷◌, ◌++◌, length, sym, ap, subst, arith, All-nil, All-head, All-tail, Config, gave, next_of, Card, line_at, IsAtLine, AreAtLines, after_all, after_is_sound, always_sound, option_map, HasNothing, CardEvent as Event, card_after as after, CardIsSound as IsSound, Wherever, WaitingIsTaken, CallsComeToAnEnd}
-use Rattle.model_line.specs.Machine as lines
+use Rattle.laws_line.proofs.Vocabulary.{◌<◌, List, [], ◌∷◌, ◌++◌, length, sym, ap, subst, arith, All-nil, All-head, All-tail, Config, gave, next_of, Card, line_at, IsAtLine, AreAtLines, after_all, after_is_sound, always_sound, option_map, HasNothing, CardEvent as Event, card_after as after, CardIsSound as IsSound, Wherever, WaitingIsTaken, CallsComeToAnEnd, answer, line_takes_slot}
 use Rattle.laws_line.proofs.Bounds.{to-go-few}
 use Rattle.laws_line.proofs.Soon.{few-before, others-fit}
 use Rattle.laws_line.proofs.OfCard.Amid.{taken-amid}
@@ -36,10 +35,9 @@ waiting-taken = wherever WaitingIsTaken waiting
 
 -- Calls come to an end.
 ends : Law CallsComeToAnEnd
-unfolding Law lines.answer lines.takes_slot after_all
+unfolding Law answer line_takes_slot after_all
 ends card events s all number few only enough =
-    let most = to-go-few card.config (line_at number card) (line-sound card number s few) in
-    let nothing = card-drains card number events s few all only (omega (arith, most, enough)) in
+    let nothing = card-drains card number events s few all only (omega (arith, (to-go-few card.config (line_at number card) (line-sound card number s few)), enough)) in
     let end = after_all card events in
     let kept = config-stays card events in
     let idle = card-idles end number [] (always_sound card events s all) (subst (λ (c : Config). number < c.lines) (sym kept) few)

@@ -10,23 +10,18 @@ pub record Acknowledges (x : ℕ) (c c' : Course) : Type 0 where
 module _ (t : Terms) (nr : Seq) (x : ℕ) (c : Course) (names : named c.link.a c.link.s nr ≡ Some x) (low : c.link.a ≤ x) where
   by-tests : (all more : Bool) → nat_lt c.link.a x ≡ more
       → Acknowledges x c (cond all ((acknowledge x then start T203) c) (cond more ((acknowledge x then start T200) c) c))
-  by-tests true more e = record { running = Some T203; started = Some T203; is = refl }
-  by-tests false true e = record { running = Some T200; started = Some T200; is = refl }
   by-tests false false e =
       let high : x ≤ c.link.a = ltb-false c.link.a x e in
       let same : c.link.a ≡ x = omega (arith, low, high) in
       record { running = c.link.running; started = c.started; is = λ i. record c { link = record c.link { a = same i } } }
+  by-tests all more e = grind arith
 
   in-7 : Acknowledges x c (acknowledged_in_7 x c)
   in-7 = by-tests (x == c.link.s) (nat_lt c.link.a x) refl
-
-  by-flag : (busy : Bool) → Acknowledges x c (cond busy (acknowledge x c) (acknowledged_in_7 x c))
-  by-flag true = record { running = c.link.running; started = c.started; is = refl }
-  by-flag false = in-7
 
   -- of RR, and of an I-frame
   pub by-rr : Acknowledges x c (by_number t nr acknowledged_in_7 c)
   by-rr = subst (λ o. Acknowledges x c (effect t nr acknowledged_in_7 c o)) (sym names) in-7
 
   pub by-information : Acknowledges x c (by_number t nr acknowledged_by_information_in_7 c)
-  by-information = subst (λ o. Acknowledges x c (effect t nr acknowledged_by_information_in_7 c o)) (sym names) (by-flag c.link.peer_busy)
+  by-information = subst (λ o. Acknowledges x c (effect t nr acknowledged_by_information_in_7 c o)) (sym names) (grind (arith, in-7))

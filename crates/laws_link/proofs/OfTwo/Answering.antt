@@ -42,24 +42,15 @@ pub record Polled (t : Terms) (l : Link) (P : Course → Type 0) (K : (ℕ → S
 module _ {t : Terms} {l : Link} (P : Course → Type 0) (K : (ℕ → Step) → Type 0) (x : Polled t l P K) where
   in-7 : (command : Bool) (octets : List ℕ) (control : Control) → IsPollWith t l command octets control → P (frame_in_7 t command octets control (begun l))
   in-7 command octets (Information ns nr true) h = x.informs ns nr octets acknowledged_by_information_in_7 h.1 x.informed h.2
-  in-7 true octets (ReceiveReady nr true) h = x.supervises false nr acknowledged_in_7 x.ready h.2
-  in-7 true octets (ReceiveNotReady nr true) h = x.supervises true nr acknowledged_by_rnr_in_7 x.not-ready h.2
-  in-7 true octets (Reject nr true) h = x.supervises false nr acknowledged_by_rej_in_7 x.rejected h.2
-  in-7 command octets other h = grind (arith, h)
+  in-7 command octets control h = grind arith
 
   in-8 : (command : Bool) (octets : List ℕ) (control : Control) → IsPollWith t l command octets control → P (frame_in_8 t command octets control (begun l))
   in-8 command octets (Information ns nr true) h = x.informs ns nr octets Words.acknowledge h.1 x.informed-8 h.2
-  in-8 true octets (ReceiveReady nr true) h = x.supervises false nr (acknowledged_in_8 T203 false) x.ready-8 h.2
-  in-8 true octets (ReceiveNotReady nr true) h = x.supervises true nr (acknowledged_in_8 T200 false) x.not-ready-8 h.2
-  in-8 true octets (Reject nr true) h = x.supervises false nr (acknowledged_in_8 T203 false) x.ready-8 h.2
-  in-8 command octets other h = grind (arith, h)
+  in-8 command octets control h = grind arith
 
   pub polled-in : (here : State) → IsTrue (is_multiple_frame here) → (command : Bool) (octets : List ℕ) (control : Control)
       → IsPollWith t l command octets control → P (frame_in here t command octets control (begun l))
   polled-in here up command octets control h = grind (arith, in-7, in-8)
-
-says-ready : (b : Bool) (r : ℕ) → SaysReceived r (cond b (ReceiveNotReady (seq r) true) (ReceiveReady (seq r) true))
-says-ready b r = grind arith
 
 module _ (t : Terms) (l : Link) (room : length l.waiting + 1 ≤ t.control) where
   has-room : nat_lt (length l.waiting) t.control ≡ true
@@ -81,7 +72,7 @@ module _ (t : Terms) (l : Link) (room : length l.waiting + 1 ≤ t.control) wher
 
   -- an answer RR or RNR, and an answer REJ
   ready : (c : Course) → c.link.waiting ≡ l.waiting → c.link.a ≡ l.a → c.link.s ≡ l.s → Halfway l (Words.answer t c)
-  ready c w a s = grind (arith, nat_lt, put, says-ready)
+  ready c w a s = grind (arith, nat_lt, put)
 
   rejected : Halfway l ((Words.rejecting_is true then Words.reject t true) (begun l))
   rejected = grind (arith, put)
@@ -110,17 +101,6 @@ module _ (t : Terms) (l : Link) (room : length l.waiting + 1 ≤ t.control) wher
   poll-answered f up h = polled-in _ _ answers l.state up f.address.command f.info f.control h
 
   -- SABME and DISC
-  same-waiting : (b : Bool) (u v : Course) (ws : List ControlFrame) → u.link.waiting ≡ ws → v.link.waiting ≡ ws → (cond b u v).link.waiting ≡ ws
-  same-waiting b u v ws x y = grind arith
-
-  sabme-in : (here : State) (command : Bool) (octets : List ℕ) (p : Bool)
-      → AnsweredBy (asked_of here (Sabme p)) l.waiting (frame_in here t command octets (Sabme p) (begun l)).link
-  sabme-in here command octets p = grind (arith, same-waiting, put)
-
-  disc-in : (here : State) (command : Bool) (octets : List ℕ) (p : Bool)
-      → AnsweredBy (asked_of here (Disc p)) l.waiting (frame_in here t command octets (Disc p) (begun l)).link
-  disc-in here command octets p = grind (arith, put)
-
   pub unnumbered-answered : (command : Bool) (octets : List ℕ) (control : Control)
       → AnsweredBy (asked_of l.state control) l.waiting (frame_step t command octets control (begun l)).link
-  unnumbered-answered command octets control = grind (arith, sabme-in, disc-in)
+  unnumbered-answered command octets control = grind (arith, put)

@@ -60,17 +60,8 @@ load-push (x ∷ fs) f = let more : load (fs ++ f ∷ []) ≡ load fs + load_of 
 abbrev owes : Bool → ℕ
 owes b = if b then 2 else 0
 
-lighter-i : (len s w w' p : ℕ) → s < len → w' ≡ w + 3 → (4 * (len - (s + 1)) + w' + 0) + 1 ≤ 4 * (len - s) + w + p
-lighter-i len s w w' p less more = omega (arith, less, more)
-
 lighter-n : (u w w' p : ℕ) → w' ≡ w + 1 → p ≡ 2 → (u + w' + 0) + 1 ≤ u + w + p
 lighter-n u w w' p more two = omega (arith, more, two)
-
-took-i : (u w w' p v x q : ℕ) → w ≡ 3 + w' → ((u + w' + p) + (v + x + 2)) + 1 ≤ (u + w + p) + (v + x + q)
-took-i u w w' p v x q less = omega (arith, less)
-
-took-n : (u w w' p v x q : ℕ) → w ≡ 1 + w' → ((u + w' + p) + (v + x + q)) + 1 ≤ (u + w + p) + (v + x + q)
-took-n u w w' p v x q less = omega (arith, less)
 
 -- An end in state 7 with neither side busy and no control frame waiting; and one direction.
 pub record Steady (n : End) : Type 0 where
@@ -105,53 +96,10 @@ pub record Gave (n m n' : End) : Type 0 where
   pub kept : n'.link.contents ≡ n.link.contents
 
 module _ (n m : End) (hn : Steady n) (there : Direction n m) (back : Direction m n) where
-  sound-sent : IsSound n.terms (with_sent n).link
-  sound-sent = sound-after n.terms hn.ranges offer n.link hn.sound
-
-  gives-i : may_send_information n.terms (plain n.link) ≡ true → Gave n m (with_sent n)
-  gives-i may =
-      let parts = and_parts (nat_lt (n.link.s - n.link.a) n.terms.k) (nat_lt n.link.s (length n.link.contents)) may in
-      let unsent : n.link.s < length n.link.contents = ltb-true n.link.s (length n.link.contents) parts.1 in
-      let form : with_sent n ≡ record n { link = with_information n.link; way = n.way ++ information_frame n.terms n.link ∷ [] } = sends-form n _ hn (gives-information false false n may) in
-      let more : load (n.way ++ information_frame n.terms n.link ∷ []) ≡ load n.way + 3 = load-push n.way (information_frame n.terms n.link) in
-      let s : IsSound n.terms (with_information n.link) = subst (λ x. IsSound n.terms x.link) form sound-sent in
-      subst (Gave n m) (sym form) (record {
-        steady = record { ranges = hn.ranges; sound = s; state = refl; peer_busy = refl; own_busy = refl; waiting = refl };
-        there = record {
-          lane = lane-information n.terms n.link.contents m.link.r n.link.s m.link.a n.link.r n.link.pending n.way n.link refl refl refl there.lane;
-          delivered = there.delivered;
-          sizes = there.sizes;
-        };
-        back = record { lane = back.lane; delivered = back.delivered; sizes = back.sizes };
-        lighter = lighter-i (length n.link.contents) n.link.s (load n.way) (load (n.way ++ information_frame n.terms n.link ∷ [])) (owes n.link.pending) unsent more;
-        kept = refl;
-      })
-
-  gives-note : may_send_information n.terms (plain n.link) ≡ false → n.link.pending ≡ true → Gave n m (with_sent n)
-  gives-note may owed =
-      let form : with_sent n ≡ record n { link = with_acknowledgement n.link; way = n.way ++ acknowledgement_frame n.terms n.link ∷ [] } = sends-form n _ hn (gives-acknowledgement false false n may owed) in
-      let more : load (n.way ++ acknowledgement_frame n.terms n.link ∷ []) ≡ load n.way + 1 = load-push n.way (acknowledgement_frame n.terms n.link) in
-      let two : owes n.link.pending ≡ 2 = ap owes owed in
-      let s : IsSound n.terms (with_acknowledgement n.link) = subst (λ x. IsSound n.terms x.link) form sound-sent in
-      subst (Gave n m) (sym form) (record {
-        steady = record { ranges = hn.ranges; sound = s; state = refl; peer_busy = refl; own_busy = refl; waiting = refl };
-        there = record {
-          lane = lane-note n.terms n.link.contents m.link.r n.link.s m.link.a n.link.r n.link.pending n.way n.link refl there.lane;
-          delivered = there.delivered;
-          sizes = there.sizes;
-        };
-        back = record { lane = back.lane; delivered = back.delivered; sizes = back.sizes };
-        lighter = lighter-n (4 * (length n.link.contents - n.link.s)) (load n.way) (load (n.way ++ acknowledgement_frame n.terms n.link ∷ [])) (owes n.link.pending) more two;
-        kept = refl;
-      })
-
-  may-plain : may_send_information n.terms (plain n.link) ≡ false → may_send_information n.terms n.link ≡ false
-  may-plain e = subst (λ x. may_send_information n.terms x.link ≡ false) (sym (is-steady n hn)) e
-
   gives-by : (may owed : Bool) → may_send_information n.terms (plain n.link) ≡ may → n.link.pending ≡ owed → (HasNothingToSend n.terms n.link → ⊥) → Gave n m (with_sent n)
-  gives-by true owed e p some = gives-i e
-  gives-by false true e p some = gives-note e p
-  gives-by false false e p some = absurd (some (record { waiting = hn.waiting; information = may-plain e; pending = p }))
+  gives-by true owed e p some = grind (arith, and_parts, nat_lt, ltb-true, with_information, information_frame, sends-form, gives-information, load-push, sound-after, lane-information)
+  gives-by false true e p some = grind (arith, with_acknowledgement, acknowledgement_frame, sends-form, gives-acknowledgement, load-push, sound-after, lane-note, lighter-n)
+  gives-by false false e p some = absurd (some (record { waiting = hn.waiting; information = (subst (λ x. may_send_information n.terms x.link ≡ false) (sym (is-steady n hn)) e); pending = p }))
 
   pub gives : (HasNothingToSend n.terms n.link → ⊥) → Gave n m (with_sent n)
   gives = gives-by (may_send_information n.terms (plain n.link)) n.link.pending refl refl
@@ -169,9 +117,6 @@ pub record Took (n m n' m' : End) : Type 0 where
 module _ (n m : End) (hn : Steady n) (hm : Steady m) (there : Direction n m) (back : Direction m n) where
   abbrev left : List Parts → End
   left fs = record n { way = fs }
-
-  left-steady : (fs : List Parts) → Steady (left fs)
-  left-steady fs = record { ranges = hn.ranges; sound = hn.sound; state = hn.state; peer_busy = hn.peer_busy; own_busy = hn.own_busy; waiting = hn.waiting }
 
   high : n.link.r ≤ m.link.s
   high = lane-order m.terms m.link.contents n.link.r m.link.s n.link.a m.link.r m.link.pending m.way back.lane
@@ -199,22 +144,15 @@ module _ (n m : End) (hn : Steady n) (hm : Steady m) (there : Direction n m) (ba
       let up-one : suc m.link.r ≡ m.link.r + 1 = omega arith in
       let less : load n.way ≡ 3 + load fs = ap load e ∙ ap (λ g. load_of g.control + load fs) here.is in
       subst (λ x. Took n m (left fs) x) (sym form) (record {
-        giver = left-steady fs;
+        giver = (record { ranges = hn.ranges; sound = hn.sound; state = hn.state; peer_busy = hn.peer_busy; own_busy = hn.own_busy; waiting = hn.waiting });
         taker = record { ranges = hm.ranges; sound = s; state = refl; peer_busy = refl; own_busy = refl; waiting = refl };
-        there = record {
-          lane = rest;
-          delivered =
-              ap (λ ds. ds ++ octets ∷ []) there.delivered ∙ ap (λ cs. take m.link.r n.link.contents ++ unwrap_or (slice_get cs l.s) [] ∷ []) here.contents
-              ∙ ap (λ i. take m.link.r n.link.contents ++ unwrap_or (slice_get n.link.contents i) [] ∷ []) here.number
-              ∙ take-one n.link.contents m.link.r (omega (arith, order, accepted)) ∙ ap (λ i. take i n.link.contents) up-one;
-          sizes = there.sizes;
-        };
+        there = grind (arith, slice_get, take-one);
         back = record {
           lane = lane-owes m.terms m.link.contents n.link.r m.link.s n.link.a m.link.r (m.link.r + 1) m.link.pending m.way (omega arith) back.lane;
           delivered = back.delivered;
           sizes = back.sizes;
         };
-        lighter = took-i (4 * (length n.link.contents - n.link.s)) (load n.way) (load fs) (owes n.link.pending) (4 * (length m.link.contents - m.link.s)) (load m.way) (owes m.link.pending) less;
+        lighter = omega (arith, less);
         kept_n = refl;
         kept_m = refl;
       })
@@ -233,11 +171,11 @@ module _ (n m : End) (hn : Steady n) (hm : Steady m) (there : Direction n m) (ba
       let s : IsSound m.terms m'.link = subst (λ x. IsSound m.terms x.link) form (sound-after m.terms hm.ranges (received (frame f)) m.link hm.sound) in
       let less : load n.way ≡ 1 + load fs = ap load e ∙ ap (λ g. load_of g.control + load fs) here.is in
       subst (λ x. Took n m (left fs) x) (sym form) (record {
-        giver = left-steady fs;
+        giver = (record { ranges = hn.ranges; sound = hn.sound; state = hn.state; peer_busy = hn.peer_busy; own_busy = hn.own_busy; waiting = hn.waiting });
         taker = record { ranges = hm.ranges; sound = s; state = refl; peer_busy = refl; own_busy = refl; waiting = refl };
         there = record { lane = rest; delivered = append-nil m.delivered ∙ there.delivered; sizes = there.sizes };
         back = record { lane = back.lane; delivered = back.delivered; sizes = back.sizes };
-        lighter = took-n (4 * (length n.link.contents - n.link.s)) (load n.way) (load fs) (owes n.link.pending) (4 * (length m.link.contents - m.link.s)) (load m.way) (owes m.link.pending) less;
+        lighter = omega (arith, less);
         kept_n = refl;
         kept_m = refl;
       })

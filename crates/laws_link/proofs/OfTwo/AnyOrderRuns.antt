@@ -17,41 +17,14 @@ record AfterTurn (e e' : Ends) : Type 0 where
   near_kept : e'.near.link.contents ≡ e.near.link.contents
   far_kept : e'.far.link.contents ≡ e.far.link.contents
 
-one-lighter : (a' a b : ℕ) → a' + 1 ≤ a → (a' + b) + 1 ≤ a + b
-one-lighter a' a b h = omega (arith, h)
-
-both-lighter : (a' a b' b : ℕ) → (b' + a') + 1 ≤ b + a → (a' + b') + 1 ≤ a + b
-both-lighter a' a b' b h = omega (arith, h)
-
 turn-near : (act : Act) (e : Ends) → Pair e → IsTurnOf act e.near e.far → AfterTurn e (acting act e)
 turn-near sends e h t =
     let x = gives e.near e.far h.near h.there h.back t in
-    record {
-      pair = record { near = x.steady; far = h.far; there = x.there; back = x.back };
-      lighter = one-lighter (weight_at (acting sends e).near) (weight_at e.near) (weight_at e.far) x.lighter;
-      near_kept = x.kept;
-      far_kept = refl;
-    }
-turn-near receives e h t =
-    let x = takes-first e.far e.near h.far h.near h.back h.there t in
-    record {
-      pair = record { near = x.taker; far = x.giver; there = x.back; back = x.there };
-      lighter = both-lighter (weight_at (acting receives e).near) (weight_at e.near) (weight_at (acting receives e).far) (weight_at e.far) x.lighter;
-      near_kept = x.kept_m;
-      far_kept = x.kept_n;
-    }
-turn-near other e h t = absurd t
+    grind arith
+turn-near act e h t = grind (arith, takes-first)
 
 turn-any : (d : Doing) (e : Ends) → Pair e → IsTurn d e → AfterTurn e (doing d e)
-turn-any (at_near act) e h t = turn-near act e h t
-turn-any (at_far act) e h t =
-    let x = turn-near act (turned e) (record { near = h.far; far = h.near; there = h.back; back = h.there }) t in
-    record {
-      pair = record { near = x.pair.far; far = x.pair.near; there = x.pair.back; back = x.pair.there };
-      lighter = both-lighter (weight_at (doing (at_far act) e).near) (weight_at e.near) (weight_at (doing (at_far act) e).far) (weight_at e.far) x.lighter;
-      near_kept = x.far_kept;
-      far_kept = x.near_kept;
-    }
+turn-any d e h t = grind (arith, turn-near)
 
 -- a run
 pub record Ran (ds : List Doing) (e e' : Ends) : Type 0 where
@@ -72,19 +45,10 @@ runs [] e h t = record { pair = h; bounded = none-more (weight e); near_kept = r
 runs (d ∷ ds) e h t =
     let x = turn-any d e h t.0 in
     let y = runs ds (doing d e) x.pair t.1 in
-    record {
-      pair = y.pair;
-      bounded = one-more (length ds) (weight e) (weight (doing d e)) (weight (doing_all ds (doing d e))) y.bounded x.lighter;
-      near_kept = y.near_kept ∙ x.near_kept;
-      far_kept = y.far_kept ∙ x.far_kept;
-    }
-
--- the first pair
-first-lane : (n m : End) → IsReady n → IsReady m → IsTaken n m → IsTaken m n → Lane n.terms n.link.contents m.link.r n.link.s m.link.a n.link.r n.link.pending []
-first-lane n m hn hm there back = grind (arith, nat_lt)
+    grind (arith, one-more)
 
 pub all-turns : (ds : List Doing) (e : Ends) → IsReady e.near → IsReady e.far → IsTaken e.near e.far → IsTaken e.far e.near → AreTurns ds e → Ran ds e (doing_all ds e)
-all-turns ds e hn hm there back turns = grind (arith, runs, Lane, first-lane)
+all-turns ds e hn hm there back turns = grind (arith, runs, Lane, nat_lt)
 
 -- where no turn is left
 module _ (n m : End) (hn : Steady n) (there : Direction n m) (back : Direction m n) (rn : HasNothingToSend n.terms n.link) (rm : HasNothingToSend m.terms m.link)
@@ -101,17 +65,7 @@ module _ (n m : End) (hn : Steady n) (there : Direction n m) (back : Direction m
       let most : n.link.s ≤ length cs = subst (λ xs. n.link.s ≤ length xs) kept hn.sound.accepted in
       let all : length cs ≤ n.link.s = subst (λ xs. length xs ≤ n.link.s) kept none in
       let sent : n.link.s ≡ length cs = omega (arith, most, all) in
-      let received : m.link.r ≡ length cs = by-lanes.0 ∙ sent in
-      record {
-        kept = kept;
-        delivered = there.delivered ∙ ap (λ xs. take m.link.r xs) kept ∙ ap (λ i. take i cs) received ∙ take-length cs;
-        received = received;
-        sent = sent;
-        acknowledged = all-sent ∙ sent;
-        state = hn.state;
-        nothing = rn;
-        way = en;
-      }
+      grind (arith, take-length)
 
 pub all-there : (ds : List Doing) (e e' : Ends) → Ran ds e e' → IsStill e' → HasArrived e.near.link.contents e'.near e'.far × HasArrived e.far.link.contents e'.far e'.near
 all-there ds e e' x still = grind (arith, arrived-one)

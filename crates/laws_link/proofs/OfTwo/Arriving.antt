@@ -24,56 +24,28 @@ nothing-unsent n h open_ may = by-test (nat_lt n.link.s (length n.link.contents)
     window = let low : 1 ≤ n.terms.k = h.ranges.k_low in lt-ltb (n.link.s - n.link.a) n.terms.k (omega (arith, open_))
 
     by-test : (b : Bool) → nat_lt n.link.s (length n.link.contents) ≡ b → length n.link.contents ≤ n.link.s
-    by-test true e = absurd (true≢false (sym (ap (λ b. b && nat_lt n.link.s (length n.link.contents)) window ∙ e) ∙ may))
-    by-test false e = ltb-false n.link.s (length n.link.contents) e
+    by-test b e = grind (arith, nat_lt, ltb-false)
 
 -- One fewer is left to an end that has moved with its window open.
 one-fewer : (v : ℕ) (n m n' m' : End) → IsReady n → n.link.a ≡ n.link.s → length n.link.contents ≤ n.link.s + suc v → n'.link.contents ≡ n.link.contents
     → One n m n' m' ⊎ Nothing n m n' m' → length n'.link.contents ≤ n'.link.s + v
-one-fewer v n m n' m' h o left kept (inl x) = subst (λ cs. length cs ≤ n'.link.s + v) (sym kept) (omega (arith, left, x.sent))
-one-fewer v n m n' m' h o left kept (inr x) =
-    subst (λ cs. length cs ≤ n'.link.s + v) (sym kept) (let all = nothing-unsent n h o x.may in omega (arith, all, x.sent))
+one-fewer v n m n' m' h o left kept x = grind (arith, nothing-unsent)
 
 -- no more is left to an end that has moved
 pub no-more : (u : ℕ) (n m n' m' : End) → length n.link.contents ≤ n.link.s + u → n'.link.contents ≡ n.link.contents
     → One n m n' m' ⊎ Nothing n m n' m' → length n'.link.contents ≤ n'.link.s + u
-no-more u n m n' m' left kept (inl x) = subst (λ cs. length cs ≤ n'.link.s + u) (sym kept) (omega (arith, left, x.sent))
-no-more u n m n' m' left kept (inr x) = subst (λ cs. length cs ≤ n'.link.s + u) (sym kept) (omega (arith, left, x.sent))
+no-more u n m n' m' left kept o = grind arith
 
 -- the first move
 pub first-turn : (u : ℕ) (n m : End) → IsReady n → IsReady m → IsTaken n m → IsTaken m n → HasUnsent u n → HasUnsent u m
     → Turn u u n.link.contents m.link.contents (giver_of n) (taker_of n m)
 first-turn u n m hn hm there back un um =
     let x = moves n m hn hm there back in
-    record {
-      giver = ready-giver n m hn hm there back;
-      taker = ready-taker n m hn hm there back;
-      there = takes n m hn hm there back;
-      back = taken n m hn hm there back;
-      kept_n = x.giver.contents;
-      kept_m = x.taker.contents;
-      acknowledged = x.taker.a ∙ sym x.taker.s;
-      quiet = x.giver.pending;
-      left_m = subst (λ s. length (taker_of n m).link.contents ≤ s + u) (sym x.taker.s) (subst (λ cs. length cs ≤ m.link.s + u) (sym x.taker.contents) um);
-      left_n = no-more u n m (giver_of n) (taker_of n m) un x.giver.contents x.moved;
-    }
+    grind (arith, ready-giver, ready-taker, takes, taken, taker_of, no-more, giver_of)
 
 -- the next
 pub next-turn : (v w : ℕ) (cn cm : List (List ℕ)) (n m : End) → Turn (suc v) w cn cm n m → Turn w v cm cn (giver_of m) (taker_of m n)
-next-turn v w cn cm n m h =
-    let x = moves m n h.taker h.giver h.back h.there in
-    record {
-      giver = ready-giver m n h.taker h.giver h.back h.there;
-      taker = ready-taker m n h.taker h.giver h.back h.there;
-      there = takes m n h.taker h.giver h.back h.there;
-      back = taken m n h.taker h.giver h.back h.there;
-      kept_n = x.giver.contents ∙ h.kept_m;
-      kept_m = x.taker.contents ∙ h.kept_n;
-      acknowledged = x.taker.a ∙ sym x.taker.s;
-      quiet = x.giver.pending;
-      left_m = subst (λ s. length (taker_of m n).link.contents ≤ s + w) (sym x.taker.s) (subst (λ cs. length cs ≤ n.link.s + w) (sym x.taker.contents) h.left_n);
-      left_n = one-fewer v m n (giver_of m) (taker_of m n) h.taker h.acknowledged h.left_m x.giver.contents x.moved;
-    }
+next-turn v w cn cm n m h = grind (arith, moves, ready-giver, ready-taker, takes, taken, taker_of, one-fewer, giver_of)
 
 -- the last: neither has anything unsent
 module _ (cn cm : List (List ℕ)) (n m : End) (h : Turn 0 0 cn cm n m) where
@@ -82,21 +54,7 @@ module _ (cn cm : List (List ℕ)) (n m : End) (h : Turn 0 0 cn cm n m) where
   arrived-end x y contents r taken kept acknowledged all quiet =
       let most : x.link.s ≤ length contents = subst (λ cs. x.link.s ≤ length cs) kept r.sound.accepted in
       let sent : x.link.s ≡ length contents = omega arith in
-      let received : y.link.r ≡ length contents = taken.received ∙ sent in
-      record {
-        kept = kept;
-        delivered = taken.delivered ∙ ap (λ cs. take y.link.r cs) kept ∙ ap (λ i. take i contents) received ∙ take-length contents;
-        received = received;
-        sent = sent;
-        acknowledged = acknowledged ∙ sent;
-        state = r.state;
-        nothing = record {
-          waiting = r.waiting;
-          information = and_right _ (nat_lt x.link.s (length x.link.contents)) (le-ltb x.link.s (length x.link.contents) (subst (λ cs. length cs ≤ x.link.s) (sym kept) all));
-          pending = quiet;
-        };
-        way = r.way;
-      }
+      grind (arith, take-length, and_right, nat_lt, le-ltb)
 
   one-or-none : One m n (giver_of m) (taker_of m n) ⊎ Nothing m n (giver_of m) (taker_of m n) → HasArrived cn (taker_of m n) (giver_of m) × HasArrived cm (giver_of m) (taker_of m n)
   one-or-none (inl x) = absurd (omega (arith, h.left_m, x.unsent))
@@ -129,11 +87,9 @@ pub then-arrived : (u : ℕ) (cn cm : List (List ℕ)) (e : Ends) → Turn u u c
 unfolding rounds
 then-arrived zero cn cm e h = last cn cm e.near e.far h
 then-arrived (suc u) cn cm e h =
-    let one = next-turn u (suc u) cn cm e.near e.far h in
-    let two = next-turn u u cm cn (giver_of e.far) (taker_of e.far e.near) one in
-    then-arrived u cn cm (near_moves (far_moves e)) two
+    then-arrived u cn cm (near_moves (far_moves e)) (next-turn u u cm cn (giver_of e.far) (taker_of e.far e.near) (next-turn u (suc u) cn cm e.near e.far h))
 
-one-more : (u : ℕ) → suc u ≡ u + 1
+pub one-more : (u : ℕ) → suc u ≡ u + 1
 one-more u = omega arith
 
 pub all-arrived : (u : ℕ) (e : Ends) → IsReady e.near → IsReady e.far → IsTaken e.near e.far → IsTaken e.far e.near → HasUnsent u e.near → HasUnsent u e.far
@@ -149,11 +105,9 @@ AreFree e = (e.near.link.peer_busy ≡ false) × (e.far.link.peer_busy ≡ false
 
 then-free : (u : ℕ) (cn cm : List (List ℕ)) (e : Ends) → Turn u u cn cm e.near e.far → AreFree (rounds u (far_moves e))
 unfolding rounds
-then-free zero cn cm e h =
-    ((ready-taker e.far e.near h.taker h.giver h.back h.there).peer_busy, (ready-giver e.far e.near h.taker h.giver h.back h.there).peer_busy)
+then-free zero cn cm e h = grind (arith, ready-taker, ready-giver)
 then-free (suc u) cn cm e h =
-    let one = next-turn u (suc u) cn cm e.near e.far h in
-    let two = next-turn u u cm cn (giver_of e.far) (taker_of e.far e.near) one in
+    let two = next-turn u u cm cn (giver_of e.far) (taker_of e.far e.near) (next-turn u (suc u) cn cm e.near e.far h) in
     then-free u cn cm (near_moves (far_moves e)) two
 
 pub all-free : (u : ℕ) (e : Ends) → IsReady e.near → IsReady e.far → IsTaken e.near e.far → IsTaken e.far e.near → HasUnsent u e.near → HasUnsent u e.far → AreFree (rounds (u + 1) e)

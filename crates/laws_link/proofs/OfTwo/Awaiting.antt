@@ -20,17 +20,14 @@ At here c = c.link.state ≡ here
 other-timer : Some T203 ≡ Some T200 → ⊥
 other-timer e = true≢false (sym (ap (runs T200) e))
 
-other-state : (here : State) → is_established here ≡ false → here ≡ Established → ⊥
-other-state here down is = true≢false (sym (ap is_established is) ∙ down)
-
 t203-runs : (state : State) (busy : Bool) (a s : ℕ) → Awaits state (Some T203) busy a s
 t203-runs state busy a s is e = absurd (other-timer e)
 
 elsewhere : (here : State) → is_established here ≡ false → (running : Option LinkTimer) (busy : Bool) (a s : ℕ) → Awaits here running busy a s
-elsewhere here down running busy a s is e = absurd (other-state here down is)
+elsewhere here down running busy a s is e = absurd (true≢false (sym (ap is_established is) ∙ down))
 
 stays-elsewhere : (here : State) → is_established here ≡ false → (state : State) → state ≡ here → (running : Option LinkTimer) (busy : Bool) (a s : ℕ) → Awaits state running busy a s
-stays-elsewhere here down state at running busy a s is e = absurd (other-state here down (sym at ∙ is))
+stays-elsewhere here down state at running busy a s is e = absurd (true≢false (sym (ap is_established (sym at ∙ is)) ∙ down))
 
 -- what was before says nothing
 any-then : {P : Course → Type 0} (f : Step) {g : Step} → Leads Any g Awaiting → Leads P (f then g) Awaiting
@@ -39,11 +36,7 @@ any-then f x = record { leads = λ c h. x.leads (f c) tt }
 -- by the N(R)
 number : {P : Course → Type 0} (t : Terms) (nr : Seq) (f : ℕ → Step) → ((n : ℕ) (c : Course) → P c → c.link.a ≤ n → Awaiting (f n c))
     → Leads P (by_number t nr f) Awaiting
-number {P} t nr f x = record { leads = λ c h. go c h (named c.link.a c.link.s nr) refl }
-  where
-    go : (c : Course) → P c → (o : Option ℕ) → named c.link.a c.link.s nr ≡ o
-        → Awaiting (elim o [ None ↦ (error t ErrorCode.J then re_establish t) c | Some n ↦ f n c ])
-    go c h o e = grind (arith, elsewhere, named-within)
+number {P} t nr f x = grind (arith, elsewhere, named-within)
 
 -- state 7
 acknowledged-7 : (n : ℕ) (c : Course) → c.link.a ≤ n → Awaiting (acknowledged_in_7 n c)
@@ -54,9 +47,6 @@ information-7 n c from = grind (arith, acknowledged-7)
 
 abbrev Busy : Course → Type 0
 Busy c = c.link.peer_busy ≡ true
-
-rnr-7 : (n : ℕ) (c : Course) → Busy c → Awaiting (acknowledged_by_rnr_in_7 n c)
-rnr-7 n c busy = record { holds = λ at timer. inl busy }
 
 -- a row leaves the terminal busy, or the state
 module _ (t : Terms) where
@@ -69,26 +59,20 @@ module _ (t : Terms) where
   contents-on : (here : State) (ns : Seq) (p : Bool) (octets : List ℕ) → Leads (On (at_state here)) (contents_in_7_8 t ns p octets) (On (at_state here))
   contents-on here ns p octets = search words depth 12 fits 4000
 
-  contents-at : (here : State) (ns : Seq) (p : Bool) (octets : List ℕ) → Leads (At here) (contents_in_7_8 t ns p octets) (At here)
-  contents-at here ns p octets = record { leads = λ c h. ((contents-on here ns p octets).leads c (record { holds = h })).holds }
-
   failed-ends : {P : Course → Type 0} (e : ErrorCode) → Leads P (failed t e) Awaiting
   failed-ends e = record { leads = λ c h. record { holds = elsewhere AwaitingEstablishment refl _ _ _ _ } }
-
-  unit-ends : (octets : List ℕ) → Leads Awaiting (unit_data t octets) Awaiting
-  unit-ends octets = bit_leads _ (record { leads = λ c h. record { holds = h.holds } }) (record { leads = λ c h. record { holds = h.holds } })
 
   ua-ends : (f : Bool) → Leads Awaiting (ua_in_7_8 t f) Awaiting
   ua-ends f = bit_leads f (record { leads = λ c h. record { holds = h.holds } }) (record { leads = λ c h. record { holds = h.holds } })
 
   in-4 : (octets : List ℕ) (control : Control) → Leads Awaiting (frame_in_4 t octets control) Awaiting
-  in-4 octets control = grind (arith, t203-runs, unit-ends)
+  in-4 octets control = grind (arith, t203-runs, bit_leads)
 
   in-5 : (octets : List ℕ) (control : Control) → Leads Awaiting (frame_in_5 t octets control) Awaiting
-  in-5 octets control = grind (arith, t203-runs, unit-ends, elsewhere)
+  in-5 octets control = grind (arith, t203-runs, bit_leads, elsewhere)
 
   in-6 : (octets : List ℕ) (control : Control) → Leads Awaiting (frame_in_6 t octets control) Awaiting
-  in-6 octets control = grind (arith, elsewhere, unit-ends)
+  in-6 octets control = grind (arith, elsewhere, bit_leads)
 
   in-7 : (b : Bool) (octets : List ℕ) (control : Control) → Leads Awaiting (frame_in_7 t b octets control) Awaiting
   in-7 b octets (Information ns nr p) =
@@ -99,17 +83,11 @@ module _ (t : Terms) where
       (number {P = Any} t nr acknowledged_in_7 (λ n c h from. acknowledged-7 n c from))))
   in-7 b octets (ReceiveNotReady nr pf) =
       then_leads {Q = Busy} {f = peer_busy_is true} (record { leads = λ c h. refl }) (then_leads {Q = Busy} (answered-busy b pf) (then_leads {Q = Busy} (unsolicited-busy (is_final b pf))
-      (number {P = Busy} t nr acknowledged_by_rnr_in_7 (λ n c h from. rnr-7 n c h))))
+      (number {P = Busy} t nr acknowledged_by_rnr_in_7 (λ n c h from. (record { holds = λ at timer. inl h })))))
   in-7 b octets (Reject nr pf) =
       any-then (peer_busy_is false) (any-then (answered t b pf) (any-then (unsolicited t (is_final b pf))
       (number {P = Any} t nr acknowledged_by_rej_in_7 (λ n c h from. record { holds = t203-runs _ _ _ _ }))))
-  in-7 b octets (Sabme p) = record { leads = λ c h. record { holds = t203-runs _ _ _ _ } }
-  in-7 b octets (Disc p) = record { leads = λ c h. record { holds = elsewhere TeiAssigned refl _ _ _ _ } }
-  in-7 b octets (Ua f) = ua-ends f
-  in-7 b octets (Dm false) = failed-ends ErrorCode.E
-  in-7 b octets (Frmr f) = failed-ends ErrorCode.K
-  in-7 b octets (Ui p) = unit-ends octets
-  in-7 b octets other = record { leads = λ c h. record { holds = h.holds } }
+  in-7 b octets control = grind (arith, t203-runs, elsewhere, ua-ends, failed-ends, bit_leads)
 
   -- state 8: it stays, or T203 is started, or the terminal is busy
   at-8 : {f : Step} → Leads (At TimerRecovery) f (At TimerRecovery) → Leads (At TimerRecovery) f Awaiting
@@ -124,32 +102,11 @@ module _ (t : Terms) where
   recovers-busy : (final : Bool) (n : ℕ) → Leads (BusyAt TimerRecovery) (acknowledged_in_8 T200 final n) Awaiting
   recovers-busy final n = grind (arith, bit_leads, stays-elsewhere)
 
-  supervisory-8 : (busy b pf : Bool) (nr : Seq) → Leads (At TimerRecovery)
-      (supervisory t (particulars_in_8 t) busy b pf nr (acknowledged_in_8 T203)) Awaiting
-  supervisory-8 busy b pf nr = grind (arith, then_leads, bit_leads, number, recovers)
-
   answered-busy-at : (here : State) (b pf : Bool) → Leads (BusyAt here) (answered t b pf) (BusyAt here)
   answered-busy-at here b pf = bit_leads {f = answer t} {g = nothing} (b && pf) (record { leads = λ c h. h }) (record { leads = λ c h. h })
 
   in-8 : (b : Bool) (octets : List ℕ) (control : Control) → Leads (At TimerRecovery) (frame_in_8 t b octets control) Awaiting
-  in-8 b octets (Information ns nr p) =
-      bit_leads _ (failed-ends ErrorCode.O)
-      (then_leads (contents-at TimerRecovery ns p octets) (number t nr acknowledge (λ n c h from. record { holds = stays-elsewhere TimerRecovery refl c.link.state h _ _ _ _ })))
-  in-8 b octets (ReceiveReady nr pf) = supervisory-8 false b pf nr
-  in-8 b octets (ReceiveNotReady nr pf) =
-      let final = is_final b pf in
-      then_leads {Q = BusyAt TimerRecovery} {f = peer_busy_is true} (record { leads = λ c h. (h, refl) }) (then_leads {Q = BusyAt TimerRecovery} (answered-busy-at TimerRecovery b pf)
-      (then_leads {Q = BusyAt TimerRecovery} {f = solicited final} (record { leads = λ c h. h })
-      (number t nr (acknowledged_in_8 T200 final) (λ n c h from. (recovers-busy final n).leads c h))))
-  in-8 b octets (Reject nr pf) = supervisory-8 false b pf nr
-  in-8 b octets (Sabme p) = record { leads = λ c h. record { holds = t203-runs _ _ _ _ } }
-  in-8 b octets (Disc p) = record { leads = λ c h. record { holds = elsewhere TeiAssigned refl _ _ _ _ } }
-  in-8 b octets (Ua f) = at-8 (bit_leads f (record { leads = λ c h. h }) (record { leads = λ c h. h }))
-  in-8 b octets (Dm true) = failed-ends ErrorCode.B
-  in-8 b octets (Dm false) = failed-ends ErrorCode.E
-  in-8 b octets (Frmr f) = failed-ends ErrorCode.K
-  in-8 b octets (Ui p) = at-8 (bit_leads _ (record { leads = λ c h. h }) (record { leads = λ c h. h }))
-  in-8 b octets (Xid pf) = at-8 (record { leads = λ c h. h })
+  in-8 b octets control = grind (arith, bit_leads, failed-ends, then_leads, contents-on, number, stays-elsewhere, recovers, answered-busy-at, recovers-busy, t203-runs)
 
 -- Each event.
 module _ (t : Terms) (l : Link) (h : Awaits l.state l.running l.peer_busy l.a l.s) (ordered : l.a ≤ l.s) where
@@ -187,10 +144,4 @@ module _ (t : Terms) (l : Link) (h : Awaits l.state l.running l.peer_busy l.a l.
 
   pub event-awaits : (e : Event) → Awaiting (course t e l)
   event-awaits (received (frame f)) = frames l.state refl f.address.command f.info f.control
-  event-awaits (received undefined) = malformed l.state ErrorCode.L
-  event-awaits (received wrong_size) = malformed l.state ErrorCode.N
-  event-awaits (received overlong) = malformed l.state ErrorCode.O
-  event-awaits (expired timer) = both_ways Awaiting (is_running timer l) _ _ (expiries l.state refl timer) before
-  event-awaits (requested request full) = asked request (refusal t l full request)
-  event-awaits offer = offers l.waiting
-  event-awaits cleared = record { holds = elsewhere TeiAssigned refl _ _ _ _ }
+  event-awaits e = grind (arith, malformed, both_ways, expiries, before, asked, offers, elsewhere)

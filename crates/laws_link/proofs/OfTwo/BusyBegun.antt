@@ -8,7 +8,7 @@ use Rattle.laws_link.proofs.OfTwo.Acknowledging.{Acknowledges, by-rr, by-informa
 use Rattle.laws_link.proofs.OfTwo.Recovering.{Sounds, sounds-near, sounds-far}
 use Rattle.laws_link.proofs.OfTwo.Recovery.{after-round}
 use Rattle.laws_link.proofs.OfTwo.BusyShapes.{busy_report, learns-7}
-use Rattle.laws_link.proofs.OfTwo.BusyRounds.{Paired, Done, first-open, from-near, from-far, gets-through, paired-shapes}
+use Rattle.laws_link.proofs.OfTwo.BusyRounds.{Paired, Done, first-open, from-near, from-far, gets-through}
 
 -- what the other's I-frame, or acknowledgement, is to a busy end in state 7 whose report waits
 record Heeds (n : End) (ws : List ControlFrame) (x s : ℕ) (p : Bool) (ds : List (List ℕ)) (n' : End) : Type 0 where
@@ -45,9 +45,6 @@ module _ (n : End) (h : IsReady n) where
         delivered = n.delivered ++ [];
       }
 
-  begins-busy : with_link (requested SetBusy false) n ≡ reporting n
-  begins-busy = grind (arith, is_plain, lt-ltb, in_7_with, busy_report, append-nil)
-
 one-passed : (P : Ends → Type 0) (u : ℕ) (e : Ends) → P (rounds (u + 1) (far_moves (near_moves e))) → P (rounds (u + 2) e)
 one-passed P u e h =
     let count : suc (u + 1) ≡ u + 2 = omega arith in
@@ -64,9 +61,6 @@ module _ (u : ℕ) (n m : End) (hn : IsReady n) (hm : IsReady m) (there : IsTake
   within-m : m.link.s ≤ m.link.a + 127
   within-m = let within : m.link.s ≤ m.link.a + m.terms.k = hm.sound.within in let small : m.terms.k ≤ 127 = hm.ranges.k_high in omega arith
 
-  names-s : named n.link.a n.link.s (seq m.link.r) ≡ Some n.link.s
-  names-s = grind (arith, named-number)
-
   delivered : m.delivered ≡ take n.link.s n.link.contents
   delivered = there.delivered ∙ ap (λ i. take i n.link.contents) there.received
 
@@ -77,7 +71,7 @@ module _ (u : ℕ) (n m : End) (hn : IsReady n) (hm : IsReady m) (there : IsTake
 
   pair : (a s' : ℕ) (p : Bool) (running : Option LinkTimer) → m.link.s ≤ s' → (a < n.link.s → p ≡ true) → Sounds (reported a s' p running)
       → Paired true n.link.r n.delivered n.link.contents m.link.contents (reported a s' p running).near (reported a s' p running).far
-  pair a s' p running up owed s = grind (arith, paired-shapes, delivered)
+  pair a s' p running up owed s = grind (arith, delivered)
 
   -- The busy end is near.
   module _ where
@@ -133,9 +127,8 @@ module _ (u : ℕ) (n m : End) (hn : IsReady n) (hm : IsReady m) (there : IsTake
     informs may h =
         let parts = and_parts (nat_lt (m.link.s - m.link.a) m.terms.k) (nat_lt m.link.s (length m.link.contents)) may in
         let few : m.link.s - m.link.a < m.terms.k = ltb-true (m.link.s - m.link.a) m.terms.k parts.0 in
-        let ordered : m.link.a ≤ m.link.s = hm.sound.ordered in
         let small : m.terms.k ≤ 127 = hm.ranges.k_high in
-        let d = drops n (busy_report n.link.r ∷ []) n.link.a n.link.s false n.link.running n.delivered m.terms m.link n.link.s names-s hn.sound.ordered
+        let d = drops n (busy_report n.link.r ∷ []) n.link.a n.link.s false n.link.running n.delivered m.terms m.link n.link.s (grind (arith, named-number)) hn.sound.ordered
         (le-ltb n.terms.n201 (length (unwrap_or (slice_get m.link.contents m.link.s) [])) (fits-at n.terms.n201 m.link.contents m.link.s back.sizes)) in
         let running' = (with_information m.link).running in
         let next : near_moves far_first ≡ far_heard n.link.s (m.link.s + 1) false d.running running' =
@@ -144,7 +137,7 @@ module _ (u : ℕ) (n m : End) (hn : IsReady n) (hm : IsReady m) (there : IsTake
 
     acknowledges : may_send_information m.terms (plain m.link) ≡ false → m.link.pending ≡ true → Sounds far_first → FarDone (near_moves far_first)
     acknowledges may owed h =
-        let d = notes n (busy_report n.link.r ∷ []) n.link.a n.link.s false n.link.running n.delivered m.terms m.link n.link.s names-s hn.sound.ordered in
+        let d = notes n (busy_report n.link.r ∷ []) n.link.a n.link.s false n.link.running n.delivered m.terms m.link n.link.s (grind (arith, named-number)) hn.sound.ordered in
         let next : near_moves far_first ≡ far_heard n.link.s m.link.s false d.running m.link.running =
         plain-first ∙ ap giving (gives-acknowledgement false false m may owed) ∙ ap (λ y. record { near = record m { link = record (plain m.link) { pending = false }; way = [] }; far = y }) d.is in
         subst FarDone (sym next) (after-heard n.link.s m.link.s false d.running m.link.running (omega arith) within-m (λ less. absurd (omega (arith, less))) (subst Sounds next (sounds-near far_first h)))
@@ -166,24 +159,21 @@ module _ (u : ℕ) (n m : End) (hn : IsReady n) (hm : IsReady m) (there : IsTake
 abbrev pub Begun : End → End → End → End → Type 0
 Begun n m n' m' = GetsThrough n m n' m' × (m'.link.peer_busy ≡ true)
 
-begun-through : (n m n' m' : End) → Done true n.link.r n.delivered n.link.contents m.link.contents n' m' → Begun n m n' m'
-begun-through n m n' m' h = (gets-through true n m n' m' h, h.paired.taken_for)
-
 module _ (u : ℕ) (e : Ends) where
   pub near-through : IsReady e.near → IsReady e.far → IsTaken e.near e.far → IsTaken e.far e.near → HasUnsent u e.near
       → Begun e.near e.far (rounds (u + 2) (with_near_busy e)).near (rounds (u + 2) (with_near_busy e)).far
   near-through hn hm there back un =
-      let is : with_near_busy e ≡ record { near = reporting e.near; far = e.far } = ap (λ x. record { near = x; far = e.far }) (begins-busy e.near hn) in
+      let is : with_near_busy e ≡ record { near = reporting e.near; far = e.far } = ap (λ x. record { near = x; far = e.far }) (grind (arith, is_plain, lt-ltb, in_7_with, busy_report, append-nil)) in
       let s : Sounds (with_near_busy e) =
       record { near_ranges = hn.ranges; far_ranges = hm.ranges; near = sound-after e.near.terms hn.ranges (requested SetBusy false) e.near.link hn.sound; far = hm.sound } in
       subst (λ e'. Begun e.near e.far (rounds (u + 2) e').near (rounds (u + 2) e').far) (sym is)
-      (begun-through e.near e.far _ _ (near-begun u e.near e.far hn hm there back un (subst Sounds is s)))
+      ((gets-through true e.near e.far _ _ (near-begun u e.near e.far hn hm there back un (subst Sounds is s)), (near-begun u e.near e.far hn hm there back un (subst Sounds is s)).paired.taken_for))
 
   pub far-through : IsReady e.far → IsReady e.near → IsTaken e.far e.near → IsTaken e.near e.far → HasUnsent u e.far
       → Begun e.far e.near (rounds (u + 2) (with_far_busy e)).far (rounds (u + 2) (with_far_busy e)).near
   far-through hn hm there back un =
-      let is : with_far_busy e ≡ record { near = e.near; far = reporting e.far } = ap (λ x. record { near = e.near; far = x }) (begins-busy e.far hn) in
+      let is : with_far_busy e ≡ record { near = e.near; far = reporting e.far } = ap (λ x. record { near = e.near; far = x }) (grind (arith, is_plain, lt-ltb, in_7_with, busy_report, append-nil)) in
       let s : Sounds (with_far_busy e) =
       record { near_ranges = hm.ranges; far_ranges = hn.ranges; near = hm.sound; far = sound-after e.far.terms hn.ranges (requested SetBusy false) e.far.link hn.sound } in
       subst (λ e'. Begun e.far e.near (rounds (u + 2) e').far (rounds (u + 2) e').near) (sym is)
-      (begun-through e.far e.near _ _ (far-begun u e.far e.near hn hm there back un (subst Sounds is s)))
+      ((gets-through true e.far e.near _ _ (far-begun u e.far e.near hn hm there back un (subst Sounds is s)), (far-begun u e.far e.near hn hm there back un (subst Sounds is s)).paired.taken_for))

@@ -21,12 +21,6 @@ pub record Flags (own busy : Bool) (n : End) : Type 0 where
 flags : (own busy : Bool) (n : End) → Flags own busy n → n ≡ plain_end_with own busy n
 flags own busy n h = grind arith
 
-busy-flags : (n : End) → IsBusyItself n → Flags true false n
-busy-flags n h = record { state = h.state; own_busy = h.own_busy; peer_busy = h.peer_busy; waiting = h.waiting; way = h.way }
-
-open-flags : (m : End) → IsOpenItself m → Flags false m.link.peer_busy m
-open-flags m h = record { state = h.state; own_busy = h.own_busy; peer_busy = refl; waiting = h.waiting; way = h.way }
-
 -- an I-frame at the open end, and at the busy end, and an acknowledgement there
 module _ (m : End) where
   abbrev having : Course → End
@@ -116,48 +110,21 @@ module _ (n m : End) (hn : IsBusyItself n) (hm : IsOpenItself m) (there : IsTake
   quiet = hn.sound.owes_nothing hn.own_busy
 
   is-n : n ≡ plain_end_with true false n
-  is-n = flags true false n (busy-flags n hn)
+  is-n = flags true false n (record { state = hn.state; own_busy = hn.own_busy; peer_busy = hn.peer_busy; waiting = hn.waiting; way = hn.way })
 
   is-m : m ≡ plain_end_with false m.link.peer_busy m
-  is-m = flags false m.link.peer_busy m (open-flags m hm)
-
-  names-r : named m.link.a m.link.s (seq n.link.r) ≡ Some n.link.r
-  names-r = grind (arith, named-number)
-
-  names-s : named n.link.a n.link.s (seq m.link.r) ≡ Some n.link.s
-  names-s = grind (arith, named-number)
+  is-m = flags false m.link.peer_busy m (record { state = hm.state; own_busy = hm.own_busy; peer_busy = refl; waiting = hm.waiting; way = hm.way })
 
   -- the busy end gives an I-frame
   busy-one : may_send_information n.terms (plain n.link) ≡ true → BusyMoved n m (giver_of n) (taker_of n m)
   busy-one may =
-      let parts = and_parts (nat_lt _ n.terms.k) (nat_lt n.link.s (length n.link.contents)) may in
       let gives : with_sent n ≡ record n { link = with_information_with true false n.link; way = information_frame n.terms n.link ∷ [] } = ap with_sent is-n ∙ gives-information true false n may in
       let fits = le-ltb m.terms.n201 (length (unwrap_or (slice_get n.link.contents n.link.s) [])) (fits-at m.terms.n201 n.link.contents n.link.s there.sizes) in
-      let takes =
-      ap (with_link (received (frame (information_frame n.terms n.link)))) is-m
-      ∙ takes-one m m.link.peer_busy n.terms n.link n.link.r fits names-r back.low (eq-eqb (seq n.link.s).value (seq m.link.r).value (ap (λ i. (seq i).value) (sym there.received))) in
-      subst (λ x. BusyMoved n m (with_first_lost x) (with_first_of x.way m)) (sym gives)
-      (subst (λ y. BusyMoved n m (record n { link = with_information_with true false n.link; way = [] }) y) (sym takes)
-      (record {
-        giver = record { terms = refl; contents = refl };
-        giver_flags = record { state = refl; own_busy = refl; peer_busy = refl; waiting = refl; way = refl };
-        taker = record { terms = refl; contents = refl };
-        taker_flags = record { state = refl; own_busy = refl; peer_busy = refl; waiting = refl; way = refl };
-        received = refl;
-        delivered = refl;
-        a = refl;
-        low = omega arith;
-        s = refl;
-        moved = inl (record { unsent = ltb-true n.link.s (length n.link.contents) parts.1; sent = refl; received = refl; pending = refl; delivered = refl });
-      }))
-
-  -- or nothing
-  busy-none : may_send_information n.terms (plain n.link) ≡ false → BusyMoved n m (giver_of n) (taker_of n m)
-  busy-none may = grind (arith, with_acknowledgement_with, is-n, gives-nothing, quiet, open-flags)
+      grind (arith, information_frame, is-m, takes-one, named-number, eq-eqb, with_information_with, ltb-true)
 
   busy-by : (may : Bool) → may_send_information n.terms (plain n.link) ≡ may → BusyMoved n m (giver_of n) (taker_of n m)
   busy-by true e = busy-one e
-  busy-by false e = busy-none e
+  busy-by false e = grind (arith, with_acknowledgement_with, is-n, gives-nothing, quiet)
 
   pub busy-moves : BusyMoved n m (giver_of n) (taker_of n m)
   busy-moves = busy-by (may_send_information n.terms (plain n.link)) refl
@@ -165,33 +132,26 @@ module _ (n m : End) (hn : IsBusyItself n) (hm : IsOpenItself m) (there : IsTake
   grows : (k : ℕ) → k ≤ k + 1
   grows k = omega arith
 
-  stays-as : (k : ℕ) → k ≤ k
-  stays-as k = omega arith
-
   -- the other end gives an I-frame, which is dropped,
   open-one : may_send_information m.terms (plain_with false m.link.peer_busy m.link) ≡ true → OpenMoved n m (taker_of m n) (giver_of m)
   open-one may =
       let gives : with_sent m ≡ record m { link = with_information_with false m.link.peer_busy m.link; way = information_frame m.terms m.link ∷ [] } = ap with_sent is-m ∙ gives-information false m.link.peer_busy m may in
       let fits = le-ltb n.terms.n201 (length (unwrap_or (slice_get m.link.contents m.link.s) [])) (fits-at n.terms.n201 m.link.contents m.link.s back.sizes) in
       let takes =
-      ap (with_link (received (frame (information_frame m.terms m.link)))) is-n ∙ drops-one n false m.terms m.link n.link.s fits names-s hn.sound.ordered in
+      ap (with_link (received (frame (information_frame m.terms m.link)))) is-n ∙ drops-one n false m.terms m.link n.link.s fits (grind (arith, named-number)) hn.sound.ordered in
       subst (λ x. OpenMoved n m (with_first_of x.way n) (with_first_lost x)) (sym gives)
       (subst (λ y. OpenMoved n m y (record m { link = with_information_with false m.link.peer_busy m.link; way = [] })) (sym takes)
-      (search (append-nil, grows, stays-as) parts 3))
+      (search (append-nil, grows) parts 3))
 
   -- or an acknowledgement,
   open-note : may_send_information m.terms (plain_with false m.link.peer_busy m.link) ≡ false → m.link.pending ≡ true → OpenMoved n m (taker_of m n) (giver_of m)
   open-note may owed =
       let gives : with_sent m ≡ record m { link = with_acknowledgement_with false m.link.peer_busy m.link; way = acknowledgement_frame m.terms m.link ∷ [] } = ap with_sent is-m ∙ gives-acknowledgement false m.link.peer_busy m may owed in
-      let takes =
-      ap (with_link (received (frame (acknowledgement_frame m.terms m.link)))) is-n ∙ takes-note n true m.terms m.link n.link.s names-s hn.sound.ordered in
-      subst (λ x. OpenMoved n m (with_first_of x.way n) (with_first_lost x)) (sym gives)
-      (subst (λ y. OpenMoved n m y (record m { link = with_acknowledgement_with false m.link.peer_busy m.link; way = [] })) (sym takes)
-      (search (append-nil, grows, stays-as) parts 3))
+      grind (arith, acknowledgement_frame, is-n, takes-note, named-number, with_acknowledgement_with, append-nil)
 
   -- or nothing: then nothing of the busy end's is outstanding
   open-none : may_send_information m.terms (plain_with false m.link.peer_busy m.link) ≡ false → m.link.pending ≡ false → OpenMoved n m (taker_of m n) (giver_of m)
-  open-none may owed = grind (arith, with_acknowledgement_with, is-m, gives-nothing, busy-flags, ltb-true, nat_lt, grows)
+  open-none may owed = grind (arith, with_acknowledgement_with, is-m, gives-nothing, ltb-true, nat_lt, grows)
 
   open-by : (may owed : Bool) → may_send_information m.terms (plain_with false m.link.peer_busy m.link) ≡ may → m.link.pending ≡ owed → OpenMoved n m (taker_of m n) (giver_of m)
   open-by true owed e p = open-one e

@@ -7,7 +7,7 @@ use Rattle.laws_link.proofs.OfTwo.Arriving.{near_moves, far_moves}
 use Rattle.laws_link.proofs.OfTwo.Shapes.{enquiry, reply, enquiry_with, reply_with, in_8, in_8_with, in_7, in_7_with, with_one_more, asked-8, answered-8, acknowledged-8, informed-8, asked-7}
 use Rattle.laws_link.proofs.OfTwo.Recovering.{Sounds, sounds-near, sounds-far, Between, room-0, room-1, names-a, names-r}
 use Rattle.laws_link.proofs.OfTwo.BusyShapes.{heeds-8, heeds-7, learns-8, drops-8}
-use Rattle.laws_link.proofs.OfTwo.BusyRounds.{Paired, paired-shapes}
+use Rattle.laws_link.proofs.OfTwo.BusyRounds.{Paired}
 
 -- The busy end is n.
 module _ (u v : ℕ) (cn cm : List (List ℕ)) (n m : End) (there : Between u cn n m) (back : Between v cm m n) where
@@ -37,10 +37,6 @@ module _ (u v : ℕ) (cn cm : List (List ℕ)) (n m : End) (there : Between u cn
 
     abbrev answered_m : End
     answered_m = in_7_with false true m [] n.link.r n.link.r false (Some T200) m.delivered
-
-    both-answered : IsSound n.terms answered_n.link → IsSound m.terms answered_m.link
-        → Paired true n.link.r n.delivered n.link.contents m.link.contents answered_n answered_m
-    both-answered sn sm = grind (arith, paired-shapes)
 
     -- the busy end is near
     abbrev n_1 : Ends
@@ -79,7 +75,7 @@ module _ (u v : ℕ) (cn cm : List (List ℕ)) (n m : End) (there : Between u cn
     both-near h =
         let e0 : Ends = record { near = asking_n; far = asking_m } in
         let s = subst Sounds near-all (sounds-far (near_moves (far_moves (near_moves e0))) (sounds-near (far_moves (near_moves e0)) (sounds-far (near_moves e0) (sounds-near e0 h)))) in
-        subst (NearReady true) (sym near-all) (both-answered s.near s.far, there.left)
+        subst (NearReady true) (sym near-all) ((grind arith), there.left)
 
     -- it is far
     abbrev f_1 : Ends
@@ -118,7 +114,7 @@ module _ (u v : ℕ) (cn cm : List (List ℕ)) (n m : End) (there : Between u cn
     both-far h =
         let e0 : Ends = record { near = asking_m; far = asking_n } in
         let s = subst Sounds far-all (sounds-far (near_moves (far_moves (near_moves e0))) (sounds-near (far_moves (near_moves e0)) (sounds-far (near_moves e0) (sounds-near e0 h)))) in
-        subst (FarReady true) (sym far-all) (both-answered s.far s.near, there.left)
+        subst (FarReady true) (sym far-all) ((grind arith), there.left)
 
   -- The busy end asks, and the other has nothing outstanding. It is near: one round.
   module _ (bn p : Bool) (running : Option LinkTimer) where
@@ -141,17 +137,10 @@ module _ (u v : ℕ) (cn cm : List (List ℕ)) (n m : End) (there : Between u cn
         ap (λ x. record { near = x; far = in_7_with false true m [] n.link.r m.link.s false (Some T200) m.delivered })
         (answered-8 true n [] bn n.link.a false n.delivered m.terms m.link.r m.link.r (names-a n m there))
 
-    busy-both : far_moves (near_moves busy_asks) ≡ busy_answered
-    busy-both = ap far_moves busy-1 ∙ busy-2
-
     pub busy-near : Sounds busy_asks → NearReady true (far_moves (near_moves busy_asks))
     busy-near h =
-        let s = subst Sounds busy-both (sounds-far (near_moves busy_asks) (sounds-near busy_asks h)) in
-        subst (NearReady true) (sym busy-both) (
-          paired-shapes n m m.link.r m.link.r n.link.r m.link.s true false (Some T203) (Some T200) m.delivered there.ranges back.ranges s.near s.far refl there.delivered
-              (λ less. absurd (omega (arith, less))) there.sizes (omega arith) back.high back.sizes,
-          there.left,
-        )
+        let s = subst Sounds (ap far_moves busy-1 ∙ busy-2) (sounds-far (near_moves busy_asks) (sounds-near busy_asks h)) in
+        grind (arith, far_moves, busy-1, busy-2)
 
   -- The other asks, and the busy end, far, has nothing outstanding: one round.
   module _ (bm : Bool) (running : Option LinkTimer) (all : n.link.s ≤ n.link.a) where
@@ -167,35 +156,21 @@ module _ (u v : ℕ) (cn cm : List (List ℕ)) (n m : End) (there : Between u cn
     abbrev other_answered : Ends
     other_answered = record { near = in_7_with false true m [] n.link.r n.link.r false (Some T200) m.delivered; far = in_7_with true false n [] n.link.a n.link.s false later n.delivered }
 
-    at-a : m.link.r ≡ n.link.a
-    at-a = grind arith
-
-    at-s : m.link.r ≡ n.link.s
-    at-s = grind arith
-
     other-1 : near_moves other_asks ≡ busy_replies
     other-1 =
         ap (λ y. record { near = in_8 m [] bm m.link.a false m.delivered; far = y })
-        (asked-7 true n n.link.a n.link.s false running n.delivered m.terms m.link.r (room-0 n there.ranges) (names-a n m there ∙ ap Some at-a))
+        (asked-7 true n n.link.a n.link.s false running n.delivered m.terms m.link.r (room-0 n there.ranges) (names-a n m there ∙ ap Some (grind arith)))
 
     other-2 : far_moves busy_replies ≡ other_answered
     other-2 =
         ap (λ x. record { near = x; far = in_7_with true false n [] n.link.a n.link.s false later n.delivered })
         (learns-8 m [] bm m.link.a false m.delivered n.terms n.link.r n.link.r (names-a m n back))
 
-    other-both : far_moves (near_moves other_asks) ≡ other_answered
-    other-both = ap far_moves other-1 ∙ other-2
-
     pub other-near : Sounds other_asks → FarReady true (far_moves (near_moves other_asks))
     other-near h =
-        let s = subst Sounds other-both (sounds-far (near_moves other_asks) (sounds-near other_asks h)) in
+        let s = subst Sounds (ap far_moves other-1 ∙ other-2) (sounds-far (near_moves other_asks) (sounds-near other_asks h)) in
         let left : length n.link.contents ≤ m.link.r + u = there.left in
-        subst (FarReady true) (sym other-both) (
-          paired-shapes n m n.link.a n.link.s n.link.r n.link.r true false later (Some T200) m.delivered there.ranges back.ranges s.far s.near at-s
-              (there.delivered ∙ ap (λ i. take i n.link.contents) at-s)
-              (λ less. absurd (omega (arith, less, all))) there.sizes (omega arith) (omega arith) back.sizes,
-          omega (arith, left, at-s),
-        )
+        grind (arith, far_moves, other-1, other-2)
 
   -- The other asks, and the busy end, near, has nothing outstanding: a round and a half, after which the other's turn is as any.
   module _ (bm : Bool) (all : n.link.s ≤ n.link.a) (quiet : n.link.pending ≡ false) where
@@ -204,12 +179,6 @@ module _ (u v : ℕ) (cn cm : List (List ℕ)) (n m : End) (there : Between u cn
 
     abbrev with_received : ℕ → Bool → End
     with_received r q = record m { link = record m.link { r = r; rejecting = q } }
-
-    began-at : n.link.a ≡ m.link.r
-    began-at = grind arith
-
-    began-sent : n.link.s ≡ m.link.r
-    began-sent = grind arith
 
     -- what far has made of near's frame, if there was one
     abbrev heard : ℕ → ℕ → Bool → Bool → Bool → Option LinkTimer → List (List ℕ) → Ends
@@ -232,15 +201,14 @@ module _ (u v : ℕ) (cn cm : List (List ℕ)) (n m : End) (there : Between u cn
           let one : far_moves (heard r' a' q b p running ds) ≡ then_replied =
           ap (λ x. record { near = x; far = in_8 (with_received r' q) [] b a' p ds })
           (asked-7 true n n.link.a r' false running n.delivered m.terms m.link.r (room-0 n there.ranges)
-          (subst (λ i. named n.link.a r' (seq i) ≡ Some n.link.a) began-at (named-number n.link.a r' n.link.a (omega arith) up within))) in
+          (subst (λ i. named n.link.a r' (seq i) ≡ Some n.link.a) (grind arith) (named-number n.link.a r' n.link.a (omega arith) up within))) in
           let two : near_moves then_replied ≡ then_answered =
           ap (λ y. record { near = in_7_with true false n [] n.link.a r' false then_later n.delivered; far = y })
           (learns-8 (with_received r' q) [] b a' p ds n.terms n.link.r n.link.r names) in
           let both = ap near_moves one ∙ two in
           let s = subst Sounds both (sounds-near (far_moves (heard r' a' q b p running ds)) (sounds-far (heard r' a' q b p running ds) h)) in
           subst (NearReady true) (sym both) (
-            paired-shapes n (with_received r' q) n.link.a r' n.link.r n.link.r true p then_later (Some T200) ds there.ranges back.ranges s.near s.far refl delivered
-                owed there.sizes (omega arith) (omega arith) back.sizes,
+            (grind arith),
             left,
           )
 
@@ -253,34 +221,31 @@ module _ (u v : ℕ) (cn cm : List (List ℕ)) (n m : End) (there : Between u cn
         let unsent : n.link.s < length n.link.contents = ltb-true n.link.s (length n.link.contents) parts.1 in
         let octets = unwrap_or (slice_get n.link.contents n.link.s) [] in
         let running = (with_information_with true false n.link).running in
-        let one : suc n.link.s ≡ m.link.r + 1 = omega (arith, began-sent) in
+        let one : suc n.link.s ≡ m.link.r + 1 = omega arith in
         let next : near_moves other_began ≡ heard (m.link.r + 1) n.link.r false bm true running (m.delivered ++ octets ∷ []) =
         ap (λ x. record { near = with_first_lost x; far = with_first_of x.way (in_8 m (enquiry m.link.r ∷ []) bm m.link.a false m.delivered) }) (gives-information true false n may)
         ∙ ap (λ y. record { near = record n { link = with_information_with true false n.link; way = [] }; far = y })
         (informed-8 m (enquiry m.link.r ∷ []) bm m.link.a false m.delivered n.terms n.link n.link.r
         (le-ltb m.terms.n201 (length octets) (fits-at m.terms.n201 n.link.contents n.link.s there.sizes))
-        (eq-eqb (seq n.link.s).value (seq m.link.r).value (ap (λ i. (seq i).value) began-sent)) (names-a m n back))
-        ∙ ap (λ i. record { near = in_7_with true false n [] n.link.a (i + 1) false running n.delivered; far = in_8 (with_one_more m) (enquiry m.link.r ∷ []) bm n.link.r true (m.delivered ++ octets ∷ []) }) began-sent in
+        (eq-eqb (seq n.link.s).value (seq m.link.r).value (ap (λ i. (seq i).value) (grind arith))) (names-a m n back))
+        ∙ ap (λ i. record { near = in_7_with true false n [] n.link.a (i + 1) false running n.delivered; far = in_8 (with_one_more m) (enquiry m.link.r ∷ []) bm n.link.r true (m.delivered ++ octets ∷ []) }) (grind arith) in
         let left : length n.link.contents ≤ m.link.r + u = there.left in
         subst (λ e. NearReady true (near_moves (far_moves e))) (sym next)
-        (heard-near (m.link.r + 1) n.link.r false bm true running (m.delivered ++ octets ∷ []) (names-r m n back) (omega (arith, began-at)) (omega (arith, began-at))
-        (ap (λ ds. ds ++ octets ∷ []) (there.delivered ∙ ap (λ i. take i n.link.contents) (sym began-sent)) ∙ take-one n.link.contents n.link.s unsent ∙ ap (λ i. take i n.link.contents) one)
+        (heard-near (m.link.r + 1) n.link.r false bm true running (m.delivered ++ octets ∷ []) (names-r m n back) (omega arith) (omega arith)
+        (ap (λ ds. ds ++ octets ∷ []) (there.delivered ∙ ap (λ i. take i n.link.contents) (sym (grind arith))) ∙ take-one n.link.contents n.link.s unsent ∙ ap (λ i. take i n.link.contents) one)
         (λ less. refl) (omega (arith, left)) (subst Sounds next (sounds-near other_began sounds)))
 
     began-nothing : may_send_information n.terms (plain_with true false n.link) ≡ false → Sounds other_began → BeganReady
     began-nothing may sounds =
         let next : near_moves other_began ≡ heard m.link.r m.link.a m.link.rejecting bm false n.link.running m.delivered =
         ap (λ x. record { near = with_first_lost x; far = with_first_of x.way (in_8 m (enquiry m.link.r ∷ []) bm m.link.a false m.delivered) }) (gives-nothing true false n may quiet)
-        ∙ ap (λ i. record { near = in_7_with true false n [] n.link.a i false n.link.running n.delivered; far = in_8 m (enquiry m.link.r ∷ []) bm m.link.a false m.delivered }) began-sent in
+        ∙ ap (λ i. record { near = in_7_with true false n [] n.link.a i false n.link.running n.delivered; far = in_8 m (enquiry m.link.r ∷ []) bm m.link.a false m.delivered }) (grind arith) in
         subst (λ e. NearReady true (near_moves (far_moves e))) (sym next)
-        (heard-near m.link.r m.link.a m.link.rejecting bm false n.link.running m.delivered (names-a m n back) there.low (omega (arith, began-at)) there.delivered
-        (λ less. absurd (omega (arith, less, began-at))) there.left (subst Sounds next (sounds-near other_began sounds)))
-
-    began-by : (may : Bool) → may_send_information n.terms (plain_with true false n.link) ≡ may → Sounds other_began → BeganReady
-    began-by may e = grind (arith, began-information, began-nothing)
+        (heard-near m.link.r m.link.a m.link.rejecting bm false n.link.running m.delivered (names-a m n back) there.low (omega arith) there.delivered
+        (λ less. absurd (omega (arith, less))) there.left (subst Sounds next (sounds-near other_began sounds)))
 
     pub other-began : Sounds other_began → BeganReady
-    other-began = began-by (may_send_information n.terms (plain_with true false n.link)) refl
+    other-began = grind (arith, began-information, began-nothing)
 
   -- The busy end asks, far, and the other has nothing outstanding: a round and a half, after which the busy end's turn is as any.
   module _ (bn : Bool) (all : m.link.s ≤ m.link.a) where
@@ -303,7 +268,6 @@ module _ (u v : ℕ) (cn cm : List (List ℕ)) (n m : End) (there : Between u cn
           → FarReady true (near_moves (far_moves (noted s' a' b running)))
       noted-far names up within h =
           let low : m.link.a ≤ n.link.r = back.low in
-          let high : n.link.r ≤ m.link.s = back.high in
           let one : far_moves (noted s' a' b running) ≡ noted_replied =
           ap (λ x. record { near = x; far = in_8_with true n [] b a' false n.delivered })
           (heeds-7 m false [] m.link.a s' false running m.delivered n.terms n.link.r n.link.r (room-0 m back.ranges) (named-number m.link.a s' n.link.r low (omega arith) within)) in
@@ -313,8 +277,7 @@ module _ (u v : ℕ) (cn cm : List (List ℕ)) (n m : End) (there : Between u cn
           let both = ap near_moves one ∙ two in
           let s = subst Sounds both (sounds-near (far_moves (noted s' a' b running)) (sounds-far (noted s' a' b running) h)) in
           subst (FarReady true) (sym both) (
-            paired-shapes n m m.link.r m.link.r n.link.r s' true false (Some T203) (Some T200) m.delivered there.ranges back.ranges s.far s.near refl there.delivered
-                (λ less. absurd (omega (arith, less))) there.sizes (omega arith) (omega arith) back.sizes,
+            (grind arith),
             there.left,
           )
 
@@ -326,13 +289,12 @@ module _ (u v : ℕ) (cn cm : List (List ℕ)) (n m : End) (there : Between u cn
 
     noted-information : may_send_information m.terms (plain m.link) ≡ true → Sounds busy_began → NotedReady
     noted-information may sounds =
-        let octets = unwrap_or (slice_get m.link.contents m.link.s) [] in
         let running = (with_information_with false false m.link).running in
         let next : near_moves busy_began ≡ noted (m.link.s + 1) m.link.r bn running =
         ap giving_far (gives-information false false m may)
         ∙ ap (λ y. record { near = record m { link = with_information_with false false m.link; way = [] }; far = y })
         (drops-8 n (enquiry_with true n.link.r ∷ []) bn n.link.a false n.delivered m.terms m.link m.link.r
-        (le-ltb n.terms.n201 (length octets) (fits-at n.terms.n201 m.link.contents m.link.s back.sizes)) (names-a n m there)) in
+        (le-ltb n.terms.n201 (length (unwrap_or (slice_get m.link.contents m.link.s) [])) (fits-at n.terms.n201 m.link.contents m.link.s back.sizes)) (names-a n m there)) in
         subst (λ e. FarReady true (near_moves (far_moves e))) (sym next)
         (noted-far (m.link.s + 1) m.link.r bn running (names-r n m there) (omega arith) (omega (arith, all)) (subst Sounds next (sounds-near busy_began sounds)))
 
@@ -351,14 +313,11 @@ module _ (u v : ℕ) (cn cm : List (List ℕ)) (n m : End) (there : Between u cn
         subst (λ e. FarReady true (near_moves (far_moves e))) (sym next)
         (noted-far m.link.s n.link.a bn m.link.running (names-a n m there) (omega arith) back.near (subst Sounds next (sounds-near busy_began sounds)))
 
-    noted-by : (may owed : Bool) → may_send_information m.terms (plain m.link) ≡ may → m.link.pending ≡ owed → Sounds busy_began → NotedReady
-    noted-by may owed e p = grind (arith, noted-information, noted-note, noted-nothing)
-
     pub busy-began : Sounds busy_began → NotedReady
-    busy-began = noted-by (may_send_information m.terms (plain m.link)) m.link.pending refl refl
+    busy-began = grind (arith, noted-information, noted-note, noted-nothing)
 
   -- Neither asks.
   pub none-asks : (p : Bool) (running running' : Option LinkTimer) → n.link.s ≤ n.link.a
       → IsSound n.terms (in_7_with true false n [] n.link.a n.link.s false running n.delivered).link → IsSound m.terms (in_7 m [] m.link.a m.link.s p running' m.delivered).link
       → Paired false n.link.r n.delivered n.link.contents m.link.contents (in_7_with true false n [] n.link.a n.link.s false running n.delivered) (in_7 m [] m.link.a m.link.s p running' m.delivered)
-  none-asks p running running' all sn sm = grind (arith, paired-shapes)
+  none-asks p running running' all sn sm = grind arith

@@ -42,9 +42,6 @@ module _ (P : Ends → Type 0) (u : ℕ) (e : Ends) where
 no-t200 : (n m : End) (busy : Bool) → n.link.running ≡ Some T203 → m.link.running ≡ Some T203 → (n.link.running ≡ Some T200) ⊎ (m.link.running ≡ Some T200) → busy ≡ true
 no-t200 n m busy rn rm o = grind arith
 
-missing-all : (n m : End) → HasMissing (length n.link.contents) n m
-missing-all n m = omega arith
-
 sounds : (own own' : Bool) (e : Ends) → IsCutOffWith own e.near e.far → IsCutOffWith own' e.far e.near → Sounds (with_t200_expired e)
 sounds own own' e hn hm =
     record {
@@ -63,11 +60,7 @@ module _ (u : ℕ) (n m : End) (hn : IsCutOffWith true n m) (hm : IsCutOff m n) 
   there b c = between true u u n m b c hn un (omega arith)
 
   back : (b c : ℕ) → Between v m.link.contents (with_count c m) (with_count b n)
-  back b c = between false v v m n c b hm (missing-all m n) (omega arith)
-
-  -- no acknowledgement is owed while own busy is on
-  rests-quiet : (n' : End) (x : Resting true n n') → n' ≡ in_7_with true false n [] n.link.a n.link.s false x.running n.delivered
-  rests-quiet n' x = x.is ∙ ap (λ p. in_7_with true false n [] n.link.a n.link.s p x.running n.delivered) (hn.sound.owes_nothing hn.own_busy)
+  back b c = between false v v m n c b hm (omega arith) (omega arith)
 
 -- The busy end is near.
 module _ (u : ℕ) (e : Ends) (hn : IsCutOffWith true e.near e.far) (hm : IsCutOff e.far e.near) (un : HasMissing u e.near e.far) where
@@ -95,17 +88,16 @@ module _ (u : ℕ) (e : Ends) (hn : IsCutOffWith true e.near e.far) (hm : IsCutO
       let e0 : Ends = record { near = in_8_with true n (enquiry_with true n.link.r ∷ []) n.link.peer_busy n.link.a false n.delivered; far = in_7 m [] m.link.a m.link.s m.link.pending y.running m.delivered } in
       let is : with_t200_expired e ≡ e0 = λ i. record { near = x.is i; far = y.is i } in
       let h = busy-near u (v u e.near e.far hn hm un) n.link.contents m.link.contents n m (there u e.near e.far hn hm un x.count e.far.link.repeats) (back u e.near e.far hn hm un x.count e.far.link.repeats) n.link.peer_busy m.link.pending y.running (subst Sounds is (sounds true false e hn hm)) in
-      let left = h.1 in
       subst (λ e'. NearFinished (rounds (u + 3) e')) (sym is)
       (one-passed NearFinished u e0
-      (record { busy = true; done = from-near (u + 1) true n.link.r n.delivered n.link.contents m.link.contents (far_moves (near_moves e0)) h.0 (omega (arith, left)); knows = λ some. refl }))
+      (record { busy = true; done = from-near (u + 1) true n.link.r n.delivered n.link.contents m.link.contents (far_moves (near_moves e0)) h.0 (omega (arith, h.1)); knows = λ some. refl }))
 
   near-other : (x : Resting true e.near (with_t200_expired e).near) (y : Asking false e.far (with_t200_expired e).far) → NearResult
   near-other x y =
       let n : End = record e.near { link = record e.near.link { running = x.running; pending = false } } in
       let m = with_count y.count e.far in
       let e0 : Ends = record { near = plain_end_with true false n; far = in_8 m (enquiry m.link.r ∷ []) m.link.peer_busy m.link.a false m.delivered } in
-      let is : with_t200_expired e ≡ e0 = λ i. record { near = rests-quiet u e.near e.far hn hm un (with_t200_expired e).near x i; far = y.is i } in
+      let is : with_t200_expired e ≡ e0 = λ i. record { near = (x.is ∙ ap (λ p. in_7_with true false e.near [] e.near.link.a e.near.link.s p x.running e.near.delivered) (hn.sound.owes_nothing hn.own_busy)) i; far = y.is i } in
       let t = there u e.near e.far hn hm un e.near.link.repeats y.count in
       let b = back u e.near e.far hn hm un e.near.link.repeats y.count in
       let t' : Between u n.link.contents n m = record { ranges = t.ranges; kept = t.kept; low = t.low; high = t.high; near = t.near; delivered = t.delivered; sizes = t.sizes; left = t.left } in
@@ -122,11 +114,10 @@ module _ (u : ℕ) (e : Ends) (hn : IsCutOffWith true e.near e.far) (hm : IsCutO
       let n = with_count e.near.link.repeats e.near in
       let m = with_count e.far.link.repeats e.far in
       let e0 : Ends = record { near = in_7_with true false n [] n.link.a n.link.s false x.running n.delivered; far = in_7 m [] m.link.a m.link.s m.link.pending y.running m.delivered } in
-      let is : with_t200_expired e ≡ e0 = λ i. record { near = rests-quiet u e.near e.far hn hm un (with_t200_expired e).near x i; far = y.is i } in
+      let is : with_t200_expired e ≡ e0 = λ i. record { near = (x.is ∙ ap (λ p. in_7_with true false e.near [] e.near.link.a e.near.link.s p x.running e.near.delivered) (hn.sound.owes_nothing hn.own_busy)) i; far = y.is i } in
       let s = subst Sounds is (sounds true false e hn hm) in
       let h = none-asks u (v u e.near e.far hn hm un) n.link.contents m.link.contents n m (there u e.near e.far hn hm un e.near.link.repeats e.far.link.repeats) (back u e.near e.far hn hm un e.near.link.repeats e.far.link.repeats) m.link.pending x.running y.running x.all s.near s.far in
       let low : n.link.a ≤ m.link.r = hn.low in
-      let high : m.link.r ≤ n.link.s = hn.high in
       subst (λ e'. NearFinished (rounds (u + 3) e')) (sym is)
       (none-passed NearFinished u e0
       (record { busy = false; done = from-near (u + 2) false n.link.r n.delivered n.link.contents m.link.contents e0 h (omega (arith, un, x.all)); knows = no-t200 e.near e.far false x.before y.before }))
@@ -184,23 +175,21 @@ module _ (u : ℕ) (e : Ends) (hn : IsCutOffWith true e.far e.near) (hm : IsCutO
       let n = with_count e.far.link.repeats e.far in
       let m = with_count y.count e.near in
       let e0 : Ends = record { near = in_8 m (enquiry m.link.r ∷ []) m.link.peer_busy m.link.a false m.delivered; far = in_7_with true false n [] n.link.a n.link.s false x.running n.delivered } in
-      let is : with_t200_expired e ≡ e0 = λ i. record { near = y.is i; far = rests-quiet u e.far e.near hn hm un (with_t200_expired e).far x i } in
+      let is : with_t200_expired e ≡ e0 = λ i. record { near = y.is i; far = (x.is ∙ ap (λ p. in_7_with true false e.far [] e.far.link.a e.far.link.s p x.running e.far.delivered) (hn.sound.owes_nothing hn.own_busy)) i } in
       let h = other-near u (v u e.far e.near hn hm un) n.link.contents m.link.contents n m (there u e.far e.near hn hm un e.far.link.repeats y.count) (back u e.far e.near hn hm un e.far.link.repeats y.count) m.link.peer_busy x.running x.all (subst Sounds is (sounds false true e hm hn)) in
-      let left = h.1 in
       subst (λ e'. FarFinished (rounds (u + 3) e')) (sym is)
       (one-passed FarFinished u e0
-      (record { busy = true; done = from-far (u + 1) true n.link.r n.delivered n.link.contents m.link.contents (far_moves (near_moves e0)) h.0 (omega (arith, left)); knows = λ some. refl }))
+      (record { busy = true; done = from-far (u + 1) true n.link.r n.delivered n.link.contents m.link.contents (far_moves (near_moves e0)) h.0 (omega (arith, h.1)); knows = λ some. refl }))
 
   far-none : (x : Resting true e.far (with_t200_expired e).far) (y : Resting false e.near (with_t200_expired e).near) → FarResult
   far-none x y =
       let n = with_count e.far.link.repeats e.far in
       let m = with_count e.near.link.repeats e.near in
       let e0 : Ends = record { near = in_7 m [] m.link.a m.link.s m.link.pending y.running m.delivered; far = in_7_with true false n [] n.link.a n.link.s false x.running n.delivered } in
-      let is : with_t200_expired e ≡ e0 = λ i. record { near = y.is i; far = rests-quiet u e.far e.near hn hm un (with_t200_expired e).far x i } in
+      let is : with_t200_expired e ≡ e0 = λ i. record { near = y.is i; far = (x.is ∙ ap (λ p. in_7_with true false e.far [] e.far.link.a e.far.link.s p x.running e.far.delivered) (hn.sound.owes_nothing hn.own_busy)) i } in
       let s = subst Sounds is (sounds false true e hm hn) in
       let h = none-asks u (v u e.far e.near hn hm un) n.link.contents m.link.contents n m (there u e.far e.near hn hm un e.far.link.repeats e.near.link.repeats) (back u e.far e.near hn hm un e.far.link.repeats e.near.link.repeats) m.link.pending x.running y.running x.all s.far s.near in
       let low : n.link.a ≤ m.link.r = hn.low in
-      let high : m.link.r ≤ n.link.s = hn.high in
       subst (λ e'. FarFinished (rounds (u + 3) e')) (sym is)
       (none-passed FarFinished u e0
       (record { busy = false; done = from-far (u + 2) false n.link.r n.delivered n.link.contents m.link.contents e0 h (omega (arith, un, x.all)); knows = no-t200 e.far e.near false x.before y.before }))

@@ -2,9 +2,10 @@
 use Rattle.laws_link.proofs.Vocabulary.{◌≡◌, ℕ, zero, suc, ◌+◌, ◌<◌, ◌≤◌, Bool, true, false, List, [], ◌∷◌, ◌++◌, length, take, Option, sym, ap, subst, ◌∙◌, ◌⊎◌, inl, inr, arith, All, nat_lt, slice_get, unwrap_or, lt-ltb, le-ltb, ltb-false, and_right, take-length, Parts, LinkTimer, frame, received, offer, IsInRange, IsSound, End, Ends, with_sent, with_first_of, sound-after, IsTaken, HasUnsent, HasArrived, rounds, IsBusyItself, IsOpenItself, IsDropped, GetsThrough, may_send_information}
 use Rattle.laws_link.proofs.OfTwo.Plain.{plain}
 use Rattle.laws_link.proofs.OfTwo.Halves.{take-one, One, Nothing, giver_of, taker_of}
-use Rattle.laws_link.proofs.OfTwo.Arriving.{near_moves, far_moves, no-more}
+use Rattle.laws_link.proofs.OfTwo.Arriving.{near_moves, far_moves, no-more, one-more}
 use Rattle.laws_link.proofs.OfTwo.Shapes.{in_7_with}
 use Rattle.laws_link.proofs.OfTwo.BusyMoves.{BusyMoved, OpenMoved, busy-moves, open-moves}
+use Rattle.laws_link.proofs.OfTwo.Recovering.{sound-taker}
 
 -- The busy end n and the other, m: what holds of them between two turns, with the busy end's numbers as they were at first.
 pub record Paired (busy : Bool) (r : ℕ) (ds cn cm : List (List ℕ)) (n m : End) : Type 0 where
@@ -18,16 +19,9 @@ pub record Paired (busy : Bool) (r : ℕ) (ds cn cm : List (List ℕ)) (n m : En
   pub kept_n : n.link.contents ≡ cn
   pub kept_m : m.link.contents ≡ cm
 
-sound-taker : (n : End) (way : List Parts) → IsInRange n.terms → IsSound n.terms n.link → IsSound (with_first_of way n).terms (with_first_of way n).link
-sound-taker n [] r h = h
-sound-taker n (f ∷ fs) r h = sound-after n.terms r (received (frame f)) n.link h
-
 module _ (busy : Bool) (r : ℕ) (ds cn cm : List (List ℕ)) (n m : End) (h : Paired busy r ds cn cm n m) where
   by-busy : BusyMoved n m (giver_of n) (taker_of n m)
   by-busy = busy-moves n m h.itself h.other h.taken h.dropped
-
-  by-open : OpenMoved n m (taker_of m n) (giver_of m)
-  by-open = open-moves n m h.itself h.other h.taken h.dropped
 
   -- what was sent is taken
   taken-after : One n m (giver_of n) (taker_of n m) ⊎ Nothing n m (giver_of n) (taker_of n m) → IsTaken (giver_of n) (taker_of n m)
@@ -42,13 +36,7 @@ module _ (busy : Bool) (r : ℕ) (ds cn cm : List (List ℕ)) (n m : End) (h : P
         owed = λ less. x.pending;
         sizes = subst (λ t. All (λ octets. length octets ≤ t.n201) (giver_of n).link.contents) (sym by-busy.taker.terms) (subst (λ cs. All (λ octets. length octets ≤ m.terms.n201) cs) (sym by-busy.giver.contents) h.taken.sizes);
       }
-  taken-after (inr x) =
-      record {
-        received = x.received ∙ h.taken.received ∙ sym x.sent;
-        delivered = x.delivered ∙ h.taken.delivered ∙ ap (λ i. take i n.link.contents) (sym x.received) ∙ ap (λ cs. take (taker_of n m).link.r cs) (sym by-busy.giver.contents);
-        owed = λ less. x.pending ∙ h.taken.owed (subst (λ i. i < n.link.s) by-busy.a (subst (λ i. (giver_of n).link.a < i) x.sent less));
-        sizes = subst (λ t. All (λ octets. length octets ≤ t.n201) (giver_of n).link.contents) (sym by-busy.taker.terms) (subst (λ cs. All (λ octets. length octets ≤ m.terms.n201) cs) (sym by-busy.giver.contents) h.taken.sizes);
-      }
+  taken-after (inr x) = grind (arith, taker_of, giver_of)
 
   pub busy-turn : Paired busy r ds cn cm (giver_of n) (taker_of n m)
   busy-turn =
@@ -57,14 +45,7 @@ module _ (busy : Bool) (r : ℕ) (ds cn cm : List (List ℕ)) (n m : End) (h : P
       let t = x.taker_flags in
       record {
         itself = record { ranges = h.itself.ranges; sound = sound-after n.terms h.itself.ranges offer n.link h.itself.sound; state = g.state; peer_busy = g.peer_busy; own_busy = g.own_busy; waiting = g.waiting; way = g.way };
-        other = record {
-          ranges = subst (λ t. IsInRange t) (sym x.taker.terms) h.other.ranges;
-          sound = sound-taker m (with_sent n).way h.other.ranges h.other.sound;
-          state = t.state;
-          own_busy = t.own_busy;
-          waiting = t.waiting;
-          way = t.way;
-        };
+        other = grind (arith, sound-taker);
         taken = taken-after x.moved;
         dropped = record {
           low = subst (λ i. (taker_of n m).link.a ≤ i) (sym x.received) x.low;
@@ -80,19 +61,11 @@ module _ (busy : Bool) (r : ℕ) (ds cn cm : List (List ℕ)) (n m : End) (h : P
 
   pub open-turn : Paired busy r ds cn cm (taker_of m n) (giver_of m)
   open-turn =
-      let x = by-open in
+      let x = (open-moves n m h.itself h.other h.taken h.dropped) in
       let g = x.giver_flags in
       let t = x.taker_flags in
       record {
-        itself = record {
-          ranges = subst (λ t. IsInRange t) (sym x.taker.terms) h.itself.ranges;
-          sound = sound-taker n (with_sent m).way h.itself.ranges h.itself.sound;
-          state = t.state;
-          peer_busy = t.peer_busy;
-          own_busy = t.own_busy;
-          waiting = t.waiting;
-          way = t.way;
-        };
+        itself = grind (arith, sound-taker);
         other = record { ranges = h.other.ranges; sound = sound-after m.terms h.other.ranges offer m.link h.other.sound; state = g.state; own_busy = g.own_busy; waiting = g.waiting; way = g.way };
         taken = record {
           received = x.other_received ∙ h.taken.received ∙ sym x.s;
@@ -130,22 +103,13 @@ first-open u busy r ds cn cm n m h left =
       left = subst (λ s. length (taker_of m n).link.contents ≤ s + u) (sym x.s) (subst (λ cs. length cs ≤ n.link.s + u) (sym x.taker.contents) left);
     }
 
--- with the window open one fewer is left
-nothing-unsent : (n : End) → IsBusyItself n → n.link.a ≡ n.link.s → may_send_information n.terms (plain n.link) ≡ false → length n.link.contents ≤ n.link.s
-nothing-unsent n h open_ may = grind (arith, nat_lt, lt-ltb, ltb-false)
-
-one-fewer : (v : ℕ) (n m n' m' : End) → IsBusyItself n → n.link.a ≡ n.link.s → length n.link.contents ≤ n.link.s + suc v → n'.link.contents ≡ n.link.contents
-    → One n m n' m' ⊎ Nothing n m n' m' → length n'.link.contents ≤ n'.link.s + v
-one-fewer v n m n' m' h o left kept x = grind (arith, nothing-unsent)
-
 -- the busy end's turn and the other's
 pub next-both : (u : ℕ) (busy : Bool) (r : ℕ) (ds cn cm : List (List ℕ)) (n m : End) → Ahead (suc u) busy r ds cn cm n m
     → Ahead u busy r ds cn cm (taker_of (taker_of n m) (giver_of n)) (giver_of (taker_of n m))
 next-both u busy r ds cn cm n m h =
     let p = h.paired in
-    let x = busy-moves n m p.itself p.other p.taken p.dropped in
     first-open u busy r ds cn cm (giver_of n) (taker_of n m) (busy-turn busy r ds cn cm n m p)
-    (one-fewer u n m (giver_of n) (taker_of n m) p.itself h.acknowledged h.left x.giver.contents x.moved)
+    (grind (arith, nat_lt, lt-ltb, ltb-false))
 
 -- At the end.
 pub record Done (busy : Bool) (r : ℕ) (ds cn cm : List (List ℕ)) (n m : End) : Type 0 where
@@ -153,24 +117,17 @@ pub record Done (busy : Bool) (r : ℕ) (ds cn cm : List (List ℕ)) (n m : End)
   pub acknowledged : n.link.a ≡ n.link.s
   pub all : length n.link.contents ≤ n.link.s
 
-done-first : (busy : Bool) (r : ℕ) (ds cn cm : List (List ℕ)) (n m : End) → Ahead 0 busy r ds cn cm n m → Done busy r ds cn cm n m
-done-first busy r ds cn cm n m h = record { paired = h.paired; acknowledged = h.acknowledged; all = omega (arith, h.left) }
-
--- with all sent the busy end's turn changes nothing of it, nor does the other's
-pub done-busy : (busy : Bool) (r : ℕ) (ds cn cm : List (List ℕ)) (n m : End) → Done busy r ds cn cm n m → Done busy r ds cn cm (giver_of n) (taker_of n m)
-done-busy busy r ds cn cm n m h = grind (arith, busy-moves, giver_of, taker_of, busy-turn)
-
 -- Rounds: the busy end is near, and then far.
 pub rounds-near : (u : ℕ) (busy : Bool) (r : ℕ) (ds cn cm : List (List ℕ)) (e : Ends) → Ahead u busy r ds cn cm e.near e.far
     → Done busy r ds cn cm (rounds u e).near (rounds u e).far
 unfolding rounds
-rounds-near zero busy r ds cn cm e h = done-first busy r ds cn cm e.near e.far h
+rounds-near zero busy r ds cn cm e h = (record { paired = h.paired; acknowledged = h.acknowledged; all = omega (arith, h.left) })
 rounds-near (suc u) busy r ds cn cm e h = rounds-near u busy r ds cn cm (far_moves (near_moves e)) (next-both u busy r ds cn cm e.near e.far h)
 
 pub rounds-far : (u : ℕ) (busy : Bool) (r : ℕ) (ds cn cm : List (List ℕ)) (e : Ends) → Ahead u busy r ds cn cm e.far e.near
     → Done busy r ds cn cm (rounds u (far_moves e)).far (rounds u (far_moves e)).near
 unfolding rounds
-rounds-far zero busy r ds cn cm e h = done-busy busy r ds cn cm e.far e.near (done-first busy r ds cn cm e.far e.near h)
+rounds-far zero busy r ds cn cm e h = grind (arith, busy-moves, giver_of, taker_of, busy-turn)
 rounds-far (suc u) busy r ds cn cm e h = rounds-far u busy r ds cn cm (near_moves (far_moves e)) (next-both u busy r ds cn cm e.far e.near h)
 
 -- What is asked of them then.
@@ -183,20 +140,7 @@ module _ (busy : Bool) (r : ℕ) (ds cn cm : List (List ℕ)) (n m : End) (h : D
       let all : length cn ≤ n.link.s = subst (λ cs. length cs ≤ n.link.s) kept h.all in
       let sent : n.link.s ≡ length cn = omega arith in
       let received : m.link.r ≡ length cn = p.taken.received ∙ sent in
-      record {
-        kept = kept;
-        delivered = p.taken.delivered ∙ ap (λ cs. take m.link.r cs) kept ∙ ap (λ i. take i cn) received ∙ take-length cn;
-        received = received;
-        sent = sent;
-        acknowledged = h.acknowledged ∙ sent;
-        state = p.itself.state;
-        nothing = record {
-          waiting = p.itself.waiting;
-          information = and_right _ (nat_lt n.link.s (length n.link.contents)) (le-ltb n.link.s (length n.link.contents) h.all);
-          pending = p.itself.sound.owes_nothing p.itself.own_busy;
-        };
-        way = p.itself.way;
-      }
+      grind (arith, take-length, and_right, nat_lt, le-ltb)
 
 -- So it is of a pair that began as it did.
 pub gets-through : (busy : Bool) (n m n' m' : End) → Done busy n.link.r n.delivered n.link.contents m.link.contents n' m' → GetsThrough n m n' m'
@@ -204,21 +148,10 @@ gets-through busy n m n' m' h =
     let p = h.paired in
     record {
       arrived = has-arrived busy n.link.r n.delivered n.link.contents m.link.contents n' m' h;
-      kept = record {
-        own_busy = p.itself.own_busy;
-        received = p.received;
-        delivered = p.delivered;
-        state = p.other.state;
-        contents = p.kept_m;
-        unacknowledged = subst (λ i. m'.link.a ≤ i) p.received p.dropped.low;
-        sent = subst (λ i. i ≤ m'.link.s) p.received p.dropped.high;
-      };
+      kept = grind arith;
     }
 
 -- From a pair on, whose turn it may be.
-one-more : (u : ℕ) → suc u ≡ u + 1
-one-more u = omega arith
-
 pub from-near : (u : ℕ) (busy : Bool) (r : ℕ) (ds cn cm : List (List ℕ)) (e : Ends) → Paired busy r ds cn cm e.near e.far → HasUnsent u e.near
     → Done busy r ds cn cm (rounds (u + 1) e).near (rounds (u + 1) e).far
 unfolding rounds
@@ -238,11 +171,3 @@ from-far u busy r ds cn cm e h left =
 -- The pair as it is at first.
 pub paired-first : (n m : End) → IsBusyItself n → IsOpenItself m → IsTaken n m → IsDropped n m → Paired m.link.peer_busy n.link.r n.delivered n.link.contents m.link.contents n m
 paired-first n m hn hm there back = grind arith
-
--- A pair by its shapes.
-pub paired-shapes : (n m : End) (a s a' s' : ℕ) (busy p : Bool) (running running' : Option LinkTimer) (ds : List (List ℕ))
-    → IsInRange n.terms → IsInRange m.terms → IsSound n.terms (in_7_with true false n [] a s false running n.delivered).link → IsSound m.terms (in_7_with false busy m [] a' s' p running' ds).link
-    → m.link.r ≡ s → ds ≡ take s n.link.contents → (a < s → p ≡ true) → All (λ octets. length octets ≤ m.terms.n201) n.link.contents
-    → a' ≤ n.link.r → n.link.r ≤ s' → All (λ octets. length octets ≤ n.terms.n201) m.link.contents
-    → Paired busy n.link.r n.delivered n.link.contents m.link.contents (in_7_with true false n [] a s false running n.delivered) (in_7_with false busy m [] a' s' p running' ds)
-paired-shapes n m a s a' s' busy p running running' ds rn rm sn sm at there owed sizes low high sizes' = grind arith

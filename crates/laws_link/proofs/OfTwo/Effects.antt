@@ -150,9 +150,6 @@ module _ (t : Terms) (l : Link) where
         takes = inr (inr (eqb-false ns.value (seq l.r).value other, q, refl, refl, grows (has_room t l) l.waiting (response (Reject (seq l.r) false)) (rejection (seq l.r)) refl));
       })))
 
-  took-then : (ns : Seq) (c : Course) (l' : Link) → Informed ns l c.link → Kept c.link l' → Informed ns l l'
-  took-then ns c l' h k = grind arith
-
   fitting : (ns : Seq) (b : Bool) (u v : Course) → (IsUpIn u → ⊥) → (IsUpIn v → Informed ns l v.link) → IsUpIn (cond b u v) → Informed ns l (cond b u v).link
   fitting ns b u v x y up = grind arith
 
@@ -160,5 +157,4 @@ module _ (t : Terms) (l : Link) where
       → IsUpIn (MultipleFrame.information_in_7_8 t ns nr false octets f (begun l)) → Informed ns l (MultipleFrame.information_in_7_8 t ns nr false octets f (begun l)).link
   informs ns nr octets f x up =
       let c = MultipleFrame.contents_in_7_8 t ns false octets (begun l) in
-      fitting ns (nat_lt t.n201 (length octets)) (MultipleFrame.failed t ErrorCode.O (begun l)) (by_number t nr f c) (λ u. true≢false (sym u))
-      (λ u. by-number (Informed ns l) t nr f c (λ n e. took-then ns c _ (contents ns octets) (x c n)) u) up
+      grind (arith, fitting, nat_lt, by-number, contents)

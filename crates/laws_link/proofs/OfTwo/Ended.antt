@@ -65,27 +65,19 @@ module _ (u : ℕ) (e : Ends) (hn : IsCutOffWith true e.near e.far) (hm : IsCutO
             (subst (λ cs. Arrived cs e'.near.link.contents (rounds (u + 3) (with_t200_expired (turned e')))) h.far.contents (all-recovered u (turned e') m n vm vn)),
       )
 
-  sounds : Sounds (asked e)
-  sounds = grind (arith, sound-after)
-
-  sanes : BothSane e
-  sanes = (record { timed = hn.timed; heeds = hn.heeds }, record { timed = hm.timed; heeds = hm.heeds })
-
   pub told-recovers : Recovers u e (with_near_told e)
   told-recovers =
       let within : e.far.link.s ≤ e.far.link.a + e.far.terms.k = hm.sound.within in
       let small : e.far.terms.k ≤ 127 = hm.ranges.k_high in
-      let one = sane-doing (at_near (asks ClearBusy false)) e sanes in
-      let two = sane-doing (at_near sends) (asked e) one in
+      let two = sane-doing (at_near sends) (asked e) (sane-doing (at_near (asks ClearBusy false)) e ((record { timed = hn.timed; heeds = hn.heeds }, record { timed = hm.timed; heeds = hm.heeds }))) in
       recovers (with_near_told e) e.near.link.r false
       (told e hn.ranges hn.own_busy hn.waiting hn.way hn.up hm.own_busy hm.waiting hm.way hm.up (timed-8 e e.far.link.state refl hm.timed.timer) hm.low hm.high (omega (arith, within, small)))
-      (omega arith) (sounds-near (asked e) sounds) (sane-doing (at_far receives) (doing (at_near sends) (asked e)) two)
+      (omega arith) (sounds-near (asked e) (grind (arith, sound-after))) (sane-doing (at_far receives) (doing (at_near sends) (asked e)) two)
 
   pub untold-recovers : Recovers u e (with_near_untold e)
   untold-recovers =
-      let s = sounds-near (asked e) sounds in
-      let one = sane-doing (at_near (asks ClearBusy false)) e sanes in
-      let two = sane-doing (at_near sends) (asked e) one in
+      let s = sounds-near (asked e) (grind (arith, sound-after)) in
+      let two = sane-doing (at_near sends) (asked e) (sane-doing (at_near (asks ClearBusy false)) e ((record { timed = hn.timed; heeds = hn.heeds }, record { timed = hm.timed; heeds = hm.heeds }))) in
       recovers (with_near_untold e) e.far.link.a e.far.link.peer_busy (untold e hn.ranges hn.own_busy hn.waiting hn.way hn.up hm.own_busy hm.waiting hm.way) hm.low
       (record { near_ranges = s.near_ranges; far_ranges = hm.ranges; near = s.near; far = hm.sound }) (sane-doing (at_near loses) (doing (at_near sends) (asked e)) two)
 
@@ -125,39 +117,25 @@ module _ (u : ℕ) (e : Ends) (hn : IsBusyItself e.near) (hm : IsOpenItself e.fa
   taken-there =
       let x = left.near in
       let y = left.far in
-      record {
-        received = y.r ∙ there.received ∙ sym x.s;
-        delivered = y.delivered ∙ there.delivered ∙ ap (λ i. take i e.near.link.contents) (sym y.r) ∙ ap (λ cs. take after.far.link.r cs) (sym x.contents);
-        owed = λ less. y.pending ∙ there.owed (omega (arith, less, x.a, x.s));
-        sizes = subst (λ t. All (λ octets. length octets ≤ t.n201) after.near.link.contents) (sym y.terms) (subst (λ cs. All (λ octets. length octets ≤ e.far.terms.n201) cs) (sym x.contents) there.sizes);
-      }
+      grind arith
 
   taken-back : IsTaken after.far after.near
   taken-back =
       let x = left.near in
       let y = left.far in
-      let all : e.near.link.r ≡ e.far.link.s = kept.received in
-      record {
-        received = x.r ∙ all ∙ sym y.s;
-        delivered = x.delivered ∙ kept.delivered ∙ ap (λ i. take i e.far.link.contents) (sym x.r) ∙ ap (λ cs. take after.near.link.r cs) (sym y.contents);
-        owed = λ less. absurd (omega (arith, less, y.a, y.s, all));
-        sizes = subst (λ t. All (λ octets. length octets ≤ t.n201) after.far.link.contents) (sym x.terms) (subst (λ cs. All (λ octets. length octets ≤ e.near.terms.n201) cs) (sym y.contents) kept.sizes);
-      }
+      grind arith
 
   near-unsent : HasUnsent u after.near
   near-unsent = subst (λ cs. length cs ≤ after.near.link.s + u) (sym left.near.contents) (omega (arith, un, left.near.s))
-
-  far-unsent : HasUnsent u after.far
-  far-unsent = subst (λ cs. length cs ≤ after.far.link.s + u) (sym left.far.contents) (omega (arith, um, left.far.s))
 
   pub near-arrives : BothHaveArrived e (rounds (u + 1) after)
   near-arrives =
       subst (λ cs. Arrived cs e.far.link.contents (rounds (u + 1) after)) left.near.contents
       (subst (λ cs. Arrived after.near.link.contents cs (rounds (u + 1) after)) left.far.contents
-      (all-arrived u after near-ready far-ready taken-there taken-back near-unsent far-unsent))
+      (all-arrived u after near-ready far-ready taken-there taken-back near-unsent (subst (λ cs. length cs ≤ after.far.link.s + u) (sym left.far.contents) (omega (arith, um, left.far.s)))))
 
   pub far-arrives : BothHaveArrived (turned e) (rounds (u + 1) (turned after))
   far-arrives =
       subst (λ cs. Arrived e.far.link.contents cs (rounds (u + 1) (turned after))) left.near.contents
       (subst (λ cs. Arrived cs after.near.link.contents (rounds (u + 1) (turned after))) left.far.contents
-      (all-arrived u (turned after) far-ready near-ready taken-back taken-there far-unsent near-unsent))
+      (all-arrived u (turned after) far-ready near-ready taken-back taken-there (subst (λ cs. length cs ≤ after.far.link.s + u) (sym left.far.contents) (omega (arith, um, left.far.s))) near-unsent))

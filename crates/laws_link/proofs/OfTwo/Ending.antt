@@ -32,9 +32,6 @@ module _ (n : End) (ranges : IsInRange n.terms) (busy : n.link.own_busy ≡ true
   abbrev known : State → End
   known here = record n { link = record n.link { state = here; own_busy = true; waiting = [] }; way = [] }
 
-  is-known : (here : State) → n.link.state ≡ here → n ≡ known here
-  is-known here s = λ i. record n { link = record n.link { state = s i; own_busy = busy i; waiting = waits i }; way = ways i }
-
   abbrev told : State → Bool → End
   told here b =
       record n {
@@ -51,10 +48,10 @@ module _ (n : End) (ranges : IsInRange n.terms) (busy : n.link.own_busy ≡ true
     pub left : IsLeft n.link.a n.link.peer_busy false n (with_first_lost x)
 
   in-7 : n.link.state ≡ State.Established → over n ≡ quiet State.Established (acknowledgement_frame n.terms n.link ∷ []) n.delivered
-  in-7 s = grind (arith, is-known, room, acknowledgement_frame, append-nil)
+  in-7 s = grind (arith, room, acknowledgement_frame, append-nil)
 
   in-8 : n.link.state ≡ State.TimerRecovery → over n ≡ quiet State.TimerRecovery (acknowledgement_frame n.terms n.link ∷ []) n.delivered
-  in-8 s = grind (arith, is-known, room, acknowledgement_frame, append-nil)
+  in-8 s = grind (arith, room, acknowledgement_frame, append-nil)
 
   by-state : (here : State) → n.link.state ≡ here → IsTrue (is_multiple_frame here) → Gives (over n)
   by-state here e up = grind (arith, in-7, in-8)
@@ -71,27 +68,17 @@ module _ (m : End) (free : m.link.own_busy ≡ false) (waiting : m.link.waiting 
   abbrev Hears : End → Type 0
   Hears y = IsLeft x false m.link.pending m y
 
-  is-7 : m.link.state ≡ State.Established → m ≡ in_7_with false m.link.peer_busy m [] m.link.a m.link.s m.link.pending m.link.running m.delivered
-  is-7 e = λ i. record m { link = record m.link { state = e i; own_busy = free i; waiting = waiting i }; way = way i }
-
   is-8 : m.link.state ≡ State.TimerRecovery → m.link.running ≡ Some T200 → m ≡ in_8_with false m [] m.link.peer_busy m.link.a m.link.pending m.delivered
   is-8 e r = λ i. record m { link = record m.link { state = e i; own_busy = free i; waiting = waiting i; running = r i }; way = way i }
 
   abbrev here : Course
   here = begun (in_7_with false false m [] m.link.a m.link.s m.link.pending m.link.running m.delivered).link
 
-  left-8 : m.link.state ≡ State.TimerRecovery → Hears (in_8_with false m [] false x m.link.pending m.delivered)
-  left-8 e = grind arith
-
   ended : (c : Course) → Acknowledges x here c → m.link.state ≡ State.Established → Hears (having (in_7_with false false m [] m.link.a m.link.s m.link.pending m.link.running m.delivered) c)
   ended c h e = grind (arith, having, in_7_with, append-nil)
 
-  hears-7 : m.link.state ≡ State.Established → Hears (hears m)
-  hears-7 e = subst (λ y. Hears (hears y)) (sym (is-7 e)) (ended _ (by-rr m.terms (seq l.r) x here names low) e)
-
   hears-8 : m.link.state ≡ State.TimerRecovery → m.link.running ≡ Some T200 → Hears (hears m)
-  hears-8 e r =
-      subst Hears (sym (ap hears (is-8 e r) ∙ acknowledged-8 false m [] m.link.peer_busy m.link.a m.link.pending m.delivered t l x names)) (left-8 e)
+  hears-8 e r = subst Hears (sym (ap hears (is-8 e r) ∙ acknowledged-8 false m [] m.link.peer_busy m.link.a m.link.pending m.delivered t l x names)) (grind arith)
 
   pub heard : (here : State) → m.link.state ≡ here → IsTrue (is_multiple_frame here) → (here ≡ State.TimerRecovery → m.link.running ≡ Some T200) → Hears (hears m)
-  heard here e up ran = grind (arith, hears-7, hears-8)
+  heard here e up ran = grind (arith, ended, by-rr, hears-8)

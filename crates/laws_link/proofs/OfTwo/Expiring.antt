@@ -59,12 +59,9 @@ module _ (own : Bool) (n m : End) (h : IsCutOffWith own n m) where
       ended : Course → End
       ended c = record n { link = c.link; way = []; delivered = n.delivered ++ option_to_list c.delivered }
 
-  not-busy : (b : Bool) → n.link.peer_busy ≡ b → n.link.running ≡ Some T203 → (IsTrue n.link.peer_busy → n.link.running ≡ Some T200) → n.link.peer_busy ≡ false
-  not-busy b e r w = grind arith
-
   by-state : (here : State) → n.link.state ≡ here → IsTrue (is_multiple_frame here) → IsTimedIn here n.link → HeedsIn here n.link.peer_busy n.link.running
       → Asking own n (after n) ⊎ Resting own n (after n)
-  by-state here e up timed heeds = grind (arith, is-known, asks, nat_lt, room, in_7_with, append-nil, not-busy, lt-ltb)
+  by-state here e up timed heeds = grind (arith, is-known, asks, nat_lt, room, in_7_with, append-nil, lt-ltb)
 
   pub expires-one : Asking own n (after n) ⊎ Resting own n (after n)
   expires-one = by-state n.link.state refl h.up h.timed.timer h.heeds.heeds

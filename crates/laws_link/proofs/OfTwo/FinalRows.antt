@@ -5,23 +5,15 @@ use Rattle.laws_link.proofs.OfTwo.Finals.{Few, few_stays, rows, answers, weaker,
 module _ (t : Terms) (n : ℕ) where
   in-4 : (b : Bool) (octets : List ℕ) (control : Control) → Leads (Few n) (frame_in_4 t octets control) (Few (n + cond {A = ℕ} (is_poll b control) 1 0))
   in-4 b octets (Sabme p) = search answers depth 14 fits 6000
-  in-4 b octets (Disc p) = dm_few t n p
-  in-4 b octets (Ua true) = weaker n false (search rows depth 12 fits 4000)
-  in-4 b octets other = weaker n (is_poll b other) (search rows depth 12 fits 4000)
+  in-4 b octets control = grind (arith, dm_few, weaker, rows)
 
   in-5 : (b : Bool) (octets : List ℕ) (control : Control) → Leads (Few n) (frame_in_5 t octets control) (Few (n + cond {A = ℕ} (is_poll b control) 1 0))
   in-5 b octets (Sabme p) = ua_few t n p
-  in-5 b octets (Disc p) = dm_few t n p
-  in-5 b octets (Ua true) = weaker n false (search rows depth 12 fits 4000)
-  in-5 b octets (Dm true) = weaker n false (search rows depth 12 fits 4000)
-  in-5 b octets other = weaker n (is_poll b other) (search rows depth 12 fits 4000)
+  in-5 b octets control = grind (arith, dm_few, weaker, rows)
 
   in-6 : (b : Bool) (octets : List ℕ) (control : Control) → Leads (Few n) (frame_in_6 t octets control) (Few (n + cond {A = ℕ} (is_poll b control) 1 0))
   in-6 b octets (Sabme p) = dm_few t n p
-  in-6 b octets (Disc p) = ua_few t n p
-  in-6 b octets (Ua true) = weaker n false (search rows depth 12 fits 4000)
-  in-6 b octets (Dm true) = weaker n false (search rows depth 12 fits 4000)
-  in-6 b octets other = weaker n (is_poll b other) (search rows depth 12 fits 4000)
+  in-6 b octets control = grind (arith, ua_few, weaker, rows)
 
   -- states 7 and 8
   contents : (ns : Seq) (p : Bool) (octets : List ℕ) → Leads (Few n) (contents_in_7_8 t ns p octets) (Few (n + cond {A = ℕ} p 1 0))
@@ -55,10 +47,7 @@ module _ (t : Terms) (n : ℕ) where
   frames-in : (here : State) (b : Bool) (octets : List ℕ) (control : Control)
       → Leads (Few n) (frame_in here t b octets control) (Few (n + cond {A = ℕ} (is_poll b control) 1 0))
   frames-in TeiAssigned b octets control = in-4 b octets control
-  frames-in AwaitingEstablishment b octets control = in-5 b octets control
-  frames-in AwaitingRelease b octets control = in-6 b octets control
-  frames-in Established b octets control = in-7 b octets control
-  frames-in TimerRecovery b octets control = in-8 b octets control
+  frames-in here b octets control = grind (arith, in-5, in-6, in-7, in-8)
 
   frames : (b : Bool) (octets : List ℕ) (control : Control) → Leads (Few n) (frame_step t b octets control) (Few (n + cond {A = ℕ} (is_poll b control) 1 0))
   frames b octets control = record { leads = λ c h. (frames-in c.link.state b octets control).leads c h }
@@ -100,10 +89,7 @@ module _ (t : Terms) (n : ℕ) where
 
   offers : (ws : List ControlFrame) (c : Course) → finals ws ≤ n → Few n c → Few n (offer_among t ws c)
   offers (f ∷ fs) c few h = record { few = let e : finals (f ∷ fs) ≡ cond {A = ℕ} (is_final_response f) 1 0 + finals fs = sum_by-cons (λ g. cond {A = ℕ} (is_final_response g) 1 0) f fs in omega (arith, few) }
-  offers [] c few h =
-      both_ways (Few n) (may_send_information t c.link) _ _
-      (both_ways (Few n) (is_awaiting_acknowledgement (with_one_sent c.link)) _ _ (record { few = h.few }) (record { few = h.few }))
-      (both_ways (Few n) c.link.pending _ _ (record { few = h.few }) h)
+  offers [] c few h = grind (arith, both_ways)
 
 none-left : (n : ℕ) (c : Course) → Few n c → finals c.link.waiting ≤ n + 0
 none-left n c h = omega (arith, h.few)
@@ -114,8 +100,5 @@ event-finals t l (expired timer) =
     none-left _ _ (both_ways (Few (finals l.waiting)) (is_running timer l) _ _ ((expiries t (finals l.waiting) l.state timer).leads (begun l) (record { few = omega arith })) (record { few = omega arith }))
 event-finals t l (requested request full) = none-left _ _ (asked t (finals l.waiting) request (begun l) (refusal t l full request) (record { few = omega arith }))
 event-finals t l offer = none-left _ _ (offers t (finals l.waiting) l.waiting (begun l) (omega arith) (record { few = omega arith }))
-event-finals t l cleared = none-left _ (course t cleared l) (cleared-few l.state)
-  where
-    cleared-few : (here : State) → Few (finals l.waiting) (begin_anew (told_of_clearing here t (begun l)))
-    cleared-few here = record { few = omega arith }
+event-finals t l cleared = grind (arith, none-left)
 event-finals t l other = none-left _ _ ((malformed t (finals l.waiting) _ l.state).leads (begun l) (record { few = omega arith }))

@@ -17,18 +17,6 @@ pub sends : (t : Terms) (n : ℕ) (f : Link → ControlFrame) (b : Bool) → ((l
     → Leads (Few n) (λ c. send t (f c.link) c) (Few (n + cond {A = ℕ} b 1 0))
 sends t n f b e = grind (arith, pushed)
 
-ready-response : (b f : Bool) (x y : Seq) → is_final_response (response (cond b (ReceiveNotReady x f) (ReceiveReady y f))) ≡ f
-ready-response b f x y = grind arith
-
-same-bit : (f : Bool) → is_final_response (response (Ua f)) ≡ f
-same-bit f = grind arith
-
-same-bit-dm : (f : Bool) → is_final_response (response (Dm f)) ≡ f
-same-bit-dm f = grind arith
-
-same-bit-rej : (f : Bool) (nr : Seq) → is_final_response (response (Reject nr f)) ≡ f
-same-bit-rej f nr = grind arith
-
 no-more : (n : ℕ) (c : Course) → Few (n + 0) c → Few n c
 no-more n c h = record { few = omega (arith, h.few) }
 
@@ -42,20 +30,20 @@ module _ (n : ℕ) where
 
   pub report_few : (t : Terms) → Leads (Few n) (report_ready t) (Few n)
   report_few t =
-      then_leads (to_less (no-more n) (sends t n (λ l. response (ready_to_receive false l)) false (λ l. ready-response l.own_busy false (seq l.r) (seq l.r)))) (few_stays {f = pending_is false} (λ c h. h))
+      then_leads (to_less (no-more n) (sends t n (λ l. response (ready_to_receive false l)) false (λ l. grind arith))) (few_stays {f = pending_is false} (λ c h. h))
 
 -- the answers
 pub ua_few : (t : Terms) (n : ℕ) (p : Bool) → Leads (Few n) (send t (response (Ua p))) (Few (n + cond {A = ℕ} p 1 0))
-ua_few t n p = sends t n (λ l. response (Ua p)) p (λ l. same-bit p)
+ua_few t n p = sends t n (λ l. response (Ua p)) p (λ l. grind arith)
 
 pub dm_few : (t : Terms) (n : ℕ) (p : Bool) → Leads (Few n) (send t (response (Dm p))) (Few (n + cond {A = ℕ} p 1 0))
-dm_few t n p = sends t n (λ l. response (Dm p)) p (λ l. same-bit-dm p)
+dm_few t n p = sends t n (λ l. response (Dm p)) p (λ l. grind arith)
 
 pub reject_few : (t : Terms) (n : ℕ) (p : Bool) → Leads (Few n) (reject t p) (Few (n + cond {A = ℕ} p 1 0))
-reject_few t n p = then_leads (sends t n (λ l. response (Reject (seq l.r) p)) p (λ l. same-bit-rej p (seq l.r))) (few_stays {f = pending_is false} (λ c h. h))
+reject_few t n p = then_leads (sends t n (λ l. response (Reject (seq l.r) p)) p (λ l. grind arith)) (few_stays {f = pending_is false} (λ c h. h))
 
 pub answer_few : (t : Terms) (n : ℕ) → Leads (Few n) (answer t) (Few (n + 1))
-answer_few t n = then_leads (sends t n (λ l. response (ready_to_receive true l)) true (λ l. ready-response l.own_busy true (seq l.r) (seq l.r))) (few_stays {f = pending_is false} (λ c h. h))
+answer_few t n = then_leads (sends t n (λ l. response (ready_to_receive true l)) true (λ l. grind arith)) (few_stays {f = pending_is false} (λ c h. h))
 
 -- an answer where the bit is 1, else another step
 pub answer-by : (t : Terms) (n : ℕ) (p : Bool) {g : Step} → Leads (Few n) g (Few n) → Leads (Few n) (by_bit p (answer t) g) (Few (n + cond {A = ℕ} p 1 0))
@@ -83,9 +71,6 @@ pub answered_then : (t : Terms) (n : ℕ) (p : Bool) {g : Step} → Leads (Few (
     → Leads (Few n) (by_bit p (answer t) nothing then g) (Few (n + cond {A = ℕ} p 1 0))
 answered_then t n p x = then_leads (answer-by t n p nothing_leads) x
 
-pub answer_by : (t : Terms) (n : ℕ) (p : Bool) {g : Step} → Leads (Few n) g (Few n) → Leads (Few n) (by_bit p (answer t) g) (Few (n + cond {A = ℕ} p 1 0))
-answer_by t n p x = answer-by t n p x
-
 pub ruleset rows = (words, failed_few, number_few)
 
-pub ruleset answers = (rows, ua_then, answered_then, answer_by, reject_few)
+pub ruleset answers = (rows, ua_then, answered_then, answer-by, reject_few)

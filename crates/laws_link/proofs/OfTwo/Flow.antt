@@ -1,6 +1,6 @@
 -- One direction between two links whose T200 is timely: the sender's V(S), the receiver's V(R), and what is between them.
 use Rattle.laws_link.proofs.Vocabulary.{◌≡◌, ℕ, ◌+◌, ◌<◌, ◌≤◌, Bool, true, false, List, [], ◌∷◌, ◌++◌, refl, arith, seq}
-use Rattle.laws_link.proofs.OfTwo.Trains.{Kind, numbered, enquiry, answer, rejection, tally, one_enquiry, one_answer, one_rejection, tally-push, Every, every-push, Behind, behind-push, behind-first, Calm, Comes, calm-comes, Rise, rise-lower, rise-low, rise-push, calm-rise, Beyond, calm-beyond, Late, rise-late, late-low, late-tail, late-push, rise-next, late-next}
+use Rattle.laws_link.proofs.OfTwo.Trains.{Kind, numbered, enquiry, answer, rejection, tally, one_enquiry, one_answer, one_rejection, tally-push, Every, every-push, Behind, behind-push, behind-first, Calm, Comes, Rise, rise-lower, rise-low, rise-push, calm-rise, Beyond, Late, rise-late, late-low, late-push, rise-next, late-next}
 
 -- What is on the line to a receiver that has sent no REJ, and to one that has.
 abbrev pub Order : Bool → ℕ → ℕ → List Kind → Type 0
@@ -46,24 +46,11 @@ pub record Flow (s r : ℕ) (recovers rejects : Bool) (there back : List Kind) :
   pub answered : 1 ≤ tally one_answer back → Answered r there back
 
 -- the order, whether REJ was sent or not
-order-low : (q : Bool) (r s : ℕ) (xs : List Kind) → Order q r s xs → r ≤ s
-order-low q r s xs h = grind (arith, late-low, rise-low)
-
 pub flow-low : (s r : ℕ) (b q : Bool) (ln lm : List Kind) → Flow s r b q ln lm → r ≤ s
-flow-low s r b q ln lm h = order-low q r s ln h.order
-
-pub order-tail : (q : Bool) (r s : ℕ) (x : Kind) (xs : List Kind) → Order q r s (x ∷ xs) → Order q r s xs
-order-tail true r s x xs h = late-tail r s x xs h
-order-tail false r s x xs (top, up, here, rest) = rise-lower top r s xs up rest
+flow-low s r b q ln lm h = grind (arith, late-low, rise-low)
 
 order-push : (q : Bool) (r s top : ℕ) (xs : List Kind) (y : Kind) → s ≤ top → Comes s top y → Order q r s xs → Order q r top (xs ++ y ∷ [])
 order-push q r s top xs y le p h = grind (arith, late-push, rise-push)
-
-pub order-calm : (q : Bool) (r : ℕ) (xs : List Kind) → Every Calm xs → Order q r r xs
-order-calm q r xs h = grind (arith, rise-late, calm-rise)
-
-pub order-next : (q : Bool) (r s : ℕ) (xs : List Kind) → Order q r s (numbered (seq r) ∷ xs) → Rise (r + 1) s xs
-order-next q r s xs h = grind (arith, late-next, rise-next)
 
 -- a frame that is not among those that are counted
 pub few-more : (one : Kind → ℕ) (xs : List Kind) (y : Kind) → one y ≡ 0 → tally one (xs ++ y ∷ []) ≡ tally one xs
@@ -74,14 +61,7 @@ pub there-calm : (s r : ℕ) (b q : Bool) (ln lm : List Kind) (y : Kind) → Cal
 there-calm s r b q ln lm y calm none h =
     let same : tally one_enquiry (ln ++ y ∷ []) ≡ tally one_enquiry ln = few-more one_enquiry ln y none in
     let asked = h.asked in
-    record {
-      order = order-push q r s s ln y (omega arith) (calm-comes s s y calm) h.order;
-      one = h.one;
-      rejected = λ some. let j = h.rejected some in record { is = j.is; below = j.below; beyond = every-push (Beyond r) ln y j.beyond (calm-beyond r y calm); says = j.says };
-      asked = omega (arith, asked);
-      last = λ some. behind-push one_enquiry Calm ln y calm (h.last (omega (arith, some)));
-      answered = λ some. let j = h.answered some in record { calm = every-push Calm ln y j.calm calm; says = j.says; behind = j.behind };
-    }
+    grind (arith, order-push, every-push, behind-push, one_enquiry)
 
 -- by an enquiry, if none is open,
 pub there-enquiry : (s r : ℕ) (b q : Bool) (ln lm : List Kind) → tally one_enquiry ln ≡ 0 → tally one_answer lm ≡ 0 → Flow s r b q ln lm
@@ -97,9 +77,6 @@ there-enquiry s r b q ln lm none none' h =
       answered = λ some. absurd (omega (arith, some, none'));
     }
 
-pub there-unasked : (s r : ℕ) (b q : Bool) (ln lm : List Kind) → tally one_enquiry ln ≡ 0 → tally one_answer lm ≡ 0 → Flow s r b q ln lm → Flow s r true q ln lm
-there-unasked s r b q ln lm none none' h = grind arith
-
 -- by an I-frame in state 7.
 pub there-information : (s r : ℕ) (q : Bool) (ln lm : List Kind) → s ≤ r + 127 → Flow s r false q ln lm
     → Flow (s + 1) r false q (ln ++ numbered (seq s) ∷ []) lm
@@ -109,10 +86,7 @@ there-information s r q ln lm near h =
     record {
       order = order-push q r s (s + 1) ln (numbered (seq s)) (omega arith) (s, refl, omega arith, omega arith) h.order;
       one = h.one;
-      rejected = λ some.
-          let j = h.rejected some in
-          let below : r < s = j.below in
-          record { is = j.is; below = omega arith; beyond = every-push (Beyond r) ln (numbered (seq s)) j.beyond (s, refl, below, near); says = j.says };
+      rejected = grind (arith, every-push, numbered);
       asked = omega arith;
       last = λ some. absurd (omega (arith, some));
       answered = λ some. absurd (omega (arith, some));
@@ -120,13 +94,4 @@ there-information s r q ln lm near h =
 
 -- Its first frame goes: lost, or heard without an effect on V(R).
 pub there-tail : (s r : ℕ) (b q : Bool) (x : Kind) (ln lm : List Kind) → Flow s r b q (x ∷ ln) lm → Flow s r b q ln lm
-there-tail s r b q x ln lm h = grind (arith, one_enquiry, tally, one_answer, order-tail)
-
--- The receiver's side grows: by a frame that is neither an answer nor REJ,
-pub back-other : (s r : ℕ) (b q : Bool) (ln lm : List Kind) (y : Kind) → one_answer y ≡ 0 → one_rejection y ≡ 0 → RejectsAt r y → AnswersAt r y
-    → Flow s r b q ln lm → Flow s r b q ln (lm ++ y ∷ [])
-back-other s r b q ln lm y none none' says says' h = grind (arith, tally, one_answer, few-more, one_rejection, every-push, behind-push)
-
--- and its first frame goes.
-pub back-tail : (s r : ℕ) (b q : Bool) (x : Kind) (ln lm : List Kind) → Flow s r b q ln (x ∷ lm) → Flow s r b q ln lm
-back-tail s r b q x ln lm h = grind (arith, one_rejection, tally, one_enquiry, one_answer)
+there-tail s r b q x ln lm h = grind (arith, one_enquiry, tally, one_answer, rise-late, rise-lower)

@@ -1,9 +1,9 @@
 -- What a frame that is heard does to one direction between two links whose T200 is timely.
 use Rattle.laws_link.proofs.Vocabulary.{◌≡◌, ℕ, ◌+◌, ◌%◌, ◌<◌, ◌≤◌, Bool, true, false, List, [], ◌∷◌, ◌++◌, refl, sym, arith, true≢false, Seq, seq, seq-value}
-use Rattle.laws_link.proofs.OfTwo.Trains.{Kind, numbered, enquiry, answer, report, rejection, alien, tally, one_enquiry, one_answer, one_rejection, tally-push, Every, every-push, behind-first, Beyond, beyond-late, rise-other}
-use Rattle.laws_link.proofs.OfTwo.Flow.{RejectsAt, AnswersAt, IsNoRejection, most, Flow, order-tail, order-calm, order-next, few-more}
+use Rattle.laws_link.proofs.OfTwo.Trains.{Kind, numbered, enquiry, answer, report, rejection, alien, tally, one_enquiry, one_answer, one_rejection, tally-push, Every, every-push, behind-first, Beyond, beyond-late, rise-other, rise-late, calm-rise, rise-next, late-next, rise-lower}
+use Rattle.laws_link.proofs.OfTwo.Flow.{RejectsAt, AnswersAt, IsNoRejection, most, Flow, few-more}
 
-one-at-most : (b : Bool) → most b ≤ 1
+pub one-at-most : (b : Bool) → most b ≤ 1
 one-at-most b = grind arith
 
 -- where there are none, each says what one likes
@@ -28,7 +28,6 @@ none-rejects r (alien ∷ xs) none = (tt, none-rejects r xs (omega (arith, none)
 no-rejection : (xs : List Kind) → Every IsNoRejection xs → tally one_rejection xs ≡ 0
 no-rejection [] h = refl
 no-rejection (x ∷ xs) h =
-    let here : one_rejection x ≡ 0 = h.0 in
     let more : tally one_rejection xs ≡ 0 = no-rejection xs h.1 in
     omega arith
 
@@ -48,11 +47,9 @@ hears-enquiry s r b q ln lm h =
     let same : tally one_rejection (lm ++ answer (seq r) ∷ []) ≡ tally one_rejection lm = few-more one_rejection lm (answer (seq r)) refl in
     let one = h.one in
     record {
-      order = order-tail q r s enquiry ln h.order;
+      order = grind (arith, rise-late, rise-lower);
       one = omega (arith, one);
-      rejected = λ some.
-          let j = h.rejected (omega (arith, some)) in
-          record { is = j.is; below = j.below; beyond = j.beyond.1; says = every-push (RejectsAt r) lm (answer (seq r)) j.says tt };
+      rejected = grind (arith, every-push, answer);
       asked = omega arith;
       last = λ some. absurd (omega (arith, some));
       answered = λ some.
@@ -68,16 +65,8 @@ pub hears-other-lost : (s r : ℕ) (b : Bool) (ns : Seq) (ln lm : List Kind) →
     → Flow s r b false (numbered ns ∷ ln) lm → Flow s r b true ln lm
 hears-other-lost s r b ns ln lm near differ h =
     let past = rise-other r s ns ln near differ h.order in
-    let less : r < s = past.0 in
     let asked : (0 + tally one_enquiry ln) + tally one_answer lm ≤ most b = h.asked in
-    record {
-      order = beyond-late r s ln (omega arith) past.1;
-      one = h.one;
-      rejected = λ some. absurd (true≢false (sym (h.rejected some).is));
-      asked = omega (arith, asked);
-      last = λ some. (h.last (omega (arith, some))).1;
-      answered = λ some. absurd (h.answered some).calm.0;
-    }
+    grind (arith, beyond-late)
 
 pub hears-other : (s r : ℕ) (b : Bool) (ns : Seq) (ln lm : List Kind) → s ≤ r + 127 → (ns.value ≡ (seq r).value → ⊥)
     → Flow s r b false (numbered ns ∷ ln) lm → Flow s r b true ln (lm ++ rejection (seq r) ∷ [])
@@ -103,7 +92,7 @@ pub hears-next : (s r : ℕ) (b q : Bool) (ln lm : List Kind) → Flow s r b q (
 hears-next s r b q ln lm h =
     let asked : (0 + tally one_enquiry ln) + tally one_answer lm ≤ most b = h.asked in
     record {
-      order = order-next q r s ln h.order;
+      order = grind (arith, late-next, rise-next);
       one = h.one;
       rejected = λ some. absurd (not-next r (h.rejected some).beyond.0);
       asked = omega arith;
@@ -116,15 +105,12 @@ pub answer-says : (s r : ℕ) (b q : Bool) (nr : Seq) (ln lm : List Kind) → Fl
 answer-says s r b q nr ln lm h = (h.answered (omega arith)).says.0
 
 pub hears-answer : (s r : ℕ) (q : Bool) (nr : Seq) (ln lm : List Kind) → Flow s r true q ln (answer nr ∷ lm) → Flow r r false q ln lm
-hears-answer s r q nr ln lm h = grind (arith, tally, one_enquiry, one_answer, one_rejection, no-rejection, order-calm)
+hears-answer s r q nr ln lm h = grind (arith, tally, one_enquiry, one_answer, one_rejection, no-rejection, rise-late, calm-rise)
 
 -- In state 7 there is none.
 pub no-answer : (s r : ℕ) (q : Bool) (nr : Seq) (ln lm : List Kind) → Flow s r false q ln (answer nr ∷ lm) → ⊥
 no-answer s r q nr ln lm h = let asked : tally one_enquiry ln + (1 + tally one_answer lm) ≤ 0 = h.asked in omega arith
 
 -- It hears REJ in state 7, and V(S) goes back.
-pub rejection-says : (s r : ℕ) (b q : Bool) (nr : Seq) (ln lm : List Kind) → Flow s r b q ln (rejection nr ∷ lm) → nr ≡ seq r
-rejection-says s r b q nr ln lm h = (h.rejected (omega arith)).says.0
-
 pub hears-rejection : (s r : ℕ) (q : Bool) (nr : Seq) (ln lm : List Kind) → Flow s r false q ln (rejection nr ∷ lm) → Flow r r false q ln lm
 hears-rejection s r q nr ln lm h = grind (arith, tally, one_rejection, one_enquiry, one_answer, beyond-late)

@@ -52,47 +52,16 @@ module _ (t : Terms) (l : Link) (room : length l.waiting + 1 ≤ t.control) wher
 abbrev Ended : Course → Type 0
 Ended c = (c.delivered ≡ None) ⊎ (c.link.rejecting ≡ false)
 
--- what a valid N(R) does leaves it
-acknowledge_ends : (n : ℕ) → Leads Ended (acknowledge n) Ended
-acknowledge_ends n = record { leads = λ c h. h }
-
-start_ends : (timer : LinkTimer) → Leads Ended (start timer) Ended
-start_ends timer = record { leads = λ c h. h }
-
-in_7_ends : (n : ℕ) → Leads Ended (acknowledged_by_information_in_7 n) Ended
-in_7_ends n = search (keeping_then, nothing_leads, depending_leads, acknowledge_ends, start_ends) depth 12 fits 4000
-
 module _ (t : Terms) (l : Link) where
-  delivering : (ns : Seq) (p : Bool) (octets : List ℕ) → Ended (MultipleFrame.contents_in_7_8 t ns p octets (begun l))
-  delivering ns p octets = grind (arith, both_ways)
-
   by-number : (f : ℕ → Step) → ((n : ℕ) → Leads Ended (f n) Ended) → (c : Course) → Ended c → (o : Option ℕ)
       → Ended (elim o [ None ↦ (error t ErrorCode.J then re_establish t) c | Some n ↦ f n c ])
   by-number f x c h o = grind arith
 
   row : (ns nr : Seq) (p : Bool) (octets : List ℕ) (f : ℕ → Step) → ((n : ℕ) → Leads Ended (f n) Ended) → (b : Bool)
       → Ended (by_bit b (MultipleFrame.failed t ErrorCode.O) (MultipleFrame.contents_in_7_8 t ns p octets then by_number t nr f) (begun l))
-  row ns nr p octets f x b = grind (arith, by-number, delivering)
-
-  by-state : (here : State) (command : Bool) (ns nr : Seq) (p : Bool) (octets : List ℕ)
-      → Ended (frame_in here t command octets (Information ns nr p) (begun l))
-  by-state Established command ns nr p octets = row ns nr p octets acknowledged_by_information_in_7 in_7_ends (nat_lt t.n201 (length octets))
-  by-state TimerRecovery command ns nr p octets = row ns nr p octets acknowledge acknowledge_ends (nat_lt t.n201 (length octets))
-  by-state other command ns nr p octets = inl refl
-
-  -- only an I-frame is eligible
-  by-frame : (command : Bool) (octets : List ℕ) (control : Control) (i : Arrived) → eligible_of t l (information_of control octets) ≡ Some i
-      → Ended (frame_step t command octets control (begun l))
-  by-frame command octets control i e = grind (arith, by-state, none-some)
-
-  by-event : (e : Event) (i : Arrived) → eligible t e l ≡ Some i → Ended (course t e l)
-  by-event (received (frame f)) i e = by-frame f.address.command f.info f.control i e
-  by-event other i e = absurd (none-some i e)
-
-  after-delivery : (c : Course) (octets : List ℕ) → c.delivered ≡ Some octets → Ended c → c.link.rejecting ≡ false
-  after-delivery c octets d o = grind (arith, none-some)
+  row ns nr p octets f x b = grind (arith, by-number, both_ways)
 
   pub told-again : (e : Event) (octets : List ℕ) → (told t e l).delivered ≡ Some octets → (after t e l).rejecting ≡ false
   told-again e octets d =
       let x = delivered-at_once t e l octets d in
-      after-delivery (course t e l) octets d (by-event e x.0 x.1)
+      (grind (arith, none-some))

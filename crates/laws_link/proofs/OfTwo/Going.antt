@@ -48,16 +48,8 @@ module _ (t : Terms) (l : Link) where
   reports l' f state s r rejecting waiting is = grind (arith, Grown, report, grows)
 
   pub asks-went : IsTrue (is_multiple_frame l.state) → (request : Request) (full : Bool) → IsMildRequest request → WentIn report l (course t (requested request full) l)
-  asks-went up Establish full mild = refuses (refusal t l full Establish) (refused t l up l.state refl up full)
-  asks-went up Release full mild = absurd mild
-  asks-went up (Data octets) full mild =
-      by-refusal (Data octets) (refusal t l full (Data octets)) (record { state = refl; s = refl; r = refl; rejecting = refl; waiting = inl refl })
-  asks-went up SetBusy full mild =
-      by-refusal SetBusy (refusal t l full SetBusy)
-      (both_ways (WentIn report l) l.own_busy _ _ nothing-new (reports _ (response (ReceiveNotReady (seq l.r) false)) refl refl refl refl refl refl))
-  asks-went up ClearBusy full mild =
-      by-refusal ClearBusy (refusal t l full ClearBusy)
-      (both_ways (WentIn report l) l.own_busy _ _ (reports _ (response (ReceiveReady (seq l.r) false)) refl refl refl refl refl refl) nothing-new)
+  asks-went up SetBusy full mild = grind (arith, by-refusal, both_ways, report, nothing-new, reports)
+  asks-went up request full mild = grind (arith, refuses, refused, by-refusal, both_ways, report, reports, nothing-new)
 
   -- An expiry: the timer does not run, or an enquiry waits.
   enquires : (l' : Link) → l'.state ≡ TimerRecovery → l'.s ≡ l.s → l'.r ≡ l.r → l'.rejecting ≡ l.rejecting

@@ -77,12 +77,6 @@ module _ (n m : End) (hn : IsReady n) (hm : IsReady m) (there : IsTaken n m) (ba
   same : (m.link.s == m.link.s) ≡ true
   same = eq-eqb m.link.s m.link.s refl
 
-  giver-information : Giver n (record n { link = with_information n.link; way = [] })
-  giver-information = grind arith
-
-  giver-acknowledgement : Giver n (record n { link = with_acknowledgement n.link; way = [] })
-  giver-acknowledgement = grind arith
-
   -- an I-frame goes
   one : may_send_information n.terms (plain n.link) ≡ true → Moved n m (giver_of n) (taker_of n m)
   one may =
@@ -96,7 +90,7 @@ module _ (n m : End) (hn : IsReady n) (hm : IsReady m) (there : IsTaken n m) (ba
       subst (λ x. Moved n m (with_first_lost x) (with_first_of x.way m)) (sym gives)
       (subst (λ y. Moved n m (record n { link = with_information n.link; way = [] }) y) (sym takes)
       (record {
-        giver = giver-information;
+        giver = grind arith;
         taker = record { terms = refl; contents = refl; a = refl; s = refl; state = refl; peer_busy = refl; own_busy = refl; waiting = refl; way = refl };
         moved = inl (record { unsent = ltb-true n.link.s (length n.link.contents) parts.1; sent = refl; received = refl; pending = refl; delivered = refl });
       }))
@@ -110,14 +104,14 @@ module _ (n m : End) (hn : IsReady n) (hm : IsReady m) (there : IsTaken n m) (ba
       subst (λ x. Moved n m (with_first_lost x) (with_first_of x.way m)) (sym gives)
       (subst (λ y. Moved n m (record n { link = with_acknowledgement n.link; way = [] }) y) (sym takes)
       (record {
-        giver = giver-acknowledgement;
+        giver = grind arith;
         taker = record { terms = refl; contents = refl; a = refl; s = refl; state = refl; peer_busy = refl; own_busy = refl; waiting = refl; way = refl };
         moved = inr (record { may = may; sent = refl; received = refl; pending = refl; delivered = append-nil m.delivered });
       }))
 
   -- nothing goes: then nothing is outstanding at the other end
   rests : may_send_information n.terms (plain n.link) ≡ false → n.link.pending ≡ false → Moved n m (giver_of n) (taker_of n m)
-  rests may owed = grind (arith, with_acknowledgement, is_plain, gives-nothing, giver-acknowledgement, ltb-true, ltb-false, nat_lt)
+  rests may owed = grind (arith, with_acknowledgement, is_plain, gives-nothing, ltb-true, ltb-false, nat_lt)
 
   by-flags : (may owed : Bool) → may_send_information n.terms (plain n.link) ≡ may → n.link.pending ≡ owed → Moved n m (giver_of n) (taker_of n m)
   by-flags true owed e p = one e
@@ -149,23 +143,8 @@ module _ (n m : End) (hn : IsReady n) (hm : IsReady m) (there : IsTaken n m) (ba
       let k = moves.taker in
       let from : m.link.r ≡ n.link.s = there.received in
       let up : suc n.link.s ≡ (taker_of n m).link.r = omega (arith, x.received, from) in
-      record {
-        received = x.received ∙ ap (λ i. i + 1) from ∙ sym x.sent;
-        delivered =
-            x.delivered ∙ ap (λ ds. ds ++ unwrap_or (slice_get n.link.contents n.link.s) [] ∷ []) (there.delivered ∙ ap (λ i. take i n.link.contents) from)
-            ∙ take-one n.link.contents n.link.s x.unsent ∙ ap (λ i. take i n.link.contents) up ∙ ap (λ cs. take (taker_of n m).link.r cs) (sym g.contents);
-        owed = λ less. x.pending;
-        sizes = subst (λ t. All (λ octets. length octets ≤ t.n201) (giver_of n).link.contents) (sym k.terms) (subst (λ cs. All (λ octets. length octets ≤ m.terms.n201) cs) (sym g.contents) there.sizes);
-      }
-  taken-there (inr x) =
-      let g = moves.giver in
-      let k = moves.taker in
-      record {
-        received = x.received ∙ there.received ∙ sym x.sent;
-        delivered = x.delivered ∙ there.delivered ∙ ap (λ i. take i n.link.contents) (sym x.received) ∙ ap (λ cs. take (taker_of n m).link.r cs) (sym g.contents);
-        owed = λ less. x.pending ∙ there.owed (subst (λ i. i < n.link.s) g.a (subst (λ i. (giver_of n).link.a < i) x.sent less));
-        sizes = subst (λ t. All (λ octets. length octets ≤ t.n201) (giver_of n).link.contents) (sym k.terms) (subst (λ cs. All (λ octets. length octets ≤ m.terms.n201) cs) (sym g.contents) there.sizes);
-      }
+      grind (arith, slice_get, take-one)
+  taken-there (inr x) = grind arith
 
   pub takes : IsTaken (giver_of n) (taker_of n m)
   takes = taken-there moves.moved
@@ -174,9 +153,4 @@ module _ (n m : End) (hn : IsReady n) (hm : IsReady m) (there : IsTaken n m) (ba
   taken =
       let g = moves.giver in
       let k = moves.taker in
-      record {
-        received = g.r ∙ back.received ∙ sym k.s;
-        delivered = g.delivered ∙ back.delivered ∙ ap (λ i. take i m.link.contents) (sym g.r) ∙ ap (λ cs. take (giver_of n).link.r cs) (sym k.contents);
-        owed = λ less. absurd (omega (arith, less, k.a, k.s));
-        sizes = subst (λ cs. All (λ octets. length octets ≤ n.terms.n201) cs) (sym k.contents) back.sizes;
-      }
+      grind arith

@@ -36,9 +36,6 @@ awake state busy running = running ≡ Some T200
 abbrev pub heeding_in_7 : Claim
 heeding_in_7 state busy running = (state ≡ Established) × (IsTrue busy → running ≡ Some T200)
 
-abbrev pub calm_in_8 : Claim
-calm_in_8 state busy running = (state ≡ TimerRecovery) × (running ≡ Some T200) × (busy ≡ false)
-
 -- from a claim to the end
 down_heeds : (here state : State) (busy : Bool) (running : Option LinkTimer) → state ≡ here → HeedsIn here busy running → HeedsIn state busy running
 down_heeds here state busy running e h = subst (λ s. HeedsIn s busy running) (sym e) h
@@ -46,39 +43,13 @@ down_heeds here state busy running e h = subst (λ s. HeedsIn s busy running) (s
 not-busy : (busy : Bool) (running : Option LinkTimer) → busy ≡ false → IsTrue busy → running ≡ Some T200
 not-busy busy running e h = grind arith
 
-module _ (f : Step) where
-  pub as_4 : Leads (On (at_state TeiAssigned)) f (On (at_state TeiAssigned)) → Leads (On (at_state TeiAssigned)) f (On heeding)
-  as_4 x = to_less (λ c h. record { holds = down_heeds TeiAssigned c.link.state c.link.peer_busy c.link.running h.holds tt }) x
-
-  pub as_7 : {P : Claim} → Leads (On P) f (On heeding_in_7) → Leads (On P) f (On heeding)
-  as_7 x = to_less (λ c h. record { holds = down_heeds Established c.link.state c.link.peer_busy c.link.running h.holds.0 h.holds.1 }) x
-
-  pub as_calm_7 : {P : Claim} → Leads (On P) f (On (calm_at Established)) → Leads (On P) f (On heeding)
-  as_calm_7 x = to_less (λ c h. record { holds = down_heeds Established c.link.state c.link.peer_busy c.link.running h.holds.0 (not-busy c.link.peer_busy c.link.running h.holds.1) }) x
-
-  pub as_awake_7 : {P : Claim} → Leads (On P) f (On (awake_at Established)) → Leads (On P) f (On heeding)
-  as_awake_7 x = to_less (λ c h. record { holds = down_heeds Established c.link.state c.link.peer_busy c.link.running h.holds.0 (λ b. h.holds.1) }) x
-
-  pub as_8 : {P : Claim} → Leads (On P) f (On (awake_at TimerRecovery)) → Leads (On P) f (On heeding)
-  as_8 x = to_less (λ c h. record { holds = down_heeds TimerRecovery c.link.state c.link.peer_busy c.link.running h.holds.0 h.holds.1 }) x
-
 -- the words that change what is claimed
 module _ {g : Step} {R : Course → Type 0} where
   pub flags_then : {P : Claim} → Leads (On calm) g R → Leads (On P) (clear_flags then g) R
   flags_then x = record { leads = λ c h. x.leads (clear_flags c) (record { holds = refl }) }
 
-  pub t200_then : {P : Claim} → Leads (On awake) g R → Leads (On P) (start T200 then g) R
-  t200_then x = record { leads = λ c h. x.leads (start T200 c) (record { holds = refl }) }
-
   pub start_then : (timer : LinkTimer) → Leads (On calm) g R → Leads (On calm) (start timer then g) R
   start_then timer x = record { leads = λ c h. x.leads (start timer c) (record { holds = h.holds }) }
-
-  pub start_from_8_then : (timer : LinkTimer) → Leads (On calm) g R → Leads (On calm_in_8) (start timer then g) R
-  start_from_8_then timer x = record { leads = λ c h. x.leads (start timer c) (record { holds = h.holds.2 }) }
-
-  pub calm_then : (here : State) {P : Claim} → ((state : State) (busy : Bool) (running : Option LinkTimer) → P state busy running → state ≡ here)
-      → Leads (On (calm_at here)) g R → Leads (On P) (peer_busy_is false then g) R
-  calm_then here w x = record { leads = λ c h. x.leads (peer_busy_is false c) (record { holds = (w c.link.state c.link.peer_busy c.link.running h.holds, refl) }) }
 
 pub enter_7_calm : Leads (On calm) (enter Established) (On heeding)
 enter_7_calm = record { leads = λ c h. record { holds = not-busy c.link.peer_busy c.link.running h.holds } }
@@ -117,7 +88,7 @@ pub ruleset rows = (words, flags_then, enter_7_calm, enter_7_awake, enter_5_calm
 -- State 4.
 module _ (t : Terms) where
   pub in_4 : (octets : List ℕ) (control : Control) → Leads (On (at_state TeiAssigned)) (frame_in_4 t octets control) (On heeding)
-  in_4 octets control = grind (arith, start_then, as_4)
+  in_4 octets control = grind (arith, start_then, to_less, down_heeds)
 
 -- State 5.
 module _ (t : Terms) where
@@ -129,79 +100,12 @@ module _ (t : Terms) where
   pub in_6 : (octets : List ℕ) (control : Control) → Leads (On (at_state AwaitingRelease)) (frame_in_6 t octets control) (On heeding)
   in_6 octets control = grind (arith, to_less, down_heeds)
 
--- State 7.
-calm_7_start : (timer : LinkTimer) → Leads (On (calm_at Established)) (start timer) (On (calm_at Established))
-calm_7_start timer = record { leads = λ c h. record { holds = h.holds } }
-
-awake_7_start : Leads (On (at_state Established)) (start T200) (On (awake_at Established))
-awake_7_start = record { leads = λ c h. record { holds = (h.holds, refl) } }
-
-calm_7_then : {g : Step} → Leads (On (calm_at Established)) g (On heeding) → Leads (On heeding_in_7) (peer_busy_is false then g) (On heeding)
-calm_7_then x = calm_then Established (λ state busy running h. h.0) x
-
-busy_7_then : {g : Step} → Leads (On (at_state Established)) g (On heeding) → Leads (On heeding_in_7) (peer_busy_is true then g) (On heeding)
-busy_7_then x = record { leads = λ c h. x.leads (peer_busy_is true c) (record { holds = h.holds.0 }) }
-
-in_7_calm : (n : ℕ) → Leads (On (calm_at Established)) (acknowledged_in_7 n) (On heeding)
-in_7_calm n = as_calm_7 _ (search (words, calm_7_start) depth 12 fits 4000)
-
-rnr_7 : (n : ℕ) → Leads (On (at_state Established)) (acknowledged_by_rnr_in_7 n) (On heeding)
-rnr_7 n = as_awake_7 _ (search (words, awake_7_start))
-
-rej_7 : (n : ℕ) → Leads (On (calm_at Established)) (acknowledged_by_rej_in_7 n) (On heeding)
-rej_7 n = as_calm_7 _ (search (words, calm_7_start) depth 12 fits 4000)
-
--- an I-frame's N(R), by whether the terminal is taken for busy
-information-by : (n : ℕ) (c : Course) → On heeding_in_7 c → (b : Bool) → c.link.peer_busy ≡ b
-    → On heeding (cond b (acknowledge n c) (acknowledged_in_7 n c))
-information-by n c h b e = grind (arith, as_7, in_7_calm)
-
-information_7 : (n : ℕ) → Leads (On heeding_in_7) (acknowledged_by_information_in_7 n) (On heeding)
-information_7 n = record { leads = λ c h. information-by n c h c.link.peer_busy refl }
-
-ruleset rows_7 = (rows, calm_7_then, busy_7_then, in_7_calm, rnr_7, rej_7, information_7)
-
 module _ (t : Terms) where
   pub in_7 : (b : Bool) (octets : List ℕ) (control : Control) → Leads (On heeding_in_7) (frame_in_7 t b octets control) (On heeding)
   in_7 b octets (Sabme p) = search (rows, start_then) depth 14 fits 6000
-  in_7 b octets (Disc p) = search rows depth 14 fits 6000
-  in_7 b octets (Ua f) = search (words, as_7) depth 14 fits 6000
-  in_7 b octets (Dm true) = search (words, as_7) depth 14 fits 6000
-  in_7 b octets (Dm false) = re_establish_heeds t _
-  in_7 b octets (Frmr f) = re_establish_heeds t _
-  in_7 b octets (Ui p) = search (words, as_7) depth 14 fits 6000
-  in_7 b octets (Xid pf) = search (words, as_7) depth 14 fits 6000
-  in_7 b octets other = search rows_7 depth 14 fits 6000
-
--- State 8.
-calm_8_then : {g : Step} → Leads (On calm_in_8) g (On heeding) → Leads (On (awake_at TimerRecovery)) (peer_busy_is false then g) (On heeding)
-calm_8_then x = record { leads = λ c h. x.leads (peer_busy_is false c) (record { holds = (h.holds.0, h.holds.1, refl) }) }
-
-busy_8_then : {g : Step} → Leads (On (awake_at TimerRecovery)) g (On heeding) → Leads (On (awake_at TimerRecovery)) (peer_busy_is true then g) (On heeding)
-busy_8_then x = record { leads = λ c h. x.leads (peer_busy_is true c) (record { holds = h.holds }) }
-
-calm_8 : {f : Step} → Leads (On calm_in_8) f (On calm_in_8) → Leads (On calm_in_8) f (On heeding)
-calm_8 x = to_less (λ c h. record { holds = down_heeds TimerRecovery c.link.state c.link.peer_busy c.link.running h.holds.0 h.holds.1 }) x
-
-acknowledged_8 : (b : Bool) (n : ℕ) → Leads (On calm_in_8) (acknowledged_in_8 T203 b n) (On heeding)
-acknowledged_8 b n = search (rows, start_from_8_then, calm_8) depth 14 fits 6000
-
-rnr_8 : (b : Bool) (n : ℕ) → Leads (On (awake_at TimerRecovery)) (acknowledged_in_8 T200 b n) (On heeding)
-rnr_8 b n = search (rows, t200_then, as_8) depth 14 fits 6000
-
-acknowledge_8 : (n : ℕ) → Leads (On (awake_at TimerRecovery)) (acknowledge n) (On heeding)
-acknowledge_8 n = as_8 (acknowledge n) (leaves (λ c h. h))
-
-ruleset rows_8 = (rows, calm_8_then, busy_8_then, acknowledged_8, rnr_8, acknowledge_8)
+  in_7 b octets control = grind (arith, to_less, down_heeds, re_establish_heeds)
 
 module _ (t : Terms) where
   pub in_8 : (b : Bool) (octets : List ℕ) (control : Control) → Leads (On (awake_at TimerRecovery)) (frame_in_8 t b octets control) (On heeding)
   in_8 b octets (Sabme p) = search (rows, start_then) depth 14 fits 6000
-  in_8 b octets (Disc p) = search rows depth 14 fits 6000
-  in_8 b octets (Ua f) = search (words, as_8) depth 14 fits 6000
-  in_8 b octets (Dm true) = re_establish_heeds t _
-  in_8 b octets (Dm false) = re_establish_heeds t _
-  in_8 b octets (Frmr f) = re_establish_heeds t _
-  in_8 b octets (Ui p) = search (words, as_8) depth 14 fits 6000
-  in_8 b octets (Xid pf) = search (words, as_8) depth 14 fits 6000
-  in_8 b octets other = search rows_8 depth 14 fits 6000
+  in_8 b octets control = grind (arith, to_less, down_heeds, re_establish_heeds)

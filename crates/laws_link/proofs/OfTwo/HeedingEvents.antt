@@ -10,14 +10,8 @@ module _ (t : Terms) (l : Link) where
   at-4 : l.state ≡ TeiAssigned → Heeding.On (Heeding.at_state TeiAssigned) (begun l)
   at-4 e = record { holds = e }
 
-  at-5 : l.state ≡ AwaitingEstablishment → HeedsIn AwaitingEstablishment l.peer_busy l.running → Heeding.On (Heeding.calm_at AwaitingEstablishment) (begun l)
-  at-5 e h = record { holds = (e, h) }
-
   at-6 : l.state ≡ AwaitingRelease → Heeding.On (Heeding.at_state AwaitingRelease) (begun l)
   at-6 e = record { holds = e }
-
-  at-7 : l.state ≡ Established → HeedsIn Established l.peer_busy l.running → Heeding.On Heeding.heeding_in_7 (begun l)
-  at-7 e h = record { holds = (e, h) }
 
   at-8 : l.state ≡ TimerRecovery → HeedsIn TimerRecovery l.peer_busy l.running → Heeding.On (Heeding.awake_at TimerRecovery) (begun l)
   at-8 e h = record { holds = (e, h) }
@@ -29,9 +23,9 @@ module _ (t : Terms) (l : Link) where
   frames-in : (here : State) → l.state ≡ here → HeedsIn here l.peer_busy l.running → (b : Bool) (octets : List ℕ) (control : Control)
       → Ends (frame_in here t b octets control (begun l))
   frames-in TeiAssigned e h b octets control = (Heeding.in_4 t octets control).leads (begun l) (at-4 e)
-  frames-in AwaitingEstablishment e h b octets control = (Heeding.in_5 t octets control).leads (begun l) (at-5 e h)
+  frames-in AwaitingEstablishment e h b octets control = (Heeding.in_5 t octets control).leads (begun l) (record { holds = (e, h) })
   frames-in AwaitingRelease e h b octets control = (Heeding.in_6 t octets control).leads (begun l) (at-6 e)
-  frames-in Established e h b octets control = (Heeding.in_7 t b octets control).leads (begun l) (at-7 e h)
+  frames-in Established e h b octets control = (Heeding.in_7 t b octets control).leads (begun l) (record { holds = (e, h) })
   frames-in TimerRecovery e h b octets control = (Heeding.in_8 t b octets control).leads (begun l) (at-8 e h)
 
   frames : Heeds l → (b : Bool) (octets : List ℕ) (control : Control) → Ends (frame_step t b octets control (begun l))
@@ -41,10 +35,10 @@ module _ (t : Terms) (l : Link) where
   malformed e here s h = grind arith
 
   expiries : (here : State) → l.state ≡ here → HeedsIn here l.peer_busy l.running → (timer : LinkTimer) → Ends (expired_in here timer t (begun l))
-  expiries here e h timer = grind (arith, idle, at-5, at-6, at-7, at-8)
+  expiries here e h timer = grind (arith, idle, at-6, at-8)
 
   releases : (here : State) → l.state ≡ here → HeedsIn here l.peer_busy l.running → Ends (release_in here t (begun l))
-  releases here e h = grind (arith, at-4, at-7, at-8, idle)
+  releases here e h = grind (arith, at-4, at-8, idle)
 
   grants : Heeds l → (request : Request) → Ends (granted t request (begun l))
   grants h request = grind (arith, releases, both_ways)
@@ -64,11 +58,7 @@ module _ (t : Terms) (l : Link) where
 
 pub heeds-after : (t : Terms) (e : Event) (l : Link) → Heeds l → Heeds (after t e l)
 heeds-after t (received (frame f)) l h = record { heeds = (frames t l h f.address.command f.info f.control).holds }
-heeds-after t (expired timer) l h = record { heeds = (both_ways Ends (is_running timer l) _ _ (expiries t l l.state refl h.heeds timer) (record { holds = h.heeds })).holds }
-heeds-after t (requested request full) l h = record { heeds = (asked t l h request (refusal t l full request)).holds }
-heeds-after t offer l h = record { heeds = (offers t l h l.waiting).holds }
-heeds-after t cleared l h = record { heeds = tt }
-heeds-after t other l h = record { heeds = (malformed t l _ l.state refl h.heeds).holds }
+heeds-after t e l h = grind (arith, both_ways, expiries, asked, offers, malformed)
 
 pub heeds-fresh : Heeds fresh
 heeds-fresh = record { heeds = tt }

@@ -25,17 +25,14 @@ near-acts sends e h s = by-event offer e.near h _ _ s
 near-acts receives e h s = by-first e.far.way e.near h s
 near-acts loses e h s = record { ranges = s.ranges; sound = s.sound; counted = s.counted }
 
-far-waits : (act : Act) (e : Ends) (h : History) → Stands e.far h → Stands (acting act e).far h
-far-waits act e h s = grind arith
-
 pub near-all : (ds : List Doing) (e : Ends) (h : History) → Stands e.near h → IsCounted (near_history ds e h) (doing_all ds e).near.link
 unfolding near_history doing_all
 near-all [] e h s = s.counted
 near-all (at_near act ∷ ds) e h s = near-all ds (doing (at_near act) e) (by_act act e h) (near-acts act e h s)
-near-all (at_far act ∷ ds) e h s = near-all ds (doing (at_far act) e) h (far-waits act (turned e) h s)
+near-all (at_far act ∷ ds) e h s = near-all ds (doing (at_far act) e) h (grind arith)
 
 pub far-all : (ds : List Doing) (e : Ends) (h : History) → Stands e.far h → IsCounted (far_history ds e h) (doing_all ds e).far.link
 unfolding far_history doing_all
 far-all [] e h s = s.counted
-far-all (at_near act ∷ ds) e h s = far-all ds (doing (at_near act) e) h (far-waits act e h s)
+far-all (at_near act ∷ ds) e h s = far-all ds (doing (at_near act) e) h (grind arith)
 far-all (at_far act ∷ ds) e h s = far-all ds (doing (at_far act) e) (by_act act (turned e) h) (near-acts act (turned e) h s)

@@ -19,10 +19,8 @@ sane-first [] n h = h
 sane-first (f ∷ fs) n h = record { timed = timed-after n.terms (received (frame f)) n.link h.timed; heeds = heeds-after n.terms (received (frame f)) n.link h.heeds }
 
 sane-acting : (act : Act) (e : Ends) → BothSane e → BothSane (acting act e)
-sane-acting (asks request full) e h =
-    (record { timed = timed-after e.near.terms (requested request full) e.near.link h.0.timed; heeds = heeds-after e.near.terms (requested request full) e.near.link h.0.heeds }, h.1)
-sane-acting (expires timer) e h =
-    (record { timed = timed-after e.near.terms (expired timer) e.near.link h.0.timed; heeds = heeds-after e.near.terms (expired timer) e.near.link h.0.heeds }, h.1)
+sane-acting (asks request full) e h = grind (arith, timed-after, heeds-after)
+sane-acting (expires timer) e h = grind (arith, timed-after, heeds-after)
 sane-acting sends e h =
     (record { timed = timed-after e.near.terms offer e.near.link h.0.timed; heeds = heeds-after e.near.terms offer e.near.link h.0.heeds }, h.1)
 sane-acting receives e h = (sane-first e.far.way e.near h.0, h.1)

@@ -12,10 +12,7 @@ pub record Sounds (e : Ends) : Type 0 where
   pub near : IsSound e.near.terms e.near.link
   pub far : IsSound e.far.terms e.far.link
 
-ranges-taker : (m : End) (way : List Parts) → IsInRange m.terms → IsInRange (with_first_of way m).terms
-ranges-taker m way r = grind arith
-
-sound-taker : (m : End) (way : List Parts) → IsInRange m.terms → IsSound m.terms m.link → IsSound (with_first_of way m).terms (with_first_of way m).link
+pub sound-taker : (m : End) (way : List Parts) → IsInRange m.terms → IsSound m.terms m.link → IsSound (with_first_of way m).terms (with_first_of way m).link
 sound-taker m [] r h = h
 sound-taker m (f ∷ fs) r h = sound-after m.terms r (received (frame f)) m.link h
 
@@ -23,7 +20,7 @@ pub sounds-near : (e : Ends) → Sounds e → Sounds (near_moves e)
 sounds-near e h =
     record {
       near_ranges = h.near_ranges;
-      far_ranges = ranges-taker e.far _ h.far_ranges;
+      far_ranges = grind arith;
       near = sound-after e.near.terms h.near_ranges offer e.near.link h.near;
       far = sound-taker e.far _ h.far_ranges h.far;
     }
@@ -31,7 +28,7 @@ sounds-near e h =
 pub sounds-far : (e : Ends) → Sounds e → Sounds (far_moves e)
 sounds-far e h =
     record {
-      near_ranges = ranges-taker e.near _ h.near_ranges;
+      near_ranges = grind arith;
       far_ranges = h.far_ranges;
       near = sound-taker e.near _ h.near_ranges h.near;
       far = sound-after e.far.terms h.far_ranges offer e.far.link h.far;
@@ -63,16 +60,7 @@ pub record Recovered (u : ℕ) (cn cm : List (List ℕ)) (e : Ends) : Type 0 whe
 pub recovered-far : (u : ℕ) (cn cm : List (List ℕ)) (e : Ends) → Recovered u cn cm e → Recovered u cn cm (far_moves e)
 recovered-far u cn cm e h =
     let x = moves e.far e.near h.far h.near h.back h.there in
-    record {
-      near = ready-taker e.far e.near h.far h.near h.back h.there;
-      far = ready-giver e.far e.near h.far h.near h.back h.there;
-      there = taken e.far e.near h.far h.near h.back h.there;
-      back = takes e.far e.near h.far h.near h.back h.there;
-      near_left = subst (λ s. length (far_moves e).near.link.contents ≤ s + u) (sym x.taker.s) (subst (λ cs. length cs ≤ e.near.link.s + u) (sym x.taker.contents) h.near_left);
-      far_left = no-more u e.far e.near (far_moves e).far (far_moves e).near h.far_left x.giver.contents x.moved;
-      near_kept = x.taker.contents ∙ h.near_kept;
-      far_kept = x.giver.contents ∙ h.far_kept;
-    }
+    grind (arith, ready-taker, ready-giver, taken, takes, far_moves, no-more)
 
 -- an end that has recovered
 pub ready-7 : (n : End) (a s : ℕ) (p : Bool) (running : Option LinkTimer) (ds : List (List ℕ)) → IsInRange n.terms → IsSound n.terms (in_7 n [] a s p running ds).link
@@ -137,16 +125,7 @@ module _ (u : ℕ) (cn cm : List (List ℕ)) (n m : End) (there : Between u cn n
     pub both-recover : Sounds both_ask → Recovered u cn cm (far_moves (near_moves (far_moves (near_moves both_ask))))
     both-recover h =
         let s = subst Sounds all-four (sounds-far (near_moves (far_moves (near_moves both_ask))) (sounds-near (far_moves (near_moves both_ask)) (sounds-far (near_moves both_ask) (sounds-near both_ask h)))) in
-        subst (Recovered u cn cm) (sym all-four) (record {
-          near = ready-7 n m.link.r m.link.r false (Some T203) n.delivered there.ranges s.near;
-          far = ready-7 m n.link.r n.link.r false (Some T203) m.delivered back.ranges s.far;
-          there = record { received = refl; delivered = there.delivered; owed = λ less. absurd (omega (arith, less)); sizes = there.sizes };
-          back = record { received = refl; delivered = back.delivered; owed = λ less. absurd (omega (arith, less)); sizes = back.sizes };
-          near_left = there.left;
-          far_left = back.left;
-          near_kept = there.kept;
-          far_kept = back.kept;
-        })
+        grind (arith, all-four, ready-7)
 
   -- Near asks, and far has nothing outstanding: one round.
   module _ (bn p : Bool) (running : Option LinkTimer) (all : m.link.s ≤ m.link.a) where
@@ -161,8 +140,6 @@ module _ (u : ℕ) (cn cm : List (List ℕ)) (n m : End) (there : Between u cn n
 
     asks : near_moves near_asks ≡ replies
     asks =
-        let low : m.link.a ≤ n.link.r = back.low in
-        let high : n.link.r ≤ m.link.s = back.high in
         let at : n.link.r ≡ m.link.a = omega (arith, all) in
         ap (λ y. record { near = in_8 n [] bn n.link.a false n.delivered; far = y })
         (asked-7 false m m.link.a m.link.s p running m.delivered n.terms n.link.r (room-0 m back.ranges) (names-a m n back ∙ ap Some at))
@@ -172,25 +149,12 @@ module _ (u : ℕ) (cn cm : List (List ℕ)) (n m : End) (there : Between u cn n
         ap (λ x. record { near = x; far = in_7 m [] m.link.a m.link.s false (cond (m.link.a == m.link.s) (Some T203) running) m.delivered })
         (answered-8 false n [] bn n.link.a false n.delivered m.terms m.link.r m.link.r (names-a n m there))
 
-    both-turns : far_moves (near_moves near_asks) ≡ near_answered
-    both-turns = ap far_moves asks ∙ answers
-
     pub near-recovers : Sounds near_asks → Recovered u cn cm (far_moves (near_moves near_asks))
     near-recovers h =
-        let s = subst Sounds both-turns (sounds-far (near_moves near_asks) (sounds-near near_asks h)) in
-        let low : m.link.a ≤ n.link.r = back.low in
+        let s = subst Sounds (ap far_moves asks ∙ answers) (sounds-far (near_moves near_asks) (sounds-near near_asks h)) in
         let high : n.link.r ≤ m.link.s = back.high in
         let left : length m.link.contents ≤ n.link.r + u = back.left in
-        subst (Recovered u cn cm) (sym both-turns) (record {
-          near = ready-7 n m.link.r m.link.r false (Some T203) n.delivered there.ranges s.near;
-          far = ready-7 m m.link.a m.link.s false (cond (m.link.a == m.link.s) (Some T203) running) m.delivered back.ranges s.far;
-          there = record { received = refl; delivered = there.delivered; owed = λ less. absurd (omega (arith, less)); sizes = there.sizes };
-          back = record { received = omega (arith, all); delivered = back.delivered; owed = λ less. absurd (omega (arith, less, all)); sizes = back.sizes };
-          near_left = there.left;
-          far_left = omega (arith, all);
-          near_kept = there.kept;
-          far_kept = back.kept;
-        })
+        grind (arith, far_moves, asks, answers, ready-7)
 
   -- Far asks, and near has nothing outstanding: a round and a half, after which far's turn is as any other.
   -- what far has made of near's frame
@@ -220,8 +184,6 @@ module _ (u : ℕ) (cn cm : List (List ℕ)) (n m : End) (there : Between u cn n
 
       asked : far_moves (heard m' s' a' b p running ds) ≡ replied
       asked =
-          let low : n.link.a ≤ m.link.r = there.low in
-          let high : m.link.r ≤ n.link.s = there.high in
           let at : n.link.a ≡ m.link.r = omega (arith, all) in
           ap (λ x. record { near = x; far = in_8 m' [] b a' p ds })
           (asked-7 false n n.link.a s' false running n.delivered m'.terms m.link.r (room-0 n there.ranges)
@@ -232,32 +194,10 @@ module _ (u : ℕ) (cn cm : List (List ℕ)) (n m : End) (there : Between u cn n
           ap (λ y. record { near = in_7 n [] n.link.a s' false later n.delivered; far = y })
           (answered-8 false m' [] b a' p ds n.terms n.link.r n.link.r (subst (λ s. named a' s (seq n.link.r) ≡ Some n.link.r) (sym h.sent) h.names))
 
-      last-turns : near_moves (far_moves (heard m' s' a' b p running ds)) ≡ far_answered
-      last-turns = ap near_moves asked ∙ answered
-
       far-recovered : Sounds (heard m' s' a' b p running ds) → Recovered u cn cm (near_moves (far_moves (heard m' s' a' b p running ds)))
       far-recovered sounds =
-          let s = subst Sounds last-turns (sounds-near (far_moves (heard m' s' a' b p running ds)) (sounds-far (heard m' s' a' b p running ds) sounds)) in
-          subst (Recovered u cn cm) (sym last-turns) (record {
-            near = ready-7 n n.link.a s' false later n.delivered there.ranges s.near;
-            far = ready-7 m' n.link.r n.link.r p (Some T203) ds s.far_ranges s.far;
-            there = record {
-              received = h.received;
-              delivered = h.delivered ∙ ap (λ i. take i n.link.contents) (sym h.received);
-              owed = h.owed;
-              sizes = subst (λ t. All (λ octets. length octets ≤ t.n201) n.link.contents) (sym h.terms) there.sizes;
-            };
-            back = record {
-              received = refl;
-              delivered = back.delivered ∙ ap (λ cs. take n.link.r cs) (sym h.contents);
-              owed = λ less. absurd (omega (arith, less));
-              sizes = subst (λ cs. All (λ octets. length octets ≤ n.terms.n201) cs) (sym h.contents) back.sizes;
-            };
-            near_left = h.left;
-            far_left = subst (λ cs. length cs ≤ n.link.r + u) (sym h.contents) back.left;
-            near_kept = there.kept;
-            far_kept = h.contents ∙ back.kept;
-          })
+          let s = subst Sounds (ap near_moves asked ∙ answered) (sounds-near (far_moves (heard m' s' a' b p running ds)) (sounds-far (heard m' s' a' b p running ds) sounds)) in
+          grind (arith, near_moves, asked, answered, ready-7)
 
     module _ (bm : Bool) where
       abbrev far_asks : Ends
@@ -278,7 +218,6 @@ module _ (u : ℕ) (cn cm : List (List ℕ)) (n m : End) (there : Between u cn n
           (informed-8 m (enquiry m.link.r ∷ []) bm m.link.a false m.delivered n.terms n.link n.link.r
           (le-ltb m.terms.n201 (length octets) (fits-at m.terms.n201 n.link.contents n.link.s there.sizes))
           (eq-eqb (seq n.link.s).value (seq m.link.r).value (ap (λ i. (seq i).value) at-r)) (names-a m n back)) in
-          let low : n.link.a ≤ m.link.r = there.low in
           let left : length n.link.contents ≤ m.link.r + u = there.left in
           let one : suc n.link.s ≡ n.link.s + 1 = omega arith in
           subst (λ e. Recovered u cn cm (near_moves (far_moves e))) (sym next)

@@ -7,18 +7,8 @@ use Rattle.laws_link.proofs.OfTwo.Recovering.{Sounds, Between, Recovered, both-r
 
 pub between : (own : Bool) (u v : ℕ) (n m : End) (b c : ℕ) → IsCutOffWith own n m → HasMissing u n m → u ≤ v → Between v n.link.contents (with_count b n) (with_count c m)
 between own u v n m b c h missing le =
-    let small : n.terms.k ≤ 127 = h.ranges.k_high in
     let within : n.link.s ≤ n.link.a + n.terms.k = h.sound.within in
-    record {
-      ranges = h.ranges;
-      kept = refl;
-      low = h.low;
-      high = h.high;
-      near = omega arith;
-      delivered = h.delivered;
-      sizes = h.sizes;
-      left = omega (arith, missing, le);
-    }
+    grind arith
 
 finish : (u : ℕ) (cn cm : List (List ℕ)) (e : Ends) → Recovered u cn cm e → Arrived cn cm (rounds (u + 1) e)
 finish u cn cm e h =
@@ -37,28 +27,19 @@ module _ (u : ℕ) (e : Ends) (hn : IsCutOff e.near e.far) (hm : IsCutOff e.far 
   cm = e.far.link.contents
 
   sounds : Sounds (with_t200_expired e)
-  sounds =
-      record {
-        near_ranges = hn.ranges;
-        far_ranges = hm.ranges;
-        near = sound-after e.near.terms hn.ranges (expired T200) e.near.link hn.sound;
-        far = sound-after e.far.terms hm.ranges (expired T200) e.far.link hm.sound;
-      }
+  sounds = assumption (sound-after e.near.terms hn.ranges (expired T200) e.near.link hn.sound, sound-after e.far.terms hm.ranges (expired T200) e.far.link hm.sound)
 
   -- whatever comes of it where both are ready, and nothing is missing
   module _ (Q : Ends → Type 0) (fin : (v : ℕ) (e' : Ends) → Recovered v cn cm e' → Q (rounds (v + 1) e')) where
     by-two : (e0 : Ends) → with_t200_expired e ≡ e0 → Recovered u cn cm (far_moves (near_moves (far_moves (near_moves e0)))) → Q (rounds (u + 3) (with_t200_expired e))
     by-two e0 is h =
-        let count : suc (suc (u + 1)) ≡ u + 3 = omega arith in
         let two : rounds (suc (suc (u + 1))) e0 ≡ rounds (u + 1) (far_moves (near_moves (far_moves (near_moves e0)))) = after-round (suc (u + 1)) e0 ∙ after-round (u + 1) (far_moves (near_moves e0)) in
-        subst (λ e'. Q (rounds (u + 3) e')) (sym is)
-        (subst (λ i. Q (rounds i e0)) count (subst Q (sym two) (fin u _ h)))
+        grind arith
 
     by-one : (e0 : Ends) → with_t200_expired e ≡ e0 → Recovered (u + 1) cn cm (far_moves (near_moves e0)) → Q (rounds (u + 3) (with_t200_expired e))
     by-one e0 is h =
         let count : suc ((u + 1) + 1) ≡ u + 3 = omega arith in
-        subst (λ e'. Q (rounds (u + 3) e')) (sym is)
-        (subst (λ i. Q (rounds i e0)) count (subst Q (sym (after-round ((u + 1) + 1) e0)) (fin (u + 1) _ h)))
+        grind (arith, after-round)
 
     at-once : (e0 : Ends) → with_t200_expired e ≡ e0 → Recovered (u + 2) cn cm e0 → Q (rounds (u + 3) (with_t200_expired e))
     at-once e0 is h =
@@ -102,21 +83,11 @@ module _ (u : ℕ) (e : Ends) (hn : IsCutOff e.near e.far) (hm : IsCutOff e.far 
         let m = e.far in
         let e0 : Ends = record { near = in_7 n [] n.link.a n.link.s n.link.pending x.running n.delivered; far = in_7 m [] m.link.a m.link.s m.link.pending y.running m.delivered } in
         let is : with_t200_expired e ≡ e0 = λ i. record { near = x.is i; far = y.is i } in
-        let s = subst Sounds is sounds in
         let nl : n.link.a ≤ m.link.r = hn.low in
         let nh : m.link.r ≤ n.link.s = hn.high in
         let ml : m.link.a ≤ n.link.r = hm.low in
         let mh : n.link.r ≤ m.link.s = hm.high in
-        at-once e0 is (record {
-          near = ready-7 n n.link.a n.link.s n.link.pending x.running n.delivered hn.ranges s.near;
-          far = ready-7 m m.link.a m.link.s m.link.pending y.running m.delivered hm.ranges s.far;
-          there = record { received = omega (arith, x.all); delivered = hn.delivered; owed = λ less. absurd (omega (arith, less, x.all)); sizes = hn.sizes };
-          back = record { received = omega (arith, y.all); delivered = hm.delivered; owed = λ less. absurd (omega (arith, less, y.all)); sizes = hm.sizes };
-          near_left = omega (arith, un);
-          far_left = omega (arith, um);
-          near_kept = refl;
-          far_kept = refl;
-        })
+        grind (arith, at-once, ready-7)
 
     either : Asking false e.near (with_t200_expired e).near ⊎ Resting false e.near (with_t200_expired e).near → Asking false e.far (with_t200_expired e).far ⊎ Resting false e.far (with_t200_expired e).far
         → Q (rounds (u + 3) (with_t200_expired e))

@@ -45,43 +45,15 @@ module _ (t : Terms) (l : Link) (up : IsTrue (is_multiple_frame l.state)) (p : �
       → IsUpIn (information_in_7_8 t ns (seq p) b octets f (begun l))
   information ns b octets f x size = grind (arith, le-ltb, numbered, contents, first)
 
-  supervisory-7 : (busy command pf : Bool) (f : Bool → ℕ → Step) → ((final : Bool) (n : ℕ) → Leads Stays (f final n) Stays)
-      → IsUpIn (supervisory t (particulars_in_7 t) busy command pf (seq p) f (begun l))
-  supervisory-7 busy command pf f x = grind (arith, numbered, first)
-
-  supervisory-8 : (busy command pf : Bool) (f : Bool → ℕ → Step) → ((final : Bool) (n : ℕ) → Leads Stays (f final n) Stays)
-      → IsUpIn (supervisory t (particulars_in_8 t) busy command pf (seq p) f (begun l))
-  supervisory-8 busy command pf f x = grind (arith, numbered, first)
-
   in-7 : (b : Bool) (octets : List ℕ) (control : Control) → Means p control → Fits t control octets → IsUpIn (frame_in_7 t b octets control (begun l))
   in-7 b octets (Information ns nr x) e size =
       subst (λ n. IsUpIn (information_in_7_8 t ns n x octets acknowledged_by_information_in_7 (begun l))) (sym e)
       (information ns x octets acknowledged_by_information_in_7 (λ n. search effects depth 12 fits 4000) size)
-  in-7 b octets (ReceiveReady nr pf) e size =
-      subst (λ n. IsUpIn (supervisory t (particulars_in_7 t) false b pf n (particulars_in_7 t).by_rr (begun l))) (sym e)
-      (supervisory-7 false b pf (particulars_in_7 t).by_rr (λ final n. search effects depth 12 fits 4000))
-  in-7 b octets (ReceiveNotReady nr pf) e size =
-      subst (λ n. IsUpIn (supervisory t (particulars_in_7 t) true b pf n (particulars_in_7 t).by_rnr (begun l))) (sym e)
-      (supervisory-7 true b pf (particulars_in_7 t).by_rnr (λ final n. search effects depth 12 fits 4000))
-  in-7 b octets (Reject nr pf) e size =
-      subst (λ n. IsUpIn (supervisory t (particulars_in_7 t) false b pf n (particulars_in_7 t).by_rej (begun l))) (sym e)
-      (supervisory-7 false b pf (particulars_in_7 t).by_rej (λ final n. search effects depth 12 fits 4000))
-  in-7 b octets other e size = absurd e
+  in-7 b octets control e size = grind (arith, numbered, first)
 
   in-8 : (b : Bool) (octets : List ℕ) (control : Control) → Means p control → Fits t control octets → IsUpIn (frame_in_8 t b octets control (begun l))
-  in-8 b octets (Information ns nr x) e size =
-      subst (λ n. IsUpIn (information_in_7_8 t ns n x octets acknowledge (begun l))) (sym e)
-      (information ns x octets acknowledge (λ n. leaves (λ c h. h)) size)
-  in-8 b octets (ReceiveReady nr pf) e size =
-      subst (λ n. IsUpIn (supervisory t (particulars_in_8 t) false b pf n (particulars_in_8 t).by_rr (begun l))) (sym e)
-      (supervisory-8 false b pf (particulars_in_8 t).by_rr (λ final n. search effects depth 12 fits 4000))
-  in-8 b octets (ReceiveNotReady nr pf) e size =
-      subst (λ n. IsUpIn (supervisory t (particulars_in_8 t) true b pf n (particulars_in_8 t).by_rnr (begun l))) (sym e)
-      (supervisory-8 true b pf (particulars_in_8 t).by_rnr (λ final n. search effects depth 12 fits 4000))
-  in-8 b octets (Reject nr pf) e size =
-      subst (λ n. IsUpIn (supervisory t (particulars_in_8 t) false b pf n (particulars_in_8 t).by_rej (begun l))) (sym e)
-      (supervisory-8 false b pf (particulars_in_8 t).by_rej (λ final n. search effects depth 12 fits 4000))
-  in-8 b octets other e size = absurd e
+  in-8 b octets (Information ns nr x) e size = grind (arith, information)
+  in-8 b octets control e size = grind (arith, numbered, first)
 
   frames-in : (here : State) → IsTrue (is_multiple_frame here) → (b : Bool) (octets : List ℕ) (control : Control) → Means p control → Fits t control octets
       → IsUpIn (frame_in here t b octets control (begun l))

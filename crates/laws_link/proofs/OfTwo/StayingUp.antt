@@ -1,14 +1,14 @@
 -- Two links stay up where T200 is timely: what holds in both directions is kept by each act.
 use Rattle.laws_link.proofs.Vocabulary.{◌≡◌, ℕ, ◌+◌, ◌≤◌, Bool, true, false, IsTrue, List, [], ◌∷◌, ◌++◌, refl, sym, ap, subst, ◌∙◌, inl, inr, true≢false, arith, All, drop, All-head, All-tail, seq, Control, Parts, State, Established, TimerRecovery, LinkTimer, ControlFrame, Terms, Link, is_multiple_frame, Request, frame, received, expired, requested, offer, Course, End, Act, asks, expires, sends, receives, loses, with_link, with_sent, with_first_of, frame_given, acting, IsUp, rising-low, frames_of, line_of, Joined, IsMildRequest, is_enquiry, is_answer, IsNoneOpen, IsTimelyAct, after, course, given_of, is_running}
-use Rattle.laws_link.proofs.OfTwo.Trains.{Kind, numbered, enquiry, report, kind_of, kinds_of, tally, one_enquiry, one_answer}
-use Rattle.laws_link.proofs.OfTwo.Flow.{most, Flow, there-calm, there-enquiry, there-unasked, there-information, there-tail, back-other, back-tail}
+use Rattle.laws_link.proofs.OfTwo.Trains.{Kind, numbered, enquiry, report, kind_of, kinds_of, tally, one_enquiry, one_answer, one_rejection, every-push, behind-push}
+use Rattle.laws_link.proofs.OfTwo.Flow.{most, Flow, there-calm, there-enquiry, there-information, there-tail, few-more}
 use Rattle.laws_link.proofs.OfTwo.Effects.{is_recovering}
 use Rattle.laws_link.proofs.OfTwo.HeardRows.{heard}
 use Rattle.laws_link.proofs.OfTwo.Meeting.{line, Longer, line-longer, flow-at, is-no-alien, sender-kept, sender-went, sender-hears, receiver-kept, receiver-went, receiver-hears}
 use Rattle.laws_link.proofs.OfTwo.Going.{Asked, Gives, Offered, asks-went, RanOut, expires-goes, offer-goes}
 
 -- no enquiry, and no answer, is none among the kinds
-not-enquiry : (b : Bool) (control : Control) → is_enquiry b control ≡ false → one_enquiry (kind_of b control) ≡ 0
+pub not-enquiry : (b : Bool) (control : Control) → is_enquiry b control ≡ false → one_enquiry (kind_of b control) ≡ 0
 not-enquiry b control e = grind arith
 
 not-answer : (b : Bool) (control : Control) → is_answer b control ≡ false → one_answer (kind_of b control) ≡ 0
@@ -53,65 +53,47 @@ module _ (n m : End) (h : Joined n m) (f : Flows n m) (g : Flows m n) where
   -- expiries
   none-open : (here : State) → n.link.state ≡ here → (n.link.state ≡ TimerRecovery → IsNoneOpen n m) → IsTrue (is_multiple_frame here)
       → (tally one_enquiry own ≡ 0) × (tally one_answer other ≡ 0)
-  none-open Established e x up =
-      let asked : tally one_enquiry own + tally one_answer other ≤ 0 = subst (λ s. tally one_enquiry own + tally one_answer other ≤ most (is_recovering s)) e f.asked in
-      (omega arith, omega arith)
   none-open TimerRecovery e x up =
       let o = x e in (
         none-there is_enquiry one_enquiry not-enquiry n.terms n.way n.link.waiting o.enquiries.way o.enquiries.waiting,
         none-there is_answer one_answer not-answer m.terms m.way m.link.waiting o.answers.way o.answers.waiting,
       )
-  none-open state e x up = absurd (true≢false (sym up))
+  none-open here e x up = grind (arith, tally, one_enquiry, one_answer, most, is_recovering)
 
   asked-flows : (l' : Link) → Asked n.link l' → Longer own (line n.terms n.way l'.waiting) enquiry → (tally one_enquiry own ≡ 0) × (tally one_answer other ≡ 0)
       → Flow l'.s m.link.r (is_recovering l'.state) m.link.rejecting (line n.terms n.way l'.waiting) other
-  asked-flows l' a (inl e) none =
-      flow-at a.s refl (ap is_recovering a.state) refl e refl (there-unasked n.link.s m.link.r (is_recovering n.link.state) m.link.rejecting own other none.0 none.1 f)
+  asked-flows l' a (inl e) none = grind (arith, flow-at, is_recovering)
   asked-flows l' a (inr e) none =
       flow-at a.s refl (ap is_recovering a.state) refl e refl (there-enquiry n.link.s m.link.r (is_recovering n.link.state) m.link.rejecting own other none.0 none.1 f)
 
   ran-flows : (timer : LinkTimer) (c : Course) → (n.link.state ≡ TimerRecovery → is_running timer n.link ≡ true → IsNoneOpen n m) → RanOut n.terms n.link timer c
       → Flow c.link.s m.link.r (is_recovering c.link.state) m.link.rejecting (line n.terms n.way c.link.waiting) other
       × Flow m.link.s c.link.r (is_recovering m.link.state) c.link.rejecting other (line n.terms n.way c.link.waiting)
-  ran-flows timer c x (inl k) = (
-    sender-kept n.terms n.way n.link c.link m.link.r m.link.rejecting other (is_recovering n.link.state) refl k f,
-    receiver-kept n.terms n.way n.link c.link m.link.s (is_recovering m.link.state) other k.r k.rejecting k.waiting g,
-  )
+  ran-flows timer c x (inl k) = grind (arith, sender-kept, is_recovering, receiver-kept)
   ran-flows timer c x (inr a) = (
     asked-flows c.link a.1 (line-longer n.terms n.way n.link.waiting c.link.waiting enquiry a.1.waiting) (none-open n.link.state refl (λ e. x e a.0) h.near_up),
     receiver-went n.terms n.way n.link c.link m.link.s (is_recovering m.link.state) other enquiry refl refl tt tt a.1.r a.1.rejecting a.1.waiting g,
   )
 
-  expires-flows : (timer : LinkTimer) → (n.link.state ≡ TimerRecovery → is_running timer n.link ≡ true → IsNoneOpen n m) → IsTrue (is_multiple_frame (with_link (expired timer) n).link.state)
-      → Flows (with_link (expired timer) n) m × Flows m (with_link (expired timer) n)
-  expires-flows timer x up = ran-flows timer (course n.terms (expired timer) n.link) x (expires-goes n.terms n.link h.near_up timer up)
-
   -- V(S) is at most 127 beyond the other's V(R)
   near : n.link.s ≤ m.link.r + 127
   near = grind (arith, rising-low, line_of)
-
-  near-back : m.link.s ≤ n.link.r + 127
-  near-back = grind (arith, rising-low, line_of)
 
   -- offers
   gives-flows : (c : Course) → Offered n.terms n.link c → Gives n.terms n.link c
       → let way = n.way ++ frame_given n.terms (given_of n.terms n.link c c.sent) in
       Flow c.link.s m.link.r (is_recovering c.link.state) m.link.rejecting (line n.terms way c.link.waiting) other
       × Flow m.link.s c.link.r (is_recovering m.link.state) c.link.rejecting other (line n.terms way c.link.waiting)
-  gives-flows c o (inl x) =
-      (flow-at x.0 refl (ap is_recovering o.state) refl (x.1 n.way) refl f, flow-at refl o.r refl o.rejecting refl (x.1 n.way) g)
+  gives-flows c o (inl x) = grind (arith, flow-at, is_recovering)
   gives-flows c o (inr (inl x)) = (
     flow-at x.0 refl (ap is_recovering o.state) refl (x.1 n.way) refl (there-calm n.link.s m.link.r (is_recovering n.link.state) m.link.rejecting own other report tt refl f),
-    flow-at refl o.r refl o.rejecting refl (x.1 n.way) (back-other m.link.s n.link.r (is_recovering m.link.state) n.link.rejecting other own report refl refl tt tt g),
+    flow-at refl o.r refl o.rejecting refl (x.1 n.way) (grind (arith, tally, one_answer, few-more, one_rejection, every-push, behind-push)),
   )
   gives-flows c o (inr (inr x)) = (
     flow-at x.1 refl (ap is_recovering (o.state ∙ x.0)) refl (x.2 n.way) refl
         (there-information n.link.s m.link.r m.link.rejecting own other near (flow-at refl refl (sym (ap is_recovering x.0)) refl refl refl f)),
-    flow-at refl o.r refl o.rejecting refl (x.2 n.way) (back-other m.link.s n.link.r (is_recovering m.link.state) n.link.rejecting other own (numbered (seq n.link.s)) refl refl tt tt g),
+    flow-at refl o.r refl o.rejecting refl (x.2 n.way) (grind (arith, tally, one_answer, few-more, one_rejection, every-push, behind-push)),
   )
-
-  sends-flows : Flows (with_sent n) m × Flows m (with_sent n)
-  sends-flows = let o = offer-goes n.terms n.link in gives-flows (course n.terms offer n.link) o o.gives
 
   -- frames
   hears-flows : (p : Parts) (fs : List Parts) → m.way ≡ p ∷ fs → IsTrue (is_multiple_frame (with_link (received (frame p)) n).link.state)
@@ -126,11 +108,9 @@ module _ (n m : End) (h : Joined n m) (f : Flows n m) (g : Flows m n) where
       subst (λ way. Flow m.link.s n.link.r (is_recovering m.link.state) n.link.rejecting (line m.terms way m.link.waiting) own) first g in
       let k = heard n.terms n.link h.near_up p.address.command p.info p.control up in
       let low : n.link.a ≤ m.link.r = rising-low n.link.a m.link.r (line_of m) h.there.rising in
-      let within : n.link.s ≤ n.link.a + n.terms.k = h.near_sound.within in
-      let small : n.terms.k ≤ 127 = h.near_ranges.k_high in
       let known = is-no-alien m.link.s n.link.r (is_recovering m.link.state) n.link.rejecting x rest own g' in (
         sender-hears n.terms n.way n.link l' m.link.r m.link.rejecting x rest (is_recovering n.link.state) known low (omega arith) refl k f',
-        receiver-hears n.terms n.way n.link l' m.link.s (is_recovering m.link.state) x rest (is_recovering n.link.state) near-back k g',
+        receiver-hears n.terms n.way n.link l' m.link.s (is_recovering m.link.state) x rest (is_recovering n.link.state) (grind (arith, rising-low, line_of)) k g',
       )
 
   first-flows : (way : List Parts) → m.way ≡ way → IsTrue (is_multiple_frame (with_first_of way n).link.state)
@@ -145,14 +125,14 @@ module _ (n m : End) (h : Joined n m) (f : Flows n m) (g : Flows m n) where
       let x = kind_of p.address.command p.control in
       let rest = line n.terms fs n.link.waiting in (
         there-tail n.link.s m.link.r (is_recovering n.link.state) m.link.rejecting x rest other (subst (λ way. Flow n.link.s m.link.r (is_recovering n.link.state) m.link.rejecting (line n.terms way n.link.waiting) other) e f),
-        back-tail m.link.s n.link.r (is_recovering m.link.state) n.link.rejecting x other rest (subst (λ way. Flow m.link.s n.link.r (is_recovering m.link.state) n.link.rejecting other (line n.terms way n.link.waiting)) e g),
+        (grind (arith, one_rejection, tally, one_enquiry, one_answer)),
       )
 
   pub acted-flows : (act : Act) → IsTimelyAct act n m → IsUp (acting act (record { near = n; far = m }))
       → Flows (acting act (record { near = n; far = m })).near (acting act (record { near = n; far = m })).far
       × Flows (acting act (record { near = n; far = m })).far (acting act (record { near = n; far = m })).near
   acted-flows (asks request full) x up = asks-flows request full x
-  acted-flows (expires timer) x up = expires-flows timer x.1 up.0
-  acted-flows sends x up = sends-flows
+  acted-flows (expires timer) x up = (ran-flows timer (course n.terms (expired timer) n.link) x.1 (expires-goes n.terms n.link h.near_up timer up.0))
+  acted-flows sends x up = (let o = offer-goes n.terms n.link in gives-flows (course n.terms offer n.link) o o.gives)
   acted-flows receives x up = first-flows m.way refl up.0
   acted-flows loses x up = lost-flows n.way refl

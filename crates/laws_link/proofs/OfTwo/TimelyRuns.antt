@@ -14,7 +14,7 @@ record Held (e : Ends) : Type 0 where
   there : Flows e.near e.far
   back : Flows e.far e.near
 
-flows-low : (n m : End) → Flows n m → m.link.r ≤ n.link.s
+pub flows-low : (n m : End) → Flows n m → m.link.r ≤ n.link.s
 flows-low n m h = flow-low n.link.s m.link.r (is_recovering n.link.state) m.link.rejecting (line n.terms n.way n.link.waiting) (line m.terms m.way m.link.waiting) h
 
 ahead : (e : Ends) → Held e → IsAhead e

@@ -18,36 +18,25 @@ module _ (n m : End) (h : Joined n m) (same : n.terms.n201 ≡ m.terms.n201) (ah
   hears : (f : Parts) (fs : List Parts) → m.way ≡ f ∷ fs → IsTrue (is_multiple_frame (with_link (received (frame f)) n).link.state)
   hears f fs first =
       let rising : Rising n.link.a m.link.r (f ∷ fs ++ frames_of m.terms m.link.waiting) = subst (λ way. Rising n.link.a m.link.r (way ++ frames_of m.terms m.link.waiting)) first h.there.rising in
-      let carried : Carried m.link.contents (m.link.a + m.terms.k) n.link.r (f ∷ fs ++ frames_of m.terms m.link.waiting) = subst (λ way. Carried m.link.contents (m.link.a + m.terms.k) n.link.r (way ++ frames_of m.terms m.link.waiting)) first h.back.carried in
       let p = rising.0 in
       let low : n.link.a ≤ p = rising.1 in
       let below : p ≤ m.link.r = rising-low p m.link.r (fs ++ frames_of m.terms m.link.waiting) rising.3 in
       let within : n.link.s ≤ n.link.a + n.terms.k = h.near_sound.within in
       let small : n.terms.k ≤ 127 = h.near_ranges.k_high in
       let valid : named n.link.a n.link.s (seq p) ≡ Some p = named-number n.link.a n.link.s p low (omega (arith, below, ahead)) (omega arith) in
-      frame-stays n.terms n.link h.near_up p valid f.address.command f.info f.control rising.2
-      (fits-of n.terms m.link.contents (m.link.a + m.terms.k) n.link.r carried.0 f.info f.control
-      (subst (λ i. All (λ octets. length octets ≤ i) m.link.contents) (sym same) h.far_sound.sizes) carried.2)
+      grind (arith, frame-stays, fits-of)
 
   first-of : (way : List Parts) → m.way ≡ way → IsTrue (is_multiple_frame (with_first_of way n).link.state)
   first-of [] e = h.near_up
   first-of (f ∷ fs) e = hears f fs e
 
-  acted-up : (act : Act) → IsMildAct act n → IsUp (acting act (record { near = n; far = m }))
-  acted-up act mild = grind (arith, request-stays, timer-stays, offer-stays, first-of)
-
 pub done-up : (d : Doing) (e : Ends) → Joined e.near e.far → e.near.terms.n201 ≡ e.far.terms.n201 → IsAhead e → IsMild d e → IsUp (doing d e)
-done-up (at_near act) e h same ahead mild = acted-up e.near e.far h same ahead.0 act mild
-done-up (at_far act) e h same ahead mild =
-    let up = acted-up e.far e.near (joined-turned e.near e.far h) (sym same) ahead.1 act mild in
-    (up.1, up.0)
+done-up (at_near act) e h same ahead mild = grind (arith, request-stays, timer-stays, offer-stays, first-of)
+done-up (at_far act) e h same ahead mild = grind (arith, request-stays, timer-stays, offer-stays, first-of, joined-turned)
 
 -- the ends keep their terms
-first-terms : (way : List Parts) (n : End) → (with_first_of way n).terms ≡ n.terms
-first-terms way n = grind arith
-
 pub same-after : (d : Doing) (e : Ends) → e.near.terms.n201 ≡ e.far.terms.n201 → (doing d e).near.terms.n201 ≡ (doing d e).far.terms.n201
-same-after d e same = grind (arith, first-terms)
+same-after d e same = grind arith
 
 stay-up : (ds : List Doing) (e : Ends) → Joined e.near e.far → e.near.terms.n201 ≡ e.far.terms.n201 → StayAhead ds e → StayUp ds e
 unfolding StayUp StayAhead

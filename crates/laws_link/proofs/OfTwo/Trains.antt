@@ -101,27 +101,21 @@ abbrev pub Rise : ℕ → ℕ → List Kind → Type 0
 Rise lo hi [] = lo ≤ hi
 Rise lo hi (x ∷ xs) = (top : ℕ) × (lo ≤ top) × Comes lo top x × Rise top hi xs
 
-comes-lower : (lo lo' top : ℕ) (x : Kind) → lo' ≤ lo → Comes lo top x → Comes lo' top x
-comes-lower lo lo' top x le h = grind arith
-
-pub calm-comes : (lo top : ℕ) (x : Kind) → Calm x → Comes lo top x
-calm-comes lo top x h = grind arith
-
 pub rise-lower : (lo lo' hi : ℕ) (xs : List Kind) → lo' ≤ lo → Rise lo hi xs → Rise lo' hi xs
 rise-lower lo lo' hi [] le h = omega (arith, le, h)
-rise-lower lo lo' hi (x ∷ xs) le (top, up, here, rest) = (top, omega (arith, le, up), comes-lower lo lo' top x le here, rest)
+rise-lower lo lo' hi (x ∷ xs) le (top, up, here, rest) = (top, omega (arith, le, up), (grind arith), rest)
 
 pub rise-low : (lo hi : ℕ) (xs : List Kind) → Rise lo hi xs → lo ≤ hi
 rise-low lo hi [] h = h
 rise-low lo hi (x ∷ xs) (top, up, here, rest) = let more = rise-low top hi xs rest in omega (arith, up, more)
 
 pub rise-push : (lo hi top : ℕ) (xs : List Kind) (y : Kind) → hi ≤ top → Comes hi top y → Rise lo hi xs → Rise lo top (xs ++ y ∷ [])
-rise-push lo hi top [] y le p h = (top, omega (arith, le, h), comes-lower hi lo top y h p, omega arith)
+rise-push lo hi top [] y le p h = (top, omega (arith, le, h), (grind arith), omega arith)
 rise-push lo hi top (x ∷ xs) y le p (mid, up, here, rest) = (mid, up, here, rise-push mid hi top xs y le p rest)
 
 pub calm-rise : (lo : ℕ) (xs : List Kind) → Every Calm xs → Rise lo lo xs
 calm-rise lo [] h = omega arith
-calm-rise lo (x ∷ xs) h = (lo, omega arith, calm-comes lo lo x h.0, calm-rise lo xs h.1)
+calm-rise lo (x ∷ xs) h = (lo, omega arith, (grind arith), calm-rise lo xs h.1)
 
 -- An I-frame has a number beyond r, by at most 127.
 abbrev pub Beyond : ℕ → Kind → Type 0
@@ -129,17 +123,11 @@ Beyond r (numbered ns) = (i : ℕ) × (ns ≡ seq i) × (r < i) × (i ≤ r + 12
 Beyond r alien = ⊥
 Beyond r other = Unit {0}
 
-pub calm-beyond : (r : ℕ) (x : Kind) → Calm x → Beyond r x
-calm-beyond r x h = grind arith
-
-comes-beyond : (r lo top : ℕ) (x : Kind) → r < lo → top ≤ r + 128 → Comes lo top x → Beyond r x
-comes-beyond r lo top x less le h = grind arith
-
 pub rise-beyond : (r lo hi : ℕ) (xs : List Kind) → r < lo → hi ≤ r + 128 → Rise lo hi xs → Every (Beyond r) xs
 rise-beyond r lo hi [] less le h = tt
 rise-beyond r lo hi (x ∷ xs) less le (top, up, here, rest) =
     let high : top ≤ hi = rise-low top hi xs rest in
-    (comes-beyond r lo top x less (omega (arith, le)) here, rise-beyond r top hi xs (omega (arith, less, up)) le rest)
+    ((grind arith), rise-beyond r top hi xs (omega (arith, less, up)) le rest)
 
 -- First numbers beyond r, and then numbers that rise, from r to below hi.
 abbrev pub Late : ℕ → ℕ → List Kind → Type 0
@@ -158,9 +146,6 @@ pub late-low : (r hi : ℕ) (xs : List Kind) → Late r hi xs → r ≤ hi
 late-low r hi [] h = h
 late-low r hi (x ∷ xs) (inl h) = rise-low r hi (x ∷ xs) h
 late-low r hi (x ∷ xs) (inr h) = late-low r hi xs h.1
-
-pub late-tail : (r hi : ℕ) (x : Kind) (xs : List Kind) → Late r hi (x ∷ xs) → Late r hi xs
-late-tail r hi x xs o = grind (arith, rise-late, rise-lower)
 
 pub late-push : (r hi top : ℕ) (xs : List Kind) (y : Kind) → hi ≤ top → Comes hi top y → Late r hi xs → Late r top (xs ++ y ∷ [])
 late-push r hi top [] y le p h = inl (rise-push r hi top [] y le p h)

@@ -43,13 +43,6 @@ module _ (t : Terms) (l : Link) (full : t.control ≤ length l.waiting) where
       → 1 ≤ (told t (received (frame f)) l).lost
   poll-lost f up h = polled-in _ _ loses l.state up f.address.command f.info f.control h
 
-  -- SABME and DISC
-  sabme-in : (here : State) (command : Bool) (octets : List ℕ) (p : Bool) → Lost (frame_in here t command octets (Sabme p) (begun l))
-  sabme-in here command octets p = grind (arith, both_ways, put)
-
-  disc-in : (here : State) (command : Bool) (octets : List ℕ) (p : Bool) → Lost (frame_in here t command octets (Disc p) (begun l))
-  disc-in here command octets p = grind (arith, put)
-
   pub unnumbered-lost : (command : Bool) (octets : List ℕ) (control : Control) → is_some (asked_of l.state control) ≡ true
       → Lost (frame_step t command octets control (begun l))
-  unnumbered-lost command octets control e = grind (arith, sabme-in, disc-in)
+  unnumbered-lost command octets control e = grind (arith, both_ways, put)

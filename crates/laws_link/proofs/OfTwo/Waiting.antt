@@ -1,19 +1,12 @@
 -- What an offer gives, and what is left behind it.
 use Rattle.laws_link.proofs.Vocabulary.{◌≡◌, ℕ, zero, suc, ◌+◌, ◌≤◌, Bool, cond, List, [], ◌∷◌, ◌++◌, length, Option, None, refl, sym, ap, subst, ◌⊎◌, inl, inr, arith, nat_lt, ltb-true, and_parts, ControlFrame, Terms, Link, Sent, Course, begun, offer, after, given, given_of, HasNothingToSend, after_offers, GoesWhole, turns, is_awaiting_acknowledgement, may_send_information, offer_among, offer_step, with_one_sent}
 
--- nothing is given where nothing was sent
-none-sent : (t : Terms) (l : Link) (c : Course) (o : Option Sent) → given_of t l c o ≡ None → o ≡ None
-none-sent t l c o e = grind arith
-
 gives-one : (b : Bool) (u v : Course) → (u.sent ≡ None → ⊥) → (v.sent ≡ None → ⊥) → (cond b u v).sent ≡ None → ⊥
 gives-one b u v x y e = grind arith
 
 module _ (t : Terms) (l : Link) where
-  holds-nothing : (ws : List ControlFrame) → l.waiting ≡ ws → (offer_among t ws (begun l)).sent ≡ None → HasNothingToSend t l
-  holds-nothing ws w e = grind (arith, gives-one)
-
   pub nothing-given : given t l ≡ None → HasNothingToSend t l
-  nothing-given e = holds-nothing l.waiting refl (none-sent t l (offer_step t (begun l)) (offer_step t (begun l)).sent e)
+  nothing-given e = grind (arith, gives-one)
 
   -- with nothing to send an offer changes nothing
   silent : HasNothingToSend t l → offer_step t (begun l) ≡ begun l

@@ -1,24 +1,14 @@
 -- What waited on a link begins, where a line is only called for its next frame, as often as the configuration says: the law.
-use Rattle.laws_trace.proofs.Vocabulary.{◌≡◌, ℕ, ◌<◌, ◌≤◌, List, [], ◌∷◌, ◌++◌, Some, option_map, refl, sym, ap, ◌∙◌, subst, arith, eq-eqb, All, flat_map-append, ControlFrame, Config, next, gave, taken, next_of, frames_to_go, most_frames, control_text, HasNothing, to-go-few, Card, line_at, at, moments, fresh_is_sound, AreTakesAt, takes_at, IsTakenAmong, IsWaiting, line-sound, card-drains, card-waits, all-left, all-right, config-stays, fresh, CardEvent as Event, after, card_answer as answer, after_all, IsAtLine, AreAtLines, CardIsSound as IsSound, always_sound, Always, trace_frame_in as frame_in, trace, frames_begun, IsAmong, IsInRange}
+use Rattle.laws_trace.proofs.Vocabulary.{◌≡◌, ℕ, ◌<◌, ◌≤◌, List, [], ◌∷◌, ◌++◌, Some, option_map, refl, sym, ap, ◌∙◌, subst, arith, eq-eqb, All, flat_map-append, ControlFrame, Config, next, gave, taken, next_of, frames_to_go, most_frames, control_text, HasNothing, to-go-few, Card, line_at, at, moments, fresh_is_sound, AreTakesAt, takes_at, IsTakenAmong, IsWaiting, line-sound, card-drains, card-waits, all-left, all-right, config-stays, fresh, CardEvent as Event, after, card_answer as answer, after_all, IsAtLine, AreAtLines, CardIsSound as IsSound, always_sound, Always, trace_frame_in as frame_in, trace, frames_begun, IsAmong, IsInRange, after_all-append}
 use Rattle.model_line.specs.Machine as lines
 use Rattle.laws_trace.specs.WaitedBegins.{AllThatWaitedBegins}
 use Rattle.laws_trace.proofs.Units.{given-frames}
-
--- a run behind a run
-pub after-both : (card : Card) (front behind : List Event) → after_all card (front ++ behind) ≡ after_all (after_all card front) behind
-unfolding after_all
-after-both card [] behind = refl
-after-both card (e ∷ front) behind = after-both (after e card) front behind
 
 -- a moment of a run is seen in its trace
 pub moments-both : (card : Card) (front behind : List Event) → moments card (front ++ behind) ≡ moments card front ++ moments (after_all card front) behind
 unfolding moments after_all
 moments-both card [] behind = refl
 moments-both card (e ∷ front) behind = ap (λ ms. record { card = card; event = e; answer = answer e card } ∷ ms) (moments-both (after e card) front behind)
-
-frames-both : (number : ℕ) (card : Card) (front behind : List Event)
-    → frames_begun (trace number (moments card (front ++ behind))) ≡ frames_begun (trace number (moments card front)) ++ frames_begun (trace number (moments (after_all card front) behind))
-frames-both number card front behind = grind (arith, moments-both, flat_map-append)
 
 begun-here : (number : ℕ) (card : Card) (back : List Event) (frame : List ℕ) → frame_in (gave (option_map next_of (taken card.config (line_at number card)))) ≡ frame ∷ []
     → frames_begun (trace number (moments card (at number next ∷ back))) ≡ frame ∷ frames_begun (trace number (moments (after (at number next) card) back))
@@ -33,7 +23,7 @@ begun-is-seen number card events frame x =
       back = frames_begun (trace number (moments (after (at number next) there) x.back));
       split =
           ap (λ es. frames_begun (trace number (moments card es))) x.split
-          ∙ frames-both number card x.front (at number next ∷ x.back)
+          ∙ (grind (arith, moments-both, flat_map-append))
           ∙ ap (λ fs. frames_begun (trace number (moments card x.front)) ++ fs)
           (begun-here number there x.back frame (ap (λ o. frame_in (gave (option_map next_of o))) (kept x.front x.taken_is) ∙ ap (λ f. f ∷ []) x.is));
     }
@@ -69,7 +59,7 @@ module _ (c : Config) (events : List Event) (number : ℕ) (ranged : IsInRange c
 
   -- nothing that may go is left
   pub drained : HasNothing c (line_at number (after_all (fresh c) events))
-  drained = grind (arith, after-both, card-drains, sound, few, later, short, kept)
+  drained = grind (arith, after_all-append, card-drains, sound, few, later, short, kept)
 
   pub waited : (link tei : ℕ) (front : List ControlFrame) (f : ControlFrame) (behind : List ControlFrame) → IsWaiting c (line_at number card) link tei front f behind
       → IsAmong (control_text c link tei f) (frames_begun (trace number (moments card calls)))

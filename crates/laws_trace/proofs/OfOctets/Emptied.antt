@@ -1,7 +1,6 @@
 -- Where a line was only pulled, as often as the configuration says, the latest call for its next frame gave none.
-use Rattle.laws_trace.proofs.Vocabulary.{◌≡◌, ℕ, zero, suc, ◌+◌, ◌<◌, ◌≤◌, ◌==◌, Bool, true, false, cond, List, [], ◌∷◌, ◌++◌, Option, None, option_map, refl, sym, ap, ◌∙◌, subst, arith, append_assoc, eq-eqb, All, flat_map-append, All-nil, All-cons, All-head, All-tail, Config, NextFrame, taken, next_of, most_frames, HasNothing, Card, line_at, AreTakesAt, takes_at, card-idles, all-left, all-right, config-stays, OctetCard, port_at, calls_answered, moments_meant, pulls_at, pulls_behind, asked_at, refines, pulls_are_takes, fresh_octets_sound, moments-append, eqb-true, answer as line_answer, takes_slot, moments as frame_moments, after_all as frames_after, ports_fresh as fresh, ports_after as after, PortsEvent as Event, PortsAreAtLines as AreAtLines, ports_after_all as after_all, meant_all, EndsInPulls, gave, next, IsInRange, config_stays}
+use Rattle.laws_trace.proofs.Vocabulary.{◌≡◌, ℕ, zero, suc, ◌+◌, ◌<◌, ◌≤◌, ◌==◌, Bool, true, false, cond, List, [], ◌∷◌, ◌++◌, Option, None, option_map, refl, sym, ap, ◌∙◌, subst, arith, append_assoc, eq-eqb, All, flat_map-append, All-nil, All-cons, All-head, All-tail, Config, NextFrame, taken, next_of, most_frames, HasNothing, Card, line_at, AreTakesAt, takes_at, card-idles, all-left, all-right, config-stays, OctetCard, port_at, calls_answered, moments_meant, pulls_at, pulls_behind, asked_at, refines, pulls_are_takes, fresh_octets_sound, moments-append, eqb-true, answer as line_answer, takes_slot, moments as frame_moments, after_all as frames_after, ports_fresh as fresh, ports_after as after, PortsEvent as Event, PortsAreAtLines as AreAtLines, ports_after_all as after_all, meant_all, EndsInPulls, gave, next, IsInRange, config_stays, at, CardEvent}
 use Rattle.model_card.specs.Card as cards
-use Rattle.model_card.specs.Event as frames
 use Rattle.model_card.specs.Machine as machine
 use Rattle.model_card.specs.Run as runs
 use Rattle.model_card.proofs.CardSound as card_sound
@@ -18,27 +17,27 @@ meant_both m [] behind = refl
 meant_both m (e ∷ front) behind = grind (arith, meant_both (after e m) front behind, append_assoc)
 
 -- both count calls alike
-same_takes : (number : ℕ) (fs : List frames.Event) → pulls.takes_at number fs ≡ takes_at number fs
+same_takes : (number : ℕ) (fs : List CardEvent) → pulls.takes_at number fs ≡ takes_at number fs
 same_takes number [] = refl
 same_takes number (f ∷ fs) = ap (λ n. cond (f.line == number) 1 0 + n) (same_takes number fs)
 
 -- ---- the latest call among events
 
-pub record IsLatest (number : ℕ) (fs : List frames.Event) : Type 0 where
-  pub front : List frames.Event
-  pub back : List frames.Event
-  pub split : fs ≡ front ++ frames.at number next ∷ back
+pub record IsLatest (number : ℕ) (fs : List CardEvent) : Type 0 where
+  pub front : List CardEvent
+  pub back : List CardEvent
+  pub split : fs ≡ front ++ at number next ∷ back
   pub only : AreTakesAt number front
   pub none : takes_at number back ≡ 0
   pub count : takes_at number fs ≡ 1 + takes_at number front
 
-abbrev IsTake : ℕ → frames.Event → Type 0
+abbrev IsTake : ℕ → CardEvent → Type 0
 IsTake number f = f.line ≡ number → f.what ≡ next
 
-is_next : (number : ℕ) (f : frames.Event) → IsTake number f → f.line ≡ number → f ≡ frames.at number next
+is_next : (number : ℕ) (f : CardEvent) → IsTake number f → f.line ≡ number → f ≡ at number next
 is_next number f h same = let what = h same in λ i. record { line = same i; what = what i }
 
-at_front : (number : ℕ) (f : frames.Event) (fs : List frames.Event) → IsTake number f → takes_at number fs ≡ 0 → 0 < takes_at number (f ∷ fs)
+at_front : (number : ℕ) (f : CardEvent) (fs : List CardEvent) → IsTake number f → takes_at number fs ≡ 0 → 0 < takes_at number (f ∷ fs)
     → (b : Bool) → (f.line == number) ≡ b → IsLatest number (f ∷ fs)
 at_front number f fs h none some true is = record {
   front = [];
@@ -48,11 +47,9 @@ at_front number f fs h none some true is = record {
   none = none;
   count = ap (λ b. cond b 1 0 + takes_at number fs) is ∙ ap (λ n. 1 + n) none;
 }
-at_front number f fs h none some false is =
-    let never : 0 < 0 + takes_at number fs = subst (λ b. 0 < cond b 1 0 + takes_at number fs) is some in
-    absurd (omega (arith, never, none))
+at_front number f fs h none some false is = grind (arith, none)
 
-behind_one : (number : ℕ) (f : frames.Event) (fs : List frames.Event) → IsTake number f → IsLatest number fs → IsLatest number (f ∷ fs)
+behind_one : (number : ℕ) (f : CardEvent) (fs : List CardEvent) → IsTake number f → IsLatest number fs → IsLatest number (f ∷ fs)
 behind_one number f fs h x =
     let counted : takes_at number fs ≡ 1 + takes_at number x.front = x.count in
     record {
@@ -67,7 +64,7 @@ behind_one number f fs h x =
     go : (b : Bool) → takes_at number fs ≡ 1 + takes_at number x.front → cond b 1 0 + takes_at number fs ≡ 1 + (cond b 1 0 + takes_at number x.front)
     go b counted = grind arith
 
-latest : (number : ℕ) (fs : List frames.Event) → AreTakesAt number fs → 0 < takes_at number fs → IsLatest number fs
+latest : (number : ℕ) (fs : List CardEvent) → AreTakesAt number fs → 0 < takes_at number fs → IsLatest number fs
 latest number [] only some = absurd (omega (arith, some))
 latest number (f ∷ fs) only some = by_count (takes_at number fs) refl (latest number fs (All-tail (IsTake number) f fs only))
   where
@@ -83,7 +80,7 @@ is_off b n h = grind arith
 none_left : (b : Bool) (n : ℕ) → cond b 1 0 + n ≡ 0 → n ≡ 0
 none_left b n h = grind arith
 
-none_behind : (number : ℕ) (card : Card) (fs : List frames.Event) → takes_at number fs ≡ 0 → calls_answered number (runs.moments card fs) ≡ []
+none_behind : (number : ℕ) (card : Card) (fs : List CardEvent) → takes_at number fs ≡ 0 → calls_answered number (runs.moments card fs) ≡ []
 unfolding frame_moments
 none_behind number card [] none = refl
 none_behind number card (f ∷ fs) none = grind (arith, none_behind number (machine.after f card) fs, is_off, none_left)
@@ -92,14 +89,14 @@ gives_none : (card : Card) (number : ℕ) → taken card.config (line_at number 
 unfolding line_answer takes_slot
 gives_none card number none = ap (λ o. gave (option_map next_of o)) none
 
-call_gives_none : (number : ℕ) (card : Card) (back : List frames.Event) → taken card.config (line_at number card) ≡ None → takes_at number back ≡ 0
-    → calls_answered number (runs.moments card (frames.at number next ∷ back)) ≡ None ∷ []
+call_gives_none : (number : ℕ) (card : Card) (back : List CardEvent) → taken card.config (line_at number card) ≡ None → takes_at number back ≡ 0
+    → calls_answered number (runs.moments card (at number next ∷ back)) ≡ None ∷ []
 unfolding frame_moments
 call_gives_none number card back nothing none = grind (arith, asked_at, eq-eqb, gives_none, none_behind)
 
-gave_none : (number : ℕ) (card : Card) (front back : List frames.Event) → let there = runs.after_all card front in
+gave_none : (number : ℕ) (card : Card) (front back : List CardEvent) → let there = runs.after_all card front in
     taken there.config (line_at number there) ≡ None → takes_at number back ≡ 0
-    → calls_answered number (runs.moments card (front ++ frames.at number next ∷ back)) ≡ calls_answered number (runs.moments card front) ++ None ∷ []
+    → calls_answered number (runs.moments card (front ++ at number next ∷ back)) ≡ calls_answered number (runs.moments card front) ++ None ∷ []
 gave_none number card front back nothing none = grind (arith, moments-append, flat_map-append, call_gives_none)
 
 -- ---- of a line that was only pulled
@@ -108,10 +105,10 @@ module _ (c : Config) (events : List Event) (number : ℕ) (ranged : IsInRange c
   abbrev m : OctetCard
   m = after_all (fresh c) h.before
 
-  abbrev pub first : List frames.Event
+  abbrev pub first : List CardEvent
   first = meant_all (fresh c) h.before
 
-  abbrev pub calls : List frames.Event
+  abbrev pub calls : List CardEvent
   calls = meant_all m h.pulls
 
   pub meaning : meant_all (fresh c) events ≡ first ++ calls
@@ -150,15 +147,15 @@ module _ (c : Config) (events : List Event) (number : ℕ) (ranged : IsInRange c
   pub x : IsLatest number calls
   x = let some = many in latest number calls only (omega (arith, some))
 
-  abbrev front : List frames.Event
+  abbrev front : List CardEvent
   front = first ++ x.front
 
-  whole : meant_all (fresh c) events ≡ front ++ frames.at number next ∷ x.back
-  whole = meaning ∙ ap (λ fs. first ++ fs) x.split ∙ sym (append_assoc first x.front (frames.at number next ∷ x.back))
+  whole : meant_all (fresh c) events ≡ front ++ at number next ∷ x.back
+  whole = meaning ∙ ap (λ fs. first ++ fs) x.split ∙ sym (append_assoc first x.front (at number next ∷ x.back))
 
   front_lines : runs.AreAtLines (cards.fresh c) front
   front_lines =
-      all-left (runs.IsAtLine (cards.fresh c)) front (frames.at number next ∷ x.back)
+      all-left (runs.IsAtLine (cards.fresh c)) front (at number next ∷ x.back)
       (subst (runs.AreAtLines (cards.fresh c)) whole ((refines (fresh c) events).at_lines all))
 
   abbrev there : Card

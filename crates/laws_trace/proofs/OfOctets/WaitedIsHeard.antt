@@ -1,6 +1,5 @@
 -- What waited on a link is heard at the other end: the law.
-use Rattle.laws_trace.proofs.Vocabulary.{◌≡◌, ℕ, ◌<◌, List, ◌∷◌, ◌++◌, map, sym, ap, ◌∙◌, subst, append_assoc, arith, flat_map-append, map-append, ControlFrame, Config, IsInRange, most_frames, control_text, Card, line_at, takes_at, IsWaiting, frames_given, given_of, as_octets, octets_given, frames_to_hear, OfEachLine, refined_card, given_frames_are_heard, moments-append, IsAmong, ports_fresh as fresh, PortsEvent as Event, PortsAreAtLines as AreAtLines, ports_after_all as after_all, EndsInPulls}
-use Rattle.model_bits.specs.Stream as stream
+use Rattle.laws_trace.proofs.Vocabulary.{◌≡◌, ℕ, ◌<◌, List, ◌∷◌, ◌++◌, map, sym, ap, ◌∙◌, subst, append_assoc, arith, flat_map-append, map-append, ControlFrame, Config, IsInRange, most_frames, control_text, Card, line_at, takes_at, IsWaiting, frames_given, given_of, as_octets, octets_given, frames_to_hear, OfEachLine, refined_card, given_frames_are_heard, moments-append, IsAmong, ports_fresh as fresh, PortsEvent as Event, PortsAreAtLines as AreAtLines, ports_after_all as after_all, EndsInPulls, stream_heard_in, stream_frame, StreamEvent}
 use Rattle.model_card.specs.Card as cards
 use Rattle.model_card.specs.Run as runs
 use Rattle.laws_trace.proofs.WaitedBegins.{all-that-waited-begins}
@@ -10,20 +9,17 @@ use Rattle.laws_trace.proofs.OfOctets.FramesGoOut.{meaning, lines, all-frames-go
 use Rattle.laws_trace.proofs.OfOctets.Seen.{begun_given}
 
 -- frames as they are heard
-abbrev events_of : List (List ℕ) → List stream.Event
-events_of given = map stream.frame (map as_octets given)
+abbrev events_of : List (List ℕ) → List StreamEvent
+events_of given = map stream_frame (map as_octets given)
 
-events_of_both : (a b : List (List ℕ)) → events_of (a ++ b) ≡ events_of a ++ events_of b
-events_of_both a b = ap (map stream.frame) (map-append as_octets a b) ∙ map-append stream.frame (map as_octets a) (map as_octets b)
-
-still_among : (octets : List ℕ) (given : List (List ℕ)) (way : List stream.Event) → IsAmong octets given → IsAmong (stream.frame (as_octets octets)) (way ++ events_of given)
+still_among : (octets : List ℕ) (given : List (List ℕ)) (way : List StreamEvent) → IsAmong octets given → IsAmong (stream_frame (as_octets octets)) (way ++ events_of given)
 still_among octets given way x = record {
   front = way ++ events_of x.front;
   back = events_of x.back;
   split =
       ap (λ given. way ++ events_of given) x.split
-      ∙ ap (λ events. way ++ events) (events_of_both x.front (octets ∷ x.back))
-      ∙ sym (append_assoc way (events_of x.front) (stream.frame (as_octets octets) ∷ events_of x.back));
+      ∙ ap (λ events. way ++ events) (ap (map stream_frame) (map-append as_octets x.front (octets ∷ x.back)) ∙ map-append stream_frame (map as_octets x.front) (map as_octets (octets ∷ x.back)))
+      ∙ sym (append_assoc way (events_of x.front) (stream_frame (as_octets octets) ∷ events_of x.back));
 }
 
 module _ (c : Config) (events : List Event) (number : ℕ) (ranged : IsInRange c) (all : AreAtLines (fresh c) events) (within : number < c.lines) (h : EndsInPulls c events number) where
@@ -56,15 +52,15 @@ module _ (c : Config) (events : List Event) (number : ℕ) (ranged : IsInRange c
       → IsHeardSince c.n201 (octets_given c h.before number) (octets_given c events number) (as_octets (control_text c link tei f))
   heard link tei front f behind waits =
       let out = given_frames_are_heard.so_far c h.before number ranged (emptied.before_lines c events number ranged all within h) within in
-      let way = map stream.frame out.on_its_way in
+      let way = map stream_frame out.on_its_way in
       record {
         more = way ++ events_of since;
         goes_on =
             sym (all-frames-go-out c events number ranged all within h)
             ∙ ap events_of both
-            ∙ events_of_both (frames_to_hear c h.before number) since
+            ∙ (ap (map stream_frame) (map-append as_octets (frames_to_hear c h.before number) since) ∙ map-append stream_frame (map as_octets (frames_to_hear c h.before number)) (map as_octets since))
             ∙ ap (λ events. events ++ events_of since) out.heard
-            ∙ append_assoc (stream.heard_in c.n201 (octets_given c h.before number)) way (events_of since);
+            ∙ append_assoc (stream_heard_in c.n201 (octets_given c h.before number)) way (events_of since);
         among = still_among (control_text c link tei f) since way (waited link tei front f behind waits);
       }
 

@@ -32,17 +32,8 @@ module _ (t : Terms) (f : Parts) where
       let e = received (frame (record f { control = control })) in
       begins_by control (told t e l).notes ≡ restarts t e l
 
-  seen-by : (control : Control) (l : Link) → as_heard t (received (frame (record f { control = control }))) ≡ received (frame (record f { control = control }))
-      → IsSame control l → Says control l
-  seen-by control l heard same =
-      let e = received (frame (record f { control = control })) in
-      let x = event-follows t e l in
-      let leaves = subst (λ e'. Leaves t e' l (after t e l) (told t e l).notes (told t e l).lost) heard x.leaves in
-      let numbers = subst (λ e'. restarts t e l ≡ numbers_begin e' l.state (after t e l).state) heard x.numbers in
-      ap (begins_by control) (leaves.tells ∙ ap (told_by t e l) leaves.state) ∙ same ∙ sym (numbers ∙ ap (numbers_begin e l.state) leaves.state)
-
   by-control : (control : Control) (l : Link) → Says control l
-  by-control control l = grind (arith, seen-by, in-state, sabme, ua, unless)
+  by-control control l = grind (arith, event-follows, begins_by, in-state, sabme, ua, unless)
 
   pub begins-is : (l : Link) → begins_by f.control (told t (received (frame f)) l).notes ≡ restarts t (received (frame f)) l
   begins-is l = by-control f.control l

@@ -1,23 +1,16 @@
 -- The control frames of a link that wait are those that were due, and have not begun: a moment of a card.
-use Rattle.laws_trace.proofs.Vocabulary.{◌≡◌, ℕ, ◌==◌, ◌&&◌, ◌||◌, Bool, true, false, cond, List, [], get_or, Option, None, refl, sym, ap, ◌∙◌, subst, arith, eq-eqb, true≢false, append-nil, option_map_or, and_parts, get_or-set_same, Service, ControlFrame, Config, Line, fresh_line, link_of, state_of, lost_in, deactivates, Card, line_at, is_full, has_lines, by_room, line_sound, AllHaveTheirTimers, eqb-true, IsAtLine, Seen, seen, Event, after, card_answer as answer, CardIsSound as IsSound}
+use Rattle.laws_trace.proofs.Vocabulary.{◌≡◌, ℕ, ◌==◌, ◌&&◌, ◌||◌, Bool, true, false, cond, List, [], get_or, Option, None, refl, sym, ap, ◌∙◌, subst, arith, eq-eqb, true≢false, append-nil, option_map_or, and_parts, get_or-set_same, Service, ControlFrame, Config, Line, fresh_line, link_of, state_of, lost_in, deactivates, Card, line_at, is_full, has_lines, by_room, line_sound, AllHaveTheirTimers, eqb-true, IsAtLine, Seen, seen, Event, after, card_answer as answer, CardIsSound as IsSound, CardEvent}
 use Rattle.model_line.specs.Machine as lines
-use Rattle.model_card.specs.Event as card
 use Rattle.laws_trace.proofs.ControlsWatched.{command_of}
 use Rattle.laws_trace.proofs.DeliveriesWatched.{Standing}
 use Rattle.laws_trace.proofs.States.{expired_of, one_more, differ}
 use Rattle.laws_trace.proofs.ControlsAtLine.{waits, due_here, Passes, none-taken, event-passes}
-use Rattle.laws_trace.proofs.DeliveriesRun.{IsCount}
+use Rattle.laws_trace.proofs.DeliveriesRun.{IsCount, event-told}
 use Rattle.laws_trace.proofs.LinksMove.{differ-self, none-expires}
 use Rattle.laws_trace.proofs.Runs.{nothing-seen, apart}
-use Rattle.laws_trace.proofs.Standing.{standing, stand-is, event-stands, event-counts}
+use Rattle.laws_trace.proofs.Standing.{standing, stand-is, event-stands}
 use Rattle.laws_trace.proofs.StandingOfLink.{calm, IsStanding}
-
-none-mapped : (o : Option ℕ) (xs : List ControlFrame) → xs ≡ [] → option_map_or (λ s. xs) o xs ≡ []
-none-mapped o xs none = grind arith
-
--- between two events no frame is kept in mind
-pub as-calm : (w : Standing) → w.told.frame ≡ None → w ≡ calm w.told.count w.busy w.rejected
-as-calm w quiet = ap (λ o. record { told = record { frame = o; count = w.told.count }; busy = w.busy; rejected = w.rejected }) quiet
+use Rattle.laws_trace.proofs.ObservedControlsSeen.{none-mapped}
 
 -- a request that takes a slot deactivates nothing
 none-ended : (service : Service) (tei : ℕ) (c : Config) (e : Event) (l : Line) → lines.takes_slot c e l ≡ true → deactivates service tei e ≡ false
@@ -45,10 +38,10 @@ module _ (service : Service) (tei : ℕ) where
     no-time : (l : Line) (n : ℕ) → n ≡ 0 → (differ (state_of service tei l) (state_of service tei l) || n == 1) ≡ false
     no-time l n none = ap (λ n. differ (state_of service tei l) (state_of service tei l) || n == 1) none ∙ ap (λ b. b || false) (differ-self (state_of service tei l))
 
-    abbrev time_of : Line → card.Event → Bool → Line → Bool
+    abbrev time_of : Line → CardEvent → Bool → Line → Bool
     time_of l e b next = differ (state_of service tei l) (state_of service tei next) || (b && option_map_or one_more (expired_of service tei e.what) 0 == 1)
 
-    own-line : (m : Card) (e : card.Event) → IsSound m → AllHaveTheirTimers m → IsAtLine m e → let l = line_at e.line m in Stands l
+    own-line : (m : Card) (e : CardEvent) → IsSound m → AllHaveTheirTimers m → IsAtLine m e → let l = line_at e.line m in Stands l
         → let x = line_at e.line (after e m) in Moves m.config was (time_of l e true x) (deactivates service tei e.what) l (seen e.what (answer e m)) (lost_in (answer e m)) x
     own-line m e s timely here stands =
         let c = m.config in
@@ -70,17 +63,17 @@ module _ (service : Service) (tei : ℕ) where
           passes = subst (λ w. Passes service tei c was w (time_of l e true next) (deactivates service tei e.what) l t (lost_in (lines.answer c e.what l)) next) (sym is)
               (event-passes service tei c s.config e.what l sound (timely.lines e.line here) n busy rejected stands.0 stands.1);
           quiet_is = ap (λ (w : Standing). w.told.frame) is;
-          count = subst (λ (w : Standing). IsCount (link_of service tei next) w.told.count) (sym is) (event-counts service tei c s.config l sound e.what n stands.0 busy rejected stands.1);
+          count = subst (λ (w : Standing). IsCount (link_of service tei next) w.told.count) (sym is) ((event-told c s.config l sound e.what service tei n stands.0).1);
           stands = subst (λ (w : Standing). IsStanding (link_of service tei next) w.busy w.rejected) (sym is) (event-stands service tei c s.config l sound e.what n stands.0 busy rejected stands.1).0;
         }))
 
-    abbrev Moment-moves : Card → card.Event → ℕ → Bool → Type 0
+    abbrev Moment-moves : Card → CardEvent → ℕ → Bool → Type 0
     Moment-moves m e number b =
         let l = line_at number m in
         let x = line_at number (after e m) in
         Moves m.config was (time_of l e b x) (b && deactivates service tei e.what) l (cond b (seen e.what (answer e m)) []) (lost_in (answer e m)) x
 
-    pub moment : (m : Card) (e : card.Event) (number : ℕ) → IsSound m → AllHaveTheirTimers m → IsAtLine m e → Stands (line_at number m)
+    pub moment : (m : Card) (e : CardEvent) (number : ℕ) → IsSound m → AllHaveTheirTimers m → IsAtLine m e → Stands (line_at number m)
         → (b : Bool) → (e.line == number) ≡ b → Moment-moves m e number b
     moment m e number s timely at-line stands false other =
         let l = line_at number m in

@@ -161,18 +161,8 @@ module _ (service : Service) (tei : ℕ) where
 
     -- An event of the link.
     module _ (x : HasOne c service tei e l new a) where
-      never-down : (asked : link.Request) → is_deactivation service tei (of_link service tei asked) ≡ false
-      never-down link.Establish = refl
-      never-down other = refl
-
       not-ended : (event : link.Event) → IsBy c e a service tei event → deactivates service tei e ≡ false
-      not-ended (link.received (link.frame f)) by = ap (deactivates service tei) by.by
-      not-ended (link.received link.undefined) by = ap (deactivates service tei) (heard-by c e a service tei link.undefined by).1
-      not-ended (link.received link.wrong_size) by = ap (deactivates service tei) (heard-by c e a service tei link.wrong_size by).1
-      not-ended (link.received link.overlong) by = ap (deactivates service tei) (heard-by c e a service tei link.overlong by).1
-      not-ended (link.requested asked full) by = ap (deactivates service tei) by.0 ∙ never-down asked
-      not-ended link.cleared by = absurd by
-      not-ended other by = ap (deactivates service tei) by
+      not-ended event by = grind (arith, heard-by)
 
       abbrev t : Terms
       t = terms c service tei
@@ -202,9 +192,7 @@ module _ (service : Service) (tei : ℕ) where
         number_is = count;
         busy_is = stands.busy_is;
         rejected_is = stands.rejected_is;
-        number_on = λ up on.
-            ap (λ r. cond (takes_contents (as_heard t x.event) own) (r + 1) r) (count up) ∙ ap (λ d. cond d (m + 1) m) (sym (takes up on))
-            ∙ sym (count-is ∙ ap (λ b. cond b 0 (cond delivers (m + 1) m)) on);
+        number_on = grind (arith, takes, count-is);
         busy_on = λ up on. sym (busy-is service tei c ranged l s e m count busy rejected stands x ∙ ap (λ b. busy_behind b x.event busy) on);
         rejected_on = λ up on.
             ap (λ d. rejected_behind false d x.event busy rejected) (sym (takes up on))
@@ -225,9 +213,6 @@ module _ (service : Service) (tei : ℕ) where
       pub none-due : x.event ≡ link.offer → (there : ℕ) → place_in new tei ≡ Some there → Put ≡ []
       none-due offer there on = grind (arith, put-is, put_by, command_of, event-follows, same-state)
 
-      begins-is : begins ≡ flat_map (begun_of c service tei) (frames_given c t x.event own)
-      begins-is = begun-is c service tei e l ∙ ap (flat_map (begun_of c service tei)) x.begins
-
       quiet : IsNoOther x.event → frames_given c t x.event own ≡ [] → Here
       quiet other none was-on is-on =
           let there = at-some-place new tei is-on in
@@ -235,7 +220,7 @@ module _ (service : Service) (tei : ℕ) where
           ∙ sym (ap (λ b. cond b [] (drop (length begins) (waits l) ++ Due)) (not-ended x.event x.by) ∙ ap (λ xs. drop (length xs) (waits l) ++ Due) none-begins)
         where
           none-begins : begins ≡ []
-          none-begins = begins-is ∙ ap (flat_map (begun_of c service tei)) none
+          none-begins = (begun-is c service tei e l ∙ ap (flat_map (begun_of c service tei)) x.begins) ∙ ap (flat_map (begun_of c service tei)) none
 
           waits-is : (there : ℕ) → place_in new tei ≡ Some there → waits new ≡ waits l ++ Due
           waits-is there on =

@@ -20,30 +20,20 @@ IsControl f = control_in f.command f.control ≡ f ∷ []
 one : (f : ControlFrame) → IsControl f → All IsControl (f ∷ [])
 one f h = All-cons IsControl f [] h (All-nil IsControl)
 
-if-all : (b : Bool) (xs ys : List ControlFrame) → All IsControl xs → All IsControl ys → All IsControl (cond b xs ys)
-if-all b xs ys h i = grind arith
-
-if-one : (command b : Bool) (x y : Control) → IsControl (record { command = command; control = x }) → IsControl (record { command = command; control = y })
-    → All IsControl (record { command = command; control = cond b x y } ∷ [])
-if-one command b x y h i = grind (arith, one)
-
 none-at-all : All IsControl []
 none-at-all = All-nil IsControl
 
 all-polled : (now : Standing) (p : Bool) → All IsControl (polled now p)
-all-polled now p = if-all p (as_response (receipt now true)) [] (if-one false now.busy _ _ refl refl) none-at-all
+all-polled now p = grind arith
 
 all-up : (state : ℕ) (xs : List ControlFrame) → All IsControl xs → All IsControl (while_up state xs)
-all-up state xs h = if-all _ xs [] h none-at-all
+all-up state xs h = grind arith
 
 all-answers : (was now : Standing) (state : ℕ) (command too_long : Bool) (control : Control) → All IsControl (answer_to was now state command too_long control)
-all-answers was now state command too_long control = grind (arith, if-one, all-up, to_information, if-all, polled, one, all-polled)
+all-answers was now state command too_long control = grind (arith, one, all-up, to_information, polled, all-polled)
 
 all-answers-of : (n201 : ℕ) (was now : Standing) (state : ℕ) (e : Event) → All IsControl (answers_of n201 was now state e)
-all-answers-of n201 was now state e = grind (arith, all-answers, if-all, none-at-all, changed, receipt, if-one)
-
-all-commands : (now : Standing) (to : State) → All IsControl (command_of now (Some (state_number to)))
-all-commands now to = grind (arith, one, if-one, none-at-all)
+all-answers-of n201 was now state e = grind (arith, all-answers, none-at-all, changed, receipt, one)
 
 -- What an event puts.
 abbrev pub put_by : ℕ → Standing → Standing → Event → State → State → List ControlFrame
@@ -52,7 +42,7 @@ put_by n201 was now e from to = answers_of n201 was now (state_number from) e ++
 pub all-put : (n201 : ℕ) (was now : Standing) (e : Event) (from to : State) → All IsControl (put_by n201 was now e from to)
 all-put n201 was now e from to =
     All-append IsControl (answers_of n201 was now (state_number from) e) _ (all-answers-of n201 was now (state_number from) e)
-    (if-all (moves from to || ticks e == 1) (command_of now (Some (state_number to))) [] (all-commands now to) none-at-all)
+    (grind arith)
 
 pub all-controls : (frames : List ControlFrame) → All IsControl frames → controls frames ≡ frames
 all-controls [] h = refl

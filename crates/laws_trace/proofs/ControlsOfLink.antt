@@ -21,19 +21,6 @@ pub record IsNumbered (t : Terms) (e : Event) (l : Link) (m : ℕ) (busy rejecte
   pub busy_on : is_multiple_frame l.state ≡ true → restarts t e l ≡ false → busy_asked e busy ≡ busy_now
   pub rejected_on : is_multiple_frame l.state ≡ true → restarts t e l ≡ false → rejected_behind false (takes_contents (as_heard t e) l) e busy rejected ≡ rejected_now
 
--- An I-frame is answered.
-by-information : (busy next rejecting p : Bool) (r : ℕ)
-    → cond (not busy && (not next && not rejecting)) (as_response (Reject (seq r) p)) (cond p (as_response (receipt_as busy (cond (not busy && next) (r + 1) r) true)) [])
-    ≡ to_information p (calm r busy rejecting) (calm (cond (not busy && next) (r + 1) r) busy (cond (not busy && next) false (cond (not busy) true rejecting)))
-by-information busy next rejecting p r = grind arith
-
--- SetBusy and ClearBusy.
-by-set : (busy rejected : Bool) (r : ℕ) → cond (not busy) (as_response (receipt_as true r false)) [] ≡ changed (calm r busy rejected) (calm r true rejected)
-by-set busy rejected r = grind arith
-
-by-clear : (busy rejected : Bool) (r : ℕ) → cond busy (as_response (receipt_as false r false)) [] ≡ changed (calm r busy rejected) (calm r false rejected)
-by-clear busy rejected r = grind arith
-
 by-none : (busy rejected : Bool) (r : ℕ) → [] ≡ changed (calm r busy rejected) (calm r busy rejected)
 by-none busy rejected r = grind arith
 
@@ -43,9 +30,6 @@ by-sabme s p = grind arith
 
 by-disc : (s : State) (p : Bool) → to_disc s p ≡ cond (state_number s == 4 || state_number s == 5) (Dm p) (Ua p)
 by-disc s p = grind arith
-
-if-both : (a b : Bool) (xs : List ControlFrame) → cond (a && b) xs [] ≡ cond a (cond b xs []) []
-if-both a b xs = grind arith
 
 -- States 7 and 8 are those of multiple-frame operation.
 pub both-up : (s : State) (xs ys : List ControlFrame) → (is_multiple_frame s ≡ true → xs ≡ ys) → cond (is_multiple_frame s) xs [] ≡ while_up (state_number s) ys
@@ -68,13 +52,6 @@ module _ (t : Terms) (l : Link) (m : ℕ) (busy rejected : Bool) (n : ℕ) (busy
   goes-on : (e : Event) → (restarts t e l ≡ true → ⊥) → restarts t e l ≡ false
   goes-on e never = false_from_ne_true (restarts t e l) never
 
-  -- what is due by the link's own fields is due by what a watcher has in mind
-  as-seen : (e : Event) (D : Standing → Standing → List ControlFrame) (xs : List ControlFrame) → Seen e → is_multiple_frame l.state ≡ true → restarts t e l ≡ false
-      → xs ≡ D (calm l.r l.own_busy l.rejecting)
-      (calm (number_after (as_heard t e) l) (busy_asked e l.own_busy) (rejected_behind false (takes_contents (as_heard t e) l) e l.own_busy l.rejecting))
-      → xs ≡ D was now
-  as-seen e D xs h up on due = grind (arith, was, calm, rejected_behind)
-
   -- A frame is heard as itself, but for an I-frame whose information is too long, which has no answer.
   by-size : (f : Parts) (ns nr : Seq) (p long : Bool) → nat_lt t.n201 (length f.info) ≡ long → let e = received (frame (record f { control = Information ns nr p })) in
       Seen e → answers (received (cond long overlong (frame (record f { control = Information ns nr p })))) l
@@ -83,90 +60,36 @@ module _ (t : Terms) (l : Link) (m : ℕ) (busy rejected : Bool) (n : ℕ) (busy
   by-size f ns nr p false is h =
       let e = received (frame (record f { control = Information ns nr p })) in
       both-up l.state (waiting.to_information (is_next ns l) p l) (to_information p was now)
-      (λ up. as-seen e (to_information p) (waiting.to_information (is_next ns l) p l) h up (goes-on e (λ is. (establishes t l e is).by))
-      (subst (λ b. let x = received (cond b overlong (frame (record f { control = Information ns nr p }))) in
-      waiting.to_information (is_next ns l) p l ≡ to_information p (calm l.r l.own_busy l.rejecting)
-      (calm (number_after x l) (busy_asked e l.own_busy) (rejected_behind false (takes_contents x l) e l.own_busy l.rejecting))) (sym is)
-      (by-information l.own_busy (is_next ns l) l.rejecting p l.r)))
+      (λ up. grind (arith, was, calm, rejected_behind))
 
   by-frame : (f : Parts) (control : Control) → let e = received (frame (record f { control = control })) in
       Seen e → answers (as_heard t e) l ≡ answer_to was now (state_number l.state) f.address.command (nat_lt t.n201 (length f.info)) control
-  by-frame f (Information ns nr p) h =
-      let long = nat_lt t.n201 (length f.info) in
-      by-size f ns nr p long refl h
-  by-frame f (ReceiveReady nr p) h =
-      let e = received (frame (record f { control = ReceiveReady nr p })) in
-      both-up l.state _ _ (λ up. as-seen e (λ was now. polled now (f.address.command && p)) (to_supervisory f.address.command p l) h up (goes-on e (λ is. (establishes t l e is).by)) refl)
-  by-frame f (ReceiveNotReady nr p) h =
-      let e = received (frame (record f { control = ReceiveNotReady nr p })) in
-      both-up l.state _ _ (λ up. as-seen e (λ was now. polled now (f.address.command && p)) (to_supervisory f.address.command p l) h up (goes-on e (λ is. (establishes t l e is).by)) refl)
-  by-frame f (Reject nr p) h =
-      let e = received (frame (record f { control = Reject nr p })) in
-      both-up l.state _ _ (λ up. as-seen e (λ was now. polled now (f.address.command && p)) (to_supervisory f.address.command p l) h up (goes-on e (λ is. (establishes t l e is).by)) refl)
-  by-frame f (Sabme p) h = ap as_response (by-sabme l.state p)
-  by-frame f (Disc p) h = ap as_response (by-disc l.state p)
-  by-frame f other h = either-none (is_multiple_frame l.state)
+  by-frame f control h = grind (arith, by-size, both-up, calm, rejected_behind, polled, goes-on, by-sabme, by-disc, either-none)
 
   by-request : (r : Request) (full : Bool) → let e = requested r full in
       (xs : List ControlFrame) → Seen e → xs ≡ changed (calm l.r l.own_busy l.rejecting) (calm l.r (busy_asked e l.own_busy) l.rejecting)
       → cond (is_multiple_frame l.state) xs [] ≡ while_up (state_number l.state) (changed was now)
-  by-request r full xs h due =
-      let e = requested r full in
-      both-up l.state xs (changed was now) (λ up. as-seen e changed xs h up (goes-on e (λ is. establishes t l e is)) due)
+  by-request r full xs h due = grind (arith, both-up, changed, calm, rejected_behind, goes-on)
 
   answers-are : (e : Event) → IsNoOther e → Seen e → answers (as_heard t e) l ≡ Answers e
   answers-are (received (frame f)) other h = by-frame f f.control h
-  answers-are (requested Establish full) other h = sym (either-none (is_multiple_frame l.state)) ∙ by-request Establish full [] h (by-none l.own_busy l.rejecting l.r)
-  answers-are (requested Release full) other h = sym (either-none (is_multiple_frame l.state)) ∙ by-request Release full [] h (by-none l.own_busy l.rejecting l.r)
-  answers-are (requested (Data contents) full) other h = sym (either-none (is_multiple_frame l.state)) ∙ by-request (Data contents) full [] h (by-none l.own_busy l.rejecting l.r)
-  answers-are (requested SetBusy full) other h = grind (arith, if-both, by-request, by-set)
-  answers-are (requested ClearBusy full) other h = grind (arith, if-both, by-request, by-clear)
-  answers-are offer other h = absurd other
-  answers-are cleared other h = absurd other
-  answers-are any other h = refl
+  answers-are e other h = grind (arith, either-none, by-request, by-none)
 
   -- Commands: those of a state that awaits an answer, where T200 expires, or the link comes there.
-  never-other : (e : Event) → IsNoOther e → let to = state_after t e l in (moves l.state to || waiting.is_time e l) ≡ true → enquires to ≡ true → (timer : LinkTimer) × (e ≡ expired timer)
-  never-other e other move lead = grind (arith, none-heard, none-asked)
-
-  by-expiry-up : (s : State) (timer : LinkTimer) (ran again : Bool) → enquires (cond ran (by_expiry s timer again) s) ≡ true → is_multiple_frame s ≡ true
-  by-expiry-up s timer ran again up = grind arith
-
-  command-is : (to : State) → (enquires to ≡ true → as_command (receipt_as l.own_busy l.r true) ≡ as_command (receipt now true)) → command_in to l ≡ command_of now (Some (state_number to))
-  command-is to h = grind arith
-
   enquired : (e : Event) (timer : LinkTimer) → e ≡ expired timer → Seen e → enquires (state_after t e l) ≡ true
       → as_command (receipt_as l.own_busy l.r true) ≡ as_command (receipt now true)
-  enquired e timer is h lead = grind (arith, as-seen, was, receipt, now, by-expiry-up, enquires, goes-on)
+  enquired e timer is h lead = grind (arith, calm, rejected_behind, was, receipt, now, enquires, goes-on)
 
   abbrev Timed : Event → Type 0
   Timed e = let to = state_after t e l in commands e l to ≡ cond (moves l.state to || waiting.is_time e l) (command_of now (Some (state_number to))) []
 
   commands-are : (e : Event) → IsNoOther e → Seen e → Timed e
-  commands-are e other h = go (moves l.state to || waiting.is_time e l) refl
-    where
-      to : State
-      to = state_after t e l
-
-      go : (b : Bool) → (moves l.state to || waiting.is_time e l) ≡ b → cond b (command_in to l) [] ≡ cond b (command_of now (Some (state_number to))) []
-      go false move = refl
-      go true move = command-is to (λ lead. let x = never-other e other move lead in enquired e x.0 x.1 h lead)
+  commands-are e other h = grind (arith, command_of, none-heard, none-asked, enquired)
 
   -- What is heard in place of a frame leads to no enquiry.
-  received-times : (what : Received) → Timed (received what)
-  received-times what = grind (arith, command_of, now, command-is, none-heard)
-
   heard-times : (e : Event) → IsNoOther e → Seen e → Timed (as_heard t e)
-  heard-times (received (frame f)) other h = received-times (cond (is_overlong t f.control f.info) overlong (frame f))
-  heard-times (received undefined) other h = received-times undefined
-  heard-times (received wrong_size) other h = received-times wrong_size
-  heard-times (received overlong) other h = received-times overlong
-  heard-times (expired timer) other h = commands-are (expired timer) tt h
-  heard-times (requested r full) other h = commands-are (requested r full) tt h
-  heard-times any other h = absurd other
-
-  same-ticks : (e : Event) → ticks (as_heard t e) ≡ ticks e
-  same-ticks e = grind arith
+  heard-times (received overlong) other h = grind (arith, command_of, now, none-heard)
+  heard-times e other h = grind (arith, command_of, none-heard, commands-are)
 
   -- Where a command is due by the timer, T200 runs.
   again : (e : Event) → l.running ≡ Some T200 → waiting.is_time e l ≡ (ticks e == 1)
@@ -180,12 +103,7 @@ module _ (t : Terms) (l : Link) (m : ℕ) (busy rejected : Bool) (n : ℕ) (busy
   whenever e from to is = grind (arith, either-none, ticks, to, is, command_of, now, again)
 
   pub put-is : (e : Event) → IsNoOther e → HasItsTimer l → Seen e → let to = state_after t (as_heard t e) l in put (as_heard t e) l to ≡ put_by t.n201 was now e l.state to
-  put-is e other timed h =
-      let heard = as_heard t e in
-      let to = state_after t heard l in
-      ap (λ xs. xs ++ commands heard l to) (answers-are e other h)
-      ∙ ap (λ xs. Answers e ++ xs) (heard-times e other h ∙ whenever heard l.state to timed.running
-      ∙ ap (λ n. cond (moves l.state to || n == 1) (command_of now (Some (state_number to))) []) (same-ticks e))
+  put-is e other timed h = grind (arith, answers-are, heard-times, whenever, command_of)
 
 -- Of those that are put as many wait as there is room for.
 as-many : (n : ℕ) (xs : List ControlFrame) → take n xs ≡ take (length xs - length (drop n xs)) xs

@@ -1,15 +1,13 @@
 -- What is seen of the control frames of a link, and which are due by it.
-use Rattle.laws_trace.proofs.Vocabulary.{arith, ◌≡◌, ℕ, ◌==◌, ◌&&◌, Bool, true, false, cond, List, [], ◌∷◌, ◌++◌, map, drop, Option, Some, None, refl, sym, ap, ◌∙◌, inl, inr, eq-eqb, append-nil, Result, Ok, Err, All, IfSome, flat_map, option_to_list, nat_lt, length, All-head, All-tail, Ui, ReadFault, Service, Parts, reading, sapi_of, reading-again, event-follows, ControlFrame, Terms, Link, address_at, IsGiven, Given, orders_for, given_is_frame, Config, Effect, hears, Answer, Line, place_in, terms, aim_of, unless_refused_told, message_of, aim_of_reading, aim_of_heard, at_side, is_granted, IsBy, Brings, BringsMalformed, sapi-is, same-sapi, both-true, Refusal, eqb-true, unwrap_or, information_of, begun as course_begun, Event, answer, line_frame_of as frame_of, Request, trace_frame_in as frame_in, Seen, heard, seen, seen_told, seen_granted, drop-nil, link_after as after, link_given_of as given_of, offer_among, LinkIsInRange as IsInRange, LinkIsSound as IsSound, trace_begun as begun}
-use Rattle.model_bits.specs.Stream as stream
+use Rattle.laws_trace.proofs.Vocabulary.{arith, ◌≡◌, ℕ, ◌==◌, ◌&&◌, Bool, true, false, cond, List, [], ◌∷◌, ◌++◌, map, drop, Option, Some, None, refl, sym, ap, ◌∙◌, inl, inr, eq-eqb, append-nil, Result, Ok, Err, All, IfSome, flat_map, option_to_list, nat_lt, length, All-head, All-tail, Ui, ReadFault, Service, Parts, reading, sapi_of, reading-again, event-follows, ControlFrame, Terms, Link, address_at, IsGiven, Given, orders_for, given_is_frame, Config, Effect, hears, Answer, Line, place_in, terms, aim_of, unless_refused_told, message_of, aim_of_reading, aim_of_heard, at_side, is_granted, IsBy, Brings, BringsMalformed, sapi-is, same-sapi, both-true, Refusal, eqb-true, unwrap_or, information_of, begun as course_begun, Event, answer, line_frame_of as frame_of, Request, trace_frame_in as frame_in, Seen, heard, seen, seen_told, seen_granted, drop-nil, link_after as after, link_given_of as given_of, offer_among, LinkIsInRange as IsInRange, LinkIsSound as IsSound, trace_begun as begun, service-same, StreamEvent}
 use Rattle.model_link.specs.Events as link
 use Rattle.laws_trace.proofs.ControlsWatched.{of_link, control_in, controls_at, while_up, answer_to, changed, answers_at, answers_to_frame}
 use Rattle.laws_trace.proofs.DeliveriesWatched.{Standing}
 use Rattle.laws_trace.proofs.Addressed.{addressed-is}
-use Rattle.laws_trace.proofs.CommandsCaused.{same-itself}
 use Rattle.laws_trace.proofs.ControlsDue.{controls, answers_of}
 use Rattle.laws_trace.proofs.OneLink.{frames_given, IsForeign, is_at_link}
 use Rattle.laws_trace.proofs.ReadAgain.{read-again}
-use Rattle.laws_trace.proofs.Spelled.{whole-parts, given-spells}
+use Rattle.laws_trace.proofs.Spelled.{whole-parts}
 use Rattle.laws_trace.proofs.Facts.{either-none}
 
 abbrev control_of : ControlFrame → List ControlFrame
@@ -65,7 +63,7 @@ module _ (c : Config) (service : Service) (tei : ℕ) where
 
   pub given-read : (g : Given) → IsGiven its g.frame g.contents → begun_of (frame_of c its g) ≡ control_of g.frame
   given-read g h =
-      ap (of_link service tei control_in) (reading-again c.side (whole-parts its g) (frame_of c its g) (given-spells c its g h))
+      ap (of_link service tei control_in) (reading-again c.side (whole-parts its g) (frame_of c its g) (record { is_frame = h.whole; octets_are = refl }))
       ∙ ap (λ b. cond b (control_of g.frame) []) (ap (λ b. b && tei == tei) (eq-eqb (sapi_of service) (sapi_of service) refl) ∙ eq-eqb tei tei refl)
 
   -- So it is the first that begins, and the others wait on.
@@ -109,34 +107,26 @@ module _ (c : Config) (service : Service) (tei : ℕ) where
     abbrev To : Result Parts ReadFault → List ControlFrame
     To r = answers_to_frame c service tei was now state r
 
-    pub told-none : (a : Answer) → answers_seen (seen_told a) ≡ []
-    told-none a = grind arith
-
     pub begun-none : (frames : List (List ℕ)) → answers_seen (map begun frames) ≡ []
     begun-none [] = refl
     begun-none (f ∷ frames) = begun-none frames
 
-    pub heard-answers : (e : Event) (a : Answer) (what : stream.Event) → e ≡ hears what → answers_seen (seen e a) ≡ answers_at c service tei was now state (heard what)
-    heard-answers e a what is = grind (arith, answers_at, told-none, append-nil)
+    pub heard-answers : (e : Event) (a : Answer) (what : StreamEvent) → e ≡ hears what → answers_seen (seen e a) ≡ answers_at c service tei was now state (heard what)
+    heard-answers e a what is = grind (arith, answers_at, append-nil)
 
     -- by an event of the link
     frame-answers : (e : Event) (a : Answer) (frame : Parts) → Brings c e service tei frame
         → answers_seen (seen e a) ≡ answer_to was now state frame.address.command (nat_lt c.n201 (length frame.info)) frame.control
-    frame-answers e a frame x =
-        heard-answers e a (stream.frame x.octets) x.by ∙ ap To x.read
-        ∙ ap (λ b. cond b (answer_to was now state frame.address.command (nat_lt c.n201 (length frame.info)) frame.control) []) here
+    frame-answers e a frame x = grind (arith, heard-answers, answer_to, here)
       where
         here : (frame.address.sapi == sapi_of service && frame.address.tei == tei) ≡ true
         here = grind (arith, eq-eqb, sapi-is)
-
-    malformed-answers : (e : Event) (a : Answer) (what : link.Received) → BringsMalformed c e service tei what → answers_seen (seen e a) ≡ []
-    malformed-answers e a what b = grind (arith, heard-answers)
 
     pub asked-answers : (r : Request) (a : Answer) → is_granted a ≡ true → answers_seen (seen_granted r a ++ seen_told a) ≡ while_up state (changed was now)
     asked-answers r a is = grind (arith, append-nil, while_up, changed)
 
     pub event-answers : (e : Event) (a : Answer) (event : link.Event) → IsBy c e a service tei event → answers_seen (seen e a) ≡ answers_of c.n201 was now state event
-    event-answers e a event x = grind (arith, frame-answers, malformed-answers, told-none, asked-answers, begun-none)
+    event-answers e a event x = grind (arith, frame-answers, heard-answers, asked-answers, begun-none)
 
     -- by another event, while layer 3 is as busy as before
     module _ (l : Line) (place : ℕ) (on : place_in l tei ≡ Some place) where
@@ -150,16 +140,13 @@ module _ (c : Config) (service : Service) (tei : ℕ) where
               ap (λ aim. is_at_link service tei (at_side c frame aim))
               (addressed-is l frame.address.sapi frame.address.tei frame.address.command service tei place (link.frame frame) (message_of frame.control frame.info)
               (eqb-true frame.address.sapi (sapi_of service) two.0) (eqb-true frame.address.tei tei two.1) on)
-              ∙ ap (λ b. b && tei == tei) (same-itself service) ∙ eq-eqb tei tei refl
+              ∙ ap (λ b. b && tei == tei) (service-same service) ∙ eq-eqb tei tei refl
 
           go : (b : Bool) → (frame.address.sapi == sapi_of service && frame.address.tei == tei) ≡ b → cond b (answer_to was now state frame.address.command (nat_lt c.n201 (length frame.info)) frame.control) [] ≡ []
           go b is = grind (arith, aimed)
 
-      heard-none : (e : stream.Event) → is_at_link service tei (aim_of_heard c l e) ≡ false → answers_at c service tei was now state (heard e) ≡ []
+      heard-none : (e : StreamEvent) → is_at_link service tei (aim_of_heard c l e) ≡ false → answers_at c service tei was now state (heard e) ≡ []
       heard-none e aims = grind (arith, read-none)
 
-      request-none : (r : Request) (a : Answer) → while_up state (changed was now) ≡ [] → answers_seen (seen_granted r a ++ seen_told a) ≡ []
-      request-none r a same = grind (arith, append-nil, while_up, changed)
-
       pub none-answered : (e : Event) (a : Answer) → while_up state (changed was now) ≡ [] → is_at_link service tei (aim_of c e l) ≡ false → answers_seen (seen e a) ≡ []
-      none-answered e a same aims = grind (arith, heard-answers, heard-none, told-none, request-none, begun-none)
+      none-answered e a same aims = grind (arith, heard-answers, heard-none, append-nil, while_up, changed, begun-none)

@@ -1,6 +1,5 @@
 -- The control frames of a link that go are those that are due.
-use Rattle.laws_trace.proofs.Vocabulary.{ℕ, ◌-◌, ◌==◌, ◌&&◌, ◌||◌, not, Bool, true, false, List, [], ◌∷◌, ◌++◌, length, take, flat_map, Option, Result, Ok, Err, nat_lt, if◌then◌else◌, option_map_or, seq, Information, ReceiveReady, ReceiveNotReady, Reject, Sabme, Disc, Ui, Ua, Dm, ReadFault, Service, Parts, reading, sapi_of, ControlFrame, Config, heard_side, as_response, as_command, lost_in, Control, Moment, is_up, Seen, heard, trace_begun as begun, granted, seen_in}
-use Rattle.model_bits.specs.Stream as stream
+use Rattle.laws_trace.proofs.Vocabulary.{ℕ, ◌-◌, ◌==◌, ◌&&◌, ◌||◌, not, Bool, true, false, List, [], ◌∷◌, ◌++◌, length, take, flat_map, Option, Result, Ok, Err, nat_lt, if◌then◌else◌, option_map_or, seq, Information, ReceiveReady, ReceiveNotReady, Reject, Sabme, Disc, Ui, Ua, Dm, ReadFault, Service, Parts, reading, sapi_of, ControlFrame, Config, heard_side, as_response, as_command, lost_in, Control, Moment, is_up, Seen, heard, trace_begun as begun, granted, seen_in, stream_frame}
 use Rattle.laws_trace.proofs.DeliveriesWatched.{Standing}
 use Rattle.laws_trace.proofs.States.{expired_of, one_more, is_state, state_before, state_after, differ}
 
@@ -59,7 +58,7 @@ answers_to_frame c service tei was now state (Ok frame) =
 answers_to_frame c service tei was now state (Err fault) = []
 
 abbrev pub answers_at : Config → Service → ℕ → Standing → Standing → ℕ → Seen → List ControlFrame
-answers_at c service tei was now state (heard (stream.frame octets)) = answers_to_frame c service tei was now state (reading (heard_side c) octets)
+answers_at c service tei was now state (heard (stream_frame octets)) = answers_to_frame c service tei was now state (reading (heard_side c) octets)
 answers_at c service tei was now state (granted r) = while_up state (changed was now)
 answers_at c service tei was now state other = []
 

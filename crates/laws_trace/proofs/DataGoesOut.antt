@@ -12,18 +12,15 @@ module _ (c : Config) (service : Service) (tei : ℕ) where
   abbrev pub sent_of : List ℕ → Option Sent
   sent_of octets = sent_in service tei (reading c.side octets)
 
-  either-none : (b : Bool) → cond {A = Option Sent} b None None ≡ None
-  either-none b = grind arith
-
   pub foreign : (frame : List ℕ) → IsForeign c service tei frame → sent_of frame ≡ None
   foreign frame (inl x) =
       ap sent_of x.1
       ∙ read-again c.side (λ r. sent_in service tei r ≡ None) (record { sapi = 63; command = true; tei = 127 }) (Ui false)
-      (λ info. either-none (63 == sapi_of service && 127 == tei)) (λ fault. refl) (information_of x.0)
+      (λ info. grind arith) (λ fault. refl) (information_of x.0)
   foreign frame (inr (inl x)) =
       ap sent_of x.1
       ∙ read-again c.side (λ r. sent_in service tei r ≡ None) (record { sapi = sapi_of x.0.service; command = true; tei = x.0.tei }) (Ui false)
-      (λ info. either-none (sapi_of x.0.service == sapi_of service && x.0.tei == tei)) (λ fault. refl) x.0.contents
+      (λ info. grind arith) (λ fault. refl) x.0.contents
   foreign frame (inr (inr x)) =
       let t = x.0 in
       let g = x.1 in

@@ -1,8 +1,6 @@
 -- What is told is what was heard.
-use Rattle.laws_trace.proofs.Vocabulary.{◌≡◌, ℕ, ◌%◌, ◌≤◌, ◌==◌, ◌&&◌, Bool, true, false, cond, List, [], ◌∷◌, length, Option, Some, None, refl, sym, ap, ◌∙◌, arith, eq-eqb, inl, inr, true≢false, All, ◌||◌, not, nat_le, count_by, list_any, and_parts, All-head, All-tail, sum_by-cons, none-some, Seq, Note, Service, Parts, service_of, same_service, Terms, Arrived, restarts, eligible, eligible_of, is_eligible, Link, is_multiple_frame, notes-own, establishes, unit_heard, Config, hears, Answer, Line, link_in, terms, aim_of, group_tei, IsInRange, notes_of, contents_in, is_data_of, is_unit_of, tells_contents, IsBy, Brings, BringsMalformed, contents-heard, sapi-is, read-aim, read-event, told-once, group-read, Control, link_information_of as information_of, IsOwn, Event, answer, IsSound, result_ok, frame_of, is_for, is_ui, Information, Unit, IsHeard, IsHeardAtLink, IsHeardByGroup}
-use Rattle.model_bits.specs.Stream as stream
+use Rattle.laws_trace.proofs.Vocabulary.{◌≡◌, ℕ, ◌%◌, ◌≤◌, ◌==◌, ◌&&◌, Bool, true, false, cond, List, [], ◌∷◌, length, Option, Some, None, refl, sym, ap, ◌∙◌, arith, eq-eqb, inl, inr, true≢false, All, ◌||◌, not, nat_le, count_by, list_any, and_parts, All-head, All-tail, sum_by-cons, none-some, Seq, Note, Service, Parts, service_of, same_service, Terms, Arrived, restarts, eligible, eligible_of, is_eligible, Link, is_multiple_frame, notes-own, establishes, unit_heard, Config, hears, Answer, Line, link_in, terms, aim_of, group_tei, IsInRange, notes_of, contents_in, is_data_of, is_unit_of, tells_contents, IsBy, Brings, BringsMalformed, contents-heard, sapi-is, read-aim, read-event, told-once, group-read, Control, link_information_of as information_of, IsOwn, Event, answer, IsSound, result_ok, frame_of, is_for, is_ui, Information, Unit, IsHeard, IsHeardAtLink, IsHeardByGroup, stream_frame, StreamEvent, link_told}
 use Rattle.model_link.specs.Events as link
-use Rattle.model_link.specs.Machine as links
 use Rattle.laws_trace.proofs.Counting.{begins_by, begins}
 use Rattle.laws_trace.proofs.DeliveriesWatched.{number_in, IsOfFrame}
 use Rattle.laws_trace.proofs.Begins.{unless, begins-is}
@@ -60,20 +58,18 @@ module _ (c : Config) (ranged : IsInRange c) (l : Line) (s : IsSound c l) (e : E
   -- where contents are noted, there are some
   has-contents : (q : Note → Bool) → ((n : Note) → q n ≡ true → tells_contents n ≡ true) → list_any q (notes_of a) ≡ true
       → (o : Option (List ℕ)) → contents_in a ≡ o → (contents : List ℕ) × (contents_in a ≡ Some contents)
-  has-contents q h some (Some contents) is = (contents, is)
-  has-contents q h some None is = grind (arith, any-counted, told-once)
+  has-contents q h some o is = grind (arith, any-counted, told-once)
 
   noted-aim : (q : Note → Bool) → ((t : Terms) (n : Note) → IsOwn t n → q n ≡ true → (same_service t.service service && t.tei == tei) ≡ true)
       → list_any q (notes_of a) ≡ true → (contents : List ℕ) → IsHeardAtLink c l e a contents → is_at_link service tei (aim_of c e l) ≡ true
   noted-aim q own some contents x =
       let t = terms c x.service x.tei in
-      let aims = read-aim c l x.service x.tei x.place x.parts x.octets x.read x.whose in
       let one = read-event c l x.service x.tei x.place x.parts x.octets x.read x.whose in
       let le = link.received (link.frame x.parts) in
-      let same : answer c (hears (stream.frame x.octets)) l ≡ a = ap (λ e. answer c e l) (sym x.by) in
-      let told : notes_of a ≡ (links.told t le (link_in l x.service x.place)).notes = ap notes_of (sym same ∙ one.answer_is.is) ∙ one.answer_is.notes in
-      ap (λ e. is_at_link service tei (aim_of c e l)) x.by ∙ ap (is_at_link service tei) aims
-      ∙ some-own t q ((same_service x.service service && x.tei == tei) ≡ true) (own t) (links.told t le (link_in l x.service x.place)).notes
+      let same : answer c (hears (stream_frame x.octets)) l ≡ a = ap (λ e. answer c e l) (sym x.by) in
+      let told : notes_of a ≡ (link_told t le (link_in l x.service x.place)).notes = ap notes_of (sym same ∙ one.answer_is.is) ∙ one.answer_is.notes in
+      ap (λ e. is_at_link service tei (aim_of c e l)) x.by ∙ ap (is_at_link service tei) (read-aim c l x.service x.tei x.place x.parts x.octets x.read x.whose)
+      ∙ some-own t q ((same_service x.service service && x.tei == tei) ≡ true) (own t) (link_told t le (link_in l x.service x.place)).notes
       (notes-own t le (link_in l x.service x.place)) (ap (list_any q) (sym told) ∙ some)
 
   pub none-noted : (q : Note → Bool) → ((n : Note) → q n ≡ true → tells_contents n ≡ true)
@@ -105,7 +101,7 @@ module _ (c : Config) (e : Event) (a : Answer) (service : Service) (tei : ℕ) w
   pub brings-none : (what : link.Received) → BringsMalformed c e service tei what → frame_by c e ≡ None
   brings-none what x = grind arith
 
-  pub heard-by : (what : link.Received) → BringsMalformed c e service tei what → (heard : stream.Event) × (e ≡ hears heard)
+  pub heard-by : (what : link.Received) → BringsMalformed c e service tei what → (heard : StreamEvent) × (e ≡ hears heard)
   heard-by what x = grind arith
 
   none-begins : (le : link.Event) (k : Link) → ((restarts (terms c service tei) le k ≡ true) → ⊥) → (ns : List Note) → frame_by c e ≡ None
@@ -114,14 +110,9 @@ module _ (c : Config) (e : Event) (a : Answer) (service : Service) (tei : ℕ) w
 
   -- whether the numbers begin with it
   pub one-begins : (le : link.Event) → IsBy c e a service tei le → (k : Link)
-      → begins service tei (frame_by c e) (links.told (terms c service tei) le k).notes ≡ restarts (terms c service tei) le k
+      → begins service tei (frame_by c e) (link_told (terms c service tei) le k).notes ≡ restarts (terms c service tei) le k
   one-begins (link.received (link.frame f)) by k = grind (arith, brings-frame, begins, begins_by, begins-is)
-  one-begins (link.received link.undefined) by k = none-begins (link.received link.undefined) k (establishes (terms c service tei) k (link.received link.undefined)) (links.told (terms c service tei) (link.received link.undefined) k).notes (brings-none link.undefined by)
-  one-begins (link.received link.wrong_size) by k = none-begins (link.received link.wrong_size) k (establishes (terms c service tei) k (link.received link.wrong_size)) (links.told (terms c service tei) (link.received link.wrong_size) k).notes (brings-none link.wrong_size by)
-  one-begins (link.received link.overlong) by k = none-begins (link.received link.overlong) k (establishes (terms c service tei) k (link.received link.overlong)) (links.told (terms c service tei) (link.received link.overlong) k).notes (brings-none link.overlong by)
-  one-begins (link.requested asked full) by k = none-begins (link.requested asked full) k (establishes (terms c service tei) k (link.requested asked full)) (links.told (terms c service tei) (link.requested asked full) k).notes (ap (frame_by c) by.0)
-  one-begins link.cleared by k = absurd by
-  one-begins other by k = none-begins other k (establishes (terms c service tei) k other) (links.told (terms c service tei) other k).notes (ap (frame_by c) by)
+  one-begins le by k = grind (arith, none-begins, brings-none)
 
   -- an I-frame that is delivered
   record Carried (t : Terms) (k : Link) (ct : Control) (octets : List ℕ) (i : Arrived) : Type 0 where

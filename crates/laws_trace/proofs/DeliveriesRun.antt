@@ -1,8 +1,6 @@
 -- What is told is what was heard: over runs.
-use Rattle.laws_trace.proofs.Vocabulary.{arith, length, nat_le, le-leb, within, ◌≡◌, ℕ, ◌+◌, ◌%◌, ◌&&◌, Bool, true, false, cond, List, Option, Some, None, refl, sym, ap, ◌∙◌, subst, eq-eqb, ◌==◌, Result, Ok, Err, true≢false, ◌⊎◌, inl, inr, is_some, Note, list_any, option_or, option_map_or, none-some, ReadFault, reading, sapi_of, same_service, Service, Parts, Terms, restarts, Link, is_multiple_frame, event-delivers, delivered-at_once, notes-own, event-tells, unit_heard, event-unit, within-is, Config, hears, Answer, Line, place_in, link_in, link_of, terms, aim_of, aim_of_heard, aim_of_reading, message_of, heard_side, group_tei, IsInRange, at_side, notes_of, contents_in, is_data_of, is_unit_of, own-all, addressed-is, sapi-is, same-sapi, service-same, both-true, told-once, eqb-true, fresh_link as fresh, Event, line_after as after, answer, IsSound, result_ok, frame_of, is_for, is_ui, ReleaseConfirm, ReleaseIndication}
-use Rattle.model_bits.specs.Stream as stream
+use Rattle.laws_trace.proofs.Vocabulary.{arith, length, nat_le, le-leb, within, ◌≡◌, ℕ, ◌+◌, ◌%◌, ◌&&◌, Bool, true, false, cond, List, Option, Some, None, refl, sym, ap, ◌∙◌, subst, eq-eqb, ◌==◌, Result, Ok, Err, true≢false, ◌⊎◌, inl, inr, is_some, Note, list_any, option_or, option_map_or, none-some, ReadFault, reading, sapi_of, same_service, Service, Parts, Terms, restarts, Link, is_multiple_frame, event-delivers, delivered-at_once, notes-own, event-tells, unit_heard, event-unit, within-is, Config, hears, Answer, Line, place_in, link_in, link_of, terms, aim_of, aim_of_heard, aim_of_reading, message_of, heard_side, group_tei, IsInRange, at_side, notes_of, contents_in, is_data_of, is_unit_of, own-all, addressed-is, sapi-is, same-sapi, service-same, both-true, told-once, eqb-true, fresh_link as fresh, Event, line_after as after, answer, IsSound, result_ok, frame_of, is_for, is_ui, ReleaseConfirm, ReleaseIndication, stream_frame, StreamEvent, link_told}
 use Rattle.model_link.specs.Events as link
-use Rattle.model_link.specs.Machine as links
 use Rattle.model_link.specs.Sound as link_sound
 use Rattle.laws_trace.proofs.Counting.{Watched, begins, counted}
 use Rattle.laws_trace.proofs.DeliveriesWatched.{number_in, IsOfFrame, IsHeard}
@@ -36,9 +34,9 @@ its-aim c l service tei place on (Ok g) f is for =
     (addressed-is l g.address service tei place (link.frame g) (message_of g.control g.info) (eqb-true g.address.sapi (sapi_of service) parts.0) (eqb-true g.address.tei tei parts.1) on))
     ∙ ap (λ b. b && tei == tei) (service-same service) ∙ eq-eqb tei tei refl
 
-pub heard-aims-at : (c : Config) (l : Line) (service : Service) (tei place : ℕ) → place_in l tei ≡ Some place → (e : stream.Event) (f : Parts)
+pub heard-aims-at : (c : Config) (l : Line) (service : Service) (tei place : ℕ) → place_in l tei ≡ Some place → (e : StreamEvent) (f : Parts)
     → frame_of c e ≡ Some f → is_for service tei f.address ≡ true → is_at_link service tei (aim_of_heard c l e) ≡ true
-heard-aims-at c l service tei place on (stream.frame octets) f is for = its-aim c l service tei place on (reading (heard_side c) octets) f is for
+heard-aims-at c l service tei place on (stream_frame octets) f is for = its-aim c l service tei place on (reading (heard_side c) octets) f is for
 heard-aims-at c l service tei place on other f is for = absurd (none-some f is)
 
 pub event-aims : (c : Config) (l : Line) (service : Service) (tei place : ℕ) → place_in l tei ≡ Some place → (e : Event) (f : Parts) → frame_by c e ≡ Some f
@@ -73,38 +71,27 @@ module _ (c : Config) (ranged : IsInRange c) (l : Line) (s : IsSound c l) (e : E
     own-sound : link_sound.IsSound t k
     own-sound = link-at-end c l ranged s service tei x.place x.placed
 
-    pub data-noted : list_any (is_data_of service tei) (notes_of a) ≡ is_some (links.told t x.event k).delivered
+    pub data-noted : list_any (is_data_of service tei) (notes_of a) ≡ is_some (link_told t x.event k).delivered
     data-noted =
-        ap (list_any (is_data_of service tei)) x.notes ∙ (own-all t (links.told t x.event k).notes (notes-own t x.event k)).0 ∙ (event-tells t x.event k).1
+        ap (list_any (is_data_of service tei)) x.notes ∙ (own-all t (link_told t x.event k).notes (notes-own t x.event k)).0 ∙ (event-tells t x.event k).1
 
-    unit-noted : list_any (is_unit_of service tei) (notes_of a) ≡ is_some (links.told t x.event k).unit
+    unit-noted : list_any (is_unit_of service tei) (notes_of a) ≡ is_some (link_told t x.event k).unit
     unit-noted =
-        ap (list_any (is_unit_of service tei)) x.notes ∙ (own-all t (links.told t x.event k).notes (notes-own t x.event k)).1 ∙ (event-tells t x.event k).3
+        ap (list_any (is_unit_of service tei)) x.notes ∙ (own-all t (link_told t x.event k).notes (notes-own t x.event k)).1 ∙ (event-tells t x.event k).3
 
     one-data : list_any (is_data_of service tei) (notes_of a) ≡ true → Data (contents_in a)
-    one-data some = go (links.told t x.event k).delivered refl
+    one-data some = go (link_told t x.event k).delivered refl
       where
-        go : (o : Option (List ℕ)) → (links.told t x.event k).delivered ≡ o → Data (contents_in a)
+        go : (o : Option (List ℕ)) → (link_told t x.event k).delivered ≡ o → Data (contents_in a)
         go None is = absurd (true≢false (sym some ∙ data-noted ∙ ap is_some is))
         go (Some contents) is =
             let y = delivered-at_once t x.event k contents is in
-            let told : contents_in a ≡ Some contents = x.contents ∙ ap (λ o. option_or o (links.told t x.event k).unit) is in
+            let told : contents_in a ≡ Some contents = x.contents ∙ ap (λ o. option_or o (link_told t x.event k).unit) is in
             subst Data (sym told) (data-of c e a service tei x.event x.by k n before contents y.0 y.1 y.2 y.3)
 
     unit-by : (P : Option (List ℕ) → Type 0) → ((contents : List ℕ) → within t.n201 (unit_heard x.event) ≡ Some contents → P (Some contents))
         → list_any (is_unit_of service tei) (notes_of a) ≡ true → P (contents_in a)
-    unit-by P each some = go (links.told t x.event k).unit refl
-      where
-        alone : (contents : List ℕ) → (links.told t x.event k).unit ≡ Some contents
-            → ((links.told t x.event k).delivered ≡ None) ⊎ ((links.told t x.event k).unit ≡ None) → (links.told t x.event k).delivered ≡ None
-        alone contents is o = grind (arith, none-some)
-
-        go : (o : Option (List ℕ)) → (links.told t x.event k).unit ≡ o → P (contents_in a)
-        go None is = absurd (true≢false (sym some ∙ unit-noted ∙ ap is_some is))
-        go (Some contents) is =
-            let none = alone contents is (event-tells t x.event k).2 in
-            let told : contents_in a ≡ Some contents = x.contents ∙ ap (λ o. option_or o (links.told t x.event k).unit) none ∙ is in
-            subst P (sym told) (each contents (sym (event-unit t k own-sound x.event) ∙ is))
+    unit-by P each some = grind (arith, none-some, unit-noted, is_some, event-tells, event-unit, own-sound)
 
     one-unit : list_any (is_unit_of service tei) (notes_of a) ≡ true → UnitData (contents_in a)
     one-unit = unit-by UnitData (λ contents some. unit-of c e a service tei x.event x.by n contents (within-is t.n201 (unit_heard x.event) contents some))
@@ -113,31 +100,7 @@ module _ (c : Config) (ranged : IsInRange c) (l : Line) (s : IsSound c l) (e : E
     one-small = unit-by (IsSmall c.n201) (within-small t.n201 (unit_heard x.event))
 
     one-counts : IsCount (link_of service tei (after c e l)) (counted service tei w (notes_of a))
-    one-counts up = go (restarts t x.event k) refl
-      where
-        begins-is : begins service tei (frame_by c e) (notes_of a) ≡ restarts t x.event k
-        begins-is = ap (begins service tei (frame_by c e)) x.notes ∙ one-begins c e a service tei x.event x.by k
-
-        r-is : (link_of service tei (after c e l)).r ≡ (links.after t x.event k).r
-        r-is = ap (λ (y : Link). y.r) x.is
-
-        count-is : (b : Bool) → restarts t x.event k ≡ b → counted service tei w (notes_of a) ≡ cond b 0 (cond (is_some (links.told t x.event k).delivered) (n + 1) n)
-        count-is b is = grind (arith, begins-is, data-noted)
-
-        go : (b : Bool) → restarts t x.event k ≡ b → (link_of service tei (after c e l)).r ≡ counted service tei w (notes_of a)
-        go true is =
-            elim (event-delivers t k x.event) [
-              | inl y ↦ absurd (true≢false (sym is ∙ y.goes_on))
-              | inr y ↦ r-is ∙ y.number ∙ sym (count-is true is)
-            ]
-        go false is =
-            elim (event-delivers t k x.event) [
-              | inl y ↦
-                  let was = before (up-before t x.event k (ap (λ (z : Link). is_multiple_frame z.state) (sym x.is) ∙ up) is) in
-                  r-is ∙ y.number ∙ ap (λ o. cond {A = ℕ} (is_some o) (k.r + 1) k.r) (sym y.delivered)
-                  ∙ ap (λ r. cond {A = ℕ} (is_some (links.told t x.event k).delivered) (r + 1) r) was ∙ sym (count-is false is)
-              | inr y ↦ absurd (true≢false (sym y.begins ∙ is))
-            ]
+    one-counts up = grind (arith, begins, frame_by, one-begins, counted, is_some, data-noted, event-delivers, up-before)
 
   -- None of it.
   module _ (x : HasNone c service tei e l (after c e l) a) where

@@ -1,7 +1,5 @@
 -- What is wrong with what is seen of a link: one event of its line.
-use Rattle.laws_trace.proofs.Vocabulary.{arith, ◌≡◌, ℕ, true, false, cond, List, [], ◌++◌, Some, None, Result, ap, ◌∙◌, ◌⊎◌, append-nil, option_to_list, option_map_or, Address, ReadFault, ErrorCode, Long, Service, Parts, Config, hears, Answer, aim_of_reading, aim_of_long, Line, place_in, terms, aim_of, IsMalformed, IsTooLong, IsBy, BringsMalformed, nat_lt, length, eqb-true, Event, option_and_then, result_ok, result_err, its_frame, is_for, faulty_long, fault_of, wrong_frame, wrong, is_up, and-false, cond_both}
-use Rattle.model_bits.specs.Stream as stream
-use Rattle.model_link.specs.Events as link
+use Rattle.laws_trace.proofs.Vocabulary.{arith, ◌≡◌, ℕ, true, false, cond, List, [], ◌++◌, Some, None, Result, ap, ◌∙◌, ◌⊎◌, append-nil, option_to_list, option_map_or, Address, ReadFault, ErrorCode, Long, Service, Parts, Config, hears, Answer, aim_of_reading, aim_of_long, Line, place_in, terms, aim_of, IsMalformed, IsTooLong, IsBy, BringsMalformed, nat_lt, length, eqb-true, Event, option_and_then, result_ok, result_err, its_frame, is_for, faulty_long, fault_of, wrong_frame, wrong, is_up, and-false, cond_both, frame, LinkEvent, Received, received, stream_frame, stream_overlong}
 use Rattle.laws_trace.proofs.DeliveriesRun.{heard-aims-at}
 use Rattle.laws_trace.proofs.LinkLed.{addressed-none, own-address}
 use Rattle.laws_trace.proofs.NewsRows.{errors_of}
@@ -27,25 +25,13 @@ module _ (c : Config) (service : Service) (tei : ℕ) where
 
   -- one event of it
   module _ (e : Event) (a : Answer) (from to : ℕ) where
-    abbrev Wrong : link.Event → Type 0
+    abbrev Wrong : LinkEvent → Type 0
     Wrong event = wrong c service tei e from to ≡ errors_of (terms c service tei) event from to
 
-    wrong-malformed : (address : Address) (octets : List ℕ) (what : link.Received) → is_for service tei address ≡ true
-        → ((e ≡ hears (stream.frame octets)) × IsMalformed c address octets what) ⊎ ((e ≡ hears (stream.overlong octets)) × IsTooLong c address octets what) → Wrong (link.received what)
-    wrong-malformed address octets what for o = grind (arith, errors_of, append-nil)
-
-    brings-malformed : (what : link.Received) → BringsMalformed c e service tei what → Wrong (link.received what)
-    brings-malformed what y = wrong-malformed y.address y.octets what (own-address c service tei nothing_yet a y.address y.sapi y.tei_is) y.by
-
-    pub one-wrong : (event : link.Event) → IsBy c e a service tei event → Wrong event
-    one-wrong (link.received (link.frame f)) y =
+    pub one-wrong : (event : LinkEvent) → IsBy c e a service tei event → Wrong event
+    one-wrong (received (frame f)) y =
         ap (λ e. wrong c service tei e from to) y.by
         ∙ ap (λ r. cond (is_up from) (option_to_list (option_and_then (fault_of service tei) (result_err r))) [] ++ option_map_or (wrong_parts c from to) (its_frame service tei (result_ok r)) []) y.read
         ∙ ap (λ xs. xs ++ option_map_or (wrong_parts c from to) (cond (is_for service tei f.address) (Some f) None) []) (either-none (is_up from))
         ∙ ap (λ b. option_map_or (wrong_parts c from to) (cond b (Some f) None) []) (own-address c service tei nothing_yet a f.address y.sapi y.tei_is)
-    one-wrong (link.received link.undefined) y = brings-malformed link.undefined y
-    one-wrong (link.received link.wrong_size) y = brings-malformed link.wrong_size y
-    one-wrong (link.received link.overlong) y = brings-malformed link.overlong y
-    one-wrong (link.requested asked full) y = ap (λ e. wrong c service tei e from to) y.0
-    one-wrong link.cleared y = absurd y
-    one-wrong other y = ap (λ e. wrong c service tei e from to) y
+    one-wrong event y = grind (arith, errors_of, append-nil)

@@ -26,9 +26,6 @@ as-busy b frames = grind arith
 pub small-sapi : (service : Service) → sapi_of service < 64
 small-sapi service = grind arith
 
-pub not-management : (service : Service) → (sapi_of service == management_sapi) ≡ false
-not-management service = grind arith
-
 pub its-own : (service : Service) (tei : ℕ) → (same_service service service && tei == tei) ≡ true
 its-own service tei = grind (arith, eq-eqb)
 

@@ -42,17 +42,8 @@ find-same : (f g : ℕ → Bool) → ((x : ℕ) → f x ≡ g x) → (xs : List 
 find-same f g h [] = refl
 find-same f g h (x ∷ xs) = ap (λ b. cond b (Some x) (find f xs)) (h x) ∙ ap (λ o. cond (g x) (Some x) o) (find-same f g h xs)
 
-some-seen : (o : Option Check) → is_some (option_map seen_check o) ≡ is_some o
-some-seen o = grind arith
-
 abbrev is_checked : ℕ → Option Checked → Bool
 is_checked tei o = option_map_or (λ (check : Checked). check.tei == tei) o false
-
-checked-seen : (tei : ℕ) (o : Option Check) → is_checked tei (option_map seen_check o) ≡ rows.is_checked tei o
-checked-seen tei o = grind arith
-
-three-of : (n k : ℕ) → k ≡ n + 1 → n - 3 ≡ k - 4
-three-of n k e = omega (arith, e)
 
 module _ (on : List ℕ) (m : Management) (h : AreOn on m.places) (order : IfSome m.check InOrder) (s : IsSound m) where
   abbrev w : Managed
@@ -74,14 +65,11 @@ module _ (on : List ℕ) (m : Management) (h : AreOn on m.places) (order : IfSom
       { on = filter (λ on. not (on == tei)) w.on; held = filter (λ (r : Remembered). not (r.tei == tei)) w.held }
 
   own-check : (tei : ℕ) (check : Check) → m.check ≡ Some check → (check.tei == tei) ≡ true → is_checked tei w.check ≡ true
-  own-check tei check is own = checked-seen tei m.check ∙ ap (rows.is_checked tei) is ∙ own
+  own-check tei check is own = (grind arith) ∙ ap (rows.is_checked tei) is ∙ own
 
   -- A check begins.
   pub begins-check : (tei : ℕ) → Leads (checks tei None w) (begin_check tei (begun m))
   begins-check tei = record { notes = refl; orders = refl; lost = refl; begins = refl; granted = refl; follows = record { is = refl; on = h; order = λ first. refl } }
-
-  pub may-is : (tei : ℕ) → may_check tei w ≡ rows.may_be_checked tei m
-  may-is tei = ap (λ b. b && not (is_some w.check)) (h.same tei) ∙ ap (λ b. table.is_on tei m.places && not b) (some-seen m.check)
 
   pub there : (check : Check) → m.check ≡ Some check → IsSoundCheck m.places check
   there check is = subst (λ o. IfSome o (IsSoundCheck m.places)) is s.checked
@@ -106,20 +94,11 @@ module _ (on : List ℕ) (m : Management) (h : AreOn on m.places) (order : IfSom
         Some (record { tei = k.tei; answered = true; before = earlier p k.first }) ≡ Some (seen_check (rows.counted k))
     one-more p = grind (arith, eqb-true)
 
-    answers-once : Leads answered (check_is (Some (rows.counted check)) (begun m))
-    answers-once = grind (arith, one-more, in-order)
-
-    is-second : nat_le 2 (rows.responses (rows.counted check)) ≡ not (rows.responses check == 0)
-    is-second = grind (arith, there, nat_le, eqb-true, leb-true, leb-false, eq-eqb)
-
     counts : (check.tei == tei) ≡ true → Leads (cond (not (rows.responses check == 0)) doubling answered) (rows.count tei (rows.counted check) (begun m))
-    counts own = grind (arith, is-second, nat_le, doubles, answers-once)
+    counts own = grind (arith, there, nat_le, eqb-true, leb-true, leb-false, eq-eqb, doubles, one-more, in-order)
 
     responds-so : Leads (responded tei w (seen_check check)) (rows.respond tei (Some check) (begun m))
     responds-so = grind (arith, counts, none-due)
-
-  pub respond-leads : (tei : ℕ) → Leads (option_map_or (responded tei w) w.check w) (rows.respond tei m.check (begun m))
-  respond-leads tei = grind (arith, option_map, none-due, responds-so)
 
   -- T201 runs out.
   module _ (check : Check) (is : m.check ≡ Some check) where
@@ -155,7 +134,7 @@ module _ (on : List ℕ) (m : Management) (h : AreOn on m.places) (order : IfSom
       (record { notes = refl; orders = refl; lost = refl; begins = refl; granted = refl; follows = record { is = refl; on = comes-on on m.places h place tei free off; order = order } })
 
   pub remove-leads : (tei : ℕ) → Leads (owes (IdentityRemove tei) (leaves tei w)) (rows.take_off tei (begun m))
-  remove-leads tei = subst (λ b. Leads (owes (IdentityRemove tei) (left b tei)) (rows.take_off tei (begun m))) (sym (checked-seen tei m.check)) (go (rows.is_checked tei m.check))
+  remove-leads tei = subst (λ b. Leads (owes (IdentityRemove tei) (left b tei)) (rows.take_off tei (begun m))) (sym (grind arith)) (go (rows.is_checked tei m.check))
     where
       go : (b : Bool) → Leads (owes (IdentityRemove tei) (left b tei)) (leave tei ((cond b end_check rows.nothing_happens) (send (IdentityRemove tei) (begun m))))
       go true = record { notes = refl; orders = refl; lost = refl; begins = refl; granted = refl; follows = record { is = refl; on = leaves-on on m.places h tei s.table; order = tt } }
@@ -186,7 +165,7 @@ module _ (on : List ℕ) (m : Management) (h : AreOn on m.places) (order : IfSom
         follows = record {
           is =
               ap (λ n. record w { on = tei ∷ on; held = drop n (m.remembered ++ record { ri = ri; tei = tei } ∷ []); owed = with_message (IdentityAssigned ri tei) m.waiting })
-              (three-of (length m.remembered) (length (m.remembered ++ record { ri = ri; tei = tei } ∷ [])) (length-append m.remembered (record { ri = ri; tei = tei } ∷ [])));
+              (omega (arith, (length-append m.remembered (record { ri = ri; tei = tei } ∷ []))));
           on = comes-on on m.places h place tei free (free_tei-is m.places tei is).off;
           order = order;
         };
@@ -194,11 +173,8 @@ module _ (on : List ℕ) (m : Management) (h : AreOn on m.places) (order : IfSom
 
       -- where there is room for the answer
       new : (p t : Option ℕ) → free_place m.places ≡ p → table.free_tei m.places ≡ t → Leads (gives ri None (cond (nat_lt (length on) c.terminals && true) lowest None) w) (rows.assign_new ri p t (begun m))
-      new None t free is =
-          subst (λ b. Leads (gives ri None (cond (b && true) lowest None) w) (rows.assign_new ri None t (begun m))) (sym (all-on free)) (plain (IdentityDenied ri))
-      new (Some place) t free is =
-          subst (λ b. Leads (gives ri None (cond (b && true) lowest None) w) (rows.assign_new ri (Some place) t (begun m))) (sym (fewer-on place free))
-          (subst (λ o. Leads (gives ri None o w) (rows.assign_new ri (Some place) t (begun m))) (sym (lowest-is ∙ is)) (go t is))
+      new None t free is = grind (arith, all-on, plain)
+      new (Some place) t free is = grind (arith, fewer-on, lowest-is, go)
         where
           go : (t : Option ℕ) → table.free_tei m.places ≡ t → Leads (gives ri None t w) (rows.assign_new ri (Some place) t (begun m))
           go None is = plain (IdentityDenied ri)
@@ -232,17 +208,16 @@ module _ (on : List ℕ) (m : Management) (h : AreOn on m.places) (order : IfSom
     otherwise P b u v x y h k = grind arith
 
     verifies : (action : ℕ) (b : Bool) → Leads (cond (b && may_check action w) (checks action None w) w) (rows.serve (cond b (heard_of_type 7 0 action) None) (begun m))
-    verifies action b = grind (arith, may-is, begins-check, none-due)
+    verifies action b = grind (arith, is_some, begins-check, none-due)
 
     by-type-leads : (type ri action : ℕ)
         → Leads (cond (type == 1 && action == 127) (asked c ri w) (cond (type == 5) (option_map_or (responded action w) w.check w) (cond (type == 7 && may_check action w) (checks action None w) w)))
         (rows.serve (heard_of_type type ri action) (begun m))
     by-type-leads type ri action =
         by-both (λ d o. Leads d (rows.serve o (begun m))) (type == 1 && action == 127) _ _ _ _ (request-leads c places ri)
-        (by-both (λ d o. Leads d (rows.serve o (begun m))) (type == 5) _ _ _ _ (respond-leads action) (verifies action (type == 7)))
+        (by-both (λ d o. Leads d (rows.serve o (begun m))) (type == 5) _ _ _ _ (grind (arith, option_map, none-due, responds-so)) (verifies action (type == 7)))
 
     pub serve-leads : (info : List ℕ) → Leads (by_message c w info) (rows.serve (heard_in info) (begun m))
-    serve-leads [] = none-due
     serve-leads (a ∷ high ∷ low ∷ type ∷ last ∷ []) =
         otherwise (λ d o. Leads d (rows.serve o (begun m))) (a == 0x0F && last % 2 == 1) _ _ _ _ (by-type-leads type (256 * high + low) (last / 2)) none-due
-    serve-leads other = none-due
+    serve-leads info = grind (arith, none-due)

@@ -1,9 +1,5 @@
 -- What is due of TEI management by one event of a line is what its answer shows, and the observer follows it.
-use Rattle.laws_trace.proofs.Vocabulary.{◌≡◌, ℕ, ◌==◌, Bool, true, false, cond, List, [], ◌∷◌, ◌++◌, map, take, drop, slice_get, All, filter, Option, Some, None, IfSome, option_map, refl, sym, ap, ◌∙◌, subst, append-nil, true≢false, ◌⊎◌, inl, inr, arith, option_map_or, none-some, filter-append, Ui, Note, Service, Timer, T201, Parts, reading, Result, ReadFault, sapi_of, reading-again, Management, Message, LinkTimer, Config, Aim, at_none, at_link, at_management, of_aim, hears, expiry, next, Answer, LineTold, gave, at_timer, orders_in, Line, link_in, link_at, place_in, terms, service_at, aim_of, aim_of_heard, management_sapi, Taken, taken, next_of, line_of, at_requested, at_deactivated, heard_aims, lost_in, IsOwed, IsIdle, contents_of, IsOne, taken-one, served, unwrap_or, TimerT200 as T200, TimerT203 as T203, message_frame as frame_of, information_of, TeiCourse as Course, Event, told, line_after as after, answer, IsSound, result_ok, Managed, by_message, ran_out, managing_by_event as by_event, is_of_teis, is_of_t201, IsAsDue, trace_frame_in as frame_in}
-use Rattle.model_bits.specs.Stream as stream
-use Rattle.lapd_tei.specs.Events as teis
-use Rattle.model_link.specs.Events as link
-use Rattle.model_link.specs.Machine as links
+use Rattle.laws_trace.proofs.Vocabulary.{◌≡◌, ℕ, ◌==◌, Bool, true, false, cond, List, [], ◌∷◌, ◌++◌, map, take, drop, slice_get, All, filter, Option, Some, None, IfSome, option_map, refl, sym, ap, ◌∙◌, subst, append-nil, true≢false, ◌⊎◌, inl, inr, arith, option_map_or, none-some, filter-append, Ui, Note, Service, Timer, T201, Parts, reading, Result, ReadFault, sapi_of, reading-again, Management, Message, LinkTimer, Config, Aim, at_none, at_link, at_management, of_aim, hears, expiry, next, Answer, LineTold, gave, at_timer, orders_in, Line, link_in, link_at, place_in, terms, service_at, aim_of, aim_of_heard, management_sapi, Taken, taken, next_of, line_of, at_requested, at_deactivated, heard_aims, lost_in, IsOwed, IsIdle, contents_of, IsOne, taken-one, served, unwrap_or, TimerT200 as T200, TimerT203 as T203, message_frame as frame_of, information_of, TeiCourse as Course, Event, told, line_after as after, answer, IsSound, result_ok, Managed, by_message, ran_out, managing_by_event as by_event, is_of_teis, is_of_t201, IsAsDue, trace_frame_in as frame_in, offer, LinkEvent, LinkRequest, received, StreamEvent, link_told, tei_message, TeiEvent, tei_refusal, tei_course}
 use Rattle.model_link.specs.declared.timers.LinkTimer.TheVariants as link_timer
 use Rattle.model_line.specs.Event.{nothing}
 use Rattle.laws_trace.proofs.Follows.{Follows, Leads, InOrder, as_seen, here, serve-leads, expire-leads}
@@ -11,7 +7,6 @@ use Rattle.laws_trace.proofs.ManagingTables.{AreOn}
 use Rattle.laws_trace.proofs.ManagingNotes.{IsOther, none-of-teis, link-others, told-orders, behind, Cases, is_management, message_in, message-is-read, heard-cases}
 use Rattle.laws_trace.proofs.OneLink.{given-orders}
 use Rattle.laws_trace.proofs.ReadAgain.{read-again}
-use Rattle.laws_trace.proofs.Facts.{not-management}
 
 -- Frames with SAPI 63.
 abbrev of_management : Result Parts ReadFault → Bool
@@ -34,20 +29,12 @@ pub record Comes (d : Managed) (t : LineTold) (new : Management) : Type 0 where
   pub lost : t.lost ≡ d.lost
   pub follows : Follows d new
 
-teis-of-teis : (x : Course) (d : Managed) → Leads d x → (others : List Note) → All IsOther others → filter is_of_teis (x.told.notes ++ others) ≡ d.notes
-teis-of-teis x d h others are = grind (arith, filter-append, none-of-teis, append-nil)
-
 module _ (c : Config) (l : Line) where
-  managed : (me : teis.Event) (d : Managed) → Leads d (teis.course me l.management) → let y = of_aim c (at_management me) l in Comes d y.told y.line.management
+  managed : (me : TeiEvent) (d : Managed) → Leads d (tei_course me l.management) → let y = of_aim c (at_management me) l in Comes d y.told y.line.management
   managed me d h =
-      let x = teis.course me l.management in
+      let x = tei_course me l.management in
       let b = behind c x.told (record l { management = x.now }) x.told.change in
-      record {
-        notes = ap (filter is_of_teis) b.notes ∙ teis-of-teis x d h b.others b.are;
-        orders = b.orders ∙ h.orders;
-        lost = b.lost ∙ h.lost;
-        follows = subst (Follows d) (sym b.stays) h.follows;
-      }
+      grind (arith, filter-append, none-of-teis, append-nil)
 
   -- No event of it.
   pub record IsUnmanaged (aim : Aim) : Type 0 where
@@ -59,18 +46,14 @@ module _ (c : Config) (l : Line) where
   none-aims : (t : LineTold) → filter is_of_teis t.notes ≡ [] → t.orders ≡ [] → IsUnmanaged (at_none t)
   none-aims t notes orders = record { stays = refl; others = notes; orders = ap (filter is_of_t201) orders; none = refl }
 
-  link-aims : (service : Service) (tei place : ℕ) (event : link.Event) → IsUnmanaged (at_link service tei place event)
+  link-aims : (service : Service) (tei place : ℕ) (event : LinkEvent) → IsUnmanaged (at_link service tei place event)
   link-aims service tei place event =
       let t = terms c service tei in
       let x = link_in l service place in
-      record { stays = refl; others = none-of-teis (links.told t event x).notes (link-others t event x); orders = told-orders t event x; none = refl }
+      record { stays = refl; others = none-of-teis (link_told t event x).notes (link-others t event x); orders = told-orders t event x; none = refl }
 
-  timer-aims : (service : Service) (tei : ℕ) (timer : LinkTimer) (o : Option ℕ) → IsUnmanaged (at_timer service tei timer o)
-  timer-aims service tei timer o = grind (arith, none-aims, link-aims)
-
-  pub asked-aims : (service : Service) (tei : ℕ) (asked : link.Request) (o : Option ℕ) → IsUnmanaged (at_requested service tei asked o)
-  asked-aims service tei asked None = none-aims nothing refl refl
-  asked-aims service tei asked (Some place) = link-aims service tei place (link.requested asked false)
+  pub asked-aims : (service : Service) (tei : ℕ) (asked : LinkRequest) (o : Option ℕ) → IsUnmanaged (at_requested service tei asked o)
+  asked-aims service tei asked o = grind (arith, none-aims, link-aims)
 
   pub deactivated-aims : (service : Service) (tei : ℕ) (o : Option ℕ) → IsUnmanaged (at_deactivated service tei o)
   deactivated-aims service tei o = grind (arith, none-aims, link-aims)
@@ -93,7 +76,7 @@ module _ (c : Config) (l : Line) (s : IsSound c l) (on : List ℕ) (h : AreOn on
   known : Follows w m
   known = here on m h order s.management
 
-  pub managed-shows : (e : Event) (d : Managed) (me : teis.Event) → Leads d (teis.course me m) → let y = of_aim c (at_management me) l in Shows c l e d (told y.told) y.line.management
+  pub managed-shows : (e : Event) (d : Managed) (me : TeiEvent) → Leads d (tei_course me m) → let y = of_aim c (at_management me) l in Shows c l e d (told y.told) y.line.management
   managed-shows e d me leads = grind (arith, managed, none-granted)
 
   pub unmanaged-shows : (e : Event) (aim : Aim) → is_management (aim_of c e l) ≡ false → IsUnmanaged c l aim
@@ -101,34 +84,31 @@ module _ (c : Config) (l : Line) (s : IsSound c l) (on : List ℕ) (h : AreOn on
   unmanaged-shows e aim none x = grind (arith, none-granted, Follows, known)
 
   -- What is heard.
-  abbrev Heard : stream.Event → Aim → Option (List ℕ) → Type 0
+  abbrev Heard : StreamEvent → Aim → Option (List ℕ) → Type 0
   Heard e aim message = let y = of_aim c aim l in Shows c l (hears e) (option_map_or (by_message c w) message w) (told y.told) y.line.management
 
-  plain-aim : (e : stream.Event) → is_management (aim_of_heard c l e) ≡ false → IsUnmanaged c l (aim_of_heard c l e)
+  plain-aim : (e : StreamEvent) → is_management (aim_of_heard c l e) ≡ false → IsUnmanaged c l (aim_of_heard c l e)
   plain-aim e none =
       heard_aims c l (λ aim. is_management aim ≡ false → IsUnmanaged c l aim) (λ cause none. none-aims c l _ refl refl)
-      (λ service tei place what at none. link-aims c l service tei place (link.received what)) (λ info none. absurd (true≢false none)) (λ parts service to none. none-aims c l _ refl refl) e none
+      (λ service tei place what at none. link-aims c l service tei place (received what)) (λ info none. absurd (true≢false none)) (λ parts service to none. none-aims c l _ refl refl) e none
 
-  by-cases : (e : stream.Event) → Cases (aim_of_heard c l e) (message_in c e) → Heard e (aim_of_heard c l e) (message_in c e)
-  unfolding teis.course teis.refusal
+  by-cases : (e : StreamEvent) → Cases (aim_of_heard c l e) (message_in c e) → Heard e (aim_of_heard c l e) (message_in c e)
+  unfolding tei_course tei_refusal
   by-cases e (inl x) =
       subst (λ aim. Heard e aim (message_in c e)) (sym x.aim_is)
-      (subst (Heard e (at_management (teis.message x.info))) (sym x.said_is)
-      (managed-shows (hears e) (by_message c w x.info) (teis.message x.info) (serve-leads on m h order s.management c s.places x.info)))
+      (subst (Heard e (at_management (tei_message x.info))) (sym x.said_is)
+      (managed-shows (hears e) (by_message c w x.info) (tei_message x.info) (serve-leads on m h order s.management c s.places x.info)))
   by-cases e (inr x) = subst (Heard e (aim_of_heard c l e)) (sym x.said_is) (unmanaged-shows (hears e) (aim_of_heard c l e) x.aim_is (plain-aim e x.aim_is))
 
-  pub hears-shows : (e : stream.Event) → Shows c l (hears e) (by_event c (hears e) w) (answer c (hears e) l) (after c (hears e) l).management
+  pub hears-shows : (e : StreamEvent) → Shows c l (hears e) (by_event c (hears e) w) (answer c (hears e) l) (after c (hears e) l).management
   unfolding after answer
   hears-shows e = grind (arith, message-is-read, by-cases, heard-cases)
 
   -- An expiry.
   pub expiry-shows : (timer : Timer) → Shows c l (expiry timer) (by_event c (expiry timer) w) (answer c (expiry timer) l) (after c (expiry timer) l).management
-  unfolding after answer teis.course teis.refusal
-  expiry-shows (T200 service tei) =
-      let x = timer-aims c l service tei link_timer.T200 (place_in l tei) in unmanaged-shows (expiry (T200 service tei)) (at_timer service tei link_timer.T200 (place_in l tei)) x.none x
-  expiry-shows (T203 service tei) =
-      let x = timer-aims c l service tei link_timer.T203 (place_in l tei) in unmanaged-shows (expiry (T203 service tei)) (at_timer service tei link_timer.T203 (place_in l tei)) x.none x
-  expiry-shows T201 = managed-shows (expiry T201) (option_map_or (ran_out w) w.check w) teis.expiry (expire-leads on m h order s.management)
+  unfolding after answer tei_course tei_refusal
+  expiry-shows (T200 service tei) = grind (arith, none-aims, link-aims, unmanaged-shows)
+  expiry-shows timer = grind (arith, none-aims, link-aims, unmanaged-shows, managed-shows, expire-leads)
 
   -- A call for the next frame.
   next-orders : (o : Option Taken) → IfSome o (IsOne c l) → filter is_of_t201 (orders_in (gave (option_map next_of o))) ≡ []
@@ -138,15 +118,12 @@ module _ (c : Config) (l : Line) (s : IsSound c l) (on : List ℕ) (h : AreOn on
   next-orders (Some t) (inr (inr x)) =
       let t = terms c (service_at x.number) x.tei in
       ap (λ (t : Taken). filter is_of_t201 t.orders) x.is ∙ ap (filter is_of_t201) (given-orders c l s (service_at x.number) x.tei t (link_at x.number l) x.what x.given)
-      ∙ told-orders t link.offer (link_at x.number l)
+      ∙ told-orders t offer (link_at x.number l)
 
   message-is : (message : Message) → is_message c (frame_of c.side message) ≡ true
   message-is message =
       let parts : Parts = record { address = record { sapi = 63; command = true; tei = 127 }; control = Ui false; info = information_of message } in
       ap of_management (reading-again c.side parts (frame_of c.side message) (record { is_frame = record { sapi = omega arith; tei = omega arith; kind = refl; size = refl }; octets_are = refl }))
-
-  kept-of : (frame : List ℕ) (b : Bool) → is_message c frame ≡ b → filter (is_message c) (frame ∷ []) ≡ cond b (frame ∷ []) []
-  kept-of frame b is = ap (λ b. cond b (frame ∷ []) []) is
 
   abbrev later : Managed
   later = record w { owed = drop 1 m.waiting; begins = take 1 m.waiting }
@@ -162,20 +139,17 @@ module _ (c : Config) (l : Line) (s : IsSound c l) (on : List ℕ) (h : AreOn on
 
   goes : (new : Line) (o : Option Taken) → elim o as (λ o. Type 0) [ None ↦ IsIdle c l new | Some t ↦ IsOwed c (contents_of l) l new t.frame ] → Goes new o
   goes new None x = (none-goes x.nothing.messages, stays new (ap (λ (l : Line). l.management) x.line) x.nothing.messages)
-  goes new (Some t) (inl x) = (
-    kept-of t.frame true (ap (is_message c) x.spelled ∙ message-is x.message) ∙ ap (λ f. f ∷ []) x.spelled ∙ sym (ap (map (frame_of c.side)) (first-goes m.waiting x.message x.oldest)),
-    subst (λ (l : Line). Follows later l.management) (sym x.line) (record { is = refl; on = h; order = order }),
-  )
+  goes new (Some t) (inl x) = grind (arith, message-is, first-goes)
   goes new (Some t) (inr (inl x)) = (
-    kept-of t.frame false (ap (is_message c) x.spelled
-        ∙ read-again c.side (λ r. of_management r ≡ false) (record { sapi = sapi_of x.unit.service; command = true; tei = x.unit.tei }) (Ui false) (λ info. not-management x.unit.service) (λ fault. refl) x.unit.contents)
+    (ap (λ false. cond false (t.frame ∷ []) []) (ap (is_message c) x.spelled
+        ∙ read-again c.side (λ r. of_management r ≡ false) (record { sapi = sapi_of x.unit.service; command = true; tei = x.unit.tei }) (Ui false) (λ info. grind arith) (λ fault. refl) x.unit.contents))
         ∙ none-goes x.no_message,
     stays new (ap (λ (l : Line). l.management) x.line) x.no_message,
   )
   goes new (Some t) (inr (inr x)) = (
-    kept-of t.frame false (ap (is_message c) x.spelled
-        ∙ read-again c.side (λ r. of_management r ≡ false) (record { sapi = sapi_of (service_at x.number); command = x.command; tei = x.tei }) x.control (λ info. not-management (service_at x.number)) (λ fault. refl)
-        (unwrap_or x.information []))
+    (ap (λ false. cond false (t.frame ∷ []) []) (ap (is_message c) x.spelled
+        ∙ read-again c.side (λ r. of_management r ≡ false) (record { sapi = sapi_of (service_at x.number); command = x.command; tei = x.tei }) x.control (λ info. grind arith) (λ fault. refl)
+        (unwrap_or x.information [])))
         ∙ none-goes x.its_turn.no_message,
     stays new (ap (λ (l : Line). l.management) x.line) x.its_turn.no_message,
   )
@@ -184,8 +158,4 @@ module _ (c : Config) (l : Line) (s : IsSound c l) (on : List ℕ) (h : AreOn on
   unfolding after answer
   next-shows =
       let x = goes (option_map_or line_of (taken c l) l) (taken c l) (served c l s) in
-      record {
-        as_due = record { notes = refl; orders = next-orders (taken c l) (taken-one c l s); begins = x.0; granted = none-granted later refl false };
-        lost = inl refl;
-        follows = x.1;
-      }
+      grind (arith, next-orders, taken-one, none-granted)

@@ -1,21 +1,11 @@
 -- What is due of TEI management by a request, and by any event of a line, is what its answer shows.
-use Rattle.laws_trace.proofs.Vocabulary.{IdentityRemove, ◌≡◌, ℕ, ◌==◌, ◌&&◌, Bool, true, false, cond, not, List, [], ◌∷◌, length, Option, Some, None, IfSome, is_some, refl, sym, ap, ◌∙◌, subst, inl, arith, leb-true, leb-false, nat_le, nat_lt, list_any, Refusal, Management, free_place, on-range, Config, at_management, of_aim, hears, expiry, request, next, Line, place_in, has_tei, unless_refused, unless_refused_told, wrong_side, bad_tei, no_link, tei_taken, table_full, check_running, control_full, Assign, Remove, Deactivate, aim_of_request, has_management, passed, Down, at_no_link, filter, option_map, Stop, T201, ltb-true, ltb-false, tei_begun as begun, Event, told, line_after as after, answer, refusal, Request, Establish, Release, Data, Checking, SetBusy, ClearBusy, IsSound, Managed, owes, leaves, checks, may_check, grants, managing_by_event as by_event, due, is_of_t201, by-down, stop_of, Check, false_from_ne_true}
-use Rattle.lapd_tei.specs.Events as teis
-use Rattle.model_link.specs.Events as link
-use Rattle.laws_trace.proofs.Follows.{Follows, Leads, InOrder, seen_check, as_seen, here, assign-leads, remove-leads, begins-check, may-is, fewer-on, all-on}
+use Rattle.laws_trace.proofs.Vocabulary.{IdentityRemove, ◌≡◌, ℕ, ◌==◌, ◌&&◌, Bool, true, false, cond, not, List, [], ◌∷◌, length, Option, Some, None, IfSome, is_some, refl, sym, ap, ◌∙◌, subst, inl, arith, leb-true, leb-false, nat_le, nat_lt, list_any, Refusal, Management, free_place, on-range, Config, at_management, of_aim, hears, expiry, request, next, Line, place_in, has_tei, unless_refused, unless_refused_told, wrong_side, bad_tei, no_link, tei_taken, table_full, check_running, control_full, Assign, Remove, Deactivate, aim_of_request, has_management, passed, Down, at_no_link, filter, option_map, Stop, T201, ltb-true, ltb-false, tei_begun as begun, Event, told, line_after as after, answer, refusal, Request, Establish, Release, Data, Checking, SetBusy, ClearBusy, IsSound, Managed, owes, leaves, checks, may_check, grants, managing_by_event as by_event, due, is_of_t201, by-down, stop_of, Check, false_from_ne_true, LinkEstablish, LinkSetBusy, LinkClearBusy, LinkRelease, tei_check, tei_unless_refused, tei_course, tei_remove, tei_refusal_if, TeiEvent, tei_refusal, tei_assign, tei_step}
+use Rattle.laws_trace.proofs.Follows.{Follows, Leads, InOrder, seen_check, as_seen, here, assign-leads, remove-leads, begins-check, fewer-on, all-on}
 use Rattle.laws_trace.proofs.ManagingTables.{AreOn}
 use Rattle.laws_trace.proofs.ManagingNotes.{is_management}
 use Rattle.laws_trace.proofs.FollowsLine.{Shows, IsUnmanaged, none-granted, asked-aims, deactivated-aims, managed-shows, unmanaged-shows, hears-shows, expiry-shows, next-shows}
 
 -- The rows that refuse a request of management.
-refused-4 : (side bad on full : Bool) (x y z u : Refusal) → (on ≡ true → bad ≡ false)
-    → is_some (cond (not side) (Some x) (cond bad (Some y) (cond (not on) (Some z) (cond full (Some u) None)))) ≡ not (side && on && not full)
-refused-4 side bad on full x y z u low = grind arith
-
-refused-5 : (side bad on runs full : Bool) (x y z u v : Refusal) → (on ≡ true → bad ≡ false)
-    → is_some (cond (not side) (Some x) (cond bad (Some y) (cond (not on) (Some z) (cond runs (Some u) (cond full (Some v) None))))) ≡ not (side && (on && not runs) && not full)
-refused-5 side bad on runs full x y z u v low = grind arith
-
 module _ (c : Config) (l : Line) (s : IsSound c l) (on : List ℕ) (h : AreOn on l.management.places) (order : IfSome l.management.check InOrder) where
   abbrev m : Management
   m = l.management
@@ -30,26 +20,20 @@ module _ (c : Config) (l : Line) (s : IsSound c l) (on : List ℕ) (h : AreOn on
   abbrev Answers : Request → Managed → Option Refusal → Type 0
   Answers r d o = let x = of_aim c (unless_refused o (aim_of_request r l)) l in Shows c l (request r) d (unless_refused_told o x) x.line.management
 
-  refused-so : (so : Bool) → Some false ≡ Some so → false ≡ so
-  refused-so so is = cc is
-
   granted-so : (so : Bool) → Some true ≡ Some so → true ≡ so
   granted-so so is = cc is
-
-  refused-shows : (r : Request) (after : Managed) (why : Refusal) → Answers r (grants false after w) (Some why)
-  refused-shows r after why = record { as_due = record { notes = refl; orders = refl; begins = refl; granted = refused-so }; lost = inl refl; follows = record { is = refl; on = h; order = order } }
 
   by-grant : (r : Request) (after : Managed) (may : Bool) → is_some (refusal c false r l) ≡ not may → (refusal c false r l ≡ None → Answers r (grants true after w) None) → Answers r (grants may after w) (refusal c false r l)
   by-grant r after may same granted = go (refusal c false r l) refl may same
     where
       go : (o : Option Refusal) → refusal c false r l ≡ o → (g : Bool) → is_some o ≡ not g → Answers r (grants g after w) o
-      go o is g same = grind (arith, granted, refused-shows)
+      go o is g same = grind (arith, granted)
 
-  course-is : (e : teis.Event) → teis.refusal e m ≡ None → teis.course e m ≡ teis.step e (begun m)
-  unfolding teis.course
-  course-is e none = ap (λ o. teis.unless_refused o (teis.step e) m) none
+  course-is : (e : TeiEvent) → tei_refusal e m ≡ None → tei_course e m ≡ tei_step e (begun m)
+  unfolding tei_course
+  course-is e none = ap (λ o. tei_unless_refused o (tei_step e) m) none
 
-  granted-shows : (r : Request) (d : Managed) (e : teis.Event) → aim_of_request r l ≡ at_management e → teis.refusal e m ≡ None → Leads d (teis.step e (begun m)) → Answers r (grants true d w) None
+  granted-shows : (r : Request) (d : Managed) (e : TeiEvent) → aim_of_request r l ≡ at_management e → tei_refusal e m ≡ None → Leads d (tei_step e (begun m)) → Answers r (grants true d w) None
   granted-shows r d e aim none leads =
       subst (λ aim. let y = of_aim c aim l in Shows c l (request r) (grants true d w) (told y.told) y.line.management) (sym aim)
       (let x = managed-shows c l s on h order (request r) d e (subst (Leads d) (sym (course-is e none)) leads) in
@@ -59,10 +43,10 @@ module _ (c : Config) (l : Line) (s : IsSound c l) (on : List ℕ) (h : AreOn on
         follows = record { is = x.follows.is; on = x.follows.on; order = x.follows.order };
       })
 
-  two : (a b : Bool) (x y : Refusal) → a ≡ false → b ≡ false → teis.refusal_if a x (teis.refusal_if b y None) ≡ None
+  two : (a b : Bool) (x y : Refusal) → a ≡ false → b ≡ false → tei_refusal_if a x (tei_refusal_if b y None) ≡ None
   two a b x y e f = rw (e, f) refl
 
-  three : (a b d : Bool) (x y z : Refusal) → a ≡ false → b ≡ false → d ≡ false → teis.refusal_if a x (teis.refusal_if b y (teis.refusal_if d z None)) ≡ None
+  three : (a b d : Bool) (x y z : Refusal) → a ≡ false → b ≡ false → d ≡ false → tei_refusal_if a x (tei_refusal_if b y (tei_refusal_if d z None)) ≡ None
   three a b d x y z e f g = rw (e, f, g) refl
 
   is-there : (o : Option ℕ) → not (is_some o) ≡ false → (place : ℕ) × (o ≡ Some place)
@@ -76,7 +60,7 @@ module _ (c : Config) (l : Line) (s : IsSound c l) (on : List ℕ) (h : AreOn on
   room-is = grind (arith, is_some, all-on, fewer-on)
 
   assign-shows : (tei : ℕ) → Answers (Assign tei) (by_event c (request (Assign tei)) w) (refusal c false (Assign tei) l)
-  unfolding teis.refusal
+  unfolding tei_refusal
   assign-shows tei = by-grant (Assign tei) (record w { on = tei ∷ on }) (nat_le tei 126 && not (list_any (λ y. y == tei) on) && nat_lt (length on) c.terminals) same granted
     where
       same : is_some (refusal c false (Assign tei) l) ≡ not (nat_le tei 126 && not (list_any (λ y. y == tei) on) && nat_lt (length on) c.terminals)
@@ -84,46 +68,42 @@ module _ (c : Config) (l : Line) (s : IsSound c l) (on : List ℕ) (h : AreOn on
 
       granted : refusal c false (Assign tei) l ≡ None → Answers (Assign tei) (grants true (record w { on = tei ∷ on }) w) None
       granted none =
-          let bad = passed (bad_tei tei) (tei_taken tei l ∷ table_full l ∷ []) none in
-          let taken = passed (tei_taken tei l) (table_full l ∷ []) bad.1 in
+          let taken = passed (tei_taken tei l) (table_full l ∷ []) (passed (bad_tei tei) (tei_taken tei l ∷ table_full l ∷ []) none).1 in
           let full = passed (table_full l) [] taken.1 in
           let free = is-there (free_place m.places) full.0 in
-          granted-shows (Assign tei) (record w { on = tei ∷ on }) (teis.assign tei) refl (two _ _ _ _ taken.0 full.0) (assign-leads on m h order s.management tei free.0 free.1 taken.0)
+          granted-shows (Assign tei) (record w { on = tei ∷ on }) (tei_assign tei) refl (two _ _ _ _ taken.0 full.0) (assign-leads on m h order s.management tei free.0 free.1 taken.0)
 
   remove-shows : (tei : ℕ) → Answers (Remove tei) (by_event c (request (Remove tei)) w) (refusal c false (Remove tei) l)
-  unfolding teis.refusal
+  unfolding tei_refusal
   remove-shows tei = by-grant (Remove tei) (owes (IdentityRemove tei) (leaves tei w)) (has_management c.side && list_any (λ y. y == tei) on && not (nat_le 4 (length m.waiting))) same granted
     where
       same : is_some (refusal c false (Remove tei) l) ≡ not (has_management c.side && list_any (λ y. y == tei) on && not (nat_le 4 (length m.waiting)))
-      same = grind (arith, refused-4, nat_le, on-low)
+      same = grind (arith, nat_le, on-low)
 
       granted : refusal c false (Remove tei) l ≡ None → Answers (Remove tei) (grants true (owes (IdentityRemove tei) (leaves tei w)) w) None
       granted none =
-          let side = passed (wrong_side c) (bad_tei tei ∷ no_link tei l ∷ control_full l ∷ []) none in
-          let bad = passed (bad_tei tei) (no_link tei l ∷ control_full l ∷ []) side.1 in
+          let bad = passed (bad_tei tei) (no_link tei l ∷ control_full l ∷ []) (passed (wrong_side c) (bad_tei tei ∷ no_link tei l ∷ control_full l ∷ []) none).1 in
           let unknown = passed (no_link tei l) (control_full l ∷ []) bad.1 in
           let full = passed (control_full l) [] unknown.1 in
-          granted-shows (Remove tei) (owes (IdentityRemove tei) (leaves tei w)) (teis.remove tei) refl (two _ _ _ _ unknown.0 full.0) (remove-leads on m h order s.management tei)
+          granted-shows (Remove tei) (owes (IdentityRemove tei) (leaves tei w)) (tei_remove tei) refl (two _ _ _ _ unknown.0 full.0) (remove-leads on m h order s.management tei)
 
   check-shows : (tei : ℕ) → Answers (Checking tei) (by_event c (request (Checking tei)) w) (refusal c false (Checking tei) l)
-  unfolding teis.refusal
+  unfolding tei_refusal
   check-shows tei = by-grant (Checking tei) (checks tei None w) (has_management c.side && may_check tei w && not (nat_le 4 (length m.waiting))) same granted
     where
       same : is_some (refusal c false (Checking tei) l) ≡ not (has_management c.side && may_check tei w && not (nat_le 4 (length m.waiting)))
-      same = grind (arith, refused-5, is_some, nat_le, on-low, may-is)
+      same = grind (arith, is_some, nat_le, on-low)
 
       granted : refusal c false (Checking tei) l ≡ None → Answers (Checking tei) (grants true (checks tei None w) w) None
       granted none =
-          let side = passed (wrong_side c) (bad_tei tei ∷ no_link tei l ∷ check_running l ∷ control_full l ∷ []) none in
-          let bad = passed (bad_tei tei) (no_link tei l ∷ check_running l ∷ control_full l ∷ []) side.1 in
+          let bad = passed (bad_tei tei) (no_link tei l ∷ check_running l ∷ control_full l ∷ []) (passed (wrong_side c) (bad_tei tei ∷ no_link tei l ∷ check_running l ∷ control_full l ∷ []) none).1 in
           let unknown = passed (no_link tei l) (check_running l ∷ control_full l ∷ []) bad.1 in
           let running = passed (check_running l) (control_full l ∷ []) unknown.1 in
           let full = passed (control_full l) [] running.1 in
-          granted-shows (Checking tei) (checks tei None w) (teis.check tei) refl (three _ _ _ _ _ _ unknown.0 running.0 full.0) (begins-check on m h order s.management tei)
+          granted-shows (Checking tei) (checks tei None w) (tei_check tei) refl (three _ _ _ _ _ _ unknown.0 running.0 full.0) (begins-check on m h order s.management tei)
 
   link-shows : (r : Request) → IsUnmanaged c l (aim_of_request r l) → (o : Option Refusal) → refusal c false r l ≡ o → Answers r w o
-  link-shows r x (Some why) is = record { as_due = record { notes = refl; orders = refl; begins = refl; granted = none-granted w refl false }; lost = inl refl; follows = known }
-  link-shows r x None is = unmanaged-shows c l s on h order (request r) (aim_of_request r l) (ap (λ o. is_management (unless_refused o (aim_of_request r l))) is ∙ x.none) x
+  link-shows r x o is = grind (arith, none-granted, known, unmanaged-shows, is_management)
 
   -- That the line is down.
   stopped : (o : Option Check) → filter is_of_t201 (stop_of o) ≡ cond (is_some (option_map seen_check o)) (Stop T201 ∷ []) []
@@ -147,14 +127,12 @@ module _ (c : Config) (l : Line) (s : IsSound c l) (on : List ℕ) (h : AreOn on
 
   request-shows : (r : Request) → Requested r
   unfolding after answer
-  request-shows (Establish service tei) = link-shows (Establish service tei) (asked-aims c l service tei link.Establish (place_in l tei)) (refusal c false (Establish service tei) l) refl
-  request-shows (Release service tei) = link-shows (Release service tei) (asked-aims c l service tei link.Release (place_in l tei)) (refusal c false (Release service tei) l) refl
-  request-shows (Data service tei contents) =
-      link-shows (Data service tei contents) (asked-aims c l service tei (link.Data contents) (place_in l tei)) (refusal c false (Data service tei contents) l) refl
-  request-shows (Request.Unit service tei contents) =
-      link-shows (Request.Unit service tei contents) (record { stays = refl; others = refl; orders = refl; none = refl }) (refusal c false (Request.Unit service tei contents) l) refl
-  request-shows (SetBusy service tei) = link-shows (SetBusy service tei) (asked-aims c l service tei link.SetBusy (place_in l tei)) (refusal c false (SetBusy service tei) l) refl
-  request-shows (ClearBusy service tei) = link-shows (ClearBusy service tei) (asked-aims c l service tei link.ClearBusy (place_in l tei)) (refusal c false (ClearBusy service tei) l) refl
+  request-shows (Establish service tei) = link-shows (Establish service tei) (asked-aims c l service tei LinkEstablish (place_in l tei)) (refusal c false (Establish service tei) l) refl
+  request-shows (Release service tei) = link-shows (Release service tei) (asked-aims c l service tei LinkRelease (place_in l tei)) (refusal c false (Release service tei) l) refl
+  request-shows (Data service tei contents) = grind (arith, link-shows, asked-aims)
+  request-shows (Request.Unit service tei contents) = grind (arith, link-shows)
+  request-shows (SetBusy service tei) = link-shows (SetBusy service tei) (asked-aims c l service tei LinkSetBusy (place_in l tei)) (refusal c false (SetBusy service tei) l) refl
+  request-shows (ClearBusy service tei) = link-shows (ClearBusy service tei) (asked-aims c l service tei LinkClearBusy (place_in l tei)) (refusal c false (ClearBusy service tei) l) refl
   request-shows (Deactivate service tei) = link-shows (Deactivate service tei) (deactivated-aims c l service tei (place_in l tei)) (refusal c false (Deactivate service tei) l) refl
   request-shows (Assign tei) = assign-shows tei
   request-shows (Remove tei) = remove-shows tei

@@ -1,5 +1,5 @@
 -- What is given of a link is due: the laws.
-use Rattle.laws_trace.proofs.Vocabulary.{◌≡◌, ℕ, ◌<◌, true, false, cond, All, List, [], ◌∷◌, ◌++◌, map, filter, Option, Some, None, option_to_list, refl, sym, ap, ◌∙◌, subst, inl, inr, append-nil, Service, place_of-is, given-in-order, IsInOrder, All-head, ControlFrame, Terms, Link, Given, given_is_frame, Config, next, Answer, Line, link_of, place_in, terms, IsInRange, terms_in_range, line_at, at, IsSound, line_frame_of as frame_of, fresh, CardEvent as Event, card_answer as answer, after_all, AreAtLines, offers, GivenIsDue, DueIsGiven, is_frame_of, managing_is_on as is_on, View, Outgoing, outgoing_of, trace_frame_in as frame_in, IsFront, Always, is_ui, offer, link_after as after, given}
+use Rattle.laws_trace.proofs.Vocabulary.{arith, ◌≡◌, ℕ, ◌<◌, true, false, cond, All, List, [], ◌∷◌, ◌++◌, map, filter, Option, Some, None, option_to_list, refl, sym, ap, ◌∙◌, subst, inl, inr, append-nil, Service, place_of-is, given-in-order, IsInOrder, All-head, ControlFrame, Terms, Link, Given, given_is_frame, Config, next, Answer, Line, link_of, place_in, terms, IsInRange, terms_in_range, line_at, at, IsSound, line_frame_of as frame_of, fresh, CardEvent as Event, card_answer as answer, after_all, AreAtLines, offers, GivenIsDue, DueIsGiven, is_frame_of, managing_is_on as is_on, View, Outgoing, outgoing_of, trace_frame_in as frame_in, IsFront, Always, is_ui, offer, link_after as after, given}
 use Rattle.model_link.specs.Sound as link_sound
 use Rattle.model_line.specs.Machine as lines
 use Rattle.laws_trace.proofs.Addressed.{at-some-place}
@@ -44,9 +44,6 @@ module _ (c : Config) (events : List Event) (number : ℕ) (ranged : IsInRange c
   sound = line-at-end c events number ranged all within
 
   module _ (place : ℕ) (on : place_in line tei ≡ Some place) where
-    safe : link_sound.IsSound t own
-    safe = link-at-end c line ranged sound service tei place on
-
     range : link_sound.IsInRange t
     range = terms_in_range c ranged service tei (sound.management.table.range place tei (place_of-is line.management.places tei place on).1)
 
@@ -60,8 +57,8 @@ module _ (c : Config) (events : List Event) (number : ℕ) (ranged : IsInRange c
     own-due None none = none-goes [] (offers c service tei o) refl
     own-due (Some g) some =
         let its : is_frame_of c service tei (frame_of c t g) ≡ true =
-        own-frame c service tei g (some-of (λ g. link_sound.IsGiven t g.frame g.contents) (given t own) g some (given_is_frame t range own safe))
-        (plain g.frame (some-of (λ g. IsInOrder t own (after t offer own) g.frame) (given t own) g some (given-in-order t own safe))) in
+        own-frame c service tei g (some-of (λ g. link_sound.IsGiven t g.frame g.contents) (given t own) g some (given_is_frame t range own (link-at-end c line ranged sound service tei place on)))
+        (plain g.frame (some-of (λ g. IsInOrder t own (after t offer own) g.frame) (given t own) g some (given-in-order t own (link-at-end c line ranged sound service tei place on)))) in
         all-goes (filter (is_frame_of c service tei) (frame_of c t g ∷ [])) (offers c service tei o)
         (given-is-offered-so c events number ranged all within service tei place on g some ∙ sym (ap (λ b. cond b (frame_of c t g ∷ []) []) its))
 

@@ -1,9 +1,7 @@
 -- What an event of a line leaves of the contents that a link keeps.
-use Rattle.laws_trace.proofs.Vocabulary.{◌≡◌, ℕ, ◌%◌, Bool, true, false, cond, not, List, [], ◌∷◌, ◌++◌, ◌&&◌, ◌||◌, drop, Some, None, refl, sym, ap, ◌∙◌, subst, ◌⊎◌, inl, inr, arith, append-nil, All, is_some, list_any, All-head, All-tail, none-some, Note, WrongState, Service, place_of-is, is_on-at, not_not, accepted, ends, is_release, tells_loss, empties, Terms, Link, is_multiple_frame, queue_of, state_number, notes-own, Config, at_link, Answer, hears, expiry, request, next, Line, has_tei, link_of, place_in, terms, aim_of, bad_tei, no_link, wrong_state, Deactivate, at_requested, at_deactivated, aim_of_request, IsInRange, terms_in_range, notes_of, is_loss_of, is_granted, IsBy, link-grants, passed, not-refused, fresh_link, refusal, Request, Release, IsSound, of_link, brings, is_news, is_sabme, steps, data_asked, seen, is_up, link_after as after, link_told as told, Event, cond_both}
-use Rattle.model_link.specs.Events as link
+use Rattle.laws_trace.proofs.Vocabulary.{◌≡◌, ℕ, ◌%◌, Bool, true, false, cond, not, List, [], ◌∷◌, ◌++◌, ◌&&◌, ◌||◌, drop, Some, None, refl, sym, ap, ◌∙◌, subst, ◌⊎◌, inl, inr, arith, append-nil, All, is_some, list_any, All-head, All-tail, none-some, Note, WrongState, Service, place_of-is, is_on-at, not_not, accepted, ends, is_release, tells_loss, empties, Terms, Link, is_multiple_frame, queue_of, state_number, notes-own, Config, at_link, Answer, hears, expiry, request, next, Line, has_tei, link_of, place_in, terms, aim_of, bad_tei, no_link, wrong_state, Deactivate, at_requested, at_deactivated, aim_of_request, IsInRange, terms_in_range, notes_of, is_loss_of, is_granted, IsBy, link-grants, passed, not-refused, fresh_link, refusal, Request, Release, IsSound, of_link, brings, is_news, is_sabme, steps, data_asked, seen, is_up, link_after as after, link_told as told, Event, cond_both, LinkRequest, requested, LinkEvent, LinkRelease, LinkData, cleared, line_after, answer}
 use Rattle.model_link.specs.Requests as requests
 use Rattle.model_link.specs.Sound as link_sound
-use Rattle.model_line.specs.Machine as lines
 use Rattle.laws_trace.proofs.LineAtEnd.{link-at-end}
 use Rattle.laws_trace.proofs.DataAsked as asks
 use Rattle.laws_trace.proofs.DataAsked.{no-data, only-requested, only-offered, granted-data}
@@ -16,10 +14,10 @@ use Rattle.laws_trace.proofs.NewsSeen.{one-begins}
 use Rattle.laws_trace.proofs.ObservedFacts.{brings-is}
 use Rattle.laws_trace.proofs.OfferTells.{offer-tells_nothing}
 use Rattle.laws_trace.proofs.OneLink.{is_at_link, HasOne, HasNone, IsGivenUp, Goes, event-goes}
-use Rattle.laws_trace.proofs.SeenAs.{up-number}
-use Rattle.laws_trace.proofs.PlacesSeen.{is_release_of, granted_in, lost_in, told-grants, begun-grants, asked-grants, heard-loses, expiry-loses, begun-loses, asked-loses, own-release}
+use Rattle.laws_trace.proofs.PlacesSeen.{is_release_of, granted_in, lost_in, told-grants, asked-grants, heard-loses, expiry-loses, asked-loses, own-release}
 use Rattle.laws_trace.proofs.TimersOfEvent.{off-fresh}
 use Rattle.laws_trace.proofs.TimersWatched as known
+use Rattle.laws_trace.proofs.Facts.{number-up}
 
 either-false : (b : Bool) → cond b false false ≡ false
 either-false b = grind arith
@@ -40,74 +38,62 @@ module _ (c : Config) (ranged : IsInRange c) (l : Line) (s : IsSound c l) (servi
   own = link_of service tei l
 
   abbrev One : Event → Type 0
-  One e = HasOne c service tei e l (lines.after c e l) (lines.answer c e l)
+  One e = HasOne c service tei e l (line_after c e l) (answer c e l)
 
-  pub accepted-asked : (e : Event) → (x : One e) → accepted own_terms x.event own ≡ granted_in service tei (seen e (lines.answer c e l))
-  accepted-asked next x =
-      ap (λ le. accepted own_terms le own) (only-offered c (lines.answer c next l) service tei x.event x.by) ∙ sym (begun-grants service tei (lines.answer c next l))
-  accepted-asked (request r) x =
-      let y = only-requested c r (lines.answer c (request r) l) service tei x.event x.by in
-      ap (λ le. accepted own_terms le own) y.2
-      ∙ granted-data service tei own_terms own y.1 y.0 (λ contents is. not-full y.0 y.1 contents is y.2 y.3 y.4 x.aimed) ∙ ap (data_asked service tei) (sym y.3)
-      ∙ sym (asked-grants service tei r (lines.answer c (request r) l) ∙ ap (λ b. cond {A = List (List ℕ)} b (data_asked service tei r) []) y.4)
+  pub accepted-asked : (e : Event) → (x : One e) → accepted own_terms x.event own ≡ granted_in service tei (seen e (answer c e l))
+  accepted-asked (request r) x = grind (arith, only-requested, granted-data, not-full, asked-grants)
     where
-      not-full : (what : link.Request) (full : Bool) (contents : List ℕ) → what ≡ link.Data contents → x.event ≡ link.requested what full → r ≡ of_link service tei what
-          → is_granted (lines.answer c (request r) l) ≡ true
-          → (request r ≡ next) ⊎ (aim_of c (request r) l ≡ at_link service tei x.place x.event) → requests.refusal own_terms own full (link.Data contents) ≡ None
+      not-full : (what : LinkRequest) (full : Bool) (contents : List ℕ) → what ≡ LinkData contents → x.event ≡ requested what full → r ≡ of_link service tei what
+          → is_granted (answer c (request r) l) ≡ true
+          → (request r ≡ next) ⊎ (aim_of c (request r) l ≡ at_link service tei x.place x.event) → requests.refusal own_terms own full (LinkData contents) ≡ None
       not-full what full contents is event asked g o = grind (arith, not-refused, link-grants)
-  accepted-asked other x = grind (arith, no-data, told-grants)
+  accepted-asked e x = grind (arith, only-offered, no-data, told-grants)
 
-  no-end : (e : Event) → ((r : Request) → e ≡ request r → ⊥) → (le : link.Event) → IsBy c e (lines.answer c e l) service tei le → ends own_terms le own ≡ false
+  no-end : (e : Event) → ((r : Request) → e ≡ request r → ⊥) → (le : LinkEvent) → IsBy c e (answer c e l) service tei le → ends own_terms le own ≡ false
   no-end e never le by = grind arith
 
-  noted : (e : Event) → (x : One e) → list_any (is_loss_of service tei) (notes_of (lines.answer c e l)) ≡ tells_loss (told own_terms x.event own).notes
+  noted : (e : Event) → (x : One e) → list_any (is_loss_of service tei) (notes_of (answer c e l)) ≡ tells_loss (told own_terms x.event own).notes
   noted e x =
       ap (list_any (is_loss_of service tei)) x.notes ∙ sym (own-losses own_terms (told own_terms x.event own).notes (notes-own own_terms x.event own))
 
-  by-notes : (e : Event) → (x : One e) → ends own_terms x.event own ≡ false → list_any (is_loss_of service tei) (notes_of (lines.answer c e l)) ≡ empties own_terms x.event own
+  by-notes : (e : Event) → (x : One e) → ends own_terms x.event own ≡ false → list_any (is_loss_of service tei) (notes_of (answer c e l)) ≡ empties own_terms x.event own
   by-notes e x none = noted e x ∙ sym (ap (λ b. b || tells_loss (told own_terms x.event own).notes) none)
 
   -- a release that the line grants its link does not refuse
-  served : (place : ℕ) → place_in l tei ≡ Some place → refusal c false (Release service tei) l ≡ None → (full : Bool) → requests.refusal own_terms own full link.Release ≡ None
+  served : (place : ℕ) → place_in l tei ≡ Some place → refusal c false (Release service tei) l ≡ None → (full : Bool) → requests.refusal own_terms own full LinkRelease ≡ None
   served place on none full =
-      let state = wrong_state service tei link.Release l in
+      let state = wrong_state service tei LinkRelease l in
       let bad = passed (bad_tei tei) (no_link tei l ∷ state ∷ []) none in
-      let unknown = passed (no_link tei l) (state ∷ []) bad.1 in
-      ap (λ b. cond b (requests.refusal_for_room own_terms own full link.Release) (Some WrongState))
-      (not_not (requests.serves own.state link.Release) (passed state [] unknown.1).0)
+      grind (arith, not_not)
 
-  released : (what : link.Request) (full : Bool) → (what ≡ link.Release → requests.refusal own_terms own full link.Release ≡ None)
-      → is_release what ≡ ends own_terms (link.requested what full) own
+  released : (what : LinkRequest) (full : Bool) → (what ≡ LinkRelease → requests.refusal own_terms own full LinkRelease ≡ None)
+      → is_release what ≡ ends own_terms (requested what full) own
   released what full h = grind (arith, is_some, either-false)
 
-  pub lost-is : (e : Event) → (x : One e) → lost_in service tei (seen e (lines.answer c e l)) ≡ empties own_terms x.event own
-  lost-is (hears what) x =
-      heard-loses service tei what (lines.answer c (hears what) l) ∙ by-notes (hears what) x (no-end (hears what) (λ r same. cc same) x.event x.by)
-  lost-is (expiry timer) x =
-      expiry-loses service tei timer (lines.answer c (expiry timer) l) ∙ by-notes (expiry timer) x (no-end (expiry timer) (λ r same. cc same) x.event x.by)
-  lost-is next x = grind (arith, begun-loses, only-offered, offer-tells_nothing)
+  pub lost-is : (e : Event) → (x : One e) → lost_in service tei (seen e (answer c e l)) ≡ empties own_terms x.event own
   lost-is (request r) x =
-      let y = only-requested c r (lines.answer c (request r) l) service tei x.event x.by in
-      let ns = notes_of (lines.answer c (request r) l) in
-      asked-loses service tei r (lines.answer c (request r) l)
+      let y = only-requested c r (answer c (request r) l) service tei x.event x.by in
+      let ns = notes_of (answer c (request r) l) in
+      asked-loses service tei r (answer c (request r) l)
       ∙ ap (λ b. cond b (is_release_of service tei r || list_any (is_loss_of service tei) ns) false) y.4
       ∙ ap (λ b. b || list_any (is_loss_of service tei) ns)
       (ap (is_release_of service tei) y.3 ∙ own-release service tei y.0
       ∙ released y.0 y.1 (λ is. served x.place x.placed (subst (λ r. refusal c false r l ≡ None) (y.3 ∙ ap (of_link service tei) is) (not-refused c r l y.4)) y.1)
       ∙ sym (ap (λ le. ends own_terms le own) y.2))
       ∙ ap (λ b. ends own_terms x.event own || b) (noted (request r) x)
+  lost-is e x = grind (arith, heard-loses, by-notes, no-end, expiry-loses, only-offered, offer-tells_nothing)
 
   -- No event of the link grants it data.
-  pub none-granted : (e : Event) → HasNone c service tei e l (lines.after c e l) (lines.answer c e l) → granted_in service tei (seen e (lines.answer c e l)) ≡ []
-  none-granted next x = begun-grants service tei (lines.answer c next l)
+  pub none-granted : (e : Event) → HasNone c service tei e l (line_after c e l) (answer c e l) → granted_in service tei (seen e (answer c e l)) ≡ []
+  none-granted next x = grind arith
   none-granted (request r) x = grind (arith, asked-grants, cond_both, asks.elsewhere)
-  none-granted other x = told-grants service tei (lines.answer c other l)
+  none-granted other x = told-grants service tei (answer c other l)
 
   -- and none loses what it keeps, while its TEI stays
   module _ (place : ℕ) (on : place_in l tei ≡ Some place) where
     none-asked : (r : Request) → is_at_link service tei (aim_of_request r l) ≡ false → is_release_of service tei r ≡ false
-    none-asked (Release its by) aims = elsewhere c service tei known.nothing_yet l place on its by (link.requested link.Release false) (at_requested its by link.Release) (λ p. refl) aims
-    none-asked (Deactivate its by) aims = elsewhere c service tei known.nothing_yet l place on its by link.cleared (at_deactivated its by) (λ p. refl) aims
+    none-asked (Release its by) aims = elsewhere c service tei known.nothing_yet l place on its by (requested LinkRelease false) (at_requested its by LinkRelease) (λ p. refl) aims
+    none-asked (Deactivate its by) aims = elsewhere c service tei known.nothing_yet l place on its by cleared (at_deactivated its by) (λ p. refl) aims
     none-asked other aims = refl
 
     no-note : (ns : List Note) → All (λ n. is_news service tei n ≡ false) ns → list_any (is_loss_of service tei) ns ≡ false
@@ -119,23 +105,20 @@ module _ (c : Config) (ranged : IsInRange c) (l : Line) (s : IsSound c l) (servi
         no-loss : (n : Note) → is_news service tei n ≡ false → is_loss_of service tei n ≡ false
         no-loss n none = grind arith
 
-    pub none-lost : (e : Event) → is_at_link service tei (aim_of c e l) ≡ false → has_tei tei (lines.after c e l) ≡ true → lost_in service tei (seen e (lines.answer c e l)) ≡ false
-    none-lost e aims there = go e aims (no-note (notes_of (lines.answer c e l)) (others-silent service tei c e l s aims (inr there)))
+    pub none-lost : (e : Event) → is_at_link service tei (aim_of c e l) ≡ false → has_tei tei (line_after c e l) ≡ true → lost_in service tei (seen e (answer c e l)) ≡ false
+    none-lost e aims there = go e aims (no-note (notes_of (answer c e l)) (others-silent service tei c e l s aims (inr there)))
       where
-        go : (e : Event) → is_at_link service tei (aim_of c e l) ≡ false → list_any (is_loss_of service tei) (notes_of (lines.answer c e l)) ≡ false
-            → lost_in service tei (seen e (lines.answer c e l)) ≡ false
-        go (hears what) aims none = heard-loses service tei what (lines.answer c (hears what) l) ∙ none
-        go (expiry timer) aims none = expiry-loses service tei timer (lines.answer c (expiry timer) l) ∙ none
-        go next aims none = begun-loses service tei (lines.answer c next l)
-        go (request r) aims none = grind (arith, asked-loses, is_release_of, none-asked, is_at_link, not-refused)
+        go : (e : Event) → is_at_link service tei (aim_of c e l) ≡ false → list_any (is_loss_of service tei) (notes_of (answer c e l)) ≡ false
+            → lost_in service tei (seen e (answer c e l)) ≡ false
+        go e aims none = grind (arith, heard-loses, expiry-loses, asked-loses, is_release_of, none-asked, is_at_link, not-refused)
 
 -- One event of a line.
 module _ (c : Config) (ranged : IsInRange c) (l : Line) (s : IsSound c l) (service : Service) (tei : ℕ) (e : Event) where
   abbrev a : Answer
-  a = lines.answer c e l
+  a = answer c e l
 
   abbrev new : Line
-  new = lines.after c e l
+  new = line_after c e l
 
   abbrev t : Terms
   t = terms c service tei
@@ -144,13 +127,10 @@ module _ (c : Config) (ranged : IsInRange c) (l : Line) (s : IsSound c l) (servi
   k = link_of service tei l
 
   abbrev k' : Link
-  k' = link_of service tei (lines.after c e l)
+  k' = link_of service tei (line_after c e l)
 
   abbrev anew : Bool
   anew = brings is_sabme c service tei e
-
-  on-there : (m : Line) (place : ℕ) → place_in m tei ≡ Some place → has_tei tei m ≡ true
-  on-there m place on = is_on-at m.management.places place tei (place_of-is m.management.places tei place on).1
 
   abbrev Left : Type 0
   Left = queue_of k' ≡ left (lost_in service tei (seen e a)) anew k k' (granted_in service tei (seen e a))
@@ -158,12 +138,12 @@ module _ (c : Config) (ranged : IsInRange c) (l : Line) (s : IsSound c l) (servi
   -- No event of the link.
   none-left-so : (x : HasNone c service tei e l new a) → (p q : ℕ) → place_in l tei ≡ Some p → place_in new tei ≡ Some q → Left
   none-left-so x p q on there =
-      let same = x.stays (on-there l p on) (on-there new q there) in
+      let same = x.stays (is_on-at l.management.places p tei (place_of-is l.management.places tei p on).1) (is_on-at new.management.places q tei (place_of-is new.management.places tei q there).1) in
       let rest : drop (went_by anew k k') (queue_of k) ++ granted_in service tei (seen e a) ≡ queue_of k =
       ap (λ more. drop (went_by anew k k') (queue_of k) ++ more) (none-granted c ranged l s service tei e x) ∙ append-nil (drop (went_by anew k k') (queue_of k))
       ∙ ap (λ y. drop (went_by anew k y) (queue_of k)) same ∙ ap (λ n. drop n (queue_of k)) (still anew k) in
       ap (λ (y : Link). queue_of y) same
-      ∙ sym (ap (λ b. left b anew k k' (granted_in service tei (seen e a))) (none-lost c ranged l s service tei p on e x.aims (on-there new q there))
+      ∙ sym (ap (λ b. left b anew k k' (granted_in service tei (seen e a))) (none-lost c ranged l s service tei p on e x.aims (is_on-at new.management.places q tei (place_of-is new.management.places tei q there).1))
       ∙ ap (λ xs. cond (is_up (state_number k.state)) xs (queue_of k)) rest ∙ cond_both (is_up (state_number k.state)) (queue_of k) (queue_of k) (λ q. q ≡ queue_of k) (λ up. refl) (λ down. refl))
 
   -- One event of it.
@@ -195,20 +175,17 @@ module _ (c : Config) (ranged : IsInRange c) (l : Line) (s : IsSound c l) (servi
           rest = drop (went_by (sabme_of x.event) k (after t x.event k)) (queue_of k) ++ accepted t x.event k
 
           by-state : (b : Bool) → is_multiple_frame k.state ≡ b → rest ≡ cond (is_up (state_number k.state)) rest (queue_of k)
-          by-state true up = sym (ap (λ b. cond b rest (queue_of k)) (up-number k.state ∙ up))
-          by-state false down = grind (arith, went_by, sabme_of, none-accepted, append-nil, up-number, rest)
+          by-state true up = sym (ap (λ b. cond b rest (queue_of k)) (number-up k.state ∙ up))
+          by-state false down = grind (arith, went_by, sabme_of, none-accepted, append-nil, number-up, rest)
 
   -- Its deactivation.
-  down-left : (x : IsGivenUp c service tei e l new a) → Left
-  down-left x = grind (arith, granted_in, lost_in, asked-loses, own-is)
-
   pub left-so : (p q : ℕ) → place_in l tei ≡ Some p → place_in new tei ≡ Some q → Left
   left-so p q on there = go (event-goes c e l service tei s)
     where
       go : Goes c service tei e l new a → Left
       go (inl x) = none-left-so x p q on there
       go (inr (inl x)) = one-left x
-      go (inr (inr x)) = down-left x
+      go (inr (inr x)) = grind (arith, granted_in, lost_in, asked-loses, own-is)
 
   -- A TEI that comes to the line has a link that begins.
   pub comes-so : place_in l tei ≡ None → k' ≡ fresh_link

@@ -9,12 +9,9 @@ pub silent-there : (c : Config) (l : Line) → IsSound c l → HasNothing c l �
     → IsSilent (terms c service tei) (link_of service tei l)
 silent-there c l s h service tei place is =
     let found = place_of-is l.management.places tei place is in
-    let within : place < c.terminals = omega (arith, s.places, found.0) in
     let number = link_number place service in
     let there : tei_at (place_at number) l ≡ Some tei = ap (λ p. get_or l.management.places p None) (place_at-number place service) ∙ found.1 in
-    let known : IsSilent (terms c (service_at number) tei) (link_at number l) = h.links number (number_within place c.terminals service within) tei there in
-    subst (IsSilent (terms c service tei)) (sym (ap (λ o. option_map_or (link_in l service) o fresh) is))
-    (subst (λ x. IsSilent (terms c x tei) (link_at number l)) (service_at-number place service) known)
+    grind (arith, service_at-number)
 
 -- The line at the end, and a link of it.
 pub line-at-end : (c : Config) (events : List Event) (number : ℕ) → IsInRange c → AreAtLines (cards.fresh c) events → number < c.lines

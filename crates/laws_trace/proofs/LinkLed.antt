@@ -1,7 +1,5 @@
 -- Which state a link moves to: one event of a line, by what is seen of it.
-use Rattle.laws_trace.proofs.Vocabulary.{arith, ◌≡◌, ℕ, ◌==◌, ◌&&◌, Bool, true, false, cond, List, [], ◌∷◌, ◌++◌, length, map, Option, Some, None, Result, Ok, Err, refl, sym, ap, ◌∙◌, eq-eqb, true≢false, ◌⊎◌, fold, is_some, nat_lt, option_map_or, Unserved, Address, ReadFault, Undefined, WrongSize, ErrorCode, L, N, Refusal, Service, Timer, Parts, sapi_of, service_of, same_service, place_of-is, is_on-at, LinkTimer, Config, Aim, Effect, at_link, hears, expiry, request, next, Answer, aim_of_expiry, at_timer, Line, has_tei, place_in, terms, aim_of, unless_refused_told, of_request, addressed, aim_of_heard, aim_of_reading, drop_for, message_of, Deactivate, aim_of_request, at_requested, at_deactivated, at_side, IsMalformed, IsTooLong, is_granted, IsBy, BringsMalformed, timer_of, IsDeactivated, addressed-is, sapi-is, service-same, both-true, eqb-true, T200, T203, Event, answer, refusal, Request, Establish, Release, option_and_then, result_ok, result_err, is_for, fault_of, trace_frame_in as frame_in, is_own, seen, seen_told, seen_granted, is_up, and-false, and-true, of_link, Seen, trace_begun as begun, heard}
-use Rattle.model_bits.specs.Stream as stream
-use Rattle.lapd_frame.specs.declared.timers.Timer.TheVariants as timers
+use Rattle.laws_trace.proofs.Vocabulary.{arith, ◌≡◌, ℕ, ◌==◌, ◌&&◌, Bool, true, false, cond, List, [], ◌∷◌, ◌++◌, length, map, Option, Some, None, Result, Ok, Err, refl, sym, ap, ◌∙◌, eq-eqb, true≢false, ◌⊎◌, fold, is_some, nat_lt, option_map_or, Unserved, Address, ReadFault, Undefined, WrongSize, ErrorCode, L, N, Refusal, Service, Timer, Parts, sapi_of, service_of, same_service, place_of-is, is_on-at, LinkTimer, Config, Aim, Effect, at_link, hears, expiry, request, next, Answer, aim_of_expiry, at_timer, Line, has_tei, place_in, terms, aim_of, unless_refused_told, of_request, addressed, aim_of_heard, aim_of_reading, drop_for, message_of, Deactivate, aim_of_request, at_requested, at_deactivated, at_side, IsMalformed, IsTooLong, is_granted, IsBy, BringsMalformed, timer_of, IsDeactivated, addressed-is, sapi-is, service-same, both-true, eqb-true, T200, T203, Event, answer, refusal, Request, Establish, Release, option_and_then, result_ok, result_err, is_for, fault_of, trace_frame_in as frame_in, is_own, seen, seen_told, seen_granted, is_up, and-false, and-true, of_link, Seen, trace_begun as begun, heard, not-refused, stream_frame, StreamEvent, stream_overlong, T201, TimerT203, TimerT200}
 use Rattle.model_link.specs.Events as link
 use Rattle.laws_trace.proofs.MovesWatched.{by_frame, by_parts, by_request, by_seen, by_expiry, led}
 use Rattle.laws_trace.proofs.States.{expired_of, one_more}
@@ -17,26 +15,16 @@ own-is service tei = ap (λ b. b && tei == tei) (service-same service) ∙ eq-eq
 pub on-line : (x : Line) (tei place : ℕ) → place_in x tei ≡ Some place → has_tei tei x ≡ true
 on-line x tei place on = is_on-at x.management.places place tei (place_of-is x.management.places tei place on).1
 
-granted-is : (o : Option Refusal) (x : Effect) → is_granted (unless_refused_told o x) ≡ true → o ≡ None
-granted-is o x e = grind arith
-
-pub none-refused : (c : Config) (r : Request) (l : Line) → is_granted (answer c (request r) l) ≡ true → refusal c false r l ≡ None
-unfolding answer
-none-refused c r l e = granted-is (refusal c false r l) (of_request c r l) e
-
 -- What is seen, in state x.
 module _ (c : Config) (service : Service) (tei : ℕ) (k : Known) where
   abbrev by_all : ℕ → List Seen → ℕ
   by_all x t = fold (by_seen c service tei k) x t
 
-  abbrev by_heard : ℕ → stream.Event → ℕ
+  abbrev by_heard : ℕ → StreamEvent → ℕ
   by_heard x e = by_seen c service tei k x (heard e)
 
   told-leads : (x : ℕ) (a : Answer) → by_all x (seen_told a) ≡ x
   told-leads x a = grind arith
-
-  granted-leads : (x : ℕ) (r : Request) (a : Answer) → is_granted a ≡ true → by_all x (seen_granted r a ++ seen_told a) ≡ by_request service tei x r
-  granted-leads x r a e = grind arith
 
   begun-leads : (x : ℕ) (frames : List (List ℕ)) → by_all x (map begun frames) ≡ x
   begun-leads x [] = refl
@@ -65,8 +53,6 @@ module _ (c : Config) (service : Service) (tei : ℕ) (k : Known) where
             absurd (true≢false (sym (own-is service tei) ∙ sym (ap (is_at_link service tei) is) ∙ aims))
 
     read-none : (x : ℕ) (r : Result Parts ReadFault) → is_at_link service tei (aim_of_reading c l r) ≡ false → by_reading x r ≡ x
-    read-none x (Err (Undefined address)) aims = no-fault x x (is_for service tei address) L (addressed-none address link.undefined (drop_for Unserved) aims)
-    read-none x (Err (WrongSize address)) aims = no-fault x x (is_for service tei address) N (addressed-none address link.wrong_size (drop_for Unserved) aims)
     read-none x (Ok f) aims =
         no-fault x (by_parts c service tei k x (Some f)) false L refl
         ∙ ap (λ b. cond b (by_frame k x f.address.command (nat_lt c.n201 (length f.info)) f.control) x) (go (is_for service tei f.address) refl)
@@ -77,9 +63,9 @@ module _ (c : Config) (service : Service) (tei : ℕ) (k : Known) where
             let parts = both-true (f.address.sapi == sapi_of service) (f.address.tei == tei) for in
             let is = addressed-is l f.address service tei place (link.frame f) (message_of f.control f.info) (eqb-true f.address.sapi (sapi_of service) parts.0) (eqb-true f.address.tei tei parts.1) on in
             absurd (true≢false (sym (own-is service tei) ∙ sym (ap (λ aim. is_at_link service tei (at_side c f aim)) is) ∙ aims))
-    read-none x other aims = no-fault x x false L refl
+    read-none x r aims = grind (arith, no-fault, addressed-none)
 
-    heard-none : (x : ℕ) (e : stream.Event) → is_at_link service tei (aim_of_heard c l e) ≡ false → by_heard x e ≡ x
+    heard-none : (x : ℕ) (e : StreamEvent) → is_at_link service tei (aim_of_heard c l e) ≡ false → by_heard x e ≡ x
     heard-none x e aims = grind (arith, read-none, no-fault, addressed-none)
 
     -- an expiry, or a request, of another link
@@ -94,11 +80,11 @@ module _ (c : Config) (service : Service) (tei : ℕ) (k : Known) where
             absurd (true≢false (sym own ∙ sym (ap (λ o. is_at_link service tei (to o)) (ap (place_in l) same ∙ on) ∙ ap (is_at_link service tei) (is place)) ∙ aims))
 
     none-expired : (timer : Timer) → is_at_link service tei (aim_of_expiry timer l) ≡ false → expired_of service tei (expiry timer) ≡ None
-    none-expired (timers.T200 its by) aims =
+    none-expired (TimerT200 its by) aims =
         ap (λ b. cond b (Some T200) None) (elsewhere its by (link.expired T200) (at_timer its by T200) (λ p. refl) aims)
-    none-expired (timers.T203 its by) aims =
+    none-expired (TimerT203 its by) aims =
         ap (λ b. cond b (Some T203) None) (elsewhere its by (link.expired T203) (at_timer its by T203) (λ p. refl) aims)
-    none-expired timers.T201 aims = refl
+    none-expired T201 aims = refl
 
     none-asked : (x : ℕ) (r : Request) → is_at_link service tei (aim_of_request r l) ≡ false → by_request service tei x r ≡ x
     none-asked x (Establish its by) aims =
@@ -113,49 +99,28 @@ module _ (c : Config) (service : Service) (tei : ℕ) (k : Known) where
     none-ticks e aims = grind (arith, none-expired)
 
     pub none-led : (n x : ℕ) (e : Event) → is_at_link service tei (aim_of c e l) ≡ false → led c service tei k n e (seen e (answer c e l)) x ≡ x
-    none-led n x (hears what) aims = told-leads (by_heard x what) (answer c (hears what) l) ∙ heard-none x what aims
-    none-led n x (expiry timer) aims = grind (arith, told-leads, by_expiry, expired_of, none-expired)
-    none-led n x (request r) aims = grind (arith, granted-leads, none-asked, is_at_link, none-refused)
-    none-led n x next aims = begun-leads x (frame_in (answer c next l))
+    none-led n x e aims = grind (arith, told-leads, heard-none, by_expiry, expired_of, none-expired, none-asked, is_at_link, not-refused, begun-leads)
 
   -- One event of the link.
   module _ (a : Answer) where
     -- its deactivation
     pub ended-leads : (n x : ℕ) (e : Event) → IsDeactivated e a service tei → led c service tei k n e (seen e a) x ≡ 4
-    ended-leads n x e by = grind (arith, led, granted-leads, own-is)
+    ended-leads n x e by = grind (arith, led, own-is)
 
     pub own-address : (address : Address) → service_of address.sapi ≡ Some service → address.tei ≡ tei → is_for service tei address ≡ true
     own-address address sapi is = grind (arith, eq-eqb, sapi-is)
-
-    malformed-leads : (n x : ℕ) (e : Event) (address : Address) (octets : List ℕ) (what : link.Received) → is_for service tei address ≡ true
-        → ((e ≡ hears (stream.frame octets)) × IsMalformed c address octets what) ⊎ ((e ≡ hears (stream.overlong octets)) × IsTooLong c address octets what)
-        → led c service tei k n e (seen e a) x ≡ cond (is_up x) 5 x
-    malformed-leads n x e address octets what for o = grind (arith, led, told-leads, is_some, and-true)
 
     abbrev Leads : ℕ → ℕ → Event → link.Event → Type 0
     Leads n x e event = led c service tei k n e (seen e a) x ≡ expected (terms c service tei) k n event x
 
     brings-malformed : (n x : ℕ) (e : Event) (what : link.Received) → BringsMalformed c e service tei what → led c service tei k n e (seen e a) x ≡ cond (is_up x) 5 x
-    brings-malformed n x e what y = malformed-leads n x e y.address y.octets what (own-address y.address y.sapi y.tei_is) y.by
-
-    asked-leads : (x : ℕ) (asked : link.Request) → by_request service tei x (of_link service tei asked) ≡ expected (terms c service tei) k 0 (link.requested asked false) x
-    asked-leads x asked = grind (arith, own-is)
-
-    full-or-not : (n x : ℕ) (asked : link.Request) (full : Bool) → expected (terms c service tei) k 0 (link.requested asked false) x ≡ expected (terms c service tei) k n (link.requested asked full) x
-    full-or-not n x asked full = grind arith
+    brings-malformed n x e what y = grind (arith, led, told-leads, is_some, and-true)
 
     ticked : (timer : LinkTimer) → expired_of service tei (expiry (timer_of service tei timer)) ≡ Some timer
     ticked timer = grind (arith, own-is)
 
     pub one-led : (n x : ℕ) (e : Event) (event : link.Event) → IsBy c e a service tei event → Leads n x e event
-    one-led n x e (link.received (link.frame f)) y = grind (arith, led, told-leads, own-frame, own-address)
-    one-led n x e (link.received link.undefined) y = brings-malformed n x e link.undefined y
-    one-led n x e (link.received link.wrong_size) y = brings-malformed n x e link.wrong_size y
-    one-led n x e (link.received link.overlong) y = brings-malformed n x e link.overlong y
-    one-led n x e (link.expired timer) y = grind (arith, led, told-leads, by_expiry, expired_of, ticked)
-    one-led n x e (link.requested asked full) y = grind (arith, led, granted-leads, asked-leads, full-or-not)
-    one-led n x e link.offer y = ap (λ e. led c service tei k n e (seen e a) x) y ∙ begun-leads x (frame_in a)
-    one-led n x e link.cleared y = absurd y
+    one-led n x e event y = grind (arith, led, told-leads, own-frame, own-address, brings-malformed, by_expiry, expired_of, ticked, own-is)
 
     pub one-ticks : (e : Event) (event : link.Event) → IsBy c e a service tei event → option_map_or one_more (expired_of service tei e) 0 ≡ ticks event
     one-ticks e event y = grind (arith, one_more, expired_of, heard-by, ticked)

@@ -1,6 +1,5 @@
 -- Which state a link moves to: the law.
-use Rattle.laws_trace.proofs.Vocabulary.{◌≡◌, ℕ, ◌+◌, ◌<◌, ◌≤◌, ◌==◌, not, Bool, true, false, cond, List, [], get_or, set, Option, Some, None, refl, sym, ap, ◌∙◌, subst, arith, eq-eqb, true≢false, inl, inr, IfSome, option_map_or, and_parts, get_or-set_same, get_or-replicate, PoolFull, Service, State, Terms, Link, state_number, Config, Answer, refused, Line, fresh_line, link_of, link_in, place_in, state_of, terms, IsInRange, Card, line_at, is_full, has_lines, by_room, line_sound, AllHaveTheirTimers, IsBy, HaveTheirTimers, nowhere, moves, eqb-true, fresh_link, IsSound, fresh, CardEvent as Event, after, card_answer as answer, IsAtLine, AreAtLines, seen}
-use Rattle.model_link.specs.Events as link
+use Rattle.laws_trace.proofs.Vocabulary.{◌≡◌, ℕ, ◌+◌, ◌<◌, ◌≤◌, ◌==◌, not, Bool, true, false, cond, List, [], get_or, set, Option, Some, None, refl, sym, ap, ◌∙◌, subst, arith, eq-eqb, true≢false, inl, inr, IfSome, option_map_or, and_parts, get_or-set_same, get_or-replicate, PoolFull, Service, State, Terms, Link, state_number, Config, Answer, refused, Line, fresh_line, link_of, link_in, place_in, state_of, terms, IsInRange, Card, line_at, is_full, has_lines, by_room, line_sound, AllHaveTheirTimers, IsBy, HaveTheirTimers, nowhere, moves, eqb-true, fresh_link, IsSound, fresh, CardEvent as Event, after, card_answer as answer, IsAtLine, AreAtLines, seen, LinkEvent, cleared}
 use Rattle.model_link.specs.Machine as links
 use Rattle.model_line.specs.Event as line_event
 use Rattle.model_line.specs.Machine as lines
@@ -21,7 +20,7 @@ use Rattle.laws_trace.proofs.Facts.{same-state}
 abbrev pub IsCountOf : Service → ℕ → ℕ → Line → Type 0
 IsCountOf service tei n l = let x = link_of service tei l in Counts x.state n x.repeats
 
-pub no-event : (event : link.Event) (c : Config) (e : line_event.Event) (a : Answer) (service : Service) (tei : ℕ) → IsBy c e a service tei event → event ≡ link.cleared → ⊥
+pub no-event : (event : LinkEvent) (c : Config) (e : line_event.Event) (a : Answer) (service : Service) (tei : ℕ) → IsBy c e a service tei event → event ≡ cleared → ⊥
 no-event event c e a service tei by same = grind arith
 
 no-more : (n m : ℕ) → m ≡ 0 → n + m ≡ n
@@ -64,10 +63,9 @@ module _ (c : Config) (ranged : IsInRange c) (l : Line) (s : IsSound c l) (timed
     one-leads : HasOne c service tei e l (lines.after c e l) a → Leads
     one-leads x =
         let sound = events.sound c ranged l s timed service tei k agrees e x in
-        let range = events.range c ranged l s timed service tei k agrees e x in
         let ordered : own.a ≤ own.s = sound.ordered in
         let window : own.s ≤ own.a + t.k = sound.within in
-        let small : t.k ≤ 127 = range.k_high in
+        let small : t.k ≤ 127 = (events.range c ranged l s timed service tei k agrees e x).k_high in
         ap (λ (y : Link). state_number y.state) x.is
         ∙ event-leads t k own n ordered (omega (arith, window, small)) (events.own-timed c ranged l s timed service tei k agrees e x.place x.placed) agrees counts x.event
         (no-event x.event c e a service tei x.by)
@@ -83,31 +81,18 @@ module _ (c : Config) (ranged : IsInRange c) (l : Line) (s : IsSound c l) (timed
 
     none-counted : HasNone c service tei e l (lines.after c e l) a → Counts next.state (counted (told_state own.state) (told_state next.state)) next.repeats
     none-counted x =
-        let same = x.stays (on-line l tei place on) (on-line (lines.after c e l) tei there stays) in
-        subst (λ (y : Link). Counts y.state (counted (told_state own.state) (told_state y.state)) y.repeats) (sym same)
+        subst (λ (y : Link). Counts y.state (counted (told_state own.state) (told_state y.state)) y.repeats) (sym (x.stays (on-line l tei place on) (on-line (lines.after c e l) tei there stays)))
         (subst (λ m. Counts own.state m own.repeats)
         (sym (ap (λ b. cond b 0 (n + option_map_or one_more (expired_of service tei e) 0)) (differs own.state own.state ∙ same-state own.state)
         ∙ no-more n (option_map_or one_more (expired_of service tei e) 0) (ap (λ o. option_map_or one_more o 0) (none-ticks c service tei k l place on e x.aims)))) counts)
-
-    one-counted : HasOne c service tei e l (lines.after c e l) a → Counts next.state (counted (told_state own.state) (told_state next.state)) next.repeats
-    one-counted x =
-        let y = links.after t x.event own in
-        subst (λ (y : Link). Counts y.state (counted (told_state own.state) (told_state y.state)) y.repeats) (sym x.is)
-        (subst (λ b. Counts y.state (cond b 0 (n + option_map_or one_more (expired_of service tei e) 0)) y.repeats) (sym (differs own.state y.state))
-        (subst (λ m. Counts y.state (cond (moves own.state y.state) 0 (n + m)) y.repeats)
-        (sym (one-ticks c service tei k a e x.event x.by))
-        (event-counted t own n x.event (no-event x.event c e a service tei x.by) (events.own-timed c ranged l s timed service tei k agrees e x.place x.placed) counts)))
 
     stays-counted : Counts next.state (counted (told_state own.state) (told_state next.state)) next.repeats
     stays-counted = go (event-goes c e l service tei s)
       where
         go : Goes c service tei e l (lines.after c e l) a → Counts next.state (counted (told_state own.state) (told_state next.state)) next.repeats
         go (inl x) = none-counted x
-        go (inr (inl x)) = one-counted x
+        go (inr (inl x)) = grind (arith, told_state, one_more, expired_of, differs, one-ticks, event-counted, no-event, events.own-timed)
         go (inr (inr x)) = subst (λ (y : Link). Counts y.state (counted (told_state own.state) (told_state y.state)) y.repeats) (sym x.is) tt
-
-  begins-counted : (m : ℕ) → next ≡ fresh_link → Counts next.state m next.repeats
-  begins-counted m is = subst (λ (y : Link). Counts y.state m y.repeats) (sym is) tt
 
   pub event-counts : IsCountOf service tei (counted (state_of service tei l) (state_of service tei (lines.after c e l))) (lines.after c e l)
   event-counts = go (place_in l tei) refl (place_in (lines.after c e l) tei) refl
@@ -116,8 +101,8 @@ module _ (c : Config) (ranged : IsInRange c) (l : Line) (s : IsSound c l) (timed
       m = counted (state_of service tei l) (state_of service tei (lines.after c e l))
 
       go : (o : Option ℕ) → place_in l tei ≡ o → (p : Option ℕ) → place_in (lines.after c e l) tei ≡ p → Counts next.state m next.repeats
-      go o on None off = begins-counted m (off-fresh service tei (lines.after c e l) off)
-      go None off (Some there) stays = begins-counted m (comes c e l s service tei off)
+      go o on None off = (subst (λ (y : Link). Counts y.state m y.repeats) (sym (off-fresh service tei (lines.after c e l) off)) tt)
+      go None off (Some there) stays = (subst (λ (y : Link). Counts y.state m y.repeats) (sym (comes c e l s service tei off)) tt)
       go (Some place) on (Some there) stays =
           subst (λ m. Counts next.state m next.repeats)
           (sym (ap (λ o. counted o (state_of service tei (lines.after c e l))) (state-on service tei l place on)
@@ -201,10 +186,7 @@ module _ (service : Service) (tei number : ℕ) where
     where
       go : (b : Bool) → (e.line == number) ≡ b
           → IsCountOf service tei (cond (not b) n (cond (differ (state_of service tei (line_at number card)) (state_of service tei (line_at number (after e card)))) 0 (n + option_map_or one_more (expired_of service tei e.what) 0))) (line_at number (after e card))
-      go true is =
-          let same = eqb-true e.line number is in
-          subst (λ m. IsCountOf service tei (cond (differ (state_of service tei (line_at m card)) (state_of service tei (line_at m (after e card)))) 0 (n + option_map_or one_more (expired_of service tei e.what) 0)) (line_at m (after e card))) same
-          (own-counted card s timely e here k n (subst (λ m. IsTrueOf service tei k (line_at m card)) (sym same) agrees) (subst (λ m. IsCountOf service tei n (line_at m card)) (sym same) counts))
+      go true is = grind (arith, eqb-true, differ, one_more, expired_of, own-counted)
       go false other =
           subst (IsCountOf service tei n) (sym (apart card e number (λ same. true≢false (sym (eq-eqb e.line number (sym same)) ∙ other)))) counts
 

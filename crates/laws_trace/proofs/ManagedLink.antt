@@ -1,7 +1,6 @@
 -- What an event of TEI management is to the link of a service with a TEI: it stays as it is, or its TEI comes or
 -- leaves; and it orders what stops the timer of a link whose TEI leaves.
-use Rattle.laws_trace.proofs.Vocabulary.{◌≡◌, ℕ, ◌==◌, Bool, true, false, List, ◌++◌, Option, Some, None, refl, sym, ap, ◌∙◌, eq-eqb, true≢false, ◌⊎◌, inl, inr, is_some, none-some, Service, Order, Call, Packet, Management, IsSoundTable, Change, Gained, Left, t201_follows, Link, Config, told_of_management, of_change, Line, has_tei, link_in, link_of, terms, some-same, is-off, has-no-place, [], append-nil, arith, get_or, set, get_or-set_other, option_map_or, filter-append, is_on-at, place_of-is, has-place, place_in, link_number, orders_for, Terms, eqb-true, fresh_link as fresh, line_after as after, IsSound, HasJoined, HasLeft, TeiIsInRange as IsInRange, Moves, changes_are_told, sound-after, elsewhere, emptied, emptied-read, filled-read, same-read, and-false}
-use Rattle.lapd_tei.specs.Events as teis
+use Rattle.laws_trace.proofs.Vocabulary.{◌≡◌, ℕ, ◌==◌, Bool, true, false, List, ◌++◌, Option, Some, None, refl, sym, ap, ◌∙◌, eq-eqb, true≢false, ◌⊎◌, inl, inr, is_some, none-some, Service, Order, Call, Packet, Management, IsSoundTable, Change, Gained, Left, t201_follows, Link, Config, told_of_management, of_change, Line, has_tei, link_in, link_of, terms, some-same, is-off, has-no-place, [], append-nil, arith, get_or, set, get_or-set_other, option_map_or, filter-append, is_on-at, place_of-is, has-place, place_in, link_number, orders_for, Terms, eqb-true, fresh_link as fresh, line_after as after, IsSound, HasJoined, HasLeft, TeiIsInRange as IsInRange, Moves, changes_are_told, sound-after, elsewhere, emptied, emptied-read, filled-read, same-read, and-false, tei_after, tei_told, TeiEvent}
 use Rattle.laws_trace.proofs.OrdersOfLink.{its_orders, of-event, none-ordered, management-orders-none}
 use Rattle.laws_trace.proofs.Facts.{its-own}
 
@@ -20,15 +19,15 @@ module _ (c : Config) (l : Line) (s : IsSound c l) (service : Service) (tei : �
       ⊎ ((link_of service tei next ≡ fresh) × (has_tei tei l ≡ true → has_tei tei next ≡ true → ⊥))
 
   -- An event of TEI management: a TEI comes, or leaves, or none does.
-  module _ (me : teis.Event) (fits : IsInRange me) where
+  module _ (me : TeiEvent) (fits : IsInRange me) where
     abbrev m : Management
-    m = teis.after me l.management
+    m = tei_after me l.management
 
     table : IsSoundTable m.places
     table = (sound-after me l.management fits s.management).table
 
     abbrev next : Option Change → Line
-    next o = (of_change c o (told_of_management (teis.told me l.management)) (record l { management = m })).line
+    next o = (of_change c o (told_of_management (tei_told me l.management)) (record l { management = m })).line
 
     abbrev Stays : Option Change → Type 0
     Stays o = Remains (next o)
@@ -71,7 +70,7 @@ module _ (c : Config) (l : Line) (s : IsSound c l) (service : Service) (tei : �
     by-change (Some (Left by place)) gone = leaves by place gone (by == tei) refl
 
     abbrev own_orders : List Order
-    own_orders = (teis.told me l.management).orders
+    own_orders = (tei_told me l.management).orders
 
     own-orders-none : its_orders service tei own_orders ≡ []
     own-orders-none = management-orders-none service tei (is_some l.management.check) own_orders (is_some m.check) (t201_follows me l.management)
@@ -81,7 +80,7 @@ module _ (c : Config) (l : Line) (s : IsSound c l) (service : Service) (tei : �
 
     abbrev Ordered : Option Change → Type 0
     Ordered o =
-        its_orders service tei (of_change c o (told_of_management (teis.told me l.management)) (record l { management = m })).told.orders
+        its_orders service tei (of_change c o (told_of_management (tei_told me l.management)) (record l { management = m })).told.orders
         ≡ orders_for its (link_of service tei l).running None (link_of service tei (next o)).running
 
     -- of a link that stays as it is none,
@@ -95,9 +94,6 @@ module _ (c : Config) (l : Line) (s : IsSound c l) (service : Service) (tei : �
         go : (p : Option ℕ) → place_in l tei ≡ p → link_of service tei l ≡ fresh
         go None none = ap (λ o. option_map_or (link_in l service) o fresh) none
         go (Some place) on = absurd (true≢false (sym (is_on-at l.management.places place tei (place_of-is l.management.places tei place on).1) ∙ off))
-
-    comes-ordered : (by place : ℕ) → HasJoined l.management.places m.places by place → (b : Bool) → (by == tei) ≡ b → Ordered (Some (Gained by place))
-    comes-ordered by place joined b other = grind (arith, own-orders-none, as-before, gained-elsewhere, comes, eqb-true, fresh-off)
 
     -- but where the TEI leaves, that its timer stops.
     module _ (place : ℕ) where
@@ -113,9 +109,6 @@ module _ (c : Config) (l : Line) (s : IsSound c l) (service : Service) (tei : �
           ++ its_orders service tei (orders_for (terms c Packet n) second_link.running None None)
       split n = grind (arith, filter-append, its_orders, own-orders-none, append-nil)
 
-      others-left : (n : ℕ) → (n == tei) ≡ false → its_orders service tei (of_both n) ≡ []
-      others-left n other = grind (arith, split, its_orders, of-event, and-false)
-
       second-is : second_link ≡ link_in l Packet place
       second-is = get_or-set_other l.links (link_number place Call) (link_number place Packet) fresh fresh (λ e. omega (arith, e))
 
@@ -123,22 +116,16 @@ module _ (c : Config) (l : Line) (s : IsSound c l) (service : Service) (tei : �
       its-left z is = grind (arith, split, its_orders, of-event, its-own, append-nil, second-is)
 
     leaves-ordered : (by place : ℕ) → HasLeft l.management.places m.places by place → (b : Bool) → (by == tei) ≡ b → Ordered (Some (Left by place))
-    leaves-ordered by place gone false other = others-left place by other ∙ as-before (Some (Left by place)) (left-elsewhere by place gone other)
-    leaves-ordered by place gone true same =
-        ap (λ n. its_orders service tei (of_both place n)) (eqb-true by tei same) ∙ its-left place service refl
-        ∙ ap (λ (x : Link). orders_for its x.running None None) (sym there)
-        ∙ sym (ap (λ (x : Link). orders_for its (link_of service tei l).running None x.running) (left-fresh by place gone same))
-      where
-        there : link_of service tei l ≡ link_in l service place
-        there = ap (λ o. option_map_or (link_in l service) o fresh) (has-place l.management.places tei place s.management.table (gone.was_there ∙ ap Some (eqb-true by tei same)))
+    leaves-ordered by place gone false other = (grind (arith, split, its_orders, of-event, and-false)) ∙ as-before (Some (Left by place)) (left-elsewhere by place gone other)
+    leaves-ordered by place gone true same = grind (arith, its_orders, eqb-true, its-left, left-fresh, has-place)
 
-    pub management-ordered : Ordered (teis.told me l.management).change
-    management-ordered = go (teis.told me l.management).change (changes_are_told me l.management fits s.management)
+    pub management-ordered : Ordered (tei_told me l.management).change
+    management-ordered = go (tei_told me l.management).change (changes_are_told me l.management fits s.management)
       where
         go : (o : Option Change) → Moves l.management.places o m.places → Ordered o
         go None moves = own-orders-none ∙ as-before None (alike l (next None) moves refl)
-        go (Some (Gained by place)) joined = comes-ordered by place joined (by == tei) refl
+        go (Some (Gained by place)) joined = grind (arith, own-orders-none, as-before, gained-elsewhere, comes, eqb-true, fresh-off)
         go (Some (Left by place)) gone = leaves-ordered by place gone (by == tei) refl
 
-    pub managed : Stays (teis.told me l.management).change
-    managed = by-change (teis.told me l.management).change (changes_are_told me l.management fits s.management)
+    pub managed : Stays (tei_told me l.management).change
+    managed = by-change (tei_told me l.management).change (changes_are_told me l.management fits s.management)

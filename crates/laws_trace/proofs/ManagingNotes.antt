@@ -1,8 +1,5 @@
 -- Which aims of a line are none of TEI management, and that what a line tells behind what TEI management tells changes nothing.
-use Rattle.laws_trace.proofs.Vocabulary.{arith, ◌≡◌, ℕ, ◌==◌, ◌&&◌, Bool, true, false, cond, List, [], ◌∷◌, ◌++◌, Option, Some, None, refl, sym, ap, ◌∙◌, append-nil, append_assoc, option_map_or, ◌⊎◌, inr, All, filter, Result, Ok, Err, All-nil, All-cons, All-head, All-tail, All-append, filter-append, Tei, Unserved, Address, ReadFault, Undefined, WrongSize, Note, Long, Service, Call, Packet, Parts, reading, long_reading, service_of, TeiTold, Change, Left, Link, orders_for, LinkTimer, Terms, notes-own, Config, Aim, at_management, told_of_management, of_change, Line, link_in, terms, management_sapi, group_tei, drop_for, at_place, to_service, addressed, message_of, aim_of_reading, aim_of_long, aim_of_heard, heard_side, at_side, manages, Control, line_of_link as of_link, result_ok, frame_of, Managed, by_message, is_of_teis, is_of_t201, is_ui, course, link_told as told}
-use Rattle.model_bits.specs.Stream as stream
-use Rattle.lapd_tei.specs.Events as teis
-use Rattle.model_link.specs.Events as link
+use Rattle.laws_trace.proofs.Vocabulary.{arith, ◌≡◌, ℕ, ◌==◌, ◌&&◌, Bool, true, false, cond, List, [], ◌∷◌, ◌++◌, Option, Some, None, refl, sym, ap, ◌∙◌, append-nil, append_assoc, option_map_or, ◌⊎◌, inr, All, filter, Result, Ok, Err, All-nil, All-cons, All-head, All-tail, All-append, filter-append, Tei, Unserved, Address, ReadFault, Undefined, WrongSize, Note, Long, Service, Call, Packet, Parts, reading, long_reading, service_of, TeiTold, Change, Left, Link, orders_for, LinkTimer, Terms, notes-own, Config, Aim, at_management, told_of_management, of_change, Line, link_in, terms, management_sapi, group_tei, drop_for, at_place, to_service, addressed, message_of, aim_of_reading, aim_of_long, aim_of_heard, heard_side, at_side, manages, Control, line_of_link as of_link, result_ok, frame_of, Managed, by_message, is_of_teis, is_of_t201, is_ui, course, link_told as told, LinkEvent, Received, cleared, StreamEvent, tei_message}
 use Rattle.model_link.proofs.OwnNotes.{IsOwn}
 use Rattle.laws_trace.specs.Managing.{by_frame}
 
@@ -17,7 +14,7 @@ others-own : (t : Terms) (ns : List Note) → All (IsOwn t) ns → All IsOther n
 others-own t [] h = All-nil IsOther
 others-own t (n ∷ ns) h = All-cons IsOther n ns (own-other t n (All-head (IsOwn t) n ns h)) (others-own t ns (All-tail (IsOwn t) n ns h))
 
-pub link-others : (t : Terms) (e : link.Event) (l : Link) → All IsOther (told t e l).notes
+pub link-others : (t : Terms) (e : LinkEvent) (l : Link) → All IsOther (told t e l).notes
 link-others t e l = others-own t (told t e l).notes (notes-own t e l)
 
 pub none-of-teis : (ns : List Note) → All IsOther ns → filter is_of_teis ns ≡ []
@@ -25,11 +22,8 @@ none-of-teis [] h = refl
 none-of-teis (n ∷ ns) h = ap (λ b. cond b (n ∷ filter is_of_teis ns) (filter is_of_teis ns)) (All-head IsOther n ns h) ∙ none-of-teis ns (All-tail IsOther n ns h)
 
 -- The orders of a link are none of T201.
-pub link-orders : (t : Terms) (before started after : Option LinkTimer) → filter is_of_t201 (orders_for t before started after) ≡ []
-link-orders t before started after = grind (arith, filter-append)
-
-pub told-orders : (t : Terms) (e : link.Event) (l : Link) → filter is_of_t201 (told t e l).orders ≡ []
-told-orders t e l = link-orders t l.running (course t e l).started (course t e l).link.running
+pub told-orders : (t : Terms) (e : LinkEvent) (l : Link) → filter is_of_t201 (told t e l).orders ≡ []
+told-orders t e l = grind (arith, filter-append)
 
 -- What TEI management tells, and what its links tell behind.
 module _ (c : Config) (t : TeiTold) (l : Line) where
@@ -43,20 +37,20 @@ module _ (c : Config) (t : TeiTold) (l : Line) where
 
   pub behind : (o : Option Change) → Behind o
   behind (Some (Left tei place)) =
-      let call = of_link c Call tei place link.cleared l in
-      let packet = of_link c Packet tei place link.cleared call.line in
+      let call = of_link c Call tei place cleared l in
+      let packet = of_link c Packet tei place cleared call.line in
       record {
         others = call.told.notes ++ packet.told.notes;
         are =
-            All-append IsOther call.told.notes packet.told.notes (link-others (terms c Call tei) link.cleared (link_in l Call place))
-            (link-others (terms c Packet tei) link.cleared (link_in call.line Packet place));
+            All-append IsOther call.told.notes packet.told.notes (link-others (terms c Call tei) cleared (link_in l Call place))
+            (link-others (terms c Packet tei) cleared (link_in call.line Packet place));
         notes = append_assoc t.notes call.told.notes packet.told.notes;
         orders =
             filter-append is_of_t201 (call.told.orders ++ packet.told.orders) t.orders
             ∙ ap (λ xs. xs ++ filter is_of_t201 t.orders)
             (filter-append is_of_t201 call.told.orders packet.told.orders
-            ∙ ap (λ xs. xs ++ filter is_of_t201 packet.told.orders) (told-orders (terms c Call tei) link.cleared (link_in l Call place))
-            ∙ told-orders (terms c Packet tei) link.cleared (link_in call.line Packet place));
+            ∙ ap (λ xs. xs ++ filter is_of_t201 packet.told.orders) (told-orders (terms c Call tei) cleared (link_in l Call place))
+            ∙ told-orders (terms c Packet tei) cleared (link_in call.line Packet place));
         lost = refl;
         stays = refl;
       }
@@ -75,10 +69,10 @@ abbrev pub message_by : Config → Option Parts → Option (List ℕ)
 message_by c None = None
 message_by c (Some frame) = cond (manages c.side && is_message_to frame) (Some frame.info) None
 
-abbrev pub message_in : Config → stream.Event → Option (List ℕ)
+abbrev pub message_in : Config → StreamEvent → Option (List ℕ)
 message_in c e = message_by c (frame_of c e)
 
-pub message-is-read : (c : Config) (w : Managed) (e : stream.Event) → option_map_or (by_frame c w) (frame_of c e) w ≡ option_map_or (by_message c w) (message_in c e) w
+pub message-is-read : (c : Config) (w : Managed) (e : StreamEvent) → option_map_or (by_frame c w) (frame_of c e) w ≡ option_map_or (by_message c w) (message_in c e) w
 message-is-read c w e = go (frame_of c e)
   where
     by-test : (b : Bool) (info : List ℕ) → cond b (by_message c w info) w ≡ option_map_or (by_message c w) (cond b (Some info) None) w
@@ -89,7 +83,7 @@ message-is-read c w e = go (frame_of c e)
 
 pub record OfMessage (aim : Aim) (said : Option (List ℕ)) : Type 0 where
   pub info : List ℕ
-  pub aim_is : aim ≡ at_management (teis.message info)
+  pub aim_is : aim ≡ at_management (tei_message info)
   pub said_is : said ≡ Some info
 
 pub record OfOther (aim : Aim) (said : Option (List ℕ)) : Type 0 where
@@ -99,35 +93,16 @@ pub record OfOther (aim : Aim) (said : Option (List ℕ)) : Type 0 where
 abbrev pub Cases : Aim → Option (List ℕ) → Type 0
 Cases aim said = OfMessage aim said ⊎ OfOther aim said
 
-no-place : (service : Service) (tei : ℕ) (what : link.Received) (o : Option ℕ) → is_management (at_place service tei what o) ≡ false
+no-place : (service : Service) (tei : ℕ) (what : Received) (o : Option ℕ) → is_management (at_place service tei what o) ≡ false
 no-place service tei what o = grind arith
 
 module _ (c : Config) (l : Line) where
-  no-message : (address : Address) (what : link.Received) (aim : Aim) → is_management aim ≡ false → is_management (addressed l address what aim) ≡ false
-  no-message address what aim none = grind (arith, no-place)
-
   by-control : (control : Control) (info : List ℕ) → Cases (message_of control info) (cond (is_ui control) (Some info) None)
   by-control control info = grind arith
 
-  -- On the user's side none is served.
-  at-side : (f : Parts) (b : Bool) (said : Option (List ℕ)) (aim : Aim) → Cases aim (cond b said None) → Cases (at_side c f aim) (cond (manages c.side && b) said None)
-  at-side f b said aim o = grind arith
-
   by-reading : (r : Result Parts ReadFault) → Cases (aim_of_reading c l r) (message_by c (result_ok r))
-  by-reading (Ok f) =
-      at-side f (is_message_to f) (Some f.info) (addressed l f.address (link.frame f) (message_of f.control f.info)) (go (f.address.sapi == management_sapi) (f.address.tei == group_tei))
-    where
-      go : (a b : Bool) → Cases (cond a (cond b (message_of f.control f.info) (drop_for Tei)) (to_service l f.address.tei (link.frame f) (service_of f.address.sapi)))
-          (cond ((a && b) && is_ui f.control) (Some f.info) None)
-      go a b = grind (arith, by-control, no-place)
-  by-reading (Err (Undefined address)) = inr (record { aim_is = no-message address link.undefined (drop_for Unserved) refl; said_is = refl })
-  by-reading (Err (WrongSize address)) = inr (record { aim_is = no-message address link.wrong_size (drop_for Unserved) refl; said_is = refl })
-  by-reading other = inr (record { aim_is = refl; said_is = refl })
+  by-reading (Ok f) = grind (arith, by-control, no-place)
+  by-reading r = grind (arith, no-place)
 
-  by-long : (r : Result Long ReadFault) → is_management (aim_of_long l r) ≡ false
-  by-long r = grind (arith, no-message)
-
-  pub heard-cases : (e : stream.Event) → Cases (aim_of_heard c l e) (message_in c e)
-  heard-cases (stream.frame octets) = by-reading (reading (heard_side c) octets)
-  heard-cases (stream.overlong head) = inr (record { aim_is = by-long (long_reading (heard_side c) head); said_is = refl })
-  heard-cases (stream.dropped cause) = inr (record { aim_is = refl; said_is = refl })
+  pub heard-cases : (e : StreamEvent) → Cases (aim_of_heard c l e) (message_in c e)
+  heard-cases e = grind (arith, by-reading, no-place)

@@ -158,15 +158,7 @@ none-on n = record { same = λ x. sym (nowhere x n); size = sym (empty n); once 
 
 module _ (on : List ℕ) (places : Places) (h : AreOn on places) where
   pub comes-on : (place tei : ℕ) → free_place places ≡ Some place → is_on tei places ≡ false → AreOn (tei ∷ on) (set places place (Some tei))
-  comes-on place tei free off = record {
-    same = λ x. ap (λ b. (tei == x) || b) (h.same x) ∙ sym (on-coming places place tei x free);
-    size =
-        let at = free_place-is places place free in
-        let more = taken-coming places place tei at.0 at.1 in
-        let size = h.size in
-        omega (arith, more, size);
-    once = λ x. go x (tei == x) refl;
-  }
+  comes-on place tei free off = grind (arith, on-coming, free_place-is, taken-coming, go)
     where
       go : (x : ℕ) (b : Bool) → (tei == x) ≡ b → cond b (times x on + 1) (times x on) ≤ 1
       go x b is = grind (arith, none-times, eqb-true)
@@ -175,16 +167,14 @@ module _ (on : List ℕ) (places : Places) (h : AreOn on places) where
   size-leaving tei None is =
       let none : times tei on ≡ 0 = none-times tei on (h.same tei ∙ is-off places tei is) in
       let all = others-length tei on in
-      let size = h.size in
-      omega (arith, none, all, size)
+      omega (arith, none, all, h.size)
   size-leaving tei (Some place) is =
       let at = place_of-is places tei place is in
       let some : 1 ≤ times tei on = some-times tei on (h.same tei ∙ is_on-at places place tei at.1) in
       let most = h.once tei in
       let all = others-length tei on in
       let less = taken-leaving places place tei at.0 at.1 in
-      let size = h.size in
-      omega (arith, some, most, all, less, size)
+      omega (arith, some, most, all, less, h.size)
 
   pub leaves-on : (tei : ℕ) → IsSoundTable places → AreOn (others tei on) (freed places (place_of tei places))
   leaves-on tei sound = grind (arith, on-filtered, on-leaving, size-leaving, fewer-times)

@@ -105,28 +105,15 @@ module _ (t : Terms) (k : Known) (l : Link) (n : ℕ) (ordered : l.a ≤ l.s) (w
     where
       go : (e : Event) → (e ≡ cleared → ⊥) → state_number (state_after t (as_heard t e) l) ≡ expected t k n e (state_number l.state)
       go (received (frame f)) some = by-control l.state known f.address f.control f.info
-      go (received undefined) some = malformed l.state undefined (λ f same. cc same)
-      go (received wrong_size) some = malformed l.state wrong_size (λ f same. cc same)
-      go (received overlong) some = malformed l.state overlong (λ f same. cc same)
-      go (expired timer) some = expires l.state timed.running known counts timer
-      go (requested r full) some = asked l.state r full
-      go offer some = refl
-      go cleared some = absurd (some refl)
+      go e some = grind (arith, malformed, expires, asked)
 
 -- RC, where T200 runs in states 5, 6 and 8.
 module _ (t : Terms) (l : Link) (n : ℕ) (e : Event) (some : e ≡ cleared → ⊥) where
   abbrev left : State → State → ℕ
   left from to = cond (not (awaits_answer to)) l.repeats (cond (moves from to) 0 (cond (is_time (as_heard t e) l) (l.repeats + 1) l.repeats))
 
-  left-is : (e : Event) → (e ≡ cleared → ⊥) → (to : State)
-      → repeats_left (as_heard t e) l to ≡ cond (not (awaits_answer to)) l.repeats (cond (moves l.state to) 0 (cond (is_time (as_heard t e) l) (l.repeats + 1) l.repeats))
-  left-is e some to = grind arith
-
-  ticked : (e : Event) → l.running ≡ Some T200 → n ≡ l.repeats → n + ticks e ≡ cond (is_time (as_heard t e) l) (l.repeats + 1) l.repeats
-  ticked e is counts = grind arith
-
   counted : (from to : State) → l.running ≡ needed_in from l → Counts from n l.repeats → Counts to (cond (moves from to) 0 (n + ticks e)) (left from to)
-  counted from to is counts = grind (arith, ticked)
+  counted from to is counts = grind arith
 
   pub event-counted : HasItsTimer l → Counts l.state n l.repeats → let y = after t e l in Counts y.state (cond (moves l.state y.state) 0 (n + ticks e)) y.repeats
-  event-counted timed counts = grind (arith, event-follows, left-is, counted)
+  event-counted timed counts = grind (arith, event-follows, counted)

@@ -1,13 +1,12 @@
 -- What layer 3 is told of the establishment and release of a link: one event of its line.
-use Rattle.laws_trace.proofs.Vocabulary.{arith, ◌≡◌, ℕ, ◌==◌, ◌&&◌, Bool, false, cond, List, [], Option, Some, None, refl, sym, ap, ◌∙◌, subst, true≢false, inl, inr, filter, list_any, none-some, ErrorCode, Service, State, AwaitingEstablishment, Terms, Link, state_number, Config, Answer, Line, has_tei, link_of, place_in, state_of, terms, notes_of, is-off, moves, unwrap_or, Control, fresh_link, IsSound, is_news, is_sabme, is_xid, releases, wrong, seen, cleared, link_after as after, Event, and-false}
-use Rattle.model_line.specs.Machine as lines
+use Rattle.laws_trace.proofs.Vocabulary.{arith, ◌≡◌, ℕ, ◌==◌, ◌&&◌, Bool, false, cond, List, [], Option, Some, None, refl, sym, ap, ◌∙◌, subst, true≢false, inl, inr, filter, list_any, none-some, ErrorCode, Service, State, AwaitingEstablishment, Terms, Link, state_number, Config, Answer, Line, has_tei, link_of, place_in, state_of, terms, notes_of, is-off, moves, unwrap_or, Control, fresh_link, IsSound, is_news, is_sabme, is_xid, releases, wrong, seen, cleared, link_after as after, Event, and-false, line_after, answer, event-follows}
 use Rattle.laws_trace.proofs.NewsWatched.{establishes, due}
 use Rattle.laws_trace.proofs.TimersWatched.{brings, control_in}
 use Rattle.laws_trace.proofs.States.{is_state, differ}
 use Rattle.laws_trace.proofs.ErrorsSeen.{none-wrong, one-wrong}
-use Rattle.laws_trace.proofs.LinkLed.{on-line}
+use Rattle.laws_trace.proofs.LinkLed.{on-line, own-is}
 use Rattle.laws_trace.proofs.LinksMove.{differs, no-event}
-use Rattle.laws_trace.proofs.NewsOfLeaving.{leaving-due, none-released, one-stays, cleared-due}
+use Rattle.laws_trace.proofs.NewsOfLeaving.{leaving-due, none-released, one-stays}
 use Rattle.laws_trace.proofs.NewsOfOthers.{none-filtered, others-silent}
 use Rattle.laws_trace.proofs.NewsRows.{errors_of, sabme_of, xid_of, released_of}
 use Rattle.laws_trace.proofs.NewsOfLink.{event-news, Asks, event-asking}
@@ -15,9 +14,9 @@ use Rattle.laws_trace.proofs.OwedOfEvent.{IsOwed}
 use Rattle.laws_trace.proofs.OneLink.{HasOne, HasNone, Goes, event-goes, IsGivenUp}
 use Rattle.laws_trace.proofs.TimerClaims.{told_state}
 use Rattle.laws_trace.proofs.TimersOfEvent.{state-on, off-fresh, off-state, comes}
-use Rattle.laws_trace.proofs.NewsSeen.{one-begins, one-releases, one-establishes, none-begins, none-releases}
+use Rattle.laws_trace.proofs.NewsSeen.{one-begins, one-establishes, none-begins, none-releases}
 use Rattle.laws_trace.proofs.TimersOfLine.{seen-brings}
-use Rattle.laws_trace.proofs.Deliveries.{frame_by}
+use Rattle.laws_trace.proofs.Deliveries.{frame_by, heard-by}
 use Rattle.laws_trace.proofs.Facts.{same-state}
 
 abbrev pub IsAskedOf : Service → ℕ → Bool → Line → Type 0
@@ -27,7 +26,7 @@ IsAskedOf service tei was l = let x = link_of service tei l in Asks x.state was 
 module _ (c : Config) (l : Line) (s : IsSound c l) (service : Service) (tei : ℕ) (was : Bool) (asks : IsAskedOf service tei was l) (outstanding : Bool) (owes : IsOwed service tei outstanding l)
     (e : Event) where
   abbrev a : Answer
-  a = lines.answer c e l
+  a = answer c e l
 
   abbrev t : Terms
   t = terms c service tei
@@ -36,7 +35,7 @@ module _ (c : Config) (l : Line) (s : IsSound c l) (service : Service) (tei : �
   own = link_of service tei l
 
   abbrev next : Link
-  next = link_of service tei (lines.after c e l)
+  next = link_of service tei (line_after c e l)
 
   -- nothing is due where the link stays in its state
   unmoved : (state : State) (outstanding : Bool) → due service tei [] was false false false outstanding (state_number state) (state_number state) ≡ []
@@ -52,7 +51,7 @@ module _ (c : Config) (l : Line) (s : IsSound c l) (service : Service) (tei : �
   heard which = list_any (brings which c service tei) (seen e a)
 
   -- a deactivation brings no frame
-  ended-heard : (which : Control → Bool) → IsGivenUp c service tei e l (lines.after c e l) a → heard which ≡ false
+  ended-heard : (which : Control → Bool) → IsGivenUp c service tei e l (line_after c e l) a → heard which ≡ false
   ended-heard which x = grind (arith, seen-brings, control_in, frame_by)
 
   abbrev Errors : ℕ → ℕ → List ErrorCode
@@ -64,27 +63,24 @@ module _ (c : Config) (l : Line) (s : IsSound c l) (service : Service) (tei : �
       filter (is_news service tei) (notes_of a)
       ≡ due service tei (Errors from seen) was (heard is_xid) (heard is_sabme) (releases service tei e a) outstanding from to
 
-  module _ (place there : ℕ) (on : place_in l tei ≡ Some place) (still : place_in (lines.after c e l) tei ≡ Some there) where
+  module _ (place there : ℕ) (on : place_in l tei ≡ Some place) (still : place_in (line_after c e l) tei ≡ Some there) where
     -- no event of the link
-    module _ (x : HasNone c service tei e l (lines.after c e l) a) where
+    module _ (x : HasNone c service tei e l (line_after c e l) a) where
       same : next ≡ own
-      same = x.stays (on-line l tei place on) (on-line (lines.after c e l) tei there still)
+      same = x.stays (on-line l tei place on) (on-line (line_after c e l) tei there still)
 
       none-heard : (which : Control → Bool) → heard which ≡ false
       none-heard which = none-begins c service tei which l place on e x.aims a
 
-      no-release : releases service tei e a ≡ false
-      no-release = none-releases c service tei is_sabme l place on e x.aims
-
       none-due : Due (state_number own.state) (state_number next.state) (state_number next.state)
       none-due =
-          none-filtered service tei (notes_of a) (others-silent service tei c e l s x.aims (inr (on-line (lines.after c e l) tei there still)))
+          none-filtered service tei (notes_of a) (others-silent service tei c e l s x.aims (inr (on-line (line_after c e l) tei there still)))
           ∙ sym (ap (λ (y : Link). due service tei (Errors (state_number own.state) (state_number y.state)) was (heard is_xid) (heard is_sabme) (releases service tei e a) outstanding (state_number own.state) (state_number y.state)) same
           ∙ ap (λ errors. due service tei errors was (heard is_xid) (heard is_sabme) (releases service tei e a) outstanding (state_number own.state) (state_number own.state))
           (none-wrong c service tei l place on e x.aims (state_number own.state) (state_number own.state) (inl refl))
           ∙ ap (λ b. due service tei [] was b (heard is_sabme) (releases service tei e a) outstanding (state_number own.state) (state_number own.state)) (none-heard is_xid)
           ∙ ap (λ b. due service tei [] was false b (releases service tei e a) outstanding (state_number own.state) (state_number own.state)) (none-heard is_sabme)
-          ∙ ap (λ b. due service tei [] was false false b outstanding (state_number own.state) (state_number own.state)) no-release
+          ∙ ap (λ b. due service tei [] was false false b outstanding (state_number own.state) (state_number own.state)) (none-releases c service tei is_sabme l place on e x.aims)
           ∙ unmoved own.state outstanding)
 
       none-asked : Asks next.state (then_asked (told_state own.state) (told_state next.state)) next.asked
@@ -95,41 +91,23 @@ module _ (c : Config) (l : Line) (s : IsSound c l) (service : Service) (tei : �
           ∙ ap (λ d. cond d (establishes service tei e a) was) (and-false (state_number own.state == 5)))) asks)
 
     -- one event of the link
-    module _ (x : HasOne c service tei e l (lines.after c e l) a) where
+    module _ (x : HasOne c service tei e l (line_after c e l) a) where
       some : x.event ≡ cleared → ⊥
       some = no-event x.event c e a service tei x.by
 
       asked-now : (state : State) → Asks state was own.asked → (errors : List ErrorCode) (xid sabme released outstanding : Bool) (to : ℕ)
           → due service tei errors own.asked xid sabme released outstanding (state_number state) to ≡ due service tei errors was xid sabme released outstanding (state_number state) to
-      asked-now AwaitingEstablishment is errors xid sabme released outstanding to = ap (λ b. due service tei errors b xid sabme released outstanding 5 to) (sym is)
-      asked-now other is errors xid sabme released outstanding to = refl
+      asked-now state is errors xid sabme released outstanding to = grind (arith, due)
 
       one-due : Due (state_number own.state) (state_number next.state) (state_number next.state)
       one-due =
           let later = after t x.event own in
-          let its = errors_of t x.event (state_number own.state) (state_number later.state) in
-          ap (filter (is_news service tei)) x.notes ∙ event-news t own x.event some
-          ∙ ap (λ b. due service tei its own.asked (xid_of x.event) (sabme_of x.event) (released_of x.event) b (state_number own.state) (state_number later.state)) (sym owes)
-          ∙ asked-now own.state asks its (xid_of x.event) (sabme_of x.event) (released_of x.event) outstanding (state_number later.state)
-          ∙ ap (λ b. due service tei its was b (sabme_of x.event) (released_of x.event) outstanding (state_number own.state) (state_number later.state)) (sym (one-begins c service tei is_xid e a x.event x.by))
-          ∙ ap (λ b. due service tei its was (heard is_xid) b (released_of x.event) outstanding (state_number own.state) (state_number later.state)) (sym (one-begins c service tei is_sabme e a x.event x.by))
-          ∙ ap (λ b. due service tei its was (heard is_xid) (heard is_sabme) b outstanding (state_number own.state) (state_number later.state)) (sym (one-releases c service tei is_sabme e a x.event x.by))
-          ∙ ap (λ errors. due service tei errors was (heard is_xid) (heard is_sabme) (releases service tei e a) outstanding (state_number own.state) (state_number later.state))
-          (sym (one-wrong c service tei e a (state_number own.state) (state_number later.state) x.event x.by))
-          ∙ ap (λ (y : Link). due service tei (Errors (state_number own.state) (state_number y.state)) was (heard is_xid) (heard is_sabme) (releases service tei e a) outstanding (state_number own.state) (state_number y.state)) (sym x.is)
-
-      one-asked : Asks next.state (then_asked (told_state own.state) (told_state next.state)) next.asked
-      one-asked =
-          let y = after t x.event own in
-          subst (λ (y : Link). Asks y.state (then_asked (told_state own.state) (told_state y.state)) y.asked) (sym x.is)
-          (subst (λ b. Asks y.state b y.asked)
-          (sym (asked-in own.state y.state ∙ ap (λ b. cond ((state_number y.state == 5) && moves own.state y.state) b was) (one-establishes c service tei is_sabme e a x.event x.by)))
-          (event-asking t own was x.event some asks))
+          grind (arith, event-news, some, due, xid_of, sabme_of, released_of, asked-now, one-begins, heard-by, own-is, one-wrong)
 
     -- its deactivation
-    ended-due : IsGivenUp c service tei e l (lines.after c e l) a → Due (state_number own.state) (state_number next.state) (state_number next.state)
+    ended-due : IsGivenUp c service tei e l (line_after c e l) a → Due (state_number own.state) (state_number next.state) (state_number next.state)
     ended-due x =
-        ap (filter (is_news service tei)) x.notes ∙ cleared-due t own was outstanding
+        ap (filter (is_news service tei)) x.notes ∙ (grind (arith, event-follows, due, own-is))
         ∙ sym (ap (λ (y : Link). due service tei (Errors (state_number own.state) (state_number y.state)) was (heard is_xid) (heard is_sabme) (releases service tei e a) outstanding (state_number own.state) (state_number y.state)) x.is
         ∙ ap (λ asked. due service tei (wrong c service tei asked (state_number own.state) 4) was (heard is_xid) (heard is_sabme) (releases service tei e a) outstanding (state_number own.state) 4) x.by.0
         ∙ ap (λ b. due service tei [] was b (heard is_sabme) (releases service tei e a) outstanding (state_number own.state) 4) (ended-heard is_xid x)
@@ -139,7 +117,7 @@ module _ (c : Config) (l : Line) (s : IsSound c l) (service : Service) (tei : �
     stays-due : Due (state_number own.state) (state_number next.state) (state_number next.state)
     stays-due = go (event-goes c e l service tei s)
       where
-        go : Goes c service tei e l (lines.after c e l) a → Due (state_number own.state) (state_number next.state) (state_number next.state)
+        go : Goes c service tei e l (line_after c e l) a → Due (state_number own.state) (state_number next.state) (state_number next.state)
         go (inl x) = none-due x
         go (inr (inl x)) = one-due x
         go (inr (inr x)) = ended-due x
@@ -147,76 +125,75 @@ module _ (c : Config) (l : Line) (s : IsSound c l) (service : Service) (tei : �
     stays-asked : Asks next.state (then_asked (told_state own.state) (told_state next.state)) next.asked
     stays-asked = go (event-goes c e l service tei s)
       where
-        go : Goes c service tei e l (lines.after c e l) a → Asks next.state (then_asked (told_state own.state) (told_state next.state)) next.asked
+        go : Goes c service tei e l (line_after c e l) a → Asks next.state (then_asked (told_state own.state) (told_state next.state)) next.asked
         go (inl x) = none-asked x
-        go (inr (inl x)) = one-asked x
+        go (inr (inl x)) = grind (arith, told_state, asked-in, one-establishes, event-asking, some)
         go (inr (inr x)) = subst (λ (y : Link). Asks y.state (then_asked (told_state own.state) (told_state next.state)) y.asked) (sym x.is) tt
 
   begins-asked : (b : Bool) → next ≡ fresh_link → Asks next.state b next.asked
   begins-asked b is = subst (λ (y : Link). Asks y.state b y.asked) (sym is) tt
 
-  pub event-asks : IsAskedOf service tei (then_asked (state_of service tei l) (state_of service tei (lines.after c e l))) (lines.after c e l)
-  event-asks = go (place_in l tei) refl (place_in (lines.after c e l) tei) refl
+  pub event-asks : IsAskedOf service tei (then_asked (state_of service tei l) (state_of service tei (line_after c e l))) (line_after c e l)
+  event-asks = go (place_in l tei) refl (place_in (line_after c e l) tei) refl
     where
       b : Bool
-      b = then_asked (state_of service tei l) (state_of service tei (lines.after c e l))
+      b = then_asked (state_of service tei l) (state_of service tei (line_after c e l))
 
-      go : (o : Option ℕ) → place_in l tei ≡ o → (p : Option ℕ) → place_in (lines.after c e l) tei ≡ p → Asks next.state b next.asked
-      go o on None off = begins-asked b (off-fresh service tei (lines.after c e l) off)
+      go : (o : Option ℕ) → place_in l tei ≡ o → (p : Option ℕ) → place_in (line_after c e l) tei ≡ p → Asks next.state b next.asked
+      go o on None off = begins-asked b (off-fresh service tei (line_after c e l) off)
       go None off (Some there) still = begins-asked b (comes c e l s service tei off)
       go (Some place) on (Some there) still =
           subst (λ b. Asks next.state b next.asked)
-          (sym (ap (λ o. then_asked o (state_of service tei (lines.after c e l))) (state-on service tei l place on)
-          ∙ ap (λ o. then_asked (told_state own.state) o) (state-on service tei (lines.after c e l) there still)))
+          (sym (ap (λ o. then_asked o (state_of service tei (line_after c e l))) (state-on service tei l place on)
+          ∙ ap (λ o. then_asked (told_state own.state) o) (state-on service tei (line_after c e l) there still)))
           (stays-asked place there on still)
 
-  both-due : (from to : ℕ) → state_of service tei l ≡ Some from → state_of service tei (lines.after c e l) ≡ Some to → Due from to to
-  both-due from to was-in is-in = go (place_in l tei) refl (place_in (lines.after c e l) tei) refl
+  both-due : (from to : ℕ) → state_of service tei l ≡ Some from → state_of service tei (line_after c e l) ≡ Some to → Due from to to
+  both-due from to was-in is-in = go (place_in l tei) refl (place_in (line_after c e l) tei) refl
     where
       number : (n m : ℕ) → Some n ≡ Some m → n ≡ m
       number n m is = cc is
 
-      go : (o : Option ℕ) → place_in l tei ≡ o → (p : Option ℕ) → place_in (lines.after c e l) tei ≡ p → Due from to to
-      go None off p q = absurd (none-some from (sym (off-state service tei l off) ∙ was-in))
-      go (Some place) on None off = absurd (none-some to (sym (off-state service tei (lines.after c e l) off) ∙ is-in))
+      go : (o : Option ℕ) → place_in l tei ≡ o → (p : Option ℕ) → place_in (line_after c e l) tei ≡ p → Due from to to
       go (Some place) on (Some there) still =
           subst (λ n. Due n to to) (number (state_number own.state) from (sym (state-on service tei l place on) ∙ was-in))
-          (subst (λ n. Due (state_number own.state) n n) (number (state_number next.state) to (sym (state-on service tei (lines.after c e l) there still) ∙ is-in))
+          (subst (λ n. Due (state_number own.state) n n) (number (state_number next.state) to (sym (state-on service tei (line_after c e l) there still) ∙ is-in))
           (stays-due place there on still))
+      go o off p q = grind (arith, none-some, off-state)
 
   -- where the TEI leaves, it comes to state 4
-  gone-due : (place : ℕ) → place_in l tei ≡ Some place → place_in (lines.after c e l) tei ≡ None → Due (state_number own.state) 4 1
+  gone-due : (place : ℕ) → place_in l tei ≡ Some place → place_in (line_after c e l) tei ≡ None → Due (state_number own.state) 4 1
   gone-due place on gone =
-      let off : has_tei tei (lines.after c e l) ≡ false = is-off (lines.after c e l).management.places tei gone in
+      let off : has_tei tei (line_after c e l) ≡ false = is-off (line_after c e l).management.places tei gone in
       leaving-due service tei c e l s place on off was outstanding
       ∙ ap (λ b. due service tei [] was b (heard is_sabme) false outstanding (state_number own.state) 4) (sym (none-brought off (event-goes c e l service tei s)))
       ∙ ap (λ b. due service tei [] was (heard is_xid) (heard is_sabme) b outstanding (state_number own.state) 4) (sym (none-released service tei c e l (on-line l tei place on) off a))
       ∙ ap (λ errors. due service tei errors was (heard is_xid) (heard is_sabme) (releases service tei e a) outstanding (state_number own.state) 4) (sym (no-error off (event-goes c e l service tei s)))
     where
-      none-brought : has_tei tei (lines.after c e l) ≡ false → Goes c service tei e l (lines.after c e l) a → heard is_xid ≡ false
+      none-brought : has_tei tei (line_after c e l) ≡ false → Goes c service tei e l (line_after c e l) a → heard is_xid ≡ false
       none-brought off (inl x) = none-begins c service tei is_xid l place on e x.aims a
       none-brought off (inr (inr x)) = ended-heard is_xid x
       none-brought off (inr (inl x)) = absurd (true≢false (sym (one-stays service tei c e l s (on-line l tei place on) x.place x.event x.aimed) ∙ off))
 
-      no-error : has_tei tei (lines.after c e l) ≡ false → Goes c service tei e l (lines.after c e l) a → Errors (state_number own.state) 1 ≡ []
+      no-error : has_tei tei (line_after c e l) ≡ false → Goes c service tei e l (line_after c e l) a → Errors (state_number own.state) 1 ≡ []
       no-error off (inl x) = none-wrong c service tei l place on e x.aims (state_number own.state) 1 (inr refl)
       no-error off (inr (inr x)) = ap (λ e. wrong c service tei e (state_number own.state) 1) x.by.0
       no-error off (inr (inl x)) = absurd (true≢false (sym (one-stays service tei c e l s (on-line l tei place on) x.place x.event x.aimed) ∙ off))
 
-  pub event-due : (from : ℕ) → state_of service tei l ≡ Some from → Due from (unwrap_or (state_of service tei (lines.after c e l)) 4) (unwrap_or (state_of service tei (lines.after c e l)) 1)
-  event-due from was-in = go (state_of service tei (lines.after c e l)) refl
+  pub event-due : (from : ℕ) → state_of service tei l ≡ Some from → Due from (unwrap_or (state_of service tei (line_after c e l)) 4) (unwrap_or (state_of service tei (line_after c e l)) 1)
+  event-due from was-in = go (state_of service tei (line_after c e l)) refl
     where
       number : (n m : ℕ) → Some n ≡ Some m → n ≡ m
       number n m is = cc is
 
-      left-line : (o : Option ℕ) → place_in (lines.after c e l) tei ≡ o → state_of service tei (lines.after c e l) ≡ None → place_in (lines.after c e l) tei ≡ None
+      left-line : (o : Option ℕ) → place_in (line_after c e l) tei ≡ o → state_of service tei (line_after c e l) ≡ None → place_in (line_after c e l) tei ≡ None
       left-line o off none = grind (arith, none-some, state-on)
 
-      by-place : (o : Option ℕ) → place_in l tei ≡ o → state_of service tei (lines.after c e l) ≡ None → Due from 4 1
+      by-place : (o : Option ℕ) → place_in l tei ≡ o → state_of service tei (line_after c e l) ≡ None → Due from 4 1
       by-place None off none = absurd (none-some from (sym (off-state service tei l off) ∙ was-in))
       by-place (Some place) on none = grind (arith, number, state-on, gone-due, left-line)
 
-      go : (o : Option ℕ) → state_of service tei (lines.after c e l) ≡ o → Due from (unwrap_or o 4) (unwrap_or o 1)
+      go : (o : Option ℕ) → state_of service tei (line_after c e l) ≡ o → Due from (unwrap_or o 4) (unwrap_or o 1)
       go (Some to) is-in = both-due from to was-in is-in
       go None none = by-place (place_in l tei) refl none
 
@@ -228,7 +205,7 @@ module _ (c : Config) (l : Line) (s : IsSound c l) (service : Service) (tei : �
       go (Some place) on = absurd (none-some (state_number own.state) (sym none ∙ state-on service tei l place on))
       go None off = by-part (event-goes c e l service tei s)
         where
-          by-part : Goes c service tei e l (lines.after c e l) a → filter (is_news service tei) (notes_of a) ≡ []
+          by-part : Goes c service tei e l (line_after c e l) a → filter (is_news service tei) (notes_of a) ≡ []
           by-part (inl x) = none-filtered service tei (notes_of a) (others-silent service tei c e l s x.aims (inl (is-off l.management.places tei off)))
           by-part (inr (inl x)) = absurd (none-some x.place (sym off ∙ x.placed))
           by-part (inr (inr x)) = absurd (none-some x.place (sym off ∙ x.placed))

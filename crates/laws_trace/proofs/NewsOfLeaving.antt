@@ -1,8 +1,5 @@
 -- Where the TEI of a link leaves its line, what is told of the link is what the end of the TEI tells.
-use Rattle.laws_trace.proofs.Vocabulary.{◌≡◌, ℕ, ◌==◌, ◌&&◌, ◌||◌, not, Bool, true, false, List, [], ◌++◌, Option, Some, None, refl, sym, ap, ◌∙◌, subst, arith, eq-eqb, true≢false, ◌⊎◌, inl, inr, append-nil, filter, option_map_or, get_or-set_other, filter-append, Note, Refusal, Service, Call, Packet, Timer, same_service, Management, is_on, Change, Gained, Left, place_of-is, is_on-at, event-follows, Terms, Link, state_number, Config, Aim, at_none, at_link, at_management, of_aim, of_change, told_of_management, Answer, hears, expiry, request, next, dropped, aim_of_expiry, Line, has_tei, link_in, link_of, link_number, place_in, terms, aim_of, unless_refused, unless_refused_told, aim_of_heard, Assign, Remove, Deactivate, at_requested, at_deactivated, aim_of_request, group_told, IsProper, heard_aims, request_proper, notes_of, has-place, ByChange, noted, Down, at_no_link, IfSome, line_of, Taken, taken, IsOne, taken-one, eqb-true, fresh_link as fresh, line_of_link as of_link, Event, line_after as after, answer, refusal, Request, Establish, Release, Data, Checking as Check, SetBusy, ClearBusy, IsSound, is_news, releases, by-down, or-true, HasLeft, TeiIsInRange as IsInRange, Moves, changes_are_told, link_told as told, false_from_ne_true}
-use Rattle.model_bits.specs.Stream as stream
-use Rattle.lapd_tei.specs.Events as teis
-use Rattle.model_link.specs.Events as link
+use Rattle.laws_trace.proofs.Vocabulary.{◌≡◌, ℕ, ◌==◌, ◌&&◌, ◌||◌, not, Bool, true, false, List, [], ◌++◌, Option, Some, None, refl, sym, ap, ◌∙◌, subst, arith, eq-eqb, true≢false, ◌⊎◌, inl, inr, append-nil, filter, option_map_or, get_or-set_other, filter-append, Note, Refusal, Service, Call, Packet, Timer, same_service, Management, is_on, Change, Gained, Left, place_of-is, is_on-at, event-follows, Terms, Link, state_number, Config, Aim, at_none, at_link, at_management, of_aim, of_change, told_of_management, Answer, hears, expiry, request, next, dropped, aim_of_expiry, Line, has_tei, link_in, link_of, link_number, place_in, terms, aim_of, unless_refused, unless_refused_told, aim_of_heard, Assign, Remove, Deactivate, at_requested, at_deactivated, aim_of_request, group_told, IsProper, heard_aims, request_proper, notes_of, has-place, ByChange, noted, Down, at_no_link, IfSome, line_of, Taken, taken, IsOne, taken-one, eqb-true, fresh_link as fresh, line_of_link as of_link, Event, line_after as after, answer, refusal, Request, Establish, Release, Data, Checking as Check, SetBusy, ClearBusy, IsSound, is_news, releases, by-down, or-true, HasLeft, TeiIsInRange as IsInRange, Moves, changes_are_told, link_told as told, false_from_ne_true, LinkRequest, received, LinkClearBusy, LinkEvent, LinkRelease, LinkEstablish, LinkData, LinkSetBusy, cleared, StreamEvent, tei_check, tei_remove, tei_told, TeiEvent, tei_assign, tei_message, tei_after}
 use Rattle.laws_trace.proofs.NewsWatched.{due}
 use Rattle.laws_trace.proofs.LinkLed.{own-is}
 use Rattle.laws_trace.proofs.ManagingTables.{on-coming, on-leaving}
@@ -13,18 +10,10 @@ next-keeps : (tei : ℕ) (c : Config) (l : Line) → IsSound c l → has_tei tei
 unfolding after
 next-keeps tei c l s on = go (taken c l) (taken-one c l s)
   where
-    took : (t : Taken) → IsOne c l t → has_tei tei t.line ≡ true
-    took t o = grind arith
-
     go : (o : Option Taken) → IfSome o (IsOne c l) → has_tei tei (option_map_or line_of o l) ≡ true
-    go None x = on
-    go (Some t) x = took t x
+    go o x = grind arith
 
 -- What the end of a TEI tells of its link is due as the link would come to state 4.
-pub cleared-due : (t : Terms) (l : Link) (was outstanding : Bool)
-    → filter (is_news t.service t.tei) (told t link.cleared l).notes ≡ due t.service t.tei [] was false false false outstanding (state_number l.state) 4
-cleared-due t l was outstanding = grind (arith, event-follows, due, own-is)
-
 module _ (service : Service) (tei : ℕ) (c : Config) (l : Line) (s : IsSound c l) (place : ℕ) (on : place_in l tei ≡ Some place) where
   abbrev own : Link
   own = link_of service tei l
@@ -33,7 +22,7 @@ module _ (service : Service) (tei : ℕ) (c : Config) (l : Line) (s : IsSound c 
   news ns = filter (is_news service tei) ns
 
   abbrev Leaves : List Note → Type 0
-  Leaves ns = news ns ≡ news (told (terms c service tei) link.cleared own).notes
+  Leaves ns = news ns ≡ news (told (terms c service tei) cleared own).notes
 
   abbrev Gone : Aim → Type 0
   Gone aim = has_tei tei (of_aim c aim l).line ≡ false → Leaves (of_aim c aim l).told.notes
@@ -45,15 +34,15 @@ module _ (service : Service) (tei : ℕ) (c : Config) (l : Line) (s : IsSound c 
   stays aim same = λ off. absurd (true≢false (sym (same ∙ there) ∙ off))
 
   -- An event of TEI management.
-  module _ (me : teis.Event) (fits : IsInRange me) where
+  module _ (me : TeiEvent) (fits : IsInRange me) where
     abbrev m : Management
-    m = teis.after me l.management
+    m = tei_after me l.management
 
     abbrev at : Line
     at = record l { management = m }
 
     abbrev ns : List Note
-    ns = (teis.told me l.management).notes
+    ns = (tei_told me l.management).notes
 
     three : (xs ys zs : List Note) → news ((xs ++ ys) ++ zs) ≡ (news xs ++ news ys) ++ news zs
     three xs ys zs = filter-append (is_news service tei) (xs ++ ys) zs ∙ ap (λ us. us ++ news zs) (filter-append (is_news service tei) xs ys)
@@ -63,19 +52,19 @@ module _ (service : Service) (tei : ℕ) (c : Config) (l : Line) (s : IsSound c 
 
     -- its own TEI leaves
     its-own : (place' : ℕ) → HasLeft l.management.places m.places tei place' → ByChange me (Some (Left tei place')) ns
-        → Leaves (of_change c (Some (Left tei place')) (told_of_management (teis.told me l.management)) at).told.notes
+        → Leaves (of_change c (Some (Left tei place')) (told_of_management (tei_told me l.management)) at).told.notes
     its-own place' gone is = by-service service refl
       where
         placed : place_in l tei ≡ Some place'
         placed = has-place l.management.places tei place' s.management.table gone.was_there
 
         call : List Note
-        call = (of_link c Call tei place' link.cleared at).told.notes
+        call = (of_link c Call tei place' cleared at).told.notes
 
         packet : List Note
-        packet = (of_link c Packet tei place' link.cleared (of_link c Call tei place' link.cleared at).line).told.notes
+        packet = (of_link c Packet tei place' cleared (of_link c Call tei place' cleared at).line).told.notes
 
-        second : link_in (of_link c Call tei place' link.cleared at).line Packet place' ≡ link_in l Packet place'
+        second : link_in (of_link c Call tei place' cleared at).line Packet place' ≡ link_in l Packet place'
         second = get_or-set_other l.links (link_number place' Call) (link_number place' Packet) fresh fresh (λ e. omega (arith, e))
 
         first-only : (xs ys zs : List Note) → xs ≡ [] → zs ≡ [] → (xs ++ ys) ++ zs ≡ ys
@@ -88,25 +77,25 @@ module _ (service : Service) (tei : ℕ) (c : Config) (l : Line) (s : IsSound c 
         by-service Call same =
             three ns call packet
             ∙ first-only (news ns) (news call) (news packet) (none-news (Some (Left tei place')) is)
-            (none-filtered service tei packet (other-link service tei (terms c Packet tei) (ap (λ z. same_service Packet z && tei == tei) same) link.cleared (link_in (of_link c Call tei place' link.cleared at).line Packet place')))
-            ∙ ap (λ z. news (told (terms c z tei) link.cleared (link_in l z place')).notes) (sym same)
-            ∙ ap (λ o. news (told (terms c service tei) link.cleared (option_map_or (link_in l service) o fresh)).notes) (sym placed)
+            (none-filtered service tei packet (other-link service tei (terms c Packet tei) (ap (λ z. same_service Packet z && tei == tei) same) cleared (link_in (of_link c Call tei place' cleared at).line Packet place')))
+            ∙ ap (λ z. news (told (terms c z tei) cleared (link_in l z place')).notes) (sym same)
+            ∙ ap (λ o. news (told (terms c service tei) cleared (option_map_or (link_in l service) o fresh)).notes) (sym placed)
         by-service Packet same =
             three ns call packet
             ∙ last-only (news ns) (news call) (news packet) (none-news (Some (Left tei place')) is)
-            (none-filtered service tei call (other-link service tei (terms c Call tei) (ap (λ z. same_service Call z && tei == tei) same) link.cleared (link_in at Call place')))
-            ∙ ap (λ x. news (told (terms c Packet tei) link.cleared x).notes) second
-            ∙ ap (λ z. news (told (terms c z tei) link.cleared (link_in l z place')).notes) (sym same)
-            ∙ ap (λ o. news (told (terms c service tei) link.cleared (option_map_or (link_in l service) o fresh)).notes) (sym placed)
+            (none-filtered service tei call (other-link service tei (terms c Call tei) (ap (λ z. same_service Call z && tei == tei) same) cleared (link_in at Call place')))
+            ∙ ap (λ x. news (told (terms c Packet tei) cleared x).notes) second
+            ∙ ap (λ z. news (told (terms c z tei) cleared (link_in l z place')).notes) (sym same)
+            ∙ ap (λ o. news (told (terms c service tei) cleared (option_map_or (link_in l service) o fresh)).notes) (sym placed)
 
-    changed : (o : Option Change) → Moves l.management.places o m.places → ByChange me o ns → has_tei tei (of_change c o (told_of_management (teis.told me l.management)) at).line ≡ false
-        → Leaves (of_change c o (told_of_management (teis.told me l.management)) at).told.notes
+    changed : (o : Option Change) → Moves l.management.places o m.places → ByChange me o ns → has_tei tei (of_change c o (told_of_management (tei_told me l.management)) at).line ≡ false
+        → Leaves (of_change c o (told_of_management (tei_told me l.management)) at).told.notes
     changed None same is off = absurd (true≢false (sym (ap (is_on tei) same ∙ there) ∙ off))
     changed (Some (Gained by place')) joined is off =
         absurd (true≢false (sym (ap (is_on tei) joined.is_there ∙ on-coming l.management.places place' by tei joined.lowest ∙ ap (λ b. (by == tei) || b) there ∙ or-true (by == tei)) ∙ off))
     changed (Some (Left by place')) gone is off = go (by == tei) refl
       where
-        go : (b : Bool) → (by == tei) ≡ b → Leaves (of_change c (Some (Left by place')) (told_of_management (teis.told me l.management)) at).told.notes
+        go : (b : Bool) → (by == tei) ≡ b → Leaves (of_change c (Some (Left by place')) (told_of_management (tei_told me l.management)) at).told.notes
         go true same = grind (arith, eqb-true, its-own)
         go false other =
             let apart = false_from_ne_true (tei == by) (λ is. true≢false (sym (eq-eqb by tei (sym (eqb-true tei by is))) ∙ other)) in
@@ -114,38 +103,32 @@ module _ (service : Service) (tei : ℕ) (c : Config) (l : Line) (s : IsSound c 
             ∙ on-leaving l.management.places by tei s.management.table ∙ ap (λ b. not b && is_on tei l.management.places) apart ∙ there) ∙ off))
 
     managed : Gone (at_management me)
-    managed off = changed (teis.told me l.management).change (changes_are_told me l.management fits s.management) (noted me l.management s.management) off
+    managed off = changed (tei_told me l.management).change (changes_are_told me l.management fits s.management) (noted me l.management s.management) off
 
-  asked-gone : (its : Service) (by : ℕ) (what : link.Request) (o : Option ℕ) → Gone (at_requested its by what o)
-  asked-gone its by what o = grind (arith, stays)
-
-  deactivated-gone : (its : Service) (by : ℕ) (o : Option ℕ) → Gone (at_deactivated its by o)
-  deactivated-gone its by o = grind (arith, stays)
-
-  pub heard-gone : (e : stream.Event) → Gone (aim_of_heard c l e)
+  pub heard-gone : (e : StreamEvent) → Gone (aim_of_heard c l e)
   heard-gone e =
-      heard_aims c l Gone (λ cause. stays (at_none (dropped cause)) refl) (λ its by place' what at. stays (at_link its by place' (link.received what)) refl) (λ info. managed (teis.message info) tt)
+      heard_aims c l Gone (λ cause. stays (at_none (dropped cause)) refl) (λ its by place' what at. stays (at_link its by place' (received what)) refl) (λ info. managed (tei_message info) tt)
       (λ parts its to. stays (at_none (group_told its parts.info)) refl) e
 
   pub expiry-gone : (timer : Timer) → Gone (aim_of_expiry timer l)
   expiry-gone timer = grind (arith, stays, managed)
 
   pub request-gone : (r : Request) → IsProper c l (aim_of_request r l) → Gone (aim_of_request r l)
-  request-gone (Establish its by) proper = asked-gone its by link.Establish (place_in l by)
-  request-gone (Release its by) proper = asked-gone its by link.Release (place_in l by)
-  request-gone (Data its by contents) proper = asked-gone its by (link.Data contents) (place_in l by)
+  request-gone (Establish its by) proper = grind (arith, stays)
+  request-gone (Release its by) proper = grind (arith, stays)
+  request-gone (Data its by contents) proper = grind (arith, stays)
   request-gone (Request.Unit its by contents) proper = stays (aim_of_request (Request.Unit its by contents) l) refl
-  request-gone (Assign by) proper = managed (teis.assign by) proper
-  request-gone (Remove by) proper = managed (teis.remove by) proper
-  request-gone (Check by) proper = managed (teis.check by) proper
-  request-gone (SetBusy its by) proper = asked-gone its by link.SetBusy (place_in l by)
-  request-gone (ClearBusy its by) proper = asked-gone its by link.ClearBusy (place_in l by)
-  request-gone (Deactivate its by) proper = deactivated-gone its by (place_in l by)
+  request-gone (Assign by) proper = managed (tei_assign by) proper
+  request-gone (Remove by) proper = managed (tei_remove by) proper
+  request-gone (Check by) proper = managed (tei_check by) proper
+  request-gone (SetBusy its by) proper = grind (arith, stays)
+  request-gone (ClearBusy its by) proper = grind (arith, stays)
+  request-gone (Deactivate its by) proper = grind (arith, stays)
   request-gone Down proper = stays at_no_link (by-down c l (λ f. has_tei tei f.line ≡ has_tei tei l) refl)
 
 -- Any event of a line.
 leaves : (service : Service) (tei : ℕ) (c : Config) (e : Event) (l : Line) → IsSound c l → (place : ℕ) → place_in l tei ≡ Some place → has_tei tei (after c e l) ≡ false
-    → filter (is_news service tei) (notes_of (answer c e l)) ≡ filter (is_news service tei) (told (terms c service tei) link.cleared (link_of service tei l)).notes
+    → filter (is_news service tei) (notes_of (answer c e l)) ≡ filter (is_news service tei) (told (terms c service tei) cleared (link_of service tei l)).notes
 unfolding after answer
 leaves service tei c (hears what) l s place on off = heard-gone service tei c l s place on what off
 leaves service tei c (expiry timer) l s place on off = expiry-gone service tei c l s place on timer off
@@ -153,7 +136,7 @@ leaves service tei c (request r) l s place on off = go (refusal c false r l) (re
   where
     go : (o : Option Refusal) → IsProper c l (unless_refused o (aim_of_request r l)) → has_tei tei (of_aim c (unless_refused o (aim_of_request r l)) l).line ≡ false
         → filter (is_news service tei) (notes_of (unless_refused_told o (of_aim c (unless_refused o (aim_of_request r l)) l)))
-        ≡ filter (is_news service tei) (told (terms c service tei) link.cleared (link_of service tei l)).notes
+        ≡ filter (is_news service tei) (told (terms c service tei) cleared (link_of service tei l)).notes
     go None proper off = request-gone service tei c l s place on r proper off
     go (Some why) proper off = absurd (true≢false (sym (is_on-at l.management.places place tei (place_of-is l.management.places tei place on).1) ∙ off))
 leaves service tei c next l s place on off =
@@ -161,8 +144,7 @@ leaves service tei c next l s place on off =
 
 pub leaving-due : (service : Service) (tei : ℕ) (c : Config) (e : Event) (l : Line) → IsSound c l → (place : ℕ) → place_in l tei ≡ Some place → has_tei tei (after c e l) ≡ false
     → (was outstanding : Bool) → filter (is_news service tei) (notes_of (answer c e l)) ≡ due service tei [] was false false false outstanding (state_number (link_of service tei l).state) 4
-leaving-due service tei c e l s place on off was outstanding =
-    leaves service tei c e l s place on off ∙ cleared-due (terms c service tei) (link_of service tei l) was outstanding
+leaving-due service tei c e l s place on off was outstanding = leaves service tei c e l s place on off ∙ (grind (arith, event-follows, due, own-is))
 
 -- No request to release a link takes its TEI off the line.
 pub none-released : (service : Service) (tei : ℕ) (c : Config) (e : Event) (l : Line) → has_tei tei l ≡ true → has_tei tei (after c e l) ≡ false → (a : Answer) → releases service tei e a ≡ false
@@ -170,7 +152,7 @@ unfolding after
 none-released service tei c e l on off a = grind arith
 
 -- An event of a link keeps its TEI on the line.
-pub one-stays : (service : Service) (tei : ℕ) (c : Config) (e : Event) (l : Line) → IsSound c l → has_tei tei l ≡ true → (place : ℕ) (event : link.Event)
+pub one-stays : (service : Service) (tei : ℕ) (c : Config) (e : Event) (l : Line) → IsSound c l → has_tei tei l ≡ true → (place : ℕ) (event : LinkEvent)
     → (e ≡ next) ⊎ (aim_of c e l ≡ at_link service tei place event) → has_tei tei (after c e l) ≡ true
 unfolding after
 one-stays service tei c e l s on place event (inl is) = subst (λ e. has_tei tei (after c e l) ≡ true) (sym is) (next-keeps tei c l s on)

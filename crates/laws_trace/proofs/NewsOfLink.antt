@@ -1,6 +1,5 @@
 -- What a link tells of establishments and releases: each event of it; and who asked for the establishment that it awaits.
-use Rattle.laws_trace.proofs.Vocabulary.{arith, ◌≡◌, ◌==◌, ◌&&◌, not, Bool, false, cond, List, [], refl, sym, ◌∙◌, subst, filter, Parts, State, AwaitingEstablishment, Terms, LinkTimer, Received, undefined, wrong_size, overlong, received, expired, requested, offer, cleared, Link, state_number, may_repeat, runs, notes-own, asked_left, asks_establishment, as_heard, state_after, moves, by_expiry, told_by, told_expired, event-follows, Note, LinkEvent as Event, LinkRequest as Request, frame, is_news, given_up}
-use Rattle.model_link.specs.Machine as links
+use Rattle.laws_trace.proofs.Vocabulary.{arith, ◌≡◌, ◌==◌, ◌&&◌, not, Bool, false, cond, List, [], refl, sym, ◌∙◌, subst, filter, Parts, State, AwaitingEstablishment, Terms, LinkTimer, Received, undefined, wrong_size, overlong, received, expired, requested, offer, cleared, Link, state_number, may_repeat, runs, notes-own, asked_left, asks_establishment, as_heard, state_after, moves, by_expiry, told_by, told_expired, event-follows, Note, LinkEvent as Event, LinkRequest as Request, frame, is_news, given_up, link_told, link_after}
 use Rattle.laws_trace.proofs.NewsWatched.{due}
 use Rattle.laws_trace.proofs.NewsRows.{all-news, errors_of, xid_of, sabme_of, released_of, Fits, Told, nothing-fits, by-control}
 
@@ -20,24 +19,18 @@ module _ (t : Terms) (l : Link) where
   told : (e : Event) → (e ≡ cleared → ⊥) → let to = state_after t (as_heard t e) l in
       Fits t l (errors_of t e (state_number l.state) (state_number to)) (xid_of e) (sabme_of e) (released_of e) l.state to (told_by t (as_heard t e) l to)
   told (received (frame f)) some = by-control t l l.state f.address f.control f.info
-  told (received undefined) some = malformed l.state undefined (λ f same. cc same)
-  told (received wrong_size) some = malformed l.state wrong_size (λ f same. cc same)
-  told (received overlong) some = malformed l.state overlong (λ f same. cc same)
-  told (expired timer) some = expires l.state timer (runs timer l.running) (may_repeat t l)
-  told (requested r full) some = asks l.state r full
-  told offer some = nothing-fits t l l.state [] refl
-  told cleared some = absurd (some refl)
+  told e some = grind (arith, malformed, expires, asks, nothing-fits)
 
   -- The notes of an event of a link.
-  pub event-news : (e : Event) → (e ≡ cleared → ⊥) → let ns = (links.told t e l).notes in let to = (links.after t e l).state in
+  pub event-news : (e : Event) → (e ≡ cleared → ⊥) → let ns = (link_told t e l).notes in let to = (link_after t e l).state in
       filter (is_news t.service t.tei) ns
       ≡ due t.service t.tei (errors_of t e (state_number l.state) (state_number to)) l.asked (xid_of e) (sabme_of e) (released_of e) (not (l.s == l.a)) (state_number l.state) (state_number to)
   event-news e some =
       let leaves = (event-follows t e l).leaves in
-      let ns = (links.told t e l).notes in
+      let ns = (link_told t e l).notes in
       let its : State → List Note → Type 0 = λ to ns. Fits t l (errors_of t e (state_number l.state) (state_number to)) (xid_of e) (sabme_of e) (released_of e) l.state to ns in
       all-news t ns (notes-own t e l)
-      ∙ subst (λ ns. its (links.after t e l).state ns) (sym leaves.tells) (subst (λ to. its to (told_by t (as_heard t e) l to)) (sym leaves.state) (told e some))
+      ∙ subst (λ ns. its (link_after t e l).state ns) (sym leaves.tells) (subst (λ to. its to (told_by t (as_heard t e) l to)) (sym leaves.state) (told e some))
 
 -- Who asked for the establishment that is awaited.
 abbrev pub Asks : State → Bool → Bool → Type 0
@@ -48,13 +41,10 @@ module _ (t : Terms) (l : Link) (was : Bool) where
   abbrev left : State → Event → State → Bool
   left from e to = cond (moves from to && (state_number to == 5)) (asks_establishment e) l.asked
 
-  left-is : (e : Event) → (e ≡ cleared → ⊥) → (to : State) → asked_left (as_heard t e) l to ≡ left l.state e to
-  left-is e some to = grind arith
-
   asking : (e : Event) (from to : State) → Asks from was l.asked
       → Asks to (cond ((state_number to == 5) && moves from to) (asks_establishment e) was) (left from e to)
   asking e from to asks = grind arith
 
   pub event-asking : (e : Event) → (e ≡ cleared → ⊥) → Asks l.state was l.asked
-      → let y = links.after t e l in Asks y.state (cond ((state_number y.state == 5) && moves l.state y.state) (asks_establishment e) was) y.asked
-  event-asking e some asks = grind (arith, event-follows, left-is, asking)
+      → let y = link_after t e l in Asks y.state (cond ((state_number y.state == 5) && moves l.state y.state) (asks_establishment e) was) y.asked
+  event-asking e some asks = grind (arith, event-follows, asking)

@@ -1,7 +1,5 @@
 -- Where no event is one of a link, and its TEI stays on the line, nothing is told of its establishment or its release.
-use Rattle.laws_trace.proofs.Vocabulary.{arith, ◌≡◌, ℕ, ◌==◌, ◌&&◌, Bool, true, false, cond, List, [], ◌∷◌, ◌++◌, Option, Some, None, refl, sym, ap, ◌∙◌, true≢false, ◌⊎◌, inl, inr, All, filter, All-nil, All-cons, All-append, All-head, All-tail, All-weaker, Note, Service, Call, Packet, Timer, same_service, is_on-at, Management, IsAt, IsSoundTable, Change, Left, Terms, LinkTimer, Link, notes-own, Config, Aim, at_link, at_management, of_aim, of_change, told_of_management, at_timer, aim_of_expiry, Line, has_tei, link_in, place_in, terms, aim_of, aim_of_heard, group_tei, Assign, Remove, Deactivate, at_requested, at_deactivated, aim_of_request, IsProper, heard_aims, request_proper, notes_of, is-off, has-no-place, ByChange, noted, Down, eqb-true, IsOwn, fresh_link as fresh, line_of_link as of_link, Event, line_after as after, answer, Request, Establish, Release, Data, Checking as Check, SetBusy, ClearBusy, IsSound, is_own, is_news, by-down, Unit, changes_are_told, sound-after, HasLeft, TeiIsInRange as IsInRange, Moves, link_told as told, emptied}
-use Rattle.model_bits.specs.Stream as stream
-use Rattle.lapd_tei.specs.Events as teis
+use Rattle.laws_trace.proofs.Vocabulary.{arith, ◌≡◌, ℕ, ◌==◌, ◌&&◌, Bool, true, false, cond, List, [], ◌∷◌, ◌++◌, Option, Some, None, refl, sym, ap, ◌∙◌, true≢false, ◌⊎◌, inl, inr, All, filter, All-nil, All-cons, All-append, All-head, All-tail, All-weaker, Note, Service, Call, Packet, Timer, same_service, is_on-at, Management, IsAt, IsSoundTable, Change, Left, Terms, LinkTimer, Link, notes-own, Config, Aim, at_link, at_management, of_aim, of_change, told_of_management, at_timer, aim_of_expiry, Line, has_tei, link_in, place_in, terms, aim_of, aim_of_heard, group_tei, Assign, Remove, Deactivate, at_requested, at_deactivated, aim_of_request, IsProper, heard_aims, request_proper, notes_of, is-off, has-no-place, ByChange, noted, Down, eqb-true, IsOwn, fresh_link as fresh, line_of_link as of_link, Event, line_after as after, answer, Request, Establish, Release, Data, Checking as Check, SetBusy, ClearBusy, IsSound, is_own, is_news, by-down, Unit, changes_are_told, sound-after, HasLeft, TeiIsInRange as IsInRange, Moves, link_told as told, emptied, StreamEvent, tei_check, tei_remove, tei_told, TeiEvent, tei_assign, tei_message, tei_after}
 use Rattle.model_link.specs.Events as link
 use Rattle.laws_trace.proofs.OneLink.{is_at_link}
 
@@ -23,7 +21,7 @@ module _ (service : Service) (tei : ℕ) where
   pub other-link : (t : Terms) → is_own service tei t.service t.tei ≡ false → (what : link.Event) (x : Link) → All No (told t what x).notes
   other-link t other what x = All-weaker (IsOwn t) No (other-note t other) (told t what x).notes (notes-own t what x)
 
-  pub tei-note : (e : teis.Event) (o : Option Change) (ns : List Note) → ByChange e o ns → All No ns
+  pub tei-note : (e : TeiEvent) (o : Option Change) (ns : List Note) → ByChange e o ns → All No ns
   tei-note e o ns is = grind arith
 
   module _ (c : Config) (l : Line) (s : IsSound c l) where
@@ -35,15 +33,15 @@ module _ (service : Service) (tei : ℕ) where
     Silent aim = is_at_link service tei aim ≡ false → Stays (of_aim c aim l).line → All No (of_aim c aim l).told.notes
 
     -- An event of TEI management: links of another TEI are cleared.
-    module _ (me : teis.Event) (fits : IsInRange me) where
+    module _ (me : TeiEvent) (fits : IsInRange me) where
       abbrev m : Management
-      m = teis.after me l.management
+      m = tei_after me l.management
 
       abbrev at : Line
       at = record l { management = m }
 
       abbrev ns : List Note
-      ns = (teis.told me l.management).notes
+      ns = (tei_told me l.management).notes
 
       table : IsSoundTable m.places
       table = (sound-after me l.management fits s.management).table
@@ -64,24 +62,17 @@ module _ (service : Service) (tei : ℕ) where
               absurd (true≢false (sym there
               ∙ is-off m.places tei (has-no-place m.places tei (emptied fresh itself refl c l s m table place None gone.is_free gone.within tei refl was-there))))
 
-      and-none : (a b : Bool) → b ≡ false → (a && b) ≡ false
-      and-none a b none = grind arith
-
       changed : (o : Option Change) → Moves l.management.places o m.places → ByChange me o ns
-          → Stays (of_change c o (told_of_management (teis.told me l.management)) at).line → All No (of_change c o (told_of_management (teis.told me l.management)) at).told.notes
+          → Stays (of_change c o (told_of_management (tei_told me l.management)) at).line → All No (of_change c o (told_of_management (tei_told me l.management)) at).told.notes
       changed (Some (Left by place)) gone is there =
           let call = of_link c Call by place link.cleared at in
-          let packet = of_link c Packet by place link.cleared call.line in
           let other = gone-off by place gone (by == tei) refl there in
-          All-append No (ns ++ call.told.notes) packet.told.notes
-          (All-append No ns call.told.notes (tei-note me (Some (Left by place)) ns is)
-          (other-link (terms c Call by) (and-none (same_service Call service) (by == tei) other) link.cleared (link_in at Call place)))
-          (other-link (terms c Packet by) (and-none (same_service Packet service) (by == tei) other) link.cleared (link_in call.line Packet place))
+          grind (arith, tei-note, other-link)
       changed other moves is there = tei-note me other ns is
 
       managed : Silent (at_management me)
       managed aims there =
-          changed (teis.told me l.management).change (changes_are_told me l.management fits s.management) (noted me l.management s.management) there
+          changed (tei_told me l.management).change (changes_are_told me l.management fits s.management) (noted me l.management s.management) there
 
     of-link : (its : Service) (by place : ℕ) (what : link.Event) → Silent (at_link its by place what)
     of-link its by place what aims there = other-link (terms c its by) aims what (link_in l its place)
@@ -95,9 +86,9 @@ module _ (service : Service) (tei : ℕ) where
     deactivated-silent : (its : Service) (by : ℕ) (o : Option ℕ) → Silent (at_deactivated its by o)
     deactivated-silent its by o aims there = grind (arith, of-link)
 
-    pub heard-silent : (e : stream.Event) → Silent (aim_of_heard c l e)
+    pub heard-silent : (e : StreamEvent) → Silent (aim_of_heard c l e)
     heard-silent e =
-        heard_aims c l Silent (λ cause aims there. All-nil No) (λ its by place what on. of-link its by place (link.received what)) (λ info. managed (teis.message info) tt)
+        heard_aims c l Silent (λ cause aims there. All-nil No) (λ its by place what on. of-link its by place (link.received what)) (λ info. managed (tei_message info) tt)
         (λ parts its to aims there. All-cons No (Unit its group_tei) [] refl (All-nil No)) e
 
     pub expiry-silent : (timer : Timer) → Silent (aim_of_expiry timer l)
@@ -108,9 +99,9 @@ module _ (service : Service) (tei : ℕ) where
     request-silent (Release its by) proper = asked-silent its by link.Release (place_in l by)
     request-silent (Data its by contents) proper = asked-silent its by (link.Data contents) (place_in l by)
     request-silent (Request.Unit its by contents) proper = λ aims there. All-nil No
-    request-silent (Assign by) proper = managed (teis.assign by) proper
-    request-silent (Remove by) proper = managed (teis.remove by) proper
-    request-silent (Check by) proper = managed (teis.check by) proper
+    request-silent (Assign by) proper = managed (tei_assign by) proper
+    request-silent (Remove by) proper = managed (tei_remove by) proper
+    request-silent (Check by) proper = managed (tei_check by) proper
     request-silent (SetBusy its by) proper = asked-silent its by link.SetBusy (place_in l by)
     request-silent (ClearBusy its by) proper = asked-silent its by link.ClearBusy (place_in l by)
     request-silent (Deactivate its by) proper = deactivated-silent its by (place_in l by)

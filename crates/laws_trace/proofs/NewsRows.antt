@@ -65,10 +65,6 @@ module _ (t : Terms) (l : Link) where
       Fits (wrong_number false 7 (state_number to)) false false false Established to (cond taken (Data t.service t.tei ∷ []) [] ++ numbered_as t to)
   information-7 invalid taken = grind arith
 
-  final-7 : (invalid final : Bool) → let to = cond invalid AwaitingEstablishment Established in
-      Fits (wrong_number final 7 (state_number to)) false false false Established to (final_as t false final ++ numbered_as t to)
-  final-7 invalid final = grind arith
-
   -- SABME in states 7 and 8, and UA with F=1 in state 5, by whether contents are outstanding.
   anew-7 : (none : Bool) → filter is_kind (Error t.service t.tei F ∷ cond none [] (EstablishIndication t.service t.tei ∷ [])) ≡ due t.service t.tei (F ∷ []) l.asked false true false (not none) 7 7
   anew-7 none = grind arith
@@ -90,10 +86,6 @@ module _ (t : Terms) (l : Link) where
   information : (here : State) (too_long : Bool) (address : Address) (ns nr : Seq) (p : Bool) (info : List ℕ) → Informed here too_long address ns nr p info
   information here too_long address ns nr p info = grind (arith, information-7, is_some, in_state)
 
-  by-ReceiveReady : (command f : Bool) (nr : Seq) → let to = cond (not (is_some (named l.a l.s nr))) AwaitingEstablishment (by_frame TimerRecovery command (ReceiveReady nr f)) in
-      Fits (wrong_number (not command && f) 8 (state_number to)) false false false TimerRecovery to (final_as t true (not command && f) ++ numbered_as t to)
-  by-ReceiveReady command f nr = grind (arith, is_some)
-
   by-ReceiveNotReady : (command f : Bool) (nr : Seq) → let to = cond (not (is_some (named l.a l.s nr))) AwaitingEstablishment (by_frame TimerRecovery command (ReceiveNotReady nr f)) in
       Fits (wrong_number (not command && f) 8 (state_number to)) false false false TimerRecovery to (final_as t true (not command && f) ++ numbered_as t to)
   by-ReceiveNotReady command f nr = grind (arith, is_some)
@@ -103,4 +95,4 @@ module _ (t : Terms) (l : Link) where
   by-Reject command f nr = grind (arith, is_some)
 
   pub by-control : (here : State) (address : Address) (control : Control) (info : List ℕ) → Told here (part address control info)
-  by-control here address control info = grind (arith, information, final-7, is_some, by-ReceiveReady, by-ReceiveNotReady, by-Reject, anew-7)
+  by-control here address control info = grind (arith, information, is_some, by-ReceiveNotReady, by-Reject, anew-7)

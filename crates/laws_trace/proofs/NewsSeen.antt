@@ -1,28 +1,21 @@
 -- What is seen of a link: SABME, and requests that are granted.
-use Rattle.laws_trace.proofs.Vocabulary.{arith, ◌≡◌, ℕ, ◌&&◌, Bool, false, cond, Option, Some, None, refl, ap, ◌∙◌, list_any, option_map_or, Service, Config, request, Answer, Line, place_in, at_requested, aim_of_request, is_granted, IsBy, asks_establishment, Parts, Control, Request, Release, is_for, releases, seen, and-false, Event, aim_of, answer}
-use Rattle.model_link.specs.Events as link
+use Rattle.laws_trace.proofs.Vocabulary.{arith, ◌≡◌, ℕ, ◌&&◌, Bool, false, cond, Option, Some, None, refl, ap, ◌∙◌, list_any, option_map_or, Service, Config, request, Answer, Line, place_in, at_requested, aim_of_request, is_granted, IsBy, asks_establishment, Parts, Control, Request, Release, is_for, releases, seen, and-false, Event, aim_of, answer, not-refused, requested, LinkEvent, LinkRelease}
 use Rattle.laws_trace.proofs.NewsWatched.{establishes}
 use Rattle.laws_trace.proofs.TimersWatched.{nothing_yet, control_in, brings}
 use Rattle.laws_trace.proofs.Deliveries.{frame_by, brings-frame, brings-none, heard-by}
 use Rattle.laws_trace.proofs.DeliveriesRun.{event-aims}
-use Rattle.laws_trace.proofs.LinkLed.{own-is, none-refused, elsewhere}
+use Rattle.laws_trace.proofs.LinkLed.{own-is, elsewhere}
 use Rattle.laws_trace.proofs.NewsRows.{heard_of, released_of}
 use Rattle.laws_trace.proofs.OneLink.{is_at_link}
 use Rattle.laws_trace.proofs.TimersOfLine.{seen-brings}
 
 module _ (c : Config) (service : Service) (tei : ℕ) (which : Control → Bool) where
   module _ (e : Event) (a : Answer) where
-    none-brought : frame_by c e ≡ None → option_map_or which (control_in service tei (frame_by c e)) false ≡ false
-    none-brought none = ap (λ o. option_map_or which (control_in service tei o) false) none
-
     -- one event of the link
-    pub one-begins : (event : link.Event) → IsBy c e a service tei event → list_any (brings which c service tei) (seen e a) ≡ heard_of which event
-    one-begins event by = grind (arith, seen-brings, control_in, frame_by, heard_of, brings-frame, none-brought, brings-none)
+    pub one-begins : (event : LinkEvent) → IsBy c e a service tei event → list_any (brings which c service tei) (seen e a) ≡ heard_of which event
+    one-begins event by = grind (arith, seen-brings, control_in, frame_by, heard_of, brings-frame, brings-none)
 
-    pub one-releases : (event : link.Event) → IsBy c e a service tei event → releases service tei e a ≡ released_of event
-    one-releases event by = grind (arith, heard-by, own-is)
-
-    pub one-establishes : (event : link.Event) → IsBy c e a service tei event → establishes service tei e a ≡ asks_establishment event
+    pub one-establishes : (event : LinkEvent) → IsBy c e a service tei event → establishes service tei e a ≡ asks_establishment event
     one-establishes event by = grind (arith, establishes, heard-by, own-is)
 
   -- and none
@@ -36,13 +29,10 @@ module _ (c : Config) (service : Service) (tei : ℕ) (which : Control → Bool)
         go : (o : Option Parts) → frame_by c e ≡ o → option_map_or which (control_in service tei o) false ≡ false
         go o is = grind (arith, by-whom)
 
-    not-granted : (r : Request) (a : Answer) → is_granted a ≡ false → releases service tei (request r) a ≡ false
-    not-granted r a none = grind arith
-
     not-own : (r : Request) (a : Answer) → is_at_link service tei (aim_of_request r l) ≡ false → releases service tei (request r) a ≡ false
     not-own (Release its by) a aims =
-        ap (λ d. is_granted a && d) (elsewhere c service tei nothing_yet l place on its by (link.requested link.Release false) (at_requested its by link.Release) (λ p. refl) aims) ∙ and-false (is_granted a)
+        ap (λ d. is_granted a && d) (elsewhere c service tei nothing_yet l place on its by (requested LinkRelease false) (at_requested its by LinkRelease) (λ p. refl) aims) ∙ and-false (is_granted a)
     not-own other a aims = refl
 
     pub none-releases : (e : Event) → is_at_link service tei (aim_of c e l) ≡ false → releases service tei e (answer c e l) ≡ false
-    none-releases e aims = grind (arith, not-granted, not-own, is_at_link, none-refused)
+    none-releases e aims = grind (arith, not-own, is_at_link, not-refused)

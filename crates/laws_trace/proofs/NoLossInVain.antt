@@ -1,9 +1,6 @@
 -- Nothing is told as lost in vain: the law.
-use Rattle.laws_trace.proofs.Vocabulary.{◌≡◌, ℕ, ◌+◌, ◌-◌, ◌<◌, ◌≤◌, ◌==◌, ◌&&◌, Bool, true, false, cond, List, [], length, get_or, Option, Some, None, refl, sym, ap, ◌∙◌, subst, ◌⊎◌, inl, inr, arith, eq-eqb, true≢false, fold, le-ltb, and_parts, option_map_or, get_or-set_same, PoolFull, Refusal, Service, Call, Timer, place_of-is, is_on-at, service-same, ControlFrame, Config, Aim, at_none, at_link, at_management, at_units, of_aim, aim_of_expiry, aim_of_heard, hears, expiry, request, next, Answer, refused, Line, fresh_line, has_tei, link_of, aim_of, unless_refused, unless_refused_told, at_requested, aim_of_request, heard_aims, IsInRange, lost_in, deactivates, IsBy, HaveTheirTimers, AllHaveTheirTimers, Card, line_at, is_full, at, fresh_is_sound, has_lines, by_room, line_sound, config-stays, at_no_link, Event, refusal, Request, IsSound, after, card_answer as answer, Moment, after_all, AreAtLines, always_sound, put_in, managing_is_on as is_on, due, managed_after, Observed, View, by_event, view_of, view_behind, moment_of, is_empty, outgoing_of, seen, trace_of, Always, by-down, fresh}
-use Rattle.model_bits.specs.Stream as stream
-use Rattle.model_link.specs.Events as link
+use Rattle.laws_trace.proofs.Vocabulary.{◌≡◌, ℕ, ◌+◌, ◌-◌, ◌<◌, ◌≤◌, ◌==◌, ◌&&◌, Bool, true, false, cond, List, [], length, get_or, Option, Some, None, refl, sym, ap, ◌∙◌, subst, ◌⊎◌, inl, inr, arith, eq-eqb, true≢false, fold, le-ltb, and_parts, option_map_or, get_or-set_same, PoolFull, Refusal, Service, Call, Timer, place_of-is, is_on-at, service-same, ControlFrame, Config, Aim, at_none, at_link, at_management, at_units, of_aim, aim_of_expiry, aim_of_heard, hears, expiry, request, next, Answer, refused, Line, fresh_line, has_tei, link_of, aim_of, unless_refused, unless_refused_told, at_requested, aim_of_request, heard_aims, IsInRange, lost_in, deactivates, IsBy, HaveTheirTimers, AllHaveTheirTimers, Card, line_at, is_full, at, fresh_is_sound, has_lines, by_room, line_sound, config-stays, at_no_link, Event, refusal, Request, IsSound, after, card_answer as answer, Moment, after_all, AreAtLines, always_sound, put_in, managing_is_on as is_on, due, managed_after, Observed, View, by_event, view_of, view_behind, moment_of, is_empty, outgoing_of, seen, trace_of, Always, by-down, fresh, LinkEvent, LinkRequest, StreamEvent, CardEvent}
 use Rattle.model_line.specs.Machine as lines
-use Rattle.model_card.specs.Event as card_event
 use Rattle.model_card.specs.Sound as card_sound
 use Rattle.laws_trace.specs.NoLossInVain.{puts_by, NoLossInVain}
 use Rattle.laws_trace.proofs.ObservedControls.{unchanged}
@@ -37,20 +34,11 @@ NoLoss (at_none what) = what.lost ≡ 0
 NoLoss other = Unit {0}
 
 module _ (c : Config) (l : Line) where
-  heard-none : (e : stream.Event) → NoLoss (aim_of_heard c l e)
+  heard-none : (e : StreamEvent) → NoLoss (aim_of_heard c l e)
   heard-none e = heard_aims c l NoLoss (λ cause. refl) (λ its by place what at. tt) (λ info. tt) (λ parts service to. refl) e
 
-  expiry-none : (timer : Timer) → NoLoss (aim_of_expiry timer l)
-  expiry-none timer = grind arith
-
-  asked-none : (its : Service) (by : ℕ) (asked : link.Request) (o : Option ℕ) → NoLoss (at_requested its by asked o)
+  asked-none : (its : Service) (by : ℕ) (asked : LinkRequest) (o : Option ℕ) → NoLoss (at_requested its by asked o)
   asked-none its by asked o = grind arith
-
-  request-none : (r : Request) → NoLoss (aim_of_request r l)
-  request-none r = grind (arith, asked-none)
-
-no-next : (c : Config) (e : Event) (a : Answer) (service : Service) (tei : ℕ) (le : link.Event) → (e ≡ next → ⊥) → IsBy c e a service tei le → IsNoOther le
-no-next c e a service tei le other by = grind arith
 
 -- A link that stays on the line loses so many by an event.
 abbrev Puts : Service → ℕ → ℕ → Bool → Bool → Config → Line → Event → Answer → Line → List ControlFrame
@@ -89,17 +77,15 @@ module _ (c : Config) (ranged : IsInRange c) (l : Line) (s : IsSound c l) (timed
             exact = λ n busy rejected count stands.
                 subst (λ w. lost_in a ≡ length (link_of service tei l).waiting + length (Put service tei n busy rejected c w l e (seen e a) then) - c.control)
                 (sym (stand-is service tei c e l n busy rejected))
-                (one-loses service tei c ranged e l s timed n busy rejected count stands x (no-next c e a service tei x.event other x.by) stays);
+                (one-loses service tei c ranged e l s timed n busy rejected count stands x (grind arith) stays);
           }
 
   by-aim : (aim : Aim) → aim_of c e l ≡ aim → is_management aim ≡ false → NoLoss aim → lost_in a ≡ (of_aim c aim l).told.lost → 0 < lost_in a → LosesSome c l e a then
-  by-aim (at_none what) is unmanaged none lost_is some = let zero : lost_in a ≡ 0 = lost_is ∙ none in absurd (omega (arith, some, zero))
-  by-aim (at_units unit) is unmanaged none lost_is some = let zero : lost_in a ≡ 0 = lost_is in absurd (omega (arith, some, zero))
   by-aim at_no_link is unmanaged none lost_is some =
       let zero : lost_in a ≡ 0 = lost_is ∙ by-down c l (λ f. f.told.lost ≡ 0) refl in absurd (omega (arith, some, zero))
   by-aim (at_link service tei place event) is unmanaged none lost_is some =
       by-link service tei (ap (is_at_link service tei) is ∙ ap (λ b. b && tei == tei) (service-same service) ∙ eq-eqb tei tei refl) some
-  by-aim (at_management me) is unmanaged none lost_is some = absurd (true≢false unmanaged)
+  by-aim aim is unmanaged none lost_is some = grind arith
 
 none-less : 0 < 0 → ⊥
 none-less some = omega (arith, some)
@@ -108,7 +94,7 @@ event-loses-some : (c : Config) → IsInRange c → (l : Line) → IsSound c l �
     → LosesSome c l e (lines.answer c e l) (lines.after c e l)
 unfolding lines.after lines.answer
 event-loses-some c ranged l s timed (hears what) unmanaged some = by-aim c ranged l s timed (hears what) (λ e. cc e) (aim_of_heard c l what) refl unmanaged (heard-none c l what) refl some
-event-loses-some c ranged l s timed (expiry timer) unmanaged some = by-aim c ranged l s timed (expiry timer) (λ e. cc e) (aim_of_expiry timer l) refl unmanaged (expiry-none c l timer) refl some
+event-loses-some c ranged l s timed (expiry timer) unmanaged some = by-aim c ranged l s timed (expiry timer) (λ e. cc e) (aim_of_expiry timer l) refl unmanaged (grind arith) refl some
 event-loses-some c ranged l s timed (request r) unmanaged some = go (refusal c false r l) refl unmanaged some
   where
     go : (o : Option Refusal) → refusal c false r l ≡ o → is_management (unless_refused o (aim_of_request r l)) ≡ false
@@ -117,13 +103,10 @@ event-loses-some c ranged l s timed (request r) unmanaged some = go (refusal c f
     go (Some why) is unmanaged some = absurd (none-less some)
     go None is unmanaged some =
         subst (λ (o : Option Refusal). LosesSome c l (request r) (unless_refused_told o (of_aim c (unless_refused o (aim_of_request r l)) l)) (of_aim c (unless_refused o (aim_of_request r l)) l).line) is
-        (by-aim c ranged l s timed (request r) (λ e. cc e) (aim_of_request r l) (ap (λ o. unless_refused o (aim_of_request r l)) is) unmanaged (request-none c l r)
+        (by-aim c ranged l s timed (request r) (λ e. cc e) (aim_of_request r l) (ap (λ o. unless_refused o (aim_of_request r l)) is) unmanaged (grind (arith, asked-none))
         (ap (λ o. lost_in (unless_refused_told o (of_aim c (unless_refused o (aim_of_request r l)) l))) is)
         (subst (λ (o : Option Refusal). 0 < lost_in (unless_refused_told o (of_aim c (unless_refused o (aim_of_request r l)) l))) (sym is) some))
 event-loses-some c ranged l s timed next unmanaged some = absurd (none-less some)
-
-none-or-some : (n : ℕ) → (n ≡ 0) ⊎ (0 < n)
-none-or-some n = grind arith
 
 card-loses : (k : Card) (number : ℕ) (e : Event) → card_sound.IsSound k → AllHaveTheirTimers k → number < k.config.lines → is_management (aim_of k.config e (line_at number k)) ≡ false
     → let a = answer (at number e) k in 0 < lost_in a → LosesSome k.config (line_at number k) e a (line_at number (after (at number e) k))
@@ -163,11 +146,7 @@ own-loses service tei n busy rejected k number e s timely here count stands was-
     Exact c l a x =
         is_empty (Puts service tei n busy rejected c l e a x) ≡ false → lost_in a ≡ length (link_of service tei l).waiting + length (Puts service tei n busy rejected c l e a x) - c.control
 
-down-none : (c : Config) (service : Service) (tei : ℕ) (o : Observed) (what : Event) (a : Answer) (m : Moment) → m.event.what ≡ what → deactivates service tei what ≡ true
-    → put_in c service tei o (by_event c service tei what a o) m ≡ []
-down-none c service tei o what a m is down = grind (arith, eq-eqb, le-ltb, either-none, unchanged)
-
-module _ (c : Config) (events : List card_event.Event) (number : ℕ) (ranged : IsInRange c) (all : AreAtLines (fresh c) events) (within : number < c.lines) (what : Event) where
+module _ (c : Config) (events : List CardEvent) (number : ℕ) (ranged : IsInRange c) (all : AreAtLines (fresh c) events) (within : number < c.lines) (what : Event) where
   abbrev k : Card
   k = after_all (fresh c) events
 
@@ -211,15 +190,12 @@ module _ (c : Config) (events : List card_event.Event) (number : ℕ) (ranged : 
     was-on : is_on tei v.teis ≡ has_tei tei l
     was-on = tei-seen c events number ranged all within service tei
 
-    then-on : is_on tei u.teis ≡ has_tei tei x
-    then-on = (holds-behind c events number ranged all within service tei what).follows.on.same tei
-
     abbrev Its : Config → List ControlFrame
     Its d = Puts service tei w.told.count w.busy w.rejected d l what its-answer x
 
     module _ (on : has_tei tei l ≡ true) (on-then : has_tei tei x ≡ true) where
       stays-on : Stays ≡ true
-      stays-on = ap (λ b. b && is_on tei v.teis) (then-on ∙ on-then) ∙ was-on ∙ on
+      stays-on = ap (λ b. b && is_on tei v.teis) (((holds-behind c events number ranged all within service tei what).follows.on.same tei) ∙ on-then) ∙ was-on ∙ on
 
       its-puts : Its c ≡ puts_by c number events what service tei
       its-puts =
@@ -234,7 +210,7 @@ module _ (c : Config) (events : List card_event.Event) (number : ℕ) (ranged : 
           waiting-now c number ranged within service tei events all p.0 p.1 ∙ all-wait c events number ranged all within service tei p.0 p.1
 
       link-is : u.link ≡ by_event c service tei what its-answer v.link
-      link-is = grind (arith, then-on, was-on, eq-eqb)
+      link-is = grind (arith, holds-behind, was-on, eq-eqb)
 
       loses : is_empty (puts_by c number events what service tei) ≡ false
           → lost_in its-answer ≡ length (outgoing_of c service tei number events).waiting + length (puts_by c number events what service tei) - c.control
@@ -246,7 +222,7 @@ module _ (c : Config) (events : List card_event.Event) (number : ℕ) (ranged : 
               let none : puts_by c number events what service tei ≡ [] =
               ap (λ b. cond b (put_in c service tei v.link u.link (moment_of c events number what)) []) stays-on
               ∙ ap (λ (q : Observed). put_in c service tei v.link q (moment_of c events number what)) link-is
-              ∙ down-none c service tei v.link what its-answer (moment_of c events number what) refl down in
+              ∙ (grind (arith, eq-eqb, le-ltb, either-none, unchanged)) in
               absurd (true≢false (sym (ap is_empty none) ∙ some))
           go false stays =
               let s = run-stands c events number ranged all within service tei in
@@ -262,7 +238,7 @@ module _ (c : Config) (events : List card_event.Event) (number : ℕ) (ranged : 
       where
         go : (b : Bool) → Stays ≡ b → is_empty (cond b (put_in c service tei v.link u.link (moment_of c events number what)) []) ≡ false
             → lost_in its-answer ≡ length (outgoing_of c service tei number events).waiting + length (puts_by c number events what service tei) - c.control
-        go b off some = grind (arith, and_parts, loses, was-on, then-on)
+        go b off some = grind (arith, and_parts, loses, was-on, holds-behind)
 
   of-messages : ((service : Service) (tei : ℕ) → puts_by c number events what service tei ≡ []) → lost_in its-answer ≡ messages
   of-messages none = go (shows-behind c events number ranged all within what).lost
@@ -283,10 +259,7 @@ module _ (c : Config) (events : List card_event.Event) (number : ℕ) (ranged : 
           omega (arith, exact, puts, few, some)
 
       go : (lost_in its-answer ≡ messages) ⊎ ((messages ≡ 0) × (is_management (aim_of c what l) ≡ false)) → lost_in its-answer ≡ messages
-      go o = grind (arith, none-or-some, some-lost, is_management, kept)
+      go o = grind (arith, some-lost, is_management, kept)
 
 pub no-loss-in-vain : Always NoLossInVain
-no-loss-in-vain c events number ranged all within what = record {
-  of_link = of-link c events number ranged all within what;
-  of_messages = of-messages c events number ranged all within what;
-}
+no-loss-in-vain c events number ranged all within what = grind (arith, of-link c events number ranged all within what, of-messages c events number ranged all within what)

@@ -28,29 +28,13 @@ supervisory command p l = either (command && p) _ [] (one _ (receipt false l.own
 up : (command : Bool) (c : Control) (l : Link) → ArePlain (answers_up command c l)
 up command c l = grind (arith, information, supervisory, none)
 
-for-sabme : (state : State) (p : Bool) → IsPlain (record { command = false; control = to_sabme state p })
-for-sabme state p = grind arith
-
-for-disc : (state : State) (p : Bool) → IsPlain (record { command = false; control = to_disc state p })
-for-disc state p = grind arith
-
-all-answers : (e : Event) (l : Link) → ArePlain (answers e l)
-all-answers e l = grind (arith, one, for-sabme, for-disc, either, up, none)
-
-command-in : (state : State) (l : Link) → ArePlain (command_in state l)
-command-in state l = grind (arith, one, receipt, none)
-
 all-put : (e : Event) (l : Link) (to : State) → ArePlain (put e l to)
 all-put e l to =
-    All-append IsPlain (answers e l) (commands e l to) (all-answers e l)
-    (either (moves l.state to || is_time e l) (command_in to l) [] (command-in to l) none)
-
-all-behind : (t : Terms) (e : Event) (l : Link) (to : State) → ArePlain l.waiting → ArePlain (behind t l (put e l to))
-all-behind t e l to h =
-    All-append IsPlain l.waiting (take (room t l) (put e l to)) h (All-take IsPlain (room t l) (put e l to) (all-put e l to))
+    All-append IsPlain (answers e l) (commands e l to) (grind (arith, one, either, up, none))
+    (either (moves l.state to || is_time e l) (command_in to l) [] (grind (arith, one, receipt, none)) none)
 
 -- What an event leaves of those that wait.
 pub all-left : (t : Terms) (e : Event) (l : Link) (to : State) → ArePlain l.waiting → ArePlain (waiting_left t e l to)
 all-left t offer l to h = All-drop IsPlain 1 l.waiting h
 all-left t cleared l to h = none
-all-left t other l to h = all-behind t other l to h
+all-left t other l to h = All-append IsPlain l.waiting (take (room t l) (put other l to)) h (All-take IsPlain (room t l) (put other l to) (all-put other l to))

@@ -41,18 +41,11 @@ module _ (s to : ℕ) (k l : Known) (new asked owed : Bool) (more : ℕ → ℕ)
 
 module _ (c : Config) (service : Service) (tei : ℕ) where
   -- How often T200 expired counts in states 5, 6 and 8 alone.
-  count-counts : (k : Known) (x : State) (n m : ℕ) → When (is_counted (state_number x)) (m ≡ n) → (timer : Option LinkTimer) → let s = state_number x in
-      option_map_or (moves.by_expiry c.n200 k n s) timer s ≡ option_map_or (moves.by_expiry c.n200 k m s) timer s
-  count-counts k x n m h timer = grind (arith, moves.by_expiry)
-
   abbrev pub counted_by : Event → ℕ
   counted_by what = option_map_or states.one_more (states.expired_of service tei what) 0
 
   nothing-more : (n : ℕ) → n ≡ n + 0
   nothing-more n = omega arith
-
-  grown-is : (what : Event) (n : ℕ) → grown c service tei what n ≡ n + counted_by what
-  grown-is what n = grind (arith, one_more, none_more, states.one_more, nothing-more, cond_both)
 
   -- An event of the line, where the TEI is on it before and behind.
   module _ (x : State) (k : Known) (shape : Shape x k) (asked owed : Bool) (n : ℕ) (o : Observed) (h : IsObserved (state_number x) k asked owed n o) (what : Event) (a : Answer) where
@@ -64,9 +57,6 @@ module _ (c : Config) (service : Service) (tei : ℕ) where
 
     same : o ≡ at_state s k o
     same = λ i. record o { state = h.state_is i; acknowledged = (h.known_is i).acknowledged; next = (h.known_is i).next; busy = (h.known_is i).busy }
-
-    leads-is : leads n ≡ leads o.expiries
-    leads-is = ap (λ m. fold (moves.by_seen c service tei k) m (seen what a)) (count-counts k x n o.expiries h.counts (states.expired_of service tei what))
 
     abbrev Follows : ℕ → ℕ → Observed → Type 0
     Follows to m q =
@@ -80,8 +70,8 @@ module _ (c : Config) (service : Service) (tei : ℕ) where
         let l = learned c service tei (Some s) (Some to) k (seen what a) in
         let whole = joined s to k l (news.establishes service tei what a) asked owed (grown c service tei what) n p (by_event c service tei what a p)
         (event-moves c service tei x k shape o what a) (subst (IsObserved s k asked owed n) same h) in
-        subst (λ to. Follows to (n + counted_by what) (by_event c service tei what a o)) (sym leads-is)
-        (subst (λ m. Follows to m (by_event c service tei what a o)) (grown-is what n)
+        subst (λ to. Follows to (n + counted_by what) (by_event c service tei what a o)) (sym (ap (λ m. fold (moves.by_seen c service tei k) m (seen what a)) (grind (arith, moves.by_expiry))))
+        (subst (λ m. Follows to m (by_event c service tei what a o)) (grind (arith, one_more, none_more, states.one_more, nothing-more, cond_both))
         (subst (λ p. Follows to (grown c service tei what n) (by_event c service tei what a p)) (sym same) whole))
 
     -- from a state to one, or off the line

@@ -1,6 +1,5 @@
 -- How the observer's link stands behind a frame that is answered in states 7 and 8, whatever state it leads to.
-use Rattle.laws_trace.proofs.Vocabulary.{◌≡◌, ℕ, ◌+◌, ◌==◌, ◌&&◌, ◌||◌, not, Bool, true, false, cond, length, Some, None, refl, sym, ap, ◌∙◌, subst, true≢false, nat_lt, is_some, Result, Ok, Err, list_any, option_map_or, and_parts, none-some, Information, ReceiveReady, ReceiveNotReady, Reject, ReadFault, Service, Parts, reading, State, state_number, Config, hears, Answer, heard_side, Line, link_of, place_in, IsInRange, notes_of, is_data_of, Card, line_at, is_full, at, has_lines, by_room, line_sound, Control, IsSound, card_answer as answer, IsAtLine, option_and_then, result_ok, result_err, frame_of, its_frame, malformed, fault_of, Observed, observer_is_next as is_next, observer_is_invalid as is_invalid, observer_takes as takes, anew, while_up, while_down, observer_by_frame as by_frame, by_heard, brings_next, is_up, seen, and-false}
-use Rattle.model_bits.specs.Stream as stream
+use Rattle.laws_trace.proofs.Vocabulary.{◌≡◌, ℕ, ◌+◌, ◌==◌, ◌&&◌, ◌||◌, not, Bool, true, false, cond, length, Some, None, refl, sym, ap, ◌∙◌, subst, true≢false, nat_lt, is_some, Result, Ok, Err, list_any, option_map_or, and_parts, none-some, Information, ReceiveReady, ReceiveNotReady, Reject, ReadFault, Service, Parts, reading, State, state_number, Config, hears, Answer, heard_side, Line, link_of, place_in, IsInRange, notes_of, is_data_of, Card, line_at, is_full, at, has_lines, by_room, line_sound, Control, IsSound, card_answer as answer, IsAtLine, option_and_then, result_ok, result_err, frame_of, its_frame, malformed, fault_of, Observed, observer_is_next as is_next, observer_is_invalid as is_invalid, observer_takes as takes, anew, while_up, while_down, observer_by_frame as by_frame, by_heard, brings_next, is_up, seen, and-false, stream_frame, StreamEvent}
 use Rattle.model_line.specs.Machine as lines
 use Rattle.model_card.specs.Sound as card_sound
 use Rattle.laws_trace.proofs.Counting.{begins}
@@ -62,15 +61,15 @@ goes-on s long other is = absurd (true≢false (sym is))
 
 module _ (c : Config) (service : Service) (tei : ℕ) where
   -- a frame of the link is not malformed
-  clean : (e : stream.Event) (f : Parts) → its_frame service tei (frame_of c e) ≡ Some f → malformed c service tei e ≡ None
-  clean (stream.frame octets) f is = go (reading (heard_side c) octets) is
+  clean : (e : StreamEvent) (f : Parts) → its_frame service tei (frame_of c e) ≡ Some f → malformed c service tei e ≡ None
+  clean (stream_frame octets) f is = go (reading (heard_side c) octets) is
     where
       go : (r : Result Parts ReadFault) → its_frame service tei (result_ok r) ≡ Some f → option_and_then (fault_of service tei) (result_err r) ≡ None
       go (Ok g) is = refl
       go (Err fault) is = absurd (none-some f is)
   clean other f is = absurd (none-some f is)
 
-  heard-so : (e : stream.Event) (f : Parts) (o : Observed) → its_frame service tei (frame_of c e) ≡ Some f → is_up o.state ≡ true
+  heard-so : (e : StreamEvent) (f : Parts) (o : Observed) → its_frame service tei (frame_of c e) ≡ Some f → is_up o.state ≡ true
       → by_heard c service tei e o ≡ while_up (nat_lt c.n201 (length f.info)) f.address.command f.control o
   heard-so e f o is up =
       ap (λ m. cond (is_up o.state && is_some m) (anew o) (option_map_or (by_frame c o) (its_frame service tei (frame_of c e)) o)) (clean e f is)
@@ -79,7 +78,7 @@ module _ (c : Config) (service : Service) (tei : ℕ) where
       ∙ ap (λ b. cond b (while_up (nat_lt c.n201 (length f.info)) f.address.command f.control o) (while_down f.control o)) up
 
   -- One event of a line.
-  module _ (ranged : IsInRange c) (l : Line) (s : IsSound c l) (e : stream.Event) (place : ℕ) (on : place_in l tei ≡ Some place) (n : ℕ) (count : IsCount (link_of service tei l) n)
+  module _ (ranged : IsInRange c) (l : Line) (s : IsSound c l) (e : StreamEvent) (place : ℕ) (on : place_in l tei ≡ Some place) (n : ℕ) (count : IsCount (link_of service tei l) n)
       (busy rejected : Bool) (stands : IsStanding (link_of service tei l) busy rejected) (o : Observed) (is : o.state ≡ state_number (link_of service tei l).state)
       (up : is_up o.state ≡ true) (same : Same o n busy rejected) (f : Parts) (its : its_frame service tei (frame_of c e) ≡ Some f)
       (answered : is_answered (nat_lt c.n201 (length f.info)) f.control ≡ true) where
@@ -131,7 +130,7 @@ module _ (c : Config) (service : Service) (tei : ℕ) where
         }
 
 -- The same at a card.
-pub card-answered : (card : Card) → card_sound.IsSound card → (number : ℕ) (e : stream.Event) → let what = at number (hears e) in IsAtLine card what
+pub card-answered : (card : Card) → card_sound.IsSound card → (number : ℕ) (e : StreamEvent) → let what = at number (hears e) in IsAtLine card what
     → (service : Service) (tei place : ℕ) → let l = line_at number card in place_in l tei ≡ Some place → (n : ℕ) → IsCount (link_of service tei l) n
     → (busy rejected : Bool) → IsStanding (link_of service tei l) busy rejected → (o : Observed) → o.state ≡ state_number (link_of service tei l).state
     → is_up o.state ≡ true → Same o n busy rejected → (f : Parts) → its_frame service tei (frame_of card.config e) ≡ Some f

@@ -1,6 +1,5 @@
 -- The control frames of a link that are due by what the observer knows are those that are due by how the link stands.
-use Rattle.laws_trace.proofs.Vocabulary.{arith, ◌≡◌, ℕ, ◌==◌, ◌&&◌, not, Bool, true, false, cond, length, List, [], ◌++◌, Option, Some, None, is_some, refl, sym, ap, ◌∙◌, true≢false, nat_lt, Result, Ok, Err, option_map_or, seq, Information, ReceiveReady, ReceiveNotReady, Reject, Sabme, Disc, ReadFault, Service, Timer, Parts, reading, Config, request, Answer, heard_side, as_response, is_granted, Control, Request, SetBusy, ClearBusy, result_ok, brought, frame_of, its_frame, is_for, Managed, due, Observed, in_state, awaits, enquires, observer_by_expiry as by_expiry, observer_by_request as by_request, by_event, sends, is_own, is_up, heard, seen_told, seen_granted, TimerT200 as T200, T201, TimerT203 as T203, cond_both}
-use Rattle.model_bits.specs.Stream as stream
+use Rattle.laws_trace.proofs.Vocabulary.{arith, ◌≡◌, ℕ, ◌==◌, ◌&&◌, not, Bool, true, false, cond, length, List, [], ◌++◌, Option, Some, None, is_some, refl, sym, ap, ◌∙◌, true≢false, nat_lt, Result, Ok, Err, option_map_or, seq, Information, ReceiveReady, ReceiveNotReady, Reject, Sabme, Disc, ReadFault, Service, Timer, Parts, reading, Config, request, Answer, heard_side, as_response, is_granted, Control, Request, SetBusy, ClearBusy, result_ok, brought, frame_of, its_frame, is_for, Managed, due, Observed, in_state, awaits, enquires, observer_by_expiry as by_expiry, observer_by_request as by_request, by_event, sends, is_own, is_up, heard, seen_told, seen_granted, TimerT200 as T200, T201, TimerT203 as T203, cond_both, stream_frame, StreamEvent}
 use Rattle.model_line.specs.Event as line_event
 use Rattle.laws_trace.specs.ControlFrames as now_due
 use Rattle.laws_trace.proofs.ControlsSeen.{answers_seen, asked-answers}
@@ -11,10 +10,6 @@ use Rattle.laws_trace.proofs.ObservedCount.{Same}
 use Rattle.laws_trace.proofs.Facts.{either-none, as-busy}
 
 -- What the link says, by the observer and by how it stands.
-module _ (q : Observed) (u : Standing) (same : Same q u.told.count u.busy u.rejected) where
-  pub receipt-is : (pf : Bool) → old.receipt u pf ≡ now_due.receipt q pf
-  receipt-is pf = grind arith
-
 module _ (c : Config) (service : Service) (tei : ℕ) (o q : Observed) (w u : Standing) (before : is_up o.state ≡ true → Same o w.told.count w.busy w.rejected) where
   abbrev Answered : Parts → Control → Type 0
   Answered f control =
@@ -24,30 +19,24 @@ module _ (c : Config) (service : Service) (tei : ℕ) (o q : Observed) (w u : St
   informed : (p long up : Bool) → is_up o.state ≡ up → (up ≡ true → long ≡ false → Same q u.told.count u.busy u.rejected)
       → cond long [] (cond up (old.to_information p w u) [])
       ≡ cond up (cond long [] (cond (q.rejected && not o.rejected) (as_response (Reject (seq q.count) p)) (now_due.polled q p))) []
-  informed p long up is behind = grind (arith, old.polled, receipt-is)
+  informed p long up is behind = grind (arith, old.polled)
 
   received : (p up : Bool) → (up ≡ true → Same q u.told.count u.busy u.rejected) → cond up (old.polled u p) [] ≡ cond up (now_due.polled q p) []
-  received p up behind = grind (arith, receipt-is)
+  received p up behind = grind arith
 
   by-control : (f : Parts) (control : Control) → (is_up o.state ≡ true → is_answered (nat_lt c.n201 (length f.info)) control ≡ true → Same q u.told.count u.busy u.rejected) → Answered f control
-  by-control f (Information ns nr p) behind = informed p (nat_lt c.n201 (length f.info)) (is_up o.state) refl (λ up short. behind up (ap not short))
-  by-control f (ReceiveReady nr p) behind = received (f.address.command && p) (is_up o.state) (λ up. behind up refl)
-  by-control f (ReceiveNotReady nr p) behind = received (f.address.command && p) (is_up o.state) (λ up. behind up refl)
-  by-control f (Reject nr p) behind = received (f.address.command && p) (is_up o.state) (λ up. behind up refl)
-  by-control f (Sabme p) behind = refl
-  by-control f (Disc p) behind = refl
-  by-control f other behind = sym (either-none (is_up o.state))
+  by-control f control behind = grind (arith, informed, received, either-none)
 
   -- A frame that comes.
-  abbrev Behind : stream.Event → Type 0
+  abbrev Behind : StreamEvent → Type 0
   Behind e =
       (f : Parts) → its_frame service tei (frame_of c e) ≡ Some f → is_up o.state ≡ true → is_answered (nat_lt c.n201 (length f.info)) f.control ≡ true
       → Same q u.told.count u.busy u.rejected
 
-  abbrev Answers : stream.Event → Type 0
+  abbrev Answers : StreamEvent → Type 0
   Answers e = old.answers_at c service tei w u o.state (heard e) ≡ option_map_or (λ (f : Parts). now_due.answer_to c o q f f.control) (its_frame service tei (frame_of c e)) []
 
-  by-frame : (octets : List ℕ) → Behind (stream.frame octets) → Answers (stream.frame octets)
+  by-frame : (octets : List ℕ) → Behind (stream_frame octets) → Answers (stream_frame octets)
   by-frame octets behind = go (reading (heard_side c) octets) behind
     where
       go : (r : Result Parts ReadFault)
@@ -60,17 +49,16 @@ module _ (c : Config) (service : Service) (tei : ℕ) (o q : Observed) (w u : St
               → (b ≡ true → is_up o.state ≡ true → is_answered (nat_lt c.n201 (length f.info)) f.control ≡ true → Same q u.told.count u.busy u.rejected)
               → cond b (old.answer_to w u o.state f.address.command (nat_lt c.n201 (length f.info)) f.control) []
               ≡ option_map_or (λ (f : Parts). now_due.answer_to c o q f f.control) (cond b (Some f) None) []
-          on true behind = by-control f f.control (behind refl)
-          on false behind = refl
+          on b behind = grind (arith, by-control)
 
-  pub by-heard : (e : stream.Event) → Behind e → Answers e
+  pub by-heard : (e : StreamEvent) → Behind e → Answers e
   by-heard e behind = grind (arith, by-frame)
 
   -- A request.
   pub asked-answers-is : (r : Request) (a : Answer) → (is_up q.state ≡ true → Same q u.told.count u.busy u.rejected) → (is_up o.state ≡ false → is_up q.state ≡ false)
       → (is_granted a ≡ true → is_up o.state ≡ true → is_up q.state ≡ false → old.changed w u ≡ [])
       → answers_seen c service tei w u o.state (seen_granted r a ++ seen_told a) ≡ cond (is_granted a) (now_due.changed o q) []
-  asked-answers-is r a behind down as_before = grind (arith, asked-answers, old.changed, old.receipt, receipt-is)
+  asked-answers-is r a behind down as_before = grind (arith, asked-answers, old.changed, old.receipt)
 
 -- What is kept while layer 3 asks for something else.
 module _ (service : Service) (tei : ℕ) where
@@ -89,19 +77,9 @@ module _ (service : Service) (tei : ℕ) where
   pub none-led : (c : Config) (r : Request) (w : Managed) → busies r ≡ true → (due c (request r) w).on ≡ w.on
   none-led c r w is = grind arith
 
-  -- where it says so, the link stays up
-  pub stays-up : (r : Request) (o : Observed) → busies r ≡ true → (by_request service tei r o).state ≡ o.state
-  stays-up r o is = grind (arith, cond_both)
-
 -- Where no frame comes, and nothing is granted, layer 3 is as busy as before.
 abbrev pub AsBusy : Observed → Observed → Type 0
 AsBusy o q = is_up q.state ≡ true → q.own_busy ≡ o.own_busy
-
-either-so : (o : Observed) (b : Bool) (p q : Observed) → AsBusy o p → AsBusy o q → AsBusy o (cond b p q)
-either-so o b p q h i = grind arith
-
-down-so : (o : Observed) (n : ℕ) → is_up n ≡ false → AsBusy o (in_state n)
-down-so o n down up = absurd (true≢false (sym up ∙ down))
 
 pub unchanged : (o q : Observed) → AsBusy o q → now_due.changed o q ≡ []
 unchanged o q same = grind (arith, as-busy)
@@ -109,12 +87,12 @@ unchanged o q same = grind (arith, as-busy)
 module _ (c : Config) (service : Service) (tei : ℕ) (o : Observed) where
   ran-out : (timer : Timer) → AsBusy o (by_expiry c service tei timer o)
   ran-out T201 = λ up. refl
-  ran-out (T203 of by) = either-so o (is_own service tei of by && (o.state == 7 && not (awaits o))) (enquires o) o (λ up. refl) (λ up. refl)
-  ran-out (T200 of by) = grind (arith, either-so, down-so)
+  ran-out (T203 of by) = grind arith
+  ran-out (T200 of by) = grind arith
 
   sent-so : (f : Option Parts) → AsBusy o (option_map_or (λ (f : Parts). sends o f.control) f o)
-  sent-so f = grind (arith, either-so)
+  sent-so f = grind arith
 
   pub as-busy-before : (what : line_event.Event) (a : Answer) → brought c service tei what ≡ None → ((r : Request) → what ≡ request r → is_granted a ≡ false)
       → AsBusy o (by_event c service tei what a o)
-  as-busy-before what a none idle = grind (arith, is_some, either-so, ran-out, sent-so)
+  as-busy-before what a none idle = grind (arith, is_some, ran-out, sent-so)

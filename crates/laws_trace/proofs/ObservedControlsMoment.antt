@@ -1,9 +1,8 @@
 -- The control frames of a link that are due in a moment, by what the observer knows.
-use Rattle.laws_trace.proofs.Vocabulary.{◌≡◌, inl, inr, ℕ, ◌<◌, ◌+◌, ◌-◌, ◌==◌, ◌&&◌, ◌||◌, not, Bool, true, false, cond, length, take, List, [], ◌++◌, Option, Some, None, is_some, refl, sym, ap, ◌∙◌, subst, eq-eqb, arith, le-ltb, true≢false, nat_lt, option_map_or, none-some, Service, Parts, State, LinkTimer, state_number, Config, hears, expiry, request, next, Answer, Line, link_of, place_in, state_of, ControlFrame, as_response, lost_in, is_granted, AllHaveTheirTimers, Card, line_at, at, eqb-true, lt-ltb, Request, CardEvent as Event, after, card_answer as answer, Moment, IsAtLine, brought, frame_of, its_frame, managing_is_on as is_on, led, due, Observed, View, in_state, by_event, by_heard, observer_by_request as by_request, enters, views, is_up, Seen, trace_frame_in as frame_in, seen, seen_told, seen_granted, seen_in, CardIsSound as IsSound}
-use Rattle.model_bits.specs.Stream as stream
+use Rattle.laws_trace.proofs.Vocabulary.{◌≡◌, inl, inr, ℕ, ◌<◌, ◌+◌, ◌-◌, ◌==◌, ◌&&◌, ◌||◌, not, Bool, true, false, cond, length, take, List, [], ◌++◌, Option, Some, None, is_some, refl, sym, ap, ◌∙◌, subst, eq-eqb, arith, le-ltb, true≢false, nat_lt, option_map_or, none-some, Service, Parts, State, LinkTimer, state_number, Config, hears, expiry, request, next, Answer, Line, link_of, place_in, state_of, ControlFrame, as_response, lost_in, is_granted, AllHaveTheirTimers, Card, line_at, at, eqb-true, lt-ltb, Request, CardEvent as Event, after, card_answer as answer, Moment, IsAtLine, brought, frame_of, its_frame, managing_is_on as is_on, led, due, Observed, View, in_state, by_event, by_heard, observer_by_request as by_request, enters, views, is_up, Seen, trace_frame_in as frame_in, seen, seen_told, seen_granted, seen_in, CardIsSound as IsSound, StreamEvent}
 use Rattle.model_line.specs.Event as line_event
 use Rattle.laws_trace.specs.ControlFrames as now_due
-use Rattle.laws_trace.proofs.ControlsSeen.{answers_seen, heard-answers, told-none, begun-none}
+use Rattle.laws_trace.proofs.ControlsSeen.{answers_seen, heard-answers, begun-none}
 use Rattle.laws_trace.proofs.ControlsWatched as old
 use Rattle.laws_trace.proofs.DeliveriesWatched.{Standing, busy_asked}
 use Rattle.laws_trace.proofs.LinksMove.{differ-self}
@@ -11,12 +10,12 @@ use Rattle.laws_trace.proofs.MovesWatched.{repeated}
 use Rattle.laws_trace.proofs.NewsWatched as news
 use Rattle.laws_trace.proofs.NewsWatched.{Owing, owing}
 use Rattle.laws_trace.proofs.ObservedAnswers.{is_answered, card-answered}
-use Rattle.laws_trace.proofs.ObservedControls.{by-heard, asked-answers-is, busies, still-busy, none-led, stays-up, AsBusy, unchanged, as-busy-before}
-use Rattle.laws_trace.proofs.ObservedCount.{Same, Agree, when-holds}
+use Rattle.laws_trace.proofs.ObservedControls.{by-heard, asked-answers-is, busies, still-busy, none-led, AsBusy, unchanged, as-busy-before}
+use Rattle.laws_trace.proofs.ObservedCount.{Same, Agree}
 use Rattle.laws_trace.proofs.ObservedCounted.{Stands, agrees-then}
 use Rattle.laws_trace.proofs.ObservedFacts.{Facts, facts, state-is, differs-is}
 use Rattle.laws_trace.proofs.Observed.{IsObserved}
-use Rattle.laws_trace.proofs.ObservedRun.{Holds, on-is, holds-then}
+use Rattle.laws_trace.proofs.ObservedRun.{Holds, holds-then, is-told}
 use Rattle.laws_trace.proofs.Standing.{standing}
 use Rattle.laws_trace.proofs.StandingOfLink.{calm}
 use Rattle.laws_trace.proofs.States.{is_state, differ, expired_of, one_more}
@@ -85,7 +84,7 @@ module _ (service : Service) (tei number : ℕ) where
     agrees = agrees-then service tei number card s timely e here k asked w known_is m v h n busy rejected stands agree
 
     on-is-so : on-before ≡ is_some from
-    on-is-so = on-is service tei number k asked w.outstanding m (line_at number card) v h
+    on-is-so = h.follows.on.same tei ∙ is-told service tei (line_at number card)
 
     -- Another line's event.
     other-puts : line_at number (after e card) ≡ line_at number card → Puts false
@@ -109,9 +108,6 @@ module _ (service : Service) (tei number : ℕ) where
               (y.1 ∙ ap (λ s. Some s) (sym y.2.state_is)
               ∙ ap (λ was. Some (cond (not on-then) (in_state 1) (cond was (cond (e.line == number) (by_event c service tei e.what a o) o) (in_state 4))).state) (on-is-so ∙ ap is_some off)) u
 
-      off-puts : Puts true
-      off-puts = grind (arith, differ, one_more, expired_of, answers_seen, old.command_of, none-commanded, either-none)
-
     -- Where it is.
     module _ (mine : (e.line == number) ≡ true) (x : State) (there : from ≡ Some (state_number x)) (own : IsObserved (state_number x) k asked w.outstanding m o) where
       abbrev state : o.state ≡ state_number x
@@ -123,23 +119,17 @@ module _ (service : Service) (tei number : ℕ) where
       from-is : from ≡ Some o.state
       from-is = there ∙ ap (λ s. Some s) (sym state)
 
-      was-on : on-before ≡ true
-      was-on = on-is-so ∙ ap is_some there
-
       same-line : number ≡ e.line
       same-line = sym (eqb-true e.line number mine)
 
-      agrees-here : Agree q (stands-by true)
-      agrees-here = subst (λ b. Agree q (stands-by b)) mine agrees
-
       q-is : (is : Bool) → on-then ≡ is → q ≡ cond (not is) (in_state 1) (by_event c service tei e.what a o)
-      q-is is then = grind (arith, was-on)
+      q-is is then = grind (arith, on-is-so, is_some)
 
       on-by : (known : (due c e.what v.teis).on ≡ v.teis.on) → on-then ≡ true
-      on-by known = grind (arith, was-on)
+      on-by known = grind (arith, on-is-so, is_some)
 
       -- a frame that comes
-      heard-there : (e' : stream.Event) → e.what ≡ hears e' → (f : Parts) → its_frame service tei (frame_of c e') ≡ Some f → is_up o.state ≡ true
+      heard-there : (e' : StreamEvent) → e.what ≡ hears e' → (f : Parts) → its_frame service tei (frame_of c e') ≡ Some f → is_up o.state ≡ true
           → is_answered (nat_lt c.n201 (length f.info)) f.control ≡ true → Same q u'.told.count u'.busy u'.rejected
       heard-there e' what f frame up answered = go (place_in (line_at number card) tei) refl
         where
@@ -164,7 +154,7 @@ module _ (service : Service) (tei number : ℕ) where
 
       -- a request
       asked-there : (r : Request) → e.what ≡ request r → answers_seen c service tei was u' o.state (seen_granted r a ++ seen_told a) ≡ cond (is_granted a) (now_due.changed o q) []
-      asked-there r what = asked-answers-is c service tei o q was u' agree r a agrees-here down kept
+      asked-there r what = asked-answers-is c service tei o q was u' agree r a (subst (λ b. Agree q (stands-by b)) mine agrees) down kept
         where
           down : is_up o.state ≡ false → is_up q.state ≡ false
           down none = go on-then refl
@@ -174,20 +164,7 @@ module _ (service : Service) (tei number : ℕ) where
               go false is = ap (λ (p : Observed). is_up p.state) (q-is false is)
 
           kept : is_granted a ≡ true → is_up o.state ≡ true → is_up q.state ≡ false → old.changed was u' ≡ []
-          kept granted up none =
-              ap (λ b. cond (cond busy (not b) b) (as_response (old.receipt u' false)) []) (says ∙ still (busies service tei r) refl)
-              ∙ as-busy busy (as_response (old.receipt u' false))
-            where
-              says : u'.busy ≡ busy_asked service tei busy r
-              says = ap (λ z. (standing service tei c (calm n busy rejected) (seen z a)).busy) what ∙ granted-busy c service tei r a n busy rejected granted
-
-              still : (b : Bool) → busies service tei r ≡ b → busy_asked service tei busy r ≡ busy
-              still false is = still-busy service tei r busy is
-              still true is =
-                  let on = on-by (ap (λ z. (due c z v.teis).on) what ∙ none-led service tei c r v.teis is) in
-                  let stays = ap (λ (p : Observed). is_up p.state) (q-is true on) ∙ ap (λ z. is_up (by_event c service tei z a o).state) what
-                  ∙ ap (λ b. is_up (cond b (by_request service tei r o) o).state) granted ∙ ap is_up (stays-up service tei r o is) in
-                  absurd (true≢false (sym (stays ∙ up) ∙ none))
+          kept granted up none = grind (arith, old.receipt, busies, as-busy, busy_asked, standing, calm, granted-busy, still-busy, on-by, none-led)
 
       -- where no frame comes, and nothing is granted
       nothing-changes : (what : line_event.Event) → e.what ≡ what → brought c service tei what ≡ None → ((r : Request) → what ≡ request r → is_granted a ≡ false) → now_due.changed o q ≡ []
@@ -209,7 +186,7 @@ module _ (service : Service) (tei number : ℕ) where
       answers-so (hears e') is =
           heard-answers c service tei was u' o.state (hears e') a e' refl ∙ by-heard c service tei o q was u' agree e' (heard-there e' is)
           ∙ by-default (its_frame service tei (frame_of c e')) (λ none. nothing-changes (hears e') is none (λ r same. cc same))
-      answers-so (expiry timer) is = told-none c service tei was u' o.state a ∙ sym (nothing-changes (expiry timer) is refl (λ r same. cc same))
+      answers-so (expiry timer) is = (grind arith) ∙ sym (nothing-changes (expiry timer) is refl (λ r same. cc same))
       answers-so (request r) is = asked-there r is ∙ asked-so r is (is_granted a) refl
       answers-so next is = begun-none c service tei was u' o.state (frame_in a) ∙ sym (nothing-changes next is refl (λ r same. cc same))
 
@@ -230,9 +207,6 @@ module _ (service : Service) (tei number : ℕ) where
       abbrev again : ℕ
       again = option_map_or one_more (expired_of service tei e.what) 0
 
-      more-is : (n : ℕ) (timer : Option LinkTimer) → nat_lt n (n + option_map_or one_more timer 0) ≡ (option_map_or one_more timer 0 == 1)
-      more-is n timer = grind (arith, lt-ltb, le-ltb)
-
       abbrev C : List ControlFrame
       C = now_due.command_of q
 
@@ -249,7 +223,7 @@ module _ (service : Service) (tei number : ℕ) where
       silent none = grind (arith, either-none)
 
       counted : (s : ℕ) → q.state ≡ s → (s == 5 || (s == 6 || s == 8)) ≡ true → q.expiries ≡ m' → Commands
-      counted s is awaiting then = grind (arith, when-holds, eqb-true, count-is, more-is, expired_of)
+      counted s is awaiting then = grind (arith, eqb-true, count-is, lt-ltb, le-ltb, expired_of)
 
       by-state : (y : State) → IsObserved (state_number y) l' asks' owes' m' q → Commands
       by-state y i = grind (arith, counted, silent)
@@ -257,18 +231,15 @@ module _ (service : Service) (tei number : ℕ) where
       commands-so : Facts to l' asks' owes' m' q → Commands
       commands-so o = grind (arith, silent, by-state)
 
-      time-so : cond (differ from to || (again == 1)) C [] ≡ cond (enters o q) C []
-      time-so = grind (arith, differs-is, before, behind, commands-so)
-
       command-so : old.command_of u' to ≡ now_due.command_of q
-      command-so = grind (arith, is_state, old.receipt, state-is, behind, agrees-here, eqb-true)
+      command-so = grind (arith, is_state, old.receipt, state-is, behind, agrees, eqb-true)
 
       on-puts : Puts true
-      on-puts = grind (arith, differ, old.command_of, answers_seen, from-is, answers-so, command-so, time-so)
+      on-puts = grind (arith, differ, old.command_of, answers_seen, from-is, answers-so, command-so, differs-is, before, behind, commands-so)
 
     pub puts-by : (b : Bool) → (e.line == number) ≡ b → Puts b
     puts-by false other = other-puts (apart card e number (λ same. true≢false (sym (eq-eqb e.line number (sym same)) ∙ other)))
-    puts-by true mine = grind (arith, before, Facts, off-puts, on-puts)
+    puts-by true mine = grind (arith, before, Facts, differ, one_more, expired_of, answers_seen, old.command_of, none-commanded, either-none, on-puts)
 
     abbrev u-then : Standing
     u-then = standing service tei c (calm n busy rejected) (seen_in number its)

@@ -20,9 +20,6 @@ pub record Same (o : Observed) (n : ℕ) (busy rejected : Bool) : Type 0 where
 abbrev pub Agree : Observed → Standing → Type 0
 Agree o w = is_up o.state ≡ true → Same o w.told.count w.busy w.rejected
 
-pub when-holds : (b : Bool) (P : Type 0) → b ≡ true → When b P → P
-when-holds b P e w = grind arith
-
 -- One event of a line, where the TEI is on it.
 module _ (service : Service) (tei : ℕ) (c : Config) (ranged : IsInRange c) (l : Line) (s : IsSound c l) (e : Event) (place : ℕ) (on : place_in l tei ≡ Some place) (n : ℕ)
     (count : IsCount (link_of service tei l) n) (busy rejected : Bool) (stands : IsStanding (link_of service tei l) busy rejected) (o : Observed)
@@ -65,7 +62,7 @@ module _ (service : Service) (tei : ℕ) (c : Config) (ranged : IsInRange c) (l 
       (subst (λ d. Stood u B d (informs c service tei f) b o q)
       (sym (data-so c ranged l s e service tei place on o n count is (λ m. count m ∙ sym (agree (up-here m)).count_is) (λ m. stands.busy_is m ∙ sym (agree (up-here m)).busy_is)))
       (subst (λ b'. Stood u b' (taken_by c service tei o f) (informs c service tei f) b o q) (sym (begins-so c ranged l s e service tei place on))
-      (when-holds (is_up q.state) (Stood u (begins_by c service tei its f) (taken_by c service tei o f) (informs c service tei f) b o q) up h)))
+      (grind arith)))
 
   still-busy : (e : Event) (b : Bool) → (brings_information service tei (frame_by c e) && not (asked_busy service tei e a b)) ≡ (brings_information service tei (frame_by c e) && not b)
   still-busy e b = grind arith

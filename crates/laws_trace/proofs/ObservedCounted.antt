@@ -2,14 +2,14 @@
 use Rattle.laws_trace.proofs.Vocabulary.{arith, ◌≡◌, ℕ, ◌==◌, not, Bool, true, false, cond, List, [], ◌∷◌, Option, Some, None, is_some, refl, sym, ap, ◌∙◌, subst, true≢false, inl, inr, fold, and_parts, All-head, All-tail, fold-append, PoolFull, Service, state_number, Config, refused, Line, link_of, place_in, state_of, Card, line_at, is_full, moments, after_is_sound, has_lines, by_room, line_sound, AllHaveTheirTimers, timely-after, eqb-true, CardEvent as Event, after, card_answer as answer, Moment, after_all, IsAtLine, AreAtLines, managing_is_on as is_on, led, Observed, View, in_state, by_event, views, seen, seen_in, trace, CardIsSound as IsSound}
 use Rattle.model_line.specs.Event as line_event
 use Rattle.model_line.specs.Machine as lines
-use Rattle.laws_trace.proofs.ControlFrames.{moment, as-calm}
+use Rattle.laws_trace.proofs.ControlFrames.{moment}
 use Rattle.laws_trace.proofs.DeliveriesRun.{IsCount}
 use Rattle.laws_trace.proofs.DeliveriesWatched.{stand}
 use Rattle.laws_trace.proofs.MovesWatched.{repeated}
 use Rattle.laws_trace.proofs.NewsWatched as news
 use Rattle.laws_trace.proofs.NewsWatched.{Owing, owing}
 use Rattle.laws_trace.proofs.ObservedCount.{Agree, stands-behind}
-use Rattle.laws_trace.proofs.ObservedRun.{Holds, on-is, holds-then, known-then}
+use Rattle.laws_trace.proofs.ObservedRun.{Holds, holds-then, known-then, is-told}
 use Rattle.laws_trace.proofs.Runs.{nothing-seen}
 use Rattle.laws_trace.proofs.Standing.{standing, stand-is}
 use Rattle.laws_trace.proofs.StandingOfLink.{calm, IsStanding}
@@ -60,7 +60,6 @@ module _ (service : Service) (tei number : ℕ) where
     before = facts service tei k asked w.outstanding m (line_at number card) v h
 
     by-line : (b : Bool) → (e.line == number) ≡ b → (is was : Bool) → was ≡ is_some (state_of service tei (line_at number card)) → Next b is was
-    by-line false eq true true on = agree
     by-line true eq true true on = go (place_in (line_at number card) tei) refl before
       where
         go : (p : Option ℕ) → place_in (line_at number card) tei ≡ p → Facts (state_of service tei (line_at number card)) k asked w.outstanding m v.link → Next true true true
@@ -74,11 +73,11 @@ module _ (service : Service) (tei number : ℕ) where
             let is : v.link.state ≡ state_number l.state = y.2.state_is ∙ inner in
             own-behind card s e here n busy rejected (subst (λ i. Stands n busy rejected (line_at i card)) same stands) place (subst (λ i. place_in (line_at i card) tei ≡ Some place) same at) v.link
             (subst (λ i. v.link.state ≡ state_number (link_of service tei (line_at i card)).state) same is) agree
-    by-line b eq other any on = λ up. absurd (true≢false (sym up))
+    by-line b eq is was on = grind arith
 
     pub agrees-then : Agree (views c service tei number v its).link (standing service tei c (calm n busy rejected) (seen_in number its))
     agrees-then =
-        by-line (e.line == number) refl (is_on tei (led c number v.teis e)) (is_on tei v.teis) (on-is service tei number k asked w.outstanding m (line_at number card) v h)
+        by-line (e.line == number) refl (is_on tei (led c number v.teis e)) (is_on tei v.teis) (h.follows.on.same tei ∙ is-told service tei (line_at number card))
 
   pub run-agrees : (card : Card) (events : List Event) → IsSound card → AllHaveTheirTimers card → AreAtLines card events
       → (k : Known) (asked : Bool) (w : Owing) → w.known ≡ k → (m : ℕ) (v : View) → Holds service tei k asked w.outstanding m (line_at number card) v
@@ -95,7 +94,7 @@ module _ (service : Service) (tei number : ℕ) where
       let rest = trace number (moments (after e card) events) in
       let u = standing service tei c (calm n busy rejected) first in
       let v2 = views c service tei number v its in
-      let kept : u ≡ calm u.told.count u.busy u.rejected = as-calm u x.quiet_is in
+      let kept : u ≡ calm u.told.count u.busy u.rejected = (ap (λ o. record { told = record { frame = o; count = u.told.count }; busy = u.busy; rejected = u.rejected }) x.quiet_is) in
       subst (Agree (fold (views c service tei number) v2 (moments (after e card) events)).link) (sym (fold-append (stand c service tei) (calm n busy rejected) first rest))
       (subst (λ z. Agree (fold (views c service tei number) v2 (moments (after e card) events)).link (standing service tei c z rest)) (sym kept)
       (run-agrees (after e card) events (after_is_sound card e s here) (timely-after card e s timely here) (All-tail (IsAtLine card) e events all)

@@ -97,9 +97,6 @@ taken-so : (c : Config) (tei : ℕ) (w : Managed) (frame : Option Parts) (conten
     → contents ≡ option_map (λ (f : Parts). f.info) frame → IsSmall c.n201 contents → option_map_or (is_unit_taken c tei w) frame false ≡ true
 taken-so c tei w frame contents comes is small = grind (arith, nat_le, IsSmall)
 
-or-right : (b u : Bool) → u ≡ true → (b || u) ≡ true
-or-right b u is = grind arith
-
 pub deliveries-so : Always Deliveries
 deliveries-so c events number ranged all within service tei before what behind is =
     let first = front-at (fresh c) before (at number what) behind (subst (AreAtLines (fresh c)) is all) in
@@ -121,7 +118,7 @@ deliveries-so c events number ranged all within service tei before what behind i
       unit_is = λ some.
           taken-so c tei (view_of c service tei number before).teis (brought c service tei what) _
           (unit-is c before number ranged first within service tei what (brought c service tei what) told.unit_is some)
-          (told.contents_are (or-right _ _ some)) (told.small some);
+          (told.contents_are (grind arith)) (told.small some);
       units_are = units-are c events number ranged all within service tei before what behind is;
       contents_are = told.contents_are;
       once = told.once;

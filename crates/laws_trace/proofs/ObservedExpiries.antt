@@ -18,15 +18,7 @@ module _ (o : Observed) where
   received final again busy nr = grind (arith, either, same)
 
   up : (long command : Bool) (control : Control) → IsNoMore o (while_up long command control o)
-  up long command (Dm f) = either o (o.state == 8 || not f) (anew o) o (zero o) (same o)
-  up long command (Information ns nr p) = grind (arith, either, same)
-  up long command (ReceiveReady nr pf) = received (not command && pf) false false nr
-  up long command (ReceiveNotReady nr pf) = received (not command && pf) false true nr
-  up long command (Reject nr pf) = received (not command && pf) true false nr
-  up long command (Ui p) = same o
-  up long command (Ua f) = same o
-  up long command (Xid p) = same o
-  up long command other = zero o
+  up long command control = grind (arith, either, same, received)
 
   down : (control : Control) → IsNoMore o (while_down control o)
   down control = grind (arith, either, same)
@@ -51,15 +43,7 @@ module _ (o : Observed) where
 
     -- by another event than an expiry of T200
     pub no-more : (what : Event) (a : Answer) → ((of : Service) (by : ℕ) → what ≡ expiry (T200 of by) → is_own service tei of by ≡ false) → IsNoMore o (by_event c service tei what a o)
-    no-more (hears e) a other = grind (arith, either, is_some, framed)
-    no-more (request r) a other = either o (is_granted a) (by_request service tei r o) o (asked r) (same o)
-    no-more next (told t) other = same o
-    no-more next (refused why) other = same o
-    no-more next (gave None) other = same o
-    no-more next (gave (Some f)) other = begun (its_frame service tei (result_ok (reading c.side f.octets)))
-    no-more (expiry T201) a other = same o
-    no-more (expiry (T203 of by)) a other = either o (is_own service tei of by && (o.state == 7 && not (awaits o))) (enquires o) o (zero o) (same o)
-    no-more (expiry (T200 of by)) a other = subst (λ b. IsNoMore o (cond b (by_t200 c.n200 o) o)) (sym (other of by refl)) (same o)
+    no-more what a other = grind (arith, either, is_some, framed, asked, same, begun)
 
   -- An expiry of the timer that runs leads on, or is counted.
   moved : (n : ℕ) (q : Observed) → o.state ≡ n → (n == q.state) ≡ false → enters o q ≡ true

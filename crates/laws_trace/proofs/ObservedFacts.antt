@@ -11,10 +11,6 @@ use Rattle.laws_trace.proofs.TimersWatched.{Known, nothing_yet}
 use Rattle.laws_trace.proofs.States.{is_state, differ}
 use Rattle.laws_trace.proofs.TimersWatched as known
 
--- The numbers of the states.
-not-one : (x : State) → (1 == state_number x) ≡ false
-not-one x = grind arith
-
 -- What is known, by whether the TEI is on the line.
 abbrev pub Facts : Option ℕ → Known → Bool → Bool → ℕ → Observed → Type 0
 Facts st k asked owed n o =
@@ -33,9 +29,6 @@ module _ (st : Option ℕ) (k : Known) (asked owed : Bool) (n : ℕ) (o : Observ
   pub state-is : (m : ℕ) → (1 == m) ≡ false → Facts st k asked owed n o → (o.state == m) ≡ is_state m st
   state-is m other o = grind (arith, is_state)
 
-  pub awaits-are : Facts st k asked owed n o → awaits o ≡ known.awaits k st
-  awaits-are o = grind (arith, known.awaits, Known)
-
   pub owed-is : (x : State) → IsObserved (state_number x) k asked owed n o → is_outstanding o ≡ owed
   owed-is x h = grind (arith, When, Known)
 
@@ -46,27 +39,15 @@ module _ (st : Option ℕ) (k : Known) (asked owed : Bool) (n : ℕ) (o : Observ
   pub down-is : Facts st k asked owed n o → nat_le o.state 4 ≡ (unwrap_or st 4 == 4)
   down-is o = grind (arith, nat_le)
 
-  pub up-is : Facts st k asked owed n o → (o.state == 7) ≡ (unwrap_or st 4 == 7)
-  up-is o = grind arith
-
   pub seen-is : Facts st k asked owed n o → o.state ≡ unwrap_or st 1
   seen-is o = grind arith
 
 -- From one state to another.
 pub differs-is : (st to : Option ℕ) (k l : Known) (asked anew owed owing : Bool) (n m : ℕ) (o p : Observed) → Facts st k asked owed n o → Facts to l anew owing m p
     → not (o.state == p.state) ≡ differ st to
-differs-is st to k l asked anew owed owing n m o p x y = grind (arith, differ, not-one, same-way)
+differs-is st to k l asked anew owed owing n m o p x y = grind (arith, differ, same-way)
 
 -- What an event brings.
 pub brings-is : (c : Config) (service : Service) (tei : ℕ) (is : Control → Bool) (what : Event) (a : Answer)
     → list_any (known.brings is c service tei) (seen what a) ≡ brings is c service tei what
-brings-is c service tei is what a = seen-brings c service tei is what a ∙ by-event what
-  where
-    by-address : (f : Parts) (b : Bool) → option_map_or is (cond b (Some f.control) None) false ≡ option_map_or (λ (f : Parts). is f.control) (cond b (Some f) None) false
-    by-address f b = grind arith
-
-    by-frame : (o : Option Parts) → option_map_or is (known.control_in service tei o) false ≡ option_map_or (λ (f : Parts). is f.control) (its_frame service tei o) false
-    by-frame o = grind (arith, by-address)
-
-    by-event : (what : Event) → option_map_or is (known.control_in service tei (frame_by c what)) false ≡ brings is c service tei what
-    by-event what = grind (arith, by-frame)
+brings-is c service tei is what a = grind (arith, seen-brings, known.control_in, frame_by)

@@ -5,9 +5,9 @@ use Rattle.laws_trace.specs.LinksMove.{LinksMove}
 use Rattle.laws_trace.proofs.MovesWatched.{repeated}
 use Rattle.laws_trace.proofs.NewsWatched.{Owing, none_owed, owing}
 use Rattle.laws_trace.proofs.Observed.{IsObserved}
-use Rattle.laws_trace.proofs.ObservedFacts.{Facts, facts, told-so, numbers-are, state-is, awaits-are, owed-is, asked-is, down-is, up-is, seen-is, differs-is, brings-is}
+use Rattle.laws_trace.proofs.ObservedFacts.{Facts, facts, told-so, numbers-are, state-is, owed-is, asked-is, down-is, seen-is, differs-is, brings-is}
 use Rattle.laws_trace.proofs.ObservedShape.{known_of}
-use Rattle.laws_trace.proofs.ObservedRun.{Holds, on-is, holds-now, holds-behind}
+use Rattle.laws_trace.proofs.ObservedRun.{Holds, holds-now, holds-behind, is-told}
 use Rattle.laws_trace.proofs.TimersAreTimely.{front-at, itself, config-now, started-law, timers-run}
 use Rattle.laws_trace.proofs.TimersWatched.{Known, nothing_yet, watch}
 use Rattle.laws_trace.proofs.States.{is_state, differ}
@@ -48,7 +48,7 @@ module _ (c : Config) (events : List Event) (number : ℕ) (ranged : IsInRange c
   known-now = facts service tei k was_asked w.outstanding n its_line v holds
 
   pub on-line-now : is_on tei v.teis ≡ is_some (state_of service tei its_line)
-  on-line-now = on-is service tei number k was_asked w.outstanding n its_line v holds
+  on-line-now = holds.follows.on.same tei ∙ is-told service tei its_line
 
   pub moved-so : state_of service tei its_line ≡ cond (is_on tei v.teis) (Some v.link.state) None
   moved-so = grind (arith, told-so, known-now, on-line-now)
@@ -82,9 +82,6 @@ module _ (c : Config) (events : List Event) (number : ℕ) (ranged : IsInRange c
     pub known-then : Facts (state_of service tei next_line) l then_asked x.outstanding r u.link
     known-then = facts service tei l then_asked x.outstanding r next_line u (holds-behind c events number ranged all within service tei what)
 
-    pub moves-so : not (v.link.state == u.link.state) ≡ differ (state_of service tei its_line) (state_of service tei next_line)
-    moves-so = grind (arith, differs-is, known-now, known-then)
-
 pub links-move-so : Always LinksMove
 links-move-so c events number ranged all within service tei = moved-so c events number ranged all within service tei
 
@@ -94,11 +91,7 @@ timers-run-so c events number ranged all within service tei =
     let h = timers-run c events number ranged all within service tei in
     let st = state_of service tei (line_at number (after_all (fresh c) events)) in
     let o = (view_of c service tei number events).link in
-    let waits = awaits-are st (k c events number ranged all within service tei) (was_asked c events number ranged all within service tei) (w c events number ranged all within service tei).outstanding
-    (n c events number ranged all within service tei) o is in
-    let seven = state-is st (k c events number ranged all within service tei) (was_asked c events number ranged all within service tei) (w c events number ranged all within service tei).outstanding
-    (n c events number ranged all within service tei) o 7 refl is in
-    (h.0 ∙ sym waits, h.1 ∙ sym (ap (λ b. b && not (awaits o)) seven ∙ ap (λ b. is_state 7 st && not b) waits))
+    grind (arith, known.awaits, state-is, is_state)
 
 -- Behind an event of the line.
 module _ (c : Config) (before : List Event) (number : ℕ) (ranged : IsInRange c) (all : AreAtLines (fresh c) before) (within : number < c.lines) (service : Service) (tei : ℕ) (what : line_event.Event) where
@@ -137,7 +130,7 @@ module _ (c : Config) (before : List Event) (number : ℕ) (ranged : IsInRange c
 
   pub anew-is : (timer : LinkTimer) → moved_or_renewed c service tei timer was now what ≡ old_anew timer (seen what its_moment.answer)
   anew-is timer =
-      ap (λ b. b || (was.state == 7 && now_news.brings (renews timer was.acknowledged was.busy) c service tei what)) (moves-so c before number ranged all within service tei what)
+      ap (λ b. b || (was.state == 7 && now_news.brings (renews timer was.acknowledged was.busy) c service tei what)) (grind (arith, differs-is, known-now, known-then))
       ∙ ap (λ b. differ from to || (b && now_news.brings (renews timer was.acknowledged was.busy) c service tei what)) (state-is from its_numbers its_asked its_owed its_count was 7 refl is-before)
       ∙ ap (λ (z : Known). differ from to || (is_state 7 from && now_news.brings (renews timer z.acknowledged z.busy) c service tei what)) (numbers-are from its_numbers its_asked its_owed its_count was is-before)
       ∙ ap (λ b. differ from to || (is_state 7 from && b)) (sym (brings-is c service tei (known.renews timer its_numbers) what its_moment.answer))
@@ -174,15 +167,7 @@ module _ (c : Config) (before : List Event) (number : ℕ) (ranged : IsInRange c
       let owed = (owing c service tei number (fold (owing c service tei number) none_owed (moments (fresh c) before)) its_moment).outstanding in
       let n = repeated service tei number its_count its_moment in
       let errors = now_news.wrong c service tei what was.state (unwrap_or to 1) in
-      ap (λ s. Due s (now.state == 7) (nat_le now.state 4) (was.state == 5 && was.asked) (is_outstanding was)) (seen-is to l asked owed n now z)
-      ∙ ap (λ up. Due (unwrap_or to 1) up (nat_le now.state 4) (was.state == 5 && was.asked) (is_outstanding was)) (up-is to l asked owed n now z)
-      ∙ ap (λ down. Due (unwrap_or to 1) (unwrap_or to 4 == 7) down (was.state == 5 && was.asked) (is_outstanding was)) (down-is to l asked owed n now z)
-      ∙ ap (λ b. Due (unwrap_or to 1) (unwrap_or to 4 == 7) (unwrap_or to 4 == 4) b (is_outstanding was)) (asked-is from its_numbers its_asked its_owed its_count was x h)
-      ∙ ap (λ b. Due (unwrap_or to 1) (unwrap_or to 4 == 7) (unwrap_or to 4 == 4) (was.state == 5 && its_asked) b) (owed-is from its_numbers its_asked its_owed its_count was x h)
-      ∙ ap (λ b. news.due service tei errors its_asked b (now_news.brings now_news.is_sabme c service tei what) (now_news.releases service tei what its_moment.answer) its_owed was.state (unwrap_or to 4))
-      (sym (brings-is c service tei now_news.is_xid what its_moment.answer))
-      ∙ ap (λ b. news.due service tei errors its_asked (list_any (known.brings now_news.is_xid c service tei) (seen what its_moment.answer)) b (now_news.releases service tei what its_moment.answer) its_owed was.state (unwrap_or to 4))
-      (sym (brings-is c service tei now_news.is_sabme what its_moment.answer))
+      grind (arith, nat_le, seen-is, down-is, asked-is, owed-is, news.due, brings-is, known.brings)
 
 -- when a timer is started
 pub started-so : (c : Config) (before : List Event) (number : ℕ) (ranged : IsInRange c) (all : AreAtLines (fresh c) before) (within : number < c.lines) (service : Service) (tei : ℕ) (timer : LinkTimer) (what : line_event.Event) →
@@ -196,8 +181,7 @@ started-so c before number ranged all within service tei timer what =
     let m = moment_of c before number what in
     let ran = left_by what its (runs_at_callers number its false (moments (fresh c) before)) in
     let here : number < (after_all (fresh c) before).config.lines = subst (λ (c : Config). number < c.lines) (sym (config-now c before number ranged all within service tei)) within in
-    started-law c before number ranged all within service tei what timer here
-    ∙ ap (λ b. obeyed its ran (orders_in m.answer) && (not ran || b)) (sym (anew-is c before number ranged all within service tei what timer))
+    grind (arith, started-law, anew-is)
 
 module _ (c : Config) (events : List Event) (number : ℕ) (ranged : IsInRange c) (all : AreAtLines (fresh c) events) (within : number < c.lines) (service : Service) (tei : ℕ)
     (before : List Event) (what : line_event.Event) (behind : List Event) (is : events ≡ before ++ at number what ∷ behind) where

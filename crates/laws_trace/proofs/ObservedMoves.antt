@@ -1,6 +1,5 @@
 -- How an event moves what an observer knows of a link: the state, the numbers, what layer 3 asked and how often T200 expired.
-use Rattle.laws_trace.proofs.Vocabulary.{arith, ◌≡◌, ℕ, ◌+◌, ◌==◌, ◌&&◌, ◌||◌, not, Bool, true, false, cond, length, Option, Some, None, Result, Ok, Err, ReadFault, refl, sym, subst, is_some, nat_lt, option_map_or, Information, ReceiveReady, ReceiveNotReady, Reject, Ui, Ua, Dm, Frmr, Service, Timer, Parts, reading, Seq, State, TeiAssigned, AwaitingEstablishment, AwaitingRelease, Established, TimerRecovery, LinkTimer, state_number, Config, hears, expiry, request, next, Answer, LineTold, gave, Deactivate, Control, Xid, T200, T203, Event, told, Request, Establish, Release, SetBusy, ClearBusy, result_ok, frame_of, its_frame, is_for, malformed, Observed, in_state, awaits, anew, while_up, while_down, observer_by_frame as by_frame, by_t200, observer_by_expiry as by_expiry, enquires, sends, by_event, observer_takes as takes, is_own, is_up, seen}
-use Rattle.lapd_frame.specs.declared.timers.Timer.TheVariants as timers
+use Rattle.laws_trace.proofs.Vocabulary.{arith, ◌≡◌, ℕ, ◌+◌, ◌==◌, ◌&&◌, ◌||◌, not, Bool, true, false, cond, length, Option, Some, None, Result, Ok, Err, ReadFault, refl, sym, subst, is_some, nat_lt, option_map_or, Information, ReceiveReady, ReceiveNotReady, Reject, Ui, Ua, Dm, Frmr, Service, Timer, Parts, reading, Seq, State, TeiAssigned, AwaitingEstablishment, AwaitingRelease, Established, TimerRecovery, LinkTimer, state_number, Config, hears, expiry, request, next, Answer, LineTold, gave, Deactivate, Control, Xid, T200, T203, Event, told, Request, Establish, Release, SetBusy, ClearBusy, result_ok, frame_of, its_frame, is_for, malformed, Observed, in_state, awaits, anew, while_up, while_down, observer_by_frame as by_frame, by_t200, observer_by_expiry as by_expiry, enquires, sends, by_event, observer_takes as takes, is_own, is_up, seen, TimerT200}
 use Rattle.laws_trace.proofs.TimersWatched.{Sent, sent_by, sent_in, Known, nothing_yet}
 use Rattle.laws_trace.proofs.States as states
 use Rattle.laws_trace.proofs.MovesWatched as moves
@@ -31,62 +30,14 @@ in_6 long command control o = grind arith
 
 module _ (k : Known) where
   -- An N(R) in state 7 or 8, by whether it is invalid.
-  info_7 : (ns nr : Seq) (p : Bool) (count : ℕ) (rejected invalid : Bool) (o : Observed) → let to = cond {A = ℕ} invalid 5 7 in let q = at_state 7 k o in
-      let r = record q { count = count; rejected = rejected } in
-      Moved 7 to (heard_known 7 to k (Some (Information ns nr p))) false none_more q (cond invalid (anew r) (record r { acknowledged = nr.value }))
-  info_7 ns nr p count rejected invalid o = grind arith
-
-  info_8 : (ns nr : Seq) (p : Bool) (count : ℕ) (rejected invalid : Bool) (o : Observed) → let to = cond {A = ℕ} invalid 5 8 in let q = at_state 8 k o in
-      let r = record q { count = count; rejected = rejected } in
-      Moved 8 to (heard_known 8 to k (Some (Information ns nr p))) false none_more q (cond invalid (anew r) (record r { acknowledged = nr.value }))
-  info_8 ns nr p count rejected invalid o = grind arith
-
   -- RR, RNR and REJ.
-  receipt_7 : (nr : Seq) (again busy invalid final : Bool) (o : Observed) → let to = cond {A = ℕ} invalid 5 (cond {A = ℕ} (7 == 8 && final) 7 7) in let q = at_state 7 k o in
-      Moved 7 to (cond (to == 7 || to == 8) (known.number_heard nr.value (again && to == 7) busy k) nothing_yet) false none_more q
-      (cond invalid (anew q) (cond (7 == 8 && final) (record q { state = 7; acknowledged = nr.value; next = nr.value; busy = busy })
-      (record q { acknowledged = nr.value; next = cond {A = ℕ} (again && 7 == 7) nr.value q.next; busy = busy })))
-  receipt_7 nr again busy invalid final o = grind arith
-
-  receipt_8 : (nr : Seq) (busy invalid final : Bool) (o : Observed) → let to = cond {A = ℕ} invalid 5 (cond {A = ℕ} final 7 8) in let q = at_state 8 k o in
-      Moved 8 to (cond (to == 7 || to == 8) (known.number_heard nr.value (to == 7) busy k) nothing_yet) false none_more q
-      (cond invalid (anew q) (cond final (record q { state = 7; acknowledged = nr.value; next = nr.value; busy = busy }) (record q { acknowledged = nr.value; busy = busy })))
-  receipt_8 nr busy invalid final o = grind arith
-
   -- In state 7.
   in_7 : (long command : Bool) (control : Control) → Frame Established k long command control
-  in_7 true command (Information ns nr p) o = record { state_is = refl; known_is = refl; asks = refl; owes = refl; counts = refl }
-  in_7 false command (Information ns nr p) o = info_7 ns nr p (takes ns o).count (takes ns o).rejected (moves.is_invalid k nr) o
-  in_7 long command (ReceiveReady nr f) o = receipt_7 nr false false (moves.is_invalid k nr) (not command && f) o
-  in_7 long command (ReceiveNotReady nr f) o = receipt_7 nr false true (moves.is_invalid k nr) (not command && f) o
-  in_7 long command (Reject nr f) o = receipt_7 nr true false (moves.is_invalid k nr) (not command && f) o
-  in_7 long command (Frmr f) o = record { state_is = refl; known_is = refl; asks = refl; owes = refl; counts = refl }
-  in_7 long command (Ua true) o = record { state_is = refl; known_is = refl; asks = tt; owes = tt; counts = tt }
-  in_7 long command (Dm false) o = record { state_is = refl; known_is = refl; asks = refl; owes = refl; counts = refl }
-  in_7 long command other o = record { state_is = refl; known_is = refl; asks = tt; owes = tt; counts = tt }
+  in_7 long command control o = grind (arith, moves.is_invalid)
 
   -- In state 8.
   in_8 : (long command : Bool) (control : Control) → Frame TimerRecovery k long command control
-  in_8 true command (Information ns nr p) o = record { state_is = refl; known_is = refl; asks = refl; owes = refl; counts = refl }
-  in_8 false command (Information ns nr p) o = info_8 ns nr p (takes ns o).count (takes ns o).rejected (moves.is_invalid k nr) o
-  in_8 long command (ReceiveReady nr f) o = receipt_8 nr false (moves.is_invalid k nr) (not command && f) o
-  in_8 long command (ReceiveNotReady nr f) o = receipt_8 nr true (moves.is_invalid k nr) (not command && f) o
-  in_8 long command (Reject nr f) o = receipt_8 nr false (moves.is_invalid k nr) (not command && f) o
-  in_8 long command (Ui p) o = record { state_is = refl; known_is = refl; asks = tt; owes = tt; counts = refl }
-  in_8 long command (Xid p) o = record { state_is = refl; known_is = refl; asks = tt; owes = tt; counts = refl }
-  in_8 long command (Frmr f) o = record { state_is = refl; known_is = refl; asks = refl; owes = refl; counts = refl }
-  in_8 long command (Ua true) o = record { state_is = refl; known_is = refl; asks = tt; owes = tt; counts = refl }
-  in_8 long command (Ua false) o = record { state_is = refl; known_is = refl; asks = tt; owes = tt; counts = refl }
-  in_8 long command (Dm true) o = record { state_is = refl; known_is = refl; asks = refl; owes = refl; counts = refl }
-  in_8 long command (Dm false) o = record { state_is = refl; known_is = refl; asks = refl; owes = refl; counts = refl }
-  in_8 long command other o = record { state_is = refl; known_is = refl; asks = tt; owes = tt; counts = tt }
-
-pub frame-moves : (x : State) (k : Known) → Shape x k → (long command : Bool) (control : Control) → Frame x k long command control
-frame-moves TeiAssigned k shape long command control = subst (λ k. Frame TeiAssigned k long command control) (sym shape) (in_4 long command control)
-frame-moves AwaitingEstablishment k shape long command control = subst (λ k. Frame AwaitingEstablishment k long command control) (sym shape) (in_5 long command control)
-frame-moves AwaitingRelease k shape long command control = subst (λ k. Frame AwaitingRelease k long command control) (sym shape) (in_6 long command control)
-frame-moves Established k shape long command control = in_7 k long command control
-frame-moves TimerRecovery k shape long command control = in_8 k long command control
+  in_8 long command control o = grind (arith, moves.is_invalid)
 
 -- Nothing moves.
 abbrev Stays : State → Known → Type 0
@@ -107,20 +58,15 @@ module _ (c : Config) (service : Service) (tei : ℕ) where
   of-frame : (x : State) (k : Known) → Shape x k → (o : Observed) (f : Parts) (b : Bool) → let s = state_number x in let p = at_state s k o in
       let to = cond {A = ℕ} b (moves.by_frame k s f.address.command (nat_lt c.n201 (length f.info)) f.control) s in
       Moved s to (heard_known s to k (cond b (Some f.control) None)) false none_more p (option_map_or (by_frame c p) (cond b (Some f) None) p)
-  of-frame x k shape o f b = grind (arith, frame-moves, stays)
+  of-frame x k shape o f b = grind (arith, in_4, in_5, in_6, in_7, in_8, stays)
 
   parts : (x : State) (k : Known) → Shape x k → (o : Observed) (f : Option Parts) → let s = state_number x in let p = at_state s k o in
       let to = moves.by_parts c service tei k s f in
       Moved s to (heard_known s to k (known.control_in service tei f)) false none_more p (option_map_or (by_frame c p) (its_frame service tei f) p)
-  parts x k shape o None = stays x k shape false o
-  parts x k shape o (Some f) = of-frame x k shape o f (is_for service tei f.address)
+  parts x k shape o f = grind (arith, stays, of-frame)
 
   heard-moves : (x : State) (k : Known) → Shape x k → (o : Observed) (m : Bool) (f : Option Parts) → Heard x k o m f
-  heard-moves Established k shape o true f = record { state_is = refl; known_is = refl; asks = refl; owes = refl; counts = refl }
-  heard-moves Established k shape o false f = parts Established k shape o f
-  heard-moves TimerRecovery k shape o true f = record { state_is = refl; known_is = refl; asks = refl; owes = refl; counts = refl }
-  heard-moves TimerRecovery k shape o false f = parts TimerRecovery k shape o f
-  heard-moves other k shape o m f = parts other k shape o f
+  heard-moves x k shape o m f = grind (arith, parts)
 
   -- What runs out.
   abbrev Expires : LinkTimer → State → Known → (ℕ → ℕ) → Observed → Observed → Type 0
@@ -141,11 +87,8 @@ module _ (c : Config) (service : Service) (tei : ℕ) where
       Moved 7 to (cond (to == 7 || to == 8) k nothing_yet) false more p (cond b (enquires p) p)
   enquiry k o more b = grind arith
 
-  t200-moves : (x : State) (k : Known) → Shape x k → (o : Observed) → let p = at_state (state_number x) k o in Expires T200 x k one_more p (by_t200 c.n200 p)
-  t200-moves x k shape o = grind (arith, not_counted, enquiry, one_more, known.awaits, repeated)
-
   abbrev pub grown : Event → ℕ → ℕ
-  grown (expiry (timers.T200 of by)) = cond (is_own service tei of by) one_more none_more
+  grown (expiry (TimerT200 of by)) = cond (is_own service tei of by) one_more none_more
   grown other = none_more
 
   -- An event of the line.
@@ -161,15 +104,11 @@ module _ (c : Config) (service : Service) (tei : ℕ) where
 
   by-t200 : (x : State) (k : Known) → Shape x k → (o : Observed) (b : Bool) → let p = at_state (state_number x) k o in
       Timed x k (cond b one_more none_more) (cond b (Some T200) None) p (cond b (by_t200 c.n200 p) p)
-  by-t200 x k shape o b = grind (arith, t200-moves, stays)
-
-  by-t203 : (x : State) (k : Known) → Shape x k → (o : Observed) (b : Bool) → let p = at_state (state_number x) k o in
-      Timed x k none_more (cond b (Some T203) None) p (cond (b && (p.state == 7 && not (awaits p))) (enquires p) p)
-  by-t203 x k shape o b = grind (arith, enquiry, none_more, known.awaits, stays)
+  by-t200 x k shape o b = grind (arith, not_counted, enquiry, one_more, known.awaits, repeated, stays)
 
   timer-moves : (x : State) (k : Known) → Shape x k → (o : Observed) (timer : Timer) → let p = at_state (state_number x) k o in
       Timed x k (grown (expiry timer)) (states.expired_of service tei (expiry timer)) p (by_expiry c service tei timer p)
-  timer-moves x k shape o timer = grind (arith, by-t200, by-t203, stays)
+  timer-moves x k shape o timer = grind (arith, by-t200, enquiry, none_more, known.awaits, stays)
 
   -- What is asked.
   abbrev Asked : State → Known → Bool → ℕ → Observed → Observed → Type 0
@@ -192,36 +131,12 @@ module _ (c : Config) (service : Service) (tei : ℕ) where
   busy x k shape o now b = grind (arith, stays)
 
   asked-moves : (x : State) (k : Known) → Shape x k → (o : Observed) (r : Request) (t : LineTold) → EventMoves x k o (request r) (told t)
-  asked-moves x k shape o (Establish of by) t = establish x k shape o (is_own service tei of by)
-  asked-moves x k shape o (Release of by) t = release x k shape o (is_own service tei of by)
-  asked-moves x k shape o (Deactivate of by) t = deactivate x k shape o (is_own service tei of by)
-  asked-moves x k shape o (SetBusy of by) t = busy x k shape o true (is_own service tei of by)
-  asked-moves x k shape o (ClearBusy of by) t = busy x k shape o false (is_own service tei of by)
-  asked-moves x k shape o other t = stays x k shape false o
+  asked-moves x k shape o r t = grind (arith, establish, release, deactivate, busy, stays)
 
   -- What is sent.
   abbrev Sends : State → Known → Observed → Option Sent → Observed → Type 0
   Sends x k p sent q = let s = state_number x in Moved s s (cond (s == 7 || s == 8) (option_map_or (known.sends k) sent k) nothing_yet) false none_more p q
 
-  information-moves : (x : State) (k : Known) → Shape x k → (o : Observed) (ns nr : Seq) (pf : Bool) → let p = at_state (state_number x) k o in
-      Sends x k p (Some (record { ns = ns.value })) (sends p (Information ns nr pf))
-  information-moves x k shape o ns nr pf = grind (arith, stays)
-
-  sent-moves : (x : State) (k : Known) → Shape x k → (o : Observed) (r : Result Parts ReadFault) → let p = at_state (state_number x) k o in
-      Sends x k p (sent_in service tei r) (option_map_or (λ (f : Parts). sends p f.control) (its_frame service tei (result_ok r)) p)
-  sent-moves x k shape o (Err fault) = stays x k shape false o
-  sent-moves x k shape o (Ok f) = go (is_for service tei f.address)
-    where
-      go : (b : Bool) → let p = at_state (state_number x) k o in
-          Sends x k p (cond b (sent_by f.control f.info) None) (option_map_or (λ (f : Parts). sends p f.control) (cond b (Some f) None) p)
-      go b = grind (arith, information-moves, stays)
-
   pub event-moves : (x : State) (k : Known) → Shape x k → (o : Observed) (what : Event) (a : Answer) → EventMoves x k o what a
-  event-moves x k shape o (hears e) (told t) = heard-moves x k shape o (is_some (malformed c service tei e)) (frame_of c e)
-  event-moves x k shape o (hears e) other = heard-moves x k shape o (is_some (malformed c service tei e)) (frame_of c e)
-  event-moves x k shape o (expiry timer) (told t) = timer-moves x k shape o timer
-  event-moves x k shape o (expiry timer) other = timer-moves x k shape o timer
   event-moves x k shape o (request r) (told t) = asked-moves x k shape o r t
-  event-moves x k shape o (request r) other = stays x k shape (news.establishes service tei (request r) other) o
-  event-moves x k shape o next (gave (Some frame)) = sent-moves x k shape o (reading c.side frame.octets)
-  event-moves x k shape o next other = stays x k shape false o
+  event-moves x k shape o what a = grind (arith, heard-moves, is_some, timer-moves, stays, news.establishes, at_state, sent_by)

@@ -56,9 +56,6 @@ module _ (service : Service) (tei : ℕ) where
     renewed : (from : Option ℕ) → IsSeen from k asked owed n o → IsSeen from k asked (cond (is_state 5 from) owed (not (k.next == k.acknowledged))) n o
     renewed from h = grind (arith, IsSeen, When)
 
-    stays-so : (from : Option ℕ) → IsSeen from k asked owed n o → IsSeen from k asked owed n (cond (not (is_some from)) (in_state 1) (cond (is_some from) o (in_state 4)))
-    stays-so from h = grind arith
-
 -- What is known beside it.
 pub record Holds (service : Service) (tei : ℕ) (k : Known) (asked owed : Bool) (n : ℕ) (l : Line) (v : View) : Type 0 where
   pub true_of : IsTrueOf service tei k l
@@ -67,9 +64,6 @@ pub record Holds (service : Service) (tei : ℕ) (k : Known) (asked owed : Bool)
   pub link_is : IsSeen (state_of service tei l) k asked owed n v.link
 
 module _ (service : Service) (tei number : ℕ) where
-  pub on-is : (k : Known) (asked owed : Bool) (n : ℕ) (l : Line) (v : View) → Holds service tei k asked owed n l v → is_on tei v.teis ≡ is_some (state_of service tei l)
-  on-is k asked owed n l v h = h.follows.on.same tei ∙ is-told service tei l
-
   module _ (card : Card) (s : IsSound card) (timely : AllHaveTheirTimers card) (e : Event) (here : IsAtLine card e)
       (k : Known) (asked : Bool) (w : Owing) (known_is : w.known ≡ k) (n : ℕ) (v : View) (h : Holds service tei k asked w.outstanding n (line_at number card) v) where
     abbrev c : Config
@@ -90,11 +84,8 @@ module _ (service : Service) (tei number : ℕ) where
     follows-then : Follows (led c number v.teis e) later.management
     follows-then = moment-follows card e number v.teis s here h.follows
 
-    on-then : is_on tei (led c number v.teis e) ≡ is_some to
-    on-then = follows-then.on.same tei ∙ is-told service tei later
-
     on-before : is_on tei v.teis ≡ is_some from
-    on-before = on-is k asked w.outstanding n (line_at number card) v h
+    on-before = h.follows.on.same tei ∙ is-told service tei (line_at number card)
 
     abbrev Next : Bool → Bool → Bool → Type 0
     Next b is was =
@@ -117,16 +108,7 @@ module _ (service : Service) (tei number : ℕ) where
         (subst (λ number. Led service tei c k asked w.outstanding n v.link (its-from number) (its-to number) e card) (sym same)
         (own-led service tei number card s timely e here k n (subst (λ number. IsTrueOf service tei k (line_at number card)) same h.true_of)
         (subst (λ number. IsCountOf service tei n (line_at number card)) same h.counts_of)))
-    by-line false other =
-        let same = apart card e number (λ same. true≢false (sym (eq-eqb e.line number (sym same)) ∙ other)) in
-        let none = none-learned service tei number c (line_at number card) k h.true_of in
-        subst (λ x. let to = state_of service tei x in let l = learned c service tei from to k [] in
-        IsSeen to l asked (cond (is_state 5 to) w.outstanding (not (l.next == l.acknowledged))) n
-        (cond (not (is_some to)) (in_state 1) (cond (is_some from) v.link (in_state 4)))) (sym same)
-        (subst (λ l. IsSeen from l asked (cond (is_state 5 from) w.outstanding (not (l.next == l.acknowledged))) n
-        (cond (not (is_some from)) (in_state 1) (cond (is_some from) v.link (in_state 4)))) (sym none)
-        (stays-so service tei c k asked (cond (is_state 5 from) w.outstanding (not (k.next == k.acknowledged))) n v.link from
-        (renewed service tei c k asked w.outstanding n v.link from h.link_is)))
+    by-line false other = grind (arith, apart, eq-eqb, none-learned, learned, is_state, is_some, renewed)
 
     pub holds-then : Holds service tei (watch c service tei number k m) (news.asked service tei number asked m) (owing c service tei number w m).outstanding (repeated service tei number n m) later
         (views c service tei number v m)
@@ -137,7 +119,7 @@ module _ (service : Service) (tei number : ℕ) where
       link_is =
           subst (λ (x : Known). let l = watch c service tei number x m in IsSeen to (watch c service tei number k m) (news.asked service tei number asked m)
           (cond (is_state 5 to) w.outstanding (not (l.next == l.acknowledged))) (repeated service tei number n m) (views c service tei number v m).link) (sym known_is)
-          (subst (λ is. Next (e.line == number) is (is_on tei v.teis)) (sym on-then)
+          (subst (λ is. Next (e.line == number) is (is_on tei v.teis)) (sym (follows-then.on.same tei ∙ is-told service tei later))
           (subst (λ was. Next (e.line == number) (is_some to) was) (sym on-before) (by-line (e.line == number) refl)));
     }
 

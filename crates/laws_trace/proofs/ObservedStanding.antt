@@ -37,35 +37,11 @@ in_6 : (long command : Bool) (control : Control) → Frame AwaitingRelease long 
 in_6 long command control o = grind arith
 
 -- An N(R) in states 7 and 8, by whether it is invalid.
-numbered-so : (s : ℕ) → is_up s ≡ true → (information taken invalid : Bool) (ack : ℕ) (p r : Observed) → r.state ≡ s → Stood (is_up s) false taken information p.own_busy p r
-    → When (is_up (cond invalid (anew r) (record r { acknowledged = ack })).state) (Stood (is_up s) false taken information p.own_busy p (cond invalid (anew r) (record r { acknowledged = ack })))
-numbered-so s up information taken invalid ack p r is h = grind arith
-
-receipt-so : (s : ℕ) → is_up s ≡ true → (busy invalid final : Bool) (ack again : ℕ) (p : Observed)
-    → let q = cond invalid (anew p) (cond final (record p { state = 7; acknowledged = ack; next = ack; busy = busy }) (record p { acknowledged = ack; next = again; busy = busy })) in
-    When (is_up q.state) (Stood (is_up s) false false false p.own_busy p q)
-receipt-so s up busy invalid final ack again p = grind arith
-
 in_7 : (long command : Bool) (control : Control) → Frame Established long command control
-in_7 long command control o = grind (arith, numbered-so, receipt-so)
+in_7 long command control o = grind arith
 
 in_8 : (long command : Bool) (control : Control) → Frame TimerRecovery long command control
-in_8 true command (Information ns nr p) o = tt
-in_8 false command (Information ns nr p) o = let p = in_number 8 o in numbered-so 8 refl true (is_next p ns) (is_invalid (takes ns p) nr) nr.value p (takes ns p) refl record { before = refl; count_is = refl; busy_is = refl; rejected_is = refl }
-in_8 true command (ReceiveReady nr f) o = receipt-so 8 refl false (is_invalid (in_number 8 o) nr) (8 == 8 && (not command && f)) nr.value (cond (false && 8 == 7) nr.value o.next) (in_number 8 o)
-in_8 false command (ReceiveReady nr f) o = receipt-so 8 refl false (is_invalid (in_number 8 o) nr) (8 == 8 && (not command && f)) nr.value (cond (false && 8 == 7) nr.value o.next) (in_number 8 o)
-in_8 true command (ReceiveNotReady nr f) o = receipt-so 8 refl true (is_invalid (in_number 8 o) nr) (8 == 8 && (not command && f)) nr.value (cond (false && 8 == 7) nr.value o.next) (in_number 8 o)
-in_8 false command (ReceiveNotReady nr f) o = receipt-so 8 refl true (is_invalid (in_number 8 o) nr) (8 == 8 && (not command && f)) nr.value (cond (false && 8 == 7) nr.value o.next) (in_number 8 o)
-in_8 true command (Reject nr f) o = receipt-so 8 refl false (is_invalid (in_number 8 o) nr) (8 == 8 && (not command && f)) nr.value (cond (true && 8 == 7) nr.value o.next) (in_number 8 o)
-in_8 false command (Reject nr f) o = receipt-so 8 refl false (is_invalid (in_number 8 o) nr) (8 == 8 && (not command && f)) nr.value (cond (true && 8 == 7) nr.value o.next) (in_number 8 o)
-in_8 long command (Disc p) o = tt
-in_8 long command (Frmr f) o = tt
-in_8 long command (Dm f) o = tt
-in_8 long command (Sabme p) o = record { before = refl; count_is = refl; busy_is = refl; rejected_is = refl }
-in_8 true command (Ua true) o = record { before = refl; count_is = refl; busy_is = refl; rejected_is = refl }
-in_8 false command (Ua true) o = record { before = refl; count_is = refl; busy_is = refl; rejected_is = refl }
-in_8 true command other o = record { before = refl; count_is = refl; busy_is = refl; rejected_is = refl }
-in_8 false command other o = record { before = refl; count_is = refl; busy_is = refl; rejected_is = refl }
+in_8 long command control o = grind arith
 
 -- Nothing moves.
 rests : (x : State) (o : Observed) → let p = in_number (state_number x) o in When (is_up (state_number x)) (Stood (is_up (state_number x)) false false false p.own_busy p p)
@@ -134,16 +110,5 @@ module _ (c : Config) (service : Service) (tei : ℕ) where
       let p = in_number (state_number x) o in let q = by_event c service tei what a p in let f = brought c service tei what in
       When (is_up q.state) (Stood (is_up (state_number x)) (begins_by x f) (taken_by p f) (informs f) (asked_busy service tei what a p.own_busy) p q)
 
-  asked-stands : (x : State) (o : Observed) (r : Request) (t : LineTold) → EventStands x o (request r) (told t)
-  asked-stands x o r t = grind (arith, establish, release, deactivate, rests, ends-busy)
-
-  sent-stands : (x : State) (o : Observed) (f : Option Parts) → let p = in_number (state_number x) o in Quiet x o (option_map_or (λ (f : Parts). sends p f.control) f p)
-  sent-stands x o f = grind (arith, rests)
-
   pub event-stands-so : (x : State) (o : Observed) (what : Event) (a : Answer) → EventStands x o what a
-  event-stands-so x o (hears e) a = heard-stands x o (is_some (malformed c service tei e)) (its_frame service tei (frame_of c e))
-  event-stands-so x o (expiry timer) a = timer-stands x o timer
-  event-stands-so x o (request r) (told t) = asked-stands x o r t
-  event-stands-so x o (request r) other = rests x o
-  event-stands-so x o next (gave (Some frame)) = sent-stands x o (its_frame service tei (result_ok (reading c.side frame.octets)))
-  event-stands-so x o next other = rests x o
+  event-stands-so x o what a = grind (arith, heard-stands, is_some, timer-stands, establish, release, deactivate, rests, ends-busy)

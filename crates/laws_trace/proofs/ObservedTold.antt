@@ -1,7 +1,5 @@
 -- What an event of a line tells of data, by what an observer knows of the link; and when the numbers begin.
-use Rattle.laws_trace.proofs.Vocabulary.{◌≡◌, ℕ, ◌%◌, ◌==◌, ◌&&◌, not, Bool, true, false, cond, List, length, Option, Some, None, refl, sym, ap, ◌∙◌, arith, inl, inr, true≢false, nat_lt, nat_le, is_some, list_any, option_map_or, leb-true, leb-false, none-some, Sabme, Ua, Service, Parts, Seq, State, Terms, restarts, eligible, eligible_of, Link, is_multiple_frame, state_number, in_sequence, as_heard, state_after, numbers_begin, event-follows, data-is, establishes, Config, Answer, Line, link_of, place_in, terms, IsInRange, notes_of, is_data_of, IsBy, ltb-true, ltb-false, Control, link_information_of as information_of, Event, IsSound, brings_next, brought, its_frame, is_for, Observed, is_up, link_after as after}
-use Rattle.model_link.specs.Events as link
-use Rattle.model_line.specs.Machine as lines
+use Rattle.laws_trace.proofs.Vocabulary.{◌≡◌, ℕ, ◌%◌, ◌==◌, ◌&&◌, not, Bool, true, false, cond, List, length, Option, Some, None, refl, sym, ap, ◌∙◌, arith, inl, inr, true≢false, nat_lt, nat_le, is_some, list_any, option_map_or, leb-true, leb-false, none-some, Sabme, Ua, Service, Parts, Seq, State, Terms, restarts, eligible, eligible_of, Link, is_multiple_frame, state_number, in_sequence, as_heard, state_after, numbers_begin, event-follows, data-is, establishes, Config, Answer, Line, link_of, place_in, terms, IsInRange, notes_of, is_data_of, IsBy, ltb-true, ltb-false, Control, link_information_of as information_of, Event, IsSound, brings_next, brought, its_frame, is_for, Observed, is_up, link_after as after, undefined, received, cleared, requested, LinkEvent, overlong, frame, wrong_size, line_after, answer}
 use Rattle.laws_trace.proofs.Counting as counting
 use Rattle.laws_trace.proofs.Counting.{begins}
 use Rattle.laws_trace.proofs.Begins.{in-state, unless}
@@ -15,11 +13,11 @@ use Rattle.laws_trace.proofs.Facts.{number-up}
 -- The numbers begin anew, by the state before.
 module _ (t : Terms) (f : Parts) where
   abbrev Restarts : Control → Link → Type 0
-  Restarts control l = restarts t (link.received (link.frame (record f { control = control }))) l ≡ begun_by (state_number l.state) control
+  Restarts control l = restarts t (received (frame (record f { control = control }))) l ≡ begun_by (state_number l.state) control
 
   abbrev Numbers : Control → Link → Type 0
   Numbers control l =
-      let e = link.received (link.frame (record f { control = control })) in numbers_begin e l.state (state_after t e l) ≡ begun_by (state_number l.state) control
+      let e = received (frame (record f { control = control })) in numbers_begin e l.state (state_after t e l) ≡ begun_by (state_number l.state) control
 
   by-sabme : (p : Bool) (here : State) (l : Link) → Numbers (Sabme p) (record l { state = here })
   by-sabme p here l = grind arith
@@ -27,25 +25,22 @@ module _ (t : Terms) (f : Parts) where
   by-ua : (here : State) (l : Link) → Numbers (Ua true) (record l { state = here })
   by-ua here l = grind arith
 
-  followed : (control : Control) (l : Link) → let e = link.received (link.frame (record f { control = control })) in as_heard t e ≡ e → Numbers control l → Restarts control l
+  followed : (control : Control) (l : Link) → let e = received (frame (record f { control = control })) in as_heard t e ≡ e → Numbers control l → Restarts control l
   followed control l heard is =
-      let e = link.received (link.frame (record f { control = control })) in
+      let e = received (frame (record f { control = control })) in
       let x = event-follows t e l in
       let state : (after t e l).state ≡ state_after t e l = x.leaves.state ∙ ap (λ e. state_after t e l) heard in
-      x.numbers ∙ ap (λ e. numbers_begin e l.state (after t (link.received (link.frame (record f { control = control }))) l).state) heard ∙ ap (numbers_begin e l.state) state ∙ is
+      x.numbers ∙ ap (λ e. numbers_begin e l.state (after t (received (frame (record f { control = control }))) l).state) heard ∙ ap (numbers_begin e l.state) state ∙ is
 
   by-control : (control : Control) (l : Link) → Restarts control l
   by-control control l = grind (arith, followed, in-state, by-sabme, by-ua, unless)
 
-  pub restarts-so : (l : Link) → restarts t (link.received (link.frame f)) l ≡ begun_by (state_number l.state) f.control
+  pub restarts-so : (l : Link) → restarts t (received (frame f)) l ≡ begun_by (state_number l.state) f.control
   restarts-so l = by-control f.control l
 
 -- What is due to be delivered, by what an observer knows.
 module _ (t : Terms) (own : Link) (p : Observed) (is : p.state ≡ state_number own.state) (count_is : is_multiple_frame own.state ≡ true → own.r ≡ p.count)
     (busy_is : is_multiple_frame own.state ≡ true → own.own_busy ≡ p.own_busy) where
-  and-none : (a b : Bool) → (a && (b && false)) ≡ false
-  and-none a b = grind arith
-
   abbrev Due : Control → List ℕ → Type 0
   Due control info =
       is_some (in_sequence own.r (eligible_of t own (information_of control info)))
@@ -55,12 +50,12 @@ module _ (t : Terms) (own : Link) (p : Observed) (is : p.state ≡ state_number 
   by-up up down ns fit = grind arith
 
   due-so : (control : Control) (info : List ℕ) → Due control info
-  due-so control info = grind (arith, is_some, nat_le, by-up, leb-true, ltb-true, leb-false, ltb-false, number-up, and-none)
+  due-so control info = grind (arith, is_some, nat_le, by-up, leb-true, ltb-true, leb-false, ltb-false, number-up)
 
 -- One event of a line, where the TEI is on it.
 module _ (c : Config) (ranged : IsInRange c) (l : Line) (s : IsSound c l) (e : Event) (service : Service) (tei place : ℕ) (on : place_in l tei ≡ Some place) where
   abbrev a : Answer
-  a = lines.answer c e l
+  a = answer c e l
 
   abbrev own : Link
   own = link_of service tei l
@@ -77,38 +72,38 @@ module _ (c : Config) (ranged : IsInRange c) (l : Line) (s : IsSound c l) (e : E
   none-brought : (e : Event) → frame_by c e ≡ None → brought c service tei e ≡ None
   none-brought e is = grind arith
 
-  not-for : HasNone c service tei e l (lines.after c e l) a → (f : Parts) → frame_by c e ≡ Some f → (b : Bool) → is_for service tei f.address ≡ b → is_for service tei f.address ≡ false
+  not-for : HasNone c service tei e l (line_after c e l) a → (f : Parts) → frame_by c e ≡ Some f → (b : Bool) → is_for service tei f.address ≡ b → is_for service tei f.address ≡ false
   not-for x f is false other = other
   not-for x f is true for = absurd (true≢false (sym (event-aims c l service tei place on e f is for) ∙ x.aims))
 
-  none-of-it : HasNone c service tei e l (lines.after c e l) a → (o : Option Parts) → frame_by c e ≡ o → brought c service tei e ≡ None
+  none-of-it : HasNone c service tei e l (line_after c e l) a → (o : Option Parts) → frame_by c e ≡ o → brought c service tei e ≡ None
   none-of-it x o is = grind (arith, none-brought, frame_by, not-for)
 
   -- when the numbers begin
   abbrev Begins : Type 0
   Begins = begins service tei (frame_by c e) (notes_of a) ≡ begins_by c service tei own.state its
 
-  none-begins : (x : HasNone c service tei e l (lines.after c e l) a) → (o : Option Parts) → frame_by c e ≡ o → begins service tei o (notes_of a) ≡ false
+  none-begins : (x : HasNone c service tei e l (line_after c e l) a) → (o : Option Parts) → frame_by c e ≡ o → begins service tei o (notes_of a) ≡ false
   none-begins x o is = grind (arith, counting.begins_by, not-for)
 
-  no-restart : (event : link.Event) → (restarts t event own ≡ true → ⊥) → frame_by c e ≡ None → restarts t event own ≡ begins_by c service tei own.state its
+  no-restart : (event : LinkEvent) → (restarts t event own ≡ true → ⊥) → frame_by c e ≡ None → restarts t event own ≡ begins_by c service tei own.state its
   no-restart event never none = sym (unless (restarts t event own) never) ∙ sym (ap (begins_by c service tei own.state) (none-brought e none))
 
-  one-restarts : (event : link.Event) → IsBy c e a service tei event → restarts t event own ≡ begins_by c service tei own.state its
-  one-restarts (link.received (link.frame f)) by =
+  one-restarts : (event : LinkEvent) → IsBy c e a service tei event → restarts t event own ≡ begins_by c service tei own.state its
+  one-restarts (received (frame f)) by =
       let x = brings-frame c e a service tei f by in
       restarts-so t f own ∙ sym (ap (begins_by c service tei own.state) (brought-is e f x.0 x.1))
-  one-restarts (link.received link.undefined) by = no-restart (link.received link.undefined) (λ is. establishes t own (link.received link.undefined) is) (brings-none c e a service tei link.undefined by)
-  one-restarts (link.received link.wrong_size) by = no-restart (link.received link.wrong_size) (λ is. establishes t own (link.received link.wrong_size) is) (brings-none c e a service tei link.wrong_size by)
-  one-restarts (link.received link.overlong) by = no-restart (link.received link.overlong) (λ is. establishes t own (link.received link.overlong) is) (brings-none c e a service tei link.overlong by)
-  one-restarts (link.requested asked full) by = no-restart (link.requested asked full) (λ is. establishes t own (link.requested asked full) is) (ap (frame_by c) by.0)
-  one-restarts link.cleared by = absurd by
+  one-restarts (received undefined) by = no-restart (received undefined) (λ is. establishes t own (received undefined) is) (brings-none c e a service tei undefined by)
+  one-restarts (received wrong_size) by = no-restart (received wrong_size) (λ is. establishes t own (received wrong_size) is) (brings-none c e a service tei wrong_size by)
+  one-restarts (received overlong) by = no-restart (received overlong) (λ is. establishes t own (received overlong) is) (brings-none c e a service tei overlong by)
+  one-restarts (requested asked full) by = no-restart (requested asked full) (λ is. establishes t own (requested asked full) is) (ap (frame_by c) by.0)
+  one-restarts cleared by = absurd by
   one-restarts other by = no-restart other (λ is. establishes t own other is) (ap (frame_by c) by)
 
   pub begins-so : Begins
   begins-so = go (event-goes c e l service tei s)
     where
-      go : Goes c service tei e l (lines.after c e l) a → Begins
+      go : Goes c service tei e l (line_after c e l) a → Begins
       go (inl x) = none-begins x (frame_by c e) refl ∙ sym (ap (begins_by c service tei own.state) (none-of-it x (frame_by c e) refl))
       go (inr (inl x)) = ap (begins service tei (frame_by c e)) x.notes ∙ one-begins c e a service tei x.event x.by own ∙ one-restarts x.event x.by
       go (inr (inr x)) = ap (λ e. begins service tei (frame_by c e) (notes_of a)) x.by.0 ∙ sym (ap (λ e. begins_by c service tei own.state (brought c service tei e)) x.by.0)
@@ -132,30 +127,20 @@ module _ (c : Config) (ranged : IsInRange c) (l : Line) (s : IsSound c l) (e : E
     abbrev Told : Type 0
     Told = list_any (is_data_of service tei) (notes_of a) ≡ taken_by c service tei p its
 
-    untold : HasNone c service tei e l (lines.after c e l) a → (b : Bool) → list_any (is_data_of service tei) (notes_of a) ≡ b → list_any (is_data_of service tei) (notes_of a) ≡ false
+    untold : HasNone c service tei e l (line_after c e l) a → (b : Bool) → list_any (is_data_of service tei) (notes_of a) ≡ b → list_any (is_data_of service tei) (notes_of a) ≡ false
     untold x false is = is
     untold x true is = absurd (no-data c ranged l s e service tei n count x is)
 
-    no-due : (event : link.Event) → is_some (in_sequence own.r (eligible t event own)) ≡ false → frame_by c e ≡ None → is_some (in_sequence own.r (eligible t event own)) ≡ taken_by c service tei p its
-    no-due event never none = never ∙ sym (ap (taken_by c service tei p) (none-brought e none))
-
-    one-due : (event : link.Event) → IsBy c e a service tei event → is_some (in_sequence own.r (eligible t event own)) ≡ taken_by c service tei p its
-    one-due (link.received (link.frame f)) by =
+    one-due : (event : LinkEvent) → IsBy c e a service tei event → is_some (in_sequence own.r (eligible t event own)) ≡ taken_by c service tei p its
+    one-due (received (frame f)) by =
         let x = brings-frame c e a service tei f by in
         due-so t own p is count_is busy_is f.control f.info ∙ sym (ap (taken_by c service tei p) (brought-is e f x.0 x.1))
-    one-due (link.received link.undefined) by = no-due (link.received link.undefined) refl (brings-none c e a service tei link.undefined by)
-    one-due (link.received link.wrong_size) by = no-due (link.received link.wrong_size) refl (brings-none c e a service tei link.wrong_size by)
-    one-due (link.received link.overlong) by = no-due (link.received link.overlong) refl (brings-none c e a service tei link.overlong by)
-    one-due (link.requested asked full) by = no-due (link.requested asked full) refl (ap (frame_by c) by.0)
-    one-due link.cleared by = absurd by
-    one-due other by = no-due other refl (ap (frame_by c) by)
+    one-due event by = grind (arith, taken_by, none-brought, brings-none, frame_by)
 
     pub data-so : Told
     data-so = go (event-goes c e l service tei s)
       where
-        go : Goes c service tei e l (lines.after c e l) a → Told
+        go : Goes c service tei e l (line_after c e l) a → Told
         go (inl x) = untold x (list_any (is_data_of service tei) (notes_of a)) refl ∙ sym (ap (taken_by c service tei p) (none-of-it x (frame_by c e) refl))
         go (inr (inl x)) = data-noted c ranged l s e service tei n count x ∙ ap is_some (data-is t own x.event) ∙ one-due x.event x.by
-        go (inr (inr x)) =
-            ended-notes c ranged l s e service tei n count (is_data_of service tei) (λ s n. refl) (λ s n. refl) x
-            ∙ sym (ap (λ e. taken_by c service tei p (brought c service tei e)) x.by.0)
+        go (inr (inr x)) = grind (arith, ended-notes, taken_by)

@@ -1,7 +1,6 @@
 -- Where the contents that are granted, and the frames that are heard, are octets, so are those of each frame that
 -- begins: the law.
-use Rattle.laws_trace.proofs.Vocabulary.{◌≡◌, ℕ, zero, suc, ◌<◌, ◌≤◌, Bool, true, false, cond, List, [], ◌∷◌, ◌++◌, drop, get_or, replicate, slice_get, Option, Some, None, IfSome, option_map, refl, sym, ap, ◌∙◌, subst, arith, ◌⊎◌, inl, inr, All, is_some, option_or, option_map_or, flat_map-append, get_or-replicate, All-nil, All-head, All-tail, All-append, All-drop, AreOctets, Address, Side, Refusal, Service, action_of, Message, accepted, share, IsOffered, Carries, number_sent, kept-after, given-is-offered, Seq, Link, queue_of, address_at, Given, Terms, Config, request, next, Answer, gave, Line, UnitData, link_count, link_number, service_at, place_at, place_in, tei_at, link_at, link_in, link_of, terms, fresh_line, Taken, with_unit, unit_frame, first_taken, round, taken, next_of, line_of, IsInRange, IsSoundAt, IsUnitData, round_below, units_asked, is_granted, IsBy, OfLink, of-links, IsOne, taken-one, has-place, units-wait, number-is, fresh_is_sound, head, unwrap_or, Control, head_of, message_frame, fresh_link, Event, line_after as after, answer, with_message, Request, IsSound, fresh, all-left as all-front, all-right as all-back, contents_given, GivesOctets, FramesAreOctets, trace_frame_in as frame_in, Seen, seen_told, seen, frames_begun, Always, units_left, link_refusal as refusal, Data, frame_begun, seen_granted}
-use Rattle.model_link.specs.Events as link
+use Rattle.laws_trace.proofs.Vocabulary.{◌≡◌, ℕ, zero, suc, ◌<◌, ◌≤◌, Bool, true, false, cond, List, [], ◌∷◌, ◌++◌, drop, get_or, replicate, slice_get, Option, Some, None, IfSome, option_map, refl, sym, ap, ◌∙◌, subst, arith, ◌⊎◌, inl, inr, All, is_some, option_or, option_map_or, flat_map-append, get_or-replicate, All-nil, All-head, All-tail, All-append, All-drop, AreOctets, Address, Side, Refusal, Service, action_of, Message, accepted, share, IsOffered, Carries, number_sent, kept-after, given-is-offered, Seq, Link, queue_of, address_at, Given, Terms, Config, request, next, Answer, gave, Line, UnitData, link_count, link_number, service_at, place_at, place_in, tei_at, link_at, link_in, link_of, terms, fresh_line, Taken, with_unit, unit_frame, first_taken, round, taken, next_of, line_of, IsInRange, IsSoundAt, IsUnitData, round_below, units_asked, is_granted, IsBy, OfLink, of-links, IsOne, taken-one, has-place, units-wait, number-is, fresh_is_sound, head, unwrap_or, Control, head_of, message_frame, fresh_link, Event, line_after as after, answer, with_message, Request, IsSound, fresh, all-left as all-front, all-right as all-back, contents_given, GivesOctets, FramesAreOctets, trace_frame_in as frame_in, Seen, seen_told, seen, frames_begun, Always, units_left, link_refusal as refusal, Data, frame_begun, seen_granted, requested, LinkData, LinkEvent}
 use Rattle.model_link.specs.Machine as links
 use Rattle.model_link.specs.Sound as link_sound
 use Rattle.laws_trace.proofs.OneLink.{Goes, event-goes}
@@ -99,18 +98,11 @@ module _ (c : Config) (e : Event) (l : Line) (s : IsSound c l) (ranged : IsInRan
   by-refusal : (o : Option Refusal) (contents : List ℕ) → AreOctets contents → All AreOctets (cond (is_some o) [] (contents ∷ []))
   by-refusal o contents h = grind arith
 
-  none-accepted : (o : Option Refusal) → All AreOctets (cond (is_some o) [] [])
-  none-accepted o = grind arith
-
-  accepted-octets : (t : Terms) (x : Link) (event : link.Event) → IsBy c e (answer c e l) service tei event → All AreOctets (accepted t event x)
-  accepted-octets t x (link.requested (link.Data contents) full) by =
-      by-refusal (refusal t x full (link.Data contents)) contents
+  accepted-octets : (t : Terms) (x : Link) (event : LinkEvent) → IsBy c e (answer c e l) service tei event → All AreOctets (accepted t event x)
+  accepted-octets t x (requested (LinkData contents) full) by =
+      by-refusal (refusal t x full (LinkData contents)) contents
       (granted-seen (Data service tei contents) (answer c e l) by.1 (subst (λ event. All GivesOctets (seen event (answer c e l))) by.0 gives))
-  accepted-octets t x (link.requested link.Establish full) by = none-accepted (refusal t x full link.Establish)
-  accepted-octets t x (link.requested link.Release full) by = none-accepted (refusal t x full link.Release)
-  accepted-octets t x (link.requested link.SetBusy full) by = none-accepted (refusal t x full link.SetBusy)
-  accepted-octets t x (link.requested link.ClearBusy full) by = none-accepted (refusal t x full link.ClearBusy)
-  accepted-octets t x other by = All-nil AreOctets
+  accepted-octets t x event by = grind arith
 
   left-octets : (b : Bool) (n : ℕ) (kept more : List (List ℕ)) → All AreOctets kept → All AreOctets more → All AreOctets (cond b [] (drop n kept ++ more))
   left-octets true n kept more h i = All-nil AreOctets
@@ -139,9 +131,6 @@ module _ (c : Config) (e : Event) (l : Line) (s : IsSound c l) (ranged : IsInRan
 by-grant : (r : Request) (a : Answer) → All GivesOctets (seen_granted r a ++ seen_told a) → All IsUnit (units_asked (request r) a)
 by-grant r a h = grind (arith, granted-seen)
 
-left-exact : (r : Request) (a : Answer) (us : List UnitData) → All IsUnit us → All IsUnit (units_left r a us)
-left-exact r a us h = grind arith
-
 next-units : (c : Config) (l : Line) → IsSound c l → All IsUnit l.units → All IsUnit (option_map_or line_of (taken c l) l).units
 next-units c l s h = go (taken c l) (taken-one c l s)
   where
@@ -156,7 +145,7 @@ next-units c l s h = go (taken c l) (taken-one c l s)
 units-after : (c : Config) (e : Event) (l : Line) → IsSound c l → All GivesOctets (seen e (answer c e l)) → All IsUnit l.units → All IsUnit (after c e l).units
 unfolding after
 units-after c (request r) l s gives h =
-    subst (All IsUnit) (sym (units-wait c (request r) l)) (All-append IsUnit (units_left r (answer c (request r) l) l.units) (units_asked (request r) (answer c (request r) l)) (left-exact r (answer c (request r) l) l.units h) (by-grant r (answer c (request r) l) gives))
+    subst (All IsUnit) (sym (units-wait c (request r) l)) (All-append IsUnit (units_left r (answer c (request r) l) l.units) (units_asked (request r) (answer c (request r) l)) (grind arith) (by-grant r (answer c (request r) l) gives))
 units-after c next l s gives h = next-units c l s h
 units-after c other l s gives h = subst (All IsUnit) (sym (units-wait c other l)) h
 
@@ -194,8 +183,7 @@ fresh-kept c = record { messages = All-nil IsSmall; units = All-nil IsUnit; link
   where
     by-place : (service : Service) (o : Option ℕ) → All AreOctets (queue_of (option_map_or (link_in (fresh_line c) service) o fresh_link))
     by-place service None = All-nil AreOctets
-    by-place service (Some place) =
-        subst (λ (x : Link). All AreOctets (queue_of x)) (sym (all-fresh (link_count c) (link_number place service))) (All-nil AreOctets)
+    by-place service (Some place) = grind (arith, all-fresh)
       where
         all-fresh : (n i : ℕ) → get_or (replicate n fresh_link) i fresh_link ≡ fresh_link
         all-fresh (suc n) (suc i) = all-fresh n i

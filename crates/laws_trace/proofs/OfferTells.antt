@@ -5,11 +5,8 @@ module _ (t : Terms) (x : Link) where
   abbrev pub TellsNothing : Course → Type 0
   TellsNothing k = (k.notes ≡ []) × (k.delivered ≡ None) × (k.unit ≡ None) × (k.lost ≡ 0)
 
-  choose : (b : Bool) (u v : Course) → TellsNothing u → TellsNothing v → TellsNothing (cond b u v)
-  choose b u v h k = grind arith
-
   offers : (ws : List ControlFrame) → TellsNothing (offer_among t ws (course_begun x))
-  offers ws = grind (arith, choose)
+  offers ws = grind arith
 
   pub offer-tells_nothing : TellsNothing (course t offer x)
   offer-tells_nothing = offers x.waiting

@@ -10,12 +10,12 @@ use Rattle.laws_trace.proofs.ObservedShape.{known_of}
 use Rattle.laws_trace.proofs.Outgoing.{view-is, kept-now}
 use Rattle.laws_trace.proofs.OwedNow.{owed-now}
 use Rattle.laws_trace.proofs.Plain.{all-wait}
-use Rattle.laws_trace.proofs.SeenAs.{known-up, seen-before, up-number}
+use Rattle.laws_trace.proofs.SeenAs.{known-up, seen-before}
 use Rattle.laws_trace.proofs.TimerClaims.{IsKnown}
 use Rattle.laws_trace.proofs.TimersAreTimely.{true-now}
 use Rattle.laws_trace.proofs.TimersWatched.{Known, nothing_yet, watch}
 use Rattle.laws_trace.proofs.WaitingNow.{waiting-now}
-use Rattle.laws_trace.proofs.Facts.{some-of, not-so}
+use Rattle.laws_trace.proofs.Facts.{some-of, not-so, number-up}
 
 -- What a link offers, one after the other.
 abbrev unsent : Outgoing → List (List ℕ)
@@ -92,9 +92,6 @@ module _ (c : Config) (events : List Event) (number : ℕ) (ranged : IsInRange c
   line_sound : IsSound c line
   line_sound = line-at-end c events number ranged all within
 
-  safe : link_sound.IsSound t own
-  safe = link-at-end c line ranged line_sound service tei place on
-
   range : link_sound.IsInRange t
   range = terms_in_range c ranged service tei (line_sound.management.table.range place tei (place_of-is line.management.places tei place on).1)
 
@@ -122,7 +119,7 @@ module _ (c : Config) (events : List Event) (number : ℕ) (ranged : IsInRange c
     numbers = numbers-now c events number ranged all within service tei
 
     seen_up : is_up v.link.state ≡ true
-    seen_up = ap is_up (seen-before c events number ranged all within service tei place on).state_is ∙ up-number own.state ∙ up
+    seen_up = ap is_up (seen-before c events number ranged all within service tei place on).state_is ∙ number-up own.state ∙ up
 
     count-is : o.view.link.count ≡ own.r
     count-is = grind (arith, view, agrees-now, seen_up, run-stands)
@@ -138,39 +135,19 @@ module _ (c : Config) (events : List Event) (number : ℕ) (ranged : IsInRange c
 
     steps-are : own.a + steps o.view.link.acknowledged o.view.link.next ≡ own.s
     steps-are =
-        let a = acknowledged-is in
         let n = next-is in
-        let low : own.a ≤ own.s = safe.ordered in
-        let high : own.s ≤ own.a + t.k = safe.within in
+        let low : own.a ≤ own.s = (link-at-end c line ranged line_sound service tei place on).ordered in
+        let high : own.s ≤ own.a + t.k = (link-at-end c line ranged line_sound service tei place on).within in
         let small : t.k ≤ 127 = range.k_high in
-        omega (arith, a, n, low, high, small)
+        omega (arith, acknowledged-is, n, low, high, small)
 
     unsent-is : unsent o ≡ drop own.s own.contents
     unsent-is =
         ap (drop (steps o.view.link.acknowledged o.view.link.next)) (kept-now c number ranged within service tei events all place on)
         ∙ drop-twice own.contents own.a own.s (steps o.view.link.acknowledged o.view.link.next) steps-are
 
-  -- An I-frame may go by what an observer knows exactly where one may.
-  abbrev Few : Bool
-  Few = nat_lt (steps o.view.link.acknowledged o.view.link.next) (window c service)
-
   may-so : MayGo t own → may_go c service o.view.link ≡ true
   may-so may = grind (arith, steps-are, state-is, busy-is, lt-ltb)
-
-  goes-so : may_go c service o.view.link ≡ true → (contents : List ℕ) (rest : List (List ℕ)) → unsent o ≡ contents ∷ rest → MayGo t own
-  goes-so may contents rest left =
-      let parts = and_parts (o.view.link.state == 7) (not o.view.link.busy && Few) may in
-      let others = and_parts (not o.view.link.busy) Few parts.1 in
-      let here : own.state ≡ Established = seven own.state (ap (λ n. n == 7) (sym state-is) ∙ parts.0) in
-      let up : is_multiple_frame own.state ≡ true = ap is_multiple_frame here in
-      let whole = steps-are up in
-      let few : steps o.view.link.acknowledged o.view.link.next < window c service = ltb-true (steps o.view.link.acknowledged o.view.link.next) (window c service) others.1 in
-      record {
-        state = here;
-        free = not-so own.peer_busy (ap not (sym (busy-is up)) ∙ others.0);
-        window = omega (arith, whole, few);
-        unsent = some-left own.contents own.s contents rest (sym (unsent-is up) ∙ left);
-      }
 
   -- where none may go, it is the acknowledgement,
   none-sent : (MayGo t own → ⊥) → sends c service tei o (unsent o) ≡ by_itself c service tei o
@@ -178,7 +155,7 @@ module _ (c : Config) (events : List Event) (number : ℕ) (ranged : IsInRange c
     where
       go : (left : List (List ℕ)) → unsent o ≡ left → (b : Bool) → may_go c service o.view.link ≡ b → sends c service tei o left ≡ by_itself c service tei o
       go [] none b may = refl
-      go (contents ∷ rest) some true may = absurd (may_not (goes-so may contents rest some))
+      go (contents ∷ rest) some true may = absurd (may_not (grind (arith, and_parts, seven, state-is, steps-are, ltb-true, not-so, busy-is, some-left, unsent-is)))
       go (contents ∷ rest) some false may = ap (λ b. cond b (text c service tei true (Information (seq o.view.link.next) (seq o.view.link.count) false) contents ∷ []) (by_itself c service tei o)) may
 
   behind-none : own.waiting ≡ [] → offers c service tei o ≡ sends c service tei o (unsent o)
@@ -191,10 +168,6 @@ module _ (c : Config) (events : List Event) (number : ℕ) (ranged : IsInRange c
   abbrev Offers : Given → Type 0
   Offers g = offers c service tei o ≡ frame_of c t g ∷ []
 
-  with-frame : (g : Given) (f : ControlFrame) (contents : Option (List ℕ)) → g.frame ≡ f → g.contents ≡ contents
-      → frame_of c t g ≡ frame_of c t (record { frame = f; contents = contents; orders = g.orders })
-  with-frame g f contents is has = grind arith
-
   seq-again : (n : ℕ) → seq (n % 128) ≡ seq n
   unfolding seq
   seq-again n = is_seq (seq (n % 128)) n (omega arith)
@@ -202,32 +175,20 @@ module _ (c : Config) (events : List Event) (number : ℕ) (ranged : IsInRange c
   in-order : (g : Given) → IsInOrder t own (after t offer own) g.frame → IsOffered own.contents own.s g.frame g.contents → Offers g
   in-order g (inl oldest) offered =
       offers-are c service tei o ∙ ap (offers_behind c service tei o) (waits-are ∙ oldest.waited)
-      ∙ ap (λ f. f ∷ []) (sym (with-frame g g.frame None refl (bare-contents own.contents own.s g.frame g.contents oldest.bare offered)))
-  in-order g (inr (inl x)) offered =
-      let up : is_multiple_frame own.state ≡ true = ap is_multiple_frame x.may.state in
-      let carried : Carries own.contents own.s (seq own.s) g.contents = subst (λ f. IsOffered own.contents own.s f g.contents) x.is offered in
-      let front = at-front own.contents own.s carried.information carried.among in
-      behind-none x.none ∙ ap (sends c service tei o) (unsent-is up ∙ front.1)
-      ∙ ap (λ b. cond b (spelled (seq o.view.link.next) (seq o.view.link.count) carried.information ∷ []) (by_itself c service tei o)) (may-so x.may)
-      ∙ ap (λ n. spelled (seq n) (seq o.view.link.count) carried.information ∷ []) (next-is up)
-      ∙ ap (λ n. spelled n (seq o.view.link.count) carried.information ∷ []) (seq-again own.s)
-      ∙ ap (λ n. spelled (seq own.s) (seq n) carried.information ∷ []) (count-is up)
-      ∙ ap (λ f. f ∷ []) (sym (with-frame g (record { command = true; control = Information (seq own.s) (seq own.r) false }) (Some carried.information) x.is carried.is))
-    where
-      spelled : (ns nr : Seq) (info : List ℕ) → List ℕ
-      spelled ns nr info = text c service tei true (Information ns nr false) info
+      ∙ ap (λ f. f ∷ []) (sym (grind arith))
+  in-order g (inr (inl x)) offered = grind (arith, at-front, behind-none, unsent-is, may-so, next-is, seq-again, count-is)
   in-order g (inr (inr x)) offered =
       let up : is_multiple_frame own.state ≡ true = pends-up-now x.was_owed in
       let bare : g.contents ≡ None = bare-contents own.contents own.s g.frame g.contents (ap (λ (f : ControlFrame). link_sound.is_information f.control) x.is) offered in
       behind-none x.none ∙ none-sent x.may_not
       ∙ ap (λ b. cond b (text c service tei false (ReceiveReady (seq o.view.link.count) false) [] ∷ []) []) (owes-are ∙ x.was_owed)
       ∙ ap (λ n. text c service tei false (ReceiveReady (seq n) false) [] ∷ []) (count-is up)
-      ∙ ap (λ f. f ∷ []) (sym (with-frame g (record { command = false; control = ReceiveReady (seq own.r) false }) None x.is bare))
+      ∙ ap (λ f. f ∷ []) (sym (grind arith))
     where
       pends-up-now : own.pending ≡ true → is_multiple_frame own.state ≡ true
       pends-up-now = (run-stands c events number ranged all within service tei).2.pends_up
 
   pub given-is-offered-so : (g : Given) → given t own ≡ Some g → Offers g
   given-is-offered-so g some =
-      in-order g (some-of (λ g. IsInOrder t own (after t offer own) g.frame) (given t own) g some (given-in-order t own safe))
-      (some-of (λ g. IsOffered own.contents own.s g.frame g.contents) (given t own) g some (given-is-offered t own safe))
+      in-order g (some-of (λ g. IsInOrder t own (after t offer own) g.frame) (given t own) g some (given-in-order t own (link-at-end c line ranged line_sound service tei place on)))
+      (some-of (λ g. IsOffered own.contents own.s g.frame g.contents) (given t own) g some (given-is-offered t own (link-at-end c line ranged line_sound service tei place on)))

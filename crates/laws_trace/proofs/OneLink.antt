@@ -1,15 +1,13 @@
 -- What an event of a line is to the link of a service with a TEI, at whatever place the TEI is: one event of this link,
 -- its deactivation, or none.
-use Rattle.laws_trace.proofs.Vocabulary.{arith, ◌≡◌, ℕ, ◌==◌, ◌&&◌, Bool, true, false, List, [], ◌∷◌, map, slice_get, Option, Some, None, IfSome, option_map, refl, sym, ap, ◌∙◌, subst, ◌⊎◌, inl, inr, ⊎_elim, All, option_to_list, option_or, option_map_or, All-nil, All-cons, none-some, Refusal, Service, Order, same_service, IsAt, Message, Terms, Link, Given, Config, hears, expiry, request, next, Answer, gave, Aim, at_none, at_link, at_management, at_units, of_aim, aim_of_expiry, orders_in, Line, UnitData, link_number, service_at, place_at, place_in, has_tei, link_at, link_in, link_of, terms, with_link, aim_of, unless_refused, unless_refused_told, aim_of_heard, Taken, with_unit, unit_frame, with_given_frame, first_taken, round, next_of, line_of, aim_of_request, IsProper, heard_proper, expiry_proper, request_proper, round_below, lost_in, notes_of, contents_in, IsBy, IsDeactivated, IsOf, by-or-down, OfLink, of-links, services-equal, both-true, has-place, Ties, heard-ties, expiry-ties, request-ties, number-is, at_no_link, orders_for, eqb-true, message_frame, fresh_link as fresh, Event, told, line_after as after, answer, with_message, line_frame_of as frame_of, refusal, IsSound, trace_frame_in as frame_in, by-down, Timer, LinkTimer, at_timer, at_requested, at_deactivated, heard_aims, Request, given}
+use Rattle.laws_trace.proofs.Vocabulary.{arith, ◌≡◌, ℕ, ◌==◌, ◌&&◌, Bool, true, false, List, [], ◌∷◌, map, slice_get, Option, Some, None, IfSome, option_map, refl, sym, ap, ◌∙◌, subst, ◌⊎◌, inl, inr, ⊎_elim, All, option_to_list, option_or, option_map_or, All-nil, All-cons, none-some, Refusal, Service, Order, same_service, IsAt, Message, Terms, Link, Given, Config, hears, expiry, request, next, Answer, gave, Aim, at_none, at_link, at_management, at_units, of_aim, aim_of_expiry, orders_in, Line, UnitData, link_number, service_at, place_at, place_in, has_tei, link_at, link_in, link_of, terms, with_link, aim_of, unless_refused, unless_refused_told, aim_of_heard, Taken, with_unit, unit_frame, with_given_frame, first_taken, round, next_of, line_of, aim_of_request, IsProper, heard_proper, expiry_proper, request_proper, round_below, lost_in, notes_of, contents_in, IsBy, IsDeactivated, IsOf, by-or-down, OfLink, of-links, services-equal, both-true, has-place, Ties, heard-ties, expiry-ties, request-ties, number-is, at_no_link, orders_for, eqb-true, message_frame, fresh_link as fresh, Event, told, line_after as after, answer, with_message, line_frame_of as frame_of, refusal, IsSound, trace_frame_in as frame_in, by-down, Timer, LinkTimer, at_timer, at_requested, at_deactivated, heard_aims, Request, given, StreamEvent, link_told, link_after}
 use Rattle.model_link.specs.Events as link
-use Rattle.model_link.specs.Machine as links
 use Rattle.laws_line.proofs.Readings as read
 use Rattle.laws_trace.proofs.ClearedTells.{none-delivered, none-lost}
 use Rattle.laws_trace.proofs.ManagedLink.{alike, Remains, managed, management-ordered}
 use Rattle.laws_trace.proofs.OfferTells.{offer-tells_nothing}
 use Rattle.laws_trace.proofs.OrdersOfLink.{its_orders, none-ordered, stop-orders-none, other-ordered}
 use Rattle.laws_line.proofs.Downs.{given_up}
-use Rattle.model_bits.specs.Stream as stream
 
 -- Which events of a line give a frame: of a link, only an offer.
 -- The frame that an offer of a link gives; no other event gives one.
@@ -24,7 +22,7 @@ module _ (c : Config) (l : Line) where
   Silent (at_none what) = what.orders ≡ []
   Silent other = Unit {0}
 
-  pub heard-silent : (what : stream.Event) → Silent (aim_of_heard c l what)
+  pub heard-silent : (what : StreamEvent) → Silent (aim_of_heard c l what)
   heard-silent what = heard_aims c l Silent (λ cause. refl) (λ its by place what at. refl) (λ info. tt) (λ parts service to. refl) what
 
   timer-silent : (its : Service) (by : ℕ) (k : LinkTimer) (o : Option ℕ) → Silent (at_timer its by k o)
@@ -54,12 +52,12 @@ pub record HasOne (c : Config) (service : Service) (tei : ℕ) (e : Event) (befo
   pub event : link.Event
   pub by : IsBy c e a service tei event
   pub aimed : (e ≡ next) ⊎ (aim_of c e before ≡ at_link service tei place event)
-  pub is : link_of service tei after ≡ links.after (terms c service tei) event (link_of service tei before)
-  pub notes : notes_of a ≡ (links.told (terms c service tei) event (link_of service tei before)).notes
-  pub contents : contents_in a ≡ option_or (links.told (terms c service tei) event (link_of service tei before)).delivered
-      (links.told (terms c service tei) event (link_of service tei before)).unit
-  pub lost : lost_in a ≡ (links.told (terms c service tei) event (link_of service tei before)).lost
-  pub orders : orders_in a ≡ (links.told (terms c service tei) event (link_of service tei before)).orders
+  pub is : link_of service tei after ≡ link_after (terms c service tei) event (link_of service tei before)
+  pub notes : notes_of a ≡ (link_told (terms c service tei) event (link_of service tei before)).notes
+  pub contents : contents_in a ≡ option_or (link_told (terms c service tei) event (link_of service tei before)).delivered
+      (link_told (terms c service tei) event (link_of service tei before)).unit
+  pub lost : lost_in a ≡ (link_told (terms c service tei) event (link_of service tei before)).lost
+  pub orders : orders_in a ≡ (link_told (terms c service tei) event (link_of service tei before)).orders
   pub begins : frame_in a ≡ frames_given c (terms c service tei) event (link_of service tei before)
 
 -- A frame of TEI management, unit data, or a frame of another link.
@@ -83,10 +81,10 @@ pub record IsGivenUp (c : Config) (service : Service) (tei : ℕ) (e : Event) (b
   pub placed : place_in before tei ≡ Some place
   pub by : IsDeactivated e a service tei
   pub is : link_of service tei after ≡ fresh
-  pub notes : notes_of a ≡ (links.told (terms c service tei) link.cleared (link_of service tei before)).notes
+  pub notes : notes_of a ≡ (link_told (terms c service tei) link.cleared (link_of service tei before)).notes
   pub contents : contents_in a ≡ None
   pub lost : lost_in a ≡ 0
-  pub orders : orders_in a ≡ (links.told (terms c service tei) link.cleared (link_of service tei before)).orders
+  pub orders : orders_in a ≡ (link_told (terms c service tei) link.cleared (link_of service tei before)).orders
   pub begins : frame_in a ≡ []
 
 abbrev pub Goes : Config → Service → ℕ → Event → Line → Line → Answer → Type 0
@@ -103,7 +101,7 @@ module _ (c : Config) (l : Line) (s : IsSound c l) (service : Service) (tei : �
     x = link_in l its place
 
     abbrev y : Link
-    y = links.after (terms c its by) event x
+    y = link_after (terms c its by) event x
 
     other-stays : (same_service its service && by == tei) ≡ false → link_of service tei (with_link (link_number place its) y l) ≡ link_of service tei l
     other-stays other = read.other-read fresh itself c l s its by place at y service tei other
@@ -111,8 +109,8 @@ module _ (c : Config) (l : Line) (s : IsSound c l) (service : Service) (tei : �
     own-before : link_of its by l ≡ x
     own-before = read.own-before fresh itself c l s its by place at y
 
-    own-after : link_of its by (with_link (link_number place its) y l) ≡ links.after (terms c its by) event (link_of its by l)
-    own-after = read.own-after fresh itself c l s its by place at y ∙ ap (links.after (terms c its by) event) (sym own-before)
+    own-after : link_of its by (with_link (link_number place its) y l) ≡ link_after (terms c its by) event (link_of its by l)
+    own-after = read.own-after fresh itself c l s its by place at y ∙ ap (link_after (terms c its by) event) (sym own-before)
 
   -- Nothing is ordered of a link that stays as it is.
   quiet : (new : Line) → link_of service tei new ≡ link_of service tei l → (orders : List Order) → its_orders service tei orders ≡ []
@@ -154,30 +152,12 @@ module _ (c : Config) (l : Line) (s : IsSound c l) (service : Service) (tei : �
         kept (at_link its by place event) is other tells (other-ordered (terms c its by) event (x its by place event at) service tei other) (of_aim c (at_link its by place event) l).line
         (alike c l s service tei (with_link (link_number place its) (y its by place event at) l) (of_aim c (at_link its by place event) l).line refl refl
         ∙ other-stays its by place event at other)
-    at-one its by place event is at ties tells silent true same =
-        let parts = both-true (same_service its service) (by == tei) same in
-        subst (λ z. Goes c z tei e l (of_aim c (at_link its by place event) l).line a) (services-equal its service parts.0)
-        (subst (λ n. Goes c its n e l (of_aim c (at_link its by place event) l).line a) (eqb-true by tei parts.1)
-        (⊎_elim (λ own. inr (inl (one own))) (λ x. inr (inr (ended x.0 x.1))) (by-or-down c e a its by event ties)))
+    at-one its by place event is at ties tells silent true same = grind (arith, both-true, services-equal, eqb-true, one, ended, by-or-down)
       where
         ended : event ≡ link.cleared → IsDeactivated e a its by → IsGivenUp c its by e l (of_aim c (at_link its by place event) l).line a
         ended cleared down =
             let before = sym (own-before its by place event at) in
-            record {
-              place = place;
-              placed = has-place l.management.places by place s.management.table at;
-              by = down;
-              is = read.same-read fresh itself its by (with_link (link_number place its) (y its by place event at) l) (of_aim c (at_link its by place event) l).line refl refl
-                  ∙ own-after its by place event at ∙ ap (λ le. links.after (terms c its by) le (link_of its by l)) cleared;
-              notes = tells.0 ∙ ap (λ le. (links.told (terms c its by) le (x its by place event at)).notes) cleared
-                  ∙ ap (λ x. (links.told (terms c its by) link.cleared x).notes) before;
-              contents = tells.1 ∙ ap (λ le. option_or (links.told (terms c its by) le (x its by place event at)).delivered (links.told (terms c its by) le (x its by place event at)).unit) cleared
-                  ∙ none-delivered (terms c its by) (x its by place event at);
-              lost = tells.2 ∙ ap (λ le. (links.told (terms c its by) le (x its by place event at)).lost) cleared ∙ none-lost (terms c its by) (x its by place event at);
-              orders = tells.3 ∙ ap (λ le. (links.told (terms c its by) le (x its by place event at)).orders) cleared
-                  ∙ ap (λ x. (links.told (terms c its by) link.cleared x).orders) before;
-              begins = none_begins;
-            }
+            grind (arith, has-place, read.same-read, own-after, none-delivered, none-lost)
 
         one : IsBy c e a its by event → HasOne c its by e l (of_aim c (at_link its by place event) l).line a
         one own =
@@ -188,12 +168,11 @@ module _ (c : Config) (l : Line) (s : IsSound c l) (service : Service) (tei : �
               event = event;
               by = own;
               aimed = inr is;
-              is = read.same-read fresh itself its by (with_link (link_number place its) (y its by place event at) l) (of_aim c (at_link its by place event) l).line refl refl
-                  ∙ own-after its by place event at;
-              notes = tells.0 ∙ ap (λ x. (links.told (terms c its by) event x).notes) before;
-              contents = tells.1 ∙ ap (λ x. option_or (links.told (terms c its by) event x).delivered (links.told (terms c its by) event x).unit) before;
-              lost = tells.2 ∙ ap (λ x. (links.told (terms c its by) event x).lost) before;
-              orders = tells.3 ∙ ap (λ x. (links.told (terms c its by) event x).orders) before;
+              is = grind (arith, read.same-read, own-after);
+              notes = tells.0 ∙ ap (λ x. (link_told (terms c its by) event x).notes) before;
+              contents = tells.1 ∙ ap (λ x. option_or (link_told (terms c its by) event x).delivered (link_told (terms c its by) event x).unit) before;
+              lost = tells.2 ∙ ap (λ x. (link_told (terms c its by) event x).lost) before;
+              orders = tells.3 ∙ ap (λ x. (link_told (terms c its by) event x).orders) before;
               begins = none_begins ∙ sym silent;
             }
 
@@ -204,8 +183,7 @@ module _ (c : Config) (l : Line) (s : IsSound c l) (service : Service) (tei : �
 
     aim-goes : (aim : Aim) → aim_of c e l ≡ aim → IsProper c l aim → Ties c e a aim → Tells e a none_begins aim → Silent c l aim
         → Goes c service tei e l (to-be aim) a
-    aim-goes (at_none what) is proper ties tells silent =
-        kept e a none_begins (at_none what) is refl tells (ap (its_orders service tei) silent) (to-be (at_none what)) (alike c l s service tei l (to-be (at_none what)) refl refl)
+    aim-goes (at_none what) is proper ties tells silent = grind (arith, kept, its_orders, alike)
     aim-goes (at_units unit) is proper ties tells silent =
         kept e a none_begins (at_units unit) is refl tells refl (to-be (at_units unit)) (alike c l s service tei l (to-be (at_units unit)) refl refl)
     aim-goes at_no_link is proper ties tells silent =
@@ -214,8 +192,7 @@ module _ (c : Config) (l : Line) (s : IsSound c l) (service : Service) (tei : �
     aim-goes (at_management me) is proper ties tells silent =
         stays e a none_begins (at_management me) is refl (to-be (at_management me)) (ap (its_orders service tei) tells.3 ∙ management-ordered c l s service tei me proper)
         (managed c l s service tei me proper)
-    aim-goes (at_link its by place event) is proper ties tells silent =
-        at-one e a none_begins its by place event is proper ties tells silent (same_service its service && by == tei) refl
+    aim-goes (at_link its by place event) is proper ties tells silent = grind (arith, at-one)
 
   -- What a call takes: a frame of this link, or of another part.
   abbrev Own : Terms
@@ -224,28 +201,28 @@ module _ (c : Config) (l : Line) (s : IsSound c l) (service : Service) (tei : �
   record Takes (t : Taken) : Type 0 where
     place : ℕ
     placed : place_in l tei ≡ Some place
-    is : link_of service tei t.line ≡ links.after Own link.offer (link_of service tei l)
-    orders : t.orders ≡ (links.told Own link.offer (link_of service tei l)).orders
+    is : link_of service tei t.line ≡ link_after Own link.offer (link_of service tei l)
+    orders : t.orders ≡ (link_told Own link.offer (link_of service tei l)).orders
     begins : t.frame ∷ [] ≡ frames_given c Own link.offer (link_of service tei l)
 
   abbrev Took : Taken → Type 0
   Took t = ((link_of service tei t.line ≡ link_of service tei l) × IsForeign c service tei t.frame × (its_orders service tei t.orders ≡ [])) ⊎ Takes t
 
   -- what a link gives, it orders as well
-  pub given-orders : (t : Terms) (x : Link) (g : Given) → links.given t x ≡ Some g → g.orders ≡ (links.told t link.offer x).orders
+  pub given-orders : (t : Terms) (x : Link) (g : Given) → given t x ≡ Some g → g.orders ≡ (link_told t link.offer x).orders
   given-orders t x g = grind (arith, none-some)
 
-  took-link : (its : Service) (by place : ℕ) (g : Given) → (at : IsAt l.management.places place by) → links.given (terms c its by) (link_in l its place) ≡ Some g
+  took-link : (its : Service) (by place : ℕ) (g : Given) → (at : IsAt l.management.places place by) → given (terms c its by) (link_in l its place) ≡ Some g
       → (b : Bool) → (same_service its service && by == tei) ≡ b → Took (with_given_frame c l (link_number place its) (terms c its by) g)
-  took-link its by place g at given false other =
+  took-link its by place g at gives false other =
       let t = with_given_frame c l (link_number place its) (terms c its by) g in
       inl (
         alike c l s service tei (with_link (link_number place its) (y its by place link.offer at) l) t.line refl refl ∙ other-stays its by place link.offer at other,
         inr (inr (terms c its by, g, refl, other)),
-        ap (its_orders service tei) (given-orders (terms c its by) (link_in l its place) g given)
+        ap (its_orders service tei) (given-orders (terms c its by) (link_in l its place) g gives)
             ∙ other-ordered (terms c its by) link.offer (link_in l its place) service tei other,
       )
-  took-link its by place g at given true same =
+  took-link its by place g at gives true same =
       let parts = both-true (same_service its service) (by == tei) same in
       let its-is = services-equal its service parts.0 in
       let by-is = eqb-true by tei parts.1 in
@@ -257,11 +234,11 @@ module _ (c : Config) (l : Line) (s : IsSound c l) (service : Service) (tei : �
         place = place;
         placed = subst (λ n. place_in l n ≡ Some place) by-is (has-place l.management.places by place s.management.table at);
         is = own ∙ read.same-read fresh itself its by (with_link (link_number place its) (y its by place link.offer at) l) t.line refl refl
-            ∙ own-after its by place link.offer at ∙ ap (λ x. links.after (terms c its by) link.offer x) (sym own-l) ∙ ap (λ u. links.after u link.offer (link_of service tei l)) (sym own-terms);
-        orders = given-orders (terms c its by) (link_in l its place) g given
-            ∙ ap (λ x. (links.told (terms c its by) link.offer x).orders) (sym (own-before its by place link.offer at) ∙ sym own-l)
-            ∙ ap (λ u. (links.told u link.offer (link_of service tei l)).orders) (sym own-terms);
-        begins = ap (λ o. map (frame_of c (terms c its by)) (option_to_list o)) (sym (ap (links.given (terms c its by)) (own-before its by place link.offer at) ∙ given))
+            ∙ own-after its by place link.offer at ∙ ap (λ x. link_after (terms c its by) link.offer x) (sym own-l) ∙ ap (λ u. link_after u link.offer (link_of service tei l)) (sym own-terms);
+        orders = given-orders (terms c its by) (link_in l its place) g gives
+            ∙ ap (λ x. (link_told (terms c its by) link.offer x).orders) (sym (own-before its by place link.offer at) ∙ sym own-l)
+            ∙ ap (λ u. (link_told u link.offer (link_of service tei l)).orders) (sym own-terms);
+        begins = ap (λ o. map (frame_of c (terms c its by)) (option_to_list o)) (sym (ap (given (terms c its by)) (own-before its by place link.offer at) ∙ gives))
             ∙ ap (λ x. frames_given c (terms c its by) link.offer x) (sym own-l) ∙ ap (λ u. frames_given c u link.offer (link_of service tei l)) (sym own-terms);
       })
 
@@ -270,7 +247,7 @@ module _ (c : Config) (l : Line) (s : IsSound c l) (service : Service) (tei : �
       subst Took (sym x.is)
       (subst (λ n. Took (with_given_frame c l n (terms c (service_at x.number) x.tei) x.what)) (number-is x.number)
       (took-link (service_at x.number) x.tei (place_at x.number) x.what x.on_line
-      (subst (λ n. links.given (terms c (service_at x.number) x.tei) (link_at n l) ≡ Some x.what) (sym (number-is x.number)) x.given)
+      (subst (λ n. given (terms c (service_at x.number) x.tei) (link_at n l) ≡ Some x.what) (sym (number-is x.number)) x.given)
       (same_service (service_at x.number) service && x.tei == tei) refl))
 
   took-first : (o : Option Taken) → IfSome o (OfLink c l) → IfSome o Took
@@ -286,8 +263,8 @@ module _ (c : Config) (l : Line) (s : IsSound c l) (service : Service) (tei : �
   abbrev Gave : Line → List (List ℕ) → List Order → Type 0
   Gave new frames orders =
       ((link_of service tei new ≡ link_of service tei l) × All (IsForeign c service tei) frames × (its_orders service tei orders ≡ []))
-      ⊎ ((place : ℕ) × (place_in l tei ≡ Some place) × (link_of service tei new ≡ links.after Own link.offer (link_of service tei l))
-      × (frames ≡ frames_given c Own link.offer (link_of service tei l)) × (orders ≡ (links.told Own link.offer (link_of service tei l)).orders))
+      ⊎ ((place : ℕ) × (place_in l tei ≡ Some place) × (link_of service tei new ≡ link_after Own link.offer (link_of service tei l))
+      × (frames ≡ frames_given c Own link.offer (link_of service tei l)) × (orders ≡ (link_told Own link.offer (link_of service tei l)).orders))
 
   gave-it : (o : Option Taken) → IfSome o Took → let a = gave (option_map next_of o) in Gave (option_map_or line_of o l) (frame_in a) (orders_in a)
   gave-it None h = inl (refl, All-nil (IsForeign c service tei), refl)
@@ -317,12 +294,5 @@ event-goes c (request r) l service tei s = go (refusal c false r l) refl
         aim-goes c l s service tei (request r) a refl (aim_of_request r l) (ap (λ o. unless_refused o (aim_of_request r l)) none)
         (subst (λ o. IsProper c l (unless_refused o (aim_of_request r l))) none (request_proper c l r)) (request-ties c l a refl r) (refl, refl, refl, refl)
         (request-silent c l r)
-    go (Some why) some =
-        inl (record {
-          is = inl refl;
-          stays = λ was there. refl;
-          aims = ap (λ o. is_at_link service tei (unless_refused o (aim_of_request r l))) some;
-          orders = sym (none-ordered (terms c service tei) (link_of service tei l).running);
-          begins = All-nil (IsForeign c service tei);
-        })
+    go (Some why) some = grind (arith, stays, none-ordered)
 event-goes c next l service tei s = next-goes c l s service tei

@@ -33,9 +33,6 @@ pub management-orders-none : (service : Service) (tei : ℕ) (before : Bool) (or
 management-orders-none service tei before orders after h = grind arith
 
 -- A caller's timer of the link obeys these alone.
-same-timer : (service : Service) (tei : ℕ) (timer : LinkTimer) (other : Timer) → is_timer_of service tei other ≡ false → is_same other (timer_of service tei timer) ≡ false
-same-timer service tei timer other is = grind arith
-
 pub obeys-its : (service : Service) (tei : ℕ) (timer : LinkTimer) (running : Bool) (orders : List Order)
     → obeyed (timer_of service tei timer) running orders ≡ obeyed (timer_of service tei timer) running (its_orders service tei orders)
 obeys-its service tei timer running [] = refl
@@ -46,18 +43,13 @@ obeys-its service tei timer running (o ∷ orders) = go o (is_order_of service t
 
     go : (o : Order) (b : Bool) → is_order_of service tei o ≡ b → ((r : Bool) → obeyed its r orders ≡ obeyed its r (its_orders service tei orders))
         → obeyed its (obey its running o) orders ≡ obeyed its running (cond (is_order_of service tei o) (o ∷ its_orders service tei orders) (its_orders service tei orders))
-    go o b is more = grind (arith, its, same-timer)
-
--- One is started by them where they start it.
-obeys-one : (t : Terms) (timer other : LinkTimer) (running p q : Bool)
-    → obeyed (timer_at t timer) running (cond p (Start (timer_at t other) ∷ []) (cond q (Stop (timer_at t other) ∷ []) [])) ≡ cond (is_timer other timer) (cond p true (cond q false running)) running
-obeys-one t timer other running p q = grind (arith, its-own, cond_both)
+    go o b is more = grind (arith, its)
 
 alone : (p q : Bool) → cond p true (cond q false false) ≡ p
 alone p q = grind arith
 
 pub starts-own : (t : Terms) (timer : LinkTimer) (before started after : Option LinkTimer) → obeyed (timer_at t timer) false (orders_for t before started after) ≡ (runs timer started && runs timer after)
-starts-own t timer before started after = grind (arith, obeyed-append, obeys-one, alone)
+starts-own t timer before started after = grind (arith, obeyed-append, its-own, cond_both, alone)
 
 -- A timer's orders, by whether they start it, whether it ran before, and whether it runs then.
 abbrev pub order_by : Bool → Bool → Bool → Timer → List Order

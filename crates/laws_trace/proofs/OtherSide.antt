@@ -16,9 +16,6 @@ module _ (side : Side) (octets : List ℕ) where
   abbrev Begins : Result (Address × Control) ReadFault → Type 0
   Begins r = IfOk r (λ h. IsTold h.0)
 
-  unless-short : (b : Bool) (r : Result Parts ReadFault) → Reads r → Reads (cond b (Err Short) r)
-  unless-short b r h = grind arith
-
   whole : (r : Result (Address × Control) ReadFault) → Begins r → Reads (completed octets r)
   whole r told = grind arith
 
@@ -34,7 +31,7 @@ module _ (side : Side) (octets : List ℕ) where
 
   told : Reads (reading side octets)
   unfolding reading
-  told = grind (arith, unless-short, slice_index, whole, header-told)
+  told = grind (arith, slice_index, whole, header-told)
 
   pub by-bit : (frame : Parts) → reading side octets ≡ Ok frame → frame.address.command ≡ (bit_in octets == cr_bit side true)
   by-bit frame read = subst Reads read told

@@ -1,5 +1,5 @@
 -- What a link has to send is what an observer has: what it keeps.
-use Rattle.laws_trace.proofs.Vocabulary.{◌≡◌, ℕ, ◌<◌, ◌==◌, ◌&&◌, Bool, true, false, cond, List, [], ◌∷◌, ◌++◌, drop, get_or, Option, Some, None, refl, sym, ap, ◌∙◌, subst, arith, eq-eqb, true≢false, append-nil, append_assoc, fold, and_parts, get_or-set_same, get_or-replicate, fold-append, none-some, Service, Link, queue_of, state_number, Config, Answer, Line, fresh_line, has_tei, link_of, place_in, IsInRange, is-off, nowhere, Card, line_at, is_full, at, moments, has_lines, by_room, line_sound, all-left, notes_of, eqb-true, fresh_link, fresh, CardEvent as Event, after, card_answer as answer, Moment, after_all, IsAtLine, AreAtLines, managing_is_on as is_on, due, brings, is_sabme, Observed, View, views, view_of, moment_of, view_behind, Outgoing, data_granted, went_on, keeps, watches, nothing_yet, outgoing_of, is_up, seen, CardIsSound as IsSound}
+use Rattle.laws_trace.proofs.Vocabulary.{◌≡◌, ℕ, ◌<◌, ◌==◌, ◌&&◌, Bool, true, false, cond, List, [], ◌∷◌, ◌++◌, drop, get_or, Option, Some, None, refl, sym, ap, ◌∙◌, subst, arith, eq-eqb, true≢false, append-nil, append_assoc, fold, and_parts, get_or-set_same, get_or-replicate, fold-append, none-some, Service, Link, queue_of, state_number, Config, Answer, Line, fresh_line, has_tei, link_of, place_in, IsInRange, is-off, nowhere, Card, line_at, is_full, at, moments, has_lines, by_room, line_sound, all-left, notes_of, eqb-true, fresh_link, fresh, CardEvent as Event, after, card_answer as answer, Moment, after_all, IsAtLine, AreAtLines, managing_is_on as is_on, due, brings, is_sabme, Observed, View, views, view_of, moment_of, view_behind, Outgoing, data_granted, went_on, keeps, watches, nothing_yet, outgoing_of, is_up, seen, CardIsSound as IsSound, after_all-append}
 use Rattle.model_line.specs.Event as line_event
 use Rattle.model_line.specs.Machine as lines
 use Rattle.laws_trace.proofs.KeptOfLine.{left, still, left-so, comes-so}
@@ -8,10 +8,11 @@ use Rattle.laws_trace.proofs.LinkLed.{on-line}
 use Rattle.laws_trace.proofs.ObservedRun.{holds-behind}
 use Rattle.laws_trace.proofs.PlacesSeen.{granted_in, lost_in, granted-so, lost-so}
 use Rattle.laws_trace.proofs.Runs.{nothing-seen, apart}
-use Rattle.laws_trace.proofs.SeenAs.{up-number, IsSeenAs, seen-before, seen-behind, tei-seen}
+use Rattle.laws_trace.proofs.SeenAs.{IsSeenAs, seen-before, seen-behind, tei-seen}
 use Rattle.laws_trace.proofs.TimersAreTimely.{config-now, sound-now}
 use Rattle.laws_trace.proofs.TimersOfEvent.{off-fresh}
-use Rattle.laws_trace.proofs.WaitedBegins.{moments-both, after-both}
+use Rattle.laws_trace.proofs.WaitedBegins.{moments-both}
+use Rattle.laws_trace.proofs.Facts.{number-up}
 
 -- An event of a card.
 module _ (card : Card) (number : ℕ) (what : line_event.Event) (s : IsSound card) (here : number < card.config.lines) (service : Service) (tei : ℕ) where
@@ -34,8 +35,7 @@ module _ (card : Card) (number : ℕ) (what : line_event.Event) (s : IsSound car
       by_room (λ ls a. Left (get_or ls number (fresh_line card.config)) a) (at number what) card
       (λ full p q on there.
       let anew = brings is_sabme card.config service tei what in
-      let none = nothing-seen card.config what l (and_parts (lines.takes_slot card.config what l) (is_full card) full).0 in
-      sym (ap (λ t. left (lost_in service tei t) anew own own (granted_in service tei t)) none
+      sym (ap (λ t. left (lost_in service tei t) anew own own (granted_in service tei t)) (nothing-seen card.config what l (and_parts (lines.takes_slot card.config what l) (is_full card) full).0)
       ∙ ap (λ xs. cond (is_up (state_number own.state)) xs (queue_of own)) (append-nil (drop (went_by anew own own) (queue_of own)) ∙ ap (λ n. drop n (queue_of own)) (still anew own))
       ∙ either (is_up (state_number own.state))))
       (λ room.
@@ -58,7 +58,7 @@ module _ (lost anew : Bool) (k x : Link) (o p : Observed) (was : IsSeenAs k o) (
   leaving kept = cond lost [] (cond (is_up o.state) (drop (went_on anew o p) kept ++ more) kept)
 
   pub left-as : leaving (queue_of k) ≡ left lost anew k x more
-  left-as = grind (arith, up-number, went_by)
+  left-as = grind (arith, number-up, went_by)
 
 -- A call for the next frame tells nothing.
 next-quiet : (card : Card) (number : ℕ) (what : line_event.Event) → what ≡ line_event.next → notes_of (answer (at number what) card) ≡ []
@@ -88,7 +88,7 @@ module _ (c : Config) (number : ℕ) (ranged : IsInRange c) (within : number < c
 
   line-then : (before : List Event) (e : Event) → its (before ++ e ∷ []) ≡ line_at number (after e (after_all (fresh c) before))
   unfolding after_all
-  line-then before e = ap (line_at number) (after-both (fresh c) before (e ∷ []))
+  line-then before e = ap (line_at number) (after_all-append (fresh c) before (e ∷ []))
 
   abbrev pub behind_of : List Event → line_event.Event → Line
   behind_of before what = line_at number (after (at number what) (after_all (fresh c) before))
@@ -205,8 +205,7 @@ module _ (c : Config) (number : ℕ) (ranged : IsInRange c) (within : number < c
       let a = answer (at number what) card in
       let t = seen what a in
       let before_o = (view_of c service tei number before).link in
-      let behind_o = (view_behind c service tei number before what).link in
-      let went = went_on (brings is_sabme c service tei what) before_o behind_o in
+      let went = went_on (brings is_sabme c service tei what) before_o ((view_behind c service tei number before what).link) in
       let was = seen-before c before number ranged all within service tei p on in
       let is = seen-behind c before number ranged all within service tei what q there in
       ap (λ b. cond b [] (cond (is_up before_o.state) (drop went (queue_of own) ++ data_granted service tei what a) (queue_of own))) (sym (lost-so service tei what a (next-quiet card number what)))

@@ -1,7 +1,6 @@
 -- Whether a link owes an acknowledgement behind one event of its line.
-use Rattle.laws_trace.proofs.Vocabulary.{arith, ◌≡◌, ℕ, ◌&&◌, ◌||◌, not, Bool, true, false, List, [], ◌∷◌, map, Option, Some, None, is_some, list_any, option_to_list, refl, sym, ap, ◌∙◌, subst, inl, inr, Service, place_of-is, as_heard, state_after, put, owed_behind, event-follows, given-in-order, IsInOrder, ControlFrame, Terms, Link, is_multiple_frame, Given, given_is_frame, Config, next, Answer, Line, has_tei, link_of, place_in, terms, IsInRange, terms_in_range, notes_of, is_data_of, IsBy, HaveTheirTimers, Event, line_after as after, answer, line_frame_of as frame_of, IsSound, is_frame_of, is_empty, trace_frame_in as frame_in, seen, is_ui, and-false, false_from_ne_true}
+use Rattle.laws_trace.proofs.Vocabulary.{arith, ◌≡◌, ℕ, ◌&&◌, ◌||◌, not, Bool, true, false, List, [], ◌∷◌, map, Option, Some, None, is_some, list_any, option_to_list, refl, sym, ap, ◌∙◌, subst, inl, inr, Service, place_of-is, as_heard, state_after, put, owed_behind, event-follows, given-in-order, IsInOrder, ControlFrame, Terms, Link, is_multiple_frame, Given, given_is_frame, Config, next, Answer, Line, has_tei, link_of, place_in, terms, IsInRange, terms_in_range, notes_of, is_data_of, IsBy, HaveTheirTimers, Event, line_after as after, answer, line_frame_of as frame_of, IsSound, is_frame_of, is_empty, trace_frame_in as frame_in, seen, is_ui, and-false, false_from_ne_true, link_told, link_after, given}
 use Rattle.model_link.specs.Events as link
-use Rattle.model_link.specs.Machine as links
 use Rattle.model_link.specs.Sound as link_sound
 use Rattle.laws_link.proofs.OfTwo.Waiting.{nothing-given}
 use Rattle.laws_line.proofs.Silence.{silent}
@@ -22,12 +21,6 @@ use Rattle.laws_trace.proofs.Facts.{some-of}
 -- What stays owed, by what an observer sees.
 abbrev pub Owed : Bool → Bool → List ControlFrame → Bool → Bool → Bool
 Owed was now puts begins owes = (was && now && is_empty puts && not begins) && owes
-
-pub stays-owed : (up owes : Bool) → (owes ≡ true → up ≡ true) → owes ≡ Owed up up [] false (owes || false)
-stays-owed up owes h = grind arith
-
-never-down : (was : Bool) (puts : List ControlFrame) (begins owes : Bool) → false ≡ Owed was false puts begins owes
-never-down was puts begins owes = grind arith
 
 never-owed : (was now : Bool) (puts : List ControlFrame) (begins : Bool) → false ≡ Owed was now puts begins false
 never-owed was now puts begins = sym (and-false (was && now && is_empty puts && not begins))
@@ -77,7 +70,7 @@ module _ (service : Service) (tei : ℕ) (c : Config) (ranged : IsInRange c) (e 
   module _ (x : HasNone c service tei e l new a) where
     none-pends : Pends
     none-pends was-on is-on =
-        ap (λ (k : Link). k.pending) (x.stays was-on is-on) ∙ stays-owed (up own) own.pending stands.pends_up
+        ap (λ (k : Link). k.pending) (x.stays was-on is-on) ∙ (grind arith)
         ∙ ap (λ b. Owed (up own) (up own) [] b (own.pending || false)) (sym (and-false (is_empty own.waiting)))
         ∙ ap (λ b. Owed (up own) (up own) [] (is_empty own.waiting && b) (own.pending || false)) (sym (any-foreign c service tei (frame_in a) x.begins))
         ∙ ap (λ b. Owed (up own) (up own) [] (is_empty own.waiting && begins) (own.pending || b)) (sym (false_from_ne_true told (no-data c ranged l s e service tei m count x)))
@@ -90,7 +83,7 @@ module _ (service : Service) (tei : ℕ) (c : Config) (ranged : IsInRange c) (e 
     t = terms c service tei
 
     abbrev later : Link
-    later = links.after (terms c service tei) x.event (link_of service tei l)
+    later = link_after (terms c service tei) x.event (link_of service tei l)
 
     abbrev Then : List ControlFrame → Bool → Bool → Type 0
     Then puts begins told = later.pending ≡ Owed (up own) (up later) puts (is_empty own.waiting && begins) (own.pending || told)
@@ -102,11 +95,11 @@ module _ (service : Service) (tei : ℕ) (c : Config) (ranged : IsInRange c) (e 
     quiet : IsNoOther x.event → frames_given c t x.event own ≡ [] → Pends
     quiet other none was-on is-on =
         let there = at-some-place new tei is-on in
-        so-pends (put heard own (state_after t heard own)) (put-so there.0 there.1) false (is_some (links.told t x.event own).delivered)
+        so-pends (put heard own (state_after t heard own)) (put-so there.0 there.1) false (is_some (link_told t x.event own).delivered)
         (ap (list_any (is_frame_of c service tei)) (x.begins ∙ none)) (data-noted c ranged l s e service tei m count x)
         (pends-then t x.event own other stands.pends_up
-        ∙ ap (λ b. (b && (own.pending || is_some (links.told t x.event own).delivered))) (with-none (up own && up later && is_empty (put heard own (state_after t heard own))))
-        ∙ ap (λ b. Owed (up own) (up later) (put heard own (state_after t heard own)) b (own.pending || is_some (links.told t x.event own).delivered)) (sym (and-false (is_empty own.waiting))))
+        ∙ ap (λ b. (b && (own.pending || is_some (link_told t x.event own).delivered))) (with-none (up own && up later && is_empty (put heard own (state_after t heard own))))
+        ∙ ap (λ b. Owed (up own) (up later) (put heard own (state_after t heard own)) b (own.pending || is_some (link_told t x.event own).delivered)) (sym (and-false (is_empty own.waiting))))
       where
         heard : link.Event
         heard = as_heard (terms c service tei) x.event
@@ -129,14 +122,11 @@ module _ (service : Service) (tei : ℕ) (c : Config) (ranged : IsInRange c) (e 
         some-begins : Bool
         some-begins = list_any (is_frame_of c service tei) (frame_in (answer c e l))
 
-        later-is : later ≡ links.after t link.offer own
-        later-is = ap (λ e. links.after t e own) offer
+        later-is : later ≡ link_after t link.offer own
+        later-is = ap (λ e. link_after t e own) offer
 
         no-told : told ≡ false
         no-told = ap (λ e. list_any (is_data_of service tei) (notes_of (answer c e l))) is ∙ none-noted c l service tei
-
-        own-state : later.state ≡ own.state
-        own-state = ap (λ (k : Link). k.state) later-is ∙ (event-follows t link.offer own).leaves.state
 
         none-put : (there : ℕ) → place_in new tei ≡ Some there → Put ≡ []
         none-put there on = none-due service tei c ranged e l s timed m busy rejected count stands x offer there on
@@ -144,11 +134,8 @@ module _ (service : Service) (tei : ℕ) (c : Config) (ranged : IsInRange c) (e 
         pends-is : later.pending ≡ owed_behind own.waiting own.pending
         pends-is = ap (λ (k : Link). k.pending) later-is ∙ (event-follows t link.offer own).leaves.pending
 
-        frames-are : frame_in a ≡ map (frame_of c t) (option_to_list (links.given t own))
+        frames-are : frame_in a ≡ map (frame_of c t) (option_to_list (given t own))
         frames-are = x.begins ∙ ap (λ e. frames_given c t e own) offer
-
-        same-up : up later ≡ up own
-        same-up = ap is_multiple_frame own-state
 
         range : link_sound.IsInRange t
         range = terms_in_range c ranged service tei (s.management.table.range x.place tei (place_of-is l.management.places tei x.place x.placed).1)
@@ -157,18 +144,15 @@ module _ (service : Service) (tei : ℕ) (c : Config) (ranged : IsInRange c) (e 
         safe = sound service tei c ranged e l s timed m busy rejected count stands x
 
         -- none waits
-        by-given : own.waiting ≡ [] → (o : Option Given) → links.given t own ≡ o → false ≡ Owed (up own) (up later) [] (some-begins) (own.pending || false)
+        by-given : own.waiting ≡ [] → (o : Option Given) → given t own ≡ o → false ≡ Owed (up own) (up later) [] (some-begins) (own.pending || false)
         by-given none None nothing =
             let quiet_now : own.pending ≡ false = (silent t own safe (nothing-given t own nothing)).pending in
             never-owed (up own) (up later) [] some-begins ∙ ap (λ b. Owed (up own) (up later) [] some-begins (b || false)) (sym quiet_now)
         by-given none (Some g) some =
             never-begun (up own) (up later) [] (own.pending || false) ∙ ap (λ b. Owed (up own) (up later) [] b (own.pending || false)) (sym begins-so)
           where
-            plain : IsInOrder t own (links.after t link.offer own) g.frame → is_ui g.frame.control ≡ false
-            plain (inl oldest) = absurd (no-first (sym none ∙ oldest.waited))
-              where
-                no-first : [] ≡ g.frame ∷ (links.after t link.offer own).waiting → ⊥
-                no-first e = cc e
+            plain : IsInOrder t own (link_after t link.offer own) g.frame → is_ui g.frame.control ≡ false
+            plain (inl oldest) = grind arith
             plain (inr (inl information)) = ap (λ (f : ControlFrame). is_ui f.control) information.is
             plain (inr (inr acknowledgement)) = ap (λ (f : ControlFrame). is_ui f.control) acknowledgement.is
 
@@ -176,17 +160,14 @@ module _ (service : Service) (tei : ℕ) (c : Config) (ranged : IsInRange c) (e 
             begins-so =
                 ap (list_any (is_frame_of c service tei)) (frames-are ∙ ap (λ o. map (frame_of c t) (option_to_list o)) some)
                 ∙ ap (λ b. b || false)
-                (own-frame c service tei g (some-of (λ g. link_sound.IsGiven t g.frame g.contents) (links.given t own) g some (given_is_frame t range own safe))
-                (plain (some-of (λ g. IsInOrder t own (links.after t link.offer own) g.frame) (links.given t own) g some (given-in-order t own safe))))
+                (own-frame c service tei g (some-of (λ g. link_sound.IsGiven t g.frame g.contents) (given t own) g some (given_is_frame t range own safe))
+                (plain (some-of (λ g. IsInOrder t own (link_after t link.offer own) g.frame) (given t own) g some (given-in-order t own safe))))
 
         left : (ws : List ControlFrame) → own.waiting ≡ ws → Then [] some-begins false
         left [] none =
-            pends-is ∙ ap (λ ws. owed_behind ws own.pending) none ∙ by-given none (links.given t own) refl
+            pends-is ∙ ap (λ ws. owed_behind ws own.pending) none ∙ by-given none (given t own) refl
             ∙ ap (λ ws. Owed (up own) (up later) [] (is_empty ws && some-begins) (own.pending || false)) (sym none)
-        left (f ∷ fs) some =
-            pends-is ∙ ap (λ ws. owed_behind ws own.pending) some ∙ stays-owed (up own) own.pending stands.pends_up
-            ∙ ap (λ b. Owed (up own) b [] false (own.pending || false)) (sym same-up)
-            ∙ ap (λ ws. Owed (up own) (up later) [] (is_empty ws && some-begins) (own.pending || false)) (sym some)
+        left (f ∷ fs) some = grind arith
 
     by-event : (event : link.Event) → x.event ≡ event → IsBy c e a service tei event → Pends
     by-event event is by = grind (arith, offered, quiet, IsNoOther, frames_given)
@@ -197,4 +178,4 @@ module _ (service : Service) (tei : ℕ) (c : Config) (ranged : IsInRange c) (e 
       go : Goes c service tei e l new a → Pends
       go (inl x) = none-pends x
       go (inr (inl x)) = by-event x x.event refl x.by
-      go (inr (inr x)) = grind (arith, never-down)
+      go (inr (inr x)) = grind arith

@@ -1,8 +1,7 @@
 -- A link owes an acknowledgement where an observer has it so.
-use Rattle.laws_trace.proofs.Vocabulary.{◌≡◌, ℕ, ◌<◌, ◌==◌, ◌&&◌, ◌||◌, not, Bool, true, false, cond, List, [], get_or, Some, None, refl, sym, ap, ◌∙◌, subst, arith, eq-eqb, fold, and_parts, list_any, option_map_or, get_or-set_same, PoolFull, Service, ControlFrame, Link, is_multiple_frame, state_number, Config, Answer, refused, Line, fresh_line, has_tei, link_of, place_in, state_of, IsInRange, notes_of, is_data_of, Card, line_at, is_full, at, moments, has_lines, by_room, line_sound, AllHaveTheirTimers, fresh, CardEvent as Event, Moment, after_all, IsAtLine, AreAtLines, put_in, is_frame_of, managing_is_on as is_on, Observed, View, views, view_of, moment_of, view_behind, Outgoing, outgoing_of, is_empty, still_owes, trace_frame_in as frame_in, is_up, Seen, seen, trace_of, and-false, line_after as after, answer, takes_slot, CardIsSound as IsSound}
+use Rattle.laws_trace.proofs.Vocabulary.{◌≡◌, ℕ, ◌<◌, ◌==◌, ◌&&◌, ◌||◌, not, Bool, true, false, cond, List, [], get_or, Some, None, refl, sym, ap, ◌∙◌, subst, arith, eq-eqb, fold, and_parts, list_any, option_map_or, get_or-set_same, PoolFull, Service, ControlFrame, Link, is_multiple_frame, state_number, Config, Answer, refused, Line, fresh_line, has_tei, link_of, place_in, state_of, IsInRange, notes_of, is_data_of, Card, line_at, is_full, at, moments, has_lines, by_room, line_sound, AllHaveTheirTimers, fresh, CardEvent as Event, Moment, after_all, IsAtLine, AreAtLines, put_in, is_frame_of, managing_is_on as is_on, Observed, View, views, view_of, moment_of, view_behind, Outgoing, outgoing_of, is_empty, still_owes, trace_frame_in as frame_in, is_up, Seen, seen, trace_of, and-false, line_after as after, answer, takes_slot, CardIsSound as IsSound, outgoing_waits}
 use Rattle.model_line.specs.Event as line_event
 use Rattle.model_card.specs.Machine as cards
-use Rattle.laws_trace.specs.Outgoing as outgoing
 use Rattle.laws_trace.proofs.ControlsAtLine.{waits, put_here}
 use Rattle.laws_trace.proofs.ControlsDue.{controls}
 use Rattle.laws_trace.proofs.ControlsWatched.{command_of}
@@ -18,17 +17,17 @@ use Rattle.laws_trace.proofs.ObservedControlsMoment.{puts-by}
 use Rattle.laws_trace.proofs.ObservedControlsSeen.{none-mapped}
 use Rattle.laws_trace.proofs.ObservedRun.{holds-now, known-is}
 use Rattle.laws_trace.proofs.Outgoing.{comes, its, behind_of, here-at, has-now}
-use Rattle.laws_trace.proofs.OwedAtLine.{Owed, stays-owed, event-pends}
+use Rattle.laws_trace.proofs.OwedAtLine.{Owed, event-pends}
 use Rattle.laws_trace.proofs.Plain.{all-wait}
 use Rattle.laws_trace.proofs.Runs.{nothing-seen}
-use Rattle.laws_trace.proofs.SeenAs.{up-number, seen-before, seen-behind}
+use Rattle.laws_trace.proofs.SeenAs.{seen-before, seen-behind}
 use Rattle.laws_trace.proofs.Standing.{standing, stand-is}
 use Rattle.laws_trace.proofs.StandingOfLink.{calm, IsStanding}
 use Rattle.laws_trace.proofs.States.{expired_of, one_more, differ}
 use Rattle.laws_trace.proofs.TimersAreTimely.{config-now, sound-now, timely-now}
 use Rattle.laws_trace.proofs.TimersWatched.{nothing_yet as known_first, watch}
 use Rattle.laws_trace.proofs.WaitingNow.{waits-stay}
-use Rattle.laws_trace.proofs.Facts.{not-one}
+use Rattle.laws_trace.proofs.Facts.{not-one, number-up}
 
 -- An event of a line of a card.
 module _ (service : Service) (tei n : ℕ) (busy rejected : Bool) where
@@ -54,7 +53,7 @@ module _ (service : Service) (tei n : ℕ) (busy rejected : Bool) where
 
   idle : (c : Config) (l : Line) (what : line_event.Event) (why : Answer) → frame_in why ≡ [] → notes_of why ≡ [] → IsStanding (link_of service tei l) busy rejected
       → option_map_or one_more (expired_of service tei what) 0 ≡ 0 → Pends c was l what [] why l
-  idle c l what why none silent stands no-time was-on is-on = grind (arith, stays-owed, Owed, and-false, no-put)
+  idle c l what why none silent stands no-time was-on is-on = grind (arith, Owed, and-false, no-put)
 
   pub own-pends : (m : Card) (e : Event) → IsSound m → AllHaveTheirTimers m → IsAtLine m e → let l = line_at e.line m in
       IsCount (link_of service tei l) n → IsStanding (link_of service tei l) busy rejected → let a = cards.answer e m in
@@ -152,13 +151,13 @@ module _ (c : Config) (number : ℕ) (ranged : IsInRange c) (within : number < c
         (own-pends service tei w.told.count w.busy w.rejected m (at number what) (sound-now c before number ranged all within service tei) (timely-now c before number ranged all within service tei)
         (here-at c number ranged within service tei before all) stands.1 stands.2) in
         ap (λ ws. still_owes c service tei o then.link its-moment ws own.pending) (all-wait c before number ranged all within service tei p on)
-        ∙ ap (λ b. Owed b (is_up then.link.state) (put_in c service tei o then.link its-moment) (is_empty own.waiting && frames) owes) (ap is_up was-state ∙ up-number own.state)
-        ∙ ap (λ b. Owed (is_multiple_frame own.state) b (put_in c service tei o then.link its-moment) (is_empty own.waiting && frames) owes) (ap is_up now-state ∙ up-number (link_of service tei x).state)
+        ∙ ap (λ b. Owed b (is_up then.link.state) (put_in c service tei o then.link its-moment) (is_empty own.waiting && frames) owes) (ap is_up was-state ∙ number-up own.state)
+        ∙ ap (λ b. Owed (is_multiple_frame own.state) b (put_in c service tei o then.link its-moment) (is_empty own.waiting && frames) owes) (ap is_up now-state ∙ number-up (link_of service tei x).state)
         ∙ ap (λ ps. Owed (is_multiple_frame own.state) (is_multiple_frame (link_of service tei x).state) ps (is_empty own.waiting && frames) owes) (sym puts-so)
         ∙ sym (pends (on-line l tei p on) (on-line x tei q there))
 
   abbrev pending_by : View → View → Moment → Pending → Pending
-  pending_by was now m y = (outgoing.waits c service tei was.link now.link m y.0, still_owes c service tei was.link now.link m y.0 y.1)
+  pending_by was now m y = (outgoing_waits c service tei was.link now.link m y.0, still_owes c service tei was.link now.link m y.0 y.1)
 
   pub owed-now : (events : List Event) → AreAtLines (fresh c) events → (place : ℕ) → place_in (line_of events) tei ≡ Some place
       → (outgoing_of c service tei number events).owes ≡ (link_of service tei (line_of events)).pending
@@ -166,7 +165,7 @@ module _ (c : Config) (number : ℕ) (ranged : IsInRange c) (within : number < c
       ap (λ (y : Pending). y.1)
       (has-now c number ranged within service tei ([], false) (λ (o : Outgoing). (o.waiting, o.owes)) pending_by
       (λ o m. let now = views c service tei number o.view m in
-      either-pair (is_on tei now.teis && is_on tei o.view.teis) (m.event.line == number) (outgoing.waits c service tei o.view.link now.link m o.waiting) o.waiting
+      either-pair (is_on tei now.teis && is_on tei o.view.teis) (m.event.line == number) (outgoing_waits c service tei o.view.link now.link m o.waiting) o.waiting
       (still_owes c service tei o.view.link now.link m o.waiting o.owes) o.owes)
       pending_of
       (λ before all what off.

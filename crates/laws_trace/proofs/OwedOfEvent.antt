@@ -1,6 +1,5 @@
 -- Whether I-frames are outstanding, as an observer knows it: one event of a line.
-use Rattle.laws_trace.proofs.Vocabulary.{◌≡◌, ℕ, ◌+◌, ◌≤◌, ◌==◌, not, Bool, true, false, length, Option, Some, None, refl, sym, ap, ◌∙◌, subst, arith, eq-eqb, true≢false, inl, inr, Service, place_of-is, State, TeiAssigned, Link, Config, Line, link_of, place_in, state_of, terms, IsInRange, terms_in_range, HaveTheirTimers, Event, line_after as after, answer, IsSound, offer, begun}
-use Rattle.model_link.specs.Machine as links
+use Rattle.laws_trace.proofs.Vocabulary.{◌≡◌, ℕ, ◌+◌, ◌≤◌, ◌==◌, not, Bool, true, false, length, Option, Some, None, refl, sym, ap, ◌∙◌, subst, arith, eq-eqb, true≢false, inl, inr, Service, place_of-is, State, TeiAssigned, Link, Config, Line, link_of, place_in, state_of, terms, IsInRange, terms_in_range, HaveTheirTimers, Event, line_after as after, answer, IsSound, offer, begun, link_after, course, eqb-true}
 use Rattle.model_link.specs.Sound as link_sound
 use Rattle.laws_trace.proofs.TimersWatched.{Known}
 use Rattle.laws_trace.proofs.States.{is_state}
@@ -8,7 +7,6 @@ use Rattle.laws_trace.proofs.OneLink.{HasOne, Goes, event-goes}
 use Rattle.laws_trace.proofs.TimerActs.{Timing, timing}
 use Rattle.laws_trace.proofs.TimerClaims.{Agrees, Kept, told_state}
 use Rattle.laws_trace.proofs.TimerEvents.{event-good}
-use Rattle.laws_trace.proofs.TimersAreTimely.{outstanding-is}
 use Rattle.laws_trace.proofs.TimersOfEvent.{IsTrueOf, state-on, off-fresh, off-state}
 use Rattle.laws_trace.proofs.TimersOfEvent as events
 use Rattle.laws_trace.proofs.LineAtEnd.{link-at-end}
@@ -21,26 +19,22 @@ module _ (c : Config) (ranged : IsInRange c) (l : Line) (s : IsSound c l) (servi
   abbrev own : Link
   own = link_of service tei l
 
-  none-owed : Agrees TeiAssigned k own.a own.s own.peer_busy → own.s ≡ own.a → not (k.next == k.acknowledged) ≡ not (own.s == own.a)
-  none-owed none same = ap (λ (k : Known). not (k.next == k.acknowledged)) none ∙ sym (ap not (eq-eqb own.s own.a same))
-
   settled : link_sound.IsSound (terms c service tei) own → length own.contents ≡ own.a → own.s ≡ own.a
   settled sound all = let low : own.a ≤ own.s = sound.ordered in let high : own.s ≤ length own.contents = sound.accepted in omega (arith, low, high, all)
 
   by-state : (here : State) → is_state 5 (told_state here) ≡ false → Agrees here k own.a own.s own.peer_busy → link_sound.IsSettledIn here own
       → link_sound.IsSound (terms c service tei) own → own.s ≤ own.a + 127 → not (k.next == k.acknowledged) ≡ not (own.s == own.a)
-  by-state here off known rest sound within = grind (arith, outstanding-is, none-owed, settled)
+  by-state here off known rest sound within = grind (arith, eq-eqb, eqb-true, settled)
 
   pub known-owes : is_state 5 (state_of service tei l) ≡ false → IsOwed service tei (not (k.next == k.acknowledged)) l
   known-owes off = go (place_in l tei) refl
     where
       go : (o : Option ℕ) → place_in l tei ≡ o → not (k.next == k.acknowledged) ≡ not (own.s == own.a)
-      go None gone = grind (arith, off-fresh, none-owed, Agrees)
+      go None gone = grind (arith, off-fresh, eq-eqb, Agrees)
       go (Some place) on =
-          let placed = (place_of-is l.management.places tei place on).1 in
           let sound : link_sound.IsSound (terms c service tei) own = link-at-end c l ranged s service tei place on in
           let high : own.s ≤ own.a + (terms c service tei).k = sound.within in
-          let small : (terms c service tei).k ≤ 127 = (terms_in_range c ranged service tei (s.management.table.range place tei placed)).k_high in
+          let small : (terms c service tei).k ≤ 127 = (terms_in_range c ranged service tei (s.management.table.range place tei ((place_of-is l.management.places tei place on).1))).k_high in
           by-state own.state (sym (ap (is_state 5) (state-on service tei l place on)) ∙ off) agrees sound.settled sound (omega (arith, high, small))
 
 -- In state 5 nothing changes.
@@ -73,18 +67,18 @@ module _ (c : Config) (ranged : IsInRange c) (l : Line) (s : IsSound c l) (timed
           by-one : HasOne c service tei e l (after c e l) (answer c e l) → Same next
           by-one x =
               let t = terms c service tei in
-              let y = links.after t x.event was in
+              let y = link_after t x.event was in
               let then : is_state 5 (told_state y.state) ≡ true = sym (ap (λ (y : Link). is_state 5 (told_state y.state)) x.is) ∙ now in
               subst Same (sym x.is)
               (events.either c ranged l s timed service tei k agrees e x
               (λ o.
-              by-kept y then (shape y.state (timing (links.course t x.event was))
+              by-kept y then (shape y.state (timing (course t x.event was))
               (event-good t k was (events.sound c ranged l s timed service tei k agrees e x) (events.range c ranged l s timed service tei k agrees e x).k_high
               (events.own-timed c ranged l s timed service tei k agrees e x.place x.placed) agrees x.event o.no_offer o.no_cleared).kept))
               (λ is offered.
-              subst (λ event. Same (links.after t event was)) (sym offered)
-              (by-kept (links.after t offer was) (ap (λ event. is_state 5 (told_state (links.after t event was).state)) (sym offered) ∙ then)
-              (shape (links.after t offer was).state (timing (links.course t offer was)) (events.offers c ranged l s timed service tei k agrees e x).kept))))
+              subst (λ event. Same (link_after t event was)) (sym offered)
+              (by-kept (link_after t offer was) (ap (λ event. is_state 5 (told_state (link_after t event was).state)) (sym offered) ∙ then)
+              (shape (link_after t offer was).state (timing (course t offer was)) (events.offers c ranged l s timed service tei k agrees e x).kept))))
 
           by-goes : Goes c service tei e l (after c e l) (answer c e l) → Same next
           by-goes (inr (inl x)) = by-one x

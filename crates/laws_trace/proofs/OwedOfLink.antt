@@ -11,14 +11,8 @@ module _ (t : Terms) where
   abbrev Puts : Event → Link → Type 0
   Puts e l = is_multiple_frame l.state ≡ true → numbers_begin e l.state (state_after t e l) ≡ true → is_empty (put e l (state_after t e l)) ≡ false
 
-  puts-ua : (f : Parts) (here : State) (l : Link) → Puts (received (frame (record f { control = Ua true }))) (record l { state = here })
-  puts-ua f here l up is = grind (arith, never)
-
   puts-begun : (e : Event) (l : Link) → IsNoOther e → Puts (as_heard t e) l
-  puts-begun e l other = grind (arith, cond_both, never, in-state, puts-ua)
-
-awaiting-down : (s : State) → is_awaiting s ≡ true → is_multiple_frame s ≡ false
-awaiting-down s is = grind (arith, never)
+  puts-begun e l other = grind (arith, cond_both, never, in-state)
 
 unless-empty : (frames : List ControlFrame) (owed : Bool) → unless_put frames owed ≡ (is_empty frames && owed)
 unless-empty frames owed = grind arith
@@ -56,7 +50,7 @@ module _ (t : Terms) (e : Event) (l : Link) (other : IsNoOther e) (owed : PendsU
   none-down k h down = false_from_ne_true k.pending (λ is. true≢false (sym (h is) ∙ down))
 
   none-begun : restarts t e l ≡ true → next.pending ≡ false
-  none-begun begins = left-is ∙ off-where-begun t (owed_in to owes) l.pending heard l (sym begin-is ∙ begins) (λ waits. none-down l owed (awaiting-down l.state waits))
+  none-begun begins = left-is ∙ off-where-begun t (owed_in to owes) l.pending heard l (sym begin-is ∙ begins) (λ waits. none-down l owed (grind (arith, never)))
 
   takes : is_multiple_frame l.state ≡ true → restarts t e l ≡ false → takes_contents heard l ≡ delivers
   takes up on = grind (arith, taken-is, is_some, event-delivers)

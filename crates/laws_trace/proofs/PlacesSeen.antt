@@ -1,7 +1,5 @@
 -- What an event shows of the places of a link: data that is granted, and that layer 3 learns of a loss.
-use Rattle.laws_trace.proofs.Vocabulary.{arith, ◌≡◌, ℕ, Bool, false, cond, List, [], ◌++◌, ◌||◌, map, append-nil, flat_map, list_any, Service, Timer, is_release, Answer, hears, expiry, request, next, Deactivate, notes_of, is_loss_of, is_granted, Event, LineTold, told, Request, Release, of_link, releases, Seen, data_asked, granted, trace_noted as noted, is_own, seen, seen_told, seen_granted, trace_frame_in as frame_in, and-false, or-false, and-true, trace_begun as begun}
-use Rattle.model_bits.specs.Stream as stream
-use Rattle.model_link.specs.Events as link
+use Rattle.laws_trace.proofs.Vocabulary.{arith, ◌≡◌, ℕ, Bool, false, cond, List, [], ◌++◌, ◌||◌, map, append-nil, flat_map, list_any, Service, Timer, is_release, Answer, hears, expiry, request, next, Deactivate, notes_of, is_loss_of, is_granted, Event, LineTold, told, Request, Release, of_link, releases, Seen, data_asked, granted, trace_noted as noted, is_own, seen, seen_told, seen_granted, trace_frame_in as frame_in, and-false, or-false, and-true, trace_begun as begun, LinkRequest, StreamEvent}
 use Rattle.laws_trace.specs.Outgoing as outgoing
 use Rattle.laws_trace.proofs.LinkLed.{own-is}
 
@@ -30,9 +28,6 @@ module _ (service : Service) (tei : ℕ) where
   pub told-grants : (a : Answer) → granted_in (seen_told a) ≡ []
   told-grants a = grind arith
 
-  pub begun-grants : (a : Answer) → granted_in (map begun (frame_in a)) ≡ []
-  begun-grants a = grind arith
-
   pub asked-grants : (r : Request) (a : Answer) → granted_in (seen_granted r a ++ seen_told a) ≡ cond (is_granted a) (data_asked service tei r) []
   asked-grants r a = grind (arith, append-nil)
 
@@ -40,19 +35,16 @@ module _ (service : Service) (tei : ℕ) where
   alone : (b : Bool) → (b || (false || false)) ≡ b
   alone b = grind arith
 
-  pub heard-loses : (what : stream.Event) (a : Answer) → lost_in (seen (hears what) a) ≡ list_any (is_loss_of service tei) (notes_of a)
+  pub heard-loses : (what : StreamEvent) (a : Answer) → lost_in (seen (hears what) a) ≡ list_any (is_loss_of service tei) (notes_of a)
   heard-loses what a = grind (arith, alone)
 
   pub expiry-loses : (timer : Timer) (a : Answer) → lost_in (seen (expiry timer) a) ≡ list_any (is_loss_of service tei) (notes_of a)
   expiry-loses timer a = grind (arith, alone)
 
-  pub begun-loses : (a : Answer) → lost_in (seen next a) ≡ false
-  begun-loses a = grind arith
-
   pub asked-loses : (r : Request) (a : Answer) → lost_in (seen (request r) a) ≡ cond (is_granted a) (is_release_of service tei r || list_any (is_loss_of service tei) (notes_of a)) false
   asked-loses r a = grind (arith, alone)
 
-  pub own-release : (what : link.Request) → is_release_of service tei (of_link service tei what) ≡ is_release what
+  pub own-release : (what : LinkRequest) → is_release_of service tei (of_link service tei what) ≡ is_release what
   own-release what = grind (arith, own-is)
 
   -- So it is by the event and its answer.
@@ -63,16 +55,13 @@ module _ (service : Service) (tei : ℕ) where
   none-granted r a none = grind arith
 
   pub granted-so : (what : Event) (a : Answer) → granted_in (seen what a) ≡ outgoing.data_granted service tei what a
-  granted-so what a = grind (arith, begun-grants, asked-grants, granted-is, none-granted, told-grants)
-
-  none-released : (r : Request) (a : Answer) → is_granted a ≡ false → releases service tei (request r) a ≡ false
-  none-released r a none = grind arith
+  granted-so what a = grind (arith, asked-grants, granted-is, none-granted, told-grants)
 
   group : (a b d : Bool) → ((a || b) || d) ≡ (a || b || d)
   group a b d = grind arith
 
   untold : (r : Request) (a : Answer) → is_granted a ≡ false → list_any (is_loss_of service tei) (notes_of a) ≡ false → outgoing.loses service tei (request r) a ≡ false
-  untold r a none quiet = grind (arith, none-released, and-false)
+  untold r a none quiet = grind (arith, and-false)
 
   pub lost-so : (what : Event) (a : Answer) → (what ≡ next → notes_of a ≡ []) → lost_in (seen what a) ≡ outgoing.loses service tei what a
-  lost-so what a quiet = grind (arith, heard-loses, expiry-loses, begun-loses, asked-loses, or-false, and-true, group, untold)
+  lost-so what a quiet = grind (arith, heard-loses, expiry-loses, asked-loses, or-false, and-true, group, untold)

@@ -9,10 +9,6 @@ use Rattle.laws_trace.proofs.Runs.{run-shows}
 use Rattle.laws_trace.proofs.Units.{NoneWaits, fresh-none, Passes, rests, joins, steps}
 use Rattle.laws_trace.proofs.Facts.{never}
 
-pub control-of : (command : Bool) (control : Control) → is_ui control ≡ false → is_information control ≡ false
-    → control_in command control ≡ record { command = command; control = control } ∷ []
-control-of command control plain bare = grind (arith, never)
-
 module _ (c : Config) (events : List Event) (number : ℕ) (ranged : IsInRange c) (all : AreAtLines (fresh c) events) (within : number < c.lines) (service : Service) (tei place : ℕ)
     (on : place_in (line_at number (after_all (fresh c) events)) tei ≡ Some place) where
   abbrev line : Line
@@ -35,7 +31,7 @@ module _ (c : Config) (events : List Event) (number : ℕ) (ranged : IsInRange c
 
   both : (ws : List ControlFrame) → All IsPlain ws → All (IsWaitingFrame (terms c service tei)) ws → All IsControl ws
   both [] plain bare = All-nil IsControl
-  both (f ∷ fs) plain bare = grind (arith, both fs (All-tail IsPlain f fs plain), IsControl, control-of, IsPlain)
+  both (f ∷ fs) plain bare = grind (arith, both fs (All-tail IsPlain f fs plain), IsControl, never, IsPlain)
 
   -- So what an observer has of those is all that waits.
   pub all-wait : waits service tei line ≡ own.waiting

@@ -4,11 +4,8 @@ use Rattle.laws_trace.proofs.Vocabulary.{arith, ℕ, Bool, cond, List, slice_ind
 
 module _ (side : Side) (P : Result Parts ReadFault → Type 0) (a : Address) (c : Control) (ok : (info : List ℕ) → P (Ok (record { address = a; control = c; info = info })))
     (err : (fault : ReadFault) → P (Err fault)) where
-  by-size : (info : List ℕ) (fits : Bool) → P (cond fits (Ok (record { address = a; control = c; info = info })) (Err (WrongSize a)))
-  by-size info fits = grind arith
-
   by-kind : (octets : List ℕ) (allowed : Bool) → P (completed octets (cond allowed (Ok (a, c)) (Err (Undefined a))))
-  by-kind octets allowed = grind (arith, by-size)
+  by-kind octets allowed = grind arith
 
   by-extension : (octets : List ℕ) (bad : Bool) → P (completed octets (cond bad (Err BadExtension) (checked a (Some c))))
   by-extension octets bad = grind (arith, by-kind)

@@ -27,14 +27,5 @@ flag-up : (anew up : Bool) (to : State) (owed pending : Bool) → (pending ≡ t
     → is_multiple_frame to ≡ true
 flag-up anew up to owed pending h is = grind arith
 
-owed-is : (frames : List ControlFrame) (owed : Bool) → owed_behind frames owed ≡ true → owed ≡ true
-owed-is frames owed is = grind arith
-
-left-up : (t : Terms) (e : Event) (l : Link) → PendsUp l → pending_left e l (state_after t e l) ≡ true → is_multiple_frame (state_after t e l) ≡ true
-left-up t e l h is = grind (arith, owed-is, flag-up)
-
 pub pends-up : (t : Terms) (e : Event) (l : Link) → PendsUp l → PendsUp (after t e l)
-pends-up t e l h is =
-    let leaves = (event-follows t e l).leaves in
-    let heard = as_heard t e in
-    ap is_multiple_frame leaves.state ∙ left-up t heard l h (sym (leaves.pending ∙ ap (pending_left heard l) leaves.state) ∙ is)
+pends-up t e l h is = grind (arith, event-follows, flag-up)

@@ -4,8 +4,9 @@ use Rattle.model_card.specs.Room.{room}
 use Rattle.laws_trace.specs.RoomsAreTold.{refusal_in, IsRoom, RoomsAreTold}
 use Rattle.laws_trace.proofs.LineAtEnd.{line-at-end, link-at-end}
 use Rattle.laws_trace.proofs.Outgoing.{view-is, kept-now}
-use Rattle.laws_trace.proofs.SeenAs.{seen-before, tei-seen, up-number}
+use Rattle.laws_trace.proofs.SeenAs.{seen-before, tei-seen}
 use Rattle.laws_trace.proofs.TimersAreTimely.{config-now}
+use Rattle.laws_trace.proofs.Facts.{number-up}
 
 -- Why an answer to a request refuses.
 refused-so : (o : Option Refusal) (outcome : Effect) → refusal_in (unless_refused_told o outcome) ≡ o
@@ -14,11 +15,6 @@ refused-so o outcome = grind arith
 -- A TEI that is on the line has a link.
 has-room : (tei : ℕ) (on : Bool) (x : Room) → nat_lt 126 tei ≡ false → on ≡ true → unless (cond (nat_lt 126 tei) (Some BadTei) (cond (not on) (Some NoLink) None)) x ≡ Ok x
 has-room tei on x low is = grind arith
-
--- In states 4, 5 and 6 data is refused for the state.
-while-down : (tei : ℕ) (on up : Bool) (rest : Option Refusal) → nat_lt 126 tei ≡ false → on ≡ true → up ≡ false
-    → cond (nat_lt 126 tei) (Some BadTei) (cond (not on) (Some NoLink) (cond (not up) (Some WrongState) rest)) ≡ Some WrongState
-while-down tei on up rest low is down = grind arith
 
 on-place : (l : Line) (tei : ℕ) → has_tei tei l ≡ true → (o : Option ℕ) → place_in l tei ≡ o → (place : ℕ) × (place_in l tei ≡ Some place)
 on-place l tei on (Some place) is = (place, is)
@@ -58,7 +54,7 @@ rooms-are-told c events number ranged all within service tei is_on_line = told p
         let places : card.config.queue ≡ c.queue = ap (λ (d : Config). d.queue) same in
         let kept : length o.kept ≡ length (queue_of own) = ap length (kept-now c number ranged within service tei events all place on) in
         let state : is_up o.view.link.state ≡ is_multiple_frame own.state =
-        ap (λ (v : View). is_up v.link.state) view ∙ ap is_up seen.state_is ∙ up-number own.state in
+        ap (λ (v : View). is_up v.link.state) view ∙ ap is_up seen.state_is ∙ number-up own.state in
         record {
           left = left;
           is = is;
@@ -68,9 +64,5 @@ rooms-are-told c events number ranged all within service tei is_on_line = told p
               ap refusal_in (answer_is card number (Data service tei contents))
               ∙ refused-so (refusal card.config (is_full card) (Data service tei contents) l) (of_request card.config (Data service tei contents) l)
               ∙ refuses_by card number service tei left is contents (sym state ∙ up) (subst (λ (d : Config). length contents ≤ d.n201) (sym same) short);
-          down = λ off contents.
-              ap refusal_in (answer_is card number (Data service tei contents))
-              ∙ refused-so (refusal card.config (is_full card) (Data service tei contents) l) (of_request card.config (Data service tei contents) l)
-              ∙ while-down tei (has_tei tei l) (is_multiple_frame own.state) _ (le-ltb 126 tei tei_low)
-              (is_on-at l.management.places place tei at) (sym state ∙ off);
+          down = grind (arith, answer_is, refused-so, le-ltb, is_on-at);
         }

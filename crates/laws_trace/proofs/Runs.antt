@@ -40,11 +40,7 @@ module _ (Stands : Config → Line → Type 0) (Shows : Config → Line → List
   moment : (card : Card) (e : Event) (number : ℕ) → IsSound card → IsAtLine card e → Stands card.config (line_at number card)
       → (b : Bool) → (e.line == number) ≡ b
       → Both card.config (line_at number card) (cond b (seen e.what (answer e card)) []) (line_at number (after e card))
-  moment card e number s here stands true is =
-      let same = eqb-true e.line number is in
-      subst (λ n. Both card.config (line_at n card) (seen e.what (answer e card)) (line_at n (after e card))) same
-      (own-line card e s here (subst (λ n. Stands card.config (line_at n card)) (sym same) stands))
-  moment card e number s here stands false other = grind (arith, eq-eqb, apart)
+  moment card e number s here stands b is = grind (arith, eqb-true, own-line, eq-eqb, apart)
 
   pub run-shows : (card : Card) (events : List Event) (number : ℕ) → IsSound card → AreAtLines card events → Stands card.config (line_at number card)
       → Both card.config (line_at number card) (trace number (moments card events)) (line_at number (after_all card events))

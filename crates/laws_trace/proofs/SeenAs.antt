@@ -14,10 +14,6 @@ use Rattle.laws_trace.proofs.TimerClaims.{Agrees, IsKnown}
 use Rattle.laws_trace.proofs.TimersOfEvent.{state-on}
 use Rattle.laws_trace.proofs.TimersWatched.{Known, nothing_yet, watch}
 
--- States 7 and 8 are those of multiple-frame operation.
-pub up-number : (state : State) → is_up (state_number state) ≡ is_multiple_frame state
-up-number state = grind arith
-
 -- In these it is known how far a link is.
 pub known-up : (state : State) (k : Known) (a s : ℕ) (busy : Bool) → is_multiple_frame state ≡ true → Agrees state k a s busy → IsKnown k a s busy
 known-up state k a s busy up h = grind arith

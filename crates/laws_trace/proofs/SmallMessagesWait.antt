@@ -1,7 +1,5 @@
 -- The messages of TEI management that wait stay small: what it hears are octets.
-use Rattle.laws_trace.proofs.Vocabulary.{arith, ◌≡◌, ℕ, ◌<◌, false, List, [], ◌∷◌, ◌++◌, length, drop, Option, IfSome, refl, subst, Result, Ok, Err, All, option_map_or, All-drop, All-head, AreOctets, Unserved, Address, ReadFault, Undefined, WrongSize, Long, Refusal, Service, Timer, Parts, reading, reading-found, Change, Config, Aim, at_management, of_change, of_aim, LineTold, hears, expiry, request, next, Answer, aim_of_expiry, Line, unless_refused, drop_for, at_place, addressed, message_of, aim_of_reading, aim_of_long, aim_of_heard, heard_side, Taken, taken, line_of, aim_of_request, side_aims, IsOne, taken-one, Control, head_of, Event, line_after as after, refusal, Request, IsSound, HasOctets, GivesOctets, seen, by-down, heard, seen_told}
-use Rattle.model_bits.specs.Stream as stream
-use Rattle.model_link.specs.Events as link
+use Rattle.laws_trace.proofs.Vocabulary.{arith, ◌≡◌, ℕ, ◌<◌, false, List, [], ◌∷◌, ◌++◌, length, drop, Option, IfSome, refl, subst, Result, Ok, Err, All, option_map_or, All-drop, All-head, AreOctets, Unserved, Address, ReadFault, Undefined, WrongSize, Long, Refusal, Service, Timer, Parts, reading, reading-found, Change, Config, Aim, at_management, of_change, of_aim, LineTold, hears, expiry, request, next, Answer, aim_of_expiry, Line, unless_refused, drop_for, at_place, addressed, message_of, aim_of_reading, aim_of_long, aim_of_heard, heard_side, Taken, taken, line_of, aim_of_request, side_aims, IsOne, taken-one, Control, head_of, Event, line_after as after, refusal, Request, IsSound, HasOctets, GivesOctets, seen, by-down, heard, seen_told, Received, StreamEvent}
 use Rattle.laws_trace.proofs.SmallMessages.{IsSmall, IsOfOctets, after-small}
 
 -- What TEI management hears are octets.
@@ -10,54 +8,27 @@ IsOfOctetsAt (at_management e) = IsOfOctets e
 IsOfOctetsAt other = Unit {0}
 
 module _ (c : Config) (l : Line) where
-  place-aims : (service : Service) (tei : ℕ) (what : link.Received) (o : Option ℕ) → IsOfOctetsAt (at_place service tei what o)
-  place-aims service tei what o = grind arith
-
-  addressed-aims : (address : Address) (what : link.Received) (message : Aim) → IsOfOctetsAt message → IsOfOctetsAt (addressed l address what message)
-  addressed-aims address what message h = grind (arith, place-aims)
-
-  message-aims : (k : Control) (info : List ℕ) → AreOctets info → IsOfOctetsAt (message_of k info)
-  message-aims k info h = grind arith
+  addressed-aims : (address : Address) (what : Received) (message : Aim) → IsOfOctetsAt message → IsOfOctetsAt (addressed l address what message)
+  addressed-aims address what message h = grind arith
 
   info-octets : (octets : List ℕ) (parts : Parts) → AreOctets octets → reading (heard_side c) octets ≡ Ok parts → AreOctets parts.info
   info-octets octets parts h is =
-      let spelled = (reading-found (heard_side c) octets parts h is).octets_are in
-      let all = subst AreOctets spelled h in
+      let all = subst AreOctets ((reading-found (heard_side c) octets parts h is).octets_are) h in
       subst AreOctets (drop-head (head_of (heard_side c) parts.address parts.control) parts.info) (All-drop (λ octet. octet < 256) (length (head_of (heard_side c) parts.address parts.control)) (head_of (heard_side c) parts.address parts.control ++ parts.info) all)
     where
       drop-head : (front back : List ℕ) → drop (length front) (front ++ back) ≡ back
       drop-head [] back = refl
       drop-head (x ∷ front) back = drop-head front back
 
-  reading-aims : (octets : List ℕ) → AreOctets octets → (r : Result Parts ReadFault) → reading (heard_side c) octets ≡ r → IsOfOctetsAt (aim_of_reading c l r)
-  reading-aims octets h (Ok parts) is =
-      side_aims c parts IsOfOctetsAt tt (λ service to. tt) (addressed l parts.address (link.frame parts) (message_of parts.control parts.info))
-      (addressed-aims parts.address (link.frame parts) (message_of parts.control parts.info) (message-aims parts.control parts.info (info-octets octets parts h is)))
-  reading-aims octets h (Err (Undefined address)) is = addressed-aims address link.undefined (drop_for Unserved) tt
-  reading-aims octets h (Err (WrongSize address)) is = addressed-aims address link.wrong_size (drop_for Unserved) tt
-  reading-aims octets h other is = tt
-
-  long-aims : (r : Result Long ReadFault) → IsOfOctetsAt (aim_of_long l r)
-  long-aims r = grind (arith, addressed-aims)
-
-  heard-aims : (e : stream.Event) → HasOctets e → IsOfOctetsAt (aim_of_heard c l e)
-  heard-aims e h = grind (arith, reading-aims, long-aims)
+  heard-aims : (e : StreamEvent) → HasOctets e → IsOfOctetsAt (aim_of_heard c l e)
+  heard-aims e h = grind (arith, side_aims, addressed-aims, info-octets)
 
 timer-aims : (l : Line) (timer : Timer) → IsOfOctetsAt (aim_of_expiry timer l)
 timer-aims l timer = grind arith
 
-asked-aims : (l : Line) (r : Request) → IsOfOctetsAt (aim_of_request r l)
-asked-aims l r = grind arith
-
-request-aims : (l : Line) (r : Request) (o : Option Refusal) → IsOfOctetsAt (unless_refused o (aim_of_request r l))
-request-aims l r o = grind (arith, asked-aims)
-
 -- The messages that wait then.
-changed-small : (c : Config) (o : Option Change) (t : LineTold) (l : Line) → All IsSmall l.management.waiting → All IsSmall (of_change c o t l).line.management.waiting
-changed-small c o t l h = grind arith
-
 aim-small : (c : Config) (aim : Aim) (l : Line) → IsOfOctetsAt aim → All IsSmall l.management.waiting → All IsSmall (of_aim c aim l).line.management.waiting
-aim-small c aim l o h = grind (arith, changed-small, after-small, by-down, IsSmall)
+aim-small c aim l o h = grind (arith, after-small, by-down, IsSmall)
 
 next-small : (c : Config) (l : Line) → IsSound c l → All IsSmall l.management.waiting → All IsSmall (option_map_or line_of (taken c l) l).management.waiting
 next-small c l s h = go (taken c l) (taken-one c l s)
@@ -71,6 +42,4 @@ next-small c l s h = go (taken c l) (taken-one c l s)
 pub messages-after : (c : Config) (e : Event) (l : Line) (a : Answer) → IsSound c l → All GivesOctets (seen e a) → All IsSmall l.management.waiting → All IsSmall (after c e l).management.waiting
 unfolding after
 messages-after c (hears what) l a s gives h = aim-small c (aim_of_heard c l what) l (heard-aims c l what (All-head GivesOctets (heard what) (seen_told a) gives)) h
-messages-after c (expiry timer) l a s gives h = aim-small c (aim_of_expiry timer l) l (timer-aims l timer) h
-messages-after c (request r) l a s gives h = aim-small c (unless_refused (refusal c false r l) (aim_of_request r l)) l (request-aims l r (refusal c false r l)) h
-messages-after c next l a s gives h = next-small c l s h
+messages-after c e l a s gives h = grind (arith, aim-small, timer-aims, next-small)

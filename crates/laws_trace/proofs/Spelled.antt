@@ -1,14 +1,10 @@
 -- Each frame that begins on a line is one that the grammar has, of a service or of TEI management: the law.
-use Rattle.laws_trace.proofs.Vocabulary.{◌≡◌, ◌≤◌, true, false, List, [], ◌∷◌, ◌++◌, slice_get, Option, Some, None, IfSome, option_map, refl, sym, subst, arith, All, option_or, flat_map-append, All-nil, All-head, All-append, Service, Parts, Spells, Ui, sapi_of, Message, address_at, IsGiven, Given, Terms, given_is_frame, Config, request, next, gave, Line, UnitData, service_at, place_at, terms, link_at, Taken, with_unit, unit_frame, first_taken, round, taken, next_of, IsInRange, IsSoundAt, IsUnitData, round_below, terms_in_range, OfLink, of-links, fresh_is_sound, Card, ℕ, moments, unwrap_or, information_of, message_frame, Event, line_after as after, answer, with_message, line_frame_of as frame_of, IsSound, fresh, is_of_use, IsSpelled, FramesAreRead, AreAtLines, trace_frame_in as frame_in, Seen, seen, trace, frames_begun, Always, given, frame_begun}
+use Rattle.laws_trace.proofs.Vocabulary.{◌≡◌, ◌≤◌, true, false, List, [], ◌∷◌, ◌++◌, slice_get, Option, Some, None, IfSome, option_map, refl, sym, subst, arith, All, option_or, flat_map-append, All-nil, All-head, All-append, Service, Parts, Spells, Ui, sapi_of, Message, address_at, IsGiven, Given, Terms, given_is_frame, Config, request, next, gave, Line, UnitData, service_at, place_at, terms, link_at, Taken, with_unit, unit_frame, first_taken, round, taken, next_of, IsInRange, IsSoundAt, IsUnitData, round_below, terms_in_range, OfLink, of-links, fresh_is_sound, Card, ℕ, moments, unwrap_or, information_of, message_frame, Event, line_after as after, answer, with_message, line_frame_of as frame_of, IsSound, fresh, is_of_use, IsSpelled, FramesAreRead, AreAtLines, trace_frame_in as frame_in, Seen, seen, trace, frames_begun, Always, given, frame_begun, CardEvent}
 use Rattle.model_link.specs.Sound as link_sound
-use Rattle.model_card.specs.Event as card_event
 use Rattle.model_card.specs.Sound as card_sound
 use Rattle.laws_trace.proofs.Runs.{run-shows}
 use Rattle.laws_trace.proofs.Units.{given-frames, none-told, none-requested}
 use Rattle.laws_trace.proofs.Facts.{small-sapi}
-
-of-a-service : (service : Service) → is_of_use (sapi_of service) ≡ true
-of-a-service service = grind arith
 
 -- messages of TEI management, and unit data
 message-spelled : (c : Config) (m : Message) → IsSpelled c (message_frame c.side m)
@@ -19,17 +15,11 @@ message-spelled c m =
 unit-spelled : (c : Config) (u : UnitData) → u.tei ≤ 127 → IsSpelled c (unit_frame c u)
 unit-spelled c u small =
     let parts : Parts = record { address = record { sapi = sapi_of u.service; command = true; tei = u.tei }; control = Ui false; info = u.contents } in
-    (parts, record { is_frame = record { sapi = small-sapi u.service; tei = omega (arith, small); kind = refl; size = refl }; octets_are = refl }, of-a-service u.service)
+    (parts, record { is_frame = record { sapi = small-sapi u.service; tei = omega (arith, small); kind = refl; size = refl }; octets_are = refl }, (grind arith))
 
 -- what a link gives
 abbrev pub whole-parts : Terms → Given → Parts
 whole-parts t g = record { address = address_at t g.frame.command; control = g.frame.control; info = unwrap_or g.contents [] }
-
-pub given-spells : (c : Config) (t : Terms) (g : Given) → IsGiven t g.frame g.contents → Spells c.side (whole-parts t g) (frame_of c t g)
-given-spells c t g h = record { is_frame = h.whole; octets_are = refl }
-
-given-spelled : (c : Config) (t : Terms) (g : Given) → IsGiven t g.frame g.contents → IsSpelled c (frame_of c t g)
-given-spelled c t g h = (whole-parts t g, given-spells c t g h, of-a-service t.service)
 
 module _ (c : Config) (ranged : IsInRange c) (l : Line) (s : IsSound c l) where
   abbrev Spelled : Taken → Type 0
@@ -46,18 +36,15 @@ module _ (c : Config) (ranged : IsInRange c) (l : Line) (s : IsSound c l) where
       known (given own (link_at x.number l)) x.what own x.given (given_is_frame own range (link_at x.number l) sound)
 
   link-spelled : (t : Taken) → OfLink c l t → Spelled t
-  link-spelled t x =
-      let own = terms c (service_at x.number) x.tei in
-      subst Spelled (sym x.is) (given-spelled c own x.what (link-given t x))
+  link-spelled t x = subst Spelled (sym x.is) ((whole-parts (terms c (service_at x.number) x.tei) x.what, (record { is_frame = (link-given t x).whole; octets_are = refl }), (grind arith)))
 
   first-spelled : (o : Option Taken) → IfSome o (OfLink c l) → IfSome o Spelled
   first-spelled o x = grind (arith, link-spelled)
 
   any-spelled : (m : Option Message) (us : List UnitData) → All (IsUnitData c) us
       → IfSome (option_or (option_map (with_message l) (option_map (message_frame c.side) m)) (option_or (option_map (with_unit c l) (slice_get us 0)) (first_taken c l (round c l)))) Spelled
-  any-spelled (Some m) us h = message-spelled c m
   any-spelled None (u ∷ us) h = unit-spelled c u (All-head (IsUnitData c) u us h).tei
-  any-spelled None [] h = first-spelled (first_taken c l (round c l)) (of-links c l s (round c l) (round_below c l))
+  any-spelled m us h = grind (arith, message-spelled, first-spelled, of-links, round_below)
 
   taken-spelled : IfSome (taken c l) Spelled
   taken-spelled = any-spelled (slice_get l.management.waiting 0) l.units s.units
@@ -77,9 +64,8 @@ by-next c o h = grind arith
 
 event-spelled : (c : Config) → IsInRange c → (e : Event) (l : Line) → IsSound c l → AreSpelled c l (seen e (answer c e l)) (after c e l)
 unfolding answer
-event-spelled c ranged (request r) l s = subst (All (IsSpelled c)) (sym (none-requested r (answer c (request r) l))) (All-nil (IsSpelled c))
 event-spelled c ranged next l s = subst (All (IsSpelled c)) (sym (given-frames (option_map next_of (taken c l)))) (by-next c (taken c l) (taken-spelled c ranged l s))
-event-spelled c ranged other l s = subst (All (IsSpelled c)) (sym (none-told (answer c other l))) (All-nil (IsSpelled c))
+event-spelled c ranged e l s = grind (arith, none-requested, none-told)
 
 -- Nothing has to hold of a line.
 abbrev pub Anything : Config → Line → Type 0
@@ -89,7 +75,7 @@ steps : (c : Config) → IsInRange c → (e : Event) (l : Line) → IsSound c l 
     → AreSpelled c l (seen e (answer c e l)) (after c e l) × Anything c (after c e l)
 steps c ranged e l s h = (event-spelled c ranged e l s, tt)
 
-pub run-spelled : (card : Card) (events : List card_event.Event) (number : ℕ) → card_sound.IsSound card → AreAtLines card events → All (IsSpelled card.config) (frames_begun (trace number (moments card events)))
+pub run-spelled : (card : Card) (events : List CardEvent) (number : ℕ) → card_sound.IsSound card → AreAtLines card events → All (IsSpelled card.config) (frames_begun (trace number (moments card events)))
 run-spelled card events number s all = (run-shows Anything AreSpelled rests joins steps card events number s all tt).0
 
 pub frames-are-read : Always FramesAreRead

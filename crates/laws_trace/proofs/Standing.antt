@@ -1,20 +1,14 @@
 -- How a link stands, to whoever watches it: over runs.
-use Rattle.laws_trace.proofs.Vocabulary.{arith, ◌≡◌, ℕ, ◌==◌, ◌&&◌, ◌||◌, Bool, true, false, cond, List, Option, Some, None, refl, sym, ap, ◌∙◌, subst, eq-eqb, inl, inr, true≢false, fold, not, is_some, list_any, option_map_or, and_parts, Service, Parts, same_service, Terms, restarts, Link, is_multiple_frame, Config, request, Answer, Line, place_in, link_in, link_of, terms, aim_of, unless_refused, at_requested, IsInRange, notes_of, is_data_of, is_granted, IsBy, not-refused, eqb-true, fresh_link as fresh, Event, told, line_after as after, answer, Request, SetBusy, ClearBusy, IsSound, is_own, Seen, seen, is_for}
+use Rattle.laws_trace.proofs.Vocabulary.{arith, ◌≡◌, ℕ, ◌==◌, ◌&&◌, ◌||◌, Bool, true, false, cond, List, Option, Some, None, refl, sym, ap, ◌∙◌, subst, eq-eqb, inl, inr, true≢false, fold, not, is_some, list_any, option_map_or, and_parts, Service, Parts, same_service, Terms, restarts, Link, is_multiple_frame, Config, request, Answer, Line, place_in, link_in, link_of, terms, aim_of, unless_refused, at_requested, IsInRange, notes_of, is_data_of, is_granted, IsBy, not-refused, eqb-true, fresh_link as fresh, Event, told, line_after as after, answer, Request, SetBusy, ClearBusy, IsSound, is_own, Seen, seen, is_for, service-same, link_told}
 use Rattle.laws_link.specs.Flags as flags
 use Rattle.model_link.specs.Events as link
-use Rattle.model_link.specs.Machine as links
 use Rattle.laws_trace.proofs.DeliveriesWatched.{Standing, busy_asked, is_information, brings_information, stand}
 use Rattle.laws_trace.proofs.Counting.{begins_by, begins, counted}
-use Rattle.laws_trace.proofs.CommandsCaused.{same-itself}
 use Rattle.laws_trace.proofs.Deliveries.{frame_by, brings-frame, brings-none, one-begins, heard-by}
 use Rattle.laws_trace.proofs.DeliveriesRun.{IsCount, event-aims, data-noted, event-told, no-data, ended-notes}
 use Rattle.laws_trace.proofs.OneLink.{HasOne, HasNone, Goes, is_at_link, event-goes}
 use Rattle.laws_trace.proofs.StandingOfLink.{quiet, calm, IsStanding, brings, busy_behind, rejected_behind, link-stands, delivers-free}
 use Rattle.laws_trace.proofs.Facts.{never}
-
--- However a fresh link is said to stand.
-pub fresh-stands : (busy rejected : Bool) → IsStanding fresh busy rejected
-fresh-stands busy rejected = grind (arith, never)
 
 module _ (service : Service) (tei : ℕ) where
   abbrev pub granted_busy : Request → Answer → Bool → Bool
@@ -47,22 +41,12 @@ module _ (service : Service) (tei : ℕ) where
 
   -- What an event of the line is to its link.
   module _ (c : Config) (e : Event) (a : Answer) where
-    own-true : is_own service tei service tei ≡ true
-    own-true = ap (λ b. b && tei == tei) (same-itself service) ∙ eq-eqb tei tei refl
-
     brings-is : (le : link.Event) → IsBy c e a service tei le → brings_information service tei (frame_by c e) ≡ brings le
-    brings-is (link.received (link.frame f)) by =
-        let x = brings-frame c e a service tei f by in
-        ap (brings_information service tei) x.0 ∙ ap (λ b. b && is_information f.control) x.1
-    brings-is (link.received link.undefined) by = ap (brings_information service tei) (brings-none c e a service tei link.undefined by)
-    brings-is (link.received link.wrong_size) by = ap (brings_information service tei) (brings-none c e a service tei link.wrong_size by)
-    brings-is (link.received link.overlong) by = ap (brings_information service tei) (brings-none c e a service tei link.overlong by)
-    brings-is (link.requested asked full) by = ap (λ e. brings_information service tei (frame_by c e)) by.0
-    brings-is link.cleared by = absurd by
-    brings-is other by = ap (λ e. brings_information service tei (frame_by c e)) by
+    brings-is (link.received (link.frame f)) by = grind (arith, brings-frame, brings_information, is_information)
+    brings-is le by = grind (arith, brings_information, brings-none, frame_by)
 
     asked-is : (le : link.Event) (busy : Bool) → IsBy c e a service tei le → asked_busy e a busy ≡ flags.busy_asked le busy
-    asked-is le busy by = grind (arith, heard-by, own-true, never)
+    asked-is le busy by = grind (arith, heard-by, service-same, eq-eqb, never)
 
   -- A request for a link that is on the line is an event of this link.
   module _ (c : Config) (l : Line) (place : ℕ) (on : place_in l tei ≡ Some place) where
@@ -115,7 +99,7 @@ module _ (service : Service) (tei : ℕ) where
       one-restarts = ap (begins service tei (frame_by c e)) x.notes ∙ one-begins c e a service tei x.event x.by own
 
       abbrev delivers : Bool
-      delivers = is_some (links.told t x.event own).delivered
+      delivers = is_some (link_told t x.event own).delivered
 
       pub busy-is : now.busy ≡ busy_behind (restarts t x.event own) x.event busy
       busy-is = grind (arith, one-restarts, asked-is)
@@ -132,21 +116,20 @@ module _ (service : Service) (tei : ℕ) where
       one-stands = grind (arith, both-are, busy_behind, rejected_behind, busy-is, rejected-is, link-stands)
 
       one-free : list_any (is_data_of service tei) (notes_of a) ≡ true → asked_busy e a busy ≡ false
-      one-free some = go (links.told t x.event own).delivered refl
+      one-free some = go (link_told t x.event own).delivered refl
         where
-          go : (o : Option (List ℕ)) → (links.told t x.event own).delivered ≡ o → asked_busy e a busy ≡ false
+          go : (o : Option (List ℕ)) → (link_told t x.event own).delivered ≡ o → asked_busy e a busy ≡ false
           go None is = absurd (true≢false (sym some ∙ data-noted c ranged l s e service tei m count x ∙ ap is_some is))
           go (Some contents) is =
               let y = delivers-free t own busy x.event contents is in
               asked-is c e a x.event busy x.by ∙ y.2 ∙ sym (stands.busy_is y.0) ∙ y.1
 
     anew-stands : link_of service tei (after c e l) ≡ fresh → Stands (link_of service tei (after c e l))
-    anew-stands new = subst Stands (sym new) (fresh-stands now.busy now.rejected)
+    anew-stands new = subst Stands (sym new) (grind (arith, never))
 
     module _ (x : HasNone c service tei e l (after c e l) a) where
       on-line : (o : Option ℕ) → place_in l tei ≡ o → is_multiple_frame own.state ≡ true → (place : ℕ) × (place_in l tei ≡ Some place)
-      on-line (Some place) on up = (place, on)
-      on-line None off up = absurd (true≢false (sym up ∙ ap (λ o. is_multiple_frame (option_map_or (link_in l service) o fresh).state) off))
+      on-line o on up = grind arith
 
       not-for : (f : Parts) → frame_by c e ≡ Some f → is_multiple_frame own.state ≡ true → (b : Bool) → is_for service tei f.address ≡ b → is_for service tei f.address ≡ false
       not-for f is up false other = other
@@ -170,20 +153,14 @@ module _ (service : Service) (tei : ℕ) where
       rejected-stays : is_multiple_frame own.state ≡ true → now.rejected ≡ rejected
       rejected-stays up = grind (arith, by-frame, frame_by, brings_information, untold)
 
-      none-stands : Stands (link_of service tei (after c e l))
-      none-stands = grind (arith, busy-stays, rejected-stays, anew-stands)
-
     -- So of every event.
     pub event-stands : Stands (link_of service tei (after c e l)) × (list_any (is_data_of service tei) (notes_of a) ≡ true → asked_busy e a busy ≡ false)
     event-stands = go (event-goes c e l service tei s)
       where
         go : Goes c service tei e l (after c e l) a → Stands (link_of service tei (after c e l)) × (list_any (is_data_of service tei) (notes_of a) ≡ true → asked_busy e a busy ≡ false)
-        go (inl x) = (none-stands x, λ some. absurd (no-data c ranged l s e service tei m count x some))
+        go (inl x) = ((grind (arith, busy-stays, rejected-stays, anew-stands)), λ some. absurd (no-data c ranged l s e service tei m count x some))
         go (inr (inl x)) = (one-stands x, one-free x)
         go (inr (inr x)) = (
           anew-stands x.is,
           λ some. absurd (true≢false (sym some ∙ ended-notes c ranged l s e service tei m count (is_data_of service tei) (λ s n. refl) (λ s n. refl) x)),
         )
-
-    pub event-counts : IsCount (link_of service tei (after c e l)) now.told.count
-    event-counts = (event-told c ranged l s e service tei m count).1

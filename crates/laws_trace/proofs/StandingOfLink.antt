@@ -1,6 +1,5 @@
 -- How a link stands behind an event: own busy, and whether REJ stands.
-use Rattle.laws_trace.proofs.Vocabulary.{arith, ◌≡◌, ℕ, ◌&&◌, ◌||◌, Bool, true, false, cond, List, [], ◌++◌, Some, None, refl, sym, ap, ◌∙◌, not, is_some, nat_le, and_parts, and_right, or_parts, or_from, or_right, none-some, Seq, Information, Sabme, Ua, Parts, State, AwaitingEstablishment, ControlFrame, Terms, Arrived, is_eligible, restarts, eligible, Received, overlong, received, expired, requested, offer, cleared, Link, is_multiple_frame, delivery, event-delivers, delivered-at_once, flag_left, busy_asked, own_busy_left, rejecting_heard, takes_contents, unless_put, owed_in, owed_behind, pending_left, as_heard, is_anew, is_clearing, leads_by_sabme, leads_by_agreement, comes_to, numbers_begin, state_after, as_response, receipt_as, put, event-follows, Control, LinkEvent as Event, frame, LinkEstablish as Establish, LinkRelease as Release, LinkData as Data, LinkSetBusy as SetBusy, LinkClearBusy as ClearBusy}
-use Rattle.model_link.specs.Machine as links
+use Rattle.laws_trace.proofs.Vocabulary.{arith, ◌≡◌, ℕ, ◌&&◌, ◌||◌, Bool, true, false, cond, List, [], ◌++◌, Some, None, refl, sym, ap, ◌∙◌, not, is_some, nat_le, and_parts, and_right, or_parts, or_from, or_right, none-some, Seq, Information, Sabme, Ua, Parts, State, AwaitingEstablishment, ControlFrame, Terms, Arrived, is_eligible, restarts, eligible, Received, overlong, received, expired, requested, offer, cleared, Link, is_multiple_frame, delivery, event-delivers, delivered-at_once, flag_left, busy_asked, own_busy_left, rejecting_heard, takes_contents, unless_put, owed_in, owed_behind, pending_left, as_heard, is_anew, is_clearing, leads_by_sabme, leads_by_agreement, comes_to, numbers_begin, state_after, as_response, receipt_as, put, event-follows, Control, LinkEvent as Event, frame, LinkEstablish as Establish, LinkRelease as Release, LinkData as Data, LinkSetBusy as SetBusy, LinkClearBusy as ClearBusy, link_told, link_after}
 use Rattle.laws_trace.proofs.Counting.{Watched}
 use Rattle.laws_trace.proofs.DeliveriesWatched.{Standing, is_information}
 use Rattle.laws_trace.proofs.Begins.{in-state, up-before}
@@ -25,28 +24,19 @@ module _ (t : Terms) (x flag : Bool) where
   Off e l =
       numbers_begin e l.state (state_after t e l) ≡ true → (is_awaiting l.state ≡ true → flag ≡ false) → flag_left e l (state_after t e l) x flag ≡ false
 
-  off-sabme : (f : Parts) (p : Bool) (here : State) (l : Link) → Off (received (frame (record f { control = Sabme p }))) (record l { state = here })
-  off-sabme f p here l is h = grind (arith, never)
-
-  off-ua : (f : Parts) (here : State) (l : Link) → Off (received (frame (record f { control = Ua true }))) (record l { state = here })
-  off-ua f here l is h = grind (arith, never)
-
   pub off-where-begun : (e : Event) (l : Link) → Off e l
-  off-where-begun e l is h = grind (arith, in-state, off-sabme, off-ua, never, or_right)
+  off-where-begun e l is h = grind (arith, in-state, never, or_right)
 
   -- and so it is in state 5;
   off-awaiting : (e : Event) (from to : State) (l : Link) → is_awaiting to ≡ true → (is_awaiting from ≡ true → flag ≡ false) → flag_left e (record l { state = from }) to x flag ≡ false
   off-awaiting e from to l is h = grind (arith, never)
 
   -- while the link stays up, it is as the event leaves it.
-  not-five : (from to : State) → is_multiple_frame to ≡ true → comes_to 5 from to ≡ false
-  not-five from to up = grind (arith, and_right, never)
-
   not-anew : (e : Event) (from to : State) → is_multiple_frame to ≡ true → numbers_begin e from to ≡ false → is_anew e from to ≡ false
   not-anew e from to up on =
       let first = or_parts (leads_by_sabme e to) (leads_by_agreement e from to || is_clearing e) on in
       let second = or_parts (leads_by_agreement e from to) (is_clearing e) first.1 in
-      or_from (comes_to 5 from to) (leads_by_sabme e to || is_clearing e) (not-five from to up) (or_from (leads_by_sabme e to) (is_clearing e) first.0 second.1)
+      or_from (comes_to 5 from to) (leads_by_sabme e to || is_clearing e) (grind (arith, and_right, never)) (or_from (leads_by_sabme e to) (is_clearing e) first.0 second.1)
 
   pub as-left : (e : Event) (l : Link) (to : State) → is_multiple_frame l.state ≡ true → is_multiple_frame to ≡ true → numbers_begin e l.state to ≡ false → flag_left e l to x flag ≡ x
   as-left e l to was up on = grind (arith, not-anew)
@@ -75,26 +65,8 @@ module _ (t : Terms) (l : Link) (to : State) (pends : l.pending ≡ true → l.o
   off-all : (anew up busy : Bool) → busy ≡ false → cond anew false (cond up busy busy) ≡ false
   off-all anew up busy off = grind arith
 
-  owed-is : (frames : List ControlFrame) (owed : Bool) → owed_behind frames owed ≡ true → owed ≡ true
-  owed-is frames owed is = grind (arith, never)
-
-  set-put : (up busy : Bool) (rest : List ControlFrame) → up ≡ true → busy ≡ false → cond (up && not busy) (as_response (receipt_as true l.r false)) [] ++ rest ≡ [] → ⊥
-  set-put up busy rest o off none = grind arith
-
   still-free : (e : Event) → pending_left e l to ≡ true → own_busy_left e l to ≡ false
-  still-free (received r) is =
-      let e = received r in
-      free (is_anew e l.state to) (is_multiple_frame l.state) (Owed e) l.pending l.own_busy l.own_busy
-      (λ up owed. by-either r (takes_contents e l) refl (owed-so e owed).1) pends is
-  still-free (expired timer) is = grind (arith, free, owed-so)
-  still-free (requested Establish full) is = grind (arith, free, owed-so)
-  still-free (requested Release full) is = grind (arith, free, owed-so)
-  still-free (requested (Data contents) full) is = grind (arith, free, owed-so)
-  still-free (requested SetBusy full) is = grind (arith, free, owed-so, set-put)
-  still-free (requested ClearBusy full) is = grind (arith, free)
-  still-free offer is = off-all (is_anew offer l.state to) (is_multiple_frame l.state) l.own_busy (pends (owed-is l.waiting l.pending is))
-  still-free cleared is =
-      free (is_anew cleared l.state to) (is_multiple_frame l.state) (Owed cleared) l.pending l.own_busy l.own_busy (λ up owed. pends (owed-so cleared owed).1) pends is
+  still-free e is = grind (arith, free, by-either, owed-so, off-all, never)
 
 -- What whoever watches the link has in mind of it.
 pub record IsStanding (k : Link) (busy rejected : Bool) : Type 0 where
@@ -123,20 +95,15 @@ module _ (t : Terms) (l : Link) (up : is_multiple_frame l.state ≡ true) where
       is_multiple_frame (state_after t (as_heard t e) l) ≡ true
       → rejecting_heard (as_heard t e) l ≡ rejected_behind false (takes_contents (as_heard t e) l) e l.own_busy l.rejecting
 
-  by-size : (f : Parts) (ns nr : Seq) (p b : Bool) → let r = cond b overlong (frame (record f { control = Information ns nr p })) in
-      is_multiple_frame (state_after t (received r) l) ≡ true
-      → rejecting_heard (received r) l ≡ rejected_behind false (takes_contents (received r) l) (received (frame (record f { control = Information ns nr p }))) l.own_busy l.rejecting
-  by-size f ns nr p b stays = grind (arith, never)
-
   by-control : (f : Parts) (control : Control) → Same (received (frame (record f { control = control })))
-  by-control f control = grind (arith, by-size)
+  by-control f control = grind (arith, never)
 
   rejecting-same : (e : Event) → Same e
   rejecting-same e = grind (arith, by-control)
 
 module _ (t : Terms) (e : Event) (l : Link) (busy rejected : Bool) (stands : IsStanding l busy rejected) where
   abbrev next : Link
-  next = links.after t e l
+  next = link_after t e l
 
   abbrev heard : Event
   heard = as_heard t e
@@ -145,7 +112,7 @@ module _ (t : Terms) (e : Event) (l : Link) (busy rejected : Bool) (stands : IsS
   to = state_after t heard l
 
   abbrev delivers : Bool
-  delivers = is_some (links.told t e l).delivered
+  delivers = is_some (link_told t e l).delivered
 
   state-is : next.state ≡ to
   state-is = (event-follows t e l).leaves.state
@@ -159,28 +126,13 @@ module _ (t : Terms) (e : Event) (l : Link) (busy rejected : Bool) (stands : IsS
   rejecting-is : next.rejecting ≡ flag_left heard l to (rejecting_heard heard l) l.rejecting
   rejecting-is = (event-follows t e l).leaves.rejecting ∙ ap (λ s. flag_left heard l s (rejecting_heard heard l) l.rejecting) state-is
 
-  up-is : is_multiple_frame next.state ≡ true → is_multiple_frame to ≡ true
-  up-is up = ap is_multiple_frame (sym state-is) ∙ up
-
   busy-behind : is_multiple_frame next.state ≡ true → (b : Bool) → restarts t e l ≡ b → next.own_busy ≡ busy_behind b e busy
-  busy-behind up b is = grind (arith, own-is, off-where-begun, begin-is, up-before, as-left, up-is)
-
-  rejected-behind : is_multiple_frame next.state ≡ true → (b : Bool) → restarts t e l ≡ b → next.rejecting ≡ rejected_behind b delivers e busy rejected
-  rejected-behind up true is = rejecting-is ∙ off-where-begun t (rejecting_heard heard l) l.rejecting heard l (sym begin-is ∙ is) stands.not_rejecting
-  rejected-behind up false is =
-      let was = up-before t e l up is in
-      let taken : delivers ≡ takes_contents heard l = delivered is ∙ taken-is t l was e in
-      rejecting-is ∙ as-left t (rejecting_heard heard l) l.rejecting heard l to was (up-is up) (sym begin-is ∙ is) ∙ rejecting-same t l was e (up-is up)
-      ∙ ap (λ d. rejected_behind false d e l.own_busy l.rejecting) (sym taken) ∙ ap (λ b. rejected_behind false delivers e b l.rejecting) (stands.busy_is was)
-      ∙ ap (rejected_behind false delivers e busy) (stands.rejected_is was)
-    where
-      delivered : restarts t e l ≡ false → delivers ≡ is_some (delivery l.r (eligible t e l))
-      delivered on = grind (arith, event-delivers, is_some)
+  busy-behind up b is = grind (arith, own-is, off-where-begun, begin-is, up-before, as-left, state-is)
 
   pub link-stands : IsStanding next (busy_behind (restarts t e l) e busy) (rejected_behind (restarts t e l) delivers e busy rejected)
   link-stands = record {
     busy_is = λ up. busy-behind up (restarts t e l) refl;
-    rejected_is = λ up. rejected-behind up (restarts t e l) refl;
+    rejected_is = λ up. grind (arith, rejecting-is, off-where-begun, begin-is, up-before, taken-is, as-left, state-is, rejecting-same, is_some, event-delivers);
     not_busy = λ at. own-is ∙ off-awaiting t (busy_asked heard l.own_busy) l.own_busy heard l.state to l (ap is_awaiting (sym state-is) ∙ at) stands.not_busy;
     not_rejecting = λ at. rejecting-is ∙ off-awaiting t (rejecting_heard heard l) l.rejecting heard l.state to l (ap is_awaiting (sym state-is) ∙ at) stands.not_rejecting;
     pends_up = pends-up t e l stands.pends_up;
@@ -198,5 +150,5 @@ module _ (t : Terms) (l : Link) (busy : Bool) where
   by-event : (e : Event) (i : Arrived) → eligible t e l ≡ Some i → Free e
   by-event e i is = grind (arith, none-some)
 
-  pub delivers-free : (e : Event) (contents : List ℕ) → (links.told t e l).delivered ≡ Some contents → Free e
+  pub delivers-free : (e : Event) (contents : List ℕ) → (link_told t e l).delivered ≡ Some contents → Free e
   delivers-free e contents is = let x = delivered-at_once t e l contents is in by-event e x.0 x.1

@@ -91,35 +91,6 @@ module _ (t : Terms) where
   pub answers : (b : Bool) → Acts (by_bit b (answer t) nothing) itself
   answers b = either-bit b (answer t) nothing itself (record { acts = λ c. refl }) (record { acts = λ c. refl })
 
-  -- an I-frame, and a supervisory frame
-  pub information-acts : (ns nr : Seq) (p : Bool) (octets : List ℕ) (effect : ℕ → Step) (F : ℕ → Timing → Timing) → ((n : ℕ) → Acts (effect n) (F n))
-      → Acts (information_in_7_8 t ns nr p octets effect) (informs (nat_lt t.n201 (length octets)) nr F)
-  information-acts ns nr p octets effect F h = grind (arith, by-bit, both, whichever, answers, either-bit, by-number)
-
-  pub supervisory-acts : (own : Particulars) (busy command pf : Bool) (nr : Seq) (effect : Bool → ℕ → Step) (F : ℕ → Timing → Timing)
-      → ((b : Bool) → Acts (own.told_of b) itself) → ((n : ℕ) → Acts (effect (is_final command pf) n) (F n))
-      → Acts (supervisory t own busy command pf nr effect) (supervises busy nr F)
-  supervisory-acts own busy command pf nr effect F told h = grind (arith, both, answers, by-number)
-
-  -- What a valid N(R) does.
-  pub acknowledged-acts : (n : ℕ) → Acts (seven.acknowledged_in_7 n) (acknowledged n)
-  acknowledged-acts n = grind arith
-
-  pub informed-acts : (n : ℕ) → Acts (seven.acknowledged_by_information_in_7 n) (informed n)
-  informed-acts n = grind (arith, acknowledged-acts)
-
-  pub recovers-acts : (timer : LinkTimer) (final : Bool) (n : ℕ) → Acts (eight.acknowledged_in_8 timer final n) (recovers timer final n)
-  recovers-acts timer final n = grind arith
-
   -- SABME in states 7 and 8, and UA in state 5
   pub sabme-acts : (p : Bool) → Acts (sabme_in_7_8 t p) (λ x. with_busy false (begins x))
   sabme-acts p = grind arith
-
-  pub agreed-acts : Acts (five.frame_in_5 t [] (Ua true)) begins
-  agreed-acts = record { acts = λ c. go c (is_asked c.link) (has_outstanding c.link) }
-    where
-      go : (c : Course) (asked outstanding : Bool) →
-          timing ((zero_numbers then start T203 then enter Established)
-          (cond asked (establish_confirm t c) (cond outstanding ((discard then establish_indication t) c) c)))
-          ≡ begins (timing c)
-      go c asked outstanding = grind arith

@@ -86,8 +86,7 @@ module _ (k : Known) (ran : LinkTimer → Bool) (a s : ℕ) (busy : Bool) (r : O
   module _ (only : ran T203 ≡ false) where
     by-t200 : (y : Timing) (from : State) (o : Option Control) → (ran T200 ≡ true → runs T200 y.running ≡ true → runs T200 y.started ≡ anew_by T200 from y.state k o)
         → (timer : LinkTimer) → ran timer ≡ true → runs timer y.running ≡ true → runs timer y.started ≡ anew_by timer from y.state k o
-    by-t200 y from o h T200 was now = h was now
-    by-t200 y from o h T203 was now = not-both (ran T203) only was
+    by-t200 y from o h timer was now = grind (arith, not-both)
 
     pub same-5 : (o : Option Control) → Good k ran (at AwaitingEstablishment) (at AwaitingEstablishment) o
     same-5 o = record { agrees = refl; anew = λ timer was now. refl; kept = (refl, refl) }
@@ -110,11 +109,7 @@ module _ (k : Known) (ran : LinkTimer → Bool) (a s : ℕ) (busy : Bool) (r : O
       sabme-8 p = grind (arith, by-t200, with_busy, begins, not-t200)
 
       pub informed-8 : (over : Bool) (ns nr : Seq) (p : Bool) → Good k ran (at TimerRecovery) (informs over nr acknowledges (at TimerRecovery)) (Some (Information ns nr p))
-      informed-8 true ns nr p = failed-8 busy (Some (Information ns nr p))
-      informed-8 false ns nr p = go (named a s nr) refl
-        where
-          go : (o : Option ℕ) → named a s nr ≡ o → Good k ran (at TimerRecovery) (by_name o fails acknowledges (at TimerRecovery)) (Some (Information ns nr p))
-          go o is = grind (arith, failed-8, seq-value, named-is_seq)
+      informed-8 over ns nr p = grind (arith, failed-8, by_name, fails, acknowledges, seq-value, named-is_seq)
 
       -- RR, RNR and REJ: a response with F=1 ends the recovery
       pub supervised-8 : (b : Bool) (timer : LinkTimer) (o : Option Control) (nr : Seq) → option_map_or (listens false false k) o k ≡ number_heard nr.value false b k
@@ -134,16 +129,12 @@ module _ (k : Known) (ran : LinkTimer → Bool) (a s : ℕ) (busy : Bool) (r : O
     pub failed-7 : (b : Bool) (o : Option Control) → Good k ran (at Established) (fails (with_busy b (at Established))) o
     failed-7 b o = record { agrees = refl; anew = λ timer was now. failing b o timer now; kept = (refl, refl) }
 
-    by-t203 : (o : Option Control) (timer : LinkTimer) → renews T203 k (Sabme true) ≡ true → option_map_or (renews T203 k) o false ≡ true → runs timer (Some T203) ≡ true
-        → runs timer (Some T203) ≡ anew_by timer Established Established k o
-    by-t203 o timer h renewed now = grind (arith, not-t200)
-
     by-t200-7 : (o : Option Control) (timer : LinkTimer) → option_map_or (renews T200 k) o false ≡ true → runs timer (Some T200) ≡ true
         → runs timer (Some T200) ≡ anew_by timer Established Established k o
     by-t200-7 o timer renewed now = grind arith
 
     pub sabme-7 : (p : Bool) → Good k ran (at Established) (with_busy false (begins (at Established))) (Some (Sabme p))
-    sabme-7 p = grind (arith, by-t203)
+    sabme-7 p = grind (arith, not-t200)
 
     value-7 : (nr : Seq) (n : ℕ) → named a s nr ≡ Some n → nr.value ≡ n % 128
     value-7 nr n is = seq-value nr n (named-is_seq a s n nr is)
@@ -179,7 +170,7 @@ module _ (k : Known) (ran : LinkTimer → Bool) (a s : ℕ) (busy : Bool) (r : O
 
           go : (all : Bool) → (n == s) ≡ all → (more : Bool) → nat_lt a n ≡ more
               → Good k ran (at Established) (cond all (starts T203 (acknowledges n x)) (cond more (starts T200 (acknowledges n x)) x)) o
-          go true e more f = record { agrees = numbers n refl; anew = λ timer was now. by-t203 o timer refl t203_by now; kept = tt }
+          go true e more f = record { agrees = numbers n refl; anew = λ timer was now. grind (arith, not-t200); kept = tt }
           go false e true f = record {
             agrees = numbers n refl;
             anew = λ timer was now. by-t200-7 o timer (t200_by ∙ other-number nr n is (ltb-true a n f)) now;
@@ -200,11 +191,7 @@ module _ (k : Known) (ran : LinkTimer → Bool) (a s : ℕ) (busy : Bool) (r : O
 
     pub not-ready-7 : (nr : Seq) (p : Bool)
         → Good k ran (at Established) (supervises true nr (λ n x. starts T200 (acknowledges n x)) (at Established)) (Some (ReceiveNotReady nr p))
-    not-ready-7 nr p = go (named a s nr) refl
-      where
-        go : (o : Option ℕ) → named a s nr ≡ o
-            → Good k ran (at Established) (by_name o fails (λ n x. starts T200 (acknowledges n x)) (with_busy true (at Established))) (Some (ReceiveNotReady nr p))
-        go o is = grind (arith, failed-7, value-7, by-t200-7)
+    not-ready-7 nr p = grind (arith, by_name, fails, starts, acknowledges, with_busy, failed-7, value-7, by-t200-7)
 
     pub reject-7 : (nr : Seq) (p : Bool)
         → Good k ran (at Established) (supervises false nr (λ n x. record (starts T203 x) { a = n; s = n }) (at Established)) (Some (Reject nr p))
@@ -212,7 +199,7 @@ module _ (k : Known) (ran : LinkTimer → Bool) (a s : ℕ) (busy : Bool) (r : O
       where
         go : (o : Option ℕ) → named a s nr ≡ o
             → Good k ran (at Established) (by_name o fails (λ n x. record (starts T203 x) { a = n; s = n }) (with_busy false (at Established))) (Some (Reject nr p))
-        go o is = grind (arith, failed-7, value-7, by-t203)
+        go o is = grind (arith, failed-7, value-7, not-t200)
 
     pub informed-7 : (over : Bool) (ns nr : Seq) (p : Bool) → Good k ran (at Established) (informs over nr informed (at Established)) (Some (Information ns nr p))
     informed-7 true ns nr p = failed-7 busy (Some (Information ns nr p))

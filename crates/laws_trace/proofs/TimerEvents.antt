@@ -39,17 +39,7 @@ module _ (t : Terms) (k : Known) (l : Link) where
   clears-busy = whichever is_own_busy _ nothing itself (record { acts = λ c. refl }) (record { acts = λ c. refl })
 
   asked : (ran : LinkTimer → Bool) (asks : Request) (full : Bool) (here : State) → Facts ran here → Row ran here (request_step t asks full) None
-  asked ran Establish full TeiAssigned facts = asked-4 k ran l.a l.s l.peer_busy l.running facts
-  asked ran Establish full Established facts = refused ran Established facts
-  asked ran Establish full TimerRecovery facts = refused ran TimerRecovery facts
-  asked ran Release full Established facts = released-7 k ran l.a l.s l.peer_busy l.running
-  asked ran Release full TimerRecovery facts = released-8 k ran l.a l.s l.peer_busy l.running
-  asked ran (Data octets) full here facts = content ran octets full here facts
-  asked ran SetBusy full Established facts = rows.unchanged t k ran l Established facts (set_busy_in_7_8 t) sets-busy
-  asked ran SetBusy full TimerRecovery facts = rows.unchanged t k ran l TimerRecovery facts (set_busy_in_7_8 t) sets-busy
-  asked ran ClearBusy full Established facts = rows.unchanged t k ran l Established facts (clear_busy_in_7_8 t) clears-busy
-  asked ran ClearBusy full TimerRecovery facts = rows.unchanged t k ran l TimerRecovery facts (clear_busy_in_7_8 t) clears-busy
-  asked ran other full any facts = refused ran any facts
+  asked ran asks full here facts = grind (arith, facts, asked-4, refused, released-7, released-8, content, rows.unchanged, sets-busy, clears-busy)
 
   -- Expiries, by the timer that runs.
   abbrev with_running : State → Option LinkTimer → Link
@@ -70,17 +60,9 @@ module _ (t : Terms) (k : Known) (l : Link) where
   expires-5 : (timer : LinkTimer) → Expires timer AwaitingEstablishment (Some T200)
   expires-5 timer = grind (arith, same-5, Good, timing, ended)
 
-  expires-6 : (timer : LinkTimer) → Expires timer AwaitingRelease (Some T200)
-  expires-6 timer = grind (arith, same-6, Good, timing, stopped)
-
   -- and in state 8
   expires-8 : IsKnown k l.a l.s l.peer_busy → (timer : LinkTimer) → Expires timer TimerRecovery (Some T200)
   expires-8 known timer = grind (arith, same-8, Good, timing, failed-8)
-
-  -- either in state 7
-  expires-7 : IsKnown k l.a l.s l.peer_busy → l.a ≤ l.s → l.s ≤ l.a + 127 → (timer running : LinkTimer) → (running ≡ T203 → (l.s ≡ l.a) × (l.peer_busy ≡ false))
-      → Expires timer Established (Some running)
-  expires-7 known ordered within timer running idle = grind (arith, same-7)
 
 -- A link that runs the timer that it needs.
 module _ (t : Terms) (k : Known) (l : Link) (s : IsSound t l) (small : t.k ≤ 127) (timed : HasItsTimer l) (agrees : Agrees l.state k l.a l.s l.peer_busy) where
@@ -91,33 +73,15 @@ module _ (t : Terms) (k : Known) (l : Link) (s : IsSound t l) (small : t.k ≤ 1
   idle : (r : Option LinkTimer) → r ≡ needed_in Established l → runs T203 r ≡ true → (l.s ≡ l.a) × (l.peer_busy ≡ false)
   idle r is now = grind (arith, eqb-true)
 
-  facts-in : (here : State) → l.running ≡ needed_in here l → IsCalmIn here l → Agrees here k l.a l.s l.peer_busy → rows.Facts t k (ran_with l.running) l here
-  facts-in here is calm known = grind (arith, within, idle)
-
   facts : rows.Facts t k (ran_with l.running) l l.state
-  facts = facts-in l.state timed.running timed.calm agrees
+  facts = grind (arith, within, idle)
 
   expires-in : (timer : LinkTimer) (here : State) → l.running ≡ needed_in here l → Agrees here k l.a l.s l.peer_busy → Expires t k l timer here l.running
   expires-in timer TeiAssigned is known = subst (Expires t k l timer TeiAssigned) (sym is) (expires-4 t k l timer)
-  expires-in timer AwaitingEstablishment is known = subst (Expires t k l timer AwaitingEstablishment) (sym is) (expires-5 t k l timer)
-  expires-in timer AwaitingRelease is known = subst (Expires t k l timer AwaitingRelease) (sym is) (expires-6 t k l timer)
-  expires-in timer TimerRecovery is known = subst (Expires t k l timer TimerRecovery) (sym is) (expires-8 t k l known timer)
-  expires-in timer Established is known = go (not (l.s == l.a) || l.peer_busy) refl
-    where
-      go : (b : Bool) → (not (l.s == l.a) || l.peer_busy) ≡ b → Expires t k l timer Established l.running
-      go true waits = grind (arith, expires-7, within)
-      go false waits =
-          let running : l.running ≡ Some T203 = is ∙ ap (λ b. cond b (Some T200) (Some T203)) waits in
-          subst (Expires t k l timer Established) (sym running) (expires-7 t k l known s.ordered within timer T203 (λ e. idle l.running is (ap (runs T203) running)))
+  expires-in timer here is known = grind (arith, expires-5, same-6, timing, stopped, expires-8, same-7, within, idle)
 
   -- Any event but an offer, and the end of the TEI.
   pub event-good : (e : Event) → (e ≡ offer → ⊥) → (e ≡ cleared → ⊥)
       → Good k (ran_before e l.running) (timing (begun l)) (timing (course t e l)) (control_of e)
   event-good (received (frame f)) a b = rows.by-frame t k (ran_with l.running) l l.state facts f.address.command f.info f.control
-  event-good (received undefined) a b = rows.malformed t k (ran_with l.running) l l.state facts L
-  event-good (received wrong_size) a b = rows.malformed t k (ran_with l.running) l l.state facts N
-  event-good (received overlong) a b = rows.malformed t k (ran_with l.running) l l.state facts O
-  event-good (expired timer) a b = expires-in timer l.state timed.running agrees
-  event-good (requested asks full) a b = asked t k l (ran_with l.running) asks full l.state facts
-  event-good offer a b = absurd (a refl)
-  event-good cleared a b = absurd (b refl)
+  event-good e a b = grind (arith, rows.malformed, facts, expires-in, asked)

@@ -19,9 +19,6 @@ pub record Offered (k : Known) (l : Link) (y : Timing) (o : Option Sent) : Type 
 abbrev pub given_sent : Given → Option Sent
 given_sent g = sent_by g.frame.control (unwrap_or g.contents [])
 
-pub same-known : (here : State) (k : Known) (a s : ℕ) (busy : Bool) → Agrees here k a s busy → Agrees here (sent_known here k None) a s busy
-same-known here k a s busy h = grind arith
-
 one-more : (here : State) (k : Known) (a s : ℕ) (busy : Bool) (sent : Sent) → is_established here ≡ true → sent.ns ≡ s % 128 → Agrees here k a s busy
     → Agrees here (sent_known here k (Some sent)) a (s + 1) busy
 one-more here k a s busy sent up ns h = grind arith
@@ -35,27 +32,13 @@ module _ (t : Terms) (k : Known) (l : Link) (s : IsSound t l) (agrees : Agrees l
 
   -- nothing but what goes changes
   stays : (c : Course) → timing c ≡ timing (begun l) → option_map_or given_sent (given_of t l c c.sent) None ≡ None → Claim c
-  stays c same none = grind (arith, timing, same-known)
+  stays c same none = grind (arith, timing)
 
   by-waiting : (ws : List ControlFrame) → All (IsWaitingFrame t) ws → Claim (offer_among t ws (begun l))
   unfolding seq
   by-waiting (f ∷ fs) all =
       stays (give_waiting f fs (begun l)) refl (none-sent f.control [] (All-head (IsWaitingFrame t) f fs all).without_contents)
-  by-waiting [] all = by-send (may_send_information t l) refl
-    where
-      sent : Course
-      sent = record (begun l) { link = record l { s = l.s + 1; pending = false }; sent = Some (record { frame = next_information l; contents = first_unsent l }) }
-
-      went : is_established l.state ≡ true
-          → Agrees l.state (sent_known l.state k (Some (record { ns = l.s % 128 }))) l.a (l.s + 1) l.peer_busy
-      went up = one-more l.state k l.a l.s l.peer_busy (record { ns = l.s % 128 }) up refl agrees
-
-      by-timer : is_established l.state ≡ true → (b : Bool) → runs T200 l.running ≡ b → Claim (cond b sent (start T200 sent))
-      by-timer up b on = grind (arith, went, timing, sent)
-
-      by-send : (b : Bool) → may_send_information t l ≡ b
-          → Claim (cond b (send_information (begun l)) (cond l.pending (send_acknowledgement (begun l)) (begun l)))
-      by-send b may = grind (arith, by-timer, first-of, stays)
+  by-waiting [] all = grind (arith, one-more, timing, first-of, stays)
 
   pub offer-good : Offered k l (timing (course t offer l)) (option_map_or given_sent (given t l) None)
   offer-good = by-waiting l.waiting s.frames

@@ -3,7 +3,7 @@ use Rattle.laws_trace.proofs.Vocabulary.{arith, ◌≡◌, ℕ, ◌≤◌, ◌+�
 use Rattle.model_link.specs.Established as seven
 use Rattle.model_link.specs.TimerRecovery as eight
 use Rattle.laws_trace.proofs.TimersWatched.{Known, nothing_yet, listens, renews}
-use Rattle.laws_trace.proofs.TimerActs.{Timing, timing, Acts, itself, either-bit, acknowledged, acknowledged-acts, acknowledges, begins, fails, information-acts, informed, informed-acts, informs, recovers, recovers-acts, sabme-acts, starts, supervises, supervisory-acts, with_busy}
+use Rattle.laws_trace.proofs.TimerActs.{Timing, timing, Acts, itself, either-bit, acknowledged, acknowledges, begins, fails, informed, informs, recovers, sabme-acts, starts, supervises, with_busy, both, by-number, answers, by-bit, whichever}
 use Rattle.laws_trace.proofs.TimerClaims.{IsKnown, Good}
 use Rattle.laws_trace.proofs.TimerClaims as claims
 
@@ -36,16 +36,10 @@ module _ (t : Terms) (k : Known) (ran : LinkTimer → Bool) (l : Link) where
   moved here o f F h good = subst (λ y. Good k ran (at here) y o) (sym (h.acts (begun (in_state here l)))) good
 
   -- State 4.
-  same-4 : ((timer : LinkTimer) → ran timer ≡ false) → (o : Option Control) → Good k ran (at TeiAssigned) (at TeiAssigned) o
-  same-4 none o = claims.same-4 k ran l.a l.s l.peer_busy l.running none o
-
   in-4 : ((timer : LinkTimer) → ran timer ≡ false) → (b : Bool) (octets : List ℕ) (control : Control) → Row TeiAssigned (frame_in TeiAssigned t b octets control) (Some control)
-  in-4 none b octets control = grind (arith, claims.sabme-4, same-4, moved, itself, unit-acts)
+  in-4 none b octets control = grind (arith, claims.sabme-4, claims.same-4, moved, itself, unit-acts)
 
   -- State 5.
-  same-5 : ran T203 ≡ false → (o : Option Control) → Good k ran (at AwaitingEstablishment) (at AwaitingEstablishment) o
-  same-5 only o = claims.same-5 k ran l.a l.s l.peer_busy l.running only o
-
   in-5 : Facts AwaitingEstablishment → (b : Bool) (octets : List ℕ) (control : Control)
       → Row AwaitingEstablishment (frame_in AwaitingEstablishment t b octets control) (Some control)
   in-5 facts b octets control = grind (arith, moved, begins, claims.agreed-5, claims.ended, itself, unit-acts)
@@ -72,34 +66,26 @@ module _ (t : Terms) (k : Known) (ran : LinkTimer → Bool) (l : Link) where
     in-7 : (b : Bool) (octets : List ℕ) (control : Control) → Row Established (frame_in Established t b octets control) (Some control)
     in-7 b octets (Information ns nr p) =
         moved Established (Some (Information ns nr p)) (frame_in Established t b octets (Information ns nr p)) (informs (nat_lt t.n201 (length octets)) nr informed)
-        (information-acts t ns nr p octets seven.acknowledged_by_information_in_7 informed (informed-acts t))
+        (grind (arith, by-bit, both, whichever, answers, either-bit, by-number))
         (claims.informed-7 k ran l.a l.s l.peer_busy l.running facts.1 facts.2 facts.0 facts.3 (nat_lt t.n201 (length octets)) ns nr p)
     in-7 b octets (ReceiveReady nr p) =
         moved Established (Some (ReceiveReady nr p)) (frame_in Established t b octets (ReceiveReady nr p)) (supervises false nr acknowledged)
-        (supervisory-acts t (seven.particulars_in_7 t) false b p nr (seven.either_way seven.acknowledged_in_7) acknowledged unsolicited (acknowledged-acts t))
+        (grind (arith, both, answers, by-number))
         (claims.ready-7 k ran l.a l.s l.peer_busy l.running facts.1 facts.2 facts.0 facts.3 nr p)
     in-7 b octets (ReceiveNotReady nr p) =
         moved Established (Some (ReceiveNotReady nr p)) (frame_in Established t b octets (ReceiveNotReady nr p))
         (supervises true nr (λ n x. starts T200 (acknowledges n x)))
-        (supervisory-acts t (seven.particulars_in_7 t) true b p nr (seven.either_way seven.acknowledged_by_rnr_in_7) (λ n x. starts T200 (acknowledges n x)) unsolicited
-        (λ n. record { acts = λ c. refl }))
+        (grind (arith, both, answers, by-number))
         (claims.not-ready-7 k ran l.a l.s l.peer_busy l.running facts.1 facts.2 facts.0 facts.3 nr p)
     in-7 b octets (Reject nr p) =
         moved Established (Some (Reject nr p)) (frame_in Established t b octets (Reject nr p)) (supervises false nr (λ n x. record (starts T203 x) { a = n; s = n }))
-        (supervisory-acts t (seven.particulars_in_7 t) false b p nr (seven.either_way seven.acknowledged_by_rej_in_7) (λ n x. record (starts T203 x) { a = n; s = n }) unsolicited
-        (λ n. record { acts = λ c. refl }))
+        (grind (arith, both, answers, by-number))
         (claims.reject-7 k ran l.a l.s l.peer_busy l.running facts.1 facts.2 facts.0 facts.3 nr p)
     in-7 b octets (Sabme p) =
         moved Established (Some (Sabme p)) (frame_in Established t b octets (Sabme p)) (λ x. with_busy false (begins x)) (sabme-acts t p)
         (claims.sabme-7 k ran l.a l.s l.peer_busy l.running facts.1 facts.2 facts.0 facts.3 p)
-    in-7 b octets (Disc p) = claims.ended k ran l.a l.s l.peer_busy l.running Established (Some (Disc p))
-    in-7 b octets (Ua f) =
-        moved Established (Some (Ua f)) (ua_in_7_8 t f) itself
-        (either-bit f (error t C) (error t D) itself (record { acts = λ c. refl }) (record { acts = λ c. refl })) (same-7 (Some (Ua f)) refl refl refl)
-    in-7 b octets (Dm false) = failed-7 (Some (Dm false))
-    in-7 b octets (Frmr f) = failed-7 (Some (Frmr f))
-    in-7 b octets (Ui p) = moved Established (Some (Ui p)) (unit_data t octets) itself (unit-acts t octets) (same-7 (Some (Ui p)) refl refl refl)
-    in-7 b octets other = same-7 (Some other) refl refl refl
+    in-7 b octets (Ua f) = grind (arith, moved, itself, either-bit, same-7)
+    in-7 b octets control = grind (arith, claims.ended, failed-7, moved, itself, unit-acts, same-7)
 
   -- State 8.
   module _ (facts : Facts TimerRecovery) where
@@ -109,42 +95,32 @@ module _ (t : Terms) (k : Known) (ran : LinkTimer → Bool) (l : Link) where
     failed-8 : (o : Option Control) → Good k ran (at TimerRecovery) (fails (at TimerRecovery)) o
     failed-8 o = claims.failed-8 k ran l.a l.s l.peer_busy l.running facts.0 facts.1 l.peer_busy o
 
-    solicited : (b : Bool) → Acts (eight.solicited b) itself
-    solicited b = record { acts = λ c. refl }
-
     in-8 : (b : Bool) (octets : List ℕ) (control : Control) → Row TimerRecovery (frame_in TimerRecovery t b octets control) (Some control)
     in-8 b octets (Information ns nr p) =
         moved TimerRecovery (Some (Information ns nr p)) (frame_in TimerRecovery t b octets (Information ns nr p))
         (informs (nat_lt t.n201 (length octets)) nr acknowledges)
-        (information-acts t ns nr p octets acknowledge acknowledges (λ n. record { acts = λ c. refl }))
+        (grind (arith, by-bit, both, whichever, answers, either-bit, by-number))
         (claims.informed-8 k ran l.a l.s l.peer_busy l.running facts.0 facts.1 (nat_lt t.n201 (length octets)) ns nr p)
     in-8 b octets (ReceiveReady nr p) =
         let final = is_final b p in
         moved TimerRecovery (Some (ReceiveReady nr p)) (frame_in TimerRecovery t b octets (ReceiveReady nr p)) (supervises false nr (recovers T203 final))
-        (supervisory-acts t (eight.particulars_in_8 t) false b p nr (eight.acknowledged_in_8 T203) (recovers T203 final) solicited (recovers-acts t T203 final))
+        (grind (arith, both, answers, by-number))
         (claims.supervised-8 k ran l.a l.s l.peer_busy l.running facts.0 facts.1 false T203 (Some (ReceiveReady nr p)) nr refl refl final)
     in-8 b octets (ReceiveNotReady nr p) =
         let final = is_final b p in
         moved TimerRecovery (Some (ReceiveNotReady nr p)) (frame_in TimerRecovery t b octets (ReceiveNotReady nr p)) (supervises true nr (recovers T200 final))
-        (supervisory-acts t (eight.particulars_in_8 t) true b p nr (eight.acknowledged_in_8 T200) (recovers T200 final) solicited (recovers-acts t T200 final))
+        (grind (arith, both, answers, by-number))
         (claims.supervised-8 k ran l.a l.s l.peer_busy l.running facts.0 facts.1 true T200 (Some (ReceiveNotReady nr p)) nr refl refl final)
     in-8 b octets (Reject nr p) =
         let final = is_final b p in
         moved TimerRecovery (Some (Reject nr p)) (frame_in TimerRecovery t b octets (Reject nr p)) (supervises false nr (recovers T203 final))
-        (supervisory-acts t (eight.particulars_in_8 t) false b p nr (eight.acknowledged_in_8 T203) (recovers T203 final) solicited (recovers-acts t T203 final))
+        (grind (arith, both, answers, by-number))
         (claims.supervised-8 k ran l.a l.s l.peer_busy l.running facts.0 facts.1 false T203 (Some (Reject nr p)) nr refl refl final)
     in-8 b octets (Sabme p) =
         moved TimerRecovery (Some (Sabme p)) (frame_in TimerRecovery t b octets (Sabme p)) (λ x. with_busy false (begins x)) (sabme-acts t p)
         (claims.sabme-8 k ran l.a l.s l.peer_busy l.running facts.0 facts.1 p)
-    in-8 b octets (Disc p) = claims.ended k ran l.a l.s l.peer_busy l.running TimerRecovery (Some (Disc p))
-    in-8 b octets (Ua f) =
-        moved TimerRecovery (Some (Ua f)) (ua_in_7_8 t f) itself
-        (either-bit f (error t C) (error t D) itself (record { acts = λ c. refl }) (record { acts = λ c. refl })) (same-8 (Some (Ua f)) refl)
-    in-8 b octets (Dm true) = failed-8 (Some (Dm true))
-    in-8 b octets (Dm false) = failed-8 (Some (Dm false))
-    in-8 b octets (Frmr f) = failed-8 (Some (Frmr f))
-    in-8 b octets (Ui p) = moved TimerRecovery (Some (Ui p)) (unit_data t octets) itself (unit-acts t octets) (same-8 (Some (Ui p)) refl)
-    in-8 b octets (Xid p) = same-8 (Some (Xid p)) refl
+    in-8 b octets (Ua f) = grind (arith, moved, itself, either-bit, same-8)
+    in-8 b octets control = grind (arith, claims.ended, failed-8, moved, itself, unit-acts, same-8)
 
   -- Any frame, and what the grammar does not have.
   pub by-frame : (here : State) → Facts here → (b : Bool) (octets : List ℕ) (control : Control) → Row here (frame_in here t b octets control) (Some control)
@@ -155,8 +131,8 @@ module _ (t : Terms) (k : Known) (ran : LinkTimer → Bool) (l : Link) where
   by-frame TimerRecovery facts b octets control = in-8 facts b octets control
 
   pub malformed : (here : State) → Facts here → (e : ErrorCode) → Row here (malformed_in here t e) None
-  malformed here facts e = grind (arith, same-4, same-5, same-6, failed-7, failed-8)
+  malformed here facts e = grind (arith, claims.same-4, claims.same-5, same-6, failed-7, failed-8)
 
   -- Nothing of it changes.
   pub unchanged : (here : State) → Facts here → (f : Step) → Acts f itself → Row here f None
-  unchanged here facts f h = grind (arith, moved, itself, same-4, same-5, same-6, same-7, same-8)
+  unchanged here facts f h = grind (arith, moved, itself, claims.same-4, claims.same-5, same-6, same-7, same-8)

@@ -1,6 +1,5 @@
 -- When the timers of links run, and when they are started: the law.
-use Rattle.laws_trace.proofs.Vocabulary.{◌≡◌, ℕ, ◌+◌, ◌%◌, ◌==◌, ◌&&◌, ◌||◌, ◌<◌, ◌≤◌, not, Bool, true, false, cond, List, [], ◌∷◌, ◌++◌, get_or, set, Option, Some, None, refl, sym, ap, ◌∙◌, subst, arith, eq-eqb, true≢false, fold, option_map_or, and_parts, get_or-set_same, get_or-replicate, All-nil, All-cons, All-head, All-tail, PoolFull, Service, HasItsTimer, needed_in, State, LinkTimer, Link, obeyed, runs, Config, refused, orders_in, Line, fresh_line, link_of, link_in, link_number, place_in, state_of, terms, IsInRange, sound_in, terms_in_range, place_of-is, Card, line_at, is_full, at, moments, fresh_is_sound, after_is_sound, has_lines, by_room, line_sound, runs_at_callers, AllHaveTheirTimers, needed-run, needs-none, timely-all, timely-after, begins-timely-card, timer_of, is_needed, left_by, HaveTheirTimers, nowhere, Timer, eqb-true, T200, T203, fresh_link, fresh, CardEvent as Event, after, card_answer as answer, Moment, after_all, IsAtLine, AreAtLines, CardIsSound as IsSound, seen, Always, or_comm}
-use Rattle.lapd_frame.specs.declared.timers.Timer.TheVariants as timers
+use Rattle.laws_trace.proofs.Vocabulary.{◌≡◌, ℕ, ◌+◌, ◌%◌, ◌==◌, ◌&&◌, ◌||◌, ◌<◌, ◌≤◌, not, Bool, true, false, cond, List, [], ◌∷◌, ◌++◌, get_or, set, Option, Some, None, refl, sym, ap, ◌∙◌, subst, arith, eq-eqb, true≢false, fold, option_map_or, and_parts, get_or-set_same, get_or-replicate, All-nil, All-cons, All-head, All-tail, PoolFull, Service, HasItsTimer, needed_in, State, LinkTimer, Link, obeyed, runs, Config, refused, orders_in, Line, fresh_line, link_of, link_in, link_number, place_in, state_of, terms, IsInRange, sound_in, terms_in_range, place_of-is, Card, line_at, is_full, at, moments, fresh_is_sound, after_is_sound, has_lines, by_room, line_sound, runs_at_callers, AllHaveTheirTimers, needed-run, needs-none, timely-all, timely-after, begins-timely-card, timer_of, is_needed, left_by, HaveTheirTimers, nowhere, Timer, eqb-true, T200, T203, fresh_link, fresh, CardEvent as Event, after, card_answer as answer, Moment, after_all, IsAtLine, AreAtLines, CardIsSound as IsSound, seen, Always, or_comm, TimerT203, TimerT200}
 use Rattle.model_link.specs.Sound as link_sound
 use Rattle.model_line.specs.Event as line_event
 use Rattle.model_line.specs.Machine as lines
@@ -14,12 +13,8 @@ use Rattle.laws_trace.proofs.OrdersOfLink.{its_orders, order_by}
 
 module _ (service : Service) (tei number : ℕ) where
   -- Where the pool is full, nothing is seen, and nothing changes.
-  same-state : (state : State) (k : Known) (a s : ℕ) (busy : Bool) → Agrees state k a s busy
-      → cond (is_state 7 (told_state state) || is_state 8 (told_state state)) k nothing_yet ≡ k
-  same-state state k a s busy h = grind arith
-
   pub none-learned : (c : Config) (l : Line) (k : Known) → IsTrueOf service tei k l → learned c service tei (state_of service tei l) (state_of service tei l) k [] ≡ k
-  none-learned c l k h = grind (arith, learned, off-state, Agrees, off-fresh, state-on, same-state)
+  none-learned c l k h = grind (arith, learned, off-state, Agrees, off-fresh, state-on)
 
   -- One event of a card.
   module _ (card : Card) (s : IsSound card) (timely : AllHaveTheirTimers card) (e : Event) (here : IsAtLine card e) where
@@ -32,9 +27,6 @@ module _ (service : Service) (tei number : ℕ) where
     now : get_or (set card.lines e.line own) e.line (fresh_line card.config) ≡ own
     now = get_or-set_same card.lines e.line own (fresh_line card.config) (omega (arith, s.count, here))
 
-    seen-full : lines.takes_slot card.config e.what l ≡ true → seen e.what (refused PoolFull) ≡ []
-    seen-full takes = nothing-seen card.config e.what l takes
-
     own-known : (k : Known) → IsTrueOf service tei k l
         → IsTrueOf service tei (learned card.config service tei (state_of service tei l) (state_of service tei (line_at e.line (after e card))) k (seen e.what (answer e card))) (line_at e.line (after e card))
     own-known k h =
@@ -42,7 +34,7 @@ module _ (service : Service) (tei number : ℕ) where
         IsTrueOf service tei (learned card.config service tei (state_of service tei l) (state_of service tei x) k (seen e.what a)) x) e card
         (λ full.
         subst (λ t. IsTrueOf service tei (learned card.config service tei (state_of service tei l) (state_of service tei l) k t) l)
-        (sym (seen-full (and_parts (lines.takes_slot card.config e.what l) (is_full card) full).0))
+        (sym (nothing-seen card.config e.what l ((and_parts (lines.takes_slot card.config e.what l) (is_full card) full).0)))
         (subst (λ k. IsTrueOf service tei k l) (sym (none-learned card.config l k h)) h))
         (λ room.
         subst (λ x. IsTrueOf service tei (learned card.config service tei (state_of service tei l) (state_of service tei x) k (seen e.what (lines.answer card.config e.what l))) x) (sym now)
@@ -61,10 +53,7 @@ module _ (service : Service) (tei number : ℕ) where
             subst (λ n. IsTrueOf service tei (learned card.config service tei (state_of service tei (line_at n card)) (state_of service tei (line_at n (after e card))) k
             (seen e.what (answer e card))) (line_at n (after e card))) (eqb-true e.line number is)
             (own-known k (subst (λ n. IsTrueOf service tei k (line_at n card)) (sym (eqb-true e.line number is)) h))
-        go false other =
-            let same = apart card e number (λ same. true≢false (sym (eq-eqb e.line number (sym same)) ∙ other)) in
-            subst (λ x. IsTrueOf service tei (learned card.config service tei (state_of service tei (line_at number card)) (state_of service tei x) k []) x) (sym same)
-            (subst (λ k. IsTrueOf service tei k (line_at number card)) (sym (none-learned card.config (line_at number card) k h)) h)
+        go false other = grind (arith, apart, eq-eqb, learned, none-learned)
 
     -- what is ordered of the timers of the link
     idle : (needs : Bool) (its : Timer) → order_by false needs needs its ≡ []
@@ -72,8 +61,8 @@ module _ (service : Service) (tei number : ℕ) where
 
     abbrev pub Ordered : Line → line_event.Answer → Type 0
     Ordered x a =
-        let one = timers.T200 service tei in
-        let other = timers.T203 service tei in
+        let one = TimerT200 service tei in
+        let other = TimerT203 service tei in
         its_orders service tei (orders_in a)
         ≡ order_by (obeyed one false (orders_in a)) (is_needed one l) (is_needed one x) one ++ order_by (obeyed other false (orders_in a)) (is_needed other l) (is_needed other x) other
 
@@ -81,9 +70,9 @@ module _ (service : Service) (tei number : ℕ) where
     own-ordered k h =
         by_room (λ ls a. Ordered (get_or ls e.line (fresh_line card.config)) a) e card
         (λ full.
-        sym (ap (λ xs. xs ++ order_by false (is_needed (timers.T203 service tei) l) (is_needed (timers.T203 service tei) l) (timers.T203 service tei))
-        (idle (is_needed (timers.T200 service tei) l) (timers.T200 service tei))
-        ∙ idle (is_needed (timers.T203 service tei) l) (timers.T203 service tei)))
+        sym (ap (λ xs. xs ++ order_by false (is_needed (TimerT203 service tei) l) (is_needed (TimerT203 service tei) l) (TimerT203 service tei))
+        (idle (is_needed (TimerT200 service tei) l) (TimerT200 service tei))
+        ∙ idle (is_needed (TimerT203 service tei) l) (TimerT203 service tei)))
         (λ room.
         subst (λ x. Ordered x (lines.answer card.config e.what l)) (sym now)
         (event-ordered card.config s.config l (line_sound card e.line (has_lines card s) here) (timely.lines e.line here) service tei k h e.what))
@@ -100,7 +89,7 @@ module _ (service : Service) (tei number : ℕ) where
         && (not was || is_anew card.config service tei timer k (state_of service tei l) (state_of service tei (get_or ls e.line (fresh_line card.config))) (seen e.what a)))) e card
         (λ full.
         sym (ap (λ t. was && (not was || is_anew card.config service tei timer k (state_of service tei l) (state_of service tei l) t))
-        (seen-full (and_parts (lines.takes_slot card.config e.what l) (is_full card) full).0) ∙ never l k h timer was))
+        (nothing-seen card.config e.what l ((and_parts (lines.takes_slot card.config e.what l) (is_full card) full).0)) ∙ never l k h timer was))
         (λ room.
         subst (λ x. obeyed its false (orders_in (lines.answer card.config e.what l)) ≡ (obeyed its was (orders_in (lines.answer card.config e.what l))
         && (not was || is_anew card.config service tei timer k (state_of service tei l) (state_of service tei x) (seen e.what (lines.answer card.config e.what l))))) (sym now)
@@ -134,9 +123,7 @@ module _ (c : Config) (events : List Event) (number : ℕ) (ranged : IsInRange c
   sound-card : (m : Card) (events : List Event) → IsSound m → AreAtLines m events → IsSound (after_all m events)
   unfolding after_all
   sound-card m [] s all = s
-  sound-card m (e ∷ events) s all =
-      let here = All-head (IsAtLine m) e events all in
-      sound-card (after e m) events (after_is_sound m e s here) (All-tail (IsAtLine m) e events all)
+  sound-card m (e ∷ events) s all = sound-card (after e m) events (after_is_sound m e s (All-head (IsAtLine m) e events all)) (All-tail (IsAtLine m) e events all)
 
   config-same : (m : Card) (events : List Event) → (after_all m events).config ≡ m.config
   unfolding after_all
@@ -173,12 +160,8 @@ module _ (service : Service) (tei : ℕ) (k : Known) where
   abbrev Run : Option ℕ → Option LinkTimer → Type 0
   Run state running = (runs T200 running ≡ awaits k state) × (runs T203 running ≡ (is_state 7 state && not (awaits k state)))
 
-  -- an I-frame is outstanding where V(S) is not V(A), also modulo 128
-  pub outstanding-is : (a s : ℕ) → a ≤ s → s ≤ a + 127 → (s % 128 == a % 128) ≡ (s == a)
-  outstanding-is a s ordered within = grind (arith, eq-eqb, eqb-true)
-
   pub by-state : (state : State) (l : Link) → Agrees state k l.a l.s l.peer_busy → l.a ≤ l.s → l.s ≤ l.a + 127 → Run (told_state state) (needed_in state l)
-  by-state state l h ordered within = grind (arith, outstanding-is, or_comm)
+  by-state state l h ordered within = grind (arith, eq-eqb, eqb-true, or_comm)
 
 -- The law: a module once more, so that its parts have names.
 module _ (c : Config) (events : List Event) (number : ℕ) (ranged : IsInRange c) (all : AreAtLines (fresh c) events) (within : number < c.lines) (service : Service) (tei : ℕ) where
@@ -212,10 +195,9 @@ module _ (c : Config) (events : List Event) (number : ℕ) (ranged : IsInRange c
       let t = terms at_end.config service tei in
       let sound : link_sound.IsSound t its_link =
       subst (link_sound.IsSound t) (sym (ap (λ o. option_map_or (link_in its_line service) o fresh_link) on)) (sound_in at_end.config s.config its_line sound_line service tei place placed) in
-      let range = terms_in_range at_end.config s.config service tei (sound_line.management.table.range place tei placed) in
       let ordered : its_link.a ≤ its_link.s = sound.ordered in
       let window : its_link.s ≤ its_link.a + t.k = sound.within in
-      let small : t.k ≤ 127 = range.k_high in
+      let small : t.k ≤ 127 = (terms_in_range at_end.config s.config service tei (sound_line.management.table.range place tei placed)).k_high in
       let timed : HasItsTimer its_link = subst HasItsTimer (sym (ap (λ o. option_map_or (link_in its_line service) o fresh_link) on)) (its-timers.links (link_number place service)) in
       subst (λ state. Run service tei is_known state its_link.running) (sym (state-on service tei its_line place on))
       (subst (λ r. Run service tei is_known (told_state its_link.state) r) (sym timed.running)

@@ -1,8 +1,6 @@
 -- What is known of a link stays true: each event of a line.
-use Rattle.laws_trace.proofs.Vocabulary.{arith, ◌≡◌, ℕ, ◌&&◌, ◌||◌, Bool, true, false, cond, List, [], ◌∷◌, map, Option, Some, None, option_map, refl, sym, ap, ◌∙◌, subst, true≢false, ◌⊎◌, inl, inr, All, option_to_list, option_map_or, All-head, Service, Parts, place_of-is, HasItsTimer, State, Terms, LinkTimer, Link, is_same, Given, runs, is_timer, Config, hears, next, Answer, NextFrame, gave, Line, link_in, link_of, link_number, place_in, state_of, state_in, terms, taken, next_of, IsInRange, terms_in_range, IsBy, timer_of, is_needed, left_by, HaveTheirTimers, T200, T203, fresh_link as fresh, Event, line_after as after, answer, line_frame_of as frame_of, IsSound, is_for, trace_frame_in as frame_in, seen, none-some}
-use Rattle.model_bits.specs.Stream as stream
+use Rattle.laws_trace.proofs.Vocabulary.{arith, ◌≡◌, ℕ, ◌&&◌, ◌||◌, Bool, true, false, cond, List, [], ◌∷◌, map, Option, Some, None, option_map, refl, sym, ap, ◌∙◌, subst, true≢false, ◌⊎◌, inl, inr, All, option_to_list, option_map_or, All-head, Service, Parts, place_of-is, HasItsTimer, State, Terms, LinkTimer, Link, is_same, Given, runs, is_timer, Config, hears, next, Answer, NextFrame, gave, Line, link_in, link_of, link_number, place_in, state_of, state_in, terms, taken, next_of, IsInRange, terms_in_range, IsBy, timer_of, is_needed, left_by, HaveTheirTimers, T200, T203, fresh_link as fresh, Event, line_after as after, answer, line_frame_of as frame_of, IsSound, is_for, trace_frame_in as frame_in, seen, none-some, StreamEvent, link_after, given, course}
 use Rattle.model_link.specs.Events as link
-use Rattle.model_link.specs.Machine as links
 use Rattle.model_link.specs.Sound as link_sound
 use Rattle.laws_trace.proofs.TimersWatched.{Known, nothing_yet, listens, sends, control_in, learned}
 use Rattle.laws_trace.proofs.States.{is_state}
@@ -13,7 +11,7 @@ use Rattle.laws_trace.proofs.OneLink.{frames_given, IsForeign, HasOne, HasNone, 
 use Rattle.laws_trace.proofs.TimerActs.{timing}
 use Rattle.laws_trace.proofs.TimerClaims.{Agrees, told_state, heard_by}
 use Rattle.laws_trace.proofs.TimerEvents.{ran_before, control_of, event-good}
-use Rattle.laws_trace.proofs.TimerOffers.{Offered, sent_known, given_sent, same-known, offer-good}
+use Rattle.laws_trace.proofs.TimerOffers.{Offered, sent_known, given_sent, offer-good}
 use Rattle.laws_trace.proofs.TimersOfLine.{sent_at, seen-learns}
 use Rattle.laws_trace.proofs.Facts.{its-own}
 use Rattle.laws_trace.proofs.LineAtEnd.{link-at-end}
@@ -24,8 +22,7 @@ IsTrueOf service tei k l = let x = link_of service tei l in Agrees x.state k x.a
 
 module _ (service : Service) (tei : ℕ) where
   pub state-on : (l : Line) (place : ℕ) → place_in l tei ≡ Some place → state_of service tei l ≡ told_state (link_of service tei l).state
-  state-on l place on =
-      ap (option_map (state_in l service)) on ∙ sym (ap (λ o. told_state (option_map_or (link_in l service) o fresh).state) on)
+  state-on l place on = grind (arith, option_map, told_state)
 
   pub off-fresh : (l : Line) → place_in l tei ≡ None → link_of service tei l ≡ fresh
   off-fresh l off = ap (λ o. option_map_or (link_in l service) o fresh) off
@@ -35,14 +32,8 @@ module _ (service : Service) (tei : ℕ) where
 
   -- a timer is needed where the link runs it
   pub needed-is : (l : Line) → HaveTheirTimers l → (timer : LinkTimer) → is_needed (timer_of service tei timer) l ≡ runs timer (link_of service tei l).running
-  needed-is l h T200 = go (place_in l tei) refl
-    where
-      go : (o : Option ℕ) → place_in l tei ≡ o → is_needed (timer_of service tei T200) l ≡ runs T200 (link_of service tei l).running
-      go o off = grind (arith, off-fresh)
-  needed-is l h T203 = go (place_in l tei) refl
-    where
-      go : (o : Option ℕ) → place_in l tei ≡ o → is_needed (timer_of service tei T203) l ≡ runs T203 (link_of service tei l).running
-      go o off = grind (arith, off-fresh)
+  needed-is l h T200 = grind (arith, off-fresh)
+  needed-is l h T203 = grind (arith, off-fresh)
 
 -- The link of a TEI that comes to the line is a fresh one.
 pub comes : (c : Config) (e : Event) (l : Line) → IsSound c l → (service : Service) (tei : ℕ) → place_in l tei ≡ None → link_of service tei (after c e l) ≡ fresh
@@ -52,9 +43,6 @@ comes c e l s service tei off = go (event-goes c e l service tei s)
     go o = grind (arith, none-some, off-fresh)
 
 -- the caller's timers that ran, by the event of the link
-same-timer : (service : Service) (tei : ℕ) (one other : LinkTimer) → is_same (timer_of service tei one) (timer_of service tei other) ≡ is_timer one other
-same-timer service tei one other = grind (arith, its-own)
-
 module _ (c : Config) (ranged : IsInRange c) (l : Line) (s : IsSound c l) (timed : HaveTheirTimers l) (service : Service) (tei : ℕ) (k : Known)
     (agrees : IsTrueOf service tei k l) (e : Event) where
   abbrev a : Answer
@@ -72,9 +60,6 @@ module _ (c : Config) (ranged : IsInRange c) (l : Line) (s : IsSound c l) (timed
   own-sound : (place : ℕ) → place_in l tei ≡ Some place → link_sound.IsSound t own
   own-sound place is = link-at-end c l ranged s service tei place is
 
-  own-range : (place : ℕ) → place_in l tei ≡ Some place → link_sound.IsInRange t
-  own-range place is = terms_in_range c ranged service tei (s.management.table.range place tei (place_of-is l.management.places tei place is).1)
-
   pub own-timed : (place : ℕ) → place_in l tei ≡ Some place → HasItsTimer own
   own-timed place is = subst HasItsTimer (sym (ap (λ o. option_map_or (link_in l service) o fresh) is)) (timed.links (link_number place service))
 
@@ -88,21 +73,15 @@ module _ (c : Config) (ranged : IsInRange c) (l : Line) (s : IsSound c l) (timed
   abbrev learned_so : Option ℕ → Option ℕ → Known
   learned_so from to = learned c service tei from to k (seen e a)
 
-  learned-in : (from to : State) → learned_so (told_state from) (told_state to) ≡ learns_in from to
-  learned-in from to = grind (arith, is_state, told_state, nothing_yet, seen-learns)
-
   abbrev now_known : Known
   now_known = learned_so (state_of service tei l) (state_of service tei (after c e l))
 
   -- a link that begins, or whose TEI is not on the line
-  begins-true : (x : Link) (K : Known) → x ≡ fresh → K ≡ nothing_yet → Agrees x.state K x.a x.s x.peer_busy
-  begins-true x K is none = subst (λ (x : Link). Agrees x.state K x.a x.s x.peer_busy) (sym is) none
-
   off-known : place_in (after c e l) tei ≡ None → IsTrueOf service tei now_known (after c e l)
-  off-known off = grind (arith, begins-true, off-fresh, off-state)
+  off-known off = grind (arith, off-fresh, off-state)
 
   fresh-known : (place : ℕ) → place_in (after c e l) tei ≡ Some place → new ≡ fresh → IsTrueOf service tei now_known (after c e l)
-  fresh-known place on is = grind (arith, begins-true, state-on, told_state)
+  fresh-known place on is = grind (arith, state-on, told_state)
 
   -- What is heard or begins is none of the link's.
   module _ (x : HasNone c service tei e l (after c e l) a) where
@@ -110,8 +89,7 @@ module _ (c : Config) (ranged : IsInRange c) (l : Line) (s : IsSound c l) (timed
     no-control place on = go (frame_by c e) refl
       where
         by-whom : (f : Parts) → frame_by c e ≡ Some f → (b : Bool) → is_for service tei f.address ≡ b → cond b (Some f.control) None ≡ None
-        by-whom f is true for = absurd (true≢false (sym (event-aims c l service tei place on e f is for) ∙ x.aims))
-        by-whom f is false for = refl
+        by-whom f is b for = grind (arith, event-aims)
 
         go : (o : Option Parts) → frame_by c e ≡ o → control_in service tei o ≡ None
         go o is = grind (arith, by-whom)
@@ -131,7 +109,7 @@ module _ (c : Config) (ranged : IsInRange c) (l : Line) (s : IsSound c l) (timed
         let learned_is : now_known ≡ sent_known own.state k None =
         ap (λ o. learned_so o (state_of service tei (after c e l))) (state-on service tei l place on)
         ∙ ap (learned_so (told_state own.state)) (state-on service tei (after c e l) after_place there ∙ ap (λ (x : Link). told_state x.state) same)
-        ∙ learned-in own.state own.state
+        ∙ (grind (arith, is_state, told_state, nothing_yet, seen-learns))
         ∙ ap (λ o. cond (is_state 7 (told_state own.state) || is_state 8 (told_state own.state))
         (option_map_or (sends k) o (option_map_or (listens (is_state 8 (told_state own.state) && is_state 7 (told_state own.state)) (is_state 7 (told_state own.state)) k) (control_in service tei (frame_by c e)) k)) nothing_yet)
         (none-goes e x.begins)
@@ -139,7 +117,7 @@ module _ (c : Config) (ranged : IsInRange c) (l : Line) (s : IsSound c l) (timed
         (option_map_or (listens (is_state 8 (told_state own.state) && is_state 7 (told_state own.state)) (is_state 7 (told_state own.state)) k) o k) nothing_yet)
         (no-control place on) in
         subst (λ (y : Link). Agrees y.state now_known y.a y.s y.peer_busy) (sym same)
-        (subst (λ K. Agrees own.state K own.a own.s own.peer_busy) (sym learned_is) (same-known own.state k own.a own.s own.peer_busy agrees))
+        (subst (λ K. Agrees own.state K own.a own.s own.peer_busy) (sym learned_is) (grind arith))
 
     none-known : IsTrueOf service tei now_known (after c e l)
     none-known = go (place_in l tei) refl (place_in (after c e l) tei) refl x.is
@@ -160,101 +138,73 @@ module _ (c : Config) (ranged : IsInRange c) (l : Line) (s : IsSound c l) (timed
     pub left : (timer : LinkTimer) → left_by e (timer_of service tei timer) (runs timer own.running) ≡ ran_before event own.running timer
 
   bare : (what : link.Received) → (link.received what ≡ link.offer → ⊥) → (link.received what ≡ link.cleared → ⊥) → control_of (link.received what) ≡ None
-      → (heard : stream.Event) → e ≡ hears heard → frame_by c e ≡ None → ((timer : LinkTimer) → ran_before (link.received what) own.running timer ≡ runs timer own.running)
+      → (heard : StreamEvent) → e ≡ hears heard → frame_by c e ≡ None → ((timer : LinkTimer) → ran_before (link.received what) own.running timer ≡ runs timer own.running)
       → IsOther (link.received what)
   bare what no-offer no-cleared none heard by without same = grind (arith, control_in, sent_at)
 
   other : (event : link.Event) → (event ≡ link.offer → ⊥) → IsBy c e a service tei event → IsOther event
   other (link.received (link.frame f)) not_offer by =
       let x = brings-frame c e a service tei f by in
-      record {
-        no_offer = not_offer;
-        no_cleared = λ same. cc same;
-        control = ap (control_in service tei) x.0 ∙ ap (λ b. cond b (Some f.control) None) x.1;
-        sent = ap (λ e. sent_at c service tei k e l) by.by;
-        left = λ timer. ap (λ e. left_by e (timer_of service tei timer) (runs timer own.running)) by.by;
-      }
-  other (link.received what) not_offer by =
-      let x = heard-by c e a service tei what by in bare what not_offer (λ same. cc same) refl x.0 x.1 (brings-none c e a service tei what by) (λ timer. refl)
-  other (link.expired expired) not_offer by = grind (arith, control_in, frame_by, sent_at, same-timer)
-  other (link.requested asked full) not_offer by = grind (arith, control_in, frame_by, sent_at)
-  other link.offer not_offer by = absurd (not_offer refl)
-  other link.cleared not_offer by = absurd by
+      grind (arith, control_in, sent_at)
+  other event not_offer by = grind (arith, heard-by, bare, brings-none, control_in, frame_by, sent_at, its-own)
 
   module _ (x : HasOne c service tei e l (after c e l) a) where
     pub sound : link_sound.IsSound t own
     sound = own-sound x.place x.placed
 
     pub range : link_sound.IsInRange t
-    range = own-range x.place x.placed
+    range = terms_in_range c ranged service tei (s.management.table.range x.place tei (place_of-is l.management.places tei x.place x.placed).1)
 
     abbrev later : Link
-    later = links.after t x.event own
+    later = link_after t x.event own
 
     -- what is learned, where the TEI stays
     known-so : (there : ℕ) → place_in (after c e l) tei ≡ Some there → now_known ≡ learns_in own.state later.state
     known-so there on =
         ap (λ o. learned_so o (state_of service tei (after c e l))) (state-on service tei l x.place x.placed)
         ∙ ap (learned_so (told_state own.state)) (state-on service tei (after c e l) there on ∙ ap (λ (y : Link). told_state y.state) x.is)
-        ∙ learned-in own.state later.state
+        ∙ (grind (arith, is_state, told_state, nothing_yet, seen-learns))
 
     by-good : IsOther x.event → (there : ℕ) → place_in (after c e l) tei ≡ Some there → IsTrueOf service tei now_known (after c e l)
     by-good o there on =
         let g = event-good t k own sound range.k_high (own-timed x.place x.placed) agrees x.event o.no_offer o.no_cleared in
         let i = is_state 7 (told_state later.state) in
-        let r = is_state 8 (told_state own.state) && i in
-        let known : now_known ≡ heard_by own.state later.state k (control_of x.event) =
-        known-so there on
-        ∙ ap (λ sent. cond (i || is_state 8 (told_state later.state)) (option_map_or (sends k) sent (option_map_or (listens r i k) (control_in service tei (frame_by c e)) k)) nothing_yet) o.sent
-        ∙ ap (λ control. cond (i || is_state 8 (told_state later.state)) (option_map_or (listens r i k) control k) nothing_yet) o.control in
-        subst (λ (y : Link). Agrees y.state now_known y.a y.s y.peer_busy) (sym x.is)
-        (subst (λ K. Agrees later.state K later.a later.s later.peer_busy) (sym known) g.agrees)
+        grind (arith, heard_by, control_of, known-so, is_state, told_state, sends, listens, control_in, frame_by, nothing_yet)
 
     -- an offer
-    none-sent : (o : Option NextFrame) → frame_in (gave o) ≡ [] → sent_with c service tei o ≡ None
-    none-sent o e = grind arith
-
-    its-sent : (o : Option NextFrame) (frame : List ℕ) → frame_in (gave o) ≡ frame ∷ [] → sent_with c service tei o ≡ sent_of c service tei frame
-    its-sent o frame e = grind (arith, sent_of)
-
-    sent-is : e ≡ next → x.event ≡ link.offer → sent_at c service tei k e l ≡ option_map_or given_sent (links.given t own) None
+    sent-is : e ≡ next → x.event ≡ link.offer → sent_at c service tei k e l ≡ option_map_or given_sent (given t own) None
     unfolding answer
     sent-is is offered =
         ap (λ e. sent_at c service tei k e l) is
-        ∙ go (links.given t own) refl (ap (λ e. frame_in (answer c e l)) (sym is) ∙ x.begins ∙ ap (λ event. frames_given c t event own) offered)
+        ∙ go (given t own) refl (ap (λ e. frame_in (answer c e l)) (sym is) ∙ x.begins ∙ ap (λ event. frames_given c t event own) offered)
       where
         o : Option NextFrame
         o = option_map next_of (taken c l)
 
-        go : (g : Option Given) → links.given t own ≡ g → frame_in (gave o) ≡ map (frame_of c t) (option_to_list (links.given t own))
-            → sent_with c service tei o ≡ option_map_or given_sent (links.given t own) None
-        go None is same = none-sent o (same ∙ ap (λ o. map (frame_of c t) (option_to_list o)) is) ∙ sym (ap (λ o. option_map_or given_sent o None) is)
-        go (Some g) is same =
-            its-sent o (frame_of c t g) (same ∙ ap (λ o. map (frame_of c t) (option_to_list o)) is) ∙ own-sent c service tei own range sound g is
-            ∙ sym (ap (λ o. option_map_or given_sent o None) is)
+        go : (g : Option Given) → given t own ≡ g → frame_in (gave o) ≡ map (frame_of c t) (option_to_list (given t own))
+            → sent_with c service tei o ≡ option_map_or given_sent (given t own) None
+        go None is same = (grind arith) ∙ sym (ap (λ o. option_map_or given_sent o None) is)
+        go (Some g) is same = grind (arith, sent_of, own-sent, range, sound, given_sent)
 
-    pub offers : Offered k own (timing (links.course t link.offer own)) (option_map_or given_sent (links.given t own) None)
+    pub offers : Offered k own (timing (course t link.offer own)) (option_map_or given_sent (given t own) None)
     offers = offer-good t k own sound agrees
 
     by-offer : e ≡ next → x.event ≡ link.offer → (there : ℕ) → place_in (after c e l) tei ≡ Some there → IsTrueOf service tei now_known (after c e l)
     by-offer is offered there on =
-        let y = links.after t link.offer own in
-        let sent = option_map_or given_sent (links.given t own) None in
+        let y = link_after t link.offer own in
+        let sent = option_map_or given_sent (given t own) None in
         let i = is_state 7 (told_state y.state) in
         let r = is_state 8 (told_state own.state) && i in
         let known : now_known ≡ sent_known y.state k sent =
-        known-so there on ∙ ap (λ event. learns_in own.state (links.after t event own).state) offered
+        known-so there on ∙ ap (λ event. learns_in own.state (link_after t event own).state) offered
         ∙ ap (λ o. cond (i || is_state 8 (told_state y.state)) (option_map_or (sends k) o (option_map_or (listens r i k) (control_in service tei (frame_by c e)) k)) nothing_yet) (sent-is is offered)
         ∙ ap (λ e. cond (i || is_state 8 (told_state y.state)) (option_map_or (sends k) sent (option_map_or (listens r i k) (control_in service tei (frame_by c e)) k)) nothing_yet) is in
-        subst (λ (y : Link). Agrees y.state now_known y.a y.s y.peer_busy) (sym (x.is ∙ ap (λ event. links.after t event own) offered))
+        subst (λ (y : Link). Agrees y.state now_known y.a y.s y.peer_busy) (sym (x.is ∙ ap (λ event. link_after t event own) offered))
         (subst (λ K. Agrees y.state K y.a y.s y.peer_busy) (sym known) offers.agrees)
 
     -- which of both it is
     pub either : {X : Type 0} → (IsOther x.event → X) → (e ≡ next → x.event ≡ link.offer → X) → X
-    either {X = X} one two = go x.event x.by (λ not_offer. one (other x.event not_offer x.by)) two
-      where
-        go : (event : link.Event) → IsBy c e a service tei event → ((event ≡ link.offer → ⊥) → X) → (e ≡ next → event ≡ link.offer → X) → X
-        go event by one two = grind (arith, other)
+    either {X = X} one two = grind (arith, other)
 
     one-known : IsTrueOf service tei now_known (after c e l)
     one-known = go (place_in (after c e l) tei) refl

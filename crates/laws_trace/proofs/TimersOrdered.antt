@@ -1,13 +1,12 @@
 -- What is ordered of the timers of a link is what is due: the law.
-use Rattle.laws_trace.proofs.Vocabulary.{arith, ◌≡◌, ℕ, ◌+◌, ◌<◌, ◌==◌, ◌&&◌, ◌||◌, not, Bool, true, false, cond, List, [], ◌∷◌, ◌++◌, refl, sym, ap, ◌∙◌, subst, ⊎_elim, eq-eqb, true≢false, and_parts, is_some, fold, fold-append, nat_lt, All-nil, All-cons, All-append, Service, Order, Timer, LinkTimer, obeyed, Config, hears, expiry, request, next, orders_in, IsInRange, timer_of, is_needed, left_by, Card, line_at, at, moments, runs_at_callers, eqb-true, T200, T203, fresh, CardEvent as Event, after, Moment, after_all, IsAtLine, AreAtLines, runs_then, one_more, Managed, managing_is_on as is_on, due, brings, Observed, View, in_state, anew, awaits, enquires, enters, by_t200, by_event, view_of, moment_of, view_behind, TimersAreTimely, is_own, Always, or-false}
-use Rattle.lapd_frame.specs.declared.timers.Timer.TheVariants as timers
+use Rattle.laws_trace.proofs.Vocabulary.{arith, ◌≡◌, ℕ, ◌+◌, ◌<◌, ◌==◌, ◌&&◌, ◌||◌, not, Bool, true, false, cond, List, [], ◌∷◌, ◌++◌, refl, sym, ap, ◌∙◌, subst, ⊎_elim, eq-eqb, true≢false, and_parts, is_some, fold, fold-append, nat_lt, All-nil, All-cons, All-append, Service, Order, Timer, LinkTimer, obeyed, Config, hears, expiry, request, next, orders_in, IsInRange, timer_of, is_needed, left_by, Card, line_at, at, moments, runs_at_callers, eqb-true, T200, T203, fresh, CardEvent as Event, after, Moment, after_all, IsAtLine, AreAtLines, runs_then, one_more, Managed, managing_is_on as is_on, due, brings, Observed, View, in_state, anew, awaits, enquires, enters, by_t200, by_event, view_of, moment_of, view_behind, TimersAreTimely, is_own, Always, or-false, T201, TimerT203, TimerT200, after_all-append}
 use Rattle.model_line.specs.Event as line_event
 use Rattle.laws_trace.specs.TimersAreTimely as timely
 use Rattle.laws_trace.proofs.ObservedExpiries.{IsNoMore, same, zero, either, no-more, enquired, t200-enters}
 use Rattle.laws_trace.proofs.ObservedLaws.{known-now, on-line-now, timers-run-so, started-so, moved_or_renewed}
 use Rattle.laws_trace.proofs.OrdersOfLink.{order_by}
 use Rattle.laws_trace.proofs.TimersAreTimely.{config-now, sound-now, timely-now, true-now, callers-run, own-ordered}
-use Rattle.laws_trace.proofs.WaitedBegins.{moments-both, after-both}
+use Rattle.laws_trace.proofs.WaitedBegins.{moments-both}
 use Rattle.laws_trace.proofs.Facts.{not-so}
 
 -- Whether a timer is started, by whether it ran, the link moves, T200 was counted, or a frame starts it anew.
@@ -41,7 +40,7 @@ module _ (c : Config) (events : List Event) (number : ℕ) (ranged : IsInRange c
 
   line-then : line_at number (after_all (fresh c) longer) ≡ line_at number (after (at number what) card)
   unfolding after_all
-  line-then = ap (line_at number) (after-both (fresh c) events (at number what ∷ []))
+  line-then = ap (line_at number) (after_all-append (fresh c) events (at number what ∷ []))
 
   view-then : view_of c service tei number longer ≡ view_behind c service tei number events what
   unfolding moments
@@ -116,7 +115,7 @@ module _ (c : Config) (events : List Event) (number : ℕ) (ranged : IsInRange c
       (not (timely.runs timer was) || moved_or_renewed c service tei timer was q what) ≡ (not (timely.runs timer was) || timely.is_anew c service tei timer was q what)
   by-plain timer what none = grind (arith, plain)
 
-  other-event : (what : line_event.Event) → ((of : Service) (by : ℕ) → what ≡ expiry (timers.T200 of by) → is_own service tei of by ≡ false) → IsNoMore was (view_behind c service tei number events what).link
+  other-event : (what : line_event.Event) → ((of : Service) (by : ℕ) → what ≡ expiry (TimerT200 of by) → is_own service tei of by ≡ false) → IsNoMore was (view_behind c service tei number events what).link
   other-event what other = grind (arith, no-rise, no-more)
 
   abbrev then_of : line_event.Event → Observed
@@ -131,68 +130,59 @@ module _ (c : Config) (events : List Event) (number : ℕ) (ranged : IsInRange c
   renewed timer what = was.state == 7 && brings (timely.renews timer was.acknowledged was.busy) c service tei what
 
   -- T200 that expires is counted, or the link leads on.
-  other-t200 : (of : Service) (by : ℕ) → is_own service tei of by ≡ false → IsNoMore was (then_of (expiry (timers.T200 of by)))
+  other-t200 : (of : Service) (by : ℕ) → is_own service tei of by ≡ false → IsNoMore was (then_of (expiry (TimerT200 of by)))
   other-t200 of by other =
-      no-rise c events number ranged all within service tei (expiry (timers.T200 of by))
+      no-rise c events number ranged all within service tei (expiry (TimerT200 of by))
       (subst (λ b. IsNoMore was (cond b (by_t200 c.n200 was) was)) (sym other) (same was))
 
-  t200-of : (of : Service) (by : ℕ) (b : Bool) → is_own service tei of by ≡ b → Due T200 (expiry (timers.T200 of by))
+  t200-of : (of : Service) (by : ℕ) (b : Bool) → is_own service tei of by ≡ b → Due T200 (expiry (TimerT200 of by))
   t200-of of by false other =
-      let what = expiry (timers.T200 of by) in
+      let what = expiry (TimerT200 of by) in
       ap (λ b. not (cond b false (awaits was)) || moved_or_renewed c service tei T200 was (then_of what) what) other ∙ by-plain T200 what (other-t200 of by other)
   t200-of of by true own =
-      let what = expiry (timers.T200 of by) in
+      let what = expiry (TimerT200 of by) in
       ap (λ b. not (cond b false (awaits was)) || moved_or_renewed c service tei T200 was (then_of what) what) own
       ∙ ended (awaits was) (not (was.state == (then_of what).state)) (nat_lt was.expiries (then_of what).expiries) (renewed T200 what)
       (λ waits. ap (enters was) (on-then T200 what (λ w. refl) waits ∙ ap (λ b. cond b (by_t200 c.n200 was) was) own) ∙ t200-enters was c.n200 waits)
 
   -- T203 that expires leads on.
-  not-t200 : (what : line_event.Event) (timer : LinkTimer) → ((of : Service) (by : ℕ) → what ≡ expiry (timers.T200 of by) → ⊥) → IsNoMore was (then_of what)
+  not-t200 : (what : line_event.Event) (timer : LinkTimer) → ((of : Service) (by : ℕ) → what ≡ expiry (TimerT200 of by) → ⊥) → IsNoMore was (then_of what)
   not-t200 what timer never = other-event what (λ of by is. absurd (never of by is))
 
-  t203-of : (of : Service) (by : ℕ) (b : Bool) → is_own service tei of by ≡ b → Due T203 (expiry (timers.T203 of by))
+  t203-of : (of : Service) (by : ℕ) (b : Bool) → is_own service tei of by ≡ b → Due T203 (expiry (TimerT203 of by))
   t203-of of by false other =
-      let what = expiry (timers.T203 of by) in
+      let what = expiry (TimerT203 of by) in
       ap (λ b. not (cond b false (timely.runs T203 was)) || moved_or_renewed c service tei T203 was (then_of what) what) other
       ∙ by-plain T203 what (not-t200 what T203 (λ of by is. cc is))
-  t203-of of by true own =
-      let what = expiry (timers.T203 of by) in
-      ap (λ b. not (cond b false (timely.runs T203 was)) || moved_or_renewed c service tei T203 was (then_of what) what) own
-      ∙ ended (timely.runs T203 was) (not (was.state == (then_of what).state)) (nat_lt was.expiries (then_of what).expiries) (renewed T203 what)
-      (λ runs.
-      ap (enters was) (on-then T203 what (λ w. refl) runs ∙ ap (λ b. cond (b && timely.runs T203 was) (enquires was) was) own ∙ ap (λ b. cond b (enquires was) was) runs)
-      ∙ enquired was (eqb-true was.state 7 (and_parts (was.state == 7) (not (awaits was)) runs).0))
+  t203-of of by true own = grind (arith, moved_or_renewed, ended, on-then, enquired, eqb-true, and_parts)
 
   -- While T203 runs an expiry of T200 does nothing.
-  idle-then : (of : Service) (by : ℕ) → is_own service tei of by ≡ true → timely.runs T203 was ≡ true → then_of (expiry (timers.T200 of by)) ≡ was
+  idle-then : (of : Service) (by : ℕ) → is_own service tei of by ≡ true → timely.runs T203 was ≡ true → then_of (expiry (TimerT200 of by)) ≡ was
   idle-then of by own runs =
       let parts = and_parts (was.state == 7) (not (awaits was)) runs in
       let last = cond (nat_lt was.expiries c.n200) (record was { expiries = was.expiries + 1 }) (cond (was.state == 8) (anew was) (in_state 4)) in
-      on-then T203 (expiry (timers.T200 of by)) (λ w. refl) runs ∙ ap (λ b. cond b (by_t200 c.n200 was) was) own
+      on-then T203 (expiry (TimerT200 of by)) (λ w. refl) runs ∙ ap (λ b. cond b (by_t200 c.n200 was) was) own
       ∙ ap (λ b. cond b (cond (awaits was) (enquires was) was) (cond (not (awaits was)) was last)) parts.0
       ∙ ap (λ b. cond b (enquires was) was) (not-so (awaits was) parts.1)
 
-  t203-by-t200 : (of : Service) (by : ℕ) (b : Bool) → is_own service tei of by ≡ b → Due T203 (expiry (timers.T200 of by))
-  t203-by-t200 of by false other = by-plain T203 (expiry (timers.T200 of by)) (other-t200 of by other)
+  t203-by-t200 : (of : Service) (by : ℕ) (b : Bool) → is_own service tei of by ≡ b → Due T203 (expiry (TimerT200 of by))
+  t203-by-t200 of by false other = by-plain T203 (expiry (TimerT200 of by)) (other-t200 of by other)
   t203-by-t200 of by true own = go (timely.runs T203 was) refl
     where
-      go : (w : Bool) → timely.runs T203 was ≡ w → Due T203 (expiry (timers.T200 of by))
-      go true runs = by-plain T203 (expiry (timers.T200 of by)) (subst (IsNoMore was) (sym (idle-then of by own runs)) (same was))
-      go false rests =
-          let what = expiry (timers.T200 of by) in
-          ap (λ w. not w || moved_or_renewed c service tei T203 was (then_of what) what) rests
-          ∙ sym (ap (λ w. not w || timely.is_anew c service tei T203 was (then_of what) what) rests)
+      go : (w : Bool) → timely.runs T203 was ≡ w → Due T203 (expiry (TimerT200 of by))
+      go true runs = by-plain T203 (expiry (TimerT200 of by)) (subst (IsNoMore was) (sym (idle-then of by own runs)) (same was))
+      go false rests = grind (arith, moved_or_renewed)
 
   due-so : (timer : LinkTimer) (what : line_event.Event) → Due timer what
   due-so timer (hears e) = by-plain timer (hears e) (not-t200 (hears e) timer (λ of by is. cc is))
   due-so timer (request r) = by-plain timer (request r) (not-t200 (request r) timer (λ of by is. cc is))
   due-so timer next = by-plain timer next (not-t200 next timer (λ of by is. cc is))
-  due-so T200 (expiry timers.T201) = by-plain T200 (expiry timers.T201) (not-t200 (expiry timers.T201) T200 (λ of by is. cc is))
-  due-so T203 (expiry timers.T201) = by-plain T203 (expiry timers.T201) (not-t200 (expiry timers.T201) T203 (λ of by is. cc is))
-  due-so T200 (expiry (timers.T200 of by)) = t200-of of by (is_own service tei of by) refl
-  due-so T203 (expiry (timers.T200 of by)) = t203-by-t200 of by (is_own service tei of by) refl
-  due-so T200 (expiry (timers.T203 of by)) = by-plain T200 (expiry (timers.T203 of by)) (not-t200 (expiry (timers.T203 of by)) T200 (λ of by is. cc is))
-  due-so T203 (expiry (timers.T203 of by)) = t203-of of by (is_own service tei of by) refl
+  due-so T200 (expiry T201) = by-plain T200 (expiry T201) (not-t200 (expiry T201) T200 (λ of by is. cc is))
+  due-so T203 (expiry T201) = by-plain T203 (expiry T201) (not-t200 (expiry T201) T203 (λ of by is. cc is))
+  due-so T200 (expiry (TimerT200 of by)) = t200-of of by (is_own service tei of by) refl
+  due-so T203 (expiry (TimerT200 of by)) = t203-by-t200 of by (is_own service tei of by) refl
+  due-so T200 (expiry (TimerT203 of by)) = by-plain T200 (expiry (TimerT203 of by)) (not-t200 (expiry (TimerT203 of by)) T200 (λ of by is. cc is))
+  due-so T203 (expiry (TimerT203 of by)) = t203-of of by (is_own service tei of by) refl
 
   -- So what is ordered of one is what is due.
   module _ (what : line_event.Event) (timer : LinkTimer) where
@@ -216,13 +206,12 @@ module _ (c : Config) (events : List Event) (number : ℕ) (ranged : IsInRange c
 pub timers-are-timely : Always TimersAreTimely
 timers-are-timely c events number ranged all within service tei what =
     let card = after_all (fresh c) events in
-    let a = (moment_of c events number what).answer in
     let here : number < card.config.lines = subst (λ (c : Config). number < c.lines) (sym (config-now c events number ranged all within service tei)) within in
     let by : LinkTimer → List Order =
     λ timer. let its = timer_of service tei timer in
-    order_by (obeyed its false (orders_in a)) (is_needed its (line_at number card)) (is_needed its (line_at number (after (at number what) card))) its in
+    order_by (obeyed its false (orders_in ((moment_of c events number what).answer))) (is_needed its (line_at number card)) (is_needed its (line_at number (after (at number what) card))) its in
     own-ordered service tei number card (sound-now c events number ranged all within service tei) (timely-now c events number ranged all within service tei) (at number what) here _
     (true-now c events number ranged all within service tei)
     ∙ ap (λ xs. xs ++ by T203) (ordered c events number ranged all within service tei what T200)
-    ∙ ap (λ xs. timely.order_due c service tei (view_of c service tei number events).link (view_behind c service tei number events what).link what T200 (timers.T200 service tei) ++ xs)
+    ∙ ap (λ xs. timely.order_due c service tei (view_of c service tei number events).link (view_behind c service tei number events what).link what T200 (TimerT200 service tei) ++ xs)
     (ordered c events number ranged all within service tei what T203)

@@ -1,8 +1,6 @@
 -- A TEI that is on a line before an event and behind it keeps its place.
-use Rattle.laws_trace.proofs.Vocabulary.{◌≡◌, ◌≢◌, ℕ, ◌==◌, Bool, true, get_or, Option, Some, None, refl, sym, ap, ◌∙◌, subst, arith, eq-eqb, true≢false, none-some, get_or-set_same, get_or-set_other, Places, is_on, Change, Gained, Left, Config, IsInRange, ranges_of, Aim, at_management, at_no_link, of_aim, of_change, told_of_management, IsProper, heard_proper, expiry_proper, request_proper, aim_of_heard, hears, expiry, request, next, Line, fresh_line, next-moves, Card, line_at, by_room, has_lines, eqb-true, aim_of_expiry, IsSound, CardEvent as Event, after, IsAtLine, line_sound, by-down, Moves, changes_are_told}
-use Rattle.lapd_tei.specs.Events as teis
+use Rattle.laws_trace.proofs.Vocabulary.{◌≡◌, ◌≢◌, ℕ, ◌==◌, Bool, true, get_or, Option, Some, None, refl, sym, ap, ◌∙◌, subst, arith, eq-eqb, true≢false, none-some, get_or-set_same, get_or-set_other, Places, is_on, Change, Gained, Left, Config, IsInRange, ranges_of, Aim, at_management, at_no_link, of_aim, of_change, told_of_management, IsProper, heard_proper, expiry_proper, request_proper, aim_of_heard, hears, expiry, request, next, Line, fresh_line, next-moves, Card, line_at, by_room, has_lines, eqb-true, aim_of_expiry, IsSound, CardEvent as Event, after, IsAtLine, line_sound, by-down, Moves, changes_are_told, line_after, tei_told, tei_after}
 use Rattle.model_line.specs.Event as line_event
-use Rattle.model_line.specs.Machine as lines
 use Rattle.model_card.specs.Sound as card_sound
 use Rattle.laws_trace.proofs.ManagingTables.{clear-same}
 use Rattle.laws_trace.proofs.Runs.{apart}
@@ -12,28 +10,25 @@ module _ (c : Config) (ranged : IsInRange c) (l : Line) (s : IsSound c l) (p tei
   Keeps m = is_on tei m.management.places ≡ true → get_or m.management.places p None ≡ Some tei
 
   by-change : (o : Option Change) (new : Places) → Moves l.management.places o new → is_on tei new ≡ true → get_or new p None ≡ Some tei
-  by-change None new same on = ap (λ ps. get_or ps p None) same ∙ at
-  by-change (Some (Gained by place)) new joined on = grind (arith, none-some, get_or-set_other)
-  by-change (Some (Left by place)) new gone on =
-      let away : p ≢ place = λ same. left (ap (λ q. get_or l.management.places q None) (sym same) ∙ at) in
-      ap (λ ps. get_or ps p None) gone.is_free ∙ get_or-set_other l.management.places place p None None away ∙ at
+  by-change (Some (Left by place)) new gone on = grind (arith, left, get_or-set_other)
     where
       left : get_or l.management.places place None ≡ Some tei → ⊥
       left there =
           true≢false (sym on ∙ ap (is_on tei) gone.is_free
           ∙ clear-same tei l.management.places place gone.within (λ j also. s.management.table.once j place tei also there))
+  by-change o new same on = grind (arith, none-some, get_or-set_other)
 
   by-aim : (aim : Aim) → IsProper c l aim → Keeps (of_aim c aim l).line
-  by-aim (at_management me) fits on = go (teis.told me l.management).change (changes_are_told me l.management fits s.management) on
+  by-aim (at_management me) fits on = go (tei_told me l.management).change (changes_are_told me l.management fits s.management) on
     where
-      go : (o : Option Change) → Moves l.management.places o (teis.after me l.management).places
-          → Keeps (of_change c o (told_of_management (teis.told me l.management)) (record l { management = teis.after me l.management })).line
+      go : (o : Option Change) → Moves l.management.places o (tei_after me l.management).places
+          → Keeps (of_change c o (told_of_management (tei_told me l.management)) (record l { management = tei_after me l.management })).line
       go o m on = grind (arith, by-change)
   by-aim at_no_link proper on = by-down c l (λ y. Keeps y.line) (λ on. at) on
   by-aim other proper on = at
 
-  pub keeps : (e : line_event.Event) → Keeps (lines.after c e l)
-  unfolding lines.after
+  pub keeps : (e : line_event.Event) → Keeps (line_after c e l)
+  unfolding line_after
   keeps (hears what) = by-aim (aim_of_heard c l what) (heard_proper c l what)
   keeps (expiry timer) = by-aim (aim_of_expiry timer l) (expiry_proper c l timer)
   keeps (request r) = grind (arith, by-aim, request_proper)
@@ -52,7 +47,7 @@ keeps-there card e number p tei s here at = go (e.line == number) refl
         let c = card.config in
         let l = line_at e.line card in
         by_room (λ ls a. Stays p tei (get_or ls e.line (fresh_line c))) e card (λ full on. at)
-        (λ room. subst (Stays p tei) (sym (get_or-set_same card.lines e.line (lines.after c e.what l) (fresh_line c) (omega (arith, s.count, here)))) (keeps c s.config l (line_sound card e.line (has_lines card s) here) p tei at e.what))
+        (λ room. subst (Stays p tei) (sym (get_or-set_same card.lines e.line (line_after c e.what l) (fresh_line c) (omega (arith, s.count, here)))) (keeps c s.config l (line_sound card e.line (has_lines card s) here) p tei at e.what))
 
     go : (b : Bool) → (e.line == number) ≡ b → Stays p tei (line_at number (after e card))
     go b is = grind (arith, eqb-true, own, apart, eq-eqb)

@@ -1,7 +1,6 @@
 -- Links take turns, whatever else happens meanwhile: the law.
-use Rattle.laws_trace.proofs.Vocabulary.{◌≡◌, ◌≢◌, ℕ, ◌<◌, ◌==◌, true, false, cond, List, [], ◌∷◌, ◌++◌, Some, refl, sym, ap, ◌∙◌, subst, arith, All, get_or-replicate, All-head, All-tail, Service, sapi_of, Config, Line, fresh_line, tei_at, Card, line_at, at, moments, fresh_is_sound, all-left, all-right, config-stays, link_number, link_in, place_in, has_tei, at-within, place_of-is, number_within, place_at-number, service_at-number, append-nil, append_assoc, option_map_or, list_any, IsSilent, terms, link_at, length, fresh, CardEvent as Event, after, card_answer as answer, after_all, IsAtLine, AreAtLines, CardIsSound as IsSound, always_sound, is_own, Always, seen, trace, frames_begun, IsAmong, IsSpelled, managed_after, fresh_link, All-cons, All-nil}
+use Rattle.laws_trace.proofs.Vocabulary.{◌≡◌, ◌≢◌, ℕ, ◌<◌, ◌==◌, true, false, cond, List, [], ◌∷◌, ◌++◌, Some, refl, sym, ap, ◌∙◌, subst, arith, All, get_or-replicate, All-head, All-tail, Service, sapi_of, Config, Line, fresh_line, tei_at, Card, line_at, at, moments, fresh_is_sound, all-left, all-right, config-stays, link_number, link_in, place_in, has_tei, at-within, place_of-is, number_within, place_at-number, service_at-number, append-nil, append_assoc, option_map_or, list_any, IsSilent, terms, link_at, length, fresh, CardEvent as Event, after, card_answer as answer, after_all, IsAtLine, AreAtLines, CardIsSound as IsSound, always_sound, is_own, Always, seen, trace, frames_begun, IsAmong, IsSpelled, managed_after, fresh_link, All-cons, All-nil, after_all-append}
 use Rattle.model_line.specs.Sound as line
-use Rattle.model_card.proofs.Runs.{after_all-append}
 use Rattle.laws_trace.specs.TurnsMeanwhile.{IsKeptWaiting, LinksTakeTurnsMeanwhile}
 use Rattle.laws_trace.proofs.Runs.{run-shows}
 use Rattle.laws_trace.proofs.Units.{NoneWaits, fresh-none, Passes, rests, joins, steps}
@@ -14,7 +13,8 @@ use Rattle.laws_trace.proofs.OffersOfLink.{nothing-offered}
 use Rattle.laws_trace.proofs.Spelled.{run-spelled}
 use Rattle.laws_trace.proofs.TeisAreManaged.{follows-now}
 use Rattle.laws_trace.proofs.TurnsKept.{keeps-there}
-use Rattle.laws_trace.proofs.TurnsWalked.{some-same, Meets, Walk, ends, take-turns, names-both, WalkOf, moment-walk}
+use Rattle.laws_trace.proofs.TurnsWalked.{Meets, Walk, ends, take-turns, names-both, WalkOf, moment-walk}
+use Rattle.laws_line.proofs.Following.{some-same}
 
 -- While it is so before each event, as the observer has it.
 module _ (c : Config) (number : ℕ) (ranged : line.IsInRange c) (within : number < c.lines) (first second : Service) (tei its : ℕ) where
@@ -106,8 +106,7 @@ module _ (c : Config) (number : ℕ) (ranged : line.IsInRange c) (within : numbe
           let shown = cond (e.line == number) (seen e.what (answer e card)) [] in
           let rest = trace number (moments (after e card) es) in
           let meets = speaks before front (subst Waits (append-nil before) (waits [] e es refl)) p q at in
-          subst (WalkOf number one tei other its card (end before)) (sym (names-both card.config shown rest))
-          (moment-walk number one tei other its card e sound-there here (subst (λ d. Meets d one tei other its (end before)) (sym kept) meets) plain (e.line == number) refl (links_begun card.config rest) walk)
+          grind (arith, names-both, moment-walk, sound-there, here, kept, links_begun)
 
       keeps-at : (n x : ℕ) → tei_at n (end before) ≡ Some x → has_tei x (end (before ++ e ∷ [])) ≡ true → tei_at n (end (before ++ e ∷ [])) ≡ Some x
       keeps-at n x at =

@@ -9,9 +9,7 @@ use Rattle.laws_trace.proofs.Units.{NoneWaits, plain-order, first-of, none-told,
 use Rattle.laws_trace.proofs.LinkNames.{LinkName, named_in, is_of_a_link, links_begun, named as name_of, same-number}
 use Rattle.laws_trace.proofs.NamedFrames.{names}
 use Rattle.laws_trace.proofs.Facts.{small-sapi}
-
-pub some-same : {n k : ℕ} → Some n ≡ Some k → n ≡ k
-some-same both = cc both
+use Rattle.laws_line.proofs.Following.{some-same}
 
 -- A link that would begin a frame has something to send.
 pub record Speaks (c : Config) (l : Line) (number tei : ℕ) : Type 0 where
@@ -72,7 +70,7 @@ module _ (c : Config) (one tei other its : ℕ) where
       let tail : rest ≡ between ++ name_of one tei ∷ behind = cc e in
       ⊎_elim
       (λ equal.
-      let t : by ≡ its = some-same (sym g.on_line ∙ ap (λ n. tei_at (place_at n) l) (sym equal) ∙ h.there.on_line) in
+      let t : by ≡ its = some-same by its (sym g.on_line ∙ ap (λ n. tei_at (place_at n) l) (sym equal) ∙ h.there.on_line) in
       record { front = []; back = between; split = ap (λ y. y ∷ between) (sym head ∙ ap (λ n. name_of n by) (sym equal) ∙ ap (name_of other) t) })
       (λ less.
       let inner = between-is apart m rest walk (nearer (way (number + 1)) (way m.turn) (way l.turn) (way (one + 1)) (ap way g.turned) less near) between behind tail in
@@ -93,8 +91,7 @@ module _ (c : Config) (one tei other its : ℕ) where
   take-turns apart k ns (goes l m number by rest h g walk) [] between behind e =
       let is : name_of number by ≡ name_of one tei = cc e in
       let tail : rest ≡ between ++ name_of one tei ∷ behind = cc e in
-      let same = same-number c l h.sound number one by tei g.on_line h.here is in
-      between-is apart m rest walk (same-way (way m.turn) (way (one + 1)) (ap way (g.turned ∙ ap (λ n. n + 1) same))) between behind tail
+      between-is apart m rest walk (same-way (way m.turn) (way (one + 1)) (ap way (g.turned ∙ ap (λ n. n + 1) (same-number c l h.sound number one by tei g.on_line h.here is)))) between behind tail
 
   -- One event.
   module _ (ranged : line.IsInRange c) (l : Line) (h : Meets l) (plain : NoneWaits c l) where

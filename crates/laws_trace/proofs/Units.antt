@@ -70,10 +70,6 @@ none-told a = grind arith
 pub none-requested : (r : Request) (a : Answer) → frames_begun (seen_granted r a ++ seen_told a) ≡ []
 none-requested r a = grind arith
 
--- what a request that is granted leaves of them
-left-is : (c : Config) (r : Request) (us : List UnitData) → map (unit_frame c) (units_behind r us ++ unit_asked r) ≡ left_by c r (map (unit_frame c) us)
-left-is c r us = grind (arith, map-append)
-
 told-goes : (c : Config) (waiting left : List (List ℕ)) (a : Answer) → left ≡ waiting → Goes c waiting (seen_told a) left
 unfolding Goes
 told-goes c waiting left a same = grind arith
@@ -81,7 +77,7 @@ told-goes c waiting left a same = grind arith
 request-goes : (c : Config) (before after : Line) (r : Request) (a : Answer) → after.units ≡ units_left r a before.units ++ units_asked (request r) a
     → Passes c before (seen_granted r a ++ seen_told a) after
 unfolding Goes
-request-goes c before after r a is = grind (arith, left-is, append-nil)
+request-goes c before after r a is = grind (arith, map-append, append-nil)
 
 -- A call begins the oldest unit data, or a frame that is none.
 pub given-frames : (o : Option NextFrame) → frames_begun (map begun (frame_in (gave o))) ≡ frame_in (gave o)

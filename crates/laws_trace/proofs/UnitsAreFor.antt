@@ -1,6 +1,5 @@
 -- Unit data is told of TEIs on the line, or of the group.
-use Rattle.laws_trace.proofs.Vocabulary.{arith, ◌≡◌, ℕ, ◌<◌, ◌==◌, ◌&&◌, ◌||◌, not, Bool, true, false, cond, length, List, ◌∷◌, ◌++◌, Option, Some, None, is_some, refl, sym, ap, ◌∙◌, subst, eq-eqb, true≢false, ◌⊎◌, inl, inr, nat_le, Result, Ok, Err, list_any, option_map_or, and_parts, leb-true, Side, User, ReadFault, Service, Parts, reading, same_service, Config, Answer, hears, group_tei, heard_side, Line, has_tei, state_of, manages, IsInRange, line_at, at, has_lines, by_room, line_sound, notes_of, is_unit_of, eqb-true, IsSound, fresh, CardEvent as Event, card_answer as answer, after_all, AreAtLines, is_unit_for, result_ok, brought, frame_of, its_frame, is_for, managing_is_on as is_on, view_of, is_ui, or-true}
-use Rattle.model_bits.specs.Stream as stream
+use Rattle.laws_trace.proofs.Vocabulary.{arith, ◌≡◌, ℕ, ◌<◌, ◌==◌, ◌&&◌, ◌||◌, not, Bool, true, false, cond, length, List, ◌∷◌, ◌++◌, Option, Some, None, is_some, refl, sym, ap, ◌∙◌, subst, eq-eqb, true≢false, ◌⊎◌, inl, inr, nat_le, Result, Ok, Err, list_any, option_map_or, and_parts, leb-true, Side, User, ReadFault, Service, Parts, reading, same_service, Config, Answer, hears, group_tei, heard_side, Line, has_tei, state_of, manages, IsInRange, line_at, at, has_lines, by_room, line_sound, notes_of, is_unit_of, eqb-true, IsSound, fresh, CardEvent as Event, card_answer as answer, after_all, AreAtLines, is_unit_for, result_ok, brought, frame_of, its_frame, is_for, managing_is_on as is_on, view_of, is_ui, or-true, stream_frame, StreamEvent}
 use Rattle.model_line.specs.Event as line_event
 use Rattle.model_line.specs.Machine as lines
 use Rattle.laws_trace.proofs.Deliveries.{unit-tells, unit-own, none-noted, group-notes}
@@ -48,27 +47,18 @@ unit-for c before number ranged all within service tei what =
     (λ room some. there same (of-unit card.config s.config (line_at number card) (line_sound card number (has_lines card s) here) service tei what some))
   where
     there : (after_all (fresh c) before).config ≡ c → IsForOne (after_all (fresh c) before).config tei (line_at number (after_all (fresh c) before)) → IsThere c service tei number before
-    there same (inl on) = inl (tei-seen c before number ranged all within service tei ∙ on)
-    there same (inr y) = inr (subst (λ (d : Config). d.side ≡ User) same y.0, y.1)
+    there same o = grind (arith, tei-seen)
 
 -- So it is of the frame that comes.
 abbrev IsHere : Config → Service → ℕ → ℕ → List Event → Bool
 IsHere c service tei number before = is_on tei (view_of c service tei number before).teis || (not (manages c.side) && tei == 127)
-
-user-so : (side : Side) → not (manages side) ≡ true → side ≡ User
-user-so side is = grind arith
-
-here-so : (c : Config) (service : Service) (tei number : ℕ) (before : List Event) → IsThere c service tei number before → IsHere c service tei number before ≡ true
-here-so c service tei number before (inl on) = ap (λ b. b || (not (manages c.side) && tei == 127)) on
-here-so c service tei number before (inr y) = grind (arith, eq-eqb, or-true)
 
 pub unit-is : (c : Config) (before : List Event) (number : ℕ) → IsInRange c → AreAtLines (fresh c) before → number < c.lines → (service : Service) (tei : ℕ) (what : line_event.Event)
     (frame : Option Parts) → (list_any (is_unit_of service tei) (notes_of (answer (at number what) (after_all (fresh c) before))) ≡ true → option_map_or (λ (f : Parts). is_ui f.control) frame false ≡ true)
     → list_any (is_unit_of service tei) (notes_of (answer (at number what) (after_all (fresh c) before))) ≡ true
     → option_map_or (is_unit_for c tei (view_of c service tei number before).teis) frame false ≡ true
 unit-is c before number ranged all within service tei what None ui some = ui some
-unit-is c before number ranged all within service tei what (Some f) ui some =
-    ap (λ b. b && IsHere c service tei number before) (ui some) ∙ here-so c service tei number before (unit-for c before number ranged all within service tei what some)
+unit-is c before number ranged all within service tei what (Some f) ui some = grind (arith, eq-eqb, or-true, unit-for)
 
 -- And each of at most N201 octets is told.
 module _ (c : Config) (events : List Event) (number : ℕ) (ranged : IsInRange c) (all : AreAtLines (fresh c) events) (within : number < c.lines) (service : Service) (tei : ℕ) (before : List Event) where
@@ -78,13 +68,13 @@ module _ (c : Config) (events : List Event) (number : ℕ) (ranged : IsInRange c
   abbrev Comes : Option Parts → Type 0
   Comes frame = option_map_or (λ (f : Parts). is_unit_for c tei (view_of c service tei number before).teis f && nat_le (length f.info) c.n201) frame false ≡ true
 
-  by-frame : (octets : List ℕ) (behind : List Event) → events ≡ before ++ at number (hears (stream.frame octets)) ∷ behind → (r : Result Parts ReadFault) → reading (heard_side c) octets ≡ r
-      → Comes (its_frame service tei (result_ok r)) → Told (hears (stream.frame octets))
+  by-frame : (octets : List ℕ) (behind : List Event) → events ≡ before ++ at number (hears (stream_frame octets)) ∷ behind → (r : Result Parts ReadFault) → reading (heard_side c) octets ≡ r
+      → Comes (its_frame service tei (result_ok r)) → Told (hears (stream_frame octets))
   by-frame octets behind split (Err fault) read some = absurd (true≢false (sym some))
   by-frame octets behind split (Ok f) read some = on (is_for service tei f.address) refl some
     where
       first : AreAtLines (fresh c) before
-      first = front-at (fresh c) before (at number (hears (stream.frame octets))) behind (subst (AreAtLines (fresh c)) split all)
+      first = front-at (fresh c) before (at number (hears (stream_frame octets))) behind (subst (AreAtLines (fresh c)) split all)
 
       there : IsHere c service tei number before ≡ true → (is_some (state_of service tei (line_at number (after_all (fresh c) before))) ≡ true) ⊎ ((c.side ≡ User) × (tei ≡ 127))
       there is = go (is_on tei (view_of c service tei number before).teis) refl is
@@ -92,9 +82,9 @@ module _ (c : Config) (events : List Event) (number : ℕ) (ranged : IsInRange c
           go : (b : Bool) → is_on tei (view_of c service tei number before).teis ≡ b → (b || (not (manages c.side) && tei == 127)) ≡ true
               → (is_some (state_of service tei (line_at number (after_all (fresh c) before))) ≡ true) ⊎ ((c.side ≡ User) × (tei ≡ 127))
           go true on e = inl (sym (is-told service tei (line_at number (after_all (fresh c) before))) ∙ sym (tei-seen c before number ranged first within service tei) ∙ on)
-          go false off e = let x = and_parts (not (manages c.side)) (tei == 127) e in inr (user-so c.side x.0, eqb-true tei 127 x.1)
+          go false off e = let x = and_parts (not (manages c.side)) (tei == 127) e in inr ((grind arith), eqb-true tei 127 x.1)
 
-      on : (b : Bool) → is_for service tei f.address ≡ b → Comes (cond b (Some f) None) → Told (hears (stream.frame octets))
+      on : (b : Bool) → is_for service tei f.address ≡ b → Comes (cond b (Some f) None) → Told (hears (stream_frame octets))
       on false other some = absurd (true≢false (sym some))
       on true for some =
           let x = and_parts (is_unit_for c tei (view_of c service tei number before).teis f) (nat_le (length f.info) c.n201) some in
@@ -102,7 +92,7 @@ module _ (c : Config) (events : List Event) (number : ℕ) (ranged : IsInRange c
           (units-are-told c events number ranged all within service tei octets f before behind split
           (record { read = read; whose = for; control = y.0; size = leb-true (length f.info) c.n201 x.1; there = there y.1 })).0
 
-  by-heard : (e : stream.Event) (behind : List Event) → events ≡ before ++ at number (hears e) ∷ behind → Comes (its_frame service tei (frame_of c e)) → Told (hears e)
+  by-heard : (e : StreamEvent) (behind : List Event) → events ≡ before ++ at number (hears e) ∷ behind → Comes (its_frame service tei (frame_of c e)) → Told (hears e)
   by-heard e behind split some = grind (arith, by-frame)
 
   pub units-are : (what : line_event.Event) (behind : List Event) → events ≡ before ++ at number what ∷ behind → Comes (brought c service tei what) → Told what

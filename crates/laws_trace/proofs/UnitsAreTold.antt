@@ -1,6 +1,5 @@
 -- Unit data that is heard is told: the law.
-use Rattle.laws_trace.proofs.Vocabulary.{arith, ◌≡◌, ℕ, ◌≤◌, ◌==◌, ◌&&◌, ◌||◌, Bool, true, false, List, length, Option, Some, None, refl, sym, ap, ◌∙◌, subst, true≢false, ◌⊎◌, inl, inr, Ok, is_some, ◌∷◌, ◌++◌, list_any, option_or, le-leb, none-some, User, Ui, Service, Parts, reading, sapi_of, service_of, in_ui_frame, in_sequence, within, event-unit, data-is, Terms, eligible_of, Link, notes-own, event-tells, Config, hears, Answer, heard_side, Line, link_of, place_in, state_of, terms, IsToGroup, IsInRange, line_at, at, notes_of, contents_in, is_unit_of, group-read, own-all, service-same, both-true, IsBy, card_answer as answer, eqb-true, Control, link_information_of as information_of, Event as LineEvent, IsSound, fresh, CardEvent as Event, after_all, AreAtLines, result_ok, is_for, Always, is_ui, link_told as told}
-use Rattle.model_bits.specs.Stream as stream
+use Rattle.laws_trace.proofs.Vocabulary.{arith, ◌≡◌, ℕ, ◌≤◌, ◌==◌, ◌&&◌, ◌||◌, Bool, true, false, List, length, Option, Some, None, refl, sym, ap, ◌∙◌, subst, true≢false, ◌⊎◌, inl, inr, Ok, is_some, ◌∷◌, ◌++◌, list_any, option_or, le-leb, none-some, User, Ui, Service, Parts, reading, sapi_of, service_of, in_ui_frame, in_sequence, within, event-unit, data-is, Terms, eligible_of, Link, notes-own, event-tells, Config, hears, Answer, heard_side, Line, link_of, place_in, state_of, terms, IsToGroup, IsInRange, line_at, at, notes_of, contents_in, is_unit_of, group-read, own-all, service-same, both-true, IsBy, card_answer as answer, eqb-true, Control, link_information_of as information_of, Event as LineEvent, IsSound, fresh, CardEvent as Event, after_all, AreAtLines, result_ok, is_for, Always, is_ui, link_told as told, stream_frame}
 use Rattle.model_link.specs.Events as link
 use Rattle.model_link.specs.Sound as link_sound
 use Rattle.model_line.specs.Machine as lines
@@ -29,7 +28,7 @@ Tells service tei info a = (list_any (is_unit_of service tei) (notes_of a) ≡ t
 module _ (c : Config) (ranged : IsInRange c) (l : Line) (s : IsSound c l) (service : Service) (tei : ℕ) (octets : List ℕ) (f : Parts)
     (read : reading (heard_side c) octets ≡ Ok f) (for : is_for service tei f.address ≡ true) (ui : is_ui f.control ≡ true) (size : length f.info ≤ c.n201) where
   abbrev e : LineEvent
-  e = hears (stream.frame octets)
+  e = hears (stream_frame octets)
 
   abbrev t : Terms
   t = terms c service tei
@@ -44,14 +43,7 @@ module _ (c : Config) (ranged : IsInRange c) (l : Line) (s : IsSound c l) (servi
   pub group : c.side ≡ User → tei ≡ 127 → Tells service tei f.info (lines.answer c e l)
   group side all =
       let x = which-ui f.control ui in
-      let to : IsToGroup c f service = record {
-        side = side;
-        sapi = ap service_of whose.0 ∙ its-service service;
-        group = whose.1 ∙ all;
-        poll = x.0;
-        control = x.1;
-        size = size;
-      } in
+      let to : IsToGroup c f service = grind (arith, ap service_of whose.0 ∙ its-service service, whose.1 ∙ all) in
       let is = (group-read c l f octets service s read to).answer_is in (
         ap (λ a. list_any (is_unit_of service tei) (notes_of a)) is ∙ ap (λ b. (b && 127 == tei) || false) (service-same service)
             ∙ ap (λ n. (127 == n) || false) all,
@@ -78,8 +70,7 @@ module _ (c : Config) (ranged : IsInRange c) (l : Line) (s : IsSound c l) (servi
       )
 
   on-line : is_some (state_of service tei l) ≡ true → (o : Option ℕ) → place_in l tei ≡ o → (place : ℕ) × (place_in l tei ≡ Some place)
-  on-line on (Some place) is = (place, is)
-  on-line on None off = absurd (true≢false (sym on ∙ ap is_some (off-state service tei l off)))
+  on-line on o is = grind (arith, is_some, off-state)
 
   pub terminal : is_some (state_of service tei l) ≡ true → Tells service tei f.info (lines.answer c e l)
   terminal on = go (event-goes c e l service tei s)
@@ -104,7 +95,7 @@ pub record BringsUnit (c : Config) (state : Option ℕ) (service : Service) (tei
 abbrev pub UnitsAreTold : Config → List Event → ℕ → Type 0
 UnitsAreTold c events number =
     (service : Service) (tei : ℕ) (octets : List ℕ) (frame : Parts) (before behind : List Event) →
-    let e = at number (hears (stream.frame octets)) in
+    let e = at number (hears (stream_frame octets)) in
     let card = after_all (fresh c) before in
     events ≡ before ++ e ∷ behind → BringsUnit c (state_of service tei (line_at number card)) service tei octets frame →
     (list_any (is_unit_of service tei) (notes_of (answer e card)) ≡ true) × (contents_in (answer e card) ≡ Some frame.info)
@@ -112,14 +103,12 @@ UnitsAreTold c events number =
 pub units-are-told : Always UnitsAreTold
 unfolding lines.takes_slot
 units-are-told c events number ranged all within service tei octets f before behind is x =
-    let e = at number (hears (stream.frame octets)) in
-    let front = front-at (fresh c) before e behind (subst (AreAtLines (fresh c)) is all) in
-    let card = after_all (fresh c) before in
-    let l = line_at number card in
+    let front = front-at (fresh c) before (at number (hears (stream_frame octets))) behind (subst (AreAtLines (fresh c)) is all) in
+    let l = line_at number (after_all (fresh c) before) in
     let s = line-at-end c before number ranged front within in
-    subst (λ (d : Config). Tells service tei f.info (lines.answer d (hears (stream.frame octets)) l)) (sym (config-now c before number ranged front within service tei)) (by s x.there)
+    subst (λ (d : Config). Tells service tei f.info (lines.answer d (hears (stream_frame octets)) l)) (sym (config-now c before number ranged front within service tei)) (by s x.there)
   where
     by : IsSound c (line_at number (after_all (fresh c) before)) → (is_some (state_of service tei (line_at number (after_all (fresh c) before))) ≡ true) ⊎ ((c.side ≡ User) × (tei ≡ 127))
-        → Tells service tei f.info (lines.answer c (hears (stream.frame octets)) (line_at number (after_all (fresh c) before)))
+        → Tells service tei f.info (lines.answer c (hears (stream_frame octets)) (line_at number (after_all (fresh c) before)))
     by s (inl on) = terminal c ranged (line_at number (after_all (fresh c) before)) s service tei octets f x.read x.whose x.control x.size on
     by s (inr group_is) = group c ranged (line_at number (after_all (fresh c) before)) s service tei octets f x.read x.whose x.control x.size group_is.0 group_is.1

@@ -52,6 +52,8 @@ pub use Rattle.lapd_seq.specs.declared.numbers.Seq.{Seq}
 pub use Rattle.lapd_tei.proofs.Followed.{t201_follows}
 pub use Rattle.lapd_tei.proofs.LawLemmas.{changes_are_told, sound-after}
 pub use Rattle.lapd_tei.proofs.Tables.{at-within, free_place-is, free_tei-is, is_on-at, not_not, on-range, place_of-is}
+unfoldable pub use Rattle.lapd_tei.specs.Events.{course as tei_course, refusal as tei_refusal}
+pub use Rattle.lapd_tei.specs.Events.{Event as TeiEvent, after as tei_after, assign as tei_assign, check as tei_check, message as tei_message, refusal_if as tei_refusal_if, remove as tei_remove, step as tei_step, told as tei_told, unless_refused as tei_unless_refused}
 pub use Rattle.lapd_tei.specs.Laws.{Follows, HasJoined, HasLeft, IsInRange as TeiIsInRange, Moves, stop_of}
 pub use Rattle.lapd_tei.specs.Machine.{Management, TeiTold}
 pub use Rattle.lapd_tei.specs.Messages.{action_of, frame_of as message_frame, heard_in, heard_of_type, information_of}
@@ -66,7 +68,7 @@ pub use Rattle.lapd_tei.specs.declared.messages.Message.TheVariants.{IdentityAss
 pub use Rattle.lapd_tei.specs.declared.outcome.Change.{Change}
 pub use Rattle.lapd_tei.specs.declared.outcome.Change.TheVariants.{Gained, Left}
 pub use Rattle.lapd_tei.specs.declared.remembered.Remembered.{Remembered}
-pub use Rattle.laws_line.proofs.Asked.{link-grants, passed}
+pub use Rattle.laws_line.proofs.Asked.{link-grants}
 pub use Rattle.laws_line.proofs.Bounds.{to-go-few}
 pub use Rattle.laws_line.proofs.Downs.{by-down}
 pub use Rattle.laws_line.proofs.Following.{and-false, some-same}
@@ -130,7 +132,7 @@ pub use Rattle.laws_trace.specs.LinkFrames.{brought, fault_of, faulty_long, fram
 pub use Rattle.laws_trace.specs.Managing.{manages, Checked, Managed, asked, by_event as managing_by_event, by_message, checks, due, gives, grants, is_on as managing_is_on, leaves, led, managed_after, may_check, none_on, nothing_due, over, owes, ran_out, responded}
 pub use Rattle.laws_trace.specs.News.{NewsIsTold, brings, given_up, is_news, is_sabme, is_xid, releases, wrong, wrong_frame, wrong_number}
 pub use Rattle.laws_trace.specs.Observer.{Observed, View, anew, at_first, awaits, by_event, by_expiry as observer_by_expiry, by_frame as observer_by_frame, by_heard, by_request as observer_by_request, by_t200, enquires, enters, in_state, is_invalid as observer_is_invalid, is_next as observer_is_next, is_outstanding, moment_of, numbered, receipt, sends, steps, takes as observer_takes, view_behind, view_of, views, while_down, while_up}
-pub use Rattle.laws_trace.specs.Outgoing.{Outgoing, data_granted, is_empty, keeps, nothing_yet, outgoing_of, still_owes, watches, went_on}
+pub use Rattle.laws_trace.specs.Outgoing.{Outgoing, data_granted, is_empty, keeps, nothing_yet, outgoing_of, still_owes, watches, went_on, waits as outgoing_waits}
 pub use Rattle.laws_trace.specs.TeisAreManaged.{IsAsDue, TeisAreManaged, is_of_t201, is_of_teis}
 pub use Rattle.laws_trace.specs.TimersAreTimely.{TimersAreTimely, TimersRun, is_order_of, is_timer_of, renews}
 pub use Rattle.laws_trace.specs.Trace.{Always, IsAmong, IsFront, Seen, begun as trace_begun, data_asked, frame_begun, frame_in as trace_frame_in, frames_begun, granted, heard, is_own, is_up, lost, noted as trace_noted, seen, seen_granted, seen_in, seen_told, trace, trace_of}
@@ -141,6 +143,7 @@ pub use Rattle.laws_trace.specs.octets.Pulled.{EndsInPulls}
 pub use Rattle.laws_trace.specs.octets.UnitsAreHeard.{AllUnitsAreHeard, AreFronts, UnitsAreHeard, whole_frame, whole_frames}
 pub use Rattle.model_bits.specs.Heads.{latest_frame, or_later}
 pub use Rattle.model_bits.specs.Sent.{Item, idle}
+pub use Rattle.model_bits.specs.Stream.{Event as StreamEvent, frame as stream_frame, heard_in as stream_heard_in, overlong as stream_overlong}
 pub use Rattle.model_bits.specs.StuffingLaws.{AreOctets}
 pub use Rattle.model_bits.specs.declared.heard.Cause.{Cause}
 pub use Rattle.model_bits.specs.declared.heard.Cause.TheVariants.{Tei, Unserved}
@@ -153,6 +156,7 @@ pub use Rattle.model_card.proofs.OfPorts.Sound.{fresh_octets_sound}
 pub use Rattle.model_card.proofs.OfPorts.Steps.{config_stays, moments-append}
 pub use Rattle.model_card.proofs.Refusals.{answer_is}
 pub use Rattle.model_card.proofs.Rooms.{refuses_by}
+pub use Rattle.model_card.proofs.Runs.{after_all-append}
 pub use Rattle.model_card.proofs.Steps.{by_room, has_lines, line_sound}
 pub use Rattle.model_card.specs.Card.{Card, fresh, is_full, line_at}
 pub use Rattle.model_card.specs.Event.{Event as CardEvent, at}
@@ -172,6 +176,7 @@ pub use Rattle.model_card.specs.ports.Promises.{moments_meant}
 pub use Rattle.model_card.specs.ports.Pulls.{pulls_at, pulls_behind}
 pub use Rattle.model_card.specs.ports.Run.{AreAtLines as PortsAreAtLines}
 unfoldable pub use Rattle.model_card.specs.ports.Run.{after_all as ports_after_all, meant_all}
+pub use Rattle.model_line.proofs.RoomForAll.{passed}
 pub use Rattle.model_line.proofs.AimsSound.{IsProper}
 pub use Rattle.model_line.proofs.LinksSound.{sound_in}
 pub use Rattle.model_line.proofs.Numbers.{number_within, place_at-number, service_at-number}

@@ -1,7 +1,6 @@
 -- The control frames of a link that wait are those that an observer has.
-use Rattle.laws_trace.proofs.Vocabulary.{arith, ◌≡◌, ℕ, ◌<◌, ◌-◌, ◌==◌, ◌&&◌, false, cond, not, List, [], ◌++◌, drop, take, length, Some, refl, sym, ap, ◌∙◌, subst, eq-eqb, fold, Service, ControlFrame, Link, Config, Line, link_of, place_in, lost_in, IsInRange, at, moments, deactivates, fresh, CardEvent as Event, Moment, after_all, AreAtLines, Observed, View, views, view_of, moment_of, view_behind, put_in, outgoing_of, seen, seen_in, trace_of, true, Bool, All, ◌∷◌, map, flat_map, filter, Option, None, option_to_list, inl, inr, append-nil, place_of-is, given-in-order, IsInOrder, All-head, Refusal, Terms, Given, IsGiven, given_is_frame, Effect, next, Answer, unless_refused_told, is_information, terms, terms_in_range, PoolFull, and_parts, line_at, is_full, by_room, Control, IsSound, line_frame_of as frame_of, Card, card_answer as answer, is_frame_of, trace_frame_in as frame_in, is_ui, drop-nil, offer, link_after as after, given}
+use Rattle.laws_trace.proofs.Vocabulary.{arith, ◌≡◌, ℕ, ◌<◌, ◌-◌, ◌==◌, ◌&&◌, false, cond, not, List, [], ◌++◌, drop, take, length, Some, refl, sym, ap, ◌∙◌, subst, eq-eqb, fold, Service, ControlFrame, Link, Config, Line, link_of, place_in, lost_in, IsInRange, at, moments, deactivates, fresh, CardEvent as Event, Moment, after_all, AreAtLines, Observed, View, views, view_of, moment_of, view_behind, put_in, outgoing_of, seen, seen_in, trace_of, true, Bool, All, ◌∷◌, map, flat_map, filter, Option, None, option_to_list, inl, inr, append-nil, place_of-is, given-in-order, IsInOrder, All-head, Refusal, Terms, Given, IsGiven, given_is_frame, Effect, next, Answer, unless_refused_told, is_information, terms, terms_in_range, PoolFull, and_parts, line_at, is_full, by_room, Control, IsSound, line_frame_of as frame_of, Card, card_answer as answer, is_frame_of, trace_frame_in as frame_in, is_ui, drop-nil, offer, link_after as after, given, outgoing_waits}
 use Rattle.model_line.specs.Event as line_event
-use Rattle.laws_trace.specs.Outgoing as outgoing
 use Rattle.laws_trace.proofs.ControlFrames.{moment}
 use Rattle.laws_trace.proofs.ControlsAtLine.{waits}
 use Rattle.laws_trace.proofs.ControlsDue.{controls}
@@ -87,9 +86,7 @@ module _ (c : Config) (events : List Event) (number : ℕ) (ranged : IsInRange c
   line-leaves = go (event-goes c next line service tei sound)
     where
       go : Goes c service tei next line (lines.after c next line) (lines.answer c next line) → Leaves (frame_in (lines.answer c next line))
-      go (inl x) =
-          ap (λ xs. drop (length xs) (waits service tei line)) (all-foreign c service tei (frame_in (lines.answer c next line)) x.begins)
-          ∙ sym (ap (λ xs. drop (length xs) (waits service tei line)) (seen_of.all-foreign c service tei (frame_in (lines.answer c next line)) x.begins))
+      go (inl x) = grind (arith, waits, all-foreign, seen_of.all-foreign)
       go (inr (inl x)) =
           subst Leaves (sym (x.begins ∙ ap (λ e. frames_given c t e own) (only-offered c (lines.answer c next line) service tei x.event x.by)))
           (own-leaves x.place x.placed (given t own) refl)
@@ -160,13 +157,12 @@ module _ (c : Config) (number : ℕ) (ranged : IsInRange c) (within : number < c
       ++ last_of (due_by c (view_of c service tei number before).link (view_behind c service tei number before what).link m) m)
       ≡ waits service tei (later_of before what)
   waits-exact before all what p q on there =
-      let card = after_all (fresh c) before in
       let l = line_of before in
       let m = moment_of c before number what in
       let w = fold (stand c service tei) watched_first (trace_of c before number) in
       let x = run-stands c before number ranged all within service tei in
       let same = config-now c before number ranged all within service tei in
-      let passes = (moment service tei w.told.count w.busy w.rejected card (at number what) number (sound-now c before number ranged all within service tei)
+      let passes = (moment service tei w.told.count w.busy w.rejected (after_all (fresh c) before) (at number what) number (sound-now c before number ranged all within service tei)
       (timely-now c before number ranged all within service tei) (here-at c number ranged within service tei before all) (x.1, x.2) (number == number) refl).passes in
       let down = deactivates service tei what in
       let last : (d : Config) → List ControlFrame =
@@ -179,22 +175,21 @@ module _ (c : Config) (number : ℕ) (ranged : IsInRange c) (within : number < c
 
   -- and so by the frames that begin
   pub waits-stay : (before : List Event) → AreAtLines (fresh c) before → (what : line_event.Event) (p q : ℕ) → place_in (line_of before) tei ≡ Some p → place_in (later_of before what) tei ≡ Some q
-      → outgoing.waits c service tei (view_of c service tei number before).link (view_behind c service tei number before what).link (moment_of c before number what) (waits service tei (line_of before))
+      → outgoing_waits c service tei (view_of c service tei number before).link (view_behind c service tei number before what).link (moment_of c before number what) (waits service tei (line_of before))
       ≡ waits service tei (later_of before what)
   waits-stay before all what p q on there =
       let m = moment_of c before number what in
       let was = (view_of c service tei number before).link in
       let puts = put_in c service tei was (view_behind c service tei number before what).link m in
-      let begun = drop (length (controls_begun c service tei (seen what m.answer))) (waits service tei (line_of before)) in
       let own = seen-before c before number ranged all within service tei p on in
       let down = deactivates service tei what in
       ap (λ ws. cond down [] (ws ++ last_of puts m)) (begun-leaves c before number ranged all within service tei what)
-      ∙ ap (λ b. cond down [] (begun ++ last_of (cond b puts []) m))
+      ∙ ap (λ b. cond down [] ((drop (length (controls_begun c service tei (seen what m.answer))) (waits service tei (line_of before))) ++ last_of (cond b puts []) m))
       (sym (ap (λ b. b && not (was.state == 1)) (eq-eqb number number refl) ∙ ap not (ap (λ s. s == 1) own.state_is ∙ not-one (link_of service tei (line_of before)).state)))
       ∙ waits-exact before all what p q on there
 
   abbrev waits_by : View → View → Moment → List ControlFrame → List ControlFrame
-  waits_by was now m xs = outgoing.waits c service tei was.link now.link m xs
+  waits_by was now m xs = outgoing_waits c service tei was.link now.link m xs
 
   pub waiting-now : (events : List Event) → AreAtLines (fresh c) events → (place : ℕ) → place_in (line_of events) tei ≡ Some place
       → (outgoing_of c service tei number events).waiting ≡ waits service tei (line_of events)

@@ -1,11 +1,10 @@
 -- What happens at one end of a wire whose link is up, where frames are lost and timers expire.
-use Rattle.laws_wire.proofs.Vocabulary.{arith, ◌≡◌, ℕ, IsTrue, List, [], ◌∷◌, ◌++◌, drop, refl, sym, ap, subst, ◌∙◌, ◌⊎◌, inl, inr, append-nil, Service, Timer, Parts, spelling, ControlFrame, LinkTimer, is_multiple_frame, course, IsInRange, End, with_link, with_sent, frames_of, Config, LineTold, expiry, request, next, at_timer, aim_of_expiry, Line, place_in, event-follows, IsSound, Course, line_of, Data, Station, happens, with_first_lost, comes}
+use Rattle.laws_wire.proofs.Vocabulary.{arith, ◌≡◌, ℕ, IsTrue, List, [], ◌∷◌, ◌++◌, drop, refl, sym, ap, subst, ◌∙◌, ◌⊎◌, inl, inr, append-nil, Service, Timer, Parts, spelling, ControlFrame, LinkTimer, is_multiple_frame, course, IsInRange, End, with_link, with_sent, frames_of, Config, LineTold, expiry, request, next, at_timer, aim_of_expiry, Line, place_in, event-follows, IsSound, Course, line_of, Data, Station, happens, with_first_lost, comes, two_ends_with_first_lost}
 use Rattle.model_link.specs.Events as link
-use Rattle.model_link.specs.TwoEnds as two_ends
 use Rattle.laws_wire.proofs.Asking.{with_more}
 use Rattle.laws_wire.proofs.Fair.{Fine, frame-fair, timer-fair}
 use Rattle.laws_wire.proofs.Held.{Held, TellsIt, Erred, now-erred, held-given, held-lost, taken-told, held-taken, expired-told, held-expired, held-asked}
-use Rattle.laws_wire.proofs.Joint.{Joint, turned-joint, IsMeant, since, line-on, loses-first, Goes, waits-more, goes-on, only-link, accepts, timer-goes, timer-delivers, GivesOn, gives-on, first-means, HearsOn, hears-on}
+use Rattle.laws_wire.proofs.Joint.{Joint, IsMeant, since, line-on, loses-first, Goes, waits-more, goes-on, only-link, accepts, timer-goes, timer-delivers, GivesOn, gives-on, first-means, HearsOn, hears-on}
 use Rattle.laws_wire.proofs.Standing.{IsCarried, Stands, link-sound, link-ranges}
 use Rattle.laws_wire.proofs.Talking.{Face}
 
@@ -27,14 +26,11 @@ module _ (service : Service) (tei place : ℕ) (past : List LineTold) (c : Confi
   abbrev Its : Station → End → Type 0
   Its s n = Held c service tei place past s n
 
-  own-stands : (s : Station) (n : End) → Its s n → Stands s.card.config service tei place s n
-  own-stands s n h = subst (λ k. Stands k service tei place s n) (sym h.stands.config) h.stands
-
   pub sound : (s : Station) (n : End) → Its s n → IsSound n.terms n.link
-  sound s n h = link-sound service tei place s n (own-stands s n h)
+  sound s n h = link-sound service tei place s n (subst (λ k. Stands k service tei place s n) (sym h.stands.config) h.stands)
 
   pub ranges : (s : Station) (n : End) → Its s n → IsInRange n.terms
-  ranges s n h = link-ranges service tei place s n (own-stands s n h)
+  ranges s n h = link-ranges service tei place s n (subst (λ k. Stands k service tei place s n) (sym h.stands.config) h.stands)
 
   -- An end whose link is up, with what is on its line.
   pub record UpAt (s : Station) (n m : End) (first near far : List Parts) : Type 0 where
@@ -87,7 +83,6 @@ module _ (service : Service) (tei place : ℕ) (past : List LineTold) (c : Confi
           | inr fine ↦
               let g : Goes n.link x.link [] = timer-goes n.terms n.link h.up its fine.up in
               let news = since ws x.link.waiting in
-              let is = only-link n e (timer-delivers n.terms n.link its) in
               let kept : x.link.contents ≡ n.link.contents = g.same ∙ append-nil n.link.contents in
               inl (record {
                 n = with_link e n;
@@ -96,7 +91,7 @@ module _ (service : Service) (tei place : ℕ) (past : List LineTold) (c : Confi
                   held = held-expired service tei place past c s n h.held timer its aims (tells x fine) kept;
                   up = fine.up;
                   line = line-on n.terms n.way first near ws x.link.waiting news h.line (waits-more n.link x.link [] g);
-                  joint = subst (λ y. Joint y m (near ++ frames_of n.terms news) far) (sym is) (goes-on n m x.link [] near far g h.joint);
+                  joint = subst (λ y. Joint y m (near ++ frames_of n.terms news) far) (sym (only-link n e (timer-delivers n.terms n.link its))) (goes-on n m x.link [] near far g h.joint);
                 };
               })
         ]
@@ -124,7 +119,7 @@ module _ (service : Service) (tei place : ℕ) (past : List LineTold) (c : Confi
     up-loses f fs e = go (which f (fs ++ frames_of n.terms ws) first near (sym (ap (λ way. way ++ frames_of n.terms ws) e) ∙ h.line))
       where
         n' : End
-        n' = two_ends.with_first_lost n
+        n' = two_ends_with_first_lost n
 
         now : line_of n' ≡ fs ++ frames_of n.terms ws
         now = ap (λ way. drop 1 way ++ frames_of n.terms ws) e
@@ -139,7 +134,7 @@ module _ (service : Service) (tei place : ℕ) (past : List LineTold) (c : Confi
             record {
               lost = inl (
                 x.none,
-                first-means m n f far rest (turned-joint n m (f ∷ rest) far (subst (λ xs. Joint n m xs far) x.is h.joint)),
+                first-means m n f far rest (record { there = (subst (λ xs. Joint n m xs far) x.is h.joint).back; back = (subst (λ xs. Joint n m xs far) x.is h.joint).there }),
                 record {
                   n = n';
                   near = rest;
@@ -152,7 +147,7 @@ module _ (service : Service) (tei place : ℕ) (past : List LineTold) (c : Confi
   -- it takes the first frame of the other's line
   pub up-hears : (d : Config) → Face c d → (s : Station) (n m : End) (f : Parts) (first near far : List Parts) → UpAt s n m first near (f ∷ far) → IsCarried d service tei f
       → IsInRange m.terms
-      → Acted (comes (spelling d.side f) s) (two_ends.with_first_lost m) first far ⊎ Erred (comes (spelling d.side f) s)
+      → Acted (comes (spelling d.side f) s) (two_ends_with_first_lost m) first far ⊎ Erred (comes (spelling d.side f) s)
   up-hears d face s n m f first near far h from far-ranges =
       let meant : IsMeant f = first-means n m f near far h.joint in
       let e : link.Event = link.received (link.frame f) in

@@ -1,7 +1,6 @@
 -- Where no turn is left the two cards face each other again.
-use Rattle.laws_wire.proofs.Vocabulary.{◌≡◌, ℕ, ◌<◌, ◌||◌, [], length, None, option_map, sym, ap, subst, ◌∙◌, arith, Service, Link, End, Config, has_lines, line_sound, next, gave, Steady, Station, Wire, IsStill, answered, Face, Speaks, own_link, AreOpposite}
+use Rattle.laws_wire.proofs.Vocabulary.{◌≡◌, ℕ, ◌<◌, ◌||◌, [], length, None, option_map, sym, ap, subst, ◌∙◌, arith, Service, Link, End, Config, has_lines, line_sound, next, gave, Steady, Station, Wire, IsStill, answered, Face, Speaks, own_link, AreOpposite, is_busy}
 use Rattle.laws_link.specs.two.Rounds.{HasArrived}
-use Rattle.laws_wire.specs.Facing.{is_busy}
 use Rattle.laws_wire.proofs.Alone.{link-is, still-alone}
 use Rattle.laws_wire.proofs.Run.{arrived, none-given, way-empty}
 use Rattle.laws_wire.proofs.Standing.{Stands}
@@ -20,14 +19,13 @@ module _ (service : Service) (tei : ℕ) where
       → HasArrived n.link.contents n m → answered next s ≡ gave None → s.way ≡ [] → Speaks service tei s u
   speaks c d p q past other s u n m h k steady got none way =
       let own : Stands s.card.config service tei p s n = subst (λ k. Stands k service tei p s n) (sym h.stands.config) h.stands in
-      let sound = line_sound s.card s.line (has_lines s.card own.sound) own.within in
       let here = its-link c p past s n h in
       let there = its-link d q other u m k in
       record {
         card = (own.sound, own.within);
         state = grind (arith, option_map);
         free = ap is_busy here ∙ ap (λ b. b || n.link.peer_busy) steady.own_busy ∙ steady.peer_busy;
-        alone = still-alone service tei p s sound own.speaks.placed none way;
+        alone = still-alone service tei p s (line_sound s.card s.line (has_lines s.card own.sound) own.within) own.speaks.placed none way;
         received = ap (λ (l : Link). l.r) there ∙ got.received ∙ sym got.sent ∙ sym (ap (λ (l : Link). l.s) here);
         owes = λ less. absurd (none-less n.link.a n.link.s (length n.link.contents) got.acknowledged got.sent (subst (λ (l : Link). l.a < l.s) here less));
       }
@@ -38,9 +36,8 @@ module _ (service : Service) (tei : ℕ) where
         let no-near = way-empty service tei c p first w.near n h.near still.near_way in
         let no-far = way-empty service tei d q second w.far m h.far still.far_way in
         let all = arrived n m h.pair (none-given service tei c p first w.near n h.near still.near) (none-given service tei d q second w.far m h.far still.far) no-near no-far in
-        let near-own = sym h.near.stands.config in
         let far-own = sym h.far.stands.config in (
           speaks c d p q first second w.near w.far n m h.near h.far h.pair.near all.0 still.near still.near_way,
           speaks d c q p second first w.far w.near m n h.far h.near h.pair.far all.1 still.far still.far_way,
-          subst (λ k. AreOpposite k w.far.card.config) near-own (subst (AreOpposite c) far-own opposite),
+          subst (λ k. AreOpposite k w.far.card.config) (sym h.near.stands.config) (subst (AreOpposite c) far-own opposite),
         )

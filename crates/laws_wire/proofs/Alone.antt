@@ -2,7 +2,7 @@
 use Rattle.laws_wire.proofs.Vocabulary.{◌≡◌, ◌≢◌, ℕ, zero, suc, ◌+◌, ◌<◌, ◌≤◌, List, [], ◌∷◌, length, Option, Some, None, option_map, refl, sym, ap, ◌∙◌, arith, ⊎_elim, cases_eq, option_map_or, place_of-is, Service, fresh, given, none-waits, number_within, service_at-number, next, gave, Line, link_number, link_count, link_at, link_in, place_in, terms_at, Taken, next_of, taken, nothing-to_send, Station, answered, own_link}
 use Rattle.std.proofs.lemmas.List.Sums.{sum_by-cons}
 use Rattle.std.specs.List.{range_with_len, sum_by}
-use Rattle.laws_line.proofs.Exact.{exactly-none, to-nothing}
+use Rattle.laws_line.proofs.Exact.{exactly-none, to-nothing, empty}
 use Rattle.laws_line.specs.Drains.{frames_to_go, to_go_at_link}
 use Rattle.laws_wire.proofs.Answered.{gives-taken}
 use Rattle.laws_wire.specs.Facing.{line_of, frames_at, own_frames_at}
@@ -29,14 +29,9 @@ two-of f a (suc k) n j apart low high low' high' =
     let rest = one-of f (a + 1) k n (omega (arith, low, other)) (omega (arith, high)) in
     omega (arith, is, rest, sum))
     (λ more.
-    let rest = two-of f (a + 1) k n j apart (omega (arith, low, other)) (omega (arith, high)) (omega (arith, low', more)) (omega (arith, high')) in
-    omega (arith, rest, sum))
+    omega (arith, (two-of f (a + 1) k n j apart (omega (arith, low, other)) (omega (arith, high)) (omega (arith, low', more)) (omega (arith, high'))), sum))
     (cases_eq j a))
     (cases_eq n a)
-
-none-long : {X : Type 0} (xs : List X) → length xs ≡ 0 → xs ≡ []
-none-long [] e = refl
-none-long (x ∷ xs) e = absurd (omega (arith, e))
 
 none-taken : (o : Option Taken) → gave (option_map next_of o) ≡ gave None → o ≡ None
 none-taken o e = grind arith
@@ -73,16 +68,16 @@ module _ (service : Service) (tei place : ℕ) (s : Station) (sound : IsSound s.
 
   module _ (alone : frames_at s ≡ own_frames_at service tei s) where
     pub no-way : s.way ≡ []
-    no-way = none-long s.way (omega (arith, alone, own-part, own-to-go))
+    no-way = empty s.way (omega (arith, alone, own-part, own-to-go))
 
     pub no-messages : l.management.waiting ≡ []
-    no-messages = none-long l.management.waiting (omega (arith, alone, own-part, own-to-go))
+    no-messages = empty l.management.waiting (omega (arith, alone, own-part, own-to-go))
 
     pub no-units : l.units ≡ []
-    no-units = none-long l.units (omega (arith, alone, own-part, own-to-go))
+    no-units = empty l.units (omega (arith, alone, own-part, own-to-go))
 
     pub none-waiting : (own_link service tei s).waiting ≡ []
-    none-waiting = none-long (own_link service tei s).waiting (omega (arith, alone, own-part, own-to-go))
+    none-waiting = empty (own_link service tei s).waiting (omega (arith, alone, own-part, own-to-go))
 
     pub none-other : (j : ℕ) → j < link_count s.card.config → j ≢ number → given (terms_at s.card.config j l) (link_at j l) ≡ None
     none-other j low other =

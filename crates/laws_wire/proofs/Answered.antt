@@ -1,28 +1,27 @@
 -- What an event leaves as it was at a station.
-use Rattle.laws_wire.proofs.Vocabulary.{arith, ◌≡◌, ℕ, List, [], option_map, refl, ap, ◌∙◌, append-nil, Timer, came, hears, expiry, request, next, Answer, gave, Request, taken, next_of, line_at, Event, drop, Wire, acting, takes, with_first_of, with_first_lost, sym}
-use Rattle.model_line.specs.Machine as lines
+use Rattle.laws_wire.proofs.Vocabulary.{arith, ◌≡◌, ℕ, List, [], option_map, refl, ap, ◌∙◌, append-nil, Timer, came, hears, expiry, request, next, Answer, gave, Request, taken, next_of, line_at, Event, drop, Wire, acting, takes, with_first_of, with_first_lost, sym, line_answer, line_takes_slot}
 use Rattle.laws_wire.specs.Wire.{Station, answered, happens, comes, unless_refused, contents_in}
 
 -- A call for the next frame gives what is taken at the line, and tells nothing.
 pub gives-taken : (s : Station) → answered next s ≡ gave (option_map next_of (taken s.card.config (line_at s.line s.card)))
-unfolding lines.takes_slot lines.answer
+unfolding line_takes_slot line_answer
 gives-taken s = refl
 
 pub gives-told : (s : Station) → (happens next s).told ≡ s.told
-unfolding lines.takes_slot lines.answer
+unfolding line_takes_slot line_answer
 gives-told s = append-nil s.told
 
 -- Nothing but a call for it gives a frame.
 pub takes-way : (octets : List ℕ) (s : Station) → (comes octets s).way ≡ s.way
-unfolding lines.takes_slot lines.answer
+unfolding line_takes_slot line_answer
 takes-way octets s = append-nil s.way
 
 pub expires-way : (timer : Timer) (s : Station) → (happens (expiry timer) s).way ≡ s.way
-unfolding lines.takes_slot lines.answer
+unfolding line_takes_slot line_answer
 expires-way timer s = append-nil s.way
 
 pub asks-way : (r : Request) (s : Station) → (happens (request r) s).way ≡ s.way
-unfolding lines.answer
+unfolding line_answer
 asks-way r s = grind (arith, append-nil)
 
 -- What asks for nothing is granted nothing.

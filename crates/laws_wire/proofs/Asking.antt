@@ -34,9 +34,6 @@ with_more octets n = record n { link = record n.link { contents = n.link.content
 pub asked-form : (octets : List ℕ) (n : End) → refusal n.terms n.link false (Data octets) ≡ None → with_link (requested (Data octets) false) n ≡ with_more octets n
 asked-form octets n e = grind (arith, append-nil)
 
-four-more : (len s w p more : ℕ) → s ≤ len → more ≡ len + 1 → 4 * (more - s) + w + p ≡ (4 * (len - s) + w + p) + 4
-four-more len s w p more low e = omega (arith, low, e)
-
 pub record Asked (octets : List ℕ) (n m n' : End) : Type 0 where
   pub steady : Steady n'
   pub there : Direction n' m
@@ -62,6 +59,6 @@ module _ (octets : List ℕ) (n m : End) (hn : Steady n) (there : Direction n m)
           sizes = All-append (λ octets. length octets ≤ m.terms.n201) cs (octets ∷ []) there.sizes (All-cons (λ octets. length octets ≤ m.terms.n201) octets [] fits (All-nil (λ octets. length octets ≤ m.terms.n201)));
         };
         back = record { lane = back.lane; delivered = back.delivered; sizes = back.sizes };
-        heavier = four-more (length cs) n.link.s (load n.way) _ (length (cs ++ octets ∷ [])) accepted long;
+        heavier = omega (arith, accepted, long);
         more = refl;
       })

@@ -1,14 +1,11 @@
 -- What is awaited at a station is awaited at the end for which it stands: there a T200 that is long enough is timely, N200 is used up as
 -- its expiry tells, and it runs as its expiry is answered.
-use Rattle.laws_wire.proofs.Vocabulary.{◌≡◌, ℕ, zero, suc, ◌<◌, Bool, true, false, cond, not, ◌||◌, IsTrue, List, [], ◌∷◌, ◌++◌, length, map, Option, None, Some, option_map, refl, sym, ap, subst, ◌∙◌, true≢false, All, flat_map, list_any, option_map_or, nat_lt, ltb-true, lt-ltb, All-nil, All-cons, All-append, All-head, All-tail, Seq, Control, Information, ReceiveReady, Service, Parts, spelling, State, TeiAssigned, Established, ControlFrame, LinkTimer, Terms, Link, fresh, frame_of, state_number, is_multiple_frame, course, begun, given_of, is_running, runs, Course, T200, End, frame_given, with_sent, Config, next, link_in, state_in, state_of, terms, awaits_answer, is_enquiry, is_answer, supervisory_bit, HasNo, Station, answered, happens, told_by, expiry, is_error, TellNoError, bit_of, is_poll, is_final, giving, NoneGoes, IsNoneOpen, awaits_in, awaits_reply, IsLongEnough, MayRepeat, is_any_order, runs_t200, All-drop, Answer, BadTei, NoLink, Refusal, Rests, arith, frames_by, front_rest, gave, gives_one, is_on-at, le-ltb, link_of, list_any_none, place_of-is, queue_of, seq, told, told_of_link, of_aim, at_timer, place_in, unwrap_or, ◌-◌, ◌≤◌}
-use Rattle.lapd_frame.specs.declared.timers.Timer.TheVariants as timers
-use Rattle.model_link.specs.Events as link
+use Rattle.laws_wire.proofs.Vocabulary.{◌≡◌, ℕ, zero, suc, ◌<◌, Bool, true, false, cond, not, ◌||◌, IsTrue, List, [], ◌∷◌, ◌++◌, length, map, Option, None, Some, option_map, refl, sym, ap, subst, ◌∙◌, true≢false, All, flat_map, list_any, option_map_or, nat_lt, ltb-true, lt-ltb, All-nil, All-cons, All-append, All-head, All-tail, Seq, Control, Information, ReceiveReady, Service, Parts, spelling, State, TeiAssigned, Established, ControlFrame, LinkTimer, Terms, Link, fresh, frame_of, state_number, is_multiple_frame, course, begun, given_of, is_running, runs, Course, T200, End, frame_given, with_sent, Config, next, link_in, state_in, state_of, terms, awaits_answer, is_enquiry, is_answer, supervisory_bit, HasNo, Station, answered, happens, told_by, expiry, is_error, TellNoError, bit_of, is_poll, is_final, giving, NoneGoes, IsNoneOpen, awaits_in, awaits_reply, IsLongEnough, MayRepeat, is_any_order, runs_t200, All-drop, Answer, BadTei, NoLink, Refusal, Rests, arith, frames_by, front_rest, gave, gives_one, is_on-at, le-ltb, link_of, list_any_none, place_of-is, queue_of, seq, told, told_of_link, of_aim, at_timer, place_in, unwrap_or, ◌-◌, ◌≤◌, expired, timer_T200, line_answer, line_takes_slot, all-right}
 use Rattle.model_link.specs.Machine as links
 use Rattle.model_link.specs.Offers as offers
 use Rattle.model_link.specs.Room.{room_of}
 use Rattle.model_link.specs.Told.{orders_for}
 use Rattle.model_line.specs.Laws.{orders_in}
-use Rattle.model_line.specs.Machine as lines
 use Rattle.model_line.specs.Room.{unless}
 use Rattle.model_card.specs.Room.{free}
 use Rattle.laws_link.specs.two.Timely as two_links
@@ -40,32 +37,14 @@ pub record NoneOpen (n m : End) : Type 0 where
 pub closed : (n m : End) → NoneOpen n m → two_links.IsNoneOpen n m
 closed n m h = record { enquiries = less is_enquiry is_poll no-enquiry n h.commands; answers = less is_answer is_final no-answer m h.responses }
 
--- of all, what is behind
-pub all-behind : {X : Type 0} (P : X → Type 0) (first rest : List X) → All P (first ++ rest) → All P rest
-all-behind P first rest h = subst (All P) (front_rest (first ++ rest) first rest refl) (All-drop P (length first) (first ++ rest) h)
-
 -- ---- a link whose T200 expires
 
 module _ (t : Terms) (l : Link) where
   abbrev expires : Course
-  expires = course t (link.expired T200) l
-
-  -- it is answered with orders where it runs
-  abbrev HasOrders : Course → Type 0
-  HasOrders c = is_any_order (orders_for t l.running c.started c.link.running) ≡ true
+  expires = course t (expired T200) l
 
   none-ordered : (r : Option LinkTimer) → is_any_order (orders_for t r None r) ≡ false
   none-ordered r = grind arith
-
-  stop-ordered : (r : Option LinkTimer) → runs T200 r ≡ true → is_any_order (orders_for t r None None) ≡ true
-  stop-ordered r e = grind arith
-
-  either-ordered : (b : Bool) (c d : Course) → HasOrders c → HasOrders d → HasOrders (cond b c d)
-  either-ordered b c d x y = grind arith
-
-  ordered-as : (l.state ≡ TeiAssigned → ⊥) → (b : Bool) → is_running T200 l ≡ b
-      → let c = cond b (links.expire_running T200 t (begun l)) (begun l) in is_any_order (orders_for t l.running c.started c.link.running) ≡ b
-  ordered-as up b e = grind (arith, either-ordered, nat_lt, stop-ordered, none-ordered)
 
   -- and tells an error where N200 is used up
   taken : (b : Bool) (c d : Course) → b ≡ true → list_any is_error c.notes ≡ false → list_any is_error (cond b c d).notes ≡ false
@@ -74,14 +53,8 @@ module _ (t : Terms) (l : Link) where
   passed : (b : Bool) (c d : Course) → b ≡ false → HasError d.notes → HasError (cond b c d).notes
   passed b c d e h = grind arith
 
-  few-tell : (awaits_answer l.state ≡ true → l.repeats < t.n200) → list_any is_error expires.notes ≡ false
-  few-tell few = grind (arith, taken, nat_lt, lt-ltb)
-
   told-few : awaits_answer l.state ≡ true → is_running T200 l ≡ true → list_any is_error expires.notes ≡ false → l.repeats < t.n200
   told-few awaits running fair = grind (arith, nat_lt, ltb-true, passed)
-
-said-fair : (c : Course) → list_any is_error c.notes ≡ false → TellNoError (said_by c)
-said-fair c h = grind (arith, heard_by)
 
 fair-said : (c : Course) → TellNoError (said_by c) → list_any is_error c.notes ≡ false
 fair-said c h = go (list_any is_error c.notes) refl
@@ -104,17 +77,9 @@ module _ (of : Bool → Control → Bool) (i : (ns nr : Seq) → of true (Inform
     waiting : All IsNone c.link.waiting
     gives : All IsNot (frame_given t (given_of t l c c.sent))
 
-  either-gives : (t : Terms) (l : Link) (b : Bool) (c d : Course) → Gives t l c → Gives t l d → Gives t l (cond b c d)
-  either-gives t l b c d x y = grind arith
-
   offers-none : (t : Terms) (l : Link) (ws : List ControlFrame) → All IsNone ws → All IsNone l.waiting → Gives t l (offers.offer_among t ws (begun l))
   offers-none t l (f ∷ fs) h w = record { waiting = All-tail IsNone f fs h; gives = All-cons IsNot _ [] (All-head IsNone f fs h) (All-nil IsNot) }
-  offers-none t l [] h w =
-      let sent : All IsNot (record (frame_of t (offers.next_information l)) { info = unwrap_or (offers.first_unsent l) [] } ∷ []) =
-      All-cons IsNot _ [] (i (seq l.s) (seq l.r)) (All-nil IsNot) in
-      either-gives t l (offers.may_send_information t l) _ _
-      (either-gives t l (runs T200 l.running) _ _ (record { waiting = w; gives = sent }) (record { waiting = w; gives = sent }))
-      (either-gives t l l.pending _ _ (record { waiting = w; gives = All-cons IsNot _ [] (rr (seq l.r)) (All-nil IsNot) }) (record { waiting = w; gives = All-nil IsNot }))
+  offers-none t l [] h w = grind arith
 
   sent-none : (n : End) → HasNo of n → HasNo of (with_sent n)
   sent-none n h =
@@ -122,9 +87,6 @@ module _ (of : Bool → Control → Bool) (i : (ns nr : Seq) → of true (Inform
       record { waiting = x.waiting; way = All-append IsNot n.way (frame_given n.terms (links.given n.terms n.link)) h.way x.gives }
 
 -- ---- a station, and the end for which it stands
-
-awaits-number : (here : State) → awaits_in (Some (state_number here)) ≡ awaits_answer here
-awaits-number here = grind arith
 
 two-pass : (a b : Bool) (x y : Refusal) → a ≡ false → b ≡ false → cond a (Some x) (cond b (Some y) None) ≡ None
 two-pass a b x y e e' = rw (e, e') refl
@@ -158,7 +120,7 @@ module _ (service : Service) (tei place : ℕ) where
       let gone : flat_map (read_as s.card.config) (happens next s).way ≡ n.way ++ frame_of t f ∷ [] =
       way-read (happens next s) (with_sent n) h'
       ∙ ap (λ ws. let c = offers.offer_among t ws (begun l) in n.way ++ frame_given t (given_of t l c c.sent)) e in
-      let its = all-behind (λ (f : Parts). of f.address.command f.control ≡ false) n.way (frame_of t f ∷ []) (subst (All (λ (f : Parts). of f.address.command f.control ≡ false)) gone (none (suc zero))) in
+      let its = all-right (λ (f : Parts). of f.address.command f.control ≡ false) n.way (frame_of t f ∷ []) (subst (All (λ (f : Parts). of f.address.command f.control ≡ false)) gone (none (suc zero))) in
       All-cons (λ (f : ControlFrame). of f.command f.control ≡ false) f fs (All-head (λ (f : Parts). of f.address.command f.control ≡ false) (frame_of t f) [] its)
       (waits-none of fs (happens next s) (with_sent n) h' (ap (λ ws. (offers.offer_among t ws (begun l)).link.waiting) e) (λ k. none (suc k)))
 
@@ -171,11 +133,11 @@ module _ (service : Service) (tei place : ℕ) where
 -- T200 of a link on the line expires
 module _ (service : Service) (tei : ℕ) (s : Station) where
   abbrev t200 : Answer
-  t200 = answered (expiry (timers.T200 service tei)) s
+  t200 = answered (expiry (timer_T200 service tei)) s
 
   answers-t200 : (place : ℕ) → place_in (line_of s) tei ≡ Some place
-      → t200 ≡ told (told_of_link (links.told (terms s.card.config service tei) (link.expired T200) (link_in (line_of s) service place)))
-  unfolding lines.answer lines.takes_slot
+      → t200 ≡ told (told_of_link (links.told (terms s.card.config service tei) (expired T200) (link_in (line_of s) service place)))
+  unfolding line_answer line_takes_slot
   answers-t200 place e = ap (λ o. told (of_aim s.card.config (at_timer service tei T200 o) (line_of s)).told) e
 
   pub runs-there : ((link_of service tei (line_of s)).state ≡ TeiAssigned → ⊥) → runs_t200 service tei s ≡ is_running T200 (link_of service tei (line_of s))
@@ -185,7 +147,7 @@ module _ (service : Service) (tei : ℕ) (s : Station) where
       go None e up = absurd (up refl)
       go (Some place) e up =
           let l = link_in (line_of s) service place in
-          ap (λ a. is_any_order (orders_in a)) (answers-t200 place e) ∙ ordered-as (terms s.card.config service tei) l up (is_running T200 l) refl
+          ap (λ a. is_any_order (orders_in a)) (answers-t200 place e) ∙ (grind (arith, nat_lt, none-ordered))
 
 module _ (service : Service) (tei : ℕ) (c : Config) (place : ℕ) (s : Station) (n : End) (h : Stands c service tei place s n) where
   own : Stands s.card.config service tei place s n
@@ -201,7 +163,7 @@ module _ (service : Service) (tei : ℕ) (c : Config) (place : ℕ) (s : Station
   state-is = ap (option_map (state_in (line_of s) service)) h.speaks.placed ∙ ap (λ (l : Link). Some (state_number l.state)) h.speaks.link
 
   pub awaits-is : awaits_reply service tei s ≡ awaits_answer n.link.state
-  awaits-is = ap awaits_in state-is ∙ awaits-number n.link.state
+  awaits-is = ap awaits_in state-is ∙ (grind arith)
 
   pub none-there : (of : Bool → Control → Bool) → NoneGoes of s → HasNo of n
   unfolding giving
@@ -218,7 +180,7 @@ module _ (service : Service) (tei : ℕ) (c : Config) (place : ℕ) (s : Station
   gives-reads =
       let given = frame_given n.terms (links.given n.terms n.link) in
       ap (flat_map (read_as s.card.config)) (gives-frames service tei place s n own)
-      ∙ read-again service tei s.card.config given (all-behind (IsCarried s.card.config service tei) n.way given (gives-stands service tei place s n own).carried)
+      ∙ read-again service tei s.card.config given (all-right (IsCarried s.card.config service tei) n.way given (gives-stands service tei place s n own).carried)
 
   pub gives-first : (of : Control → Bool) (f : ControlFrame) (fs : List ControlFrame) → n.link.waiting ≡ f ∷ fs → gives_one of s ≡ (of f.control || false)
   gives-first of f fs e = grind (arith, gives-reads)
@@ -227,8 +189,7 @@ module _ (service : Service) (tei : ℕ) (c : Config) (place : ℕ) (s : Station
   pub rests-here : n.link.state ≡ Established → queue_of n.link ≡ [] → Rests service tei s
   rests-here state empty =
       let l = line_of s in
-      let ranges = link-ranges service tei place s n own in
-      let few : tei ≤ 126 = subst (λ (t : Terms). t.tei ≤ 126) h.terms ranges.tei in
+      let few : tei ≤ 126 = subst (λ (t : Terms). t.tei ≤ 126) h.terms (link-ranges service tei place s n own).tei in
       let at = (place_of-is l.management.places tei place h.speaks.placed).1 in
       let kept : queue_of (link_of service tei l) ≡ [] = ap queue_of link-is ∙ empty in
       let free_room = room_of (terms s.card.config service tei) (free s.card) (link_of service tei l) in (
@@ -239,15 +200,15 @@ module _ (service : Service) (tei : ℕ) (c : Config) (place : ℕ) (s : Station
       )
 
   -- its T200 expires
-  its-answer : t200 service tei s ≡ told (told_of_link (links.told n.terms (link.expired T200) n.link))
+  its-answer : t200 service tei s ≡ told (told_of_link (links.told n.terms (expired T200) n.link))
   its-answer = grind (arith, answers-t200)
 
   pub may-there : MayRepeat service tei s → awaits_answer n.link.state ≡ true → is_running T200 n.link ≡ true → n.link.repeats < n.terms.n200
   may-there may awaits running =
-      told-few n.terms n.link awaits running (fair-said (course n.terms (link.expired T200) n.link) (subst (λ a. TellNoError (told_by a)) its-answer may))
+      told-few n.terms n.link awaits running (fair-said (course n.terms (expired T200) n.link) (subst (λ a. TellNoError (told_by a)) its-answer may))
 
   pub may-here : (awaits_answer n.link.state ≡ true → n.link.repeats < n.terms.n200) → MayRepeat service tei s
-  may-here few = subst (λ a. TellNoError (told_by a)) (sym its-answer) (said-fair (course n.terms (link.expired T200) n.link) (few-tell n.terms n.link few))
+  may-here few = subst (λ a. TellNoError (told_by a)) (sym its-answer) (grind (arith, heard_by))
 
   pub runs-is : (n.link.state ≡ TeiAssigned → ⊥) → runs_t200 service tei s ≡ is_running T200 n.link
   runs-is up = runs-there service tei s (λ e. up (ap (λ (l : Link). l.state) (sym link-is) ∙ e)) ∙ ap (is_running T200) link-is
@@ -261,9 +222,6 @@ waits-first asked n f fs first is h = grind arith
 
 pub goes-first : (asked : Bool → Control → Bool) (n : End) (f : Parts) (fs : List Parts) → n.way ≡ f ∷ fs → asked f.address.command f.control ≡ true → HasNo asked n → ⊥
 goes-first asked n f fs first is h = grind arith
-
-pub gives-none-of : (of : Control → Bool) (s : Station) → answered next s ≡ gave None → gives_one of s ≡ false
-gives-none-of of s e = ap (λ a. list_any (λ (x : Parts). of x.control) (flat_map (read_as s.card.config) (frames_by a))) e
 
 module _ (service : Service) (tei : ℕ) (c d : Config) (p q : ℕ) (s r : Station) (n m : End) (near : Stands c service tei p s n) (far : Stands d service tei q r m) where
   pub long-there : IsLongEnough service tei s r → awaits_answer n.link.state ≡ true → NoneOpen n m

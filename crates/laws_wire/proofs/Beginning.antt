@@ -1,20 +1,16 @@
 -- Two cards that have just begun: each has the TEI assigned, and one is asked to establish.
-use Rattle.laws_wire.proofs.Vocabulary.{◌≡◌, ℕ, zero, suc, ◌<◌, ◌≤◌, true, false, not, List, [], ◌∷◌, ◌++◌, length, get_or, set, replicate, Some, None, is_some, refl, sym, ap, subst, ◌∙◌, append-nil, arith, nat_lt, option_map_or, le-ltb, lt-ltb, get_or-set_same, length-replicate, All-nil, BadTei, NoLink, WrongState, TeiTaken, TableFull, Service, Call, Packet, empty, Places, is_on, free_place, join_at, put_on, join, is_on-at, place_of-is, table-put, table-empty, Link, fresh, serves, End, with_link, Config, Effect, of_change, told_of_management, request, Line, fresh_line, link_number, terms, terms_at, link_at, link_of, link_in, link_count, has_tei, Assign, fresh_gives_nothing, ranges_of, Card, line_at, wants_room, after_is_sound, fresh_is_sound, by-two, has-place, Event, nothing, told, Establish, Station, answered, happens, told_by, station, assigned}
-use Rattle.lapd_tei.specs.Events as teis
+use Rattle.laws_wire.proofs.Vocabulary.{◌≡◌, ℕ, zero, suc, ◌<◌, ◌≤◌, true, false, not, List, [], ◌∷◌, ◌++◌, length, get_or, set, replicate, Some, None, is_some, refl, sym, ap, subst, ◌∙◌, append-nil, arith, nat_lt, option_map_or, le-ltb, lt-ltb, get_or-set_same, length-replicate, All-nil, BadTei, NoLink, WrongState, TeiTaken, TableFull, Service, Call, Packet, empty, Places, is_on, free_place, join_at, put_on, join, is_on-at, place_of-is, table-put, table-empty, Link, fresh, serves, End, with_link, Config, Effect, of_change, told_of_management, request, Line, fresh_line, link_number, terms, terms_at, link_at, link_of, link_in, link_count, has_tei, Assign, fresh_gives_nothing, ranges_of, Card, line_at, wants_room, after_is_sound, fresh_is_sound, by-two, has-place, Event, nothing, told, Establish, Station, answered, happens, told_by, station, assigned, requested, LinkEstablish, line_answer, line_takes_slot, line_after, tei_unless_refused, tei_assign, tei_refusal, tei_course, given}
 use Rattle.lapd_tei.specs.Words.{Course, begun as tei_begun}
-use Rattle.model_link.specs.Events as link
-use Rattle.model_link.specs.Machine as links
-use Rattle.model_line.specs.Machine as lines
 use Rattle.model_line.specs.Refusal.{refusal}
 use Rattle.model_line.specs.Sound as line_sound
 use Rattle.model_card.specs.Card as cards
 use Rattle.model_card.specs.Event.{at as event_at}
 use Rattle.laws_wire.proofs.Answered.{asks-way, same-granted}
-use Rattle.laws_wire.proofs.Calling.{asked, asks-establish, told-of-establish, end}
+use Rattle.laws_wire.proofs.Calling.{asked, asks-establish, end}
 use Rattle.laws_wire.proofs.LineSpeaks.{Speaks}
 use Rattle.laws_wire.proofs.Standing.{IsCarried, Stands, asks-granted, link-ranges}
 use Rattle.laws_wire.proofs.Talking.{unheard, Holds, none-told}
-use Rattle.laws_wire.proofs.BothAsking.{three-pass}
+use Rattle.laws_wire.proofs.Speaking.{said_by}
 
 -- tables and lists of nothing
 none-on : (tei n : ℕ) → is_on tei (replicate n None) ≡ false
@@ -43,10 +39,10 @@ free-is : (n : ℕ) → 1 ≤ n → free_place (frees n) ≡ Some 0
 free-is n some = grind (arith, lt-ltb)
 
 module _ (tei n : ℕ) (some : 1 ≤ n) where
-  joined : teis.course (teis.assign tei) (empty n) ≡ join tei 0 (tei_begun (empty n))
-  unfolding teis.course teis.refusal
+  joined : tei_course (tei_assign tei) (empty n) ≡ join tei 0 (tei_begun (empty n))
+  unfolding tei_course tei_refusal
   joined =
-      ap (λ o. teis.unless_refused o (put_on tei) (empty n))
+      ap (λ o. tei_unless_refused o (put_on tei) (empty n))
       (by-two (is_on tei (replicate n None)) (not (is_some (free_place (replicate n None)))) TeiTaken TableFull (none-on tei n) (ap (λ o. not (is_some o)) (free-is n some)))
       ∙ ap (λ o. join_at tei o (tei_begun (empty n))) (free-is n some)
 
@@ -54,13 +50,8 @@ module _ (service : Service) (tei : ℕ) (c : Config) (ranged : line_sound.IsInR
   abbrev l : Line
   l = fresh_line c
 
-  some-terminals : 1 ≤ c.terminals
-  some-terminals = (ranges_of c ranged).terminals.least
-
   none : refusal c false (Assign tei) l ≡ None
-  none =
-      three-pass (nat_lt 126 tei) (has_tei tei l) (not (is_some (free_place l.management.places))) BadTei TeiTaken TableFull (le-ltb 126 tei few) (none-on tei c.terminals)
-      (ap (λ o. not (is_some o)) (free-is c.terminals some-terminals))
+  none = rw ((le-ltb 126 tei few), (none-on tei c.terminals), (ap (λ o. not (is_some o)) (free-is c.terminals ((ranges_of c ranged).terminals.least)))) refl
 
   abbrev with_course : Course → Effect
   with_course x = of_change c x.told.change (told_of_management x.told) (record l { management = x.now })
@@ -68,13 +59,13 @@ module _ (service : Service) (tei : ℕ) (c : Config) (ranged : line_sound.IsInR
   abbrev on_line : Effect
   on_line = with_course (join tei 0 (tei_begun (empty c.terminals)))
 
-  after-is : lines.after c (request (Assign tei)) l ≡ on_line.line
-  unfolding lines.after
-  after-is = grind (arith, none, joined, some-terminals)
+  after-is : line_after c (request (Assign tei)) l ≡ on_line.line
+  unfolding line_after
+  after-is = grind (arith, none, joined, ranges_of)
 
-  answer-is : lines.answer c (request (Assign tei)) l ≡ told nothing
-  unfolding lines.answer
-  answer-is = grind (arith, none, joined, some-terminals)
+  answer-is : line_answer c (request (Assign tei)) l ≡ told nothing
+  unfolding line_answer
+  answer-is = grind (arith, none, joined, ranges_of)
 
   links-fresh : (number : ℕ) → link_at number on_line.line ≡ fresh
   links-fresh number = set-fresh (set l.links (link_number 0 Call) fresh) (link_number 0 Packet) number (λ k. set-fresh l.links (link_number 0 Call) k (all-fresh (link_count c)))
@@ -82,14 +73,14 @@ module _ (service : Service) (tei : ℕ) (c : Config) (ranged : line_sound.IsInR
   speaks : Speaks c service tei 0 fresh on_line.line
   speaks =
       let places = frees c.terminals in
-      let within : 0 < length places = (let many : length places ≡ c.terminals = length-replicate c.terminals None in let some = some-terminals in omega (arith, many, some)) in
+      let within : 0 < length places = (let many : length places ≡ c.terminals = length-replicate c.terminals None in let some = ((ranges_of c ranged).terminals.least) in omega (arith, many, some)) in
       record {
         placed =
-            has-place (set places 0 (Some tei)) tei 0 (table-put places 0 tei (table-empty c.terminals) (none-on tei c.terminals) (free-is c.terminals some-terminals) few)
+            has-place (set places 0 (Some tei)) tei 0 (table-put places 0 tei (table-empty c.terminals) (none-on tei c.terminals) (free-is c.terminals ((ranges_of c ranged).terminals.least)) few)
             (get_or-set_same places 0 (Some tei) None within);
         messages = refl;
         units = refl;
-        silent = λ number low other. ap (links.given (terms_at c number on_line.line)) (links-fresh number) ∙ fresh_gives_nothing (terms_at c number on_line.line);
+        silent = λ number low other. ap (given (terms_at c number on_line.line)) (links-fresh number) ∙ fresh_gives_nothing (terms_at c number on_line.line);
         link = links-fresh (link_number 0 service);
       }
 
@@ -107,12 +98,12 @@ module _ (service : Service) (tei : ℕ) (c : Config) (ranged : line_sound.IsInR
     same-line = all-fresh_lines c c.lines line
 
     next-line : line_at line (assigned c line tei).card ≡ on_line.line
-    unfolding lines.takes_slot
+    unfolding line_takes_slot
     next-line = grind (arith, get_or-set_same, length-replicate, same-line, after-is)
 
     told-nothing : answered its first ≡ told nothing
-    unfolding lines.takes_slot
-    told-nothing = ap (lines.answer c its) same-line ∙ answer-is
+    unfolding line_takes_slot
+    told-nothing = ap (line_answer c its) same-line ∙ answer-is
 
     begins : Holds c service tei 0 unheard (assigned c line tei) (end (terms c service tei) fresh [])
     begins = record {
@@ -149,11 +140,10 @@ module _ (service : Service) (tei : ℕ) (c : Config) (ranged : line_sound.IsInR
         let at = (place_of-is its_line.management.places tei 0 own.speaks.placed).1 in
         let on : has_tei tei its_line ≡ true = is_on-at its_line.management.places 0 tei at in
         let link-is : link_of service tei its_line ≡ fresh = ap (λ o. option_map_or (link_in its_line service) o fresh) own.speaks.placed ∙ own.speaks.link in
-        three-pass (nat_lt 126 tei) (not (has_tei tei its_line)) (not (serves (link_of service tei its_line).state link.Establish)) BadTei NoLink WrongState (le-ltb 126 tei few)
-        (ap not on) (ap (λ (x : Link). not (serves x.state link.Establish)) link-is)
+        grind (arith, nat_lt, le-ltb)
 
     room : wants_room (event_at line (request (Establish service tei))) s.card ≡ false
-    unfolding lines.takes_slot
+    unfolding line_takes_slot
     room = refl
 
     pub calls : Holds c service tei 0 unheard (happens (request (Establish service tei)) s) (end (terms c service tei) asked [])
@@ -161,16 +151,10 @@ module _ (service : Service) (tei : ℕ) (c : Config) (ranged : line_sound.IsInR
         let t = terms c service tei in
         let s' = happens (request (Establish service tei)) s in
         let ranges = link-ranges service tei 0 s start own in
-        let x = asks-granted service tei 0 s start own (Establish service tei) link.Establish (λ l. refl) room not-refused in
-        let is : with_link (link.requested link.Establish false) start ≡ end t asked [] = ap (λ y. end t y []) (asks-establish t ranges) in
+        let x = asks-granted service tei 0 s start own (Establish service tei) LinkEstablish (λ l. refl) room not-refused in
+        let is : with_link (requested LinkEstablish false) start ≡ end t asked [] = ap (λ y. end t y []) (asks-establish t ranges) in
         let same : s'.granted ≡ s.granted = x.granted ∙ append-nil s.granted in
-        record {
-          stands = subst (λ k. Stands k service tei 0 s' (end t asked [])) begins.stands.config (subst (Stands s.card.config service tei 0 s') is x.stands);
-          granted = same ∙ begins.granted;
-          since = [];
-          told = x.told ∙ ap (λ ts. s.told ++ ts) (told-of-establish t ranges) ∙ append-nil s.told ∙ none-told c service tei 0 [] s start begins refl;
-          delivered = refl;
-        }
+        grind (arith, end, asked, said_by, room, append-nil, none-told, begins)
 
     pub answers : Holds c service tei 0 unheard s start
     answers = begins

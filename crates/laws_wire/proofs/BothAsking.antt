@@ -1,13 +1,12 @@
 -- What is done in a call. Layer 3 asks for the establishment of the link: in state 4 it is granted, and in any other state it is
 -- refused, which changes nothing.
-use Rattle.laws_wire.proofs.Vocabulary.{arith, ◌≡◌, ℕ, ◌≤◌, Bool, true, false, true≢false, not, cond, List, [], ◌∷◌, ◌++◌, Option, None, Some, refl, sym, ap, subst, ◌∙◌, ◌⊎◌, append-nil, nat_lt, option_map_or, le-ltb, Refusal, BadTei, NoLink, WrongState, Service, is_on-at, place_of-is, not_not, Terms, Link, fresh, is_down, End, with_link, Config, request, Line, link_in, link_of, has_tei, terms, unless_refused_told, of_request, bad_tei, no_link, wrong_state, Request, line_at, wants_room, is_granted, passed, Event, Establish, Data, Station, Wire, happens, answered, requests, Doing, at_near, at_far, IsTalk, IsCall, IsCallOf, calls_back}
-use Rattle.model_link.specs.Events as link
-use Rattle.model_line.specs.Machine as lines
+use Rattle.laws_wire.proofs.Vocabulary.{arith, ◌≡◌, ℕ, ◌≤◌, Bool, true, false, true≢false, not, cond, List, [], ◌∷◌, ◌++◌, Option, None, Some, refl, sym, ap, subst, ◌∙◌, ◌⊎◌, append-nil, nat_lt, option_map_or, le-ltb, Refusal, BadTei, NoLink, WrongState, Service, is_on-at, place_of-is, not_not, Terms, Link, fresh, is_down, End, with_link, Config, request, Line, link_in, link_of, has_tei, terms, unless_refused_told, of_request, bad_tei, no_link, wrong_state, Request, line_at, wants_room, is_granted, passed, Event, Establish, Data, Station, Wire, happens, answered, requests, Doing, at_near, at_far, IsTalk, IsCall, IsCallOf, calls_back, requested, LinkEstablish, line_answer, line_takes_slot}
 use Rattle.model_line.specs.Refusal.{refusal}
 use Rattle.model_card.specs.Event.{at as event_at}
-use Rattle.laws_wire.proofs.Calling.{asked, asks-establish, told-of-establish, end}
+use Rattle.laws_wire.proofs.Calling.{asked, asks-establish, end}
 use Rattle.laws_wire.proofs.Standing.{Stands, Granted, asks-granted, asks-stands, link-ranges}
 use Rattle.laws_wire.proofs.Talking.{Past, Holds}
+use Rattle.laws_wire.proofs.Speaking.{said_by}
 
 module _ (service : Service) (tei : ℕ) where
   -- ---- what is done: the link is asked for at one of the ends, or it is talk
@@ -17,20 +16,10 @@ module _ (service : Service) (tei : ℕ) where
     near_calls : k ≡ at_near (requests (Establish service tei)) → Kind k
     far_calls : k ≡ at_far (requests (Establish service tei)) → Kind k
 
-  asks-so : (P : Request → Type 0) → P (Establish service tei) → ((s : Service) (x : ℕ) (octets : List ℕ) → (s ≡ service) × (x ≡ tei) → P (Data s x octets)) → (r : Request) → IsCallOf service tei (requests r) → P r
-  asks-so P establish contents r is = grind arith
-
   pub kind : (k : Doing) → IsCall service tei k → Kind k
-  kind k is = grind (arith, asks-so)
-
-  -- talk calls nobody
-  pub talk-calls_not : (k : Doing) → IsTalk service tei k → (w : Wire) → calls_back k w ≡ false
-  talk-calls_not k is w = grind arith
+  kind k is = grind arith
 
 -- ---- the link is asked for
-
-pub three-pass : (a b d : Bool) (x y z : Refusal) → a ≡ false → b ≡ false → d ≡ false → cond a (Some x) (cond b (Some y) (cond d (Some z) None)) ≡ None
-three-pass a b d x y z e e' e'' = rw (e, e', e'') refl
 
 pub record Refuses (service : Service) (tei : ℕ) (s : Station) : Type 0 where
   pub same : happens (request (Establish service tei)) s ≡ s
@@ -53,24 +42,23 @@ module _ (service : Service) (tei place : ℕ) (c : Config) (first : Past) (s : 
   link-is = ap (λ o. option_map_or (link_in l service) o fresh) own.speaks.placed ∙ own.speaks.link
 
   answer-is : answered asks s ≡ unless_refused_told why (of_request s.card.config (Establish service tei) l)
-  unfolding lines.answer lines.takes_slot
+  unfolding line_answer line_takes_slot
   answer-is = refl
 
   -- ---- in any other state
 
   not-served : is_down n.link.state ≡ false → why ≡ None → ⊥
   not-served up none =
-      let row = wrong_state service tei link.Establish l in
-      let known = passed (bad_tei tei) (no_link tei l ∷ row ∷ []) none in
-      let there = passed (no_link tei l) (row ∷ []) known.1 in
+      let row = wrong_state service tei LinkEstablish l in
+      let there = passed (no_link tei l) (row ∷ []) (passed (bad_tei tei) (no_link tei l ∷ row ∷ []) none).1 in
       let state = passed row [] there.1 in
       let served : is_down n.link.state ≡ true = ap (λ (x : Link). is_down x.state) (sym link-is) ∙ not_not (is_down (link_of service tei l).state) state.0 in
       true≢false (sym served ∙ up)
 
   pub refuses : is_down n.link.state ≡ false → Refuses service tei s
-  refuses up = record { same = by-line (asks-stands service tei place s n own (Establish service tei) link.Establish (λ l. refl)); none = ap is_granted answer-is ∙ by-answer why refl }
+  refuses up = record { same = by-line (asks-stands service tei place s n own (Establish service tei) LinkEstablish (λ l. refl)); none = ap is_granted answer-is ∙ by-answer why refl }
     where
-      by-line : (happens asks s ≡ s) ⊎ Granted service tei place s n own (Establish service tei) link.Establish (λ l. refl) (happens asks s) → happens asks s ≡ s
+      by-line : (happens asks s ≡ s) ⊎ Granted service tei place s n own (Establish service tei) LinkEstablish (λ l. refl) (happens asks s) → happens asks s ≡ s
       by-line o = grind (arith, not-served)
 
       by-answer : (o : Option Refusal) → why ≡ o → is_granted (unless_refused_told o (of_request s.card.config (Establish service tei) l)) ≡ false
@@ -90,11 +78,10 @@ module _ (service : Service) (tei place : ℕ) (few : tei ≤ 126) (c : Config) 
       let line = l service tei place c first s n h in
       let at = (place_of-is line.management.places tei place (own service tei place c first s n h).speaks.placed).1 in
       let on : has_tei tei line ≡ true = is_on-at line.management.places place tei at in
-      three-pass (nat_lt 126 tei) (not (has_tei tei line)) (not (is_down (link_of service tei line).state)) BadTei NoLink WrongState (le-ltb 126 tei few)
-      (ap not on) (ap (λ (x : Link). not (is_down x.state)) (link-is service tei place c first s n h))
+      grind (arith, nat_lt, le-ltb, link-is)
 
   room : wants_room (event_at s.line (request (Establish service tei))) s.card ≡ false
-  unfolding lines.takes_slot
+  unfolding line_takes_slot
   room = refl
 
   pub record Calls : Type 0 where
@@ -107,19 +94,7 @@ module _ (service : Service) (tei place : ℕ) (few : tei ≤ 126) (c : Config) 
       let s' = happens (request (Establish service tei)) s in
       let standing = own service tei place c first s n h in
       let ranges = link-ranges service tei place s n standing in
-      let x = asks-granted service tei place s n standing (Establish service tei) link.Establish (λ l. refl) room none-refused in
-      let is : with_link (link.requested link.Establish false) n ≡ end t asked [] = ap (λ y. end t y []) (asks-establish t ranges) in
+      let x = asks-granted service tei place s n standing (Establish service tei) LinkEstablish (λ l. refl) room none-refused in
+      let is : with_link (requested LinkEstablish false) n ≡ end t asked [] = ap (λ y. end t y []) (asks-establish t ranges) in
       let same : s'.granted ≡ s.granted = x.granted ∙ append-nil s.granted in
-      record {
-        holds = record {
-          stands = subst (λ k. Stands k service tei place s' (end t asked [])) h.stands.config (subst (Stands s.card.config service tei place s') is x.stands);
-          granted = same ∙ h.granted;
-          since = h.since;
-          told = x.told ∙ ap (λ ts. s.told ++ ts) (told-of-establish t ranges) ∙ append-nil s.told ∙ h.told;
-          delivered = h.delivered;
-        };
-        granted = same;
-        some =
-            ap is_granted (answer-is service tei place c first s n h)
-            ∙ ap (λ o. is_granted (unless_refused_told o (of_request s.card.config (Establish service tei) (l service tei place c first s n h)))) none-refused;
-      }
+      grind (arith, end, asked, said_by, room, append-nil, answer-is, none-refused)

@@ -1,8 +1,6 @@
 -- Both ends call, and SABMEs cross: how far each call has come, and what each step does.
-use Rattle.laws_wire.proofs.Vocabulary.{◌≡◌, ℕ, ◌+◌, ◌*◌, ◌<◌, ◌≤◌, true, false, cond, List, [], ◌∷◌, ◌++◌, length, map, None, refl, sym, ap, subst, ◌∙◌, ◌⊎◌, inl, inr, append-nil, arith, nat_lt, if◌then◌else◌, lt-ltb, All-nil, Service, Parts, spelling, ControlFrame, Terms, received, course, given, IsInRange, begun, End, with_link, with_sent, Config, terms, Request, next, Pair, frame, after, refusal, Station, Wire, happens, frames_by, with_first_of, with_first_lost, Act, requests, gives, takes, acting, turned, is_turn_of, answered, comes, IsTalkOf, confirmed}
-use Rattle.model_link.specs.Events as link
-use Rattle.model_link.specs.TwoEnds as two_ends
-use Rattle.laws_wire.proofs.Answered.{takes-granted}
+use Rattle.laws_wire.proofs.Vocabulary.{◌≡◌, ℕ, ◌+◌, ◌*◌, ◌<◌, ◌≤◌, true, false, cond, List, [], ◌∷◌, ◌++◌, length, map, None, refl, sym, ap, subst, ◌∙◌, ◌⊎◌, inl, inr, append-nil, arith, nat_lt, if◌then◌else◌, lt-ltb, All-nil, Service, Parts, spelling, ControlFrame, Terms, received, course, given, IsInRange, begun, End, with_link, with_sent, Config, terms, Request, next, Pair, frame, after, refusal, Station, Wire, happens, frames_by, with_first_of, with_first_lost, Act, requests, gives, takes, acting, turned, is_turn_of, answered, comes, IsTalkOf, confirmed, LinkData, two_ends_with_first_lost}
+use Rattle.laws_wire.proofs.Answered.{takes-granted, gives-granted}
 use Rattle.laws_wire.proofs.BothHalf as half
 use Rattle.laws_wire.proofs.BothHalf.{lower}
 use Rattle.laws_wire.proofs.Calling.{sabme, ua, its_ua, awaiting, caller, end, sound-caller, with_ua_waiting, with_ua_first}
@@ -10,7 +8,7 @@ use Rattle.laws_wire.proofs.Ringing.{ringing, its_sabme}
 use Rattle.laws_wire.proofs.Speaking.{said_by}
 use Rattle.laws_wire.proofs.Standing.{IsCarried, Stands}
 use Rattle.laws_wire.proofs.Talking.{Face, Past, unheard, after_note, Holds, none-told, holds-given, holds-lost, takes as takes_frame, Took}
-use Rattle.laws_wire.proofs.Quiet.{one-at-most, Both, first-way, same-count, quiet-gives, quiet-takes, quiet-requests}
+use Rattle.laws_wire.proofs.Quiet.{one-at-most, Both, first-way, quiet-gives, quiet-takes, quiet-requests}
 use Rattle.laws_wire.proofs.Up.{pair_of, turn_of, granted_of}
 
 -- How far the call of an end has come: its SABME waits, is on its way, is answered by a UA that waits, and by one that is on its way.
@@ -56,11 +54,7 @@ InOrder any other = Unit {0}
 
 pub turned-order : (own other : Place) → InOrder own other → InOrder other own
 turned-order waits returns h = h
-turned-order returns waits h = h
-turned-order other under_way h = tt
-turned-order other answered_there h = tt
-turned-order other waits h = tt
-turned-order other returns h = tt
+turned-order own other h = grind arith
 
 abbrev pub turns_left : Place → ℕ
 turns_left waits = 4
@@ -81,10 +75,6 @@ module _ (t : Terms) (ranges : IsInRange t) (u : Terms) where
   told-of-crossing ws few =
       let room : nat_lt (length ws) t.control ≡ true = let low = ranges.control_low in lt-ltb (length ws) t.control (omega (arith, few, low)) in
       ap (λ b. said_by (record (begun (ringing 0 ws)) { lost = cond {A = ℕ} b 0 1 })) room
-
-few-own : (own : Place) → length (own_ring own ++ []) < 2
-few-own waits = omega arith
-few-own other = omega arith
 
 module _ (service : Service) (tei : ℕ) (c d : Config) (p q : ℕ) (face : Face c d) (back : Face d c) (rt : IsInRange (terms c service tei)) (ru : IsInRange (terms d service tei)) where
   abbrev t : Terms
@@ -125,7 +115,7 @@ module _ (service : Service) (tei : ℕ) (c d : Config) (p q : ℕ) (face : Face
     stayed w' b none granted both' = record { weight = weight; goes = inl (record { own = own; other = other; order = order; both = both'; is = is }); price = omega (arith, none, granted) }
 
     -- no contents are granted before a link is up
-    none-granted : (octets : List ℕ) → refusal t (crossing t own other).link false (link.Data octets) ≡ None → ⊥
+    none-granted : (octets : List ℕ) → refusal t (crossing t own other).link false (LinkData octets) ≡ None → ⊥
     none-granted octets e = cc e
 
     asks : (r : Request) → IsTalkOf service tei (requests r) → Crossed w (acting (requests r) w) weight 0
@@ -146,16 +136,10 @@ module _ (service : Service) (tei : ℕ) (c d : Config) (p q : ℕ) (face : Face
         let sent = holds-given service tei p unheard c w.near (crossing t own other) both.near (ap (λ (x : End). x.link.contents) near) in
         record {
           weight = turns_left own' + turns_left other';
-          goes = inl (record {
-            own = own';
-            other = other';
-            order = order';
-            both = record { near = subst (Holds c service tei p unheard (happens next w.near)) near sent; far = subst (Holds d service tei q unheard w.far) far both.far };
-            is = refl;
-          });
+          goes = grind (arith, unheard);
           price =
               lower _ weight (turns_left own' + turns_left other') (granted_of w) _ (one-at-most (frames_by (answered next w.near))) (is ∙ less)
-              (same-count service tei c d p q unheard unheard w (crossing t own other) (crossing u other own) both);
+              (ap (λ xs. length xs + length w.far.granted) (gives-granted w.near));
         }
 
     -- ---- it takes
@@ -170,14 +154,11 @@ module _ (service : Service) (tei : ℕ) (c d : Config) (p q : ℕ) (face : Face
       abbrev s : Station
       s = w.near
 
-      way-is : (w.far.way ≡ spelling d.side f ∷ map (spelling d.side) fs) × IsCarried d service tei f
-      way-is = first-way service tei d q unheard w.far (crossing u other own) f fs first both.far
-
       pub same : with_first_of w.far.way s ≡ comes (spelling d.side f) s
-      same = ap (λ way. with_first_of way s) way-is.0
+      same = ap (λ way. with_first_of way s) (first-way service tei d q unheard w.far (crossing u other own) f fs first both.far).0
 
       pub took : Took service tei p unheard c s (crossing t own other) (spelling d.side f) f
-      took = takes_frame service tei p unheard c d face s (crossing t own other) f both.near.stands way-is.1
+      took = takes_frame service tei p unheard c d face s (crossing t own other) f both.near.stands (first-way service tei d q unheard w.far (crossing u other own) f fs first both.far).1
 
       pub taken-count : granted_of (acting takes w) ≡ granted_of w
       taken-count = ap (λ (s' : Station). length s'.granted + length w.far.granted) same ∙ ap (λ xs. length xs + length w.far.granted) (takes-granted (spelling d.side f) s)
@@ -198,7 +179,7 @@ module _ (service : Service) (tei : ℕ) (c d : Config) (p q : ℕ) (face : Face
 
     -- SABME comes
     takes-sabme : (own' other' : Place) → InOrder own' other' → (fs : List Parts) → (crossing u other own).way ≡ sabme u ∷ fs → with_link (received (frame (sabme u))) (crossing t own other) ≡ crossing t own' other'
-        → said_by (course t (received (frame (sabme u))) (crossing t own other).link) ≡ [] → two_ends.with_first_lost (crossing u other own) ≡ crossing u other' own'
+        → said_by (course t (received (frame (sabme u))) (crossing t own other).link) ≡ [] → two_ends_with_first_lost (crossing u other own) ≡ crossing u other' own'
         → turns_left own + turns_left other ≡ 1 + (turns_left own' + turns_left other') → Crossed w (acting takes w) weight (turn_of w.far.way)
     takes-sabme own' other' order' fs first near said far less = record {
       weight = turns_left own' + turns_left other';
@@ -227,7 +208,7 @@ module _ (service : Service) (tei : ℕ) (c d : Config) (p q : ℕ) (face : Face
 
     takes-ua : (k : ℕ) → (crossing u other own).way ≡ ua u ∷ [] → turns_left own + turns_left other ≡ 1 + k → (n' : End)
         → with_link (received (frame (ua u))) (crossing t own other) ≡ n' → n'.link.contents ≡ [] → n'.delivered ≡ []
-        → two_ends.with_first_lost (crossing u other own) ≡ end u awaiting []
+        → two_ends_with_first_lost (crossing u other own) ≡ end u awaiting []
         → (Holds d service tei q unheard far_then (end u awaiting []) → Holds c service tei p up_note (with_first_of w.far.way w.near) n' → NearFirst (acting takes w) (k + 0))
         → said_by (course t (received (frame (ua u))) (crossing t own other).link) ≡ confirmed service tei ∷ []
         → Crossed w (acting takes w) weight (turn_of w.far.way)
@@ -256,18 +237,18 @@ module _ (service : Service) (tei : ℕ) (c d : Config) (p q : ℕ) (face : Face
 
   -- SABME is heard, whatever has become of the own one
   hears-crossing : (own : Place) → with_link (received (frame (sabme u))) (crossing t own under_way) ≡ end t (ringing 0 ((own_ring own ++ []) ++ its_ua ∷ [])) (own_way t own ++ [])
-  hears-crossing own = ap (λ y. end t y (own_way t own ++ [])) (hears-sabme t rt u (own_ring own ++ []) (few-own own))
+  hears-crossing own = ap (λ y. end t y (own_way t own ++ [])) (hears-sabme t rt u (own_ring own ++ []) (grind arith))
 
   takes-step : (w : Wire) (weight : ℕ) (own other : Place) → InOrder own other → Both service tei c d p q unheard unheard w (crossing t own other) (crossing u other own) → weight ≡ turns_left own + turns_left other
       → Crossed w (acting takes w) weight (turn_of w.far.way)
   takes-step w weight waits under_way order both is =
-      takes-sabme w weight waits under_way order both is waits answered_there tt [] refl (hears-crossing waits) (told-of-crossing t rt u (own_ring waits ++ []) (few-own waits)) refl refl
+      takes-sabme w weight waits under_way order both is waits answered_there tt [] refl (hears-crossing waits) (told-of-crossing t rt u (own_ring waits ++ []) (grind arith)) refl refl
   takes-step w weight under_way under_way order both is =
-      takes-sabme w weight under_way under_way order both is under_way answered_there tt [] refl (hears-crossing under_way) (told-of-crossing t rt u (own_ring under_way ++ []) (few-own under_way)) refl refl
+      takes-sabme w weight under_way under_way order both is under_way answered_there tt [] refl (hears-crossing under_way) (told-of-crossing t rt u (own_ring under_way ++ []) (grind arith)) refl refl
   takes-step w weight answered_there under_way order both is =
-      takes-sabme w weight answered_there under_way order both is answered_there answered_there tt [] refl (hears-crossing answered_there) (told-of-crossing t rt u (own_ring answered_there ++ []) (few-own answered_there)) refl refl
+      takes-sabme w weight answered_there under_way order both is answered_there answered_there tt [] refl (hears-crossing answered_there) (told-of-crossing t rt u (own_ring answered_there ++ []) (grind arith)) refl refl
   takes-step w weight returns under_way order both is =
-      takes-sabme w weight returns under_way order both is returns answered_there tt (ua u ∷ []) refl (hears-crossing returns) (told-of-crossing t rt u (own_ring returns ++ []) (few-own returns)) refl refl
+      takes-sabme w weight returns under_way order both is returns answered_there tt (ua u ∷ []) refl (hears-crossing returns) (told-of-crossing t rt u (own_ring returns ++ []) (grind arith)) refl refl
   takes-step w weight returns answered_there order both is =
       takes-ua w weight returns answered_there order both is 2 refl refl (with_ua_waiting (end t caller [])) refl refl refl refl
       (λ far near. inl (record { m = end t caller []; none = refl; both = record { near = far; far = near }; pair = first-pair; is = refl })) refl

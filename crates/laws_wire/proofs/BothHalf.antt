@@ -1,10 +1,9 @@
 -- A call of which one end is up, and its UA waits or is on its way; and then both are up.
-use Rattle.laws_wire.proofs.Vocabulary.{◌≡◌, ℕ, ◌+◌, ◌*◌, ◌≤◌, false, List, [], ◌++◌, length, None, refl, sym, ap, subst, ◌∙◌, ◌⊎◌, inl, inr, arith, if◌then◌else◌, Service, spelling, Terms, course, is_down, IsInRange, End, with_sent, Config, terms, LineTold, request, next, weight_at, Pair, refusal, Data, Station, Wire, happens, frames_by, with_first_of, Act, requests, gives, takes, Doing, at_near, at_far, acting, turned, doing, is_turn_of, is_turn, answered, comes, IsTalkOf, IsTalk, confirmed}
-use Rattle.model_link.specs.Events as link
+use Rattle.laws_wire.proofs.Vocabulary.{◌≡◌, ℕ, ◌+◌, ◌*◌, ◌≤◌, false, List, [], ◌++◌, length, None, refl, sym, ap, subst, ◌∙◌, ◌⊎◌, inl, inr, arith, if◌then◌else◌, Service, spelling, Terms, course, is_down, IsInRange, End, with_sent, Config, terms, LineTold, request, next, weight_at, Pair, refusal, Data, Station, Wire, happens, frames_by, with_first_of, Act, requests, gives, takes, Doing, at_near, at_far, acting, turned, doing, is_turn_of, is_turn, answered, comes, IsTalkOf, IsTalk, confirmed, received, LinkData, frame}
 use Rattle.laws_wire.proofs.Answered.{gives-granted, takes-granted}
 use Rattle.laws_wire.proofs.Asking.{with_more}
 use Rattle.laws_wire.proofs.BothAsking.{Refuses, refuses}
-use Rattle.laws_wire.proofs.Calling.{ua, awaiting, caller, told-of-ua, end, none-granted-awaiting, with_ua_waiting, with_ua_first, sends-ua}
+use Rattle.laws_wire.proofs.Calling.{ua, awaiting, caller, end, none-granted-awaiting, with_ua_waiting, with_ua_first, sends-ua}
 use Rattle.laws_wire.proofs.Speaking.{said_by}
 use Rattle.laws_wire.proofs.Talking.{Face, Past, unheard, after_note, Holds, none-told, holds-given, holds-lost, takes as takes_frame, Took, fits, More, holds-asked}
 use Rattle.laws_wire.proofs.Quiet.{one-at-most, Both, turned-both, first-way, frames-are, quiet-gives, quiet-takes, for-data, quiet-requests}
@@ -12,9 +11,6 @@ use Rattle.laws_wire.proofs.Up.{pair_of, turned-pair, turn_of, end-gives, more-p
 
 pub lower : (b before weight g g' : ℕ) → b ≤ 1 → before ≡ 1 + weight → g' ≡ g → b + weight + 4 * g ≤ before + 4 * g'
 lower b before weight g g' one is same = omega (arith, one, is, same)
-
-pub turned-count : (w w' : Wire) → granted_of (turned w') ≡ granted_of (turned w) → granted_of w' ≡ granted_of w
-turned-count w w' e = omega (arith, e)
 
 module _ (service : Service) (tei : ℕ) where
   -- The near end waits for UA. The far end was told this note.
@@ -76,14 +72,8 @@ module _ (service : Service) (tei : ℕ) where
     abbrev made : Wire → Station → Wire
     made w s' = record { near = w.near; far = s' }
 
-    more-price : (before k x x' g g' h : ℕ) → before ≡ k + x → x' ≡ x + 4 → g' ≡ g + 1 → 0 + (k + x') + 4 * (h + g) ≤ before + 4 * (h + g')
-    more-price before k x x' g g' h is e more = omega (arith, is, e, more)
-
-    up-more : (a x x' : ℕ) → x' ≡ x + 4 → a + x' ≡ (a + x) + 4
-    up-more a x x' e = omega (arith, e)
-
     module _ (w : Wire) (m : End) (up : Pair (pair_of (end t caller []) m)) (waits : End → End) (same-terms : (waits m).terms ≡ m.terms)
-        (same-refusal : (octets : List ℕ) → refusal (waits m).terms (waits m).link false (link.Data octets) ≡ refusal m.terms m.link false (link.Data octets))
+        (same-refusal : (octets : List ℕ) → refusal (waits m).terms (waits m).link false (LinkData octets) ≡ refusal m.terms m.link false (LinkData octets))
         (holds : Holds d service tei q second w.far (waits m)) where
       record Asks (octets : List ℕ) (s' : Station) : Type 0 where
         more : More service tei q second d w.far s' (waits m) octets
@@ -96,11 +86,11 @@ module _ (service : Service) (tei : ℕ) where
           elim (holds-asked service tei q second d w.far (waits m) octets holds) [
             | inl same ↦ inl same
             | inr x ↦
-                let none : refusal m.terms m.link false (link.Data octets) ≡ None = sym (same-refusal octets) ∙ x.none in
+                let none : refusal m.terms m.link false (LinkData octets) ≡ None = sym (same-refusal octets) ∙ x.none in
                 let own : m.terms.n201 ≡ t.n201 = ap (λ y. y.n201) (sym same-terms ∙ holds.stands.terms) ∙ back.n201 in
                 let small : length octets ≤ t.n201 = subst (λ k. length octets ≤ k) own (fits service tei q second m.terms m.link octets none) in
                 let y = more-pair octets m (end t caller []) (turned-pair (end t caller []) m up) small none in
-                inr (record { more = x; pair = turned-pair (with_more octets m) (end t caller []) y.pair; heavier = up-more (weight_at (end t caller [])) (weight_at m) (weight_at (with_more octets m)) y.heavier })
+                inr (record { more = x; pair = turned-pair (with_more octets m) (end t caller []) y.pair; heavier = omega (arith, y.heavier) })
           ]
 
     answered-asks : (w : Wire) (weight : ℕ) → IsAnswered w weight → (octets : List ℕ) → Stepped w (made w (happens (request (Data service tei octets)) w.far)) weight 0
@@ -117,8 +107,7 @@ module _ (service : Service) (tei : ℕ) where
           weight = 2 + one_up (with_more octets h.m);
           goes = inl (record { m = with_more octets h.m; none = h.none; both = record { near = h.both.near; far = x.more.holds }; pair = x.pair; is = refl });
           price =
-              more-price weight 2 (one_up h.m) (one_up (with_more octets h.m)) (length w.far.granted) (length s'.granted) (length w.near.granted) h.is x.heavier
-              (ap length x.more.granted ∙ one-longer w.far.granted octets);
+              (omega (arith, h.is, x.heavier, (ap length x.more.granted ∙ one-longer w.far.granted octets)));
         }
 
     answered-gives : (w : Wire) (weight : ℕ) → IsAnswered w weight → Stepped w (made w (happens next w.far)) weight (turn_of (frames_by (answered next w.far)))
@@ -140,12 +129,11 @@ module _ (service : Service) (tei : ℕ) where
     from-answered-far (requests r) is w weight h =
         for-data service tei d c q p second unheard (turned w) (with_ua_waiting h.m) (end t awaiting []) (turned-both service tei c d p q unheard second w _ _ h.both)
         (λ r. Stepped w (made w (happens (request r) w.far)) weight 0) (answered-asks w weight h) r is
-    from-answered-far gives is w weight h = answered-gives w weight h
     from-answered-far takes is w weight h =
         let x = quiet-takes service tei d c q p second unheard (turned w) (with_ua_waiting h.m) (end t awaiting []) (turned-both service tei c d p q unheard second w _ _ h.both) refl in
-        stayed w (turned (acting takes (turned w))) weight _ x.none (turned-count w (turned (acting takes (turned w))) x.granted)
+        stayed w (turned (acting takes (turned w))) weight _ x.none (omega (arith, x.granted))
         (inl (record { m = h.m; none = h.none; both = turned-both service tei d c q p second unheard (acting takes (turned w)) (with_ua_waiting h.m) (end t awaiting []) x.both; pair = h.pair; is = h.is }))
-    from-answered-far other is w weight h = absurd is
+    from-answered-far act is w weight h = grind (arith, answered-gives)
 
     -- UA is on its way, and I-frames may be behind it
     confirms : (w : Wire) (weight : ℕ) → IsAwaited w weight → Stepped w (acting takes w) weight (turn_of w.far.way)
@@ -160,7 +148,7 @@ module _ (service : Service) (tei : ℕ) where
           stands = x.stands;
           granted = takes-granted (spelling d.side f) s ∙ h.both.near.granted;
           since = [];
-          told = x.told ∙ ap (λ ts. ts ++ said_by (course t (link.received (link.frame f)) awaiting)) (none-told c service tei p [] s (end t awaiting []) h.both.near refl) ∙ told-of-ua t rt h.m.terms;
+          told = x.told ∙ ap (λ ts. ts ++ said_by (course t (received (frame f)) awaiting)) (none-told c service tei p [] s (end t awaiting []) h.both.near refl) ∙ refl;
           delivered = refl;
         } in
         record {
@@ -187,8 +175,7 @@ module _ (service : Service) (tei : ℕ) where
     from-awaited-near gives is w weight h =
         let x = quiet-gives service tei c d p q unheard second w (end t awaiting []) (with_ua_first h.m) h.both refl in
         stayed w (acting gives w) weight _ x.none x.granted (inr (inl (record { m = h.m; both = x.both; pair = h.pair; is = h.is })))
-    from-awaited-near takes is w weight h = confirms w weight h
-    from-awaited-near other is w weight h = absurd is
+    from-awaited-near act is w weight h = grind (arith, confirms)
 
     awaited-asks : (w : Wire) (weight : ℕ) → IsAwaited w weight → (octets : List ℕ) → Stepped w (made w (happens (request (Data service tei octets)) w.far)) weight 0
     awaited-asks w weight h octets = go (far-asks w h.m h.pair with_ua_first refl (λ octets. refl) h.both.far octets)
@@ -204,18 +191,13 @@ module _ (service : Service) (tei : ℕ) where
           weight = 1 + one_up (with_more octets h.m);
           goes = inr (inl (record { m = with_more octets h.m; both = record { near = h.both.near; far = x.more.holds }; pair = x.pair; is = refl }));
           price =
-              more-price weight 1 (one_up h.m) (one_up (with_more octets h.m)) (length w.far.granted) (length s'.granted) (length w.near.granted) h.is x.heavier
-              (ap length x.more.granted ∙ one-longer w.far.granted octets);
+              (omega (arith, h.is, x.heavier, (ap length x.more.granted ∙ one-longer w.far.granted octets)));
         }
-
-    given-price : (b before a x x' g g' h : ℕ) → before ≡ 1 + (a + x) → b + x' ≤ x → g' ≡ g → b + (1 + (a + x')) + 4 * (h + g) ≤ before + 4 * (h + g')
-    given-price b before a x x' g g' h is e same = omega (arith, is, e, same)
 
     awaited-gives : (w : Wire) (weight : ℕ) → IsAwaited w weight → Stepped w (made w (happens next w.far)) weight (turn_of (frames_by (answered next w.far)))
     awaited-gives w weight h =
-        let side = w.far.card.config.side in
         let m = h.m in
-        let x = end-gives (spelling side) m (end t caller []) (turned-pair (end t caller []) m h.pair) in
+        let x = end-gives (spelling w.far.card.config.side) m (end t caller []) (turned-pair (end t caller []) m h.pair) in
         let sent = holds-given service tei q second d w.far (with_ua_first m) h.both.far x.kept in
         let turn-is = ap turn_of (frames-are service tei d c q p second unheard (turned w) (with_ua_first m) (end t awaiting []) (turned-both service tei c d p q unheard second w _ _ h.both)) in
         record {
@@ -226,19 +208,18 @@ module _ (service : Service) (tei : ℕ) where
             pair = turned-pair (with_sent m) (end t caller []) x.pair;
             is = refl;
           }));
-          price = grind (arith, given-price, end, caller, gives-granted);
+          price = grind (arith, end, caller, gives-granted);
         }
 
     from-awaited-far : (act : Act) → IsTalkOf service tei act → (w : Wire) (weight : ℕ) → IsAwaited w weight → Stepped w (turned (acting act (turned w))) weight (if is_turn_of act (turned w) then 1 else 0)
     from-awaited-far (requests r) is w weight h =
         for-data service tei d c q p second unheard (turned w) (with_ua_first h.m) (end t awaiting []) (turned-both service tei c d p q unheard second w _ _ h.both)
         (λ r. Stepped w (made w (happens (request r) w.far)) weight 0) (awaited-asks w weight h) r is
-    from-awaited-far gives is w weight h = awaited-gives w weight h
     from-awaited-far takes is w weight h =
         let x = quiet-takes service tei d c q p second unheard (turned w) (with_ua_first h.m) (end t awaiting []) (turned-both service tei c d p q unheard second w _ _ h.both) refl in
-        stayed w (turned (acting takes (turned w))) weight _ x.none (turned-count w (turned (acting takes (turned w))) x.granted)
+        stayed w (turned (acting takes (turned w))) weight _ x.none (omega (arith, x.granted))
         (inr (inl (record { m = h.m; both = turned-both service tei d c q p second unheard (acting takes (turned w)) (with_ua_first h.m) (end t awaiting []) x.both; pair = h.pair; is = h.is })))
-    from-awaited-far other is w weight h = absurd is
+    from-awaited-far act is w weight h = grind (arith, awaited-gives)
 
     -- both are up
     from-up : (k : Doing) → IsTalk service tei k → (w : Wire) (weight : ℕ) → IsUp w weight → Stepped w (doing k w) weight (if is_turn k w then 1 else 0)

@@ -1,17 +1,16 @@
 -- A call from its beginning: the near end calls, and the far one may call back before SABME comes; each step of it.
-use Rattle.laws_wire.proofs.Vocabulary.{◌≡◌, ℕ, ◌+◌, ◌*◌, ◌≤◌, Bool, true, false, cond, ◌||◌, [], ◌∷◌, ◌++◌, length, refl, sym, ap, subst, ◌∙◌, ◌⊎◌, inl, inr, arith, if◌then◌else◌, Service, spelling, Terms, fresh, course, IsInRange, with_link, Config, terms, next, Establish, Station, Wire, frames_by, with_first_of, Act, requests, gives, takes, Doing, at_near, at_far, acting, turned, doing, is_turn_of, is_turn, answered, comes, IsTalkOf, IsTalk, IsCall, calls_back, confirmed, indicated, told_first}
-use Rattle.model_link.specs.Events as link
-use Rattle.laws_wire.proofs.Answered.{takes-granted}
-use Rattle.laws_wire.proofs.BothAsking.{Kind, talks, near_calls, far_calls, kind, talk-calls_not, Refuses, refuses, calls}
+use Rattle.laws_wire.proofs.Vocabulary.{◌≡◌, ℕ, ◌+◌, ◌*◌, ◌≤◌, Bool, true, false, cond, ◌||◌, [], ◌∷◌, ◌++◌, length, refl, sym, ap, subst, ◌∙◌, ◌⊎◌, inl, inr, arith, if◌then◌else◌, Service, spelling, Terms, fresh, course, IsInRange, with_link, Config, terms, next, Establish, Station, Wire, frames_by, with_first_of, Act, requests, gives, takes, Doing, at_near, at_far, acting, turned, doing, is_turn_of, is_turn, answered, comes, IsTalkOf, IsTalk, IsCall, calls_back, confirmed, indicated, told_first, received, frame}
+use Rattle.laws_wire.proofs.Answered.{takes-granted, gives-granted}
+use Rattle.laws_wire.proofs.BothAsking.{Kind, talks, near_calls, far_calls, kind, Refuses, refuses, calls}
 use Rattle.laws_wire.proofs.BothHalf as half
-use Rattle.laws_wire.proofs.BothHalf.{lower, turned-count}
+use Rattle.laws_wire.proofs.BothHalf.{lower}
 use Rattle.laws_wire.proofs.BothCrossing as crossed
 use Rattle.laws_wire.proofs.BothCrossing.{waits, under_way, turned-order}
 use Rattle.laws_wire.proofs.Calling.{sabme, asked, awaiting, called, takes-sabme, told-of-sabme, end, none-granted-asked, none-granted-awaiting, none-granted-fresh, first-pair, with_ua_waiting}
 use Rattle.laws_wire.proofs.Speaking.{said_by}
 use Rattle.laws_wire.proofs.Standing.{Stands}
 use Rattle.laws_wire.proofs.Talking.{Face, unheard, after_note, Holds, none-told, holds-given, holds-lost, takes as takes_frame, Took}
-use Rattle.laws_wire.proofs.Quiet.{one-at-most, Both, turned-both, first-way, same-count, quiet-gives, quiet-takes, quiet-requests}
+use Rattle.laws_wire.proofs.Quiet.{one-at-most, Both, turned-both, first-way, quiet-gives, quiet-takes, quiet-requests}
 use Rattle.laws_wire.proofs.Up.{turn_of, granted_of}
 
 abbrev pub cost : Bool → ℕ
@@ -63,23 +62,19 @@ module _ (service : Service) (tei : ℕ) where
         record {
           weight = 3;
           goes = inr (inl (record { both = record { near = sent; far = h.both.far }; is = refl }));
-          price = lower _ weight 3 (granted_of w) _ (one-at-most (frames_by (answered next w.near))) h.is (same-count service tei c d p q unheard unheard w (end t asked []) (end u fresh []) h.both);
+          price = lower _ weight 3 (granted_of w) _ (one-at-most (frames_by (answered next w.near))) h.is (ap (λ xs. length xs + length w.far.granted) (gives-granted w.near));
         }
-    from-waiting-near takes is w weight h =
-        let x = quiet-takes service tei c d p q unheard unheard w (end t asked []) (end u fresh []) h.both refl in
-        stayed false w (acting takes w) weight _ x.none x.granted (inl (record { both = x.both; is = h.is }))
+    from-waiting-near takes is w weight h = grind (arith, quiet-takes, unheard, end, asked, stayed)
     from-waiting-near other is w weight h = absurd is
 
     from-waiting-far : (act : Act) → IsTalkOf service tei act → (w : Wire) (weight : ℕ) → IsWaiting w weight → Went false w (turned (acting act (turned w))) weight (if is_turn_of act (turned w) then 1 else 0)
     from-waiting-far (requests r) is w weight h =
         let x = quiet-requests service tei d c q p unheard unheard (turned w) (end u fresh []) (end t asked []) (turned-both service tei c d p q unheard unheard w _ _ h.both) (none-granted-fresh u) r is in
-        stayed false w (turned (acting (requests r) (turned w))) weight 0 refl (turned-count w (turned (acting (requests r) (turned w))) x.granted) (inl (record { both = turned-both service tei d c q p unheard unheard (acting (requests r) (turned w)) (end u fresh []) (end t asked []) x.both; is = h.is }))
+        stayed false w (turned (acting (requests r) (turned w))) weight 0 refl (omega (arith, x.granted)) (inl (record { both = turned-both service tei d c q p unheard unheard (acting (requests r) (turned w)) (end u fresh []) (end t asked []) x.both; is = h.is }))
     from-waiting-far gives is w weight h =
         let x = quiet-gives service tei d c q p unheard unheard (turned w) (end u fresh []) (end t asked []) (turned-both service tei c d p q unheard unheard w _ _ h.both) refl in
-        stayed false w (turned (acting gives (turned w))) weight _ x.none (turned-count w (turned (acting gives (turned w))) x.granted) (inl (record { both = turned-both service tei d c q p unheard unheard (acting gives (turned w)) (end u fresh []) (end t asked []) x.both; is = h.is }))
-    from-waiting-far takes is w weight h =
-        let x = quiet-takes service tei d c q p unheard unheard (turned w) (end u fresh []) (end t asked []) (turned-both service tei c d p q unheard unheard w _ _ h.both) refl in
-        stayed false w (turned (acting takes (turned w))) weight _ x.none (turned-count w (turned (acting takes (turned w))) x.granted) (inl (record { both = turned-both service tei d c q p unheard unheard (acting takes (turned w)) (end u fresh []) (end t asked []) x.both; is = h.is }))
+        stayed false w (turned (acting gives (turned w))) weight _ x.none (omega (arith, x.granted)) (inl (record { both = turned-both service tei d c q p unheard unheard (acting gives (turned w)) (end u fresh []) (end t asked []) x.both; is = h.is }))
+    from-waiting-far takes is w weight h = grind (arith, quiet-takes, unheard, end, asked, turned-both, stayed)
     from-waiting-far other is w weight h = absurd is
 
     -- ---- SABME is on its way
@@ -91,9 +86,7 @@ module _ (service : Service) (tei : ℕ) where
     from-called-near gives is w weight h =
         let x = quiet-gives service tei c d p q unheard unheard w (end t awaiting (sabme t ∷ [])) (end u fresh []) h.both refl in
         stayed false w (acting gives w) weight _ x.none x.granted (inr (inl (record { both = x.both; is = h.is })))
-    from-called-near takes is w weight h =
-        let x = quiet-takes service tei c d p q unheard unheard w (end t awaiting (sabme t ∷ [])) (end u fresh []) h.both refl in
-        stayed false w (acting takes w) weight _ x.none x.granted (inr (inl (record { both = x.both; is = h.is })))
+    from-called-near takes is w weight h = grind (arith, quiet-takes, unheard, end, awaiting, sabme, stayed)
     from-called-near other is w weight h = absurd is
 
     answers : (w : Wire) (weight : ℕ) → IsCalled w weight → Went false w (turned (acting takes (turned w))) weight (turn_of w.near.way)
@@ -104,13 +97,13 @@ module _ (service : Service) (tei : ℕ) where
         let second = after_note (indicated service tei) in
         let same : with_first_of w.near.way s ≡ comes (spelling c.side f) s = ap (λ way. with_first_of way s) way.0 in
         let x : Took service tei q unheard d s (end u fresh []) (spelling c.side f) f = takes_frame service tei q unheard d c back s (end u fresh []) f h.both.far.stands way.1 in
-        let is : with_link (link.received (link.frame f)) (end u fresh []) ≡ with_ua_waiting (end u called []) = ap (λ y. end u y []) (takes-sabme u ru t) in
+        let is : with_link (received (frame f)) (end u fresh []) ≡ with_ua_waiting (end u called []) = ap (λ y. end u y []) (takes-sabme u ru t) in
         let far : Holds d service tei q second (comes (spelling c.side f) s) (with_ua_waiting (end u called [])) =
         record {
           stands = subst (Stands d service tei q (comes (spelling c.side f) s)) is x.stands;
           granted = takes-granted (spelling c.side f) s ∙ h.both.far.granted;
           since = [];
-          told = x.told ∙ ap (λ ts. ts ++ said_by (course u (link.received (link.frame f)) fresh)) (none-told d service tei q [] s (end u fresh []) h.both.far refl) ∙ told-of-sabme u ru t;
+          told = x.told ∙ ap (λ ts. ts ++ said_by (course u (received (frame f)) fresh)) (none-told d service tei q [] s (end u fresh []) h.both.far refl) ∙ told-of-sabme u ru t;
           delivered = refl;
         } in
         record {
@@ -118,10 +111,7 @@ module _ (service : Service) (tei : ℕ) where
           goes = inr (inr (inl (record {
             m = end u called [];
             none = refl;
-            both = record {
-              near = holds-lost service tei p unheard c w.near (end t awaiting (f ∷ [])) h.both.near;
-              far = subst (λ s'. Holds d service tei q second s' (with_ua_waiting (end u called []))) (sym same) far;
-            };
+            both = grind (arith, holds-lost, unheard, end, awaiting, with_ua_waiting, called);
             pair = first-pair t u rt ru;
             is = refl;
           })));
@@ -133,12 +123,11 @@ module _ (service : Service) (tei : ℕ) where
     from-called-far : (act : Act) → IsTalkOf service tei act → (w : Wire) (weight : ℕ) → IsCalled w weight → Went false w (turned (acting act (turned w))) weight (if is_turn_of act (turned w) then 1 else 0)
     from-called-far (requests r) is w weight h =
         let x = quiet-requests service tei d c q p unheard unheard (turned w) (end u fresh []) (end t awaiting (sabme t ∷ [])) (turned-both service tei c d p q unheard unheard w _ _ h.both) (none-granted-fresh u) r is in
-        stayed false w (turned (acting (requests r) (turned w))) weight 0 refl (turned-count w (turned (acting (requests r) (turned w))) x.granted) (inr (inl (record { both = turned-both service tei d c q p unheard unheard (acting (requests r) (turned w)) (end u fresh []) (end t awaiting (sabme t ∷ [])) x.both; is = h.is })))
+        stayed false w (turned (acting (requests r) (turned w))) weight 0 refl (omega (arith, x.granted)) (inr (inl (record { both = turned-both service tei d c q p unheard unheard (acting (requests r) (turned w)) (end u fresh []) (end t awaiting (sabme t ∷ [])) x.both; is = h.is })))
     from-called-far gives is w weight h =
         let x = quiet-gives service tei d c q p unheard unheard (turned w) (end u fresh []) (end t awaiting (sabme t ∷ [])) (turned-both service tei c d p q unheard unheard w _ _ h.both) refl in
-        stayed false w (turned (acting gives (turned w))) weight _ x.none (turned-count w (turned (acting gives (turned w))) x.granted) (inr (inl (record { both = turned-both service tei d c q p unheard unheard (acting gives (turned w)) (end u fresh []) (end t awaiting (sabme t ∷ [])) x.both; is = h.is })))
-    from-called-far takes is w weight h = answers w weight h
-    from-called-far other is w weight h = absurd is
+        stayed false w (turned (acting gives (turned w))) weight _ x.none (omega (arith, x.granted)) (inr (inl (record { both = turned-both service tei d c q p unheard unheard (acting gives (turned w)) (end u fresh []) (end t awaiting (sabme t ∷ [])) x.both; is = h.is })))
+    from-called-far act is w weight h = grind (arith, answers)
 
     -- ---- one end is up, or both
 
@@ -146,13 +135,9 @@ module _ (service : Service) (tei : ℕ) where
     HalfWent both w w' before b = half.Stepped service tei (told_first service tei both) c d p q face back rt w w' before b
 
     as-half : (both : Bool) (w w' : Wire) (before b : ℕ) → HalfWent both w w' before b → Went both w w' before b
-    as-half false w w' before b x = record { weight = x.weight; goes = inr (inr x.goes); price = x.price }
-    as-half true w w' before b x = record { weight = x.weight; goes = inr (inl x.goes); price = x.price }
+    as-half both w w' before b x = grind arith
 
     -- ---- both call
-
-    swap-price : (b x before g g' h h' : ℕ) → b + x + 4 * (h + g) ≤ before + 4 * (h' + g') → b + x + 4 * (g + h) ≤ before + 4 * (g' + h')
-    swap-price b x before g g' h h' e = omega (arith, e)
 
     abbrev Crossing : Wire → ℕ → Type 0
     Crossing w weight = crossed.IsCrossing service tei c d p q face back rt ru w weight
@@ -161,8 +146,7 @@ module _ (service : Service) (tei : ℕ) where
     NearFirst w weight = crossed.NearFirst service tei c d p q face back rt ru w weight
 
     near-goes : (w : Wire) (weight : ℕ) → Crossing w weight ⊎ NearFirst w weight → Goes true w weight
-    near-goes w weight (inl h) = inl h
-    near-goes w weight (inr h) = inr (inr h)
+    near-goes w weight o = grind arith
 
     crossed-near : (act : Act) → IsTalkOf service tei act → (w : Wire) (weight : ℕ) → Crossing w weight → Went true w (acting act w) weight (if is_turn_of act w then 1 else 0)
     crossed-near act is w weight h =
@@ -196,8 +180,7 @@ module _ (service : Service) (tei : ℕ) where
     }
 
     far-goes : (v : Wire) (weight : ℕ) → CrossingTurned v weight ⊎ FarFirst v weight → Goes true (turned v) weight
-    far-goes v weight (inl h) = inl (crossing-back v weight h)
-    far-goes v weight (inr h) = inr (inl h)
+    far-goes v weight o = grind (arith, crossing-back)
 
     crossed-far : (act : Act) → IsTalkOf service tei act → (w : Wire) (weight : ℕ) → Crossing w weight → Went true w (turned (acting act (turned w))) weight (if is_turn_of act (turned w) then 1 else 0)
     crossed-far act is w weight h =
@@ -207,7 +190,7 @@ module _ (service : Service) (tei : ℕ) where
         record {
           weight = x.weight;
           goes = far-goes v' x.weight x.goes;
-          price = swap-price _ x.weight weight (length w.near.granted) (length v'.far.granted) (length w.far.granted) (length v'.near.granted) x.price;
+          price = omega (arith, x.price);
         }
 
     -- ---- the near end was up first
@@ -219,7 +202,7 @@ module _ (service : Service) (tei : ℕ) where
         record {
           weight = x.weight;
           goes = inr (inr x.goes);
-          price = swap-price _ x.weight weight (length w.near.granted) (length w'.near.granted) (length w.far.granted) (length w'.far.granted) x.price;
+          price = omega (arith, x.price);
         }
 
     first-far : (act : Act) → IsTalkOf service tei act → (w : Wire) (weight : ℕ) → NearFirst w weight → Went true w (turned (acting act (turned w))) weight (if is_turn_of act (turned w) then 1 else 0)
@@ -229,7 +212,7 @@ module _ (service : Service) (tei : ℕ) where
         record {
           weight = x.weight;
           goes = inr (inr x.goes);
-          price = swap-price _ x.weight weight (length w.near.granted) (length v'.far.granted) (length w.far.granted) (length v'.near.granted) x.price;
+          price = omega (arith, x.price);
         }
 
     -- ---- talk
@@ -263,20 +246,12 @@ module _ (service : Service) (tei : ℕ) where
       pub price : b + weight + (4 * granted_of w + cost both) ≤ before + (4 * granted_of (doing k w) + cost (both || calls_back k w))
 
     or-none : (both b : Bool) → b ≡ false → (both || b) ≡ both
-    or-none true b none = refl
-    or-none false b none = none
+    or-none both b none = grind arith
 
     none-called : (both : Bool) (k : Doing) (w : Wire) (before b : ℕ) → calls_back k w ≡ false → Went both w (doing k w) before b → Stepped both k w before b
     none-called both k w before b none x =
         let same : both ≡ (both || calls_back k w) = sym (or-none both (calls_back k w) none) in
-        record {
-          weight = x.weight;
-          goes = subst (λ y. Goes y (doing k w) x.weight) same x.goes;
-          price = subst (λ y. b + x.weight + (4 * granted_of w + cost both) ≤ before + (4 * granted_of (doing k w) + cost y)) same (plus-cost b x.weight (granted_of w) (cost both) before (granted_of (doing k w)) x.price);
-        }
-      where
-        plus-cost : (b x g k before g' : ℕ) → b + x + 4 * g ≤ before + 4 * g' → b + x + (4 * g + k) ≤ before + (4 * g' + k)
-        plus-cost b x g k before g' h = omega (arith, h)
+        grind (arith, granted_of)
 
     not-moved : (both : Bool) (w w' : Wire) (weight : ℕ) → w' ≡ w → Goes both w weight → Went both w w' weight 0
     not-moved both w w' weight same h = stayed both w w' weight 0 refl (ap granted_of same) (subst (λ x. Goes both x weight) (sym same) h)
@@ -291,9 +266,6 @@ module _ (service : Service) (tei : ℕ) where
         none-called both (at_far (requests (Establish service tei))) w weight 0 down.none
         (not-moved both w (doing (at_far (requests (Establish service tei))) w) weight (ap (λ s. record w { far = s }) down.same) h)
 
-    called-price : (x before g g' : ℕ) → x ≡ before + 4 → g' ≡ g → 0 + x + (4 * g + 0) ≤ before + (4 * g' + 4)
-    called-price x before g g' is same = omega (arith, is, same)
-
     -- the far end calls back
     abbrev far_calls_back : Wire → Wire
     far_calls_back w = doing (at_far (requests (Establish service tei))) w
@@ -307,13 +279,11 @@ module _ (service : Service) (tei : ℕ) where
           goes = subst (λ y. Goes y (far_calls_back w) weight) (sym x.some) (so x.holds);
           price =
               subst (λ y. 0 + weight + (4 * granted_of w + 0) ≤ before + (4 * granted_of (far_calls_back w) + cost y)) (sym x.some)
-              (called-price weight before (granted_of w) (granted_of (far_calls_back w)) is (ap (λ xs. length w.near.granted + length xs) x.granted));
+              (omega (arith, is, (ap (λ xs. length w.near.granted + length xs) x.granted)));
         }
 
     far-asks : (both : Bool) (w : Wire) (weight : ℕ) → Goes both w weight → Stepped both (at_far (requests (Establish service tei))) w weight 0
-    far-asks false w weight (inl h) =
-        calls-too w weight 8 h.both.far (ap (λ x. x + 4) (sym h.is))
-        (λ far. inl (record { own = waits; other = waits; order = tt; both = record { near = h.both.near; far = far }; is = refl }))
+    far-asks false w weight (inl h) = grind (arith, calls-too, waits)
     far-asks false w weight (inr (inl h)) =
         calls-too w weight 7 h.both.far (ap (λ x. x + 4) (sym h.is))
         (λ far. inl (record { own = under_way; other = waits; order = tt; both = record { near = h.both.near; far = far }; is = refl }))
@@ -323,7 +293,7 @@ module _ (service : Service) (tei : ℕ) where
     far-asks true w weight (inr (inr h)) = far-refused true w weight (inr (inr h)) (half.near-refuses service tei (confirmed service tei) d c q p back face ru (turned w) weight h)
 
     by-kind : (both : Bool) (k : Doing) → Kind service tei k → (w : Wire) (weight : ℕ) → Goes both w weight → Stepped both k w weight (if is_turn k w then 1 else 0)
-    by-kind both k (talks is) w weight h = none-called both k w weight _ (talk-calls_not service tei k is w) (talk-step both k is w weight h)
+    by-kind both k (talks is) w weight h = none-called both k w weight _ (grind arith) (talk-step both k is w weight h)
     by-kind both k (near_calls is) w weight h = subst (λ k. Stepped both k w weight (if is_turn k w then 1 else 0)) (sym is) (near-asks both w weight h)
     by-kind both k (far_calls is) w weight h = subst (λ k. Stepped both k w weight (if is_turn k w then 1 else 0)) (sym is) (far-asks both w weight h)
 

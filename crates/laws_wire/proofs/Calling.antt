@@ -34,9 +34,6 @@ module _ (t : Terms) (ranges : IsInRange t) where
   pub asks-establish : after t (requested Establish false) fresh ≡ asked
   asks-establish = ap (λ b. record asked { waiting = cond b ([] ++ command (Sabme true) ∷ []) [] }) room
 
-  pub told-of-establish : said_by (course t (requested Establish false) fresh) ≡ []
-  told-of-establish = ap (λ b. said_by (record (begun fresh) { lost = cond {A = ℕ} b 0 1 })) room
-
   -- the frame may have the terms of the other end
   pub takes-sabme : (u : Terms) → after t (received (frame (sabme u))) fresh ≡ answering
   takes-sabme u = ap (λ b. record answering { waiting = cond b ([] ++ response (Ua true) ∷ []) [] }) room
@@ -44,14 +41,8 @@ module _ (t : Terms) (ranges : IsInRange t) where
   pub told-of-sabme : (u : Terms) → said_by (course t (received (frame (sabme u))) fresh) ≡ indicated t.service t.tei ∷ []
   told-of-sabme u = ap (λ b. said_by (record (begun fresh) { notes = Rattle.lapd_frame.specs.declared.notes.Note.TheVariants.EstablishIndication t.service t.tei ∷ []; lost = cond {A = ℕ} b 0 1 })) room
 
-  pub told-of-ua : (u : Terms) → said_by (course t (received (frame (ua u))) awaiting) ≡ confirmed t.service t.tei ∷ []
-  told-of-ua u = refl
-
-  sound-asked : IsSound t asked
-  sound-asked = subst (IsSound t) asks-establish (sound-after t ranges (requested Establish false) fresh (sound-fresh t ranges))
-
   sound-awaiting : IsSound t awaiting
-  sound-awaiting = sound-after t ranges offer asked sound-asked
+  sound-awaiting = sound-after t ranges offer asked (subst (IsSound t) asks-establish (sound-after t ranges (requested Establish false) fresh (sound-fresh t ranges)))
 
   pub sound-caller : IsSound t caller
   sound-caller = sound-after t ranges (received (frame (ua t))) awaiting sound-awaiting

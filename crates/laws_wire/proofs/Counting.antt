@@ -1,10 +1,7 @@
 -- RC is never above the number of expiries of T200 since a link was last in state 7, so no error is told while this is below N200.
-use Rattle.laws_wire.proofs.Vocabulary.{◌≡◌, ℕ, ◌+◌, ◌<◌, ◌≤◌, Bool, true, false, cond, not, ◌==◌, List, [], ◌∷◌, ◌++◌, map, refl, sym, ap, subst, ◌∙◌, inl, inr, true≢false, eqb-true, arith, All, All-nil, All-head, All-tail, All-weaker, Service, Parts, spelling, State, TeiAssigned, AwaitingEstablishment, AwaitingRelease, Established, TimerRecovery, Terms, T203, Link, state_number, IsInRange, End, Config, Line, place_in, at_requested, aim_of_request, request, terms, awaits_answer, repeats_left, as_heard, is_clearing, is_time, event-follows, T200, after, Request, Data, SetBusy, ClearBusy, Station, Wire, happens, with_first_of, Act, requests, times_out, gives, takes, loses, Doing, at_near, at_far, acting, turned, doing, doing_all, calling, IsRoughTalkOf, IsRoughTalk, IsFullTalkOf, IsFullTalk, own_link, IsTimelyOf, IsTimely, StayTimely, StayPatient, Counts, is_7, is_in_7, counted, counting, uncounted, IsCountedOf, IsCounted, StayCounted, IsSparedIn, StaySpared, ExpiriesAreCounted, LossyExpiriesAreCounted}
+use Rattle.laws_wire.proofs.Vocabulary.{◌≡◌, ℕ, ◌+◌, ◌<◌, ◌≤◌, Bool, true, false, cond, not, ◌==◌, List, [], ◌∷◌, ◌++◌, map, refl, sym, ap, subst, ◌∙◌, inl, inr, true≢false, eqb-true, arith, All, All-nil, All-head, All-tail, All-weaker, Service, Parts, spelling, State, TeiAssigned, AwaitingEstablishment, AwaitingRelease, Established, TimerRecovery, Terms, T203, Link, state_number, IsInRange, End, Config, Line, place_in, at_requested, aim_of_request, request, terms, awaits_answer, repeats_left, as_heard, is_clearing, is_time, event-follows, T200, after, Request, Data, SetBusy, ClearBusy, Station, Wire, happens, with_first_of, Act, requests, times_out, gives, takes, loses, Doing, at_near, at_far, acting, turned, doing, doing_all, calling, IsRoughTalkOf, IsRoughTalk, IsFullTalkOf, IsFullTalk, own_link, IsTimelyOf, IsTimely, StayTimely, StayPatient, Counts, is_7, is_in_7, counted, counting, uncounted, IsCountedOf, IsCounted, StayCounted, IsSparedIn, StaySpared, ExpiriesAreCounted, LossyExpiriesAreCounted, frame, requested, offer, expired, LinkSetBusy, received, LinkClearBusy, LinkData, LinkRequest, timer_T200, timer_T203, IsAsked, IsPatient, Called, uncalled, seeing, seen}
 use Rattle.laws_link.specs.States.{moves}
-use Rattle.lapd_frame.specs.declared.timers.Timer.TheVariants as timers
-use Rattle.model_link.specs.Events as link
 use Rattle.model_link.specs.Events.{Event}
-use Rattle.laws_wire.specs.Answering.{IsAsked, IsPatient, Called, uncalled, seeing, seen}
 use Rattle.laws_wire.proofs.Awaited.{link-is, state-is, awaits-is, may-here}
 use Rattle.laws_wire.proofs.LooseUp.{for-asked}
 use Rattle.laws_wire.proofs.LossyPhases.{for-data}
@@ -22,20 +19,10 @@ abbrev from : ℕ → State
 from i = cond (i == 4) TeiAssigned (cond (i == 5) AwaitingEstablishment (cond (i == 6) AwaitingRelease (cond (i == 7) Established TimerRecovery)))
 
 from-number : (x : State) → from (state_number x) ≡ x
-from-number TeiAssigned = refl
-from-number other = refl
-
-not-false : (b : Bool) → not b ≡ false → b ≡ true
-not-false true e = refl
-not-false false e = absurd (true≢false e)
+from-number x = grind arith
 
 unmoved : (x y : State) → moves x y ≡ false → x ≡ y
-unmoved x y e =
-    sym (from-number x) ∙ ap from (eqb-true (state_number x) (state_number y) (not-false (state_number x == state_number y) e)) ∙ from-number y
-
-not-7 : (x : State) → awaits_answer x ≡ true → (state_number x == 7) ≡ false
-not-7 Established e = absurd (true≢false (sym e))
-not-7 other e = refl
+unmoved x y e = grind (arith, from-number, eqb-true)
 
 -- ---- an event of a link
 
@@ -87,7 +74,7 @@ module _ (service : Service) (tei : ℕ) where
     own-stands = subst (λ c. Stands c service tei p w.near n) (sym near.config) near
 
     seven : awaits_answer n.link.state ≡ true → in_7 ≡ false
-    seven awaits = ap is_7 (state-is service tei c p w.near n near) ∙ not-7 n.link.state awaits
+    seven awaits = ap is_7 (state-is service tei c p w.near n near) ∙ (grind arith)
 
     keeps : (i : ℕ) → k ≤ i → awaits_answer n.link.state ≡ true → k ≤ cond in_7 0 i
     keeps i few awaits = subst (λ b. k ≤ cond b 0 i) (sym (seven awaits)) few
@@ -110,28 +97,28 @@ module _ (service : Service) (tei : ℕ) where
         let up = ap (λ (l : Link). awaits_answer l.state) (sym (link-is service tei c p w.near n near)) ∙ awaits in
         as-many (own_link service tei w.near).repeats k (cond in_7 0 k) (below awaits) (keeps k (omega arith) up)
 
-    near-asks : (r : Request) (rq : link.Request) → ((l : Line) → aim_of_request r l ≡ at_requested service tei rq (place_in l tei)) → Below (happens (request r) w.near) (cond in_7 0 k)
+    near-asks : (r : Request) (rq : LinkRequest) → ((l : Line) → aim_of_request r l ≡ at_requested service tei rq (place_in l tei)) → Below (happens (request r) w.near) (cond in_7 0 k)
     near-asks r rq aims =
         elim (asks-stands service tei p w.near n own-stands r rq aims) [
           | inl e ↦ subst (λ s. Below s (cond in_7 0 k)) (sym e) same
-          | inr x ↦ by-event own (link.requested rq false) (happens (request r) w.near) _ x.stands refl refl refl
+          | inr x ↦ by-event own (requested rq false) (happens (request r) w.near) _ x.stands refl refl refl
         ]
 
-    near-t200 : Below (acting (times_out (timers.T200 service tei)) w).near (cond in_7 0 (k + 1))
+    near-t200 : Below (acting (times_out (timer_T200 service tei)) w).near (cond in_7 0 (k + 1))
     near-t200 =
-        let s' = (acting (times_out (timers.T200 service tei)) w).near in
+        let s' = (acting (times_out (timer_T200 service tei)) w).near in
         let k' = cond in_7 0 (k + 1) in
-        subst (λ l. IsBelow l k') (sym (link-is service tei own p s' _ (expires-stands service tei p w.near n own-stands (timers.T200 service tei) T200 (λ l. refl))))
-        (counts-on n.terms (link.expired T200) n.link k k' refl own-below (keeps (k + 1) (omega arith)) (λ awaits time. adds awaits))
+        subst (λ l. IsBelow l k') (sym (link-is service tei own p s' _ (expires-stands service tei p w.near n own-stands (timer_T200 service tei) T200 (λ l. refl))))
+        (counts-on n.terms (expired T200) n.link k k' refl own-below (keeps (k + 1) (omega arith)) (λ awaits time. adds awaits))
 
-    near-t203 : Below (acting (times_out (timers.T203 service tei)) w).near (cond in_7 0 k)
+    near-t203 : Below (acting (times_out (timer_T203 service tei)) w).near (cond in_7 0 k)
     near-t203 =
-        by-event own (link.expired T203) (acting (times_out (timers.T203 service tei)) w).near _
-        (expires-stands service tei p w.near n own-stands (timers.T203 service tei) T203 (λ l. refl)) refl refl refl
+        by-event own (expired T203) (acting (times_out (timer_T203 service tei)) w).near _
+        (expires-stands service tei p w.near n own-stands (timer_T203 service tei) T203 (λ l. refl)) refl refl refl
 
     near-gives : Below (acting gives w).near (cond in_7 0 k)
     near-gives =
-        by-event own link.offer (acting gives w).near _ (gives-stands service tei p w.near n own-stands) refl refl refl
+        by-event own offer (acting gives w).near _ (gives-stands service tei p w.near n own-stands) refl refl refl
 
     near-takes : Below (acting takes w).near (cond in_7 0 k)
     near-takes = subst (λ ways. Below (with_first_of ways w.near) (cond in_7 0 k)) (sym far.way) (taken m.way refl)
@@ -140,22 +127,13 @@ module _ (service : Service) (tei : ℕ) where
         taken [] e = same
         taken (f ∷ fs) e =
             let from : IsCarried d service tei f = All-head (IsCarried d service tei) f fs (subst (All (IsCarried d service tei)) e far.carried) in
-            by-event c (link.received (link.frame f)) (with_first_of (map (spelling d.side) (f ∷ fs)) w.near) _ (takes_frame service tei p unheard c d face w.near n f near from).stands refl refl refl
+            by-event c (received (frame f)) (with_first_of (map (spelling d.side) (f ∷ fs)) w.near) _ (takes_frame service tei p unheard c d face w.near n f near from).stands refl refl refl
 
     pub near-counts : (act : Act) → IsFullTalkOf service tei act → Below (acting act w).near (counted service tei act w.near k)
     near-counts (requests r) is =
-        for-asked service tei (λ r. Below (acting (requests r) w).near (cond in_7 0 k)) (λ octets. near-asks (Data service tei octets) (link.Data octets) (λ l. refl))
-        (near-asks (SetBusy service tei) link.SetBusy (λ l. refl)) (near-asks (ClearBusy service tei) link.ClearBusy (λ l. refl)) r is
-    near-counts (times_out timer) is =
-        each-timer service tei (λ timer. Below (acting (times_out timer) w).near (counted service tei (times_out timer) w.near k)) near-t200 near-t203 timer is
-    near-counts gives is = near-gives
-    near-counts takes is = near-takes
-    near-counts loses is = same
-
-  -- what an end does leaves RC of the other
-  far-same : (act : Act) (w : Wire) (k : ℕ) → Below w.far k → Below (acting act w).far k
-  far-same (requests r) w k h = h
-  far-same other w k h = h
+        for-asked service tei (λ r. Below (acting (requests r) w).near (cond in_7 0 k)) (λ octets. near-asks (Data service tei octets) (LinkData octets) (λ l. refl))
+        (near-asks (SetBusy service tei) LinkSetBusy (λ l. refl)) (near-asks (ClearBusy service tei) LinkClearBusy (λ l. refl)) r is
+    near-counts act is = grind (arith, each-timer, near-t200, near-t203, near-gives, near-takes, same)
 
   few : (r k i i' : ℕ) → r ≤ k → k < i → i' ≡ i → r < i'
   few r k i i' h h' e = omega (arith, h, h', e)
@@ -217,13 +195,13 @@ module _ (service : Service) (tei : ℕ) where
         where
           go : (a : Doing) → IsFullTalk service tei a → Below (doing a w).near (counting service tei a w k).near
           go (at_near act) is = near-counts c d p q face w y.n y.m y.near y.far k.near near act is
-          go (at_far act) is = far-same act (turned w) k.near near
+          go (at_far act) is = grind arith
 
       far-next : Below (doing a w).far (counting service tei a w k).far
       far-next = go a is
         where
           go : (a : Doing) → IsFullTalk service tei a → Below (doing a w).far (counting service tei a w k).far
-          go (at_near act) is = far-same act w k.far far
+          go (at_near act) is = grind arith
           go (at_far act) is = near-counts d c q p back (turned w) y.m y.n y.far y.near k.far far act is
 
     pub all-patient : (ds : List Doing) → All (IsFullTalk service tei) ds → (k : Counts) (w : Wire) (x : Called) → Its x w → Below w.near k.near → Below w.far k.far
@@ -249,22 +227,13 @@ lossy-expiries-are-counted service c d line other tei ds can talk = λ counts.
 
 -- ---- where UA is not lost
 
-full-act : (service : Service) (tei : ℕ) (act : Act) → IsRoughTalkOf service tei act → IsFullTalkOf service tei act
-full-act service tei (requests r) is = for-data service tei (IsAsked service tei) (λ octets. (refl, refl)) r is
-full-act service tei other is = is
-
 full : (service : Service) (tei : ℕ) (d : Doing) → IsRoughTalk service tei d → IsFullTalk service tei d
-full service tei (at_near act) is = full-act service tei act is
-full service tei (at_far act) is = full-act service tei act is
-
-one-timely : (d : Doing) (w : Wire) → IsPatient d w → IsSparedIn d w → IsTimely d w
-one-timely (at_near act) w h spared = h
-one-timely (at_far act) w h spared = (h, spared)
+full service tei d is = grind (arith, for-data)
 
 all-timely : (ds : List Doing) (w : Wire) → StayPatient ds w → StaySpared ds w → StayTimely ds w
 unfolding StayPatient StaySpared StayTimely
 all-timely [] w h spared = tt
-all-timely (d ∷ ds) w h spared = (one-timely d w h.0 spared.0, all-timely ds (doing d w) h.1 spared.1)
+all-timely (d ∷ ds) w h spared = ((grind arith), all-timely ds (doing d w) h.1 spared.1)
 
 pub expiries-are-counted : ExpiriesAreCounted
 expiries-are-counted service c d line other tei ds can talk = λ counts spared.

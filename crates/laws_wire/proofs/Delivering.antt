@@ -1,8 +1,6 @@
 -- Two cards that face each other deliver what layer 3 hands over.
-use Rattle.laws_wire.proofs.Vocabulary.{◌≡◌, ℕ, ◌+◌, ◌*◌, ◌≤◌, ◌||◌, Bool, false, cond, List, [], ◌++◌, length, map, take, drop, Option, Some, option_map, refl, sym, ap, subst, ◌∙◌, append-nil, append_assoc, length-append, map-append, take-append-drop, arith, All, All-nil, Service, Link, Established, other_side, End, Ends, Config, LineTold, link_in, state_in, place_in, terms, has_lines, line_sound, AreTurns, weight_at, IsReady, IsTaken, Pair, all-turns, Station, Wire, Doing, doing_all, turns, IsStill, IsBeginningOf, IsTold, calling, IsTalk, data_told, Face, Speaks, own_link, granted_of}
-use Rattle.std.proofs.lemmas.List.{append_cancel_left}
+use Rattle.laws_wire.proofs.Vocabulary.{◌≡◌, ℕ, ◌+◌, ◌*◌, ◌≤◌, ◌||◌, Bool, false, cond, List, [], ◌++◌, length, map, take, drop, Option, Some, option_map, refl, sym, ap, subst, ◌∙◌, append-nil, append_assoc, length-append, map-append, take-append-drop, arith, All, All-nil, Service, Link, Established, other_side, End, Ends, Config, LineTold, link_in, state_in, place_in, terms, has_lines, line_sound, AreTurns, weight_at, IsReady, IsTaken, Pair, all-turns, Station, Wire, Doing, doing_all, turns, IsStill, IsBeginningOf, IsTold, calling, IsTalk, data_told, Face, Speaks, own_link, granted_of, or_parts, two_ends_doing_all, append_cancel_left}
 use Rattle.std.proofs.Math.Seq.{drop-append_seam}
-use Rattle.model_link.specs.TwoEnds as two_ends
 use Rattle.model_line.specs.Line.{Line}
 use Rattle.model_line.specs.Sound.{IsSound}
 use Rattle.model_link.specs.Sound as link_sound
@@ -25,9 +23,6 @@ record IsUp (service : Service) (tei : ℕ) (l : Line) : Type 0 where
 
 is-up : (service : Service) (tei : ℕ) (l : Line) → (o : Option ℕ) → place_in l tei ≡ o → option_map (state_in l service) o ≡ Some 7 → IsUp service tei l
 is-up service tei l o is e = grind arith
-
-both-off : (a b : Bool) → (a || b) ≡ false → (a ≡ false) × (b ≡ false)
-both-off a b e = grind arith
 
 two-owed : (b : Bool) → cond {A = ℕ} b 2 0 ≡ 2 * cond {A = ℕ} b 1 0
 two-owed b = grind arith
@@ -113,7 +108,7 @@ module _ (service : Service) (tei : ℕ) where
 
     ready : IsReady (end_at s u)
     ready =
-        let off = both-off (own_link service tei s).own_busy (own_link service tei s).peer_busy h.free in
+        let off = or_parts (own_link service tei s).own_busy (own_link service tei s).peer_busy h.free in
         record {
           ranges = link-ranges service tei up.place s (end_at s u) stands;
           sound = link-sound service tei up.place s (end_at s u) stands;
@@ -135,12 +130,7 @@ module _ (service : Service) (tei : ℕ) where
     is-quiet = ready.waiting
 
     taken : s.card.config.n201 ≡ u.card.config.n201 → IsTaken (end_at s u) (end_at u s)
-    taken same = record {
-      received = h.received;
-      delivered = refl;
-      owed = h.owes;
-      sizes = subst (λ k. All (λ octets. length octets ≤ k) (own_link service tei s).contents) same ready.sound.sizes;
-    }
+    taken same = assumption (subst (λ k. All (λ octets. length octets ≤ k) (own_link service tei s).contents) same ready.sound.sizes)
 
     price : weight_at (end_at s u) ≡ most_turns service tei s
     price = let two = two-owed (own_link service tei s).pending in omega (arith, two)
@@ -168,7 +158,7 @@ module _ (service : Service) (tei : ℕ) where
 
   -- what was granted and told is nothing to how they face each other
   first-pair : (e : Ends) → IsReady e.near → IsReady e.far → IsTaken e.near e.far → IsTaken e.far e.near → Pair e
-  unfolding two_ends.doing_all AreTurns
+  unfolding two_ends_doing_all AreTurns
   first-pair e near far there back = (all-turns [] e near far there back tt).pair
 
   module _ (ds : List Doing) (w : Wire) (h : Face service tei w) (talk : All (IsTalk service tei) ds) where

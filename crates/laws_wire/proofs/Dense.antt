@@ -79,6 +79,3 @@ Owed a r owes fs = (owes ≡ true) ⊎ Reaches a r fs
 -- What an end says by the way: nothing, or one frame more that has its V(R).
 abbrev pub Replies : ℕ → Bool → Bool → List Parts → List Parts → Type 0
 Replies r owes owes' fs fs' = ((owes' ≡ owes) × (fs' ≡ fs)) ⊎ ((f : Parts) × (fs' ≡ fs ++ f ∷ []) × Means r f.control)
-
-pub owed-after : (a r : ℕ) (owes owes' : Bool) (fs fs' : List Parts) → Rising a r fs → Replies r owes owes' fs fs' → Owed a r owes fs → Owed a r owes' fs'
-owed-after a r owes owes' fs fs' up o h = grind (arith, reaches-push)

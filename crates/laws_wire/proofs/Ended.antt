@@ -1,15 +1,14 @@
 -- Two stations of which one releases the link where both rest: what each thing that is done makes of them.
-use Rattle.laws_wire.proofs.Vocabulary.{◌≡◌, ℕ, ◌+◌, ◌<◌, Bool, true, false, List, [], ◌∷◌, ◌++◌, cond, refl, sym, ap, subst, ◌∙◌, ◌⊎◌, inl, inr, append-nil, arith, All, nat_lt, flat_map, lt-ltb, All-head, All-tail, Service, Timer, Parts, spelling, Established, ControlFrame, Terms, LinkTimer, T203, Link, frame_of, course, End, with_link, response, Ua, Dm, IsInRange, begun, Config, LineTold, expiry, next, terms, HasNothingToSend, awaits_answer, T200, Station, Wire, happens, comes, with_first_of, Act, requests, times_out, gives, takes, loses, acting, turned, Doing, at_near, at_far, doing, doing_all, is_poll, is_final, IsTimelyOf, for_layer_3, IsLeaving, IsTimelyThere, StayTimelyThere, release_confirmed, release_indicated}
-use Rattle.lapd_frame.specs.declared.timers.Timer.TheVariants as timers
-use Rattle.model_link.specs.Events as link
+use Rattle.laws_wire.proofs.Vocabulary.{◌≡◌, ℕ, ◌+◌, ◌<◌, Bool, true, false, List, [], ◌∷◌, ◌++◌, cond, refl, sym, ap, subst, ◌∙◌, ◌⊎◌, inl, inr, append-nil, arith, All, nat_lt, flat_map, lt-ltb, All-head, All-tail, Service, Timer, Parts, spelling, Established, ControlFrame, Terms, LinkTimer, T203, Link, frame_of, course, End, with_link, response, Ua, Dm, IsInRange, begun, Config, LineTold, expiry, next, terms, HasNothingToSend, awaits_answer, T200, Station, Wire, happens, comes, with_first_of, Act, requests, times_out, gives, takes, loses, acting, turned, Doing, at_near, at_far, doing, doing_all, is_poll, is_final, IsTimelyOf, for_layer_3, IsLeaving, IsTimelyThere, StayTimelyThere, release_confirmed, release_indicated, map, expired, timer_T200, timer_T203}
 use Rattle.laws_wire.proofs.Awaited.{NoneOpen, may-there, long-there, waits-first, goes-first}
-use Rattle.laws_wire.proofs.Leaving.{its_disc, disc, leaving, left, gone, hears-disc, told-disc, repeats-disc, repeats-untold, hears-again, told-again}
+use Rattle.laws_wire.proofs.Leaving.{its_disc, disc, leaving, left, gone, hears-disc, told-disc, repeats-disc, repeats-untold, told-again}
 use Rattle.laws_wire.proofs.LossyPhases.{for-timer, Aims}
 use Rattle.laws_wire.proofs.Speaking.{said_by}
 use Rattle.laws_wire.proofs.Talking.{Face}
-use Rattle.laws_wire.proofs.Tells.{Tells, as-end, t-given, t-taken, t-expired, t-lost, first-carried, none-carried, t-silent}
+use Rattle.laws_wire.proofs.Tells.{Tells, as-end, t-given, t-taken, t-expired, first-carried, t-silent}
 use Rattle.laws_wire.proofs.TimelyFirst.{takes-none, loses-none}
 use Rattle.laws_wire.proofs.TimelyUp.{each-timer}
+use Rattle.laws_wire.proofs.Standing.{IsCarried}
 
 module _ (service : Service) (tei : ℕ) where
   abbrev T : Config → ℕ → List LineTold → Station → End → Type 0
@@ -73,12 +72,6 @@ module _ (service : Service) (tei : ℕ) where
     Phase w = First w ⊎ Told w ⊎ Last w
 
     -- what gives nothing, and loses nothing
-    leaving-quiet : (k : ℕ) → HasNothingToSend t (leaving ln k [])
-    leaving-quiet k = record { waiting = refl; information = refl; pending = refl }
-
-    left-quiet : (k : ℕ) → HasNothingToSend t (left ln k)
-    left-quiet k = record { waiting = refl; information = refl; pending = refl }
-
     gone-quiet : HasNothingToSend u (gone lm [])
     gone-quiet = record { waiting = refl; information = refl; pending = refl }
 
@@ -90,21 +83,21 @@ module _ (service : Service) (tei : ℕ) where
       far-silent none = record { near = h.near; far = t-silent service tei d q b w.far m none h.far }
 
       near-takes-none : m.way ≡ [] → Are n m a b (acting takes w)
-      near-takes-none none = subst (Are n m a b) (sym (takes-none w (none-carried service tei d q b w.far m none h.far))) h
+      near-takes-none none = subst (Are n m a b) (sym (takes-none w (h.far.stands.way ∙ ap (map (spelling d.side)) none))) h
 
       far-takes-none : n.way ≡ [] → Are n m a b (turned (acting takes (turned w)))
-      far-takes-none none = subst (λ v. Are n m a b (turned v)) (sym (takes-none (turned w) (none-carried service tei c p a w.near n none h.near))) h
+      far-takes-none none = subst (λ v. Are n m a b (turned v)) (sym (takes-none (turned w) (h.near.stands.way ∙ ap (map (spelling c.side)) none))) h
 
       near-loses-none : n.way ≡ [] → Are n m a b (acting loses w)
-      near-loses-none none = subst (Are n m a b) (sym (loses-none w (none-carried service tei c p a w.near n none h.near))) h
+      near-loses-none none = subst (Are n m a b) (sym (loses-none w (h.near.stands.way ∙ ap (map (spelling c.side)) none))) h
 
       far-loses-none : m.way ≡ [] → Are n m a b (turned (acting loses (turned w)))
-      far-loses-none none = subst (λ v. Are n m a b (turned v)) (sym (loses-none (turned w) (none-carried service tei d q b w.far m none h.far))) h
+      far-loses-none none = subst (λ v. Are n m a b (turned v)) (sym (loses-none (turned w) (h.far.stands.way ∙ ap (map (spelling d.side)) none))) h
 
       -- a timer that does not run
-      near-unmoved : (timer : Timer) (its : LinkTimer) → Aims service tei timer its → course n.terms (link.expired its) n.link ≡ begun n.link → Are n m a b (acting (times_out timer) w)
+      near-unmoved : (timer : Timer) (its : LinkTimer) → Aims service tei timer its → course n.terms (expired its) n.link ≡ begun n.link → Are n m a b (acting (times_out timer) w)
       near-unmoved timer its aims same = record {
-        near = as-end service tei c p _ a (happens (expiry timer) w.near) (with_link (link.expired its) n) n (t-expired service tei c p a w.near n h.near timer its aims)
+        near = as-end service tei c p _ a (happens (expiry timer) w.near) (with_link (expired its) n) n (t-expired service tei c p a w.near n h.near timer its aims)
             (λ i. record n { link = (same i).link })
             (ap (λ x. a ++ flat_map for_layer_3 (said_by x)) same ∙ append-nil a);
         far = h.far;
@@ -118,13 +111,13 @@ module _ (service : Service) (tei : ℕ) where
       gives-disc h = record { near = as-end service tei c p hn hn (happens next w.near) _ (N k [] (disc t ∷ [])) (t-given service tei c p hn w.near (N k (its_disc ∷ []) []) h.near) refl refl; far = h.far }
 
       loses-disc : Are (N k [] (disc t ∷ [])) m hn b w → Are (N k [] []) m hn b (acting loses w)
-      loses-disc h = record { near = t-lost service tei c p hn w.near (N k [] (disc t ∷ [])) (disc t) refl h.near; far = h.far }
+      loses-disc h = record { near = grind (arith, IsCarried); far = h.far }
 
       -- and goes again
-      asks-again : k < t.n200 → Are (N k [] []) m hn b w → Are (N (k + 1) (its_disc ∷ []) []) m hn b (acting (times_out (timers.T200 service tei)) w)
+      asks-again : k < t.n200 → Are (N k [] []) m hn b w → Are (N (k + 1) (its_disc ∷ []) []) m hn b (acting (times_out (timer_T200 service tei)) w)
       asks-again few h = record {
-        near = as-end service tei c p _ hn (happens (expiry (timers.T200 service tei)) w.near) (with_link (link.expired T200) (N k [] [])) (N (k + 1) (its_disc ∷ []) [])
-            (t-expired service tei c p hn w.near (N k [] []) h.near (timers.T200 service tei) T200 (λ l. refl))
+        near = as-end service tei c p _ hn (happens (expiry (timer_T200 service tei)) w.near) (with_link (expired T200) (N k [] [])) (N (k + 1) (its_disc ∷ []) [])
+            (t-expired service tei c p hn w.near (N k [] []) h.near (timer_T200 service tei) T200 (λ l. refl))
             (λ i. record (N k [] []) { link = repeats-disc t room ln k few i })
             (ap (λ ts. hn ++ flat_map for_layer_3 ts) (repeats-untold t room ln k few) ∙ append-nil hn);
         far = h.far;
@@ -136,25 +129,13 @@ module _ (service : Service) (tei : ℕ) where
       takes-disc h =
           let way = first-carried service tei c p hn w.near (N k [] (disc t ∷ [])) (disc t) refl h.near in
           let far = t-taken service tei d q hm w.far M h.far c back (disc t) way.1 in
-          record {
-            near = t-lost service tei c p hn w.near (N k [] (disc t ∷ [])) (disc t) refl h.near;
-            far = subst (λ ways. T d q indicated_then (with_first_of ways w.far) (G (reply true ∷ []) [])) (sym way.0)
-                (as-end service tei d q _ indicated_then (comes (spelling c.side (disc t)) w.far) (with_link (link.received (link.frame (disc t))) M) (G (reply true ∷ []) []) far
-                (λ i. record M { link = hears-disc u room' lm state quiet.waiting t i })
-                (ap (λ ts. hm ++ flat_map for_layer_3 ts) (told-disc u room' lm state quiet.waiting t)));
-          }
+          grind (arith, disc, as-end, hears-disc, room', flat_map, told-disc)
 
       takes-again : Are (N k [] (disc t ∷ [])) (G [] []) hn indicated_then w → Are (N k [] []) (G (reply false ∷ []) []) hn indicated_then (turned (acting takes (turned w)))
       takes-again h =
           let way = first-carried service tei c p hn w.near (N k [] (disc t ∷ [])) (disc t) refl h.near in
           let far = t-taken service tei d q indicated_then w.far (G [] []) h.far c back (disc t) way.1 in
-          record {
-            near = t-lost service tei c p hn w.near (N k [] (disc t ∷ [])) (disc t) refl h.near;
-            far = subst (λ ways. T d q indicated_then (with_first_of ways w.far) (G (reply false ∷ []) [])) (sym way.0)
-                (as-end service tei d q _ indicated_then (comes (spelling c.side (disc t)) w.far) (with_link (link.received (link.frame (disc t))) (G [] [])) (G (reply false ∷ []) []) far
-                (λ i. record (G [] []) { link = hears-again u room' lm t i })
-                (ap (λ ts. indicated_then ++ flat_map for_layer_3 ts) (told-again u room' lm t) ∙ append-nil indicated_then));
-          }
+          grind (arith, disc, as-end, room', flat_map, told-again, append-nil)
 
     -- the answer goes, is lost, or comes
     module _ (k : ℕ) (w : Wire) where
@@ -165,36 +146,23 @@ module _ (service : Service) (tei : ℕ) where
       }
 
       loses-reply : (b : Bool) → Are (N k [] []) (G [] (frame_of u (reply b) ∷ [])) hn indicated_then w → Are (N k [] []) (G [] []) hn indicated_then (turned (acting loses (turned w)))
-      loses-reply b h = record { near = h.near; far = t-lost service tei d q indicated_then w.far (G [] (frame_of u (reply b) ∷ [])) (frame_of u (reply b)) refl h.far }
+      loses-reply b h = record { near = h.near; far = grind (arith, IsCarried) }
 
       takes-reply : (b : Bool) → Are (N k [] []) (G [] (frame_of u (reply b) ∷ [])) hn indicated_then w → Are (N4 k) (G [] []) confirmed_then indicated_then (acting takes w)
       takes-reply b h =
           let f = frame_of u (reply b) in
           let way = first-carried service tei d q indicated_then w.far (G [] (f ∷ [])) f refl h.far in
           let near = t-taken service tei c p hn w.near (N k [] []) h.near d face f way.1 in
-          record {
-            near = subst (λ ways. T c p confirmed_then (with_first_of ways w.near) (N4 k)) (sym way.0)
-                (as-end service tei c p _ confirmed_then (comes (spelling d.side f) w.near) (with_link (link.received (link.frame f)) (N k [] [])) (N4 k) near (is b) (told b));
-            far = t-lost service tei d q indicated_then w.far (G [] (f ∷ [])) f refl h.far;
-          }
-        where
-          is : (b : Bool) → record (with_link (link.received (link.frame (frame_of u (reply b)))) (N k [] [])) { delivered = [] } ≡ N4 k
-          is true = refl
-          is false = refl
-
-          told : (b : Bool) → hn ++ flat_map for_layer_3 (said_by (course t (link.received (link.frame (frame_of u (reply b)))) (leaving ln k []))) ≡ confirmed_then
-          told true = refl
-          told false = refl
+          grind (arith, as-end, flat_map, said_by, leaving)
 
     -- ---- each act
 
     -- what is open at the stations is open at the ends
-    open-now : (n m : End) (a b : List LineTold) (w : Wire) → Are n m a b w → awaits_answer n.link.state ≡ true → IsTimelyOf (times_out (timers.T200 service tei)) w → NoneOpen n m
+    open-now : (n m : End) (a b : List LineTold) (w : Wire) → Are n m a b w → awaits_answer n.link.state ≡ true → IsTimelyOf (times_out (timer_T200 service tei)) w → NoneOpen n m
     open-now n m a b w h awaits x = long-there service tei c d p q w.near w.far n m h.near.stands h.far.stands x.0 awaits
 
     final : (b : Bool) → is_final (reply b).command (reply b).control ≡ true
-    final true = refl
-    final false = refl
+    final b = grind arith
 
     first-near : (k : ℕ) (w : Wire) → Are (N k (its_disc ∷ []) []) M hn hm w ⊎ Are (N k [] (disc t ∷ [])) M hn hm w ⊎ Are (N k [] []) M hn hm w
         → (act : Act) → IsLeaving service tei (at_near act) → IsTimelyOf act w → First (acting act w)
@@ -202,22 +170,22 @@ module _ (service : Service) (tei : ℕ) where
     first-near k w (inl h) (times_out timer) is x =
         each-timer service tei (λ timer. IsTimelyOf (times_out timer) w → First (acting (times_out timer) w))
         (λ x. absurd (waits-first is_poll (N k (its_disc ∷ []) []) its_disc [] refl refl (open-now (N k (its_disc ∷ []) []) M hn hm w h refl x).commands))
-        (λ x. (k, inl (near-unmoved (N k (its_disc ∷ []) []) M hn hm w h (timers.T203 service tei) T203 (λ l. refl) refl))) timer is x
+        (λ x. (k, inl (near-unmoved (N k (its_disc ∷ []) []) M hn hm w h (timer_T203 service tei) T203 (λ l. refl) refl))) timer is x
     first-near k w (inl h) gives is x = (k, inr (inl (gives-disc k M hm w h)))
     first-near k w (inl h) takes is x = (k, inl (near-takes-none (N k (its_disc ∷ []) []) M hn hm w h refl))
     first-near k w (inl h) loses is x = (k, inl (near-loses-none (N k (its_disc ∷ []) []) M hn hm w h refl))
     first-near k w (inr (inl h)) (times_out timer) is x =
         each-timer service tei (λ timer. IsTimelyOf (times_out timer) w → First (acting (times_out timer) w))
         (λ x. absurd (goes-first is_poll (N k [] (disc t ∷ [])) (disc t) [] refl refl (open-now (N k [] (disc t ∷ [])) M hn hm w h refl x).commands))
-        (λ x. (k, inr (inl (near-unmoved (N k [] (disc t ∷ [])) M hn hm w h (timers.T203 service tei) T203 (λ l. refl) refl)))) timer is x
-    first-near k w (inr (inl h)) gives is x = (k, inr (inl (near-silent (N k [] (disc t ∷ [])) M hn hm w h (leaving-quiet k))))
+        (λ x. (k, inr (inl (near-unmoved (N k [] (disc t ∷ [])) M hn hm w h (timer_T203 service tei) T203 (λ l. refl) refl)))) timer is x
+    first-near k w (inr (inl h)) gives is x = (k, inr (inl (near-silent (N k [] (disc t ∷ [])) M hn hm w h (record { waiting = refl; information = refl; pending = refl }))))
     first-near k w (inr (inl h)) takes is x = (k, inr (inl (near-takes-none (N k [] (disc t ∷ [])) M hn hm w h refl)))
     first-near k w (inr (inl h)) loses is x = (k, inr (inr (loses-disc k M hm w h)))
     first-near k w (inr (inr h)) (times_out timer) is x =
         each-timer service tei (λ timer. IsTimelyOf (times_out timer) w → First (acting (times_out timer) w))
         (λ x. (k + 1, inl (asks-again k M hm w (may-there service tei c p w.near (N k [] []) h.near.stands x.1 refl refl) h)))
-        (λ x. (k, inr (inr (near-unmoved (N k [] []) M hn hm w h (timers.T203 service tei) T203 (λ l. refl) refl)))) timer is x
-    first-near k w (inr (inr h)) gives is x = (k, inr (inr (near-silent (N k [] []) M hn hm w h (leaving-quiet k))))
+        (λ x. (k, inr (inr (near-unmoved (N k [] []) M hn hm w h (timer_T203 service tei) T203 (λ l. refl) refl)))) timer is x
+    first-near k w (inr (inr h)) gives is x = (k, inr (inr (near-silent (N k [] []) M hn hm w h (record { waiting = refl; information = refl; pending = refl }))))
     first-near k w (inr (inr h)) takes is x = (k, inr (inr (near-takes-none (N k [] []) M hn hm w h refl)))
     first-near k w (inr (inr h)) loses is x = (k, inr (inr (near-loses-none (N k [] []) M hn hm w h refl)))
 
@@ -245,36 +213,36 @@ module _ (service : Service) (tei : ℕ) where
     told-near k b w (inl h) (times_out timer) is x =
         each-timer service tei (λ timer. IsTimelyOf (times_out timer) w → Phase (acting (times_out timer) w))
         (λ x. absurd (waits-first is_final (G (reply b ∷ []) []) (reply b) [] refl (final b) (open-now (N k [] []) (G (reply b ∷ []) []) hn I w h refl x).responses))
-        (λ x. inr (inl (k, b, inl (near-unmoved (N k [] []) (G (reply b ∷ []) []) hn I w h (timers.T203 service tei) T203 (λ l. refl) refl)))) timer is x
-    told-near k b w (inl h) gives is x = inr (inl (k, b, inl (near-silent (N k [] []) (G (reply b ∷ []) []) hn I w h (leaving-quiet k))))
+        (λ x. inr (inl (k, b, inl (near-unmoved (N k [] []) (G (reply b ∷ []) []) hn I w h (timer_T203 service tei) T203 (λ l. refl) refl)))) timer is x
+    told-near k b w (inl h) gives is x = inr (inl (k, b, inl (near-silent (N k [] []) (G (reply b ∷ []) []) hn I w h (record { waiting = refl; information = refl; pending = refl }))))
     told-near k b w (inl h) takes is x = inr (inl (k, b, inl (near-takes-none (N k [] []) (G (reply b ∷ []) []) hn I w h refl)))
     told-near k b w (inl h) loses is x = inr (inl (k, b, inl (near-loses-none (N k [] []) (G (reply b ∷ []) []) hn I w h refl)))
     told-near k b w (inr (inl h)) (times_out timer) is x =
         each-timer service tei (λ timer. IsTimelyOf (times_out timer) w → Phase (acting (times_out timer) w))
         (λ x. absurd (goes-first is_final (G [] (frame_of u (reply b) ∷ [])) (frame_of u (reply b)) [] refl (final b) (open-now (N k [] []) (G [] (frame_of u (reply b) ∷ [])) hn I w h refl x).responses))
-        (λ x. inr (inl (k, b, inr (inl (near-unmoved (N k [] []) (G [] (frame_of u (reply b) ∷ [])) hn I w h (timers.T203 service tei) T203 (λ l. refl) refl))))) timer is x
-    told-near k b w (inr (inl h)) gives is x = inr (inl (k, b, inr (inl (near-silent (N k [] []) (G [] (frame_of u (reply b) ∷ [])) hn I w h (leaving-quiet k)))))
+        (λ x. inr (inl (k, b, inr (inl (near-unmoved (N k [] []) (G [] (frame_of u (reply b) ∷ [])) hn I w h (timer_T203 service tei) T203 (λ l. refl) refl))))) timer is x
+    told-near k b w (inr (inl h)) gives is x = inr (inl (k, b, inr (inl (near-silent (N k [] []) (G [] (frame_of u (reply b) ∷ [])) hn I w h (record { waiting = refl; information = refl; pending = refl })))))
     told-near k b w (inr (inl h)) takes is x = inr (inr (k, takes-reply k w b h))
     told-near k b w (inr (inl h)) loses is x = inr (inl (k, b, inr (inl (near-loses-none (N k [] []) (G [] (frame_of u (reply b) ∷ [])) hn I w h refl))))
     told-near k b w (inr (inr (inl h))) (times_out timer) is x =
         each-timer service tei (λ timer. IsTimelyOf (times_out timer) w → Phase (acting (times_out timer) w))
         (λ x. inr (inl (k + 1, b, inr (inr (inr (inl (asks-again k (G [] []) I w (may-there service tei c p w.near (N k [] []) h.near.stands x.1 refl refl) h)))))))
-        (λ x. inr (inl (k, b, inr (inr (inl (near-unmoved (N k [] []) (G [] []) hn I w h (timers.T203 service tei) T203 (λ l. refl) refl)))))) timer is x
-    told-near k b w (inr (inr (inl h))) gives is x = inr (inl (k, b, inr (inr (inl (near-silent (N k [] []) (G [] []) hn I w h (leaving-quiet k))))))
+        (λ x. inr (inl (k, b, inr (inr (inl (near-unmoved (N k [] []) (G [] []) hn I w h (timer_T203 service tei) T203 (λ l. refl) refl)))))) timer is x
+    told-near k b w (inr (inr (inl h))) gives is x = inr (inl (k, b, inr (inr (inl (near-silent (N k [] []) (G [] []) hn I w h (record { waiting = refl; information = refl; pending = refl }))))))
     told-near k b w (inr (inr (inl h))) takes is x = inr (inl (k, b, inr (inr (inl (near-takes-none (N k [] []) (G [] []) hn I w h refl)))))
     told-near k b w (inr (inr (inl h))) loses is x = inr (inl (k, b, inr (inr (inl (near-loses-none (N k [] []) (G [] []) hn I w h refl)))))
     told-near k b w (inr (inr (inr (inl h)))) (times_out timer) is x =
         each-timer service tei (λ timer. IsTimelyOf (times_out timer) w → Phase (acting (times_out timer) w))
         (λ x. absurd (waits-first is_poll (N k (its_disc ∷ []) []) its_disc [] refl refl (open-now (N k (its_disc ∷ []) []) (G [] []) hn I w h refl x).commands))
-        (λ x. inr (inl (k, b, inr (inr (inr (inl (near-unmoved (N k (its_disc ∷ []) []) (G [] []) hn I w h (timers.T203 service tei) T203 (λ l. refl) refl))))))) timer is x
+        (λ x. inr (inl (k, b, inr (inr (inr (inl (near-unmoved (N k (its_disc ∷ []) []) (G [] []) hn I w h (timer_T203 service tei) T203 (λ l. refl) refl))))))) timer is x
     told-near k b w (inr (inr (inr (inl h)))) gives is x = inr (inl (k, b, inr (inr (inr (inr (gives-disc k (G [] []) I w h))))))
     told-near k b w (inr (inr (inr (inl h)))) takes is x = inr (inl (k, b, inr (inr (inr (inl (near-takes-none (N k (its_disc ∷ []) []) (G [] []) hn I w h refl))))))
     told-near k b w (inr (inr (inr (inl h)))) loses is x = inr (inl (k, b, inr (inr (inr (inl (near-loses-none (N k (its_disc ∷ []) []) (G [] []) hn I w h refl))))))
     told-near k b w (inr (inr (inr (inr h)))) (times_out timer) is x =
         each-timer service tei (λ timer. IsTimelyOf (times_out timer) w → Phase (acting (times_out timer) w))
         (λ x. absurd (goes-first is_poll (N k [] (disc t ∷ [])) (disc t) [] refl refl (open-now (N k [] (disc t ∷ [])) (G [] []) hn I w h refl x).commands))
-        (λ x. inr (inl (k, b, inr (inr (inr (inr (near-unmoved (N k [] (disc t ∷ [])) (G [] []) hn I w h (timers.T203 service tei) T203 (λ l. refl) refl))))))) timer is x
-    told-near k b w (inr (inr (inr (inr h)))) gives is x = inr (inl (k, b, inr (inr (inr (inr (near-silent (N k [] (disc t ∷ [])) (G [] []) hn I w h (leaving-quiet k)))))))
+        (λ x. inr (inl (k, b, inr (inr (inr (inr (near-unmoved (N k [] (disc t ∷ [])) (G [] []) hn I w h (timer_T203 service tei) T203 (λ l. refl) refl))))))) timer is x
+    told-near k b w (inr (inr (inr (inr h)))) gives is x = inr (inl (k, b, inr (inr (inr (inr (near-silent (N k [] (disc t ∷ [])) (G [] []) hn I w h (record { waiting = refl; information = refl; pending = refl })))))))
     told-near k b w (inr (inr (inr (inr h)))) takes is x = inr (inl (k, b, inr (inr (inr (inr (near-takes-none (N k [] (disc t ∷ [])) (G [] []) hn I w h refl))))))
     told-near k b w (inr (inr (inr (inr h)))) loses is x = inr (inl (k, b, inr (inr (inl (loses-disc k (G [] []) I w h)))))
 
@@ -304,18 +272,15 @@ module _ (service : Service) (tei : ℕ) where
     last-near w (k, h) (times_out timer) is =
         for-timer service tei (λ timer. Last (acting (times_out timer) w)) (λ timer its aims. (k, near-unmoved (N4 k) (G [] []) confirmed_then I w h timer its aims (unmoved its))) timer is
       where
-        unmoved : (its : LinkTimer) → course t (link.expired its) (left ln k) ≡ begun (left ln k)
-        unmoved T200 = refl
-        unmoved T203 = refl
-    last-near w (k, h) gives is = (k, near-silent (N4 k) (G [] []) confirmed_then I w h (left-quiet k))
+        unmoved : (its : LinkTimer) → course t (expired its) (left ln k) ≡ begun (left ln k)
+        unmoved its = grind arith
+    last-near w (k, h) gives is = (k, near-silent (N4 k) (G [] []) confirmed_then I w h (record { waiting = refl; information = refl; pending = refl }))
     last-near w (k, h) takes is = (k, near-takes-none (N4 k) (G [] []) confirmed_then I w h refl)
     last-near w (k, h) loses is = (k, near-loses-none (N4 k) (G [] []) confirmed_then I w h refl)
 
     last-far : (w : Wire) → Last w → (act : Act) → IsLeaving service tei (at_far act) → Last (turned (acting act (turned w)))
     last-far w (k, h) gives is = (k, far-silent (N4 k) (G [] []) confirmed_then I w h gone-quiet)
-    last-far w (k, h) takes is = (k, far-takes-none (N4 k) (G [] []) confirmed_then I w h refl)
-    last-far w (k, h) loses is = (k, far-loses-none (N4 k) (G [] []) confirmed_then I w h refl)
-    last-far w (k, h) other is = absurd is
+    last-far w o act is = grind (arith, far-takes-none, far-loses-none)
 
     pub step : (x : Doing) → IsLeaving service tei x → (w : Wire) → IsTimelyThere x w → Phase w → Phase (doing x w)
     step (at_near act) is w timely (inl (k, h)) = inl (first-near k w h act is timely)

@@ -1,10 +1,7 @@
 -- A call that ends where both ends rest: from its release on.
-use Rattle.laws_wire.proofs.Vocabulary.{◌≡◌, ℕ, ◌≤◌, Bool, true, false, not, cond, List, [], ◌∷◌, ◌++◌, None, Some, refl, sym, ap, subst, ◌∙◌, ◌⊎◌, inl, inr, append-nil, true≢false, All, nat_lt, flat_map, option_map_or, le-ltb, lt-ltb, Refusal, BadTei, NoLink, WrongState, Service, is_on-at, place_of-is, Established, Terms, Link, fresh, course, serves, IsInRange, End, with_link, Config, LineTold, request, Line, link_in, link_of, terms, line_at, wants_room, HasNothingToSend, nothing-given, flat_map-append, Release, Station, Wire, happens, requests, acting, turned, Doing, doing_all, IsStill, calling, confirmed, for_layer_3, heard_in, runs_t200, IsLeaving, StayTimelyThere, release_confirmed, release_indicated, EndsSo, CallsEnd}
-use Rattle.model_link.specs.Events as link
-use Rattle.model_line.specs.Machine as lines
+use Rattle.laws_wire.proofs.Vocabulary.{arith, ◌≡◌, ℕ, ◌≤◌, Bool, true, false, not, cond, List, [], ◌∷◌, ◌++◌, None, Some, refl, sym, ap, subst, ◌∙◌, ◌⊎◌, inl, inr, append-nil, true≢false, All, nat_lt, flat_map, option_map_or, le-ltb, lt-ltb, Refusal, BadTei, NoLink, WrongState, Service, is_on-at, place_of-is, Established, Terms, Link, fresh, course, serves, IsInRange, End, with_link, Config, LineTold, request, Line, link_in, link_of, terms, line_at, wants_room, HasNothingToSend, nothing-given, flat_map-append, Release, Station, Wire, happens, requests, acting, turned, Doing, doing_all, IsStill, calling, confirmed, for_layer_3, heard_in, runs_t200, IsLeaving, StayTimelyThere, release_confirmed, release_indicated, EndsSo, CallsEnd, requested, LinkRelease, line_takes_slot, uncalled, seen}
 use Rattle.model_line.specs.Refusal.{refusal}
 use Rattle.model_card.specs.Event.{at as event_at}
-use Rattle.laws_wire.specs.Answering.{uncalled, seen}
 use Rattle.laws_wire.proofs.Awaited.{runs-is, runs-up}
 use Rattle.laws_wire.proofs.Ended.{Phase, ends}
 use Rattle.laws_wire.proofs.Leaving.{its_disc, disc, leaving, releases, releases-untold}
@@ -64,21 +61,15 @@ module _ (service : Service) (tei : ℕ) (few : tei ≤ 126) (c d : Config) (p q
   near-hushed : IsHushed service tei n
   near-hushed = h.near_hushed
 
-  far-hushed : IsHushed service tei m
-  far-hushed = h.far_hushed
-
-  near-quiet : HasNothingToSend n.terms n.link
-  near-quiet = nothing-given n.terms n.link near-hushed.given
-
   far-quiet : HasNothingToSend u m.link
-  far-quiet = subst (λ t. HasNothingToSend t m.link) h.far.terms (nothing-given m.terms m.link far-hushed.given)
+  far-quiet = subst (λ t. HasNothingToSend t m.link) h.far.terms (nothing-given m.terms m.link h.far_hushed.given)
 
   near-state : n.link.state ≡ Established
-  near-state = (loose-came n m h.loose near-quiet (sym (runs-up service tei c p w.near n h.near h.loose.joined.near_up) ∙ h.near_stopped)).state
+  near-state = (loose-came n m h.loose (nothing-given n.terms n.link near-hushed.given) (sym (runs-up service tei c p w.near n h.near h.loose.joined.near_up) ∙ h.near_stopped)).state
 
   far-state : m.link.state ≡ Established
   far-state =
-      (loose-came m n (loose-turned n m h.loose) (nothing-given m.terms m.link far-hushed.given)
+      (loose-came m n (loose-turned n m h.loose) (nothing-given m.terms m.link h.far_hushed.given)
       (sym (runs-up service tei d q w.far m h.far h.loose.joined.far_up) ∙ h.far_stopped)).state
 
   -- the release is granted
@@ -90,20 +81,19 @@ module _ (service : Service) (tei : ℕ) (few : tei ≤ 126) (c d : Config) (p q
 
   not-refused : refusal w.near.card.config false (Release service tei) its_line ≡ None
   not-refused =
-      let at = (place_of-is its_line.management.places tei p own.speaks.placed).1 in
       let link-here : link_of service tei its_line ≡ n.link = ap (λ o. option_map_or (link_in its_line service) o fresh) own.speaks.placed ∙ own.speaks.link in
-      three-pass _ _ _ BadTei NoLink WrongState (le-ltb 126 tei few) (ap not (is_on-at its_line.management.places p tei at))
-      (ap (λ (x : Link). not (serves x.state link.Release)) link-here ∙ ap (λ s. not (serves s link.Release)) near-state)
+      three-pass _ _ _ BadTei NoLink WrongState (le-ltb 126 tei few) (ap not (is_on-at its_line.management.places p tei ((place_of-is its_line.management.places tei p own.speaks.placed).1)))
+      (ap (λ (x : Link). not (serves x.state LinkRelease)) link-here ∙ ap (λ s. not (serves s LinkRelease)) near-state)
 
   has-room : wants_room (event_at w.near.line (request (Release service tei))) w.near.card ≡ false
-  unfolding lines.takes_slot
+  unfolding line_takes_slot
   has-room = refl
 
   abbrev s' : Station
   s' = happens (request (Release service tei)) w.near
 
-  granted : Granted service tei p w.near n own (Release service tei) link.Release (λ l. refl) s'
-  granted = asks-granted service tei p w.near n own (Release service tei) link.Release (λ l. refl) has-room not-refused
+  granted : Granted service tei p w.near n own (Release service tei) LinkRelease (λ l. refl) s'
+  granted = asks-granted service tei p w.near n own (Release service tei) LinkRelease (λ l. refl) has-room not-refused
 
   room : nat_lt 0 n.terms.control ≡ true
   room = subst (λ t. nat_lt 0 t.control ≡ true) (sym h.near.terms) (let low = rt.control_low in lt-ltb 0 t.control (omega (Rattle.std.proofs.Common.arith, low)))
@@ -118,15 +108,14 @@ module _ (service : Service) (tei : ℕ) (few : tei ≤ 126) (c d : Config) (p q
   leaves = inl (
     0,
     inl (record {
-      near = as-end service tei c p _ (heard_in w.near) s' (with_link (link.requested link.Release false) n) (record { terms = t; link = leaving n.link 0 (its_disc ∷ []); way = []; delivered = [] })
+      near = as-end service tei c p _ (heard_in w.near) s' (with_link (requested LinkRelease false) n) (record { terms = t; link = leaving n.link 0 (its_disc ∷ []); way = []; delivered = [] })
           (record {
-            stands = subst (λ k. Stands k service tei p s' (with_link (link.requested link.Release false) n)) h.near.config granted.stands;
-            told = ap (flat_map for_layer_3) granted.told ∙ flat_map-append for_layer_3 w.near.told (said_by (course n.terms (link.requested link.Release false) n.link));
+            stands = subst (λ k. Stands k service tei p s' (with_link (requested LinkRelease false) n)) h.near.config granted.stands;
+            told = ap (flat_map for_layer_3) granted.told ∙ flat_map-append for_layer_3 w.near.told (said_by (course n.terms (requested LinkRelease false) n.link));
           })
-          (λ i. record { terms = h.near.terms i; link = releases n.terms room n.link near-state near-quiet.waiting i; way = near-hushed.way i; delivered = [] })
-          (ap (λ ts. heard_in w.near ++ flat_map for_layer_3 ts) (releases-untold n.terms room n.link near-state near-quiet.waiting) ∙ append-nil (heard_in w.near));
-      far = as-end service tei d q (heard_in w.far) (heard_in w.far) w.far m (record { terms = u; link = m.link; way = []; delivered = [] })
-          (record { stands = h.far; told = refl }) (λ i. record { terms = h.far.terms i; link = m.link; way = far-hushed.way i; delivered = [] }) refl;
+          (λ i. record { terms = h.near.terms i; link = releases n.terms room n.link near-state (nothing-given n.terms n.link near-hushed.given).waiting i; way = near-hushed.way i; delivered = [] })
+          (ap (λ ts. heard_in w.near ++ flat_map for_layer_3 ts) (releases-untold n.terms room n.link near-state (nothing-given n.terms n.link near-hushed.given).waiting) ∙ append-nil (heard_in w.near));
+      far = grind (arith, as-end);
     }),
   )
 

@@ -1,7 +1,5 @@
 -- An event of a link in states 7 and 8 tells an error; or it leaves the link there, tells what it delivers, and nothing else.
-use Rattle.laws_wire.proofs.Vocabulary.{arith, ◌≡◌, ℕ, Bool, true, false, cond, ◌||◌, IsTrue, List, [], ◌∷◌, ◌++◌, length, map, Option, None, Some, refl, sym, ap, ◌∙◌, ◌⊎◌, inl, inr, true≢false, nat_lt, option_to_list, list_any, list_any-append, Seq, named, Control, Information, ReceiveReady, ReceiveNotReady, Reject, Sabme, ErrorCode, Note, Parts, State, Established, TimerRecovery, LinkTimer, T203, Terms, Link, is_multiple_frame, received, expired, begun, Step, ◌then◌, Leads, keeping_then, nothing_leads, depending_leads, bit_leads, Means, T200, frame, Course, is_error}
-use Rattle.lapd_frame.specs.declared.notes.ErrorCode.TheVariants as code
-use Rattle.lapd_frame.specs.declared.notes.Note.TheVariants as notes
+use Rattle.laws_wire.proofs.Vocabulary.{arith, ◌≡◌, ℕ, Bool, true, false, cond, ◌||◌, IsTrue, List, [], ◌∷◌, ◌++◌, length, map, Option, None, Some, refl, sym, ap, ◌∙◌, ◌⊎◌, inl, inr, true≢false, nat_lt, option_to_list, list_any, list_any-append, Seq, named, Control, Information, ReceiveReady, ReceiveNotReady, Reject, Sabme, ErrorCode, Note, Parts, State, Established, TimerRecovery, LinkTimer, T203, Terms, Link, is_multiple_frame, received, expired, begun, Step, ◌then◌, Leads, keeping_then, nothing_leads, depending_leads, bit_leads, Means, T200, frame, Course, is_error, code_O, NoteData, NoteError}
 use Rattle.model_link.specs.Words
 use Rattle.model_link.specs.MultipleFrame
 use Rattle.model_link.specs.Established
@@ -19,7 +17,7 @@ error-told ns n is = list_any-append is_error ns (n ∷ []) ∙ ap (λ b. list_a
 
 pub record Fine (t : Terms) (here : State) (ns : List Note) (d u : Option (List ℕ)) : Type 0 where
   pub up : IsTrue (is_multiple_frame here)
-  pub its_notes : ns ≡ map (λ octets. notes.Data t.service t.tei) (option_to_list d)
+  pub its_notes : ns ≡ map (λ octets. NoteData t.service t.tei) (option_to_list d)
   pub no_unit : u ≡ None
 
 pub record Fair (t : Terms) (c : Course) : Type 0 where
@@ -27,10 +25,10 @@ pub record Fair (t : Terms) (c : Course) : Type 0 where
 
 module _ (t : Terms) where
   failed_fair : (e : ErrorCode) → Leads (Fair t) (MultipleFrame.failed t e) (Fair t)
-  failed_fair e = record { leads = λ c h. record { fair = inl (error-told c.notes (notes.Error t.service t.tei e) refl) } }
+  failed_fair e = record { leads = λ c h. record { fair = inl (error-told c.notes (NoteError t.service t.tei e) refl) } }
 
   error_fair : (e : ErrorCode) → Leads (Fair t) (Words.error t e) (Fair t)
-  error_fair e = record { leads = λ c h. record { fair = inl (error-told c.notes (notes.Error t.service t.tei e) refl) } }
+  error_fair e = record { leads = λ c h. record { fair = inl (error-told c.notes (NoteError t.service t.tei e) refl) } }
 
   enquire_fair : Leads (Fair t) (Words.enquire t) (Fair t)
   enquire_fair = record { leads = λ c h. record { fair = h.fair } }
@@ -75,10 +73,7 @@ module _ (t : Terms) where
   recover_fair = record { leads = λ c h. record { fair = entered c.link.state TimerRecovery c.notes c.delivered c.unit refl h.fair } }
 
   number_fair : {f : ℕ → Step} (nr : Seq) → ((n : ℕ) → Leads (Fair t) (f n) (Fair t)) → Leads (Fair t) (Words.by_number t nr f) (Fair t)
-  number_fair {f} nr x = record { leads = λ c h. go c h (named c.link.a c.link.s nr) }
-    where
-      go : (c : Course) → Fair t c → (o : Option ℕ) → Fair t (elim o [ None ↦ (Words.error t code.J then Words.re_establish t) c | Some n ↦ f n c ])
-      go c h o = grind (arith, error-told)
+  number_fair {f} nr x = grind (arith, error-told)
 
 ruleset words = (keeping_then, nothing_leads, depending_leads, bit_leads, failed_fair, error_fair, enquire_fair, answer_fair, reject_fair, peer_busy_fair, rejecting_fair, pending_fair, repeats_fair, repeated_fair, start_fair, acknowledge_fair, again_fair, enter_fair, recover_fair)
 
@@ -92,9 +87,6 @@ module _ (t : Terms) where
   rnr_7 : (n : ℕ) → Leads (Fair t) (Established.acknowledged_by_rnr_in_7 n) (Fair t)
   rnr_7 n = search words depth 12 fits 4000
 
-  rej_7 : (n : ℕ) → Leads (Fair t) (Established.acknowledged_by_rej_in_7 n) (Fair t)
-  rej_7 n = search words depth 12 fits 4000
-
   in_8 : (timer : LinkTimer) (final : Bool) (n : ℕ) → Leads (Fair t) (TimerRecovery.acknowledged_in_8 timer final n) (Fair t)
   in_8 timer final n = search words depth 12 fits 4000
 
@@ -106,9 +98,6 @@ module _ (t : Terms) where
     where
       answered : Leads (Fair t) (MultipleFrame.answered t b pf) (Fair t)
       answered = search words depth 12 fits 4000
-
-  unsolicited_fair : (final : Bool) → Leads (Fair t) (Established.unsolicited t final) (Fair t)
-  unsolicited_fair final = search words depth 12 fits 4000
 
   -- I-frames
   module _ (l : Link) (up : IsTrue (is_multiple_frame l.state)) where
@@ -127,22 +116,16 @@ module _ (t : Terms) where
     information : (ns nr : Seq) (p : Bool) (octets : List ℕ) (f : ℕ → Step) → ((n : ℕ) → Leads (Fair t) (f n) (Fair t))
         → Fair t (MultipleFrame.information_in_7_8 t ns nr p octets f (begun l))
     information ns nr p octets f x =
-        either (nat_lt t.n201 (length octets)) _ _ ((failed_fair t code.O).leads (begun l) at-first)
+        either (nat_lt t.n201 (length octets)) _ _ ((failed_fair t code_O).leads (begun l) at-first)
         ((number_fair t nr x).leads (MultipleFrame.contents_in_7_8 t ns p octets (begun l)) (contents ns p octets))
 
     frames-7 : (b : Bool) (octets : List ℕ) (m : ℕ) (control : Control) → Means m control → Fair t (Established.frame_in_7 t b octets control (begun l))
     frames-7 b octets m (Information ns nr p) e = information ns nr p octets Established.acknowledged_by_information_in_7 by_information_7
-    frames-7 b octets m (ReceiveReady nr pf) e = (supervised (Established.particulars_in_7 t) false b pf nr (Established.particulars_in_7 t).by_rr unsolicited_fair (λ final n. in_7 n)).leads (begun l) at-first
-    frames-7 b octets m (ReceiveNotReady nr pf) e = (supervised (Established.particulars_in_7 t) true b pf nr (Established.particulars_in_7 t).by_rnr unsolicited_fair (λ final n. rnr_7 n)).leads (begun l) at-first
-    frames-7 b octets m (Reject nr pf) e = (supervised (Established.particulars_in_7 t) false b pf nr (Established.particulars_in_7 t).by_rej unsolicited_fair (λ final n. rej_7 n)).leads (begun l) at-first
-    frames-7 b octets m other e = absurd e
+    frames-7 b octets m control e = grind (arith, supervised, in_7, at-first, rnr_7)
 
     frames-8 : (b : Bool) (octets : List ℕ) (m : ℕ) (control : Control) → Means m control → Fair t (TimerRecovery.frame_in_8 t b octets control (begun l))
     frames-8 b octets m (Information ns nr p) e = information ns nr p octets Words.acknowledge (acknowledge_fair t)
-    frames-8 b octets m (ReceiveReady nr pf) e = (supervised (TimerRecovery.particulars_in_8 t) false b pf nr (TimerRecovery.particulars_in_8 t).by_rr (λ final. nothing_leads) (in_8 T203)).leads (begun l) at-first
-    frames-8 b octets m (ReceiveNotReady nr pf) e = (supervised (TimerRecovery.particulars_in_8 t) true b pf nr (TimerRecovery.particulars_in_8 t).by_rnr (λ final. nothing_leads) (in_8 T200)).leads (begun l) at-first
-    frames-8 b octets m (Reject nr pf) e = (supervised (TimerRecovery.particulars_in_8 t) false b pf nr (TimerRecovery.particulars_in_8 t).by_rej (λ final. nothing_leads) (in_8 T203)).leads (begun l) at-first
-    frames-8 b octets m other e = absurd e
+    frames-8 b octets m control e = grind (arith, supervised, nothing_leads, in_8, at-first)
 
     frames-in : (here : State) → IsTrue (is_multiple_frame here) → (b : Bool) (octets : List ℕ) (m : ℕ) (control : Control) → Means m control
         → Fair t (Machine.frame_in here t b octets control (begun l))

@@ -1,12 +1,12 @@
 -- Two ends that are up, and whose T200 is timely: they stay so, and no frame that one takes makes it tell an error.
-use Rattle.laws_wire.proofs.Vocabulary.{◌≡◌, ℕ, ◌≤◌, Bool, true, false, cond, not, ◌&&◌, IsTrue, List, [], ◌∷◌, ◌++◌, refl, sym, ap, subst, ◌∙◌, ◌⊎◌, inl, inr, true≢false, list_any, Seq, Control, Information, ReceiveReady, ReceiveNotReady, Reject, Note, Parts, State, TeiAssigned, AwaitingEstablishment, AwaitingRelease, Established, TimerRecovery, LinkTimer, Terms, Link, is_multiple_frame, received, expired, requested, offer, course, End, Ends, asks, expires, sends, receives, with_link, with_sent, IsUp, frames_of, Joined, joined-turned, done-at, Rising, frame-taken, busy_asked, flag_left, takes_contents, as_heard, is_overlong, state_after, numbered_as, final_as, told_up, told_by_frame, told_expired, event-follows, CanRepeat, IsMildAct, IsTimelyAct, is_recovering, Flow, flow-low, no-answer, line, NoAlien, is-no-alien, Sane, sane-doing, Flows, acted-flows, done-up, same-after, Kind, answer, alien, kind_of, kind_of_ready, kind_of_reject, after, is_error}
+use Rattle.laws_wire.proofs.Vocabulary.{arith, ◌≡◌, ℕ, ◌≤◌, Bool, true, false, cond, not, ◌&&◌, IsTrue, List, [], ◌∷◌, ◌++◌, refl, sym, ap, subst, ◌∙◌, ◌⊎◌, inl, inr, true≢false, list_any, Seq, Control, Information, ReceiveReady, ReceiveNotReady, Reject, Note, Parts, State, TeiAssigned, AwaitingEstablishment, AwaitingRelease, Established, TimerRecovery, LinkTimer, Terms, Link, is_multiple_frame, received, expired, requested, offer, course, End, Ends, asks, expires, sends, receives, with_link, with_sent, IsUp, frames_of, Joined, joined-turned, done-at, Rising, frame-taken, busy_asked, flag_left, takes_contents, as_heard, is_overlong, state_after, numbered_as, final_as, told_up, told_by_frame, told_expired, event-follows, CanRepeat, IsMildAct, IsTimelyAct, is_recovering, Flow, flow-low, no-answer, line, NoAlien, is-no-alien, Sane, sane-doing, Flows, acted-flows, done-up, same-after, Kind, answer, alien, kind_of, kind_of_ready, kind_of_reject, after, is_error, NoteData}
 use Rattle.model_link.specs.TwoEnds.{Act, loses, at_near, with_first_of, with_first_lost, acting}
 use Rattle.laws_link.specs.Telling.{told_by}
 use Rattle.laws_link.specs.two.Timely.{IsTimely}
-use Rattle.lapd_frame.specs.declared.notes.Note.TheVariants as notes
 use Rattle.model_link.specs.Events.{Event, frame, overlong, Data}
 use Rattle.laws_wire.proofs.Fair.{HasError, Fine, frame-fair}
 use Rattle.laws_wire.proofs.Tame.{Tame, tame-asks, tame-expires, tame-sends, tame-loses, tame-takes, off}
+use Rattle.laws_link.proofs.OfTwo.TimelyRuns.{flows-low}
 
 -- ---- what is told of a frame
 
@@ -15,13 +15,8 @@ IsQuiet b (answer nr) = b ≡ true
 IsQuiet b alien = ⊥
 IsQuiet b other = Unit {0}
 
-ready-final : (b command pf : Bool) (nr : Seq) → IsQuiet b (kind_of_ready command pf nr) → (not command && pf) ≡ true → b ≡ true
-ready-final b false true nr h e = h
-ready-final b other any nr h e = absurd (true≢false (sym e))
-
 reject-final : (b command pf : Bool) (nr : Seq) → IsQuiet b (kind_of_reject command pf nr) → (not command && pf) ≡ true → b ≡ true
-reject-final b false false nr h e = absurd (true≢false (sym e))
-reject-final b other any nr h e = absurd h
+reject-final b command pf nr h e = grind arith
 
 module _ (t : Terms) where
   numbered-none : (to : State) → IsTrue (is_multiple_frame to) → numbered_as t to ≡ []
@@ -29,25 +24,13 @@ module _ (t : Terms) where
   numbered-none TimerRecovery up = refl
   numbered-none other up = absurd (true≢false (sym up))
 
-  final-none : (b final : Bool) → (final ≡ true → b ≡ true) → final_as t b final ≡ []
-  final-none false true h = absurd (true≢false (sym (h refl)))
-  final-none b other h = refl
-
-  data-alone : (b : Bool) → list_any is_error (cond {A = List Note} b (notes.Data t.service t.tei ∷ []) [] ++ []) ≡ false
-  data-alone true = refl
-  data-alone false = refl
+  data-alone : (b : Bool) → list_any is_error (cond {A = List Note} b (NoteData t.service t.tei ∷ []) [] ++ []) ≡ false
+  data-alone b = grind arith
 
   module _ (b command : Bool) (octets : List ℕ) (taken : Bool) (l : Link) (to : State) (up : IsTrue (is_multiple_frame to)) where
-    final-quiet : (final : Bool) → (final ≡ true → b ≡ true) → list_any is_error (final_as t b final ++ numbered_as t to) ≡ false
-    final-quiet final h =
-        ap (λ ns. list_any is_error (final_as t b final ++ ns)) (numbered-none to up) ∙ ap (λ ns. list_any is_error (ns ++ [])) (final-none b final h)
-
     up-quiet : (control : Control) → IsQuiet b (kind_of command control) → list_any is_error (told_up b t command octets control taken l to) ≡ false
-    up-quiet (Information ns nr p) h = ap (λ more. list_any is_error (cond {A = List Note} taken (notes.Data t.service t.tei ∷ []) [] ++ more)) (numbered-none to up) ∙ data-alone taken
-    up-quiet (ReceiveReady nr pf) h = final-quiet (not command && pf) (ready-final b command pf nr h)
-    up-quiet (ReceiveNotReady nr pf) h = final-quiet (not command && pf) (ready-final b command pf nr h)
-    up-quiet (Reject nr pf) h = final-quiet (not command && pf) (reject-final b command pf nr h)
-    up-quiet other h = absurd h
+    up-quiet (Information ns nr p) h = ap (λ more. list_any is_error (cond {A = List Note} taken (NoteData t.service t.tei ∷ []) [] ++ more)) (numbered-none to up) ∙ data-alone taken
+    up-quiet control h = grind (arith, numbered-none, up, reject-final)
 
   frame-quiet : (here : State) → IsTrue (is_multiple_frame here) → (command : Bool) (octets : List ℕ) (control : Control) (taken : Bool) (l : Link) (to : State)
       → IsTrue (is_multiple_frame to) → IsQuiet (is_recovering here) (kind_of command control) → list_any is_error (told_by_frame here t command octets control taken l to) ≡ false
@@ -67,24 +50,18 @@ module _ (t : Terms) where
       heard b = received (cond b overlong (frame f))
 
       go : (b : Bool) → to ≡ state_after t (heard b) l → (course t (received (frame f)) l).notes ≡ told_by t (heard b) l to → list_any is_error (course t (received (frame f)) l).notes ≡ false
-      go true leads tells =
-          let out : to ≡ AwaitingEstablishment = leads ∙ ap (λ b. cond (b && true) AwaitingEstablishment l.state) is in
-          absurd (true≢false (sym (subst (λ s. IsTrue (is_multiple_frame s)) out up)))
+      go true leads tells = grind (arith, up)
       go false leads tells = ap (list_any is_error) tells ∙ frame-quiet l.state is f.address.command f.info f.control (takes_contents (heard false) l) l to up h
 
   -- nor does a timer tell one, where the link stays up
   expired-quiet : (here to : State) → IsTrue (is_multiple_frame here) → IsTrue (is_multiple_frame to) → list_any is_error (told_expired here t to) ≡ false
   expired-quiet TeiAssigned to is up = absurd (true≢false (sym is))
-  expired-quiet AwaitingEstablishment to is up = absurd (true≢false (sym is))
-  expired-quiet AwaitingRelease to is up = absurd (true≢false (sym is))
-  expired-quiet TimerRecovery AwaitingEstablishment is up = absurd (true≢false (sym up))
-  expired-quiet other any is up = refl
+  expired-quiet here to is up = grind (arith, up)
 
   pub timer-quiet : (l : Link) (timer : LinkTimer) → IsTrue (is_multiple_frame l.state) → IsTrue (is_multiple_frame (after t (expired timer) l).state)
       → HasError (course t (expired timer) l).notes → ⊥
   timer-quiet l timer is up error =
-      let tells = (event-follows t (expired timer) l).leaves.tells in
-      true≢false (sym error ∙ ap (list_any is_error) tells ∙ expired-quiet l.state (after t (expired timer) l).state is up)
+      true≢false (sym error ∙ ap (list_any is_error) ((event-follows t (expired timer) l).leaves.tells) ∙ expired-quiet l.state (after t (expired timer) l).state is up)
 
 -- ---- own busy stays off
 
@@ -108,21 +85,7 @@ pub record Firm (n m : End) : Type 0 where
   pub far_tame : Tame m
 
 pub firm-turned : (n m : End) → Firm n m → Firm m n
-firm-turned n m h = record {
-  joined = joined-turned n m h.joined;
-  same = sym h.same;
-  there = h.back;
-  back = h.there;
-  near_sane = h.far_sane;
-  far_sane = h.near_sane;
-  near_free = h.far_free;
-  far_free = h.near_free;
-  near_tame = h.far_tame;
-  far_tame = h.near_tame;
-}
-
-pub not-behind : (n m : End) → Flows n m → m.link.r ≤ n.link.s
-not-behind n m h = flow-low n.link.s m.link.r (is_recovering n.link.state) m.link.rejecting (line n.terms n.way n.link.waiting) (line m.terms m.way m.link.waiting) h
+firm-turned n m h = assumption (joined-turned n m h.joined, sym h.same)
 
 -- Two ends that are up: they stay so, and what an end takes leaves its contents, and is told as it is delivered.
 module _ (n m : End) (joined : Joined n m) (same : n.terms.n201 ≡ m.terms.n201) (there : Flows n m) (back : Flows m n) where
@@ -132,7 +95,7 @@ module _ (n m : End) (joined : Joined n m) (same : n.terms.n201 ≡ m.terms.n201
   mild other x = tt
 
   pub up-after : (act : Act) → IsTimelyAct act n m → IsUp (acting act (record { near = n; far = m }))
-  up-after act x = done-up (at_near act) (record { near = n; far = m }) joined same (not-behind n m there, not-behind m n back) (mild act x)
+  up-after act x = done-up (at_near act) (record { near = n; far = m }) joined same (flows-low n m there, flows-low m n back) (mild act x)
 
   module _ (f : Parts) (fs : List Parts) (first : m.way ≡ f ∷ fs) where
     abbrev rest : List Kind
@@ -146,9 +109,7 @@ module _ (n m : End) (joined : Joined n m) (same : n.terms.n201 ≡ m.terms.n201
 
     quiet-kind : (x : Kind) (b : Bool) → NoAlien x → Flow n.link.s m.link.r b m.link.rejecting own_line (x ∷ rest) → IsQuiet b x
     quiet-kind (answer nr) true known flow = refl
-    quiet-kind (answer nr) false known flow = absurd (no-answer n.link.s m.link.r m.link.rejecting nr own_line rest flow)
-    quiet-kind alien b known flow = absurd known
-    quiet-kind other b known flow = tt
+    quiet-kind x b known flow = grind (arith, no-answer)
 
     quiet : IsQuiet (is_recovering n.link.state) x
     quiet =
@@ -170,8 +131,7 @@ module _ (n m : End) (joined : Joined n m) (same : n.terms.n201 ≡ m.terms.n201
         go (frame-fair n.terms n.link joined.near_up f rising.0 rising.2).fair
       where
         go : let c = course n.terms (received (frame f)) n.link in HasError c.notes ⊎ Fine n.terms c.link.state c.notes c.delivered c.unit → Fine n.terms c.link.state c.notes c.delivered c.unit
-        go (inl error) = absurd (true≢false (sym error ∙ no-error n.terms n.link f joined.near_up up quiet))
-        go (inr fine) = fine
+        go o = grind (arith, no-error, up, quiet)
 
     pub takes-kept : (with_link (received (frame f)) n).link.contents ≡ n.link.contents
     takes-kept = ((frame-taken n.terms n.link joined.near_up f.address.command f.info rising.0 f.control rising.2).took.by.stay up).2.same
@@ -179,10 +139,6 @@ module _ (n m : End) (joined : Joined n m) (same : n.terms.n201 ≡ m.terms.n201
 module _ (n m : End) (h : Firm n m) where
   abbrev e : Ends
   e = record { near = n; far = m }
-
-  far-same : (act : Act) → (acting act e).far.link.own_busy ≡ m.link.own_busy
-  far-same (asks request full) = refl
-  far-same other = refl
 
   up-then : (act : Act) → IsTimelyAct act n m → IsUp (acting act e)
   up-then act x = up-after n m h.joined h.same h.there h.back act x
@@ -201,7 +157,7 @@ module _ (n m : End) (h : Firm n m) where
         near_sane = sane.0;
         far_sane = sane.1;
         near_free = own;
-        far_free = far-same act ∙ h.far_free;
+        far_free = (grind arith) ∙ h.far_free;
         near_tame = tame;
         far_tame = tame';
       }
@@ -229,10 +185,7 @@ module _ (n m : End) (h : Firm n m) where
       known : (f : Parts) (fs : List Parts) → m.way ≡ f ∷ fs → NoAlien (kind_of f.address.command f.control)
       known f fs first =
           let own_line = line n.terms n.way n.link.waiting in
-          let back : Flow m.link.s n.link.r (is_recovering m.link.state) n.link.rejecting (kind_of f.address.command f.control ∷ line m.terms fs m.link.waiting) own_line =
-          subst (λ way. Flow m.link.s n.link.r (is_recovering m.link.state) n.link.rejecting (line m.terms way m.link.waiting) own_line) first h.back in
-          is-no-alien m.link.s n.link.r (is_recovering m.link.state) n.link.rejecting (kind_of f.address.command f.control) (line m.terms fs m.link.waiting) own_line back
+          grind (arith, is_recovering, kind_of, is-no-alien)
 
       own : (way : List Parts) → (with_first_of way n).link.own_busy ≡ false
-      own [] = h.near_free
-      own (f ∷ fs) = free n.terms (received (frame f)) n.link refl h.near_free
+      own way = grind (arith, free)

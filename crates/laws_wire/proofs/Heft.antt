@@ -1,10 +1,7 @@
 -- What is left to do on a wire, as its stations are; and what is done at an end makes it less, whatever its phase.
-use Rattle.laws_wire.proofs.Vocabulary.{◌≡◌, ℕ, ◌+◌, ◌*◌, ◌≤◌, Bool, false, cond, List, [], length, Option, None, Some, refl, sym, subst, inl, inr, append-nil, arith, Refusal, Service, Timer, Parts, LinkTimer, T200, T203, Terms, Link, Course, course, begun, End, with_link, Config, LineTold, request, Line, place_in, Request, SetBusy, ClearBusy, at_requested, aim_of_request, contents_of, Station, Wire, happens, Act, requests, times_out, gives, takes, loses, acting, turned, granted_of, link_of, flat_map, is_granted, answered, IsAsked, IsOfLink, IsFullTalkOf, IsTimelyOf, is_move_of, expiries_of}
-use Rattle.lapd_frame.specs.declared.timers.Timer.TheVariants as timers
-use Rattle.model_link.specs.Events as link
+use Rattle.laws_wire.proofs.Vocabulary.{◌≡◌, ℕ, ◌+◌, ◌*◌, ◌≤◌, Bool, false, cond, List, [], length, Option, None, Some, refl, sym, subst, inl, inr, append-nil, arith, Refusal, Service, Timer, Parts, LinkTimer, T200, T203, Terms, Link, Course, course, begun, End, with_link, Config, LineTold, request, Line, place_in, Request, SetBusy, ClearBusy, at_requested, aim_of_request, contents_of, Station, Wire, happens, Act, requests, times_out, gives, takes, loses, acting, turned, granted_of, link_of, flat_map, is_granted, answered, IsAsked, IsOfLink, IsFullTalkOf, IsTimelyOf, is_move_of, expiries_of, requested, LinkClearBusy, LinkRequest, LinkSetBusy, timer_T200, timer_T203, reports_of}
 use Rattle.model_link.specs.Requests as link_requests
 use Rattle.laws_wire.specs.Facing.{line_of, read_as}
-use Rattle.laws_wire.specs.Settling.{reports_of}
 use Rattle.laws_wire.proofs.Awaited.{link-is, way-is, may-there}
 use Rattle.laws_wire.proofs.Held.{Held}
 use Rattle.laws_wire.proofs.Loads.{load, load_way, one-waits}
@@ -31,15 +28,8 @@ module _ (w : ℕ) (t : Terms) (l : Link) where
   nothing-said : Reports w l (begun l)
   nothing-said = record { contents = refl; received = refl; within = omega arith }
 
-  unless-refused : (rq : link.Request) (o : Option Refusal) → Reports w l (link_requests.granted t rq (begun l))
-      → Reports w l (elim o as (λ o. Course) [ None ↦ link_requests.granted t rq (begun l) | Some _ ↦ begun l ])
-  unless-refused rq o h = grind (arith, nothing-said)
-
-  pub busy-reports : Reports w l (course t (link.requested link.SetBusy false) l)
-  busy-reports = grind (arith, one-waits, unless-refused, either, nothing-said)
-
-  pub ready-reports : Reports w l (course t (link.requested link.ClearBusy false) l)
-  ready-reports = grind (arith, one-waits, unless-refused, either, nothing-said)
+  pub ready-reports : Reports w l (course t (requested LinkClearBusy false) l)
+  ready-reports = grind (arith, one-waits, nothing-said, either)
 
 module _ (service : Service) (tei : ℕ) where
   abbrev its_link : Station → Link
@@ -99,8 +89,8 @@ module _ (service : Service) (tei : ℕ) where
 
     -- ---- layer 3 asks
 
-    module _ (r : Request) (rq : link.Request) (aims : (l : Line) → aim_of_request r l ≡ at_requested service tei rq (place_in l tei)) (none : contents_of r ≡ [])
-        (said : Reports v n.link (course n.terms (link.requested rq false) n.link)) where
+    module _ (r : Request) (rq : LinkRequest) (aims : (l : Line) → aim_of_request r l ≡ at_requested service tei rq (place_in l tei)) (none : contents_of r ≡ [])
+        (said : Reports v n.link (course n.terms (requested rq false) n.link)) where
       abbrev s' : Station
       s' = happens (request r) w.near
 
@@ -108,7 +98,7 @@ module _ (service : Service) (tei : ℕ) where
       own = subst (λ k. Stands k service tei p w.near n) (sym near.stands.config) near.stands
 
       abbrev n' : End
-      n' = with_link (link.requested rq false) n
+      n' = with_link (requested rq false) n
 
       abbrev bit : Bool
       bit = is_granted (answered (request r) w.near)
@@ -126,8 +116,8 @@ module _ (service : Service) (tei : ℕ) where
     asks-pays r is =
         for-asked service tei (λ r. Pays v 0 0 (reports_of (requests r) w) w (acting (requests r) w))
         (λ octets. from-then _ 0 0 (then-asks service tei c d p q past_n past_m face v w n m near far low octets))
-        (busy-pays (SetBusy service tei) link.SetBusy (λ l. refl) refl (busy-reports v n.terms n.link))
-        (busy-pays (ClearBusy service tei) link.ClearBusy (λ l. refl) refl (ready-reports v n.terms n.link)) r is
+        (busy-pays (SetBusy service tei) LinkSetBusy (λ l. refl) refl (grind (arith, one-waits, nothing-said, either)))
+        (busy-pays (ClearBusy service tei) LinkClearBusy (λ l. refl) refl (ready-reports v n.terms n.link)) r is
 
     -- ---- a timer expires
 
@@ -138,14 +128,11 @@ module _ (service : Service) (tei : ℕ) where
     pub expires-pays : (timer : Timer) → IsOfLink service tei timer → IsTimelyOf (times_out timer) w → Pays v 0 1 0 w (acting (times_out timer) w)
     expires-pays timer is x =
         each-timer service tei (λ timer. IsTimelyOf (times_out timer) w → Pays v 0 1 0 w (acting (times_out timer) w))
-        (λ x. expires-so (timers.T200 service tei) T200 (λ l. refl) (λ e. may-there service tei c p w.near n near.stands x.1))
-        (λ x. expires-so (timers.T203 service tei) T203 (λ l. refl) (λ e. cc e)) timer is x
+        (λ x. expires-so (timer_T200 service tei) T200 (λ l. refl) (λ e. may-there service tei c p w.near n near.stands x.1))
+        (λ x. expires-so (timer_T203 service tei) T203 (λ l. refl) (λ e. cc e)) timer is x
 
     -- ---- each act, but that it takes
 
     pub acts-pays : (act : Act) → (act ≡ takes → ⊥) → IsFullTalkOf service tei act → IsTimelyOf act w → Pays v (moved_by act) (expiries_of act) (reports_of act w) w (acting act w)
     acts-pays (requests r) not is x = asks-pays r is
-    acts-pays (times_out timer) not is x = expires-pays timer is x
-    acts-pays gives not is x = from-then (acting gives w) (moved_by gives) 0 (then-gives service tei c d p q past_n past_m face v w n m near far low)
-    acts-pays takes not is x = absurd (not refl)
-    acts-pays loses not is x = from-then (acting loses w) (moved_by loses) 0 (then-loses service tei c d p q past_n past_m face v w n m near far low)
+    acts-pays act o is x = grind (arith, expires-pays, from-then, then-gives, then-loses)

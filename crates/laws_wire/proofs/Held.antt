@@ -1,11 +1,7 @@
 -- A station in a call in which frames are lost and timers expire: what its layer 3 was granted is what its link accepted, and
 -- layer 3 heard what its link delivered.
-use Rattle.laws_wire.proofs.Vocabulary.{◌≡◌, ℕ, Bool, true, false, cond, not, ◌&&◌, ◌==◌, suc, List, [], ◌∷◌, ◌++◌, length, map, Option, None, is_some, refl, sym, ap, subst, ◌∙◌, ◌⊎◌, inl, inr, append-nil, append_assoc, eqb-true, arith, option_to_list, flat_map, list_any, option_or, and_parts, false≢true, map-append, list_any-append, list_any_none, Note, Service, Timer, Parts, spelling, LinkTimer, End, with_link, with_sent, Config, LineTold, expiry, request, next, at_timer, aim_of_expiry, Line, place_in, flat_map-append, Course, nothing, Data, Station, happens, with_first_lost, comes, data_told, for_layer_3, heard_in, is_error, HasNoError}
-use Rattle.lapd_frame.specs.declared.notes.Note.TheVariants as notes
+use Rattle.laws_wire.proofs.Vocabulary.{◌≡◌, ℕ, Bool, true, false, cond, not, ◌&&◌, ◌==◌, suc, List, [], ◌∷◌, ◌++◌, length, map, Option, None, is_some, refl, sym, ap, subst, ◌∙◌, ◌⊎◌, inl, inr, append-nil, append_assoc, eqb-true, arith, option_to_list, flat_map, list_any, option_or, and_parts, false≢true, map-append, list_any-append, list_any_none, Note, Service, Timer, Parts, spelling, LinkTimer, End, with_link, with_sent, Config, LineTold, expiry, request, next, at_timer, aim_of_expiry, Line, place_in, flat_map-append, Course, nothing, Data, Station, happens, with_first_lost, comes, data_told, for_layer_3, heard_in, is_error, HasNoError, two_ends_with_first_lost, course, NoteData, refusal}
 use Rattle.model_link.specs.Events as link
-use Rattle.model_link.specs.Machine as links
-use Rattle.model_link.specs.Requests as requests
-use Rattle.model_link.specs.TwoEnds as two_ends
 use Rattle.laws_wire.proofs.Answered.{gives-told, same-granted, takes-granted}
 use Rattle.laws_wire.proofs.Asking.{with_more}
 use Rattle.laws_wire.proofs.Fair.{HasError, or-true}
@@ -15,15 +11,9 @@ use Rattle.laws_wire.proofs.Talking.{Face, unheard, Holds, holds-given, holds-lo
 
 -- ---- what layer 3 hears of an event
 
-abbrev layer_of : List Note → Option (List ℕ) → List LineTold
-layer_of ns contents = cond (length ns == 0 && not (is_some contents)) [] (record nothing { notes = ns; contents = contents } ∷ [])
-
-heard-of : (c : Course) → flat_map for_layer_3 (said_by c) ≡ layer_of c.notes (option_or c.delivered c.unit)
-heard-of c = grind (arith, heard_by, flat_map, and_parts, is_some, append-nil)
-
 -- of what is delivered it hears, and of nothing else
 pub record TellsIt (service : Service) (tei : ℕ) (c : Course) : Type 0 where
-  pub its_notes : c.notes ≡ map (λ octets. notes.Data service tei) (option_to_list c.delivered)
+  pub its_notes : c.notes ≡ map (λ octets. NoteData service tei) (option_to_list c.delivered)
   pub no_unit : c.unit ≡ None
 
 -- ---- errors that were told
@@ -43,9 +33,6 @@ error-said c h = grind (arith, heard_by, and_parts, is_some, some-notes)
 
 pub now-erred : (s s' : Station) (c : Course) → s'.told ≡ s.told ++ said_by c → HasError c.notes → Erred s'
 now-erred s s' c told h = grind (arith, list_any-append, said_by, error-said, or-true)
-
-pub erred-stays : (s s' : Station) (more : List LineTold) → s'.told ≡ s.told ++ more → Erred s → Erred s'
-erred-stays s s' more told h = grind (arith, list_any-append)
 
 pub not-erred : (s : Station) → HasNoError s → Erred s → ⊥
 not-erred s none h = false≢true (sym (list_any_none tells_error s.told none) ∙ h)
@@ -68,7 +55,7 @@ module _ (service : Service) (tei place : ℕ) (past : List LineTold) (c : Confi
   -- what it heard by an event
   pub heard-then : (s' : Station) (x : Course) → s'.told ≡ s.told ++ said_by x → TellsIt n.terms.service n.terms.tei x
       → heard_in s' ≡ past ++ map (data_told service tei) (n.delivered ++ option_to_list x.delivered)
-  heard-then s' x told y = grind (arith, flat_map, flat_map-append, said_by, heard-of, append_assoc, map-append)
+  heard-then s' x told y = grind (arith, flat_map, flat_map-append, said_by, heard_by, and_parts, is_some, append-nil, append_assoc, map-append)
 
   heard-data : (xs : List (List ℕ)) → flat_map for_layer_3 (map (data_told service tei) xs) ≡ map (data_told service tei) xs
   heard-data [] = refl
@@ -83,7 +70,7 @@ module _ (service : Service) (tei place : ℕ) (past : List LineTold) (c : Confi
       let x = holds-given service tei place (record { told = s.told; had = n.delivered }) c s n quiet kept in
       record { stands = x.stands; granted = x.granted; heard = ap (flat_map for_layer_3) (gives-told s) ∙ h.heard }
 
-  pub held-lost : Held c service tei place past (with_first_lost s) (two_ends.with_first_lost n)
+  pub held-lost : Held c service tei place past (with_first_lost s) (two_ends_with_first_lost n)
   held-lost =
       let x = holds-lost service tei place (record { told = s.told; had = n.delivered }) c s n quiet in
       record { stands = x.stands; granted = x.granted; heard = h.heard }
@@ -94,23 +81,20 @@ module _ (service : Service) (tei place : ℕ) (past : List LineTold) (c : Confi
     took = comes (spelling d.side f) s
 
     abbrev x : Course
-    x = links.course n.terms (link.received (link.frame f)) n.link
-
-    it_took : Took service tei place unheard c s n (spelling d.side f) f
-    it_took = takes_frame service tei place unheard c d face s n f h.stands from
+    x = course n.terms (link.received (link.frame f)) n.link
 
     pub taken-told : took.told ≡ s.told ++ said_by x
-    taken-told = it_took.told
+    taken-told = (takes_frame service tei place unheard c d face s n f h.stands from).told
 
     pub taken-stands : Stands c service tei place took (with_link (link.received (link.frame f)) n)
-    taken-stands = it_took.stands
+    taken-stands = (takes_frame service tei place unheard c d face s n f h.stands from).stands
 
     pub held-taken : TellsIt n.terms.service n.terms.tei x → (with_link (link.received (link.frame f)) n).link.contents ≡ n.link.contents
         → Held c service tei place past took (with_link (link.received (link.frame f)) n)
     held-taken tells kept = record {
-      stands = it_took.stands;
+      stands = (takes_frame service tei place unheard c d face s n f h.stands from).stands;
       granted = takes-granted (spelling d.side f) s ∙ h.granted ∙ sym kept;
-      heard = heard-then took x it_took.told tells;
+      heard = heard-then took x (takes_frame service tei place unheard c d face s n f h.stands from).told tells;
     }
 
   -- a timer
@@ -118,21 +102,21 @@ module _ (service : Service) (tei place : ℕ) (past : List LineTold) (c : Confi
     abbrev after : Station
     after = happens (expiry timer) s
 
-    pub expired-told : after.told ≡ s.told ++ said_by (links.course n.terms (link.expired its) n.link)
+    pub expired-told : after.told ≡ s.told ++ said_by (course n.terms (link.expired its) n.link)
     expired-told = expires-said service tei place s n own timer its aims
 
-    pub held-expired : TellsIt n.terms.service n.terms.tei (links.course n.terms (link.expired its) n.link) → (with_link (link.expired its) n).link.contents ≡ n.link.contents
+    pub held-expired : TellsIt n.terms.service n.terms.tei (course n.terms (link.expired its) n.link) → (with_link (link.expired its) n).link.contents ≡ n.link.contents
         → Held c service tei place past after (with_link (link.expired its) n)
     held-expired tells kept =
         record {
           stands = subst (λ k. Stands k service tei place after (with_link (link.expired its) n)) h.stands.config (expires-stands service tei place s n own timer its aims);
           granted = same-granted (expiry timer) s refl ∙ h.granted ∙ sym kept;
-          heard = heard-then after (links.course n.terms (link.expired its) n.link) expired-told tells;
+          heard = heard-then after (course n.terms (link.expired its) n.link) expired-told tells;
         }
 
   -- data
   pub record Grants (octets : List ℕ) (s' : Station) : Type 0 where
-    pub none : requests.refusal n.terms n.link false (link.Data octets) ≡ None
+    pub none : refusal n.terms n.link false (link.Data octets) ≡ None
     pub held : Held c service tei place past s' (with_more octets n)
 
   pub held-asked : (octets : List ℕ) → (happens (request (Data service tei octets)) s ≡ s) ⊎ Grants octets (happens (request (Data service tei octets)) s)

@@ -14,9 +14,6 @@ pub record Joint (n m : End) (near far : List Parts) : Type 0 where
   pub there : Direction (shown n near) (shown m far)
   pub back : Direction (shown m far) (shown n near)
 
-pub turned-joint : (n m : End) (near far : List Parts) → Joint n m near far → Joint m n far near
-turned-joint n m near far h = record { there = h.back; back = h.there }
-
 -- by the line alone
 relined : (x y : End) (near far : List Parts) → line_of x ≡ near → line_of y ≡ far → Direction x y → Direction (shown x near) (shown y far)
 relined x y near far e e' h = grind (arith, append-nil)
@@ -28,9 +25,6 @@ since ws ws' = drop (length ws) ws'
 reports-since : (r : ℕ) (ws ws' : List ControlFrame) → Reports r ws ws' → Reports r [] (since ws ws')
 reports-since r ws ws' h = record { news = h.news; more = front_rest ws' ws h.news h.more; are = h.are }
 
-waits-since : (r : ℕ) (ws ws' : List ControlFrame) → Reports r ws ws' → ws' ≡ ws ++ since ws ws'
-waits-since r ws ws' h = h.more ∙ ap (λ xs. ws ++ xs) (sym (front_rest ws' ws h.news h.more))
-
 -- so the line grows by it
 pub line-on : (t : Terms) (way first line : List Parts) (ws ws' news : List ControlFrame) → way ++ frames_of t ws ≡ first ++ line → ws' ≡ ws ++ news
     → way ++ frames_of t ws' ≡ first ++ (line ++ frames_of t news)
@@ -38,10 +32,7 @@ line-on t way first line ws ws' news e more = grind (arith, frames_of, frames-ap
 
 -- the first on a line is lost
 pub loses-first : (n m : End) (f : Parts) (near far : List Parts) → Joint n m (f ∷ near) far → Joint n m near far
-loses-first n m f near far h = record {
-  there = sender-loses (shown n (f ∷ near)) (shown m far) h.there;
-  back = receiver-loses (shown m far) (shown n (f ∷ near)) h.back;
-}
+loses-first n m f near far h = assumption (sender-loses (shown n (f ∷ near)) (shown m far) h.there, receiver-loses (shown m far) (shown n (f ∷ near)) h.back)
 
 -- A link goes on by itself: more contents may be accepted, and reports may wait.
 pub record Goes (l l' : Link) (more : List (List ℕ)) : Type 0 where
@@ -51,7 +42,7 @@ pub record Goes (l l' : Link) (more : List (List ℕ)) : Type 0 where
   pub reports : Reports l.r l.waiting l'.waiting
 
 pub waits-more : (l l' : Link) (more : List (List ℕ)) → Goes l l' more → l'.waiting ≡ l.waiting ++ since l.waiting l'.waiting
-waits-more l l' more g = waits-since l.r l.waiting l'.waiting g.reports
+waits-more l l' more g = g.reports.more ∙ ap (λ xs. l.waiting ++ xs) (sym (front_rest l'.waiting l.waiting g.reports.news g.reports.more))
 
 pub goes-on : (n m : End) (l' : Link) (more : List (List ℕ)) (near far : List Parts) → Goes n.link l' more → Joint n m near far
     → Joint (record n { link = l' }) m (near ++ frames_of n.terms (since n.link.waiting l'.waiting)) far
@@ -87,9 +78,7 @@ module _ (t : Terms) (l : Link) where
   expired-goes : (here : State) → IsTrue (is_multiple_frame here) → (timer : LinkTimer) → IsTrue (is_multiple_frame (Machine.expired_in here timer t (begun l)).link.state)
       → Goes l (Machine.expired_in here timer t (begun l)).link []
   expired-goes Established before timer up = by-up _ ((timer_7_up t l {S = still l.s}).leads (begun l) (at-first t l)) up
-  expired-goes TimerRecovery before T200 up = by-up _ ((t200_8_up t l {S = still l.s}).leads (begun l) (at-first t l)) up
-  expired-goes TimerRecovery before T203 up = stays
-  expired-goes other before timer up = absurd (true≢false (sym before))
+  expired-goes here before timer up = grind (arith, by-up, t200_8_up, at-first, stays)
 
   either : (b : Bool) (u v : Course) → (IsTrue (is_multiple_frame u.link.state) → Goes l u.link []) → (IsTrue (is_multiple_frame v.link.state) → Goes l v.link [])
       → IsTrue (is_multiple_frame (cond b u v).link.state) → Goes l (cond b u v).link []
@@ -115,29 +104,7 @@ gives-on n m first near far ranges sound e h =
     let line = near ++ g.news in
     let up : Carried n.link.contents (n.link.a + n.terms.k) m.link.r near = subst (Carried n.link.contents (n.link.a + n.terms.k) m.link.r) (append-nil near) h.there.carried in
     let its : Rising m.link.a n.link.r near = subst (Rising m.link.a n.link.r) (append-nil near) h.back.rising in
-    record {
-      news = g.news;
-      line = g.line n.way ∙ ap (λ fs. fs ++ g.news) e ∙ append_assoc first near g.news;
-      joint = record {
-        there = record {
-          carried = grind (arith, append-nil);
-          rising = subst (λ a. Rising a m.link.r (far ++ [])) (sym g.acknowledged) h.there.rising;
-          delivered = h.there.delivered ∙ ap (λ cs. take m.link.r cs) (sym g.same);
-          accepted = subst (λ cs. m.link.r ≤ length cs) (sym g.same) h.there.accepted;
-        };
-        back = record {
-          carried = subst (λ r. Carried m.link.contents (m.link.a + m.terms.k) r (far ++ [])) (sym g.received) h.back.carried;
-          rising = grind (arith, append-nil);
-          delivered = h.back.delivered ∙ ap (λ r. take r m.link.contents) (sym g.received);
-          accepted = subst (λ r. r ≤ length m.link.contents) (sym g.received) h.back.accepted;
-        };
-      };
-      contents = g.same;
-    }
-
--- soundness does not need what waits
-sound-bare : (t : Terms) (l : Link) → IsSound t l → IsSound t (bare l)
-sound-bare t l h = grind arith
+    grind (arith, append_assoc, append-nil)
 
 -- what the first on a line is
 pub record IsMeant (f : Parts) : Type 0 where
@@ -166,11 +133,11 @@ hears-on n m f near far ranges far-ranges sound before up h =
     let this = frame-taken n.terms n.link before f.address.command f.info is.number f.control is.means in
     let stay = (this.took.by.stay up).2 in
     record {
-      waits = waits-since this.r ws c.link.waiting stay.reports;
+      waits = (stay.reports.more ∙ ap (λ xs. ws ++ xs) (sym (front_rest c.link.waiting ws stay.reports.news stay.reports.more)));
       joint = record {
         there =
             relined (record (shown n near) { link = y; delivered = ds }) (record (shown m (f ∷ far)) { way = far }) line far refl (append-nil far)
-            (sender-hears (shown n near) (shown m (f ∷ far)) f far y ds any_number ranges (sound-bare n.terms n.link sound) refl
+            (sender-hears (shown n near) (shown m (f ∷ far)) f far y ds any_number ranges (grind arith) refl
             (λ p means.
             let other = frame-taken n.terms n.link before f.address.command f.info p f.control means in
             let by = other.took.by.stay up in

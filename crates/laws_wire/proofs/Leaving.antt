@@ -1,6 +1,5 @@
 -- A link that is released, and the one that is told of it: what each event makes of them.
-use Rattle.laws_wire.proofs.Vocabulary.{arith, ◌≡◌, ℕ, ◌+◌, ◌<◌, Bool, true, false, cond, List, [], ◌∷◌, ◌++◌, take, None, Some, sym, ap, ◌∙◌, nat_lt, lt-ltb, Disc, Ua, Dm, Parts, TeiAssigned, AwaitingRelease, Established, ControlFrame, Terms, received, expired, requested, Link, frame_of, course, begun, ◌then◌, command, response, T200, after, Course, release_indicated}
-use Rattle.lapd_frame.specs.declared.notes.ErrorCode.TheVariants as code
+use Rattle.laws_wire.proofs.Vocabulary.{arith, ◌≡◌, ℕ, ◌+◌, ◌<◌, Bool, true, false, cond, List, [], ◌∷◌, ◌++◌, take, None, Some, sym, ap, ◌∙◌, nat_lt, lt-ltb, Disc, Ua, Dm, Parts, TeiAssigned, AwaitingRelease, Established, ControlFrame, Terms, received, expired, requested, Link, frame_of, course, begun, ◌then◌, command, response, T200, after, Course, release_indicated, code_H}
 use Rattle.model_link.specs.Events.{frame, Release}
 use Rattle.model_link.specs.Words
 use Rattle.laws_wire.proofs.Speaking.{said_by}
@@ -10,9 +9,6 @@ its_disc = command (Disc true)
 
 abbrev pub disc : Terms → Parts
 disc t = frame_of t its_disc
-
-abbrev pub its_dm : ControlFrame
-its_dm = response (Dm true)
 
 -- state 6, as often as DISC was repeated and whatever waits
 abbrev pub leaving : Link → ℕ → List ControlFrame → Link
@@ -50,7 +46,7 @@ module _ (t : Terms) (room : nat_lt 0 t.control ≡ true) (l : Link) where
     again b = record (begun (leaving l (k + 1) (cond b (its_disc ∷ []) []))) { started = Some T200; lost = cond {A = ℕ} b 0 1 }
 
     abbrev over : Course
-    over = (Words.error t code.H then Words.release_confirm t then Words.no_timer then Words.enter TeiAssigned) (begun (leaving l k []))
+    over = (Words.error t code_H then Words.release_confirm t then Words.no_timer then Words.enter TeiAssigned) (begun (leaving l k []))
 
     repeats : k < t.n200 → course t (expired T200) (leaving l k []) ≡ again true
     repeats few = ap (λ b. cond b (again (nat_lt 0 t.control)) over) (lt-ltb k t.n200 few) ∙ ap again room
@@ -62,8 +58,5 @@ module _ (t : Terms) (room : nat_lt 0 t.control ≡ true) (l : Link) where
     repeats-untold few = ap said_by (repeats few)
 
   -- DISC where it is down already
-  pub hears-again : (u : Terms) → after t (received (frame (disc u))) (gone l []) ≡ gone l (its_dm ∷ [])
-  hears-again u = ap (λ b. gone l (cond b ([] ++ its_dm ∷ []) [])) room
-
   pub told-again : (u : Terms) → said_by (course t (received (frame (disc u))) (gone l [])) ≡ []
   told-again u = ap (λ b. said_by (record (begun (gone l [])) { lost = cond {A = ℕ} b 0 1 })) room

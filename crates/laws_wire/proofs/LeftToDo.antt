@@ -5,23 +5,19 @@ use Rattle.laws_wire.proofs.Awaited.{link-is}
 use Rattle.laws_wire.proofs.Held.{Held}
 use Rattle.laws_wire.proofs.Loads.{answer_to, brings, load_waiting, load_way, owes, may_reject, back, load}
 use Rattle.laws_wire.proofs.LossyPhases.{IsUp}
-use Rattle.laws_wire.proofs.Weighing.{undelivered, weigh, times-suc}
+use Rattle.laws_wire.proofs.Weighing.{undelivered, weigh}
 
 -- ---- a link
 
 answer-most : (b : Bool) → answer_to b ≤ 2
-answer-most true = omega arith
-answer-most false = omega arith
+answer-most b = grind arith
 
 brings-most : (v : ℕ) (command : Bool) (control : Control) → brings v command control ≤ v + 2
 brings-most v command (Information ns nr p) = let x = answer-most p in omega (arith, x)
-brings-most v command (ReceiveReady nr pf) = let x = answer-most (command && pf) in omega (arith, x)
-brings-most v command (ReceiveNotReady nr pf) = let x = answer-most (command && pf) in omega (arith, x)
-brings-most v command (Reject nr pf) = let x = answer-most (command && pf) in omega (arith, x)
-brings-most v command other = omega arith
+brings-most v command control = grind (arith, answer-most)
 
 grows : (v here rest n low : ℕ) → low ≤ 2 → here ≤ v + 2 → rest ≤ (v + 4) * n → low + here + rest ≤ (v + 4) * (n + 1)
-grows v here rest n low few first more = let e : (v + 4) * (n + 1) ≡ (v + 4) * n + (v + 4) = times-suc (v + 4) n in omega (arith, few, first, more, e)
+grows v here rest n low few first more = let e : (v + 4) * (n + 1) ≡ (v + 4) * n + (v + 4) = (omega arith) in omega (arith, few, first, more, e)
 
 as-suc : (v n x : ℕ) → x ≤ (v + 4) * (n + 1) → x ≤ (v + 4) * suc n
 as-suc v n x h = subst (λ m. x ≤ (v + 4) * m) (omega arith) h
@@ -38,30 +34,14 @@ way-most v (f ∷ fs) =
     as-suc v (length fs) (load_way v (f ∷ fs))
     (grows v (brings v f.address.command f.control) (load_way v fs) (length fs) 1 (omega arith) (brings-most v f.address.command f.control) (way-most v fs))
 
-owes-most : (b : Bool) → owes b ≤ 2
-owes-most true = omega arith
-owes-most false = omega arith
-
-reject-most : (v : ℕ) (b : Bool) → may_reject v b ≤ v + 2
-reject-most v true = omega arith
-reject-most v false = omega arith
-
 back-most : (v : ℕ) (here : State) → IsTrue (is_multiple_frame here) → back v here ≤ v
 back-most v Established up = omega arith
 back-most v TimerRecovery up = omega arith
 back-most v other up = absurd (true≢false (sym up))
 
-unsent-most : (len s a r window k : ℕ) → a ≤ s → r ≤ a + window → window ≤ k → len - s ≤ (len - r) + k
-unsent-most len s a r window k low high small = omega (arith, low, high, small)
-
 load-most : (v k : ℕ) (l : Link) (r window : ℕ) → IsTrue (is_multiple_frame l.state) → l.a ≤ l.s → r ≤ l.a + window → window ≤ k
     → load v l ≤ (v + 4) * length l.waiting + 2 * ((length l.contents - r) + k) + (2 * v + 4)
-load-most v k l r window up low high small =
-    sum (load_waiting v l.waiting) ((v + 4) * length l.waiting) (unsent l) ((length l.contents - r) + k) (owes l.pending) (may_reject v l.rejecting) (back v l.state)
-    (waiting-most v l.waiting) (unsent-most (length l.contents) l.s l.a r window k low high small) (owes-most l.pending) (reject-most v l.rejecting) (back-most v l.state up)
-  where
-    sum : (w w' u u' o j b : ℕ) → w ≤ w' → u ≤ u' → o ≤ 2 → j ≤ v + 2 → b ≤ v → w + 2 * u + o + j + b ≤ w' + 2 * u' + (2 * v + 4)
-    sum w w' u u' o j b x y z p q = omega (arith, x, y, z, p, q)
+load-most v k l r window up low high small = grind (arith, load_waiting, owes, may_reject, back, waiting-most, back-most)
 
 -- ---- two ends
 
@@ -90,18 +70,13 @@ module _ (service : Service) (tei : ℕ) (c d : Config) (p q k : ℕ) (w : Wire)
 
   -- as an observer counts it
   frames-are : (e : Config) (place : ℕ) (past : List LineTold) (s : Station) (x : End) → Held e service tei place past s x → frames_left service tei s ≡ length x.link.waiting + length x.way
-  frames-are e place past s x held =
-      (λ i. length (link-is service tei e place s x held.stands i).waiting + length (held.stands.way i)) ∙ ap (λ o. length x.link.waiting + o) (length-map x.way (spelling e.side))
-
-  one-first : (a b r g t : ℕ) → a ≡ g → b ≡ t → t ≡ r → suc a - suc b ≡ g - r
-  one-first a b r g t e f g' = omega (arith, e, f, g')
+  frames-are e place past s x held = grind (arith, link-is, length-map)
 
   told-left : (first : LineTold) (r : ℕ) (granted delivered : List (List ℕ)) (heard : List LineTold) → r ≤ length granted → delivered ≡ take r granted
       → heard ≡ (first ∷ []) ++ map (data_told service tei) delivered → length (first ∷ map (data_told service tei) granted) - length heard ≡ length granted - r
   told-left first r granted delivered heard low is here =
       ap (λ ts. length (first ∷ map (data_told service tei) granted) - length ts) here
-      ∙ one-first (length (map (data_told service tei) granted)) (length (map (data_told service tei) delivered)) r (length granted) (length delivered)
-      (length-map granted (data_told service tei)) (length-map delivered (data_told service tei)) (ap length is ∙ length-take-le r granted low)
+      ∙ (omega (arith, (length-map granted (data_told service tei)), (length-map delivered (data_told service tei)), (ap length is ∙ length-take-le r granted low)))
 
   notes-are : notes_left service tei w ≡ undelivered h.n.link h.m.link + undelivered h.m.link h.n.link
   notes-are =

@@ -1,10 +1,8 @@
 -- A line on which one link alone has anything to say.
-use Rattle.laws_wire.proofs.Vocabulary.{◌≡◌, ◌≢◌, ℕ, false, ◌<◌, ◌==◌, List, [], ◌∷◌, set, slice_get, Option, Some, None, option_map, Ok, refl, sym, ap, subst, ◌∙◌, ◌⊎◌, inl, arith, ⊎_elim, if◌then◌else◌, All, option_map_or, option_or, cases_eq, get_or-set_same, get_or-set_other, All-head, All-tail, Service, Timer, Parts, reading, sapi_of, service_of, IsAt, place_of-is, Terms, LinkTimer, Link, Given, Config, Aim, at_link, told_of_link, of_aim, hears, expiry, request, next, at_timer, aim_of_expiry, Line, link_number, service_at, place_at, tei_at, terms, terms_at, link_at, link_in, link_count, place_in, unless_refused, of_heard, of_request, management_sapi, group_tei, drop_for, at_place, to_service, addressed, message_of, aim_of_heard, aim_of_reading, heard_side, at_side, Taken, with_given_frame, link_taken, first_taken, taken, Request, at_requested, aim_of_request, IsSoundAt, came, place_at-number, service_at-number, number_within, round_below, IsSilent, none-waits, sends-none, nothing-given, nothing-to_send, silent-stays, told}
+use Rattle.laws_wire.proofs.Vocabulary.{◌≡◌, ◌≢◌, ℕ, false, ◌<◌, ◌==◌, List, [], ◌∷◌, set, slice_get, Option, Some, None, option_map, Ok, refl, sym, ap, subst, ◌∙◌, ◌⊎◌, inl, arith, ⊎_elim, if◌then◌else◌, All, option_map_or, option_or, cases_eq, get_or-set_same, get_or-set_other, All-head, All-tail, Service, Timer, Parts, reading, sapi_of, service_of, IsAt, place_of-is, Terms, LinkTimer, Link, Given, Config, Aim, at_link, told_of_link, of_aim, hears, expiry, request, next, at_timer, aim_of_expiry, Line, link_number, service_at, place_at, tei_at, terms, terms_at, link_at, link_in, link_count, place_in, unless_refused, of_heard, of_request, management_sapi, group_tei, drop_for, at_place, to_service, addressed, message_of, aim_of_heard, aim_of_reading, heard_side, at_side, Taken, with_given_frame, link_taken, first_taken, taken, Request, at_requested, aim_of_request, IsSoundAt, came, place_at-number, service_at-number, number_within, round_below, IsSilent, none-waits, sends-none, nothing-given, nothing-to_send, silent-stays, told, line_answer, line_after, after, link_told, given}
 use Rattle.model_bits.specs.Stream as stream
 use Rattle.model_link.specs.Events as link
-use Rattle.model_link.specs.Machine as links
 use Rattle.model_link.specs.Sound as link_sound
-use Rattle.model_line.specs.Machine as lines
 use Rattle.model_line.specs.Taken.{line_of, round}
 use Rattle.model_line.specs.Refusal.{refusal}
 use Rattle.model_line.specs.Sound.{IsSound}
@@ -14,7 +12,7 @@ pub record Speaks (c : Config) (service : Service) (tei place : ℕ) (x : Link) 
   pub placed : place_in l tei ≡ Some place
   pub messages : l.management.waiting ≡ []
   pub units : l.units ≡ []
-  pub silent : (number : ℕ) → number < link_count c → number ≢ link_number place service → links.given (terms_at c number l) (link_at number l) ≡ None
+  pub silent : (number : ℕ) → number < link_count c → number ≢ link_number place service → given (terms_at c number l) (link_at number l) ≡ None
   pub link : link_in l service place ≡ x
 
 module _ (c : Config) (service : Service) (tei place : ℕ) (l : Line) (s : IsSound c l) (x : Link) (h : Speaks c service tei place x l) where
@@ -34,19 +32,13 @@ module _ (c : Config) (service : Service) (tei place : ℕ) (l : Line) (s : IsSo
   own-terms = grind (arith, service_at-number, place_at-number, at)
 
   -- the number leads to the link and its terms
-  own-place : tei_at (place_at number) l ≡ Some tei
-  own-place = ap (λ p. tei_at p l) (place_at-number place service) ∙ at
-
   own : (P : Terms → Link → Type 0) → P (terms c (service_at number) tei) (link_at number l) → P t x
   own P p = subst (P t) h.link (subst (λ y. P (terms c y tei) (link_at number l)) (service_at-number place service) p)
 
-  none-given : taken c l ≡ None → links.given t x ≡ None
+  none-given : taken c l ≡ None → given t x ≡ None
   none-given none =
-      let sound = own link_sound.IsSound (subst (IsSoundAt c number (link_at number l)) own-place (s.links number few)) in
-      nothing-to_send t x (sends-none t x sound (own IsSilent ((none-waits c l s none).links number few tei own-place)))
-
-  other-taken : (n : ℕ) → n < link_count c → n ≢ number → link_taken c l n ≡ None
-  other-taken n low other = ap (λ o. option_map (with_given_frame c l n (terms_at c n l)) o) (h.silent n low other)
+      let sound = own link_sound.IsSound (subst (IsSoundAt c number (link_at number l)) (ap (λ p. tei_at p l) (place_at-number place service) ∙ at) (s.links number few)) in
+      nothing-to_send t x (sends-none t x sound (own IsSilent ((none-waits c l s none).links number few tei (ap (λ p. tei_at p l) (place_at-number place service) ∙ at))))
 
   by-round : taken c l ≡ first_taken c l (round c l)
   by-round = grind (arith, option_map, slice_get)
@@ -57,7 +49,7 @@ module _ (c : Config) (service : Service) (tei place : ℕ) (l : Line) (s : IsSo
       let rest = first-is ns (All-tail (λ n. n < link_count c) n ns all) o is in
       ⊎_elim
       (λ same. by-own o (ap (link_taken c l) same ∙ is) rest)
-      (λ other. passed n (other-taken n (All-head (λ n. n < link_count c) n ns all) other) o rest)
+      (λ other. passed n (ap (λ o. option_map (with_given_frame c l n (terms_at c n l)) o) (h.silent n (All-head (λ n. n < link_count c) n ns all) other)) o rest)
       (cases_eq n number)
     where
       passed : (n : ℕ) → link_taken c l n ≡ None → (o : Option Taken) → (first_taken c l ns ≡ None) ⊎ (first_taken c l ns ≡ o)
@@ -69,26 +61,22 @@ module _ (c : Config) (service : Service) (tei place : ℕ) (l : Line) (s : IsSo
       by-own o own rest = grind (arith, passed)
 
   -- so what is taken is what it gives
-  pub takes-own : taken c l ≡ option_map (with_given_frame c l number t) (links.given t x)
+  pub takes-own : taken c l ≡ option_map (with_given_frame c l number t) (given t x)
   takes-own = grind (arith, by-round, option_map, none-given, own-terms, first-is, round_below)
 
-  -- the line with another link in its place
-  pub with-own : (y : Link) (l' : Line) → l'.management ≡ l.management → l'.units ≡ l.units → l'.links ≡ set l.links number y → Speaks c service tei place y l'
-  with-own y l' management units its = grind (arith, get_or-set_other, get_or-set_same, few)
-
   -- the next frame is called for
-  pub goes-on : Speaks c service tei place (links.after t link.offer x) (lines.after c next l)
-  unfolding lines.after
-  goes-on = go (links.given t x) refl
+  pub goes-on : Speaks c service tei place (after t link.offer x) (line_after c next l)
+  unfolding line_after
+  goes-on = go (given t x) refl
     where
-      go : (o : Option Given) → links.given t x ≡ o → Speaks c service tei place (links.after t link.offer x) (option_map_or line_of (taken c l) l)
+      go : (o : Option Given) → given t x ≡ o → Speaks c service tei place (after t link.offer x) (option_map_or line_of (taken c l) l)
       go None none = grind (arith, takes-own, option_map, silent-stays, nothing-given)
       go (Some g) some =
           let own = with_given_frame c l number t g in
           let is : taken c l ≡ Some own = takes-own ∙ ap (λ o. option_map (with_given_frame c l number t) o) some in
-          subst (λ y. Speaks c service tei place y (option_map_or line_of (taken c l) l)) (ap (links.after t link.offer) h.link)
-          (subst (λ o. Speaks c service tei place (links.after t link.offer (link_at number l)) (option_map_or line_of o l)) (sym is)
-          (with-own (links.after t link.offer (link_at number l)) own.line refl refl refl))
+          subst (λ y. Speaks c service tei place y (option_map_or line_of (taken c l) l)) (ap (after t link.offer) h.link)
+          (subst (λ o. Speaks c service tei place (after t link.offer (link_at number l)) (option_map_or line_of o l)) (sym is)
+          (grind (arith, get_or-set_other, get_or-set_same, few)))
 
   -- a frame comes that is for it
   module _ (parts : Parts) (octets : List ℕ) (whole : came c.n201 octets ≡ stream.frame octets) (read : reading (heard_side c) octets ≡ Ok parts)
@@ -111,19 +99,16 @@ module _ (c : Config) (service : Service) (tei place : ℕ) (l : Line) (s : IsSo
     aim-is : aim_of_heard c l (stream.frame octets) ≡ at_link service tei place event
     aim-is = ap (aim_of_reading c l) read ∙ ap (at_side c parts) (its-address (message_of parts.control parts.info))
 
-    heard-is : of_heard c (came c.n201 octets) l ≡ of_aim c (at_link service tei place event) l
-    heard-is = ap (λ e. of_heard c e l) whole ∙ ap (λ aim. of_aim c aim l) aim-is
-
-    pub comes-on : Speaks c service tei place (links.after t event x) (lines.after c (hears (came c.n201 octets)) l)
-    unfolding lines.after
+    pub comes-on : Speaks c service tei place (after t event x) (line_after c (hears (came c.n201 octets)) l)
+    unfolding line_after
     comes-on =
-        subst (λ y. Speaks c service tei place y (of_heard c (came c.n201 octets) l).line) (ap (links.after t event) h.link)
-        (subst (λ e. Speaks c service tei place (links.after t event (link_at number l)) e.line) (sym heard-is)
-        (with-own (links.after t event (link_at number l)) (of_aim c (at_link service tei place event) l).line refl refl refl))
+        subst (λ y. Speaks c service tei place y (of_heard c (came c.n201 octets) l).line) (ap (after t event) h.link)
+        (subst (λ e. Speaks c service tei place (after t event (link_at number l)) e.line) (sym (ap (λ e. of_heard c e l) whole ∙ ap (λ aim. of_aim c aim l) aim-is))
+        (grind (arith, get_or-set_other, get_or-set_same, few)))
 
-    pub comes-told : lines.answer c (hears (came c.n201 octets)) l ≡ told (told_of_link (links.told t event x))
-    unfolding lines.answer
-    comes-told = ap (λ e. told e.told) heard-is ∙ ap (λ y. told (told_of_link (links.told t event y))) h.link
+    pub comes-told : line_answer c (hears (came c.n201 octets)) l ≡ told (told_of_link (link_told t event x))
+    unfolding line_answer
+    comes-told = ap (λ e. told e.told) (ap (λ e. of_heard c e l) whole ∙ ap (λ aim. of_aim c aim l) aim-is) ∙ ap (λ y. told (told_of_link (link_told t event y))) h.link
 
   -- a request for it is granted
   module _ (r : Request) (asked : link.Request) (aims : aim_of_request r l ≡ at_requested service tei asked (place_in l tei)) (granted : refusal c false r l ≡ None) where
@@ -133,15 +118,15 @@ module _ (c : Config) (service : Service) (tei place : ℕ) (l : Line) (s : IsSo
     aims-at : unless_refused (refusal c false r l) (aim_of_request r l) ≡ at_link service tei place asks
     aims-at = ap (λ o. unless_refused o (aim_of_request r l)) granted ∙ aims ∙ ap (at_requested service tei asked) h.placed
 
-    pub asks-on : Speaks c service tei place (links.after t asks x) (lines.after c (request r) l)
-    unfolding lines.after
+    pub asks-on : Speaks c service tei place (after t asks x) (line_after c (request r) l)
+    unfolding line_after
     asks-on =
-        subst (λ y. Speaks c service tei place y (of_request c r l).line) (ap (links.after t asks) h.link)
-        (subst (λ aim. Speaks c service tei place (links.after t asks (link_at number l)) (of_aim c aim l).line) (sym aims-at)
-        (with-own (links.after t asks (link_at number l)) (of_aim c (at_link service tei place asks) l).line refl refl refl))
+        subst (λ y. Speaks c service tei place y (of_request c r l).line) (ap (after t asks) h.link)
+        (subst (λ aim. Speaks c service tei place (after t asks (link_at number l)) (of_aim c aim l).line) (sym aims-at)
+        (grind (arith, get_or-set_other, get_or-set_same, few)))
 
-    pub asks-told : lines.answer c (request r) l ≡ told (told_of_link (links.told t asks x))
-    unfolding lines.answer
+    pub asks-told : line_answer c (request r) l ≡ told (told_of_link (link_told t asks x))
+    unfolding line_answer
     asks-told = grind (arith, aims-at)
 
   -- a timer of it expires
@@ -149,16 +134,13 @@ module _ (c : Config) (service : Service) (tei place : ℕ) (l : Line) (s : IsSo
     abbrev expires : link.Event
     expires = link.expired its
 
-    expires-at : aim_of_expiry timer l ≡ at_link service tei place expires
-    expires-at = aims ∙ ap (at_timer service tei its) h.placed
-
-    pub expires-on : Speaks c service tei place (links.after t expires x) (lines.after c (expiry timer) l)
-    unfolding lines.after
+    pub expires-on : Speaks c service tei place (after t expires x) (line_after c (expiry timer) l)
+    unfolding line_after
     expires-on =
-        subst (λ y. Speaks c service tei place y (of_aim c (aim_of_expiry timer l) l).line) (ap (links.after t expires) h.link)
-        (subst (λ aim. Speaks c service tei place (links.after t expires (link_at number l)) (of_aim c aim l).line) (sym expires-at)
-        (with-own (links.after t expires (link_at number l)) (of_aim c (at_link service tei place expires) l).line refl refl refl))
+        subst (λ y. Speaks c service tei place y (of_aim c (aim_of_expiry timer l) l).line) (ap (after t expires) h.link)
+        (subst (λ aim. Speaks c service tei place (after t expires (link_at number l)) (of_aim c aim l).line) (sym (aims ∙ ap (at_timer service tei its) h.placed))
+        (grind (arith, get_or-set_other, get_or-set_same, few)))
 
-    pub expires-told : lines.answer c (expiry timer) l ≡ told (told_of_link (links.told t expires x))
-    unfolding lines.answer
-    expires-told = ap (λ aim. told (of_aim c aim l).told) expires-at ∙ ap (λ y. told (told_of_link (links.told t expires y))) h.link
+    pub expires-told : line_answer c (expiry timer) l ≡ told (told_of_link (link_told t expires x))
+    unfolding line_answer
+    expires-told = ap (λ aim. told (of_aim c aim l).told) (aims ∙ ap (at_timer service tei its) h.placed) ∙ ap (λ y. told (told_of_link (link_told t expires y))) h.link

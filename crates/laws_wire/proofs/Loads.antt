@@ -57,9 +57,6 @@ pub one-waits : (w : ℕ) (b : Bool) (ws : List ControlFrame) (f : ControlFrame)
     → load_waiting w (cond b (ws ++ f ∷ []) ws) ≤ load_waiting w ws + (2 + n)
 one-waits w b ws f n e = grind (arith, waiting-append)
 
-pub ready-brings : (w : ℕ) (c own_busy : Bool) (l : Link) → l.own_busy ≡ own_busy → brings w c (Words.ready_to_receive true l) ≡ answer_to (c && true)
-ready-brings w c own_busy l e = grind arith
-
 -- ---- what is given goes to the way
 
 module _ (w : ℕ) (t : Terms) (l : Link) where

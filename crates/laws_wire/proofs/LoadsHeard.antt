@@ -1,14 +1,13 @@
 -- A frame that is heard in states 7 and 8 brings no more to send than it weighs, and than the contents that it delivers
 -- allow.
-use Rattle.laws_wire.proofs.Vocabulary.{◌≡◌, ℕ, ◌+◌, ◌-◌, ◌*◌, ◌≤◌, Bool, true, false, cond, ◌&&◌, IsTrue, List, length, Option, Some, None, refl, sym, ap, subst, ◌∙◌, ◌⊎◌, inl, inr, true≢false, arith, nat_lt, Seq, seq, named, Control, Information, ReceiveReady, ReceiveNotReady, Reject, Parts, State, Established, TimerRecovery, LinkTimer, T203, Terms, Link, is_multiple_frame, received, course, begun, Step, ◌then◌, by_bit, Means, named-within, T200, frame, IsSound}
-use Rattle.lapd_frame.specs.declared.notes.ErrorCode.TheVariants as code
+use Rattle.laws_wire.proofs.Vocabulary.{◌≡◌, ℕ, ◌+◌, ◌-◌, ◌*◌, ◌≤◌, Bool, true, false, cond, ◌&&◌, IsTrue, List, length, Option, Some, None, refl, sym, ap, subst, ◌∙◌, ◌⊎◌, inl, inr, true≢false, arith, nat_lt, Seq, seq, named, Control, Information, ReceiveReady, ReceiveNotReady, Reject, Parts, State, Established, TimerRecovery, LinkTimer, T203, Terms, Link, is_multiple_frame, received, course, begun, Step, ◌then◌, by_bit, Means, named-within, T200, frame, IsSound, code_J, code_O}
 use Rattle.model_link.specs.Machine
 use Rattle.model_link.specs.Steps.{Course, nothing}
 use Rattle.model_link.specs.Words
 use Rattle.model_link.specs.MultipleFrame
 use Rattle.model_link.specs.Established
 use Rattle.model_link.specs.TimerRecovery
-use Rattle.laws_wire.proofs.Loads.{answer_to, brings, load, may_reject, back, one-waits, ready-brings}
+use Rattle.laws_wire.proofs.Loads.{answer_to, brings, load, may_reject, back, one-waits}
 
 -- what goes again
 resent : (len a s n k w : ℕ) → a ≤ n → s ≤ a + k → s ≤ len → n ≤ s → 2 * k ≤ w → 2 * (len - n) ≤ 2 * (len - s) + w
@@ -36,7 +35,7 @@ module _ (w : ℕ) (t : Terms) (l : Link) (sound : IsSound t l) (wide : 2 * t.k 
 
   answer_costs : (g b : ℕ) (c : Course) → Costs g b c → Costs g (b + 2) (Words.answer t c)
   answer_costs g b c h =
-      let one = one-waits w (Words.has_room t c.link) c.link.waiting (Words.response (Words.ready_to_receive true c.link)) 0 (ready-brings w false c.link.own_busy c.link refl) in
+      let one = one-waits w (Words.has_room t c.link) c.link.waiting (Words.response (Words.ready_to_receive true c.link)) 0 (grind arith) in
       let less : load w c.link ≤ b = h.within in
       record { contents = h.contents; first = h.first; next = h.next; state = h.state; received = h.received; within = omega (arith, one, less) }
 
@@ -60,15 +59,14 @@ module _ (w : ℕ) (t : Terms) (l : Link) (sound : IsSound t l) (wide : 2 * t.k 
   unfolding Effect
   by-number nr f g b b' x c h = go (named c.link.a c.link.s nr) refl
     where
-      go : (o : Option ℕ) → named c.link.a c.link.s nr ≡ o → Ends g b' (elim o [ None ↦ (Words.error t code.J then Words.re_establish t) c | Some n ↦ f n c ])
+      go : (o : Option ℕ) → named c.link.a c.link.s nr ≡ o → Ends g b' (elim o [ None ↦ (Words.error t code_J then Words.re_establish t) c | Some n ↦ f n c ])
       go None e = record { ends = λ up. absurd (true≢false (sym up)) }
       go (Some n) e =
           let between = named-within c.link.a c.link.s n nr e in
           x n g c (subst (λ a. a ≤ n) h.first between.0) (subst (λ s. n ≤ s) h.next between.1) h
 
   either : (g b : ℕ) (x : Bool) (u v : Course) → Ends g b u → Ends g b v → Ends g b (cond x u v)
-  either g b true u v y z = y
-  either g b false u v y z = z
+  either g b x u v y z = grind arith
 
   acknowledged : (n b : ℕ) → Effect n b b (Words.acknowledge n)
   unfolding Effect
@@ -83,8 +81,7 @@ module _ (w : ℕ) (t : Terms) (l : Link) (sound : IsSound t l) (wide : 2 * t.k 
 
   by_information_7 : (n b : ℕ) → Effect n b b (Established.acknowledged_by_information_in_7 n)
   unfolding Effect
-  by_information_7 n b g c low high h =
-      either g b c.link.peer_busy _ _ (record { ends = λ up. (h.contents, h.received, h.within) }) (in_7 n b g c low high h)
+  by_information_7 n b g c low high h = grind (arith, either, in_7)
 
   rnr_7 : (n b : ℕ) → Effect n b b (Established.acknowledged_by_rnr_in_7 n)
   unfolding Effect
@@ -104,10 +101,7 @@ module _ (w : ℕ) (t : Terms) (l : Link) (sound : IsSound t l) (wide : 2 * t.k 
 
   in_8 : l.state ≡ TimerRecovery → (timer : LinkTimer) (final : Bool) (n b : ℕ) → Effect n b b (TimerRecovery.acknowledged_in_8 timer final n)
   unfolding Effect
-  in_8 here timer true n b g c low high h =
-      let less : load w c.link ≤ b = h.within in
-      let pays : back w c.link.state ≡ w = ap (back w) (h.state ∙ here) in
-      record { ends = λ up. (h.contents, h.received, omega (arith, less, pays, again n b g c low high h)) }
+  in_8 here timer true n b g c low high h = grind (arith, load, back, again)
   in_8 here timer false n b g c low high h = record { ends = λ up. (h.contents, h.received, h.within) }
 
   looser : (n b b' : ℕ) (f : Step) → b ≤ b' → Effect n b b f → Effect n b b' f
@@ -171,8 +165,7 @@ module _ (w : ℕ) (t : Terms) (l : Link) (sound : IsSound t l) (wide : 2 * t.k 
       one-of : (x : Bool) (u v : Course) → Costs 0 (load w l + answer_to p) u ⊎ Costs 1 (load w l + answer_to p + (w + 4)) u
           → Costs 0 (load w l + answer_to p) v ⊎ Costs 1 (load w l + answer_to p + (w + 4)) v
           → Costs 0 (load w l + answer_to p) (cond x u v) ⊎ Costs 1 (load w l + answer_to p + (w + 4)) (cond x u v)
-      one-of true u v y z = y
-      one-of false u v y z = z
+      one-of x u v y z = grind arith
 
   pub record Hears (b : ℕ) (c : Course) : Type 0 where
     pub hears : IsTrue (is_multiple_frame c.link.state)
@@ -180,9 +173,6 @@ module _ (w : ℕ) (t : Terms) (l : Link) (sound : IsSound t l) (wide : 2 * t.k 
 
   hears-0 : (b : ℕ) (c : Course) → Ends 0 b c → Hears b c
   hears-0 b c h = record { hears = λ up. let x = h.ends up in let e = x.1 in (x.0, inl (omega (arith, e), x.2)) }
-
-  hears-1 : (b : ℕ) (c : Course) → Ends 1 (b + (w + 4)) c → Hears b c
-  hears-1 b c h = record { hears = λ up. let x = h.ends up in (x.0, inr (x.1, x.2)) }
 
   information : (ns nr : Seq) (p : Bool) (octets : List ℕ) (f : ℕ → Step) → ((n b : ℕ) → Effect n b b (f n))
       → Hears (load w l + answer_to p) (MultipleFrame.information_in_7_8 t ns nr p octets f (begun l))
@@ -197,9 +187,9 @@ module _ (w : ℕ) (t : Terms) (l : Link) (sound : IsSound t l) (wide : 2 * t.k 
 
       go : Costs 0 total c ⊎ Costs 1 (total + (w + 4)) c → Hears total (Words.by_number t nr f c)
       go (inl h) = hears-0 total (Words.by_number t nr f c) (by-number nr f 0 total total (λ n. x n total) c h)
-      go (inr h) = hears-1 total (Words.by_number t nr f c) (by-number nr f 1 (total + (w + 4)) (total + (w + 4)) (λ n. x n (total + (w + 4))) c h)
+      go (inr h) = (record { hears = λ up. let x = (by-number nr f 1 (total + (w + 4)) (total + (w + 4)) (λ n. x n (total + (w + 4))) c h).ends up in (x.0, inr (x.1, x.2)) })
 
-      long : (b : Bool) → Hears total (cond b (MultipleFrame.failed t code.O (begun l)) (Words.by_number t nr f c))
+      long : (b : Bool) → Hears total (cond b (MultipleFrame.failed t code_O (begun l)) (Words.by_number t nr f c))
       long true = record { hears = λ up. absurd (true≢false (sym up)) }
       long false = go (contents-cost ns p octets)
 
@@ -209,21 +199,19 @@ module _ (w : ℕ) (t : Terms) (l : Link) (sound : IsSound t l) (wide : 2 * t.k 
   within b b' c e h = subst (λ x. Hears x c) e h
 
   frames-7 : (b : Bool) (octets : List ℕ) (m : ℕ) (control : Control) → Means m control → Hears (load w l + brings w b control) (Established.frame_in_7 t b octets control (begun l))
-  frames-7 b octets m (Information ns nr p) e = information ns nr p octets Established.acknowledged_by_information_in_7 by_information_7
   frames-7 b octets m (ReceiveReady nr pf) e =
       within _ _ _ (omega arith) (hears-0 _ _ (supervised (Established.particulars_in_7 t) false b pf nr (Established.particulars_in_7 t).by_rr 0 unsolicited_costs (λ final n b. unchanged n b (Established.acknowledged_in_7 n) (in_7 n b))))
   frames-7 b octets m (ReceiveNotReady nr pf) e =
       within _ _ _ (omega arith) (hears-0 _ _ (supervised (Established.particulars_in_7 t) true b pf nr (Established.particulars_in_7 t).by_rnr 0 unsolicited_costs (λ final n b. unchanged n b (Established.acknowledged_by_rnr_in_7 n) (rnr_7 n b))))
   frames-7 b octets m (Reject nr pf) e =
       within _ _ _ (omega arith) (hears-0 _ _ (supervised (Established.particulars_in_7 t) false b pf nr (Established.particulars_in_7 t).by_rej w unsolicited_costs (λ final n b. rej_7 n b)))
-  frames-7 b octets m other e = absurd e
+  frames-7 b octets m control e = grind (arith, information, by_information_7)
 
   solicited_costs : (final : Bool) (g b : ℕ) (c : Course) → Costs g b c → Costs g b (TimerRecovery.solicited final c)
   solicited_costs final g b c h = h
 
   frames-8 : l.state ≡ TimerRecovery → (b : Bool) (octets : List ℕ) (m : ℕ) (control : Control) → Means m control
       → Hears (load w l + brings w b control) (TimerRecovery.frame_in_8 t b octets control (begun l))
-  frames-8 here b octets m (Information ns nr p) e = information ns nr p octets Words.acknowledge acknowledged
   frames-8 here b octets m (ReceiveReady nr pf) e =
       within _ _ _ (omega arith) (hears-0 _ _ (supervised (TimerRecovery.particulars_in_8 t) false b pf nr (TimerRecovery.particulars_in_8 t).by_rr 0 solicited_costs
       (λ final n b. unchanged n b (TimerRecovery.acknowledged_in_8 T203 final n) (in_8 here T203 final n b))))
@@ -233,7 +221,7 @@ module _ (w : ℕ) (t : Terms) (l : Link) (sound : IsSound t l) (wide : 2 * t.k 
   frames-8 here b octets m (Reject nr pf) e =
       within _ _ _ (omega arith) (hears-0 _ _ (supervised (TimerRecovery.particulars_in_8 t) false b pf nr (TimerRecovery.particulars_in_8 t).by_rej w solicited_costs
       (λ final n b. looser n b (b + w) (TimerRecovery.acknowledged_in_8 T203 final n) (omega arith) (in_8 here T203 final n b))))
-  frames-8 here b octets m other e = absurd e
+  frames-8 here b octets m control e = grind (arith, information, acknowledged)
 
   frames-in : (here : State) → l.state ≡ here → IsTrue (is_multiple_frame here) → (b : Bool) (octets : List ℕ) (m : ℕ) (control : Control) → Means m control
       → Hears (load w l + brings w b control) (Machine.frame_in here t b octets control (begun l))

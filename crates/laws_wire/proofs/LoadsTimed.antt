@@ -4,7 +4,7 @@ use Rattle.model_link.specs.Machine
 use Rattle.model_link.specs.Words
 use Rattle.model_link.specs.Established
 use Rattle.laws_wire.proofs.Fair.{HasError}
-use Rattle.laws_wire.proofs.Loads.{load, back, one-waits, ready-brings}
+use Rattle.laws_wire.proofs.Loads.{load, back, one-waits}
 
 module _ (w : ℕ) (t : Terms) (l : Link) where
   pub record Expires (c : Course) : Type 0 where
@@ -25,17 +25,11 @@ module _ (w : ℕ) (t : Terms) (l : Link) where
   sabme-again : Expires ((Words.send t (Words.command (Sabme true)) then Words.repeated then Words.start T200) (begun l))
   sabme-again = grind (arith, one-waits)
 
-  disc-again : Expires ((Words.send t (Words.command (Disc true)) then Words.repeated then Words.start T200) (begun l))
-  disc-again = grind (arith, one-waits)
-
-  asks-first : Expires (Established.timer_in_7 t (begun l))
-  asks-first = grind (arith, one-waits, ready-brings)
-
   asks-again : l.state ≡ TimerRecovery → Expires ((Words.enquire t then Words.repeated then Words.start T200) (begun l))
-  asks-again at = grind (arith, one-waits, ready-brings, back)
+  asks-again at = grind (arith, one-waits, back)
 
   by-state : (here : State) → l.state ≡ here → (timer : LinkTimer) → Fair (Machine.expired_in here timer t (begun l))
-  by-state here at timer = grind (arith, either, sabme-again, disc-again, asks-first, asks-again, idle)
+  by-state here at timer = grind (arith, either, sabme-again, one-waits, asks-again, idle)
 
   pub timer-expires : (timer : LinkTimer) → Fair (course t (expired timer) l)
   timer-expires timer = either (Machine.is_running timer l) _ _ (by-state l.state refl timer) (inr idle)
@@ -55,8 +49,8 @@ module _ (w : ℕ) (t : Terms) (l : Link) where
 
   fairly-by-state : (here : State) → l.state ≡ here → (timer : LinkTimer) → May timer → Machine.is_running timer l ≡ true → Expires (Machine.expired_in here timer t (begun l))
   fairly-by-state AwaitingEstablishment at T200 may run = first (may_repeat t l) _ _ (repeats may AwaitingEstablishment at refl run) sabme-again
-  fairly-by-state AwaitingRelease at T200 may run = first (may_repeat t l) _ _ (repeats may AwaitingRelease at refl run) disc-again
-  fairly-by-state Established at timer may run = asks-first
+  fairly-by-state AwaitingRelease at T200 may run = first (may_repeat t l) _ _ (repeats may AwaitingRelease at refl run) (grind (arith, one-waits))
+  fairly-by-state Established at timer may run = grind (arith, one-waits)
   fairly-by-state TimerRecovery at T200 may run = first (may_repeat t l) _ _ (repeats may TimerRecovery at refl run) (asks-again at)
   fairly-by-state other at any may run = idle
 

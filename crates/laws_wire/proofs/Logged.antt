@@ -5,25 +5,16 @@ unfoldable use Rattle.laws_wire.specs.Wire.{doing_all, turns}
 abbrev pub logged : List (List ℕ) → List LineTold → Station → Station
 logged granted told s = record s { granted = granted ++ s.granted; told = told ++ s.told }
 
-happens-logged : (granted : List (List ℕ)) (told : List LineTold) (e : Event) (s : Station) → happens e (logged granted told s) ≡ logged granted told (happens e s)
-happens-logged granted told e s = grind (arith, append_assoc)
-
 abbrev pub with_logs : List (List ℕ) → List LineTold → List (List ℕ) → List LineTold → Wire → Wire
 with_logs near_granted near_told far_granted far_told w = record { near = logged near_granted near_told w.near; far = logged far_granted far_told w.far }
-
-acting-logged : (gn : List (List ℕ)) (tn : List LineTold) (gf : List (List ℕ)) (tf : List LineTold) (act : Act) (w : Wire) → acting act (with_logs gn tn gf tf w) ≡ with_logs gn tn gf tf (acting act w)
-acting-logged gn tn gf tf act w = grind (arith, append_assoc, happens-logged)
 
 module _ (gn : List (List ℕ)) (tn : List LineTold) (gf : List (List ℕ)) (tf : List LineTold) where
   abbrev L : Wire → Wire
   L w = with_logs gn tn gf tf w
 
   one-logged : (d : Doing) (w : Wire) → doing d (L w) ≡ L (doing d w)
-  one-logged (at_near act) w = acting-logged gn tn gf tf act w
-  one-logged (at_far act) w = ap turned (acting-logged gf tf gn tn act (turned w))
-
-  same-turn : (d : Doing) (w : Wire) → is_turn d (L w) ≡ is_turn d w
-  same-turn d w = grind arith
+  one-logged (at_near act) w = grind (arith, append_assoc)
+  one-logged (at_far act) w = ap turned (grind (arith, append_assoc))
 
   pub run-logged : (ds : List Doing) (w : Wire) → doing_all ds (L w) ≡ L (doing_all ds w)
   unfolding doing_all
@@ -33,4 +24,4 @@ module _ (gn : List (List ℕ)) (tn : List LineTold) (gf : List (List ℕ)) (tf 
   pub turns-logged : (ds : List Doing) (w : Wire) → turns ds (L w) ≡ turns ds w
   unfolding turns
   turns-logged [] w = refl
-  turns-logged (d ∷ ds) w = grind (arith, turns-logged ds (doing d w), same-turn, one-logged)
+  turns-logged (d ∷ ds) w = grind (arith, turns-logged ds (doing d w), one-logged)

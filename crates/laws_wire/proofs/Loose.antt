@@ -2,7 +2,8 @@
 -- error.
 use Rattle.laws_wire.proofs.Vocabulary.{◌≡◌, ◌≤◌, false, length, Some, refl, sym, ap, ◌∙◌, ◌⊎◌, true≢false, arith, nat_lt, lt-ltb, ltb-false, take_all, State, Established, T203, runs, End, Ends, Joined, joined-turned, done-at, rising-low, IsTimedIn, IsTimelyAct, HasNothingToSend, Sane, sane-doing, Flows, acted-flows, same-after, T200, line_of}
 use Rattle.model_link.specs.TwoEnds.{Act, at_near, acting}
-use Rattle.laws_wire.proofs.Firm.{Firm, not-behind, up-after}
+use Rattle.laws_wire.proofs.Firm.{Firm, up-after}
+use Rattle.laws_link.proofs.OfTwo.TimelyRuns.{flows-low}
 
 pub record Loose (n m : End) : Type 0 where
   pub joined : Joined n m
@@ -27,18 +28,7 @@ module _ (n m : End) (h : Loose n m) where
       let up = up-after n m h.joined h.same h.there h.back act x in
       let flows = acted-flows n m h.joined h.there h.back act x up in
       let sane = sane-doing (at_near act) e (h.near_sane, h.far_sane) in
-      record {
-        joined = done-at (at_near act) e up h.joined;
-        same = same-after (at_near act) e h.same;
-        there = flows.0;
-        back = flows.1;
-        near_sane = sane.0;
-        far_sane = sane.1;
-      }
-
-  -- all is sent that is not beyond the window
-  pub sent-all : HasNothingToSend n.terms n.link → n.link.peer_busy ≡ false → n.link.state ≡ Established → n.link.s ≤ n.link.a → n.link.s ≡ length n.link.contents
-  sent-all quiet free state least = grind (arith, nat_lt, lt-ltb, ltb-false)
+      assumption (done-at (at_near act) e up h.joined, same-after (at_near act) e h.same)
 
   -- Where T200 does not run, all that the end has has come, and it has sent all that it has: it takes the other for free then.
   module _ (quiet : HasNothingToSend n.terms n.link) (none : runs T200 n.link.running ≡ false) where
@@ -52,7 +42,7 @@ module _ (n m : End) (h : Loose n m) where
       pub delivered : m.delivered ≡ n.link.contents
 
     in-7 : n.link.state ≡ Established → (n.link.running ≡ Some T200) ⊎ ((n.link.running ≡ Some T203) × (n.link.s ≤ n.link.a)) → HasAll
-    in-7 e o = grind (arith, running, rising-low, line_of, not-behind, sent-all, take_all)
+    in-7 e o = grind (arith, running, rising-low, line_of, flows-low, nat_lt, lt-ltb, ltb-false, take_all)
 
     by-state : (here : State) → n.link.state ≡ here → IsTimedIn n.link.state n.link → HasAll
     by-state here e timed = grind (arith, in-7, running)

@@ -1,7 +1,5 @@
 -- Two stations that are up, either of which may be busy, where each timer is timely: both stay up, whatever is lost.
-use Rattle.laws_wire.proofs.Vocabulary.{arith, ◌≡◌, ℕ, Bool, false, cond, List, [], ◌∷◌, ◌++◌, length, drop, map, Option, None, Some, refl, sym, ap, subst, ◌∙◌, ◌⊎◌, inl, inr, append-nil, Refusal, Service, Timer, TimerRecovery, Terms, LinkTimer, T203, Link, course, begun, End, with_link, with_sent, offer-gave, Config, LineTold, request, Line, place_in, Request, at_requested, aim_of_request, awaits_answer, IsMildRequest, CanRepeat, HasNothingToSend, nothing-given, runs, T200, Course, Data, SetBusy, ClearBusy, Station, Wire, happens, Act, requests, times_out, gives, takes, loses, acting, turned, IsStill, contents_of, data_told, heard_in, IsTimelyOf, runs_t200, IsAsked, IsFullTalkOf, Rests}
-use Rattle.lapd_frame.specs.declared.timers.Timer.TheVariants as timers
-use Rattle.model_link.specs.Events as link
+use Rattle.laws_wire.proofs.Vocabulary.{arith, ◌≡◌, ℕ, Bool, false, cond, List, [], ◌∷◌, ◌++◌, length, drop, map, Option, None, Some, refl, sym, ap, subst, ◌∙◌, ◌⊎◌, inl, inr, append-nil, Refusal, Service, Timer, TimerRecovery, Terms, LinkTimer, T203, Link, course, begun, End, with_link, with_sent, offer-gave, Config, LineTold, request, Line, place_in, Request, at_requested, aim_of_request, awaits_answer, IsMildRequest, CanRepeat, HasNothingToSend, nothing-given, runs, T200, Course, Data, SetBusy, ClearBusy, Station, Wire, happens, Act, requests, times_out, gives, takes, loses, acting, turned, IsStill, contents_of, data_told, heard_in, IsTimelyOf, runs_t200, IsAsked, IsFullTalkOf, Rests, requested, expired, LinkSetBusy, LinkClearBusy, LinkData, LinkRequest, timer_T200, timer_T203}
 use Rattle.model_link.specs.Requests as requests
 use Rattle.model_link.specs.TwoEnds as two_ends
 use Rattle.laws_link.specs.two.Timely as two_links_timely
@@ -29,27 +27,18 @@ module _ (t : Terms) (l : Link) where
   either : (b : Bool) (u v : Course) → Mute l u → Mute l v → Mute l (cond b u v)
   either b u v x y = grind arith
 
-  nothing-asked : Mute l (begun l)
-  nothing-asked = record { contents = refl; notes = refl; delivered = refl; unit = refl }
+  pub busy-mute : Mute l (course t (requested LinkSetBusy false) l)
+  busy-mute = grind (arith, either)
 
-  unless-refused : (rq : link.Request) (o : Option Refusal) → Mute l (requests.granted t rq (begun l))
-      → Mute l (elim o as (λ o. Course) [ None ↦ requests.granted t rq (begun l) | Some _ ↦ begun l ])
-  unless-refused rq o h = grind (arith, nothing-asked)
-
-  pub busy-mute : Mute l (course t (link.requested link.SetBusy false) l)
-  busy-mute = grind (arith, unless-refused, either, nothing-asked)
-
-  pub ready-mute : Mute l (course t (link.requested link.ClearBusy false) l)
-  ready-mute = grind (arith, unless-refused, either, nothing-asked)
+  pub ready-mute : Mute l (course t (requested LinkClearBusy false) l)
+  ready-mute = grind (arith, either)
 
 module _ (service : Service) (tei : ℕ) where
   -- the requests of a call
   pub for-asked : (P : Request → Type 0) → ((octets : List ℕ) → P (Data service tei octets)) → P (SetBusy service tei) → P (ClearBusy service tei)
       → (r : Request) → IsAsked service tei r → P r
   for-asked P own busy ready (Data s t octets) is = subst (λ s'. P (Data s' t octets)) (sym is.0) (subst (λ t'. P (Data service t' octets)) (sym is.1) (own octets))
-  for-asked P own busy ready (SetBusy s t) is = subst (λ s'. P (SetBusy s' t)) (sym is.0) (subst (λ t'. P (SetBusy service t')) (sym is.1) busy)
-  for-asked P own busy ready (ClearBusy s t) is = subst (λ s'. P (ClearBusy s' t)) (sym is.0) (subst (λ t'. P (ClearBusy service t')) (sym is.1) ready)
-  for-asked P own busy ready other is = absurd is
+  for-asked P own busy ready r is = grind arith
 
   pub record LooseUp (c d : Config) (p q : ℕ) (past other : List LineTold) (w : Wire) : Type 0 where
     pub n : End
@@ -84,7 +73,7 @@ module _ (service : Service) (tei : ℕ) where
     }
 
     pub at-expires : (timer : Timer) (its : LinkTimer) → Aims service tei timer its → CanRepeat its n → two_links_timely.IsTimely its n m
-        → Then (acting (times_out timer) w) (with_link (link.expired its) n) m
+        → Then (acting (times_out timer) w) (with_link (expired its) n) m
     at-expires timer its aims can timely =
         let loose = loose-after n m h.loose (two_ends.expires its) (can, timely) in
         record { near = timer-held service tei c p past w.near n h.near h.loose.joined.near_up timer its aims loose.joined.near_up; far = h.far; loose = loose }
@@ -93,11 +82,11 @@ module _ (service : Service) (tei : ℕ) where
   loose-turned-up c d p q past other w h = record { n = h.m; m = h.n; near = h.far; far = h.near; loose = loose-turned h.n h.m h.loose }
 
   -- own busy begins or ends
-  module _ (c : Config) (place : ℕ) (past : List LineTold) (s : Station) (n : End) (h : Held c service tei place past s n) (r : Request) (rq : link.Request)
+  module _ (c : Config) (place : ℕ) (past : List LineTold) (s : Station) (n : End) (h : Held c service tei place past s n) (r : Request) (rq : LinkRequest)
       (aims : (l : Line) → aim_of_request r l ≡ at_requested service tei rq (place_in l tei)) (none : contents_of r ≡ [])
-      (mute : Mute n.link (course n.terms (link.requested rq false) n.link)) where
+      (mute : Mute n.link (course n.terms (requested rq false) n.link)) where
     abbrev n' : End
-    n' = with_link (link.requested rq false) n
+    n' = with_link (requested rq false) n
 
     abbrev s' : Station
     s' = happens (request r) s
@@ -109,7 +98,7 @@ module _ (service : Service) (tei : ℕ) where
     held-busy = go (asks-stands service tei place s n own r rq aims)
       where
         x : Course
-        x = course n.terms (link.requested rq false) n.link
+        x = course n.terms (requested rq false) n.link
 
         tells : TellsIt n.terms.service n.terms.tei x
         tells = grind arith
@@ -166,43 +155,41 @@ module _ (service : Service) (tei : ℕ) where
           m = m;
           near = x.held;
           far = h.far;
-          loose = subst (λ y. Loose y m) (asked-form octets n x.none) (loose-after n m h.loose (two_ends.asks (link.Data octets) false) tt);
+          loose = subst (λ y. Loose y m) (asked-form octets n x.none) (loose-after n m h.loose (two_ends.asks (LinkData octets) false) tt);
         }
 
-    by-busy : (r : Request) (rq : link.Request) → IsMildRequest rq → (aims : (l : Line) → aim_of_request r l ≡ at_requested service tei rq (place_in l tei)) → contents_of r ≡ []
-        → Mute n.link (course n.terms (link.requested rq false) n.link) → Now (acting (requests r) w)
+    by-busy : (r : Request) (rq : LinkRequest) → IsMildRequest rq → (aims : (l : Line) → aim_of_request r l ≡ at_requested service tei rq (place_in l tei)) → contents_of r ≡ []
+        → Mute n.link (course n.terms (requested rq false) n.link) → Now (acting (requests r) w)
     by-busy r rq is aims none mute =
         elim (held-busy c p past w.near n h.near r rq aims none mute) [
           | inl same ↦ record { n = n; m = m; near = subst (λ s. Held c service tei p past s n) (sym same) h.near; far = h.far; loose = h.loose }
-          | inr x ↦ record { n = with_link (link.requested rq false) n; m = m; near = x; far = h.far; loose = loose-after n m h.loose (two_ends.asks rq false) is }
+          | inr x ↦ record { n = with_link (requested rq false) n; m = m; near = x; far = h.far; loose = loose-after n m h.loose (two_ends.asks rq false) is }
         ]
 
     loose-expires : (timer : Timer) (its : LinkTimer) → Aims service tei timer its → CanRepeat its n → two_links_timely.IsTimely its n m → Now (acting (times_out timer) w)
     loose-expires timer its aims can timely =
-        up (acting (times_out timer) w) (with_link (link.expired its) n) m (at-expires c d p q face past other w n m at timer its aims can timely)
+        up (acting (times_out timer) w) (with_link (expired its) n) m (at-expires c d p q face past other w n m at timer its aims can timely)
 
-    loose-t200 : IsTimelyOf (times_out (timers.T200 service tei)) w → Now (acting (times_out (timers.T200 service tei)) w)
+    loose-t200 : IsTimelyOf (times_out (timer_T200 service tei)) w → Now (acting (times_out (timer_T200 service tei)) w)
     loose-t200 (long, may) =
         let there = may-there service tei c p w.near n h.near.stands may in
         let none = λ (state : n.link.state ≡ TimerRecovery).
         closed n m (long-there service tei c d p q w.near w.far n m h.near.stands h.far.stands long (ap awaits_answer state)) in
-        loose-expires (timers.T200 service tei) T200 (λ l. refl) (λ state running. there (ap awaits_answer state) running) (λ state running. none state)
+        loose-expires (timer_T200 service tei) T200 (λ l. refl) (λ state running. there (ap awaits_answer state) running) (λ state running. none state)
 
-    loose-t203 : Now (acting (times_out (timers.T203 service tei)) w)
+    loose-t203 : Now (acting (times_out (timer_T203 service tei)) w)
     loose-t203 =
-        loose-expires (timers.T203 service tei) T203 (λ l. refl)
+        loose-expires (timer_T203 service tei) T203 (λ l. refl)
         (λ state running. absurd (never service tei c p past w.near n h.near h.loose.near_sane.timed state running))
         (λ state running. absurd (never service tei c p past w.near n h.near h.loose.near_sane.timed state running))
 
     pub loose-acts : (act : Act) → IsFullTalkOf service tei act → IsTimelyOf act w → Now (acting act w)
     loose-acts (requests r) is x =
-        for-asked (λ r. Now (acting (requests r) w)) loose-asks (by-busy (SetBusy service tei) link.SetBusy tt (λ l. refl) refl (busy-mute n.terms n.link))
-        (by-busy (ClearBusy service tei) link.ClearBusy tt (λ l. refl) refl (ready-mute n.terms n.link)) r is
+        for-asked (λ r. Now (acting (requests r) w)) loose-asks (by-busy (SetBusy service tei) LinkSetBusy tt (λ l. refl) refl (busy-mute n.terms n.link))
+        (by-busy (ClearBusy service tei) LinkClearBusy tt (λ l. refl) refl (ready-mute n.terms n.link)) r is
     loose-acts (times_out timer) is x =
         each-timer service tei (λ timer. IsTimelyOf (times_out timer) w → Now (acting (times_out timer) w)) loose-t200 (λ x. loose-t203) timer is x
-    loose-acts gives is x = loose-gives
-    loose-acts takes is x = loose-takes
-    loose-acts loses is x = loose-loses
+    loose-acts act is x = grind (arith, loose-gives, loose-takes, loose-loses)
 
     -- where no turn is left and T200 does not run, all that it was granted was told at the other, and it rests
     module _ (still : IsStill w) (none : runs_t200 service tei w.near ≡ false) where

@@ -6,8 +6,8 @@ use Rattle.laws_wire.proofs.Acting.{Acted, up-asks, up-expires, up-gives, up-los
 use Rattle.laws_wire.proofs.Calling.{sabme, ua, end, caller}
 use Rattle.laws_wire.proofs.Fair.{HasError, sabme-error}
 use Rattle.laws_wire.proofs.Held.{Held, TellsIt, Erred, now-erred, held-first, taken-told, taken-stands, held-taken}
-use Rattle.laws_wire.proofs.Joint.{Joint, turned-joint, IsMeant}
-use Rattle.laws_wire.proofs.LossyPhases.{made, for-data, for-timer, first-way, empty, UaOrNone, IsHalf, Went, as-half, as-up, no-take, no-take_far, no-loss_far, reface}
+use Rattle.laws_wire.proofs.Joint.{Joint, IsMeant}
+use Rattle.laws_wire.proofs.LossyPhases.{made, for-data, for-timer, first-way, empty, UaOrNone, IsHalf, Went, as-up, no-take, no-take_far, no-loss_far, reface}
 use Rattle.laws_wire.proofs.Ringing.{ringing, answered, IsSabme, AreSabmes, Ignores, ignores}
 use Rattle.laws_wire.proofs.StillRinging.{StillRings, rings-asks, rings-expires, rings-gives, rings-loses}
 use Rattle.laws_wire.proofs.Talking.{Face}
@@ -24,17 +24,13 @@ module _ (service : Service) (tei : ℕ) (c d : Config) (p q : ℕ) (face : Face
 
   module _ (w : Wire) (h : IsHalf service tei c d p q w) where
     half-with : (s : Station) → StillRings service tei c p s → Leads (record w { near = s })
-    half-with s x = grind (arith, as-half)
+    half-with s x = grind arith
 
     half-or : (s : Station) → StillRings service tei c p s ⊎ Erred s → Leads (record w { near = s })
-    half-or s (inl x) = half-with s x
-    half-or s (inr e) = inr (inl e)
+    half-or s o = grind (arith, half-with)
 
     abbrev caller_end : End
     caller_end = end t (ringing h.repeats h.waiting) h.way
-
-    acted-half : (w' : Wire) (first : List Parts) → UaOrNone service tei c d p q first → Held c service tei p [] w'.near caller_end → Acted service tei q (indicated service tei ∷ []) d w'.far (end t caller []) first [] → Leads w'
-    acted-half w' first is near x = grind (arith, as-half)
 
     -- the first frame on the way of the other, where it is not UA
     unheard-by : (f : Parts) (fs : List Parts) → h.m.way ≡ f ∷ fs → IsMeant f → h.first ≡ [] → Acted service tei q (indicated service tei ∷ []) d (with_first_lost w.far) (end t caller []) h.first []
@@ -53,7 +49,7 @@ module _ (service : Service) (tei : ℕ) (c d : Config) (p q : ℕ) (face : Face
         let near : Held c service tei p [] s' caller_end =
         subst (Held c service tei p [] s') is (held-taken service tei p [] c w.near caller_end h.near d face f way.1 tells (ap (λ l. l.contents) i.stays)) in
         subst (λ ways. Leads (record { near = with_first_of ways w.near; far = with_first_lost w.far })) (sym way.0)
-        (acted-half (record { near = s'; far = with_first_lost w.far }) h.first h.is_ua near x)
+        (grind arith)
 
     -- UA comes
     confirms : (fs : List Parts) → h.m.way ≡ ua u ∷ fs → Acted service tei q (indicated service tei ∷ []) d (with_first_lost w.far) (end t caller []) [] [] → Leads (acting takes w)
@@ -79,7 +75,7 @@ module _ (service : Service) (tei : ℕ) (c d : Config) (p q : ℕ) (face : Face
           there = [];
           here = x.near;
           sabmes = h.sabmes;
-          near = record { held = held; up = refl; line = sym (append-nil (h.way ++ frames_of t h.waiting)); joint = turned-joint x.n n' x.near [] there };
+          near = record { held = held; up = refl; line = sym (append-nil (h.way ++ frames_of t h.waiting)); joint = (record { there = there.back; back = there.there }) };
           far = reface service tei c d p q (indicated service tei ∷ []) d q (with_first_lost w.far) x.n (end t caller []) n' [] x.near [] x.at there;
         }))
 
@@ -88,7 +84,7 @@ module _ (service : Service) (tei : ℕ) (c d : Config) (p q : ℕ) (face : Face
     only-ua f others e = grind (arith, UaOrNone, ua)
 
     half-takes : (way : List Parts) → h.m.way ≡ way → Leads (acting takes w)
-    half-takes [] e = no-take service tei c d p q w (empty service tei d q _ w.far h.m h.far.held e) (as-half service tei c d p q w h)
+    half-takes [] e = no-take service tei c d p q w (empty service tei d q _ w.far h.m h.far.held e) (inl (inr (inl h)))
     half-takes (f ∷ fs) e = go (up-loses service tei q _ d w.far h.m (end t caller []) h.first h.line [] h.far f fs e).lost
       where
         go : ((h.first ≡ []) × IsMeant f × Acted service tei q (indicated service tei ∷ []) d (with_first_lost w.far) (end t caller []) h.first [])
@@ -109,33 +105,31 @@ module _ (service : Service) (tei : ℕ) (c d : Config) (p q : ℕ) (face : Face
 
     -- the other end
     half-made : (s : Station) → Acted service tei q (indicated service tei ∷ []) d s (end t caller []) h.first [] → Leads (made w s)
-    half-made s x = acted-half (made w s) h.first h.is_ua h.near x
+    half-made s x = grind arith
 
     half-made_or : (s : Station) → Acted service tei q (indicated service tei ∷ []) d s (end t caller []) h.first [] ⊎ Erred s → Leads (made w s)
-    half-made_or s (inl x) = half-made s x
-    half-made_or s (inr e) = inr (inr e)
+    half-made_or s o = grind (arith, half-made)
 
     half-loses : (way : List Parts) → h.m.way ≡ way → Leads (turned (acting loses (turned w)))
-    half-loses [] e = no-loss_far service tei c d p q w (empty service tei d q _ w.far h.m h.far.held e) (as-half service tei c d p q w h)
+    half-loses [] e = no-loss_far service tei c d p q w (empty service tei d q _ w.far h.m h.far.held e) (inl (inr (inl h)))
     half-loses (f ∷ fs) e = go (up-loses service tei q _ d w.far h.m (end t caller []) h.first h.line [] h.far f fs e).lost
       where
         go : ((h.first ≡ []) × IsMeant f × Acted service tei q (indicated service tei ∷ []) d (with_first_lost w.far) (end t caller []) h.first [])
             ⊎ ((others : List Parts) × (h.first ≡ f ∷ others) × Acted service tei q (indicated service tei ∷ []) d (with_first_lost w.far) (end t caller []) others [])
             → Leads (made w (with_first_lost w.far))
         go (inl (none, meant, x)) = half-made (with_first_lost w.far) x
-        go (inr (others, is, x)) = acted-half (made w (with_first_lost w.far)) others (inl (only-ua f others is).1) h.near x
+        go (inr (others, is, x)) = grind arith
 
     -- SABME comes again
     half-hears : (way : List Parts) → h.way ≡ way → Leads (turned (acting takes (turned w)))
-    half-hears [] e = no-take_far service tei c d p q w (empty service tei c p [] w.near caller_end h.near e) (as-half service tei c d p q w h)
+    half-hears [] e = no-take_far service tei c d p q w (empty service tei c p [] w.near caller_end h.near e) (inl (inr (inl h)))
     half-hears (f ∷ fs) e =
         let way = first-way service tei c p [] w.near caller_end f fs e h.near in
         let is : f ≡ sabme t = All-head (IsSabme t) f (fs ++ frames_of t h.waiting) (subst (λ way. AreSabmes t way h.waiting) e h.sabmes) in
-        let s' = comes (spelling c.side f) w.far in
         let x = course h.m.terms (link.received (link.frame f)) h.m.link in
         let error : HasError x.notes = sabme-error h.m.terms h.m.link h.far.up f true (ap (λ y. y.control) is) in
         subst (λ ways. Leads (record { near = with_first_lost w.near; far = with_first_of ways w.far })) (sym way.0)
-        (inr (inr (now-erred w.far s' x (taken-told service tei q _ d w.far h.m h.far.held c back f way.1) error)))
+        (inr (inr (now-erred w.far (comes (spelling c.side f) w.far) x (taken-told service tei q _ d w.far h.m h.far.held c back f way.1) error)))
 
     pub half-far : (act : Act) → IsRoughTalkOf service tei act → Leads (turned (acting act (turned w)))
     half-far (requests r) is =

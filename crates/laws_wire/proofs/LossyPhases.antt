@@ -1,7 +1,6 @@
 -- A call in which frames are lost and timers expire: SABME goes as often as T200 expires; then the other end is up, and UA may be on
 -- its way, or lost; and then both are up, and SABME may still be on its way. Or an error was told.
-use Rattle.laws_wire.proofs.Vocabulary.{arith, ◌≡◌, ℕ, List, [], ◌∷◌, map, refl, sym, ap, subst, ◌∙◌, ◌⊎◌, inl, inr, All, All-head, Service, Timer, Parts, spelling, ControlFrame, Terms, LinkTimer, fresh, End, Config, LineTold, at_timer, aim_of_expiry, Line, place_in, terms, Request, Data, Station, Wire, requests, takes, loses, acting, turned, confirmed, indicated, IsOfLink, IsRoughTalkOf}
-use Rattle.lapd_frame.specs.declared.timers.Timer.TheVariants as timers
+use Rattle.laws_wire.proofs.Vocabulary.{arith, ◌≡◌, ℕ, List, [], ◌∷◌, map, refl, sym, ap, subst, ◌∙◌, ◌⊎◌, inl, inr, All, All-head, Service, Timer, Parts, spelling, ControlFrame, Terms, LinkTimer, fresh, End, Config, LineTold, at_timer, aim_of_expiry, Line, place_in, terms, Request, Data, Station, Wire, requests, takes, loses, acting, turned, confirmed, indicated, IsOfLink, IsRoughTalkOf, timer_T201, timer_T200, timer_T203}
 use Rattle.model_link.specs.declared.timers.LinkTimer.TheVariants as link_timer
 use Rattle.laws_wire.proofs.Acting.{UpAt}
 use Rattle.laws_wire.proofs.Calling.{ua, end, caller}
@@ -23,11 +22,11 @@ module _ (service : Service) (tei : ℕ) where
   Aims timer its = (l : Line) → aim_of_expiry timer l ≡ at_timer service tei its (place_in l tei)
 
   pub for-timer : (P : Timer → Type 0) → ((timer : Timer) (its : LinkTimer) → Aims timer its → P timer) → (timer : Timer) → IsOfLink service tei timer → P timer
-  for-timer P own (timers.T200 s t) is =
-      subst (λ s'. P (timers.T200 s' t)) (sym is.0) (subst (λ t'. P (timers.T200 service t')) (sym is.1) (own (timers.T200 service tei) link_timer.T200 (λ l. refl)))
-  for-timer P own (timers.T203 s t) is =
-      subst (λ s'. P (timers.T203 s' t)) (sym is.0) (subst (λ t'. P (timers.T203 service t')) (sym is.1) (own (timers.T203 service tei) link_timer.T203 (λ l. refl)))
-  for-timer P own timers.T201 is = absurd is
+  for-timer P own (timer_T200 s t) is =
+      subst (λ s'. P (timer_T200 s' t)) (sym is.0) (subst (λ t'. P (timer_T200 service t')) (sym is.1) (own (timer_T200 service tei) link_timer.T200 (λ l. refl)))
+  for-timer P own (timer_T203 s t) is =
+      subst (λ s'. P (timer_T203 s' t)) (sym is.0) (subst (λ t'. P (timer_T203 service t')) (sym is.1) (own (timer_T203 service tei) link_timer.T203 (λ l. refl)))
+  for-timer P own timer_T201 is = absurd is
 
   -- the first frame on the way of a station
   pub first-way : (k : Config) (place : ℕ) (past : List LineTold) (s : Station) (n : End) (f : Parts) (fs : List Parts) → n.way ≡ f ∷ fs → Held k service tei place past s n
@@ -90,9 +89,6 @@ module _ (service : Service) (tei : ℕ) where
 
     abbrev pub Went : Wire → Type 0
     Went w = Goes w ⊎ HasErred w
-
-    pub as-half : (w : Wire) → IsHalf w → Went w
-    as-half w h = inl (inr (inl h))
 
     pub as-up : (w : Wire) → IsUp w → Went w
     as-up w h = inl (inr (inr h))

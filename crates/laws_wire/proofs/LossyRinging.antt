@@ -1,11 +1,10 @@
 -- The first phase of such a call: one end rings, and the other is down.
-use Rattle.laws_wire.proofs.Vocabulary.{◌≡◌, ℕ, false, List, [], ◌∷◌, ◌++◌, map, drop, None, refl, sym, ap, subst, ◌∙◌, ◌⊎◌, inl, inr, arith, All-head, Service, Parts, spelling, Terms, fresh, course, IsInRange, with_link, frames_of, Config, request, terms, refusal, Data, Station, Wire, happens, with_first_of, with_first_lost, Act, requests, times_out, gives, takes, loses, acting, turned, comes, indicated, IsRoughTalkOf}
-use Rattle.model_link.specs.Events as link
+use Rattle.laws_wire.proofs.Vocabulary.{◌≡◌, ℕ, false, List, [], ◌∷◌, ◌++◌, map, drop, None, refl, sym, ap, subst, ◌∙◌, ◌⊎◌, inl, inr, arith, All-head, Service, Parts, spelling, Terms, fresh, course, IsInRange, with_link, frames_of, Config, request, terms, refusal, Data, Station, Wire, happens, with_first_of, with_first_lost, Act, requests, times_out, gives, takes, loses, acting, turned, comes, indicated, IsRoughTalkOf, received, LinkData, frame}
 use Rattle.laws_wire.proofs.Answered.{takes-granted}
 use Rattle.laws_wire.proofs.Calling.{sabme, ua, end, caller, answering, takes-sabme, told-of-sabme}
 use Rattle.laws_wire.proofs.Held.{Held, Erred, held-given, held-lost, held-first, taken-told, taken-stands, held-expired, held-asked}
 use Rattle.laws_wire.proofs.Joint.{Joint}
-use Rattle.laws_wire.proofs.LossyPhases.{made, for-data, for-timer, first-way, empty, IsRinging, Went, as-half, no-take, no-take_far}
+use Rattle.laws_wire.proofs.LossyPhases.{made, for-data, for-timer, first-way, empty, IsRinging, Went, no-take, no-take_far}
 use Rattle.laws_wire.proofs.Ringing.{ringing, IsSabme, AreSabmes, one-sabme_less}
 use Rattle.laws_wire.proofs.Standing.{IsCarried, Stands}
 use Rattle.laws_wire.proofs.StillRinging.{StillRings, rings-asks, rings-expires, rings-gives, rings-loses}
@@ -26,8 +25,7 @@ module _ (service : Service) (tei : ℕ) (c d : Config) (p q : ℕ) (face : Face
     ringing-with s x = inl (inl (record { repeats = x.repeats; waiting = x.waiting; way = x.way; near = x.held; far = h.far; sabmes = x.sabmes }))
 
     ringing-or : (s : Station) → StillRings service tei c p s ⊎ Erred s → Leads (record w { near = s })
-    ringing-or s (inl x) = ringing-with s x
-    ringing-or s (inr e) = inr (inl e)
+    ringing-or s o = grind (arith, ringing-with)
 
     pub ringing-near : (act : Act) → IsRoughTalkOf service tei act → Leads (acting act w)
     ringing-near (requests r) is =
@@ -46,7 +44,7 @@ module _ (service : Service) (tei : ℕ) (c d : Config) (p q : ℕ) (face : Face
     down-asks octets =
         elim (held-asked service tei q [] d w.far (end u fresh []) h.far octets) [
           | inl same ↦ subst (λ s. Leads (made w s)) (sym same) (inl (inl h))
-          | inr x ↦ let none : refusal u fresh false (link.Data octets) ≡ None = x.none in absurd (cc)
+          | inr x ↦ let none : refusal u fresh false (LinkData octets) ≡ None = x.none in absurd (cc)
         ]
 
     -- SABME comes
@@ -60,22 +58,19 @@ module _ (service : Service) (tei : ℕ) (c d : Config) (p q : ℕ) (face : Face
       abbrev reached : Station
       reached = comes (spelling c.side call) w.far
 
-      becomes : with_link (link.received (link.frame call)) (end u fresh []) ≡ end u answering []
+      becomes : with_link (received (frame call)) (end u fresh []) ≡ end u answering []
       becomes = ap (λ y. end u y []) (takes-sabme u ru t)
 
       answered_by : Held d service tei q (indicated service tei ∷ []) reached (end u answering [])
       answered_by =
-          held-first service tei q [] d w.far (end u fresh []) h.far (indicated service tei) reached (end u answering []) (course u (link.received (link.frame call)) fresh) refl refl refl
+          held-first service tei q [] d w.far (end u fresh []) h.far (indicated service tei) reached (end u answering []) (course u (received (frame call)) fresh) refl refl refl
           (subst (Stands d service tei q reached) becomes (taken-stands service tei q [] d w.far (end u fresh []) h.far c back call its_way.1)) (takes-granted (spelling c.side call) w.far) refl
           (taken-told service tei q [] d w.far (end u fresh []) h.far c back call its_way.1) (told-of-sabme u ru t) refl
-
-      first-joint : Joint (end u answering []) (end t caller []) [] []
-      first-joint = grind arith
 
       answers : Leads (turned (acting takes (turned w)))
       answers =
           subst (λ way. Leads (record { near = with_first_lost w.near; far = with_first_of way w.far })) (sym its_way.0)
-          (as-half service tei c d p q _ (record {
+          (inl (inr (inl (record {
             repeats = h.repeats;
             waiting = h.waiting;
             way = drop 1 h.way;
@@ -85,8 +80,8 @@ module _ (service : Service) (tei : ℕ) (c d : Config) (p q : ℕ) (face : Face
             first = ua u ∷ [];
             line = [];
             is_ua = inr refl;
-            far = record { held = answered_by; up = refl; line = refl; joint = first-joint };
-          }))
+            far = record { held = answered_by; up = refl; line = refl; joint = grind arith };
+          }))))
 
     first-is : (f : Parts) (fs : List Parts) → h.way ≡ f ∷ fs → f ≡ sabme t
     first-is f fs e = All-head (IsSabme t) f (fs ++ frames_of t h.waiting) (subst (λ way. AreSabmes t way h.waiting) e h.sabmes)

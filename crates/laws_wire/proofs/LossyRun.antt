@@ -1,8 +1,8 @@
 -- A whole call in which frames are lost and timers expire: what layer 3 of each was told, as long as no error was.
-use Rattle.laws_wire.proofs.Vocabulary.{◌≡◌, ℕ, List, [], ◌∷◌, ◌++◌, map, take, refl, sym, ap, ◌∙◌, inl, inr, append-nil, All, flat_map, All-nil, All-cons, All-head, All-tail, Service, other_side, fresh, IsInRange, End, Config, LineTold, terms, terms_in_range, Station, Wire, with_first_of, Act, requests, takes, loses, Doing, at_near, at_far, acting, turned, doing, doing_all, calling, CanCall, confirmed, indicated, data_told, IsBeginningOf, for_layer_3, heard_in, HasNoError, IsRoughTalk, CallsAreToldInOrder}
+use Rattle.laws_wire.proofs.Vocabulary.{arith, ◌≡◌, ℕ, List, [], ◌∷◌, ◌++◌, map, take, refl, sym, ap, ◌∙◌, inl, inr, append-nil, All, flat_map, All-nil, All-cons, All-head, All-tail, Service, other_side, fresh, IsInRange, End, Config, LineTold, terms, terms_in_range, Station, Wire, with_first_of, Act, requests, takes, loses, Doing, at_near, at_far, acting, turned, doing, doing_all, calling, CanCall, confirmed, indicated, data_told, IsBeginningOf, for_layer_3, heard_in, HasNoError, IsRoughTalk, CallsAreToldInOrder, list_any-append}
 use Rattle.laws_wire.proofs.Beginning.{calls, answers}
 use Rattle.laws_wire.proofs.Calling.{asked, sabme, end}
-use Rattle.laws_wire.proofs.Held.{Held, Erred, erred-stays, not-erred}
+use Rattle.laws_wire.proofs.Held.{Held, Erred, not-erred}
 use Rattle.laws_wire.proofs.LossyHalf.{half-near, half-far}
 use Rattle.laws_wire.proofs.LossyPhases.{IsRinging, Goes, HasErred, Went}
 use Rattle.laws_wire.proofs.LossyRinging.{ringing-near, ringing-far}
@@ -17,21 +17,10 @@ pub record More (s s' : Station) : Type 0 where
   pub more : List LineTold
   pub told : s'.told ≡ s.told ++ more
 
-taken-more : (way : List (List ℕ)) (s : Station) → More s (with_first_of way s)
-taken-more [] s = record { more = []; told = sym (append-nil s.told) }
-taken-more (octets ∷ way) s = record { more = _; told = refl }
-
 pub near-more : (act : Act) (w : Wire) → More w.near (acting act w).near
-near-more takes w = taken-more w.far.way w.near
+near-more takes w = grind (arith, append-nil)
 near-more loses w = record { more = []; told = sym (append-nil w.near.told) }
 near-more other w = record { more = _; told = refl }
-
-pub far-more : (act : Act) (w : Wire) → More w.far (acting act w).far
-far-more (requests r) w = record { more = []; told = sym (append-nil w.far.told) }
-far-more other w = record { more = []; told = sym (append-nil w.far.told) }
-
-still-errs : (s s' : Station) → More s s' → Erred s → Erred s'
-still-errs s s' x h = erred-stays s s' x.more x.told h
 
 module _ (service : Service) (tei : ℕ) (c d : Config) (p q : ℕ) (face : Face c d) (back : Face d c) (rt : IsInRange (terms c service tei)) (ru : IsInRange (terms d service tei)) where
   abbrev Leads : Wire → Type 0
@@ -46,10 +35,10 @@ module _ (service : Service) (tei : ℕ) (c d : Config) (p q : ℕ) (face : Face
   goes (at_far act) is w (inr (inr h)) = up-far_acts service tei c d p q face back rt ru w h act is
 
   pub errs : (k : Doing) (w : Wire) → HasErred service tei c d p q w → HasErred service tei c d p q (doing k w)
-  errs (at_near act) w (inl h) = inl (still-errs w.near (acting act w).near (near-more act w) h)
-  errs (at_near act) w (inr h) = inr (still-errs w.far (acting act w).far (far-more act w) h)
-  errs (at_far act) w (inl h) = inl (still-errs w.near (acting act (turned w)).far (far-more act (turned w)) h)
-  errs (at_far act) w (inr h) = inr (still-errs w.far (acting act (turned w)).near (near-more act (turned w)) h)
+  errs (at_near act) w (inl h) = inl (grind (arith, list_any-append))
+  errs (at_near act) w (inr h) = inr (grind (arith, list_any-append))
+  errs (at_far act) w (inl h) = inl (grind (arith, list_any-append))
+  errs (at_far act) w (inr h) = inr (grind (arith, list_any-append))
 
   step : (k : Doing) → IsRoughTalk service tei k → (w : Wire) → Leads w → Leads (doing k w)
   step k is w (inl h) = goes k is w h
@@ -73,10 +62,7 @@ module _ (service : Service) (tei : ℕ) (c d : Config) (p q : ℕ) (face : Face
 
   pub in-order : (w : Wire) → Goes service tei c d p q w → InOrder w
   in-order w (inl h) = record { near = at-first service tei (confirmed service tei) w.far.granted (heard_in w.near) h.near.heard; far = at-first service tei (indicated service tei) w.near.granted (heard_in w.far) h.far.heard }
-  in-order w (inr (inl h)) = record {
-    near = at-first service tei (confirmed service tei) w.far.granted (heard_in w.near) h.near.heard;
-    far = by-joint (indicated service tei) d c q p [] w.far w.near h.m (end (terms c service tei) (ringing h.repeats h.waiting) h.way) h.far.held h.near h.far.joint.back.delivered;
-  }
+  in-order w (inr (inl h)) = grind (arith, at-first, by-joint, end, ringing)
   in-order w (inr (inr h)) = record {
     near = by-joint (confirmed service tei) c d p q (indicated service tei ∷ []) w.near w.far h.n h.m h.near.held h.far.held h.near.joint.back.delivered;
     far = by-joint (indicated service tei) d c q p (confirmed service tei ∷ []) w.far w.near h.m h.n h.far.held h.near.held h.far.joint.back.delivered;
@@ -84,11 +70,8 @@ module _ (service : Service) (tei : ℕ) (c d : Config) (p q : ℕ) (face : Face
 
 -- from a station that was told nothing
 pub from-nothing : (k : Config) (service : Service) (tei place : ℕ) (s : Station) (n : End) → Holds k service tei place unheard s n → n.delivered ≡ [] → Held k service tei place [] s n
-from-nothing k service tei place s n h none = record {
-  stands = h.stands;
-  granted = h.granted;
-  heard = ap (flat_map for_layer_3) (none-told k service tei place [] s n h none) ∙ sym (ap (map (data_told service tei)) none);
-}
+from-nothing k service tei place s n h none =
+    assumption (ap (flat_map for_layer_3) (none-told k service tei place [] s n h none) ∙ sym (ap (map (data_told service tei)) none))
 
 -- a call as it begins
 pub record Setting (service : Service) (c d : Config) (line other tei : ℕ) : Type 0 where
@@ -137,6 +120,5 @@ fair-goes service c d line other tei ds can talk =
 pub calls-are-told_in_order : CallsAreToldInOrder
 calls-are-told_in_order service c d line other tei ds can talk = λ fair-near fair-far.
     let x = setting service c d line other tei can in
-    let w = doing_all ds (calling service tei c line d other) in
-    let told = in-order service tei c d 0 0 x.face x.back x.near x.far w (fair-goes service c d line other tei ds can talk fair-near fair-far) in
+    let told = in-order service tei c d 0 0 x.face x.back x.near x.far (doing_all ds (calling service tei c line d other)) (fair-goes service c d line other tei ds can talk fair-near fair-far) in
     (told.near, told.far)

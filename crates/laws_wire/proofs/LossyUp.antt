@@ -1,12 +1,10 @@
 -- The third phase of such a call: both ends are up.
-use Rattle.laws_wire.proofs.Vocabulary.{arith, ◌≡◌, ℕ, true, List, [], ◌∷◌, ◌++◌, drop, refl, sym, ap, subst, ◌∙◌, ◌⊎◌, inl, inr, All, All-nil, All-head, All-tail, Service, Parts, spelling, Terms, course, IsInRange, End, frames_of, Config, terms, Station, Wire, with_first_of, with_first_lost, Act, requests, times_out, gives, takes, loses, acting, turned, comes, confirmed, indicated, IsRoughTalkOf}
-use Rattle.model_link.specs.Events as link
-use Rattle.model_link.specs.TwoEnds as two_ends
+use Rattle.laws_wire.proofs.Vocabulary.{arith, ◌≡◌, ℕ, true, List, [], ◌∷◌, ◌++◌, drop, refl, sym, ap, subst, ◌∙◌, ◌⊎◌, inl, inr, All, All-nil, All-head, All-tail, Service, Parts, spelling, Terms, course, IsInRange, End, frames_of, Config, terms, Station, Wire, with_first_of, with_first_lost, Act, requests, times_out, gives, takes, loses, acting, turned, comes, confirmed, indicated, IsRoughTalkOf, received, frame, two_ends_with_first_lost}
 use Rattle.laws_wire.proofs.Acting.{which, UpAt, Acted, ranges, up-asks, up-expires, up-gives, up-loses, up-hears}
 use Rattle.laws_wire.proofs.Calling.{sabme}
 use Rattle.laws_wire.proofs.Fair.{HasError, sabme-error}
 use Rattle.laws_wire.proofs.Held.{Erred, now-erred, held-lost, taken-told}
-use Rattle.laws_wire.proofs.Joint.{turned-joint, IsMeant}
+use Rattle.laws_wire.proofs.Joint.{IsMeant}
 use Rattle.laws_wire.proofs.LossyPhases.{made, for-data, for-timer, first-way, empty, IsUp, Went, as-up, no-take, no-take_far, no-loss, no-loss_far}
 use Rattle.laws_wire.proofs.Ringing.{IsSabme}
 use Rattle.laws_wire.proofs.Talking.{Face}
@@ -20,7 +18,7 @@ module _ (service : Service) (tei : ℕ) (c d : Config) (p q : ℕ) (face : Face
 
   -- one end went on, and the other stays where it is
   up-near : (w : Wire) (h : IsUp service tei c d p q w) (s : Station) (first : List Parts) → All (IsSabme t) first → Acted service tei p (confirmed service tei ∷ []) c s h.m first h.here → Leads (record w { near = s })
-  up-near w h s first all x = grind (arith, as-up, turned-joint)
+  up-near w h s first all x = grind (arith, as-up)
 
   up-near_or : (w : Wire) (h : IsUp service tei c d p q w) (s : Station) → Acted service tei p (confirmed service tei ∷ []) c s h.m h.first h.here ⊎ Erred s → Leads (record w { near = s })
   up-near_or w h s (inl x) = up-near w h s h.first h.sabmes x
@@ -35,7 +33,7 @@ module _ (service : Service) (tei : ℕ) (c d : Config) (p q : ℕ) (face : Face
         there = h.there;
         here = x.near;
         sabmes = h.sabmes;
-        near = record { held = h.near.held; up = h.near.up; line = h.near.line; joint = turned-joint x.n h.n x.near h.there x.at.joint };
+        near = record { held = h.near.held; up = h.near.up; line = h.near.line; joint = (record { there = x.at.joint.back; back = x.at.joint.there }) };
         far = x.at;
       })
 
@@ -54,7 +52,7 @@ module _ (service : Service) (tei : ℕ) (c d : Config) (p q : ℕ) (face : Face
         (go s' (up-hears service tei p _ c d face w.near h.n h.m f h.first h.there here at way.1 (ranges service tei q _ d w.far h.m h.far.held)))
       where
         m' : End
-        m' = two_ends.with_first_lost h.m
+        m' = two_ends_with_first_lost h.m
 
         go : (s' : Station) → Acted service tei p (confirmed service tei ∷ []) c s' m' h.first here ⊎ Erred s' → Leads (record { near = s'; far = with_first_lost w.far })
         go s' (inr e') = inr (inl e')
@@ -71,7 +69,7 @@ module _ (service : Service) (tei : ℕ) (c d : Config) (p q : ℕ) (face : Face
                 held = held-lost service tei q _ d w.far h.m h.far.held;
                 up = h.far.up;
                 line = ap (λ way. drop 1 way ++ frames_of h.m.terms h.m.link.waiting) e ∙ rest;
-                joint = turned-joint x.n m' x.near here x.at.joint;
+                joint = (record { there = x.at.joint.back; back = x.at.joint.there });
               };
             })
 
@@ -85,7 +83,7 @@ module _ (service : Service) (tei : ℕ) (c d : Config) (p q : ℕ) (face : Face
         (go s' (up-hears service tei q _ d c back w.far h.m h.n f [] h.here there at way.1 (ranges service tei p _ c w.near h.n h.near.held)))
       where
         n' : End
-        n' = two_ends.with_first_lost h.n
+        n' = two_ends_with_first_lost h.n
 
         go : (s' : Station) → Acted service tei q (indicated service tei ∷ []) d s' n' [] there ⊎ Erred s' → Leads (record { near = with_first_lost w.near; far = s' })
         go s' (inr e') = inr (inr e')
@@ -101,7 +99,7 @@ module _ (service : Service) (tei : ℕ) (c d : Config) (p q : ℕ) (face : Face
                 held = held-lost service tei p _ c w.near h.n h.near.held;
                 up = h.near.up;
                 line = ap (λ way. drop 1 way ++ frames_of h.n.terms h.n.link.waiting) e ∙ rest;
-                joint = turned-joint x.n n' x.near there x.at.joint;
+                joint = (record { there = x.at.joint.back; back = x.at.joint.there });
               };
               far = x.at;
             })
@@ -110,11 +108,10 @@ module _ (service : Service) (tei : ℕ) (c d : Config) (p q : ℕ) (face : Face
     far-errs : (f : Parts) (fs : List Parts) → h.n.way ≡ f ∷ fs → f ≡ sabme t → Leads (turned (acting takes (turned w)))
     far-errs f fs e is =
         let way = first-way service tei c p _ w.near h.n f fs e h.near.held in
-        let s' = comes (spelling c.side f) w.far in
-        let x = course h.m.terms (link.received (link.frame f)) h.m.link in
+        let x = course h.m.terms (received (frame f)) h.m.link in
         let error : HasError x.notes = sabme-error h.m.terms h.m.link h.far.up f true (ap (λ y. y.control) is) in
         subst (λ ways. Leads (record { near = with_first_lost w.near; far = with_first_of ways w.far })) (sym way.0)
-        (inr (inr (now-erred w.far s' x (taken-told service tei q _ d w.far h.m h.far.held c back f way.1) error)))
+        (inr (inr (now-erred w.far (comes (spelling c.side f) w.far) x (taken-told service tei q _ d w.far h.m h.far.held c back f way.1) error)))
 
     near-takes : (way : List Parts) → h.m.way ≡ way → Leads (acting takes w)
     near-takes [] e = no-take service tei c d p q w (empty service tei d q _ w.far h.m h.far.held e) (as-up service tei c d p q w h)

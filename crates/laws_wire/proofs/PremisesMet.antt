@@ -1,7 +1,5 @@
 -- The premises of the laws are met: by the worked conversation, after which no turn is left, and by one that loses frames.
-use Rattle.laws_wire.proofs.Vocabulary.{◌≡◌, false, List, [], ◌∷◌, refl, sym, subst, arith, All, list_any, All-nil, All-cons, Call, reading, header_of, control_of, unnumbered_of, supervisory_of, distance_of, named, seq, LineTold, Doing, doing_all, turns, IsStill, CanCall, IsCall, confirmed, indicated, data_told, all_told, IsBeginningOf, IsRoughTalk, is_error, heard_in, HasNoError, Face, user, network, begins, talks}
-use Rattle.lapd_tei.specs.Events as teis
-use Rattle.model_line.specs.Machine as lines
+use Rattle.laws_wire.proofs.Vocabulary.{◌≡◌, false, List, [], ◌∷◌, refl, sym, subst, arith, All, list_any, All-nil, All-cons, Call, reading, header_of, control_of, unnumbered_of, supervisory_of, distance_of, named, seq, LineTold, Doing, doing_all, turns, IsStill, CanCall, IsCall, confirmed, indicated, data_told, all_told, IsBeginningOf, IsRoughTalk, is_error, heard_in, HasNoError, Face, user, network, begins, talks, line_answer, line_takes_slot, line_after, tei_refusal, tei_course}
 use Rattle.laws_wire.specs.WorkedLosing.{loses_two}
 use Rattle.laws_wire.proofs.Delivering.{calls-face}
 use Rattle.laws_wire.proofs.LossyRun.{calls-are-told_in_order}
@@ -21,7 +19,7 @@ pub talk : All (IsCall Call 0) talks
 talk = grind (arith, all-of)
 
 pub still : IsStill (doing_all talks begins)
-unfolding lines.after lines.answer lines.takes_slot reading header_of control_of unnumbered_of supervisory_of teis.course teis.refusal seq distance_of named doing_all turns
+unfolding line_after line_answer line_takes_slot reading header_of control_of unnumbered_of supervisory_of tei_course tei_refusal seq distance_of named doing_all turns
 still = record { near = refl; far = refl; near_way = refl; far_way = refl }
 
 -- so the two face each other
@@ -36,11 +34,11 @@ abbrev pub IsFair : LineTold → Type 0
 IsFair t = list_any is_error t.notes ≡ false
 
 told-near : (doing_all loses_two begins).near.told ≡ confirmed Call 0 ∷ []
-unfolding lines.after lines.answer lines.takes_slot reading header_of control_of unnumbered_of supervisory_of teis.course teis.refusal seq distance_of named doing_all turns
+unfolding line_after line_answer line_takes_slot reading header_of control_of unnumbered_of supervisory_of tei_course tei_refusal seq distance_of named doing_all turns
 told-near = refl
 
 told-far : (doing_all loses_two begins).far.told ≡ indicated Call 0 ∷ data_told Call 0 (0xAB ∷ []) ∷ []
-unfolding lines.after lines.answer lines.takes_slot reading header_of control_of unnumbered_of supervisory_of teis.course teis.refusal seq distance_of named doing_all turns
+unfolding line_after line_answer line_takes_slot reading header_of control_of unnumbered_of supervisory_of tei_course tei_refusal seq distance_of named doing_all turns
 told-far = refl
 
 pub fair-near : HasNoError (doing_all loses_two begins).near

@@ -1,15 +1,12 @@
 -- What changes nothing at a station: a call for a frame where none waits, taking a frame where none is on its way, and data that is refused.
-use Rattle.laws_wire.proofs.Vocabulary.{◌≡◌, ℕ, ◌+◌, ◌≤◌, false, List, [], ◌∷◌, length, map, drop, None, refl, sym, ap, subst, ◌∙◌, ◌⊎◌, inl, inr, arith, All, All-head, Service, Parts, spelling, given, End, frame_given, Config, Request, request, next, refusal, Data, Station, Wire, happens, frames_by, with_first_of, with_first_lost, requests, gives, takes, acting, turned, answered, IsTalkOf}
-use Rattle.model_link.specs.Events as link
-use Rattle.model_link.specs.TwoEnds as two_ends
+use Rattle.laws_wire.proofs.Vocabulary.{◌≡◌, ℕ, ◌+◌, ◌≤◌, false, List, [], ◌∷◌, length, map, drop, None, refl, sym, ap, subst, ◌∙◌, ◌⊎◌, inl, inr, arith, All, All-head, Service, Parts, spelling, given, End, frame_given, Config, Request, request, next, refusal, Data, Station, Wire, happens, frames_by, with_first_of, with_first_lost, requests, gives, takes, acting, turned, answered, IsTalkOf, LinkData, two_ends_with_first_lost}
 use Rattle.laws_wire.proofs.Answered.{gives-granted}
 use Rattle.laws_wire.proofs.Standing.{IsCarried, Stands, gives-frames}
 use Rattle.laws_wire.proofs.Talking.{Past, Holds, holds-given, holds-lost, More, holds-asked}
 use Rattle.laws_wire.proofs.Up.{turn_of, stays, granted_of}
 
 pub one-at-most : (xs : List (List ℕ)) → turn_of xs ≤ 1
-one-at-most [] = omega arith
-one-at-most (x ∷ xs) = omega arith
+one-at-most xs = grind arith
 
 module _ (service : Service) (tei : ℕ) where
   -- two stations and the ends for which they stand
@@ -37,36 +34,19 @@ module _ (service : Service) (tei : ℕ) where
     pub frames-are : frames_by (answered next w.near) ≡ map (spelling w.near.card.config.side) (frame_given n.terms (given n.terms n.link))
     frames-are = gives-frames service tei p w.near n (subst (λ k. Stands k service tei p w.near n) (sym h.near.stands.config) h.near.stands)
 
-    pub same-count : granted_of (acting gives w) ≡ granted_of w
-    same-count = ap (λ xs. length xs + length w.far.granted) (gives-granted w.near)
-
     pub quiet-gives : given n.terms n.link ≡ None → Quiet (acting gives w) (turn_of (frames_by (answered next w.near)))
     quiet-gives none =
         let same = stays n none in
-        record {
-          both = record {
-            near = subst (Holds c service tei p first (happens next w.near)) same (holds-given service tei p first c w.near n h.near (ap (λ (x : End). x.link.contents) same));
-            far = h.far;
-          };
-          none = ap turn_of frames-are ∙ ap (λ o. turn_of (map (spelling w.near.card.config.side) (frame_given n.terms o))) none;
-          granted = same-count;
-        }
+        grind (arith, holds-given, turn_of, frames-are, gives-granted)
 
     pub quiet-takes : m.way ≡ [] → Quiet (acting takes w) (turn_of w.far.way)
     quiet-takes e =
         let empty : w.far.way ≡ [] = h.far.stands.way ∙ ap (map (spelling d.side)) e in
         let same : with_first_of w.far.way w.near ≡ w.near = ap (λ way. with_first_of way w.near) empty in
-        let back : two_ends.with_first_lost m ≡ m = (λ i. record m { way = (ap (drop 1) e ∙ sym e) i }) in
-        record {
-          both = record {
-            near = subst (λ s. Holds c service tei p first s n) (sym same) h.near;
-            far = subst (Holds d service tei q second (with_first_lost w.far)) back (holds-lost service tei q second d w.far m h.far);
-          };
-          none = ap turn_of empty;
-          granted = ap (λ (s : Station). length s.granted + length w.far.granted) same;
-        }
+        let back : two_ends_with_first_lost m ≡ m = (λ i. record m { way = (ap (drop 1) e ∙ sym e) i }) in
+        grind (arith, holds-lost, turn_of)
 
-    pub quiet-asks : ((octets : List ℕ) → refusal n.terms n.link false (link.Data octets) ≡ None → ⊥) → (octets : List ℕ)
+    pub quiet-asks : ((octets : List ℕ) → refusal n.terms n.link false (LinkData octets) ≡ None → ⊥) → (octets : List ℕ)
         → Quiet (acting (requests (Data service tei octets)) w) 0
     quiet-asks never octets = go (holds-asked service tei p first c w.near n octets h.near)
       where
@@ -74,18 +54,13 @@ module _ (service : Service) (tei : ℕ) where
         s' = happens (request (Data service tei octets)) w.near
 
         go : (s' ≡ w.near) ⊎ More service tei p first c w.near s' n octets → Quiet (record w { near = s' }) 0
-        go (inl same) = record {
-          both = record { near = subst (λ s. Holds c service tei p first s n) (sym same) h.near; far = h.far };
-          none = refl;
-          granted = ap (λ (s : Station). length s.granted + length w.far.granted) same;
-        }
+        go (inl same) = grind arith
         go (inr x) = absurd (never octets x.none)
 
     -- a request in a call is for data
     pub for-data : (P : Request → Type 0) → ((octets : List ℕ) → P (Data service tei octets)) → (r : Request) → IsTalkOf service tei (requests r) → P r
-    for-data P own (Data s t octets) is =
-        subst (λ s'. P (Data s' t octets)) (sym is.0) (subst (λ t'. P (Data service t' octets)) (sym is.1) (own octets))
+    for-data P own (Data s t octets) is = grind arith
     for-data P own other is = absurd is
 
-    pub quiet-requests : ((octets : List ℕ) → refusal n.terms n.link false (link.Data octets) ≡ None → ⊥) → (r : Request) → IsTalkOf service tei (requests r) → Quiet (acting (requests r) w) 0
+    pub quiet-requests : ((octets : List ℕ) → refusal n.terms n.link false (LinkData octets) ≡ None → ⊥) → (r : Request) → IsTalkOf service tei (requests r) → Quiet (acting (requests r) w) 0
     quiet-requests never r is = for-data (λ r. Quiet (acting (requests r) w) 0) (quiet-asks never) r is

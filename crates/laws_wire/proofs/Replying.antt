@@ -1,6 +1,5 @@
 -- What an end that was never busy answers, puts and gives: which N(R) it has, and what is owed.
-use Rattle.laws_wire.proofs.Vocabulary.{arith, ◌≡◌, ℕ, ◌+◌, Bool, true, false, cond, ◌&&◌, IsTrue, List, [], ◌∷◌, ◌++◌, length, refl, sym, ap, ◌∙◌, append_assoc, append-nil, ◌⊎◌, inl, inr, true≢false, nat_lt, slice_get, Seq, seq, Information, ReceiveReady, ReceiveNotReady, Reject, Parts, State, Established, TimerRecovery, LinkTimer, T203, ControlFrame, Terms, Link, is_multiple_frame, frame_of, expired, offer, Step, begun, frame_given, frames_of, frames-append, Means, c-7, c-8, enquiry, kind_of, unwrap_or, T200, Course}
-use Rattle.lapd_frame.specs.declared.notes.ErrorCode.TheVariants as code
+use Rattle.laws_wire.proofs.Vocabulary.{arith, ◌≡◌, ℕ, ◌+◌, Bool, true, false, cond, ◌&&◌, IsTrue, List, [], ◌∷◌, ◌++◌, length, refl, sym, ap, ◌∙◌, append_assoc, append-nil, ◌⊎◌, inl, inr, true≢false, nat_lt, slice_get, Seq, seq, Information, ReceiveReady, ReceiveNotReady, Reject, Parts, State, Established, TimerRecovery, LinkTimer, T203, ControlFrame, Terms, Link, is_multiple_frame, frame_of, expired, offer, Step, begun, frame_given, frames_of, frames-append, Means, c-7, c-8, enquiry, kind_of, unwrap_or, T200, Course, code_I}
 use Rattle.model_link.specs.Words
 use Rattle.model_link.specs.MultipleFrame
 use Rattle.model_link.specs.Established
@@ -17,9 +16,6 @@ pub line-push : (t : Terms) (way : List Parts) (ws ws' : List ControlFrame) (f :
     → way ++ frames_of t ws' ≡ (way ++ frames_of t ws) ++ frame_of t f ∷ []
 line-push t way ws ws' f e = grind (arith, frames_of, frames-append, append_assoc)
 
-ready-means : (b : Bool) (r : ℕ) (pf : Bool) → Means r (cond b (ReceiveNotReady (seq r) pf) (ReceiveReady (seq r) pf))
-ready-means b r pf = grind arith
-
 -- An enquiry waits, the last, and the state is 8.
 pub record Enquired (t : Terms) (l l' : Link) : Type 0 where
   pub state : l'.state ≡ TimerRecovery
@@ -35,18 +31,15 @@ module _ (t : Terms) (l : Link) where
   abbrev its_enquiry : ControlFrame
   its_enquiry = Words.command (Words.ready_to_receive true l)
 
-  enquiry-kind : (b : Bool) → kind_of true (cond b (ReceiveNotReady (seq l.r) true) (ReceiveReady (seq l.r) true)) ≡ enquiry
-  enquiry-kind b = grind arith
-
   enquires : (l' : Link) → Words.has_room t l ≡ true → l'.state ≡ TimerRecovery → l'.s ≡ l.s → l'.a ≡ l.a → l'.r ≡ l.r
       → l'.waiting ≡ cond (Words.has_room t l) (l.waiting ++ its_enquiry ∷ []) l.waiting → Enquired t l l'
-  enquires l' room state s a r waits = grind (arith, enquiry-kind, ready-means)
+  enquires l' room state s a r waits = grind arith
 
   abbrev pub Expired : Link → Type 0
   Expired l' = (l' ≡ l) ⊎ Enquired t l l'
 
-  again : Words.has_room t l ≡ true → l.state ≡ TimerRecovery → (b : Bool) → IsUpIn (cond b (Words.start T200 (Words.repeated (Words.enquire t (begun l)))) (MultipleFrame.failed t code.I (begun l)))
-      → Expired (cond b (Words.start T200 (Words.repeated (Words.enquire t (begun l)))) (MultipleFrame.failed t code.I (begun l))).link
+  again : Words.has_room t l ≡ true → l.state ≡ TimerRecovery → (b : Bool) → IsUpIn (cond b (Words.start T200 (Words.repeated (Words.enquire t (begun l)))) (MultipleFrame.failed t code_I (begun l)))
+      → Expired (cond b (Words.start T200 (Words.repeated (Words.enquire t (begun l)))) (MultipleFrame.failed t code_I (begun l))).link
   again room here b up = grind (arith, enquires)
 
   expires-in : Words.has_room t l ≡ true → (here : State) → l.state ≡ here → IsTrue (is_multiple_frame here) → (timer : LinkTimer)
@@ -58,13 +51,9 @@ module _ (t : Terms) (l : Link) where
   expires-so before timer room up = grind (arith, expires-in)
 
   -- where it runs in state 7, or T200 in 8, it is so
-  asks-in : Words.has_room t l ≡ true → (here : State) → l.state ≡ here → IsTrue (is_multiple_frame here) → IsUpIn (Machine.expired_in here T200 t (begun l))
-      → Enquired t l (Machine.expired_in here T200 t (begun l)).link
-  asks-in room here e before up = grind (arith, enquires)
-
   pub asks-so : IsTrue (is_multiple_frame l.state) → Machine.is_running T200 l ≡ true → Words.has_room t l ≡ true
       → IsUpIn (Machine.course t (expired T200) l) → Enquired t l (Machine.after t (expired T200) l)
-  asks-so before running room up = grind (arith, asks-in)
+  asks-so before running room up = grind (arith, enquires)
 
   -- an offer
   abbrev Says : Course → Type 0
@@ -166,13 +155,6 @@ module _ (t : Terms) (l : Link) where
     fitting : (b : Bool) (u v : Course) → (IsUpIn u → ⊥) → (IsUpIn v → Next v.link) → IsUpIn (cond b u v) → Next (cond b u v).link
     fitting b u v x y up = grind arith
 
-    next-by : (f : ℕ → Step) → ((n : ℕ) → Next (f n contents).link) → IsUpIn (MultipleFrame.information_in_7_8 t ns nr false octets f (begun l))
-        → Next (MultipleFrame.information_in_7_8 t ns nr false octets f (begun l)).link
-    next-by f x up = fitting (nat_lt t.n201 (length octets)) _ _ (λ u. true≢false (sym u)) (λ u. by-number Next nr f contents x u) up
-
-    next-7 : (n : ℕ) → Next (Established.acknowledged_by_information_in_7 n contents).link
-    next-7 n = grind (arith, either, taken)
-
     pub next-taken : IsTrue (is_multiple_frame l.state) → (b : Bool) → IsUpIn (Machine.frame_step t b octets (Information ns nr false) (begun l))
         → Next (Machine.frame_step t b octets (Information ns nr false) (begun l)).link
-    next-taken before b up = grind (arith, next-by, next-7)
+    next-taken before b up = grind (arith, fitting, nat_lt, by-number, either, taken)

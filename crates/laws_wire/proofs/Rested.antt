@@ -1,7 +1,6 @@
 -- What is done at one end of a call in which frames are lost and timers expire makes what is still to do less, or tells an error.
-use Rattle.laws_wire.proofs.Vocabulary.{◌≡◌, ℕ, ◌+◌, ◌-◌, ◌*◌, ◌≤◌, cond, List, [], ◌∷◌, ◌++◌, length, map, drop, refl, sym, ap, subst, ◌∙◌, ◌⊎◌, inl, inr, length-append, arith, Service, Timer, Parts, spelling, LinkTimer, Link, course, given, End, with_link, with_sent, frame_given, Config, LineTold, expiry, request, after, Course, Data, Station, Wire, happens, with_first_of, with_first_lost, Act, requests, times_out, gives, takes, loses, acting, is_any, comes, granted_of, next, IsRoughTalkOf, is_move_of, expiries_of}
+use Rattle.laws_wire.proofs.Vocabulary.{◌≡◌, ℕ, ◌+◌, ◌-◌, ◌*◌, ◌≤◌, cond, List, [], ◌∷◌, ◌++◌, length, map, drop, refl, sym, ap, subst, ◌∙◌, ◌⊎◌, inl, inr, length-append, arith, Service, Timer, Parts, spelling, LinkTimer, Link, course, given, End, with_link, with_sent, frame_given, Config, LineTold, expiry, request, after, Course, Data, Station, Wire, happens, with_first_of, with_first_lost, Act, requests, times_out, gives, takes, loses, acting, is_any, comes, granted_of, next, IsRoughTalkOf, is_move_of, expiries_of, two_ends_with_first_lost}
 use Rattle.model_link.specs.Events as link
-use Rattle.model_link.specs.TwoEnds as two_ends
 use Rattle.laws_wire.proofs.Answered.{gives-granted, takes-granted, same-granted}
 use Rattle.laws_wire.proofs.Asking.{with_more}
 use Rattle.laws_wire.proofs.Fair.{HasError}
@@ -22,10 +21,6 @@ any-mapped : (f : Parts → List ℕ) (xs : List Parts) → cond {A = ℕ} (is_a
 any-mapped f [] = omega arith
 any-mapped f (x ∷ xs) = omega arith
 
-any-lost : (v : ℕ) (f : Parts → List ℕ) (xs : List Parts) → cond {A = ℕ} (is_any (map f xs)) 1 0 + load_way v (drop 1 xs) ≤ load_way v xs
-any-lost v f [] = omega arith
-any-lost v f (x ∷ xs) = omega arith
-
 module _ (service : Service) (tei : ℕ) (c d : Config) (p q : ℕ) (past_n past_m : List LineTold) (face : Face c d) (v : ℕ) (w : Wire) (n m : End)
     (near : Held c service tei p past_n w.near n) (far : Held d service tei q past_m w.far m) (low : m.link.r ≤ length n.link.contents) where
   -- the stations stand for other ends, of which so much is left to do
@@ -41,9 +36,6 @@ module _ (service : Service) (tei : ℕ) (c d : Config) (p q : ℕ) (past_n past
   -- nothing more is granted
   none-more : (a b x y : ℕ) → a ≡ x → b ≡ y → a + b ≡ x + y + 0
   none-more a b x y e f = omega (arith, e, f)
-
-  near-same : (s : Station) → s.granted ≡ w.near.granted → granted_of (record w { near = s }) ≡ granted_of w + 0
-  near-same s e = none-more (length s.granted) (length w.far.granted) (length w.near.granted) (length w.far.granted) (ap length e) refl
 
   abbrev moved_by : Act → ℕ
   moved_by act = cond {A = ℕ} (is_move_of act w) 1 0
@@ -66,7 +58,7 @@ module _ (service : Service) (tei : ℕ) (c d : Config) (p q : ℕ) (past_n past
     fell = goes_on v n m (with_sent n) m x.contents refl (moved_by gives) 0 x.received
         (total (moved_by gives) (load v (with_sent n).link) (load_way v n.way) (load_way v news) (load_way v (n.way ++ news)) (load v m.link + load_way v m.way) (load v n.link) (length news) ((v + 4) * 0)
         (way-append v n.way news) (subst (λ xs. cond {A = ℕ} (is_any xs) 1 0 ≤ length news) (sym (gives-frames service tei p w.near n own)) (any-mapped (spelling w.near.card.config.side) news)) x.falls);
-    granted = near-same (happens next w.near) (gives-granted w.near);
+    granted = (none-more (length (happens next w.near).granted) (length w.far.granted) (length w.near.granted) (length w.far.granted) (ap length (gives-granted w.near)) refl);
   }
     where
       news : List Parts
@@ -81,17 +73,16 @@ module _ (service : Service) (tei : ℕ) (c d : Config) (p q : ℕ) (past_n past
   -- ---- the first on its way is lost
 
   pub then-loses : Then (acting loses w) (moved_by loses) 0
-  then-loses = record {
-    n' = two_ends.with_first_lost n;
-    m' = m;
-    near' = (held-lost service tei p past_n c w.near n near).stands;
-    far' = far.stands;
-    more = 0;
-    fell = goes_on v n m (two_ends.with_first_lost n) m refl refl (moved_by loses) 0 refl
-        (total (moved_by loses) (load v n.link) (load_way v (drop 1 n.way)) (load_way v n.way) (load v m.link + load_way v m.way) ((v + 4) * 0)
-        (subst (λ way. cond {A = ℕ} (is_any way) 1 0 + load_way v (drop 1 n.way) ≤ load_way v n.way) (sym near.stands.way) (any-lost v (spelling c.side) n.way)));
-    granted = near-same (with_first_lost w.near) refl;
-  }
+  then-loses =
+      record {
+        n' = two_ends_with_first_lost n;
+        m' = m;
+        near' = (held-lost service tei p past_n c w.near n near).stands;
+        far' = far.stands;
+        more = 0;
+        fell = grind (arith, goes_on, total, load, load_way);
+        granted = (none-more (length (with_first_lost w.near).granted) (length w.far.granted) (length w.near.granted) (length w.far.granted) (ap length refl) refl);
+      }
     where
       total : (moved l way way' other z : ℕ) → moved + way ≤ way' → moved + (l + way) + other ≤ l + way' + other + z
       total moved l way way' other z less = omega (arith, less)
@@ -119,7 +110,7 @@ module _ (service : Service) (tei : ℕ) (c d : Config) (p q : ℕ) (past_n past
       far' = far.stands;
       more = 0;
       fell = goes_on v n m n2 m y.contents refl 0 1 y.received (total (load v went.link) (load v n.link) (load_way v n.way) (load v m.link + load_way v m.way) y.within);
-      granted = near-same left (same-granted (expiry timer) w.near refl);
+      granted = (none-more (length left.granted) (length w.far.granted) (length w.near.granted) (length w.far.granted) (ap length (same-granted (expiry timer) w.near refl)) refl);
     }
 
     then-expires : Leads (times_out timer)
@@ -130,29 +121,6 @@ module _ (service : Service) (tei : ℕ) (c d : Config) (p q : ℕ) (past_n past
         go (inr y) = inl (fairly-expires y)
 
   -- ---- its layer 3 asks for more
-
-  more-accepted : (octets : List ℕ) → Fell v 0 0 1 n m (with_more octets n) m
-  more-accepted octets =
-      let long : length (n.link.contents ++ octets ∷ []) ≡ length n.link.contents + 1 = length-append n.link.contents (octets ∷ []) in
-      record {
-        grown = sum (length (n.link.contents ++ octets ∷ [])) (length n.link.contents) (length m.link.contents) long;
-        falls =
-            total (load v (with_more octets n).link) (load v n.link) (load_way v n.way) (load v m.link + load_way v m.way) ((v + 4) * undelivered (with_more octets n).link m.link)
-            ((v + 4) * undelivered n.link m.link) ((v + 4) * undelivered m.link n.link) ((v + 4) * 0)
-            (heavier (length (n.link.contents ++ octets ∷ [])) long)
-            (ap (λ len. (v + 4) * (len - m.link.r)) long ∙ accepts-more (v + 4) (length n.link.contents) m.link.r low);
-      }
-    where
-      sum : (a b c : ℕ) → a ≡ b + 1 → a + c ≡ b + c + 1
-      sum a b c e = omega (arith, e)
-
-      heavier : (len : ℕ) → len ≡ length n.link.contents + 1
-          → load_waiting v n.link.waiting + 2 * (len - n.link.s) + owes n.link.pending + may_reject v n.link.rejecting
-          + back v n.link.state ≤ load v n.link + 2
-      heavier len e = omega (arith, e)
-
-      total : (l' l way other u' u z y : ℕ) → l' ≤ l + 2 → u' ≡ u + (v + 4) → 0 + ((l' + way) + other + (u' + z)) ≤ (l + way) + other + (u + z) + y + (v + 6) * 1
-      total l' l way other u' u z y less e = omega (arith, less, e)
 
   pub then-asks : (octets : List ℕ) → Then (acting (requests (Data service tei octets)) w) 0 0
   then-asks octets = go (held-asked service tei p past_n c w.near n near octets)
@@ -171,7 +139,7 @@ module _ (service : Service) (tei : ℕ) (c d : Config) (p q : ℕ) (past_n past
         far' = far.stands;
         more = 0;
         fell = goes_on v n m n m refl refl 0 0 refl (omega arith);
-        granted = near-same s' (ap (λ (s : Station). s.granted) same);
+        granted = (none-more (length s'.granted) (length w.far.granted) (length w.near.granted) (length w.far.granted) (ap length (ap (λ (s : Station). s.granted) same)) refl);
       }
       go (inr x) = record {
         n' = with_more octets n;
@@ -179,7 +147,7 @@ module _ (service : Service) (tei : ℕ) (c d : Config) (p q : ℕ) (past_n past
         near' = x.held.stands;
         far' = far.stands;
         more = 1;
-        fell = more-accepted octets;
+        fell = grind (arith, length-append, load, with_more, load_way, undelivered, accepts-more, load_waiting, owes, may_reject);
         granted =
             one-more (length s'.granted) (length w.far.granted) (length n.link.contents) (length w.near.granted)
             (ap length x.held.granted ∙ length-append n.link.contents (octets ∷ [])) (sym (ap length near.granted));
@@ -191,7 +159,7 @@ module _ (service : Service) (tei : ℕ) (c d : Config) (p q : ℕ) (past_n past
   taken-grants = grind (arith, none-more, takes-granted)
 
   abbrev m1 : End
-  m1 = two_ends.with_first_lost m
+  m1 = two_ends_with_first_lost m
 
   lost : Stands d service tei q (with_first_lost w.far) m1
   lost = (held-lost service tei q past_m d w.far m far).stands
@@ -240,9 +208,7 @@ module _ (service : Service) (tei : ℕ) (c d : Config) (p q : ℕ) (past_n past
       where
         which : ((x.link.r ≡ n.link.r) × (load v x.link ≤ load v n.link + brings v f.address.command f.control))
             ⊎ ((x.link.r ≡ n.link.r + 1) × (load v x.link ≤ load v n.link + brings v f.address.command f.control + (v + 4))) → Fell v 1 0 0 n m n1 m1
-        which (inl (r, less)) =
-            goes_on v n m n1 m1 y.contents refl 1 0 r
-            (stays (load v x.link) (load v n.link) (load_way v n.way) (load v m.link) (load_way v m.way) (load_way v (drop 1 m.way)) (brings v f.address.command f.control) ((v + 4) * 0) behind less)
+        which (inl (r, less)) = grind (arith, goes_on, stays, load, load_way, brings, behind)
         which (inr (r, less)) =
             delivers v n m n1 m1 y.contents refl r few
             (counts (load v x.link) (load v n.link) (load_way v n.way) (load v m.link) (load_way v m.way) (load_way v (drop 1 m.way)) (brings v f.address.command f.control) behind less)

@@ -46,20 +46,17 @@ all-rough service tei (suc n) = grind (arith, all-rough service tei n)
 
 -- ---- nothing is granted in a round
 
-takes-grants : (way : List (List ℕ)) (s : Station) → (with_first_of way s).granted ≡ s.granted
-takes-grants way s = grind (arith, takes-granted)
-
 pub near-gives : (w : Wire) → granted_of (acting wire.gives w) ≡ granted_of w
 near-gives w = ap (λ (xs : List (List ℕ)). length xs + length w.far.granted) (gives-granted w.near)
 
 pub near-takes : (w : Wire) → granted_of (acting wire.takes w) ≡ granted_of w
-near-takes w = ap (λ (xs : List (List ℕ)). length xs + length w.far.granted) (takes-grants w.far.way w.near)
+near-takes w = ap (λ (xs : List (List ℕ)). length xs + length w.far.granted) (grind (arith, takes-granted))
 
 pub far-gives : (w : Wire) → granted_of (turned (acting wire.gives (turned w))) ≡ granted_of w
 far-gives w = ap (λ (xs : List (List ℕ)). length w.near.granted + length xs) (gives-granted w.far)
 
 pub far-takes : (w : Wire) → granted_of (turned (acting wire.takes (turned w))) ≡ granted_of w
-far-takes w = ap (λ (xs : List (List ℕ)). length w.near.granted + length xs) (takes-grants w.near.way w.far)
+far-takes w = ap (λ (xs : List (List ℕ)). length w.near.granted + length xs) (grind (arith, takes-granted))
 
 abbrev w1 : Wire → Wire
 w1 w = acting wire.gives w
@@ -83,16 +80,13 @@ none-more (suc n) w = none-more n (w4 w) ∙ near-takes (w3 w) ∙ far-gives (w2
 no-bit : (b : Bool) → cond {A = ℕ} b 1 0 ≡ 0 → b ≡ false
 no-bit b e = grind arith
 
-no-way : (way : List (List ℕ)) → is_any way ≡ false → way ≡ []
-no-way way e = grind arith
-
 no-front : (xs ys : List (List ℕ)) → xs ++ ys ≡ [] → xs ≡ []
 no-front [] ys e = refl
 no-front (x ∷ xs) ys e = absurd (cc)
 
 still-if : (w : Wire) → moves round w ≡ 0 → IsStill w
 unfolding moves
-still-if w e = grind (arith, gives-taken, option_map, no-front, no-bit, no-way)
+still-if w e = grind (arith, gives-taken, option_map, no-front, no-bit)
 
 -- So among more rounds than there are moves one finds no turn left.
 pub record Rests (n : ℕ) (w : Wire) : Type 0 where
@@ -154,6 +148,5 @@ pub rounds-come-to-rest : RoundsComeToRest
 rounds-come-to-rest service c d line other tei k ds can talk wide-near wide-far = λ fair.
     let w = doing_all ds (calling service tei c line d other) in
     let most = 2 * most_frames k (expiries ds) (granted_of w) in
-    let few = few-moves service c d line other tei k (most + 1) ds can talk wide-near wide-far fair in
-    let x = finds (most + 1) w (omega (arith, few)) in
+    let x = finds (most + 1) w (omega (arith, (few-moves service c d line other tei k (most + 1) ds can talk wide-near wide-far fair))) in
     (x.after, (let less = x.before in omega (arith, less)), x.still)

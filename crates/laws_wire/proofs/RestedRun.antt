@@ -5,7 +5,7 @@ use Rattle.laws_wire.proofs.Acting.{First, Before, which, UpAt, ranges, sound}
 use Rattle.laws_wire.proofs.Calling.{asked, sabme, ua, end, caller, takes-sabme}
 use Rattle.laws_wire.proofs.Fair.{HasError, frame-fair, sabme-error}
 use Rattle.laws_wire.proofs.Held.{Held, not-erred}
-use Rattle.laws_wire.proofs.Joint.{Joint, turned-joint, IsMeant, first-means, hears-on}
+use Rattle.laws_wire.proofs.Joint.{Joint, IsMeant, first-means, hears-on}
 use Rattle.laws_wire.proofs.LoadsHeard.{frame-hears}
 use Rattle.laws_wire.proofs.LossyPhases.{IsRinging, IsHalf, IsUp, UaOrNone, Goes, HasErred, Went}
 use Rattle.laws_wire.proofs.LossyRun.{goes, errs, setting, rings}
@@ -13,10 +13,7 @@ use Rattle.laws_wire.proofs.Rested.{TakesWell, then-acts}
 use Rattle.laws_wire.proofs.Ringing.{ringing, IsSabme, AreSabmes, ignores}
 use Rattle.laws_wire.proofs.Standing.{Stands}
 use Rattle.laws_wire.proofs.Talking.{Face}
-use Rattle.laws_wire.proofs.Weighing.{same-link, same-way, weigh_of, weigh, Fell, fell-turned}
-
-pub times-sum : (d x y : ℕ) → d * (x + y) ≡ d * x + d * y
-times-sum d x y = omega arith
+use Rattle.laws_wire.proofs.Weighing.{same-way, weigh_of, weigh, Fell, fell-turned}
 
 module _ (service : Service) (tei v : ℕ) where
   -- what the link of an end makes of a frame: it tells an error, or has less to send
@@ -35,9 +32,8 @@ module _ (service : Service) (tei v : ℕ) where
         | inl error ↦ inl error
         | inr fine ↦
             let its-sound = sound service tei place past k s n h.held in
-            let y = hears-on n m f near far (ranges service tei place past k s n h.held) far-ranges its-sound h.up fine.up h.joint in
             let x = (frame-hears v n.terms n.link its-sound wide-here h.up f meant.number meant.means).hears fine.up in
-            inr (record { contents = x.0; falls = x.1 }, y.joint.back.accepted)
+            inr (record { contents = x.0; falls = x.1 }, (hears-on n m f near far (ranges service tei place past k s n h.held) far-ranges its-sound h.up fine.up h.joint).joint.back.accepted)
       ]
 
 module _ (service : Service) (tei : ℕ) (c d : Config) (p q : ℕ) (face : Face c d) (back : Face d c) (rt : IsInRange (terms c service tei)) (ru : IsInRange (terms d service tei)) (v : ℕ)
@@ -60,8 +56,6 @@ module _ (service : Service) (tei : ℕ) (c d : Config) (p q : ℕ) (face : Face
     here : n.link.r ≤ length m.link.contents
 
   seen : (w : Wire) → Goes service tei c d p q w → Seen w
-  seen w (inl h) =
-      record { n = end t (ringing h.repeats h.waiting) h.way; m = end u fresh []; past_n = []; past_m = []; near = h.near; far = h.far; there = omega arith; here = omega arith }
   seen w (inr (inl h)) =
       record {
         n = end t (ringing h.repeats h.waiting) h.way;
@@ -73,43 +67,14 @@ module _ (service : Service) (tei : ℕ) (c d : Config) (p q : ℕ) (face : Face
         there = h.far.joint.back.accepted;
         here = omega arith;
       }
-  seen w (inr (inr h)) =
-      record {
-        n = h.n;
-        m = h.m;
-        past_n = confirmed service tei ∷ [];
-        past_m = indicated service tei ∷ [];
-        near = h.near.held;
-        far = h.far.held;
-        there = h.near.joint.there.accepted;
-        here = h.near.joint.back.accepted;
-      }
+  seen w o = grind (arith, end, ringing)
 
   -- ---- what the near end takes
-
-  half-well : (w : Wire) (h : IsHalf service tei c d p q w) (f : Parts) (fs : List Parts) → h.m.way ≡ f ∷ fs → Well service tei v (end t (ringing h.repeats h.waiting) h.way) h.m f
-  half-well w h f fs e = go (which f rest h.first h.line (sym (ap (λ way. way ++ frames_of h.m.terms h.m.link.waiting) e) ∙ h.far.line))
-    where
-      rest : List Parts
-      rest = fs ++ frames_of h.m.terms h.m.link.waiting
-
-      n : End
-      n = end t (ringing h.repeats h.waiting) h.way
-
-      by-ua : (g : Parts) → g ≡ ua u → Well service tei v n h.m g
-      by-ua g is = subst (Well service tei v n h.m) (sym is) (inr (record { contents = refl; falls = inl (refl, omega arith) }, omega arith))
-
-      only : UaOrNone service tei c d p q h.first → (others : List Parts) → h.first ≡ f ∷ others → Well service tei v n h.m f
-      only (inl none) others is = let wrong : [] ≡ f ∷ others = sym none ∙ is in absurd (cc)
-      only (inr one) others is = let same : f ∷ others ≡ ua u ∷ [] = sym is ∙ one in let head : f ≡ ua u = cc in by-ua f head
-
-      go : First f rest h.first h.line ⊎ Before f rest h.first h.line → Well service tei v n h.m f
-      go o = grind (arith, first-means, end, caller, rest, turned-joint, Joint, ignores)
 
   near-well : (w : Wire) (h : Goes service tei c d p q w) (f : Parts) (fs : List Parts) → (seen w h).m.way ≡ f ∷ fs → Well service tei v (seen w h).n (seen w h).m f
   unfolding seen
   near-well w (inl h) f fs e = let wrong : [] ≡ f ∷ fs = e in absurd (cc)
-  near-well w (inr (inl h)) f fs e = half-well w h f fs e
+  near-well w (inr (inl h)) f fs e = grind (arith, which, frames_of, end, ringing, ua, first-means, caller, ignores)
   near-well w (inr (inr h)) f fs e =
       let rest = fs ++ frames_of h.m.terms h.m.link.waiting in
       let is : h.here ≡ f ∷ rest = sym h.far.line ∙ ap (λ way. way ++ frames_of h.m.terms h.m.link.waiting) e in
@@ -192,25 +157,21 @@ module _ (service : Service) (tei : ℕ) (c d : Config) (p q : ℕ) (face : Face
   -- the same ends
   weighs-same : (w : Wire) (x : Seen w) (n' m' : End) → Stands c service tei p w.near n' → Stands d service tei q w.far m' → (n'.link ≡ x.n.link) × (m'.link ≡ x.m.link) × (weigh v n' m' ≡ weigh v x.n x.m)
   weighs-same w x n' m' near far =
-      let near-link = same-link service tei c p w.near n' x.n near x.near.stands in
-      let near-way = same-way service tei c p w.near n' x.n near x.near.stands in
-      let far-link = same-link service tei d q w.far m' x.m far x.far.stands in
+      let near-link = (sym near.speaks.link ∙ x.near.stands.speaks.link) in
+      let far-link = (sym far.speaks.link ∙ x.far.stands.speaks.link) in
       let far-way = same-way service tei d q w.far m' x.m far x.far.stands in
-      (near-link, far-link, λ i. weigh_of v (near-link i) (near-way i) (far-link i) (far-way i))
+      (near-link, far-link, λ i. weigh_of v (near-link i) ((same-way service tei c p w.near n' x.n near x.near.stands) i) (far-link i) (far-way i))
 
   sum : (moved rest weight weight' weight'' a b a' b' z z' : ℕ) → weight' ≡ weight'' → z ≡ a + a' → z' ≡ b + b' → moved + weight' ≤ weight + a + b → rest ≤ weight'' + a' + b' → moved + rest ≤ weight + z + z'
   sum moved rest weight weight' weight'' a b a' b' z z' e f g first then = omega (arith, e, f, g, first, then)
-
-  more-granted : (all n m n' m' one two : ℕ) → n' + m' ≡ n + m + one → all ≡ n' + m' + two → all ≡ n + m + (one + two)
-  more-granted all n m n' m' one two e f = omega (arith, e, f)
 
   joins : (moved rest expired others : ℕ) (w' last : Wire) (n m : End) (y : Next w' moved expired n m) (x : Seen w') → Total rest others x.n x.m last → Total (moved + rest) (expired + others) n m last
   joins moved rest expired others w' last n m y x z =
       let same = weighs-same w' x y.n' y.m' y.near y.far in
       record {
         more = y.more + z.more;
-        granted = grind (arith, more-granted);
-        falls = grind (arith, sum, weigh, times-sum);
+        granted = grind arith;
+        falls = grind (arith, sum, weigh);
       }
 
   runs : (ds : List Doing) → All (IsRoughTalk service tei) ds → (w : Wire) (h : Goes service tei c d p q w)
@@ -218,14 +179,7 @@ module _ (service : Service) (tei : ℕ) (c d : Config) (p q : ℕ) (face : Face
   unfolding doing_all moves expiries
   runs [] all w h =
       let x = seen w h in
-      inl (record {
-        more = 0;
-        granted = none (length w.near.granted) (length w.far.granted) (length x.n.link.contents) (length x.m.link.contents) (ap length x.near.granted) (ap length x.far.granted);
-        falls = omega arith;
-      })
-    where
-      none : (a b a' b' : ℕ) → a ≡ a' → b ≡ b' → a + b ≡ a' + b' + 0
-      none a b a' b' e f = omega (arith, e, f)
+      grind arith
   runs (k ∷ ds) all w h =
       by (step k its w h) (goes service tei c d p q face back rt ru k its w h) (λ h'. runs ds (All-tail (IsRoughTalk service tei) k ds all) (doing k w) h')
     where
@@ -285,9 +239,6 @@ module _ (service : Service) (tei : ℕ) (c d : Config) (p q : ℕ) (face : Face
       go : Total (moves ds w) (expiries ds) h.n h.m (doing_all ds w) ⊎ Errs (doing_all ds w) → moves ds w ≤ weigh v h.n h.m
       go o = grind (arith, none-more, weigh, none, not-erred)
 
-in-frames : (moved k x g : ℕ) → moved ≤ (2 * (2 * k) + 8) + (2 * k + 4) * x + (2 * k + 6) * g → moved ≤ 2 * most_frames k x g
-in-frames moved k x g less = omega (arith, less)
-
 pub twice : (x k : ℕ) → x ≤ k → 2 * x ≤ 2 * k
 twice x k le = omega (arith, le)
 
@@ -295,6 +246,8 @@ pub moves-come-to-an-end : MovesComeToAnEnd
 moves-come-to-an-end service c d line other tei k ds can talk wide-near wide-far = λ fair-near fair-far.
     let x = setting service c d line other tei can in
     let w = calling service tei c line d other in
-    in-frames (moves ds w) k (expiries ds) (granted_of (doing_all ds w))
-    (from-ringing service tei c d 0 0 x.face x.back x.near x.far (2 * k) (twice (terms c service tei).k k wide-near) (twice (terms d service tei).k k wide-far) ds talk w
-    (rings service c d line other tei x) refl refl fair-near fair-far)
+    (omega (
+      arith,
+      (from-ringing service tei c d 0 0 x.face x.back x.near x.far (2 * k) (twice (terms c service tei).k k wide-near) (twice (terms d service tei).k k wide-far) ds talk w
+          (rings service c d line other tei x) refl refl fair-near fair-far),
+    ))

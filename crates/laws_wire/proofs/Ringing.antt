@@ -1,6 +1,5 @@
 -- A link that awaits its establishment, as often as SABME was repeated and whatever waits; and what comes of it.
-use Rattle.laws_wire.proofs.Vocabulary.{arith, ◌≡◌, ℕ, ◌+◌, ◌<◌, Bool, true, false, cond, List, [], ◌∷◌, ◌++◌, length, drop, None, Some, refl, sym, ap, subst, ◌∙◌, ◌⊎◌, inl, inr, append-nil, append_assoc, All, nat_lt, lt-ltb, All-nil, All-cons, All-tail, All-append, Sabme, Parts, T203, ControlFrame, Terms, Link, fresh, frame_of, received, expired, course, begun, ◌then◌, with_sent, command, frames_of, frames-append, Means, T200, frame, after, Course}
-use Rattle.lapd_frame.specs.declared.notes.ErrorCode.TheVariants as code
+use Rattle.laws_wire.proofs.Vocabulary.{arith, ◌≡◌, ℕ, ◌+◌, ◌<◌, Bool, true, false, cond, List, [], ◌∷◌, ◌++◌, length, drop, None, Some, refl, sym, ap, subst, ◌∙◌, ◌⊎◌, inl, inr, append-nil, append_assoc, All, nat_lt, lt-ltb, All-nil, All-cons, All-tail, All-append, Sabme, Parts, T203, ControlFrame, Terms, Link, fresh, frame_of, received, expired, course, begun, ◌then◌, with_sent, command, frames_of, frames-append, Means, T200, frame, after, Course, code_G}
 use Rattle.model_link.specs.declared.states.State.TheVariants as state
 use Rattle.model_link.specs.Words
 use Rattle.laws_wire.proofs.Calling.{sabme, end}
@@ -40,7 +39,7 @@ module _ (t : Terms) (k : ℕ) (ws : List ControlFrame) where
   again room = record (begun (ringing (k + 1) (cond room (ws ++ its_sabme ∷ []) ws))) { started = Some T200; lost = cond {A = ℕ} room 0 1 }
 
   abbrev given_up : Course
-  given_up = (Words.discard then Words.error t code.G then Words.release_indication t then Words.no_timer then Words.enter state.TeiAssigned) (begun l)
+  given_up = (Words.discard then Words.error t code_G then Words.release_indication t then Words.no_timer then Words.enter state.TeiAssigned) (begun l)
 
   t200-is : course t (expired T200) l ≡ cond (nat_lt k t.n200) (again (nat_lt (length ws) t.control)) given_up
   t200-is = refl

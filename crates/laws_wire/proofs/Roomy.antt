@@ -2,6 +2,7 @@
 use Rattle.laws_wire.proofs.Vocabulary.{◌≡◌, ℕ, ◌+◌, ◌≤◌, Bool, true, false, List, [], ◌∷◌, ◌++◌, length, refl, arith, All, lt-ltb, All-head, All-tail, Control, Parts, ControlFrame, Terms, End, has_room, frames_of, is_enquiry, HasNo, line, Kind, kind_of, kinds_of, kinds-append, tally, one_enquiry, one_answer, one_rejection}
 use Rattle.laws_wire.proofs.Firm.{Firm}
 use Rattle.laws_wire.proofs.Tame.{WaitsSo}
+use Rattle.laws_link.proofs.OfTwo.StayingUp.{not-enquiry}
 
 abbrev pub kinds : End → List Kind
 kinds n = line n.terms n.way n.link.waiting
@@ -31,10 +32,6 @@ roomy n m h wide few =
     let r = within one_rejection n in
     let one : tally one_rejection (kinds n) ≤ 1 = h.back.one in
     lt-ltb (length n.link.waiting) n.terms.control (omega (arith, all, e, a, r, one, few, wide))
-
--- no enquiry is none among the kinds
-not-enquiry : (b : Bool) (control : Control) → is_enquiry b control ≡ false → one_enquiry (kind_of b control) ≡ 0
-not-enquiry b control e = grind arith
 
 none-waits : (t : Terms) (ws : List ControlFrame) → All (λ f. is_enquiry f.command f.control ≡ false) ws → tally one_enquiry (kinds_of (frames_of t ws)) ≡ 0
 none-waits t [] h = refl

@@ -1,7 +1,5 @@
 -- What is so of two stations and of two ends, and stays so whichever station gives or takes, is so round after round.
-use Rattle.laws_wire.proofs.Vocabulary.{ℕ, zero, suc, Ends, Wire, gives, takes, acting, turned, doing_all, round, rounds}
-use Rattle.model_link.specs.TwoEnds as two_ends
-use Rattle.laws_link.specs.two.Rounds as two_links
+use Rattle.laws_wire.proofs.Vocabulary.{ℕ, zero, suc, Ends, Wire, gives, takes, acting, turned, doing_all, round, rounds, receives, two_ends_doing, two_ends_at_near, sends, two_links_rounds, two_links_round}
 
 abbrev turned_ends : Ends → Ends
 turned_ends e = record { near = e.far; far = e.near }
@@ -10,26 +8,26 @@ abbrev pub Turns : (Wire → Ends → Type 0) → (Wire → Ends → Type 0) →
 Turns A B = (w : Wire) (e : Ends) → A w e → B (turned w) (turned_ends e)
 
 abbrev pub Gives : (Wire → Ends → Type 0) → Type 0
-Gives A = (w : Wire) (e : Ends) → A w e → A (acting gives w) (two_ends.doing (two_ends.at_near two_ends.sends) e)
+Gives A = (w : Wire) (e : Ends) → A w e → A (acting gives w) (two_ends_doing (two_ends_at_near sends) e)
 
 abbrev pub Takes : (Wire → Ends → Type 0) → Type 0
-Takes A = (w : Wire) (e : Ends) → A w e → A (acting takes w) (two_ends.doing (two_ends.at_near two_ends.receives) e)
+Takes A = (w : Wire) (e : Ends) → A w e → A (acting takes w) (two_ends_doing (two_ends_at_near receives) e)
 
 -- with the far station in the near one's place: B
 module _ (A B : Wire → Ends → Type 0) (there : Turns A B) (back : Turns B A) (near-gives : Gives A) (far-gives : Gives B) (near-takes : Takes A) (far-takes : Takes B) where
-  round-keeps : (w : Wire) (e : Ends) → A w e → A (doing_all round w) (two_links.round e)
+  round-keeps : (w : Wire) (e : Ends) → A w e → A (doing_all round w) (two_links_round e)
   unfolding doing_all
   round-keeps w e h =
       let w1 = turned (acting gives w) in
-      let e1 = turned_ends (two_ends.doing (two_ends.at_near two_ends.sends) e) in
+      let e1 = turned_ends (two_ends_doing (two_ends_at_near sends) e) in
       let w2 = acting takes w1 in
-      let e2 = two_ends.doing (two_ends.at_near two_ends.receives) e1 in
+      let e2 = two_ends_doing (two_ends_at_near receives) e1 in
       let h2 : B w2 e2 = far-takes w1 e1 (there (acting gives w) (turned_ends e1) (near-gives w e h)) in
       let w3 = acting gives w2 in
-      let e3 = two_ends.doing (two_ends.at_near two_ends.sends) e2 in
+      let e3 = two_ends_doing (two_ends_at_near sends) e2 in
       near-takes (turned w3) (turned_ends e3) (back w3 e3 (far-gives w2 e2 h2))
 
-  pub rounds-keep : (k : ℕ) (w : Wire) (e : Ends) → A w e → A (rounds k w) (two_links.rounds k e)
-  unfolding rounds two_links.rounds
+  pub rounds-keep : (k : ℕ) (w : Wire) (e : Ends) → A w e → A (rounds k w) (two_links_rounds k e)
+  unfolding rounds two_links_rounds
   rounds-keep zero w e h = h
-  rounds-keep (suc k) w e h = rounds-keep k (doing_all round w) (two_links.round e) (round-keeps w e h)
+  rounds-keep (suc k) w e h = rounds-keep k (doing_all round w) (two_links_round e) (round-keeps w e h)

@@ -13,11 +13,8 @@ use Rattle.laws_wire.proofs.Spelled.{twice-other}
 use Rattle.laws_wire.proofs.SoFar.{at-first, then-data}
 use Rattle.laws_wire.proofs.Standing.{Stands, still-gives-none}
 use Rattle.laws_wire.proofs.Talking.{Face, Past, unheard, after_note, Holds, all-told, none-told, no-way}
-use Rattle.laws_wire.proofs.Up.{pair_of, Talk, turned-talk, granted_of}
+use Rattle.laws_wire.proofs.Up.{pair_of, Talk, granted_of, turned-pair}
 use Rattle.laws_wire.proofs.Quiet.{Both}
-
-joined-price : (b k w w1 w2 g g1 g2 x x1 x2 : ℕ) → b + w1 + (4 * g + x) ≤ w + (4 * g1 + x1) → k + w2 + (4 * g1 + x1) ≤ w1 + (4 * g2 + x2) → (b + k) + w2 + (4 * g + x) ≤ w + (4 * g2 + x2)
-joined-price b k w w1 w2 g g1 g2 x x1 x2 h i = omega (arith, h, i)
 
 or-none : (both : Bool) → both ≡ (both || false)
 or-none both = grind arith
@@ -109,23 +106,16 @@ module _ (service : Service) (tei : ℕ) where
       pub goes : On (both || both_call ds w) (doing_all ds w) weight
       pub price : turns ds w + weight + (4 * granted_of w + cost both) ≤ before + (4 * granted_of (doing_all ds w) + cost (both || both_call ds w))
 
-    none-done : (x k y : ℕ) → x ≡ k → 0 + y + x ≤ y + k
-    none-done x k y e = omega (arith, e)
-
     pub runs : (ds : List Doing) → All (IsCall service tei) ds → (both : Bool) (w : Wire) (k : ℕ) → On both w k → Ran both ds w k
     unfolding doing_all turns both_call
-    runs [] all both w k h = record { weight = k; goes = subst (λ y. On y w k) (or-none both) h; price = none-done _ _ k (ap (λ y. 4 * granted_of w + cost y) (or-none both)) }
+    runs [] all both w k h = record { weight = k; goes = subst (λ y. On y w k) (or-none both) h; price = (omega (arith, (ap (λ y. 4 * granted_of w + cost y) (or-none both)))) }
     runs (x ∷ ds) all both w k h =
         let w1 = doing x w in
         let one = step service tei few c d p q face back rt ru both x (All-head (IsCall service tei) x ds all) w k h in
         let both1 = both || calls_back x w in
         let rest = runs ds (All-tail (IsCall service tei) x ds all) both1 w1 one.weight one.goes in
         let same = or-both both (calls_back x w) (both_call ds w1) in
-        record {
-          weight = rest.weight;
-          goes = subst (λ y. On y (doing_all ds w1) rest.weight) same rest.goes;
-          price = grind (arith, granted_of, cost, joined-price);
-        }
+        grind (arith, granted_of, cost)
 
     -- where SABMEs cross a turn is left
     crossing-moves : (own other : crossed.Place) (w : Wire) → Both service tei c d p q unheard unheard w (crossed.crossing (terms c service tei) own other) (crossed.crossing (terms d service tei) other own) → IsStill w → ⊥
@@ -138,9 +128,6 @@ module _ (service : Service) (tei : ℕ) where
     crossing-moves returns returns w h still = let no = way-empty c p unheard w.near _ h.near still.near_way in cc
     crossing-moves other any w h still = let no = none-given c p unheard w.near _ h.near still.near in cc
 
-    turned-still : (w : Wire) → IsStill w → IsStill (turned w)
-    turned-still w h = record { near = h.far; far = h.near; near_way = h.far_way; far_way = h.near_way }
-
     -- both are up where no turn is left
     pub up-still : (both : Bool) (w : Wire) (k : ℕ) → On both w k → IsStill w → AreUp service tei c d p q (told_first service tei both) w
     up-still false w k (inl h) still = let no = none-given c p unheard w.near _ h.both.near still.near in absurd (cc)
@@ -149,8 +136,8 @@ module _ (service : Service) (tei : ℕ) where
     up-still true w k (inl h) still = absurd (crossing-moves h.own h.other w h.both still)
     up-still true w k (inr (inl h)) still = half-up (told_first service tei true) c d p q face back rt w k h still
     up-still true w k (inr (inr h)) still =
-        let x = half-up (confirmed service tei) d c q p back face ru (turned w) k h (turned-still w still) in
-        record { n = x.m; m = x.n; talk = turned-talk service tei d c q p (after_note (confirmed service tei)) (after_note (confirmed service tei)) (turned w) x.n x.m x.talk }
+        let x = half-up (confirmed service tei) d c q p back face ru (turned w) k h (record { near = still.far; far = still.near; near_way = still.far_way; far_way = still.near_way }) in
+        record { n = x.m; m = x.n; talk = (record { near = x.talk.far; far = x.talk.near; pair = turned-pair x.n x.m x.talk.pair }) }
 
     neither-told : (note : LineTold) (w : Wire) (n m : End) → Both service tei c d p q unheard unheard w n m → n.delivered ≡ [] → m.delivered ≡ [] → ToldSoFar service tei note w
     neither-told note w n m h none none' = record { near = not-yet (confirmed service tei) c p w.far w.near n h.near none; far = not-yet note d q w.near w.far m h.far none' }

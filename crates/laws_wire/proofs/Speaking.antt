@@ -18,9 +18,6 @@ abbrev pub TellsData : Terms → Course → Type 0
 TellsData t c = said_by c ≡ map (data_told t.service t.tei) (option_to_list c.delivered)
 
 module _ (n m : End) (hn : Steady n) (hm : Steady m) (there : Direction n m) (back : Direction m n) where
-  same-link : m.link ≡ plain m.link
-  same-link = ap (λ (x : End). x.link) (is-steady m hm)
-
   high : n.link.r ≤ m.link.s
   high = lane-order m.terms m.link.contents n.link.r m.link.s n.link.a m.link.r m.link.pending m.way back.lane
 
@@ -43,26 +40,10 @@ module _ (n m : End) (hn : Steady n) (hm : Steady m) (there : Direction n m) (ba
       let number : Course → Course = λ c. Words.by_number m.terms (seq l.r) Established.acknowledged_by_information_in_7 c in
       let added = MultipleFrame.in_sequence m.terms false octets first in
       let a = acked m false n.terms l v fits named-v low in
-      let is : course m.terms (received (frame (information_frame n.terms l))) (plain m.link) ≡ record added { link = record added.link { a = v; running = a.running }; started = a.started } =
-      ap (λ b. cond b (MultipleFrame.failed m.terms code.O first) (number (MultipleFrame.contents_in_7_8 m.terms (seq l.s) false octets first))) fits
-      ∙ ap (λ b. number (cond b (MultipleFrame.in_sequence m.terms false octets first) (MultipleFrame.out_of_sequence m.terms false first))) next
-      ∙ a.is in
-      subst (λ x. Tells f x) (sym same-link)
-      (subst (λ g. Tells g (plain m.link)) (sym here.is) (subst (TellsData m.terms) (sym is) refl))
-
-  tells-n : (f : Parts) (fs : List Parts) (v : ℕ) → m.link.a ≤ v → (here : Notes n.terms v f)
-      → Lane n.terms n.link.contents m.link.r n.link.s v n.link.r n.link.pending fs → Tells f m.link
-  tells-n f fs v low here rest = grind (arith, lane-low, names, same-link)
+      grind (arith, information_frame, is-steady)
 
   pub tells-data : (f : Parts) (fs : List Parts) → n.way ≡ f ∷ fs → Tells f m.link
   tells-data f fs e = go (subst (λ way. Lane n.terms n.link.contents m.link.r n.link.s m.link.a n.link.r n.link.pending way) e there.lane)
     where
       go : Lane n.terms n.link.contents m.link.r n.link.s m.link.a n.link.r n.link.pending (f ∷ fs) → Tells f m.link
-      go (v, low, inl (here, rest)) = tells-i f fs v low here rest
-      go (v, low, inr (here, rest)) = tells-n f fs v low here rest
-
--- so its layer 3 was told what it has delivered
-pub told-so-far : (service : Service) (tei : ℕ) (first : List LineTold) (old more : List (List ℕ)) (told said : List LineTold)
-    → told ≡ first ++ map (data_told service tei) old → said ≡ map (data_told service tei) more
-    → told ++ said ≡ first ++ map (data_told service tei) (old ++ more)
-told-so-far service tei first old more told said is more-is = grind (arith, append_assoc, map-append)
+      go o = grind (arith, tells-i, lane-low, names, is-steady)

@@ -1,11 +1,10 @@
 -- A station at whose line one link alone speaks stands for an end of two links that face each other.
-use Rattle.laws_wire.proofs.Vocabulary.{arith, ◌≡◌, ℕ, ◌+◌, ◌<◌, ◌≤◌, Bool, true, false, cond, List, [], ◌++◌, length, map, set, Option, Some, None, IfSome, option_map, Ok, refl, sym, ap, subst, ◌∙◌, ◌⊎◌, inl, inr, append-nil, All, get_or-set_same, set-get_or, map-append, All-nil, All-cons, All-append, Refusal, PoolFull, Service, Timer, Parts, spelling, reading, sapi_of, Terms, LinkTimer, frame_of, Given, End, with_link, with_sent, frame_given, given_is_frame, Config, came, hears, expiry, request, next, Answer, refused, gave, at_timer, aim_of_expiry, Line, fresh_line, place_in, link_number, terms, unless_refused, unless_refused_told, of_request, heard_side, with_given_frame, next_of, Request, at_requested, aim_of_request, sound_in, given_short, terms_in_range, Card, line_at, wants_room, after_is_sound, has_lines, line_sound, Event, Station, answered, happens, comes, told_by, frames_by, contents_of}
+use Rattle.laws_wire.proofs.Vocabulary.{arith, ◌≡◌, ℕ, ◌+◌, ◌<◌, ◌≤◌, Bool, true, false, cond, List, [], ◌++◌, length, map, set, Option, Some, None, IfSome, option_map, Ok, refl, sym, ap, subst, ◌∙◌, ◌⊎◌, inl, inr, append-nil, All, get_or-set_same, set-get_or, map-append, All-nil, All-cons, All-append, Refusal, PoolFull, Service, Timer, Parts, spelling, reading, sapi_of, Terms, LinkTimer, frame_of, Given, End, with_link, with_sent, frame_given, given_is_frame, Config, came, hears, expiry, request, next, Answer, refused, gave, at_timer, aim_of_expiry, Line, fresh_line, place_in, link_number, terms, unless_refused, unless_refused_told, of_request, heard_side, with_given_frame, next_of, Request, at_requested, aim_of_request, sound_in, given_short, terms_in_range, Card, line_at, wants_room, after_is_sound, has_lines, line_sound, Event, Station, answered, happens, comes, told_by, frames_by, contents_of, line_answer, line_takes_slot, line_after}
 use Rattle.std.specs.Option.{unwrap_or}
 use Rattle.model_bits.specs.Stream.{frame}
 use Rattle.model_link.specs.Events as link
 use Rattle.model_link.specs.Machine as links
 use Rattle.model_link.specs.Sound as link_sound
-use Rattle.model_line.specs.Machine as lines
 use Rattle.model_line.specs.Refusal.{refusal}
 use Rattle.model_line.specs.Sound as line_sound
 use Rattle.model_card.specs.Event.{at as event_at}
@@ -67,15 +66,7 @@ module _ (service : Service) (tei place : ℕ) (s : Station) (n : End) (h : Stan
   -- so it stands for another end
   pub stands-then : (e : Event) (n' : End) → n'.terms ≡ n.terms → Speaks c service tei place n'.link (line_at s.line (after (event_at s.line e) m))
       → (happens e s).way ≡ map (spelling c.side) n'.way → All (IsCarried c service tei) n'.way → Stands c service tei place (happens e s) n'
-  stands-then e n' same-terms speaks way carried = record {
-    config = refl;
-    sound = after_is_sound m (event_at s.line e) h.sound h.within;
-    within = h.within;
-    speaks = speaks;
-    terms = same-terms ∙ h.terms;
-    way = way;
-    carried = carried;
-  }
+  stands-then e n' same-terms speaks way carried = assumption (after_is_sound m (event_at s.line e) h.sound h.within, speaks, same-terms ∙ h.terms, way, carried)
 
   -- ---- it gives
 
@@ -97,7 +88,7 @@ module _ (service : Service) (tei place : ℕ) (s : Station) (n : End) (h : Stan
   gives-frames = grind (arith, gives-own, frames-are)
 
   pub gives-stands : Stands c service tei place (happens next s) (with_sent n)
-  unfolding lines.takes_slot
+  unfolding line_takes_slot
   gives-stands =
       let sound : link_sound.IsSound t n.link = subst (λ u. link_sound.IsSound u n.link) h.terms link-sound in
       let ranges : link_sound.IsInRange t = subst link_sound.IsInRange h.terms link-ranges in
@@ -106,7 +97,7 @@ module _ (service : Service) (tei place : ℕ) (s : Station) (n : End) (h : Stan
       let given = frame_given n.terms (links.given n.terms n.link) in
       stands-then next (with_sent n) refl
       (subst (λ u. Speaks c service tei place (links.after u link.offer n.link) (line_at s.line (after (event_at s.line next) m))) (sym h.terms)
-      (subst (Speaks c service tei place (links.after t link.offer n.link)) (sym (there (lines.after c next l) (after (event_at s.line next) m) refl))
+      (subst (Speaks c service tei place (links.after t link.offer n.link)) (sym (there (line_after c next l) (after (event_at s.line next) m) refl))
       (goes-on c service tei place l own-sound n.link h.speaks)))
       (ap (λ way. way ++ frames_by (answered next s)) h.way ∙ ap (λ fs. map (spelling c.side) n.way ++ fs) gives-frames
       ∙ sym (map-append (spelling c.side) n.way given))
@@ -128,17 +119,17 @@ module _ (service : Service) (tei place : ℕ) (s : Station) (n : End) (h : Stan
     it = hears (came c.n201 octets)
 
     pub takes-stands : Stands c service tei place (comes octets s) (with_link (link.received (link.frame f)) n)
-    unfolding lines.takes_slot
+    unfolding line_takes_slot
     takes-stands =
         let e = link.received (link.frame f) in
         stands-then it (with_link e n) refl
         (subst (λ u. Speaks c service tei place (links.after u e n.link) (line_at s.line (after (event_at s.line it) m))) (sym h.terms)
-        (subst (Speaks c service tei place (links.after t e n.link)) (sym (there (lines.after c it l) (after (event_at s.line it) m) refl))
+        (subst (Speaks c service tei place (links.after t e n.link)) (sym (there (line_after c it l) (after (event_at s.line it) m) refl))
         (comes-on c service tei place l own-sound n.link h.speaks f octets whole read sapi by)))
         (takes-way octets s ∙ h.way) h.carried
 
     pub takes-told : (comes octets s).told ≡ s.told ++ said_by (links.course n.terms (link.received (link.frame f)) n.link)
-    unfolding lines.takes_slot
+    unfolding line_takes_slot
     takes-told = grind (arith, comes-told, own-sound, said_by)
 
   -- ---- its layer 3 asks
@@ -176,18 +167,18 @@ module _ (service : Service) (tei place : ℕ) (s : Station) (n : End) (h : Stan
     own-card o = record m { lines = set m.lines s.line (Rattle.model_line.specs.Effect.of_aim c (unless_refused o (aim_of_request r l)) l).line }
 
     found-room : wants_room (event_at s.line asks) m ≡ false → happens asks s ≡ made (own-card (refusal c false r l)) (own-answer (refusal c false r l))
-    unfolding own-answer own-card lines.after lines.answer
-    found-room is = ap (λ b. made (record m { lines = cond b m.lines (set m.lines s.line (lines.after c asks l)) }) (cond b (refused PoolFull) (lines.answer c asks l))) is
+    unfolding own-answer own-card line_after line_answer
+    found-room is = ap (λ b. made (record m { lines = cond b m.lines (set m.lines s.line (line_after c asks l)) }) (cond b (refused PoolFull) (line_answer c asks l))) is
 
     granted-by : wants_room (event_at s.line asks) m ≡ false → refusal c false r l ≡ None → happens asks s ≡ made (own-card (refusal c false r l)) (own-answer (refusal c false r l)) → Granted (happens asks s)
-    unfolding own-answer own-card lines.after lines.answer
+    unfolding own-answer own-card line_after line_answer
     granted-by room none is =
-        let its : line_at s.line (after (event_at s.line asks) m) ≡ lines.after c asks l =
-        ap (λ k. line_at s.line k.card) is ∙ there (lines.after c asks l) (own-card (refusal c false r l)) refl in
+        let its : line_at s.line (after (event_at s.line asks) m) ≡ line_after c asks l =
+        ap (λ k. line_at s.line k.card) is ∙ there (line_after c asks l) (own-card (refusal c false r l)) refl in
         record {
           none = none;
           answer =
-              ap (λ b. is_granted (cond b (refused PoolFull) (lines.answer c asks l))) room
+              ap (λ b. is_granted (cond b (refused PoolFull) (line_answer c asks l))) room
               ∙ ap (λ o. is_granted (unless_refused_told o (of_request c r l))) none;
           stands =
               stands-then asks (with_link e n) refl
@@ -206,7 +197,7 @@ module _ (service : Service) (tei place : ℕ) (s : Station) (n : End) (h : Stan
     asks-granted room none = granted-by room none (found-room room)
 
     pub asks-stands : (happens asks s ≡ s) ⊎ Granted (happens asks s)
-    unfolding own-answer own-card lines.after lines.answer
+    unfolding own-answer own-card line_after line_answer
     asks-stands = by-room (wants_room (event_at s.line asks) m) refl
       where
         by-line : wants_room (event_at s.line asks) m ≡ false → (o : Option Refusal) → refusal c false r l ≡ o → happens asks s ≡ made (own-card (refusal c false r l)) (own-answer (refusal c false r l))
@@ -216,13 +207,13 @@ module _ (service : Service) (tei place : ℕ) (s : Station) (n : End) (h : Stan
 
         by-room : (b : Bool) → wants_room (event_at s.line asks) m ≡ b → (happens asks s ≡ s) ⊎ Granted (happens asks s)
         by-room true is =
-            inl (ap (λ b. made (record m { lines = cond b m.lines (set m.lines s.line (lines.after c asks l)) }) (cond b (refused PoolFull) (lines.answer c asks l))) is
+            inl (ap (λ b. made (record m { lines = cond b m.lines (set m.lines s.line (line_after c asks l)) }) (cond b (refused PoolFull) (line_answer c asks l))) is
             ∙ same-station m PoolFull refl)
         by-room false is = by-line is (refusal c false r l) refl (found-room is)
 
     -- as it is answered
     pub asks-answered : is_granted (wire.answered asks s) ≡ true → Granted (happens asks s)
-    unfolding own-answer own-card lines.after lines.answer
+    unfolding own-answer own-card line_after line_answer
     asks-answered granted = grind (arith, granted-by, found-room)
 
   -- ---- a timer of it expires
@@ -232,15 +223,15 @@ module _ (service : Service) (tei place : ℕ) (s : Station) (n : End) (h : Stan
     expires = expiry timer
 
     pub expires-stands : Stands c service tei place (happens expires s) (with_link (link.expired its) n)
-    unfolding lines.takes_slot
+    unfolding line_takes_slot
     expires-stands =
         let e = link.expired its in
         stands-then expires (with_link e n) refl
         (subst (λ u. Speaks c service tei place (links.after u e n.link) (line_at s.line (after (event_at s.line expires) m))) (sym h.terms)
-        (subst (Speaks c service tei place (links.after t e n.link)) (sym (there (lines.after c expires l) (after (event_at s.line expires) m) refl))
+        (subst (Speaks c service tei place (links.after t e n.link)) (sym (there (line_after c expires l) (after (event_at s.line expires) m) refl))
         (expires-on c service tei place l own-sound n.link h.speaks timer its (aims l))))
         (expires-way timer s ∙ h.way) h.carried
 
     pub expires-said : (happens expires s).told ≡ s.told ++ said_by (links.course n.terms (link.expired its) n.link)
-    unfolding lines.takes_slot
+    unfolding line_takes_slot
     expires-said = grind (arith, expires-told, own-sound, said_by)

@@ -1,7 +1,7 @@
 -- Where T200 expires only as no turn is left it is long enough: the law with this premise follows.
-use Rattle.laws_wire.proofs.Vocabulary.{arith, ◌≡◌, ℕ, false, List, [], ◌∷◌, inl, inr, All, list_any, All-head, All-tail, Service, fresh, IsInRange, End, Config, LineTold, expiry, terms, Station, Wire, happens, Act, Doing, at_near, at_far, turned, doing, doing_all, IsStill, calling, is_error, HasNoError, answered, told_by, IsRoughTalkOf, IsRoughTalk, IsNoneOpen, MayRepeat, IsTimelyOf, IsSpared, IsTimely, StayTimely, IsStillOf, IsSparedStill, IsStillDoing, StayStill, WhatIsLostArrivesFromRest}
+use Rattle.laws_wire.proofs.Vocabulary.{arith, ◌≡◌, ℕ, false, List, [], ◌∷◌, inl, inr, All, list_any, All-head, All-tail, Service, fresh, IsInRange, End, Config, LineTold, expiry, terms, Station, Wire, happens, Act, Doing, at_near, at_far, turned, doing, doing_all, IsStill, calling, is_error, HasNoError, answered, told_by, IsRoughTalkOf, IsRoughTalk, IsNoneOpen, MayRepeat, IsTimelyOf, IsSpared, IsTimely, StayTimely, IsStillOf, IsSparedStill, IsStillDoing, StayStill, WhatIsLostArrivesFromRest, all-right}
 use Rattle.lapd_frame.specs.declared.timers.Timer.TheVariants.{T200}
-use Rattle.laws_wire.proofs.Awaited.{all-behind, open-here}
+use Rattle.laws_wire.proofs.Awaited.{open-here}
 use Rattle.laws_wire.proofs.Calling.{end}
 use Rattle.laws_wire.proofs.Held.{Held}
 use Rattle.laws_wire.proofs.Ringing.{ringing}
@@ -15,7 +15,7 @@ use Rattle.laws_wire.proofs.TimelyUp.{each-timer, hushed, none-open}
 
 -- where no error is told as T200 expires N200 is not used up
 fair-may : (service : Service) (tei : ℕ) (s : Station) → HasNoError (happens (expiry (T200 service tei)) s) → MayRepeat service tei s
-fair-may service tei s fair = all-behind (λ (t : LineTold). list_any is_error t.notes ≡ false) s.told (told_by (answered (expiry (T200 service tei)) s)) fair
+fair-may service tei s fair = all-right (λ (t : LineTold). list_any is_error t.notes ≡ false) s.told (told_by (answered (expiry (T200 service tei)) s)) fair
 
 still-turned : (w : Wire) → IsStill (turned w) → IsStill w
 still-turned w h = record { near = h.far; far = h.near; near_way = h.far_way; far_way = h.near_way }
@@ -65,8 +65,7 @@ pub still-is-enough : WhatIsLostArrivesFromRest
 still-is-enough service c d line other tei ds can talk = λ still.
     let x = setting service c d line other tei can in
     let w = calling service tei c line d other in
-    let timely = all service tei c d 0 0 x.face x.back x.near x.far ds talk w (starts service c d line other tei x) still in
-    let law = what-is-lost-arrives service c d line other tei ds can talk timely in
+    let law = what-is-lost-arrives service c d line other tei ds can talk (all service tei c d 0 0 x.face x.back x.near x.far ds talk w (starts service c d line other tei x) still) in
     record {
       no_error = law.no_error;
       arrives = λ u here few fair. law.arrives u here few (fair-may service tei (doing_all ds w).near fair.0, fair-may service tei (doing_all ds w).far fair.1);

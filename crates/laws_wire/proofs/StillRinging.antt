@@ -1,7 +1,6 @@
 -- An end that rings, whatever the other does.
-use Rattle.laws_wire.proofs.Vocabulary.{◌≡◌, ℕ, false, List, [], map, drop, None, sym, ap, subst, ◌∙◌, ◌⊎◌, inl, inr, All, option_to_list, Service, Timer, Parts, ControlFrame, Terms, LinkTimer, course, End, with_link, with_sent, Config, terms, expiry, request, next, refusal, Course, Data, Station, happens, with_first_lost}
+use Rattle.laws_wire.proofs.Vocabulary.{◌≡◌, ℕ, false, List, [], map, drop, None, sym, ap, subst, ◌∙◌, ◌⊎◌, inl, inr, All, option_to_list, Service, Timer, Parts, ControlFrame, Terms, LinkTimer, course, End, with_link, with_sent, Config, terms, expiry, request, next, refusal, Course, Data, Station, happens, with_first_lost, LinkData, expired}
 use Rattle.model_link.specs.declared.timers.LinkTimer.TheVariants as link_timer
-use Rattle.model_link.specs.Events as link
 use Rattle.laws_wire.proofs.Calling.{end}
 use Rattle.laws_wire.proofs.Fair.{HasError}
 use Rattle.laws_wire.proofs.Held.{Held, TellsIt, Erred, now-erred, held-given, held-lost, expired-told, held-expired, held-asked}
@@ -27,19 +26,19 @@ module _ (service : Service) (tei : ℕ) (c : Config) (p : ℕ) where
     rings-asks octets =
         elim (held-asked service tei p [] c s rung h octets) [
           | inl same ↦ record { repeats = k; waiting = ws; way = way; held = subst (λ x. Held c service tei p [] x rung) (sym same) h; sabmes = sabmes }
-          | inr x ↦ let none : refusal t (ringing k ws) false (link.Data octets) ≡ None = x.none in absurd (cc)
+          | inr x ↦ let none : refusal t (ringing k ws) false (LinkData octets) ≡ None = x.none in absurd (cc)
         ]
 
     pub rings-expires : (timer : Timer) (its : LinkTimer) → Aims service tei timer its → StillRings (happens (expiry timer) s) ⊎ Erred (happens (expiry timer) s)
     rings-expires timer its aims = go (by its)
       where
         x : Course
-        x = course t (link.expired its) (ringing k ws)
+        x = course t (expired its) (ringing k ws)
 
         s' : Station
         s' = happens (expiry timer) s
 
-        by : (timer : LinkTimer) → HasError (course t (link.expired timer) (ringing k ws)).notes ⊎ Rings k ws (course t (link.expired timer) (ringing k ws))
+        by : (timer : LinkTimer) → HasError (course t (expired timer) (ringing k ws)).notes ⊎ Rings k ws (course t (expired timer) (ringing k ws))
         by link_timer.T200 = t200-rings t k ws
         by link_timer.T203 = inr (t203-rings t k ws)
 
@@ -48,7 +47,7 @@ module _ (service : Service) (tei : ℕ) (c : Config) (p : ℕ) where
         go (inr r) =
             let tells : TellsIt service tei x = record { its_notes = r.notes ∙ ap (λ o. map (λ octets. Rattle.lapd_frame.specs.declared.notes.Note.TheVariants.Data service tei) (option_to_list o)) (sym r.delivered); no_unit = r.unit } in
             let kept : x.link.contents ≡ [] = ap (λ l. l.contents) r.becomes in
-            let is : with_link (link.expired its) rung ≡ end t (ringing r.repeats r.waiting) way =
+            let is : with_link (expired its) rung ≡ end t (ringing r.repeats r.waiting) way =
             (λ i. record rung { link = r.becomes i; delivered = ap option_to_list r.delivered i }) in
             inl (record {
               repeats = r.repeats;

@@ -4,9 +4,11 @@ use Rattle.laws_wire.proofs.Vocabulary.{◌≡◌, ℕ, ◌+◌, ◌≤◌, Bool
 use Rattle.laws_link.specs.two.Timely.{IsTimely}
 use Rattle.laws_wire.proofs.Asking.{with_more}
 use Rattle.laws_wire.proofs.Dense.{Dense, dense-push, dense-next, calm-dense, dense-beyond, Reaches, reaches-low, reaches-flat, Owed}
-use Rattle.laws_wire.proofs.Firm.{Firm, not-behind}
+use Rattle.laws_wire.proofs.Firm.{Firm}
 use Rattle.laws_wire.proofs.Replying.{Enquired, line-push, expires-so, asks-so}
 use Rattle.laws_wire.proofs.Roomy.{kinds, roomy, none-asked}
+use Rattle.laws_link.proofs.OfTwo.Flowing.{one-at-most}
+use Rattle.laws_link.proofs.OfTwo.TimelyRuns.{flows-low}
 
 -- It awaits the answer to an enquiry, and one of both is on its way.
 pub record Asking (n m : End) : Type 0 where
@@ -22,18 +24,8 @@ pub record Steady (n m : End) : Type 0 where
 abbrev pub Sure : End → End → Type 0
 Sure n m = Asking n m ⊎ Steady n m
 
-pub one-at-most : (b : Bool) → most b ≤ 1
-one-at-most b = grind arith
-
 pub longer-tally : (one : Kind → ℕ) (xs ys : List Kind) (x : Kind) → Longer xs ys x → tally one xs ≤ tally one ys
 longer-tally one xs ys x o = grind (arith, tally-push)
-
-longer-dense : (lo hi : ℕ) (xs ys : List Kind) (x : Kind) → Calm x → Longer xs ys x → Dense lo hi xs → Dense lo hi ys
-longer-dense lo hi xs ys x calm o h = grind (arith, Dense, dense-push)
-
--- an answer to V(R) means it
-answer-means : (b : Bool) (control : Control) (nr : Seq) (r : ℕ) → kind_of b control ≡ answer nr → nr ≡ seq r → Means r control
-answer-means b control nr r e is = grind arith
 
 one-number : (x y : ℕ) → Some x ≡ Some y → x ≡ y
 one-number x y e = cc e
@@ -84,38 +76,21 @@ module _ (n m : End) (h : Firm n m) (wide : 3 ≤ n.terms.control) where
 
   -- ---- what it does itself
 
-  pub sure-asks : (octets : List ℕ) → Sure n m → Sure (with_more octets n) m
-  sure-asks octets (inl x) = inl (record { state = x.state; open_ = x.open_ })
-  sure-asks octets (inr x) = inr (record { state = x.state; dense = x.dense; owed = x.owed })
-
-  told-more : (ds : List (List ℕ)) → Sure n m → Sure (record n { delivered = ds }) m
-  told-more ds (inl x) = inl (record { state = x.state; open_ = x.open_ })
-  told-more ds (inr x) = inr (record { state = x.state; dense = x.dense; owed = x.owed })
-
   pub sure-expires : (timer : LinkTimer) → IsTimely timer n m → IsUpBy timer → Sure n m → Sure (with_link (expired timer) n) m
   sure-expires timer timely up s =
       let l' : Link = after n.terms (expired timer) n.link in
       let ds : List (List ℕ) = (with_link (expired timer) n).delivered in
       elim (expires-so n.terms n.link h.joined.near_up timer (λ running. room-for (none-open timer timely running)) up) [
-        | inl e ↦ subst (λ l. Sure (record n { link = l; delivered = ds }) m) (sym e) (told-more ds s)
+        | inl e ↦ subst (λ l. Sure (record n { link = l; delivered = ds }) m) (sym e) (grind arith)
         | inr q ↦ asking l' ds q
       ]
 
   -- it gives a frame
-  gives-asking : (c : Course) → let way = n.way ++ frame_given n.terms (given_of n.terms n.link c c.sent) in
-      c.link.state ≡ n.link.state → Gives n.terms n.link c → Asking n m → Asking (record n { link = c.link; way = way }) m
-  gives-asking c state gives x = grind (arith, one_enquiry, kinds, kinds_of, frames_of, longer-tally)
-
-  gives-steady : (c : Course) → let way = n.way ++ frame_given n.terms (given_of n.terms n.link c c.sent) in
-      c.link.state ≡ n.link.state → c.link.a ≡ n.link.a → Gives n.terms n.link c → Steady n m → Steady (record n { link = c.link; way = way }) m
-  gives-steady c state same gives x = grind (arith, Owed, line_of, Dense, kinds_of, frames_of, dense-push, kinds, dense-next)
-
   pub sure-sends : Sure n m → Sure (with_sent n) m
-  sure-sends (inl x) = let o = offer-goes n.terms n.link in inl (gives-asking (course n.terms offer n.link) o.state o.gives x)
+  sure-sends (inl x) = let o = offer-goes n.terms n.link in inl (grind (arith, one_enquiry, kinds, kinds_of, frames_of, longer-tally))
   sure-sends (inr x) =
       let o = offer-goes n.terms n.link in
-      let kept = (offer-gave n.terms h.joined.near_ranges n.link h.joined.near_sound n.link.waiting refl).acknowledged in
-      inr (gives-steady (course n.terms offer n.link) o.state kept o.gives x)
+      inr (grind (arith, Owed, line_of, Dense, kinds_of, frames_of, dense-push, kinds, dense-next))
 
 -- ---- what it hears
 
@@ -145,7 +120,7 @@ module _ (n m : End) (h : Firm n m) (p : Parts) (fs : List Parts) (first : m.way
   known = is-no-alien m.link.s n.link.r (is_recovering m.link.state) n.link.rejecting x rest (kinds n) back
 
   high : m.link.r ≤ n.link.s
-  high = not-behind n m h.there
+  high = flows-low n m h.there
 
   near : n.link.s ≤ n.link.a + 127
   near = grind arith
@@ -157,10 +132,9 @@ module _ (n m : End) (h : Firm n m) (p : Parts) (fs : List Parts) (first : m.way
         let told = (frame-taken n.terms n.link h.joined.near_up p.address.command p.info i p.control means).took.by.stay up' in
         let v = told.0 in
         let between = named-within n.link.a n.link.s v (seq i) told.1 in
-        let high' = high in
         let near' = near in
         let same : v ≡ i =
-        named-means n.link.a n.link.s i v (seq i) refl low (omega (arith, below, high', near')) between.0 between.1 near' (named-is_seq n.link.a n.link.s v (seq i) told.1) in
+        named-means n.link.a n.link.s i v (seq i) refl low (omega (arith, below, high, near')) between.0 between.1 near' (named-is_seq n.link.a n.link.s v (seq i) told.1) in
         told.2.acknowledged ∙ same
 
     owed-heard : Owed n.link.a m.link.r m.link.pending (line_of m) → Owed l'.a m.link.r m.link.pending (line_of m')
@@ -169,15 +143,11 @@ module _ (n m : End) (h : Firm n m) (p : Parts) (fs : List Parts) (first : m.way
         let at : Reaches n.link.a m.link.r (p ∷ fs ++ frames_of m.terms m.link.waiting) =
         subst (λ way. Reaches n.link.a m.link.r (way ++ frames_of m.terms m.link.waiting)) first all in
         let i = at.0 in
-        let same = hears-number i at.1 (reaches-low i m.link.r (fs ++ frames_of m.terms m.link.waiting) at.3) at.2 in
-        inr (subst (λ a. Reaches a m.link.r (fs ++ frames_of m.terms m.link.waiting)) (sym same) at.3)
+        inr (subst (λ a. Reaches a m.link.r (fs ++ frames_of m.terms m.link.waiting)) (sym (hears-number i at.1 (reaches-low i m.link.r (fs ++ frames_of m.terms m.link.waiting) at.3) at.2)) at.3)
 
     -- the kinds of frames that wait then
     abbrev Then : Kind → Type 0
     Then y = Longer (kinds n) (line n.terms n.way l'.waiting) y
-
-    took-line : (ns : Seq) → Takes ns n.link l' → Then (rejection (seq n.link.r))
-    took-line ns o = grind (arith, line-longer)
 
     -- an answer: nothing that it sent is on its way, and it goes back to what is missing
     recovers : (nr : Seq) → x ≡ answer nr → is_recovering n.link.state ≡ true → Heard (answer nr) true n.link l' → Sure n' m'
@@ -189,7 +159,7 @@ module _ (n m : End) (h : Firm n m) (p : Parts) (fs : List Parts) (first : m.way
         let low : n.link.a ≤ m.link.r = rising-low n.link.a m.link.r (line_of m) h.joined.there.rising in
         let s-is : l'.s ≡ m.link.r =
         one-number l'.s m.link.r (sym k.s ∙ ap (named n.link.a n.link.s) says ∙ named-number n.link.a n.link.s m.link.r low high near) in
-        let a-is : l'.a ≡ m.link.r = hears-number m.link.r low (omega arith) (answer-means p.address.command p.control nr m.link.r is says) in
+        let a-is : l'.a ≡ m.link.r = hears-number m.link.r low (omega arith) (grind arith) in
         let calm = calm-dense m.link.r (kinds n) (flow.answered (omega arith)).calm in
         inr (record {
           state = k.state;
@@ -203,7 +173,7 @@ module _ (n m : End) (h : Firm n m) (p : Parts) (fs : List Parts) (first : m.way
 
     in-8 : (y : Kind) → x ≡ y → NoAlien y → Heard y true n.link l' → n.link.state ≡ TimerRecovery
         → 1 ≤ tally one_enquiry (kinds n) + (one_answer y + tally one_answer rest) → Sure n' m'
-    in-8 (numbered ns) e known_ k here some = still-asking (rejection (seq n.link.r)) k.state (took-line ns k.takes) here (omega (arith, some))
+    in-8 (numbered ns) e known_ k here some = still-asking (rejection (seq n.link.r)) k.state (grind (arith, line-longer)) here (omega (arith, some))
     in-8 enquiry e known_ k here some =
         still-asking (answer (seq n.link.r)) k.state (line-longer n.terms n.way n.link.waiting l'.waiting (answer (seq n.link.r)) k.waiting) here (omega (arith, some))
     in-8 (answer nr) e known_ k here some = recovers nr e (ap is_recovering here) k
@@ -213,32 +183,20 @@ module _ (n m : End) (h : Firm n m) (p : Parts) (fs : List Parts) (first : m.way
 
     -- and in state 7
     still-steady : (y : Kind) → Calm y → l'.state ≡ n.link.state → l'.s ≡ n.link.s → Then y → Steady n m → Sure n' m'
-    still-steady y calm state same then q = inr (record {
-      state = state ∙ q.state;
-      dense = subst (λ s. Dense m.link.r s (kinds n')) (sym same) (longer-dense m.link.r n.link.s (kinds n) (kinds n') y calm then q.dense);
-      owed = owed-heard q.owed;
-    })
-
-    flow-7 : (y : Kind) → x ≡ y → n.link.state ≡ Established → Flow n.link.s m.link.r false m.link.rejecting (kinds n) (y ∷ rest)
-    flow-7 y e here = grind (arith, kinds, is_recovering, there)
+    still-steady y calm state same then q =
+        inr (assumption (state ∙ q.state, subst (λ s. Dense m.link.r s (kinds n')) (sym same) (grind (arith, Dense, dense-push)), owed-heard q.owed))
 
     in-7 : (y : Kind) → x ≡ y → NoAlien y → Heard y false n.link l' → Steady n m → Sure n' m'
-    in-7 (numbered ns) e known_ k q = still-steady (rejection (seq n.link.r)) tt k.state k.s (took-line ns k.takes) q
+    in-7 (numbered ns) e known_ k q = still-steady (rejection (seq n.link.r)) tt k.state k.s (grind (arith, line-longer)) q
     in-7 enquiry e known_ k q =
         still-steady (answer (seq n.link.r)) tt k.state k.s (line-longer n.terms n.way n.link.waiting l'.waiting (answer (seq n.link.r)) k.waiting) q
-    in-7 (answer nr) e known_ k q = absurd (no-answer n.link.s m.link.r m.link.rejecting nr (kinds n) rest (flow-7 (answer nr) e q.state))
+    in-7 (answer nr) e known_ k q = absurd (no-answer n.link.s m.link.r m.link.rejecting nr (kinds n) rest (grind (arith, kinds, is_recovering, there)))
     in-7 report e known_ k q = still-steady report tt k.state k.s (inl (ap (λ ws. line n.terms n.way ws) k.waiting)) q
-    in-7 (rejection nr) e known_ k q =
-        let j = (flow-7 (rejection nr) e q.state).rejected (omega arith) in
-        absurd (dense-beyond m.link.r n.link.s (kinds n) j.below q.dense j.beyond)
+    in-7 (rejection nr) e known_ k q = grind (arith, kinds, is_recovering, there, dense-beyond)
     in-7 alien e known_ k q = absurd known_
 
     its-kind : Heard x (is_recovering n.link.state) n.link l'
     its-kind = heard n.terms n.link h.joined.near_up p.address.command p.info p.control up'
 
     pub sure-hears : Sure n m → Sure n' m'
-    sure-hears (inl q) =
-        let all : kinds m ≡ x ∷ rest = ap (λ way. line m.terms way m.link.waiting) first in
-        in-8 x refl known (subst (λ b. Heard x b n.link l') (ap is_recovering q.state) its-kind) q.state
-        (subst (λ xs. 1 ≤ tally one_enquiry (kinds n) + tally one_answer xs) all q.open_)
-    sure-hears (inr q) = in-7 x refl known (subst (λ b. Heard x b n.link l') (ap is_recovering q.state) its-kind) q
+    sure-hears o = grind (arith, kinds, in-8, known, is_recovering, its-kind, one_enquiry, one_answer, in-7)

@@ -2,12 +2,13 @@
 use Rattle.laws_wire.proofs.Vocabulary.{◌≡◌, ℕ, ◌+◌, ◌≤◌, Bool, true, false, cond, IsTrue, List, [], ◌∷◌, refl, sym, ap, subst, ◌∙◌, inl, inr, eq-eqb, arith, Control, ReceiveReady, ReceiveNotReady, Parts, Seq, seq, LinkTimer, Terms, received, expired, Link, is_multiple_frame, frame_of, frame_step, begun, End, with_link, with_sent, has_room, ready_to_receive, response, frames_of, Rising, is_recovering, Takes, Heard, most, offer-goes, heard, line, Longer, line-longer, NoAlien, Kind, numbered, enquiry, answer, report, rejection, alien, kind_of, kinds_of, kinds-append, tally, tally-push, one_enquiry, one_answer, frame, after, line_of}
 use Rattle.laws_link.specs.two.Timely.{IsTimely}
 use Rattle.laws_wire.proofs.Asking.{with_more}
-use Rattle.laws_wire.proofs.Dense.{Dense, Owed, Replies, owed-after}
+use Rattle.laws_wire.proofs.Dense.{Dense, Owed, Replies, reaches-push}
 use Rattle.laws_wire.proofs.Firm.{Firm}
 use Rattle.laws_wire.proofs.Replying.{line-push, expires-so, offer-says, Same, ready-same, reject-same, Answers, enquiry-answered, Next, next-taken}
 use Rattle.laws_wire.proofs.Roomy.{kinds, roomy}
-use Rattle.laws_wire.proofs.Sure.{Asking, Steady, Sure, one-at-most, longer-tally, room-for, none-open, back, known}
+use Rattle.laws_wire.proofs.Sure.{Asking, Steady, Sure, longer-tally, room-for, none-open, back, known}
 use Rattle.laws_wire.proofs.Tame.{IsFree}
+use Rattle.laws_link.proofs.OfTwo.Flowing.{one-at-most}
 
 replied-tally : (r : ℕ) (owes owes' : Bool) (fs fs' : List Parts) → Replies r owes owes' fs fs' → tally one_answer (kinds_of fs) ≤ tally one_answer (kinds_of fs')
 replied-tally r owes owes' fs fs' o = grind (arith, one_answer, kinds_of, kind_of, kinds-append, tally-push)
@@ -19,23 +20,16 @@ module _ (n m : End) (rising : Rising m.link.a n.link.r (line_of n)) (l' : Link)
 
   pub sure-replied : l'.r ≡ n.link.r → Replies n.link.r n.link.pending l'.pending (line_of n) (line_of then) → Sure m n → Sure m then
   sure-replied same says (inl q) =
-      let some = q.open_ in
       let more = replied-tally n.link.r n.link.pending l'.pending (line_of n) (line_of then) says in
-      inl (record { state = q.state; open_ = omega (arith, some, more) })
+      inl (record { state = q.state; open_ = omega (arith, q.open_, more) })
   sure-replied same says (inr q) = inr (record {
     state = q.state;
     dense = subst (λ r. Dense r m.link.s (kinds m)) (sym same) q.dense;
     owed = subst (λ r. Owed m.link.a r l'.pending (line_of then)) (sym same)
-        (owed-after m.link.a n.link.r n.link.pending l'.pending (line_of n) (line_of then) rising says q.owed);
+        (grind (arith, reaches-push));
   })
 
 module _ (n m : End) (h : Firm n m) (wide : 3 ≤ n.terms.control) where
-  pub other-asks : (octets : List ℕ) → Sure m n → Sure m (with_more octets n)
-  other-asks octets s = sure-replied n m h.joined.back.rising (with_more octets n).link n.way n.delivered refl (inl (refl, refl)) s
-
-  pub other-sends : Sure m n → Sure m (with_sent n)
-  other-sends s = sure-replied n m h.joined.back.rising (with_sent n).link (with_sent n).way n.delivered (offer-goes n.terms n.link).r (offer-says n.terms n.link n.way) s
-
   pub other-expires : (timer : LinkTimer) → IsTimely timer n m → IsTrue (is_multiple_frame (after n.terms (expired timer) n.link).state) → Sure m n → Sure m (with_link (expired timer) n)
   other-expires timer timely up s =
       let l' : Link = after n.terms (expired timer) n.link in
@@ -58,21 +52,10 @@ module _ (t : Terms) (l : Link) (before : IsTrue (is_multiple_frame l.state)) (o
   abbrev IsUpBy : Bool → Control → Type 0
   IsUpBy b control = IsTrue (is_multiple_frame (frame_step t b octets control (begun l)).link.state)
 
-  mere-same : (b : Bool) (control : Control) → IsMere (kind_of b control) → IsFree control → IsUpBy b control → Same t l (frame_step t b octets control (begun l)).link
-  mere-same b control is free up = grind (arith, ready-same, reject-same)
-
   -- an enquiry
   asked-answers : has_room t l ≡ true → (b : Bool) (control : Control) → kind_of b control ≡ enquiry → IsFree control → IsUpBy b control
       → Answers t l (frame_step t b octets control (begun l)).link
   asked-answers room b control e free up = grind (arith, enquiry-answered)
-
-  -- the next I-frame
-  numbered-taken : l.own_busy ≡ false → (b : Bool) (control : Control) → kind_of b control ≡ numbered (seq l.r) → IsUpBy b control
-      → Next t l (frame_step t b octets control (begun l)).link
-  numbered-taken own b control e up = grind (arith, eq-eqb, next-taken)
-
-answer-kind : (b : Bool) (r : ℕ) → one_answer (kind_of false (cond b (ReceiveNotReady (seq r) true) (ReceiveReady (seq r) true))) ≡ 1
-answer-kind b r = grind arith
 
 module _ (n m : End) (h : Firm n m) (wide : 3 ≤ n.terms.control) (p : Parts) (fs : List Parts) (first : m.way ≡ p ∷ fs) (free : IsFree p.control)
     (up' : IsTrue (is_multiple_frame (after n.terms (received (frame p)) n.link).state)) where
@@ -98,12 +81,9 @@ module _ (n m : End) (h : Firm n m) (wide : 3 ≤ n.terms.control) (p : Parts) (
   abbrev Rest : Kind → Type 0
   Rest y = Dense n.link.r m.link.s (y ∷ rest)
 
-  dense-first : (y : Kind) → x ≡ y → Steady m n → Rest y
-  dense-first y e q = subst (Dense n.link.r m.link.s) (ap (λ way. line m.terms way m.link.waiting) first ∙ ap (λ z. z ∷ rest) e) q.dense
-
   -- a mere frame
   by-mere : (y : Kind) → x ≡ y → IsMere y → one_enquiry y ≡ 0 → (Rest y → Dense n.link.r m.link.s rest) → Sure m n → Sure m' n'
-  by-mere y e is none behind s = grind (arith, mere-same, sure-replied, frames_of, Sure, less, dense-first)
+  by-mere y e is none behind s = grind (arith, ready-same, reject-same, sure-replied, frames_of, Sure, less)
 
   -- an I-frame
   abbrev Then : Kind → Type 0
@@ -113,29 +93,23 @@ module _ (n m : End) (h : Firm n m) (wide : 3 ≤ n.terms.control) (p : Parts) (
   took-line ns o = grind (arith, line-longer)
 
   by-numbered : (ns : Seq) → x ≡ numbered ns → Takes ns n.link l' → Sure m n → Sure m' n'
-  by-numbered ns e takes o = grind (arith, less, longer-tally, one_answer, kinds, took-line, dense-first, numbered-taken)
+  by-numbered ns e takes o = grind (arith, less, longer-tally, one_answer, kinds, took-line, eq-eqb, next-taken)
 
   -- an enquiry
   asked : (1 + tally one_enquiry rest) + tally one_answer (kinds n) ≤ most (is_recovering m.link.state) → tally one_enquiry (kinds n) + tally one_answer (kinds n) ≤ 1
   asked all = grind (arith, is_recovering, one-at-most, one_enquiry, kinds, one_answer)
 
-  back-as : x ≡ enquiry → (1 + tally one_enquiry rest) + tally one_answer (kinds n) ≤ most (is_recovering m.link.state)
-  back-as e = subst (λ y. (one_enquiry y + tally one_enquiry rest) + tally one_answer (kinds n) ≤ most (is_recovering m.link.state)) e (back n m h p fs first).asked
-
   by-enquiry : x ≡ enquiry → Sure m n → Sure m' n'
   by-enquiry e (inl q) =
-      let room = roomy n m h wide (asked (back-as e)) in
+      let room = roomy n m h wide (asked (subst (λ y. (one_enquiry y + tally one_enquiry rest) + tally one_answer (kinds n) ≤ most (is_recovering m.link.state)) e (back n m h p fs first).asked)) in
       let a = asked-answers n.terms n.link h.joined.near_up p.info room p.address.command p.control e free up' in
       let f = response (ready_to_receive true n.link) in
-      let one : one_answer (kind_of f.command f.control) ≡ 1 = answer-kind n.link.own_busy n.link.r in
+      let one : one_answer (kind_of f.command f.control) ≡ 1 = grind arith in
       let all : tally one_answer (kinds n') ≡ tally one_answer (kinds n) + one_answer (kind_of f.command f.control) =
       ap (λ fs. tally one_answer (kinds_of fs)) (line-push n.terms n.way n.link.waiting l'.waiting f a.waits)
       ∙ ap (tally one_answer) (kinds-append (line_of n) (frame_of n.terms f ∷ [])) ∙ tally-push one_answer (kinds n) (kind_of f.command f.control) in
       inl (record { state = q.state; open_ = omega (arith, one, all) })
-  by-enquiry e (inr q) =
-      let none : (1 + tally one_enquiry rest) + tally one_answer (kinds n) ≤ 0 =
-      subst (λ s. (1 + tally one_enquiry rest) + tally one_answer (kinds n) ≤ most (is_recovering s)) q.state (back-as e) in
-      absurd (omega (arith, none))
+  by-enquiry e (inr q) = grind (arith, one_enquiry, one_answer, kinds, is_recovering, back)
 
   by-kind : (y : Kind) → x ≡ y → NoAlien y → Heard y (is_recovering n.link.state) n.link l' → Sure m n → Sure m' n'
   by-kind (numbered ns) e known_ k s = by-numbered ns e k.takes s

@@ -1,13 +1,10 @@
 -- A station in a call: what its layer 3 was granted is what its link accepted, and it was told what its link delivered.
-use Rattle.laws_wire.proofs.Vocabulary.{arith, ◌≡◌, ℕ, ◌≤◌, Bool, false, cond, List, [], ◌∷◌, ◌++◌, length, map, drop, Option, Some, None, Ok, refl, sym, ap, subst, ◌∙◌, ◌⊎◌, append-nil, append_assoc, All, option_to_list, nat_lt, ltb-false, All-tail, Refusal, TooLong, Service, Parts, spelling, other_side, Terms, Link, End, with_link, with_sent, Config, came, LineTold, request, next, terms, heard_side, link-grants, Data, Station, happens, with_first_lost, comes, data_told}
+use Rattle.laws_wire.proofs.Vocabulary.{arith, ◌≡◌, ℕ, ◌≤◌, Bool, false, cond, List, [], ◌∷◌, ◌++◌, length, map, drop, Option, Some, None, Ok, refl, sym, ap, subst, ◌∙◌, ◌⊎◌, append-nil, append_assoc, All, option_to_list, nat_lt, ltb-false, All-tail, Refusal, TooLong, Service, Parts, spelling, other_side, Terms, Link, End, with_link, with_sent, Config, came, LineTold, request, next, terms, heard_side, link-grants, Data, Station, happens, with_first_lost, comes, data_told, map-append, two_ends_with_first_lost, course, refusal}
 use Rattle.model_bits.specs.Stream.{frame}
 use Rattle.model_link.specs.Events as link
-use Rattle.model_link.specs.Machine as links
-use Rattle.model_link.specs.Requests as requests
-use Rattle.model_link.specs.TwoEnds as two_ends
 use Rattle.laws_wire.proofs.Answered.{gives-told, gives-granted, takes-granted}
 use Rattle.laws_wire.proofs.Asking.{with_more, asked-form}
-use Rattle.laws_wire.proofs.Speaking.{said_by, TellsData, told-so-far}
+use Rattle.laws_wire.proofs.Speaking.{said_by, TellsData}
 use Rattle.laws_wire.proofs.Standing.{IsCarried, Stands, Granted, gives-stands, takes-stands, takes-told, asks-stands}
 
 -- Two configurations of the two sides.
@@ -47,17 +44,13 @@ module _ (c : Config) (service : Service) (tei place : ℕ) (before : List LineT
   none-told none = all-told ∙ ap (λ xs. before ++ map (data_told service tei) xs) none ∙ append-nil before
 
 module _ (service : Service) (tei place : ℕ) (first : Past) where
-  -- with its own configuration
-  own-stands : (c : Config) (s : Station) (n : End) → Stands c service tei place s n → Stands s.card.config service tei place s n
-  own-stands c s n h = subst (λ k. Stands k service tei place s n) (sym h.config) h
-
   -- it gives
   pub holds-given : (c : Config) (s : Station) (n : End) → Holds c service tei place first s n → (with_sent n).link.contents ≡ n.link.contents
       → Holds c service tei place first (happens next s) (with_sent n)
   holds-given c s n h kept = record {
     stands =
         subst (λ k. Stands k service tei place (happens next s) (with_sent n)) h.stands.config
-        (gives-stands service tei place s n (own-stands c s n h.stands));
+        (gives-stands service tei place s n (subst (λ k. Stands k service tei place s n) (sym h.stands.config) h.stands));
     granted = gives-granted s ∙ h.granted ∙ sym kept;
     since = h.since;
     told = gives-told s ∙ h.told;
@@ -69,10 +62,7 @@ module _ (service : Service) (tei place : ℕ) (first : Past) where
   drop-carried c [] h = h
   drop-carried c (f ∷ fs) h = All-tail (IsCarried c service tei) f fs h
 
-  drop-spelled : (f : Parts → List ℕ) (way : List Parts) → drop 1 (map f way) ≡ map f (drop 1 way)
-  drop-spelled f way = grind arith
-
-  pub holds-lost : (c : Config) (s : Station) (n : End) → Holds c service tei place first s n → Holds c service tei place first (with_first_lost s) (two_ends.with_first_lost n)
+  pub holds-lost : (c : Config) (s : Station) (n : End) → Holds c service tei place first s n → Holds c service tei place first (with_first_lost s) (two_ends_with_first_lost n)
   holds-lost c s n h = record {
     stands = record {
       config = h.stands.config;
@@ -80,7 +70,7 @@ module _ (service : Service) (tei place : ℕ) (first : Past) where
       within = h.stands.within;
       speaks = h.stands.speaks;
       terms = h.stands.terms;
-      way = ap (drop 1) h.stands.way ∙ drop-spelled (spelling c.side) n.way;
+      way = ap (drop 1) h.stands.way ∙ (grind arith);
       carried = drop-carried c n.way h.stands.carried;
     };
     granted = h.granted;
@@ -92,7 +82,7 @@ module _ (service : Service) (tei place : ℕ) (first : Past) where
   -- it takes a frame of the other side
   pub record Took (c : Config) (s : Station) (n : End) (octets : List ℕ) (f : Parts) : Type 0 where
     pub stands : Stands c service tei place (comes octets s) (with_link (link.received (link.frame f)) n)
-    pub told : (comes octets s).told ≡ s.told ++ said_by (links.course n.terms (link.received (link.frame f)) n.link)
+    pub told : (comes octets s).told ≡ s.told ++ said_by (course n.terms (link.received (link.frame f)) n.link)
 
   pub takes : (c d : Config) → Face c d → (s : Station) (n : End) (f : Parts) → Stands c service tei place s n → IsCarried d service tei f → Took c s n (spelling d.side f) f
   takes c d face s n f h from =
@@ -101,7 +91,7 @@ module _ (service : Service) (tei place : ℕ) (first : Past) where
       let whole : came s.card.config.n201 (spelling d.side f) ≡ frame (spelling d.side f) = subst (λ k. came k (spelling d.side f) ≡ frame (spelling d.side f)) same-n201 x.whole in
       let side : d.side ≡ heard_side s.card.config = sym face.side ∙ ap (λ k. other_side k.side) (sym h.config) in
       let read : Rattle.lapd_frame.specs.Reading.reading (heard_side s.card.config) (spelling d.side f) ≡ Ok f = subst (λ k. Rattle.lapd_frame.specs.Reading.reading k (spelling d.side f) ≡ Ok f) side x.read in
-      let own = own-stands c s n h in
+      let own = (subst (λ k. Stands k service tei place s n) (sym h.config) h) in
       record {
         stands =
             subst (λ k. Stands k service tei place (comes (spelling d.side f) s) (with_link (link.received (link.frame f)) n)) h.config
@@ -109,20 +99,17 @@ module _ (service : Service) (tei place : ℕ) (first : Past) where
         told = takes-told service tei place s n own f (spelling d.side f) whole read from.sapi from.by;
       }
 
-  same-data : (c : Config) (n : End) → n.terms ≡ terms c service tei → (xs : List (List ℕ)) → map (data_told n.terms.service n.terms.tei) xs ≡ map (data_told service tei) xs
-  same-data c n is xs = ap (λ t. map (data_told t.service t.tei) xs) is
-
   pub holds-taken : (c d : Config) → Face c d → (s : Station) (n : End) (f : Parts) → Holds c service tei place first s n → IsCarried d service tei f
-      → TellsData n.terms (links.course n.terms (link.received (link.frame f)) n.link) → (with_link (link.received (link.frame f)) n).link.contents ≡ n.link.contents
+      → TellsData n.terms (course n.terms (link.received (link.frame f)) n.link) → (with_link (link.received (link.frame f)) n).link.contents ≡ n.link.contents
       → Holds c service tei place first (comes (spelling d.side f) s) (with_link (link.received (link.frame f)) n)
   holds-taken c d face s n f h from tells kept =
       let x = takes c d face s n f h.stands from in
-      let more = option_to_list (links.course n.terms (link.received (link.frame f)) n.link).delivered in
+      let more = option_to_list (course n.terms (link.received (link.frame f)) n.link).delivered in
       record {
         stands = x.stands;
         granted = takes-granted (spelling d.side f) s ∙ h.granted ∙ sym kept;
         since = h.since ++ more;
-        told = x.told ∙ told-so-far service tei first.told h.since more s.told _ h.told (tells ∙ same-data c n h.stands.terms more);
+        told = x.told ∙ (grind (arith, append_assoc, map-append));
         delivered = ap (λ xs. xs ++ more) h.delivered ∙ append_assoc first.had h.since more;
       }
 
@@ -130,21 +117,18 @@ module _ (service : Service) (tei place : ℕ) (first : Past) where
   short-enough : (serves long : Bool) (why : Refusal) (rest : Option Refusal) → cond serves (cond long (Some TooLong) rest) (Some why) ≡ None → long ≡ false
   short-enough serves long why rest e = grind arith
 
-  pub fits : (t : Terms) (l : Link) (octets : List ℕ) → requests.refusal t l false (link.Data octets) ≡ None → length octets ≤ t.n201
+  pub fits : (t : Terms) (l : Link) (octets : List ℕ) → refusal t l false (link.Data octets) ≡ None → length octets ≤ t.n201
   fits t l octets e = grind (arith, ltb-false, short-enough, nat_lt)
 
-  nothing-told : (t : Terms) (l : Link) (octets : List ℕ) → requests.refusal t l false (link.Data octets) ≡ None → said_by (links.course t (link.requested (link.Data octets) false) l) ≡ []
-  nothing-told t l octets e = ap (λ o. said_by (elim o [ None ↦ requests.granted t (link.Data octets) (Rattle.model_link.specs.Steps.begun l) | Some _ ↦ Rattle.model_link.specs.Steps.begun l ])) e
-
   pub record More (c : Config) (s s' : Station) (n : End) (octets : List ℕ) : Type 0 where
-    pub none : requests.refusal n.terms n.link false (link.Data octets) ≡ None
+    pub none : refusal n.terms n.link false (link.Data octets) ≡ None
     pub holds : Holds c service tei place first s' (with_more octets n)
     pub granted : s'.granted ≡ s.granted ++ octets ∷ []
 
   pub holds-asked : (c : Config) (s : Station) (n : End) (octets : List ℕ) → Holds c service tei place first s n
       → (happens (request (Data service tei octets)) s ≡ s) ⊎ More c s (happens (request (Data service tei octets)) s) n octets
   holds-asked c s n octets h =
-      let own = own-stands c s n h.stands in
+      let own = (subst (λ k. Stands k service tei place s n) (sym h.stands.config) h.stands) in
       go own (asks-stands service tei place s n own (Data service tei octets) (link.Data octets) (λ l. refl))
     where
       s' : Station
@@ -152,4 +136,4 @@ module _ (service : Service) (tei place : ℕ) (first : Past) where
 
       go : (own : Stands s.card.config service tei place s n) → (s' ≡ s) ⊎ Granted service tei place s n own (Data service tei octets) (link.Data octets) (λ l. refl) s'
           → (s' ≡ s) ⊎ More c s s' n octets
-      go own o = grind (arith, link-grants, Stands, s', with_more, asked-form, nothing-told, append-nil)
+      go own o = grind (arith, link-grants, Stands, s', with_more, asked-form, said_by, append-nil)

@@ -54,12 +54,7 @@ module _ (t : Terms) (l : Link) (own : l.own_busy ≡ false) where
   answers-so : (b : Bool) (control : Control) → NoAlien (kind_of b control) → All WaitsSo (answers_to b control l)
   answers-so b (Information ns nr false) h =
       either (is_multiple_frame l.state) _ _ (either (not l.own_busy && (not (is_next ns l) && not l.rejecting)) _ _ rejects none) none
-  answers-so true (ReceiveReady nr pf) h = either (is_multiple_frame l.state) _ _ (either pf _ _ (answered l.r) none) none
-  answers-so false (ReceiveReady nr pf) h = either (is_multiple_frame l.state) _ _ none none
-  answers-so true (ReceiveNotReady nr pf) h = either (is_multiple_frame l.state) _ _ (either pf _ _ (answered l.r) none) none
-  answers-so false (ReceiveNotReady nr pf) h = either (is_multiple_frame l.state) _ _ none none
-  answers-so false (Reject nr pf) h = either (is_multiple_frame l.state) _ _ none none
-  answers-so b other h = absurd h
+  answers-so b control h = grind (arith, either, answered, none)
 
   commands-so : (to : State) → IsTrue (is_multiple_frame to) → All WaitsSo (command_in to l)
   commands-so to up = grind (arith, none)
@@ -99,26 +94,20 @@ module _ (t : Terms) (l : Link) (own : l.own_busy ≡ false) where
   unheard : (e : Event) → Few e → busy_heard (as_heard t e) false ≡ false
   unheard e may = grind arith
 
-  free-after : (e : Event) → Few e → l.peer_busy ≡ false → (after t e l).peer_busy ≡ false
-  free-after e may is = grind (arith, event-follows, off, unheard)
-
   -- what an offer gives
   abbrev GivesFree : Course → Type 0
   GivesFree c = All IsFreeFrame (frame_given t (given_of t l c c.sent))
 
-  either-gives : (b : Bool) (u v : Course) → GivesFree u → GivesFree v → GivesFree (cond b u v)
-  either-gives b u v x y = grind arith
-
   offers-free : (ws : List ControlFrame) → All WaitsSo ws → GivesFree (Offers.offer_among t ws (begun l))
   offers-free (f ∷ fs) h = All-cons IsFreeFrame _ [] (All-head WaitsSo f fs h).free (All-nil IsFreeFrame)
-  offers-free [] h = grind (arith, either-gives)
+  offers-free [] h = grind arith
 
 -- ---- an end, as something happens at it
 
 module _ (n : End) (h : Tame n) (own : n.link.own_busy ≡ false) where
   tame-event : (e : Event) → Few e → IsTrue (is_multiple_frame (after n.terms e n.link).state) → Tame (with_link e n)
   tame-event e may up = record {
-    peer_free = free-after n.terms n.link own e may h.peer_free;
+    peer_free = grind (arith, event-follows, off, unheard);
     waiting = waits-after n.terms n.link own e may h.waiting up;
     way = h.way;
   }
@@ -131,7 +120,7 @@ module _ (n : End) (h : Tame n) (own : n.link.own_busy ≡ false) where
 
   pub tame-sends : IsTrue (is_multiple_frame (after n.terms offer n.link).state) → Tame (with_sent n)
   tame-sends up = record {
-    peer_free = free-after n.terms n.link own offer tt h.peer_free;
+    peer_free = grind (arith, event-follows, off, unheard);
     waiting = waits-after n.terms n.link own offer tt h.waiting up;
     way = All-append IsFreeFrame n.way _ h.way (offers-free n.terms n.link own n.link.waiting h.waiting);
   }

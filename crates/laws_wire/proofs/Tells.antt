@@ -40,10 +40,7 @@ module _ (service : Service) (tei : ℕ) where
     pub t-taken : (d : Config) → Face k d → (f : Parts) → IsCarried d service tei f → T k place (hs ++ more-by f) (comes (spelling d.side f) s) (After f)
     t-taken d face f from =
         let x = takes_frame service tei place unheard k d face s n f h.stands from in
-        record {
-          stands = x.stands;
-          told = ap (flat_map for_layer_3) x.told ∙ flat_map-append for_layer_3 s.told (said_by (course n.terms (link.received (link.frame f)) n.link)) ∙ ap (λ ts. ts ++ more-by f) h.told;
-        }
+        grind (arith, flat_map, flat_map-append, said_by)
 
     pub t-expired : (timer : Timer) (its : LinkTimer) → Aims service tei timer its
         → T k place (hs ++ flat_map for_layer_3 (said_by (course n.terms (link.expired its) n.link))) (happens (expiry timer) s) (with_link (link.expired its) n)
@@ -58,16 +55,10 @@ module _ (service : Service) (tei : ℕ) where
     }
 
   -- its only frame is lost, or taken
-  pub t-lost : (k : Config) (place : ℕ) (hs : List LineTold) (s : Station) (n : End) (f : Parts) → n.way ≡ f ∷ [] → T k place hs s n → T k place hs (with_first_lost s) (record n { way = [] })
-  t-lost k place hs s n f one h = grind (arith, IsCarried)
-
   pub first-carried : (k : Config) (place : ℕ) (hs : List LineTold) (s : Station) (n : End) (f : Parts) → n.way ≡ f ∷ [] → T k place hs s n
       → (s.way ≡ spelling k.side f ∷ []) × IsCarried k service tei f
   first-carried k place hs s n f one h =
       (h.stands.way ∙ ap (map (spelling k.side)) one, All-head (IsCarried k service tei) f [] (subst (All (IsCarried k service tei)) one h.stands.carried))
-
-  pub none-carried : (k : Config) (place : ℕ) (hs : List LineTold) (s : Station) (n : End) → n.way ≡ [] → T k place hs s n → s.way ≡ []
-  none-carried k place hs s n none h = h.stands.way ∙ ap (map (spelling k.side)) none
 
   -- it has nothing to give
   pub t-silent : (k : Config) (place : ℕ) (hs : List LineTold) (s : Station) (n : End) → HasNothingToSend n.terms n.link → T k place hs s n → T k place hs (happens next s) n

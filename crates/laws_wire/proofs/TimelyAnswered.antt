@@ -1,7 +1,5 @@
 -- The next phases of such a call: the other end is up, and its UA waits, or is on its way before all else.
-use Rattle.laws_wire.proofs.Vocabulary.{arith, ◌≡◌, ℕ, false, List, [], ◌∷◌, None, refl, sym, ap, subst, ◌∙◌, ◌⊎◌, inl, inr, All-tail, Service, Timer, Parts, spelling, Terms, TimerRecovery, LinkTimer, T203, course, given, IsInRange, End, with_link, with_sent, offer-gave, Config, expiry, request, next, terms, awaits_answer, CanRepeat, T200, refusal, Data, Station, Wire, happens, with_first_of, Act, requests, times_out, gives, takes, loses, acting, turned, IsStill, comes, confirmed, indicated, IsRoughTalkOf, is_final, IsLongEnough, IsTimelyOf, IsSpared, gives_one, is_ua, true, true≢false}
-use Rattle.lapd_frame.specs.declared.timers.Timer.TheVariants as timers
-use Rattle.model_link.specs.Events as link
+use Rattle.laws_wire.proofs.Vocabulary.{arith, ◌≡◌, ℕ, false, List, [], ◌∷◌, None, refl, sym, ap, subst, ◌∙◌, ◌⊎◌, inl, inr, All-tail, Service, Timer, Parts, spelling, Terms, TimerRecovery, LinkTimer, T203, course, given, IsInRange, End, with_link, with_sent, offer-gave, Config, expiry, request, next, terms, awaits_answer, CanRepeat, T200, refusal, Data, Station, Wire, happens, with_first_of, Act, requests, times_out, gives, takes, loses, acting, turned, IsStill, comes, confirmed, indicated, IsRoughTalkOf, is_final, IsLongEnough, IsTimelyOf, IsSpared, gives_one, is_ua, true, true≢false, received, LinkData, frame, expired, timer_T200, timer_T203}
 use Rattle.laws_link.specs.two.Timely as two_links_timely
 use Rattle.laws_wire.proofs.Answered.{takes-granted}
 use Rattle.laws_wire.proofs.Awaited.{closed, may-there, long-there, gives-first, waits-first, goes-first}
@@ -39,12 +37,9 @@ module _ (service : Service) (tei : ℕ) (c d : Config) (p q : ℕ) (face : Face
   as-comes : {w : Wire} (m : End) → UaGoes m w → Goes w
   as-comes m h = inr (inr (inr (inr (inl (record { m = m; is = h })))))
 
-  as-up : {w : Wire} → AreUp service tei c d p q (confirmed service tei ∷ []) (indicated service tei ∷ []) w → Goes w
-  as-up h = inr (inr (inr (inr (inr h))))
-
   -- it is asked to send more
   module _ (k : ℕ) (m : End) (its : End → End) (form : (octets : List ℕ) → with_more octets (its m) ≡ its (with_more octets m))
-      (same : (octets : List ℕ) → refusal m.terms m.link false (link.Data octets) ≡ refusal (its m).terms (its m).link false (link.Data octets))
+      (same : (octets : List ℕ) → refusal m.terms m.link false (LinkData octets) ≡ refusal (its m).terms (its m).link false (LinkData octets))
       (w : Wire) (held : Held d service tei q (indicated service tei ∷ []) w.far (its m)) (firm : Firm (end t (answered k []) []) m) (octets : List ℕ) where
     record More (s' : Station) : Type 0 where
       held' : Held d service tei q (indicated service tei ∷ []) s' (its (with_more octets m))
@@ -79,7 +74,7 @@ module _ (service : Service) (tei : ℕ) (c d : Config) (p q : ℕ) (face : Face
         (λ octets. as-waits m (subst (λ s. UaWaits m (record w { near = s })) (sym (asks-refused service tei c p [] w.near waits_end h.near (λ octets none. cc none) octets)) h)) r is
     waits-near (times_out timer) is x =
         each-timer service tei (λ timer. IsTimelyOf (times_out timer) w → Goes (acting (times_out timer) w)) (λ x. absurd (waits-first is_final (with_ua_waiting m) its_ua [] refl refl (ringing-open service tei c d p q h.repeats [] [] w (with_ua_waiting m) (indicated service tei ∷ []) h.near h.far x.0).responses))
-        (λ x. as-waits m (still-waits (happens (expiry (timers.T203 service tei)) w.near) (silent-t203 service tei c d p q h.repeats [] [] w.near h.near))) timer is x
+        (λ x. as-waits m (still-waits (happens (expiry (timer_T203 service tei)) w.near) (silent-t203 service tei c d p q h.repeats [] [] w.near h.near))) timer is x
     waits-near gives is x = as-waits m (still-waits (happens next w.near) (gives-nothing service tei c p [] w.near waits_end h.near refl))
     waits-near takes is x = as-waits m (subst (UaWaits m) (sym (takes-none w (empty service tei d q _ w.far (with_ua_waiting m) h.far h.way))) h)
     waits-near loses is x = as-waits m (subst (UaWaits m) (sym (loses-none w (empty service tei c p [] w.near waits_end h.near refl))) h)
@@ -106,8 +101,7 @@ module _ (service : Service) (tei : ℕ) (c d : Config) (p q : ℕ) (face : Face
     waits-far (requests r) is y = for-data service tei (λ r. Goes (turned (acting (requests r) (turned w)))) waits-asks r is
     waits-far (times_out timer) is y =
         let ua-first : gives_one is_ua w.far ≡ true = gives-first service tei d q w.far (with_ua_waiting m) h.far.stands is_ua its_ua [] refl in
-        each-timer service tei (λ timer. IsSpared (times_out timer) w → Goes (turned (acting (times_out timer) (turned w))))
-        (λ y. absurd (true≢false (sym ua-first ∙ y h.near.heard))) (λ y. absurd (true≢false (sym ua-first ∙ y h.near.heard))) timer is y
+        grind (arith, each-timer)
     waits-far gives is y = as-comes m gives-ua
     waits-far takes is y = as-waits m (subst (λ w'. UaWaits m (turned w')) (sym (takes-none (turned w) (empty service tei c p [] w.near waits_end h.near refl))) h)
     waits-far loses is y = absurd (y h.near.heard)
@@ -126,7 +120,7 @@ module _ (service : Service) (tei : ℕ) (c d : Config) (p q : ℕ) (face : Face
         let s' = comes (spelling d.side f) w.near in
         let n' = end t (answered h.repeats []) [] in
         let held : Held c service tei p (confirmed service tei ∷ []) s' n' =
-        held-first service tei p [] c w.near comes_end h.near (confirmed service tei) s' n' (course t (link.received (link.frame f)) comes_end.link) refl refl refl
+        held-first service tei p [] c w.near comes_end h.near (confirmed service tei) s' n' (course t (received (frame f)) comes_end.link) refl refl refl
         (taken-stands service tei p [] c w.near comes_end h.near d face f way.1) (takes-granted (spelling d.side f) w.near) refl
         (taken-told service tei p [] c w.near comes_end h.near d face f way.1) refl refl in
         record {
@@ -143,7 +137,7 @@ module _ (service : Service) (tei : ℕ) (c d : Config) (p q : ℕ) (face : Face
         each-timer service tei (λ timer. IsTimelyOf (times_out timer) w → Goes (acting (times_out timer) w)) (λ x. absurd (goes-first is_final (with_ua_first m) (ua m.terms) m.way refl refl (ringing-open service tei c d p q h.repeats [] [] w (with_ua_first m) (indicated service tei ∷ []) h.near h.far x.0).responses))
         (λ x. as-comes m (record { repeats = h.repeats; near = silent-t203 service tei c d p q h.repeats [] [] w.near h.near; far = h.far; firm = h.firm })) timer is x
     comes-near gives is x = as-comes m (record { repeats = h.repeats; near = gives-nothing service tei c p [] w.near comes_end h.near refl; far = h.far; firm = h.firm })
-    comes-near takes is x = as-up (record { n = end t (answered h.repeats []) []; m = m; up = confirms })
+    comes-near takes is x = (inr (inr (inr (inr (inr (record { n = end t (answered h.repeats []) []; m = m; up = confirms }))))))
     comes-near loses is x = as-comes m (subst (UaGoes m) (sym (loses-none w (empty service tei c p [] w.near comes_end h.near refl))) h)
 
     comes-asks : (octets : List ℕ) → Goes (made w (happens (request (Data service tei octets)) w.far))
@@ -170,32 +164,31 @@ module _ (service : Service) (tei : ℕ) (c d : Config) (p q : ℕ) (face : Face
     comes-expires timer its aims can timely =
         let near = end t (answered h.repeats []) [] in
         let firm = firm-expires m near (firm-turned near m h.firm) its can timely in
-        as-comes (with_link (link.expired its) m) (record {
+        as-comes (with_link (expired its) m) (record {
           repeats = h.repeats;
           near = h.near;
           far = timer-held service tei d q _ w.far (with_ua_first m) h.far h.firm.joined.far_up timer its aims firm.joined.near_up;
-          firm = firm-turned (with_link (link.expired its) m) near firm;
+          firm = firm-turned (with_link (expired its) m) near firm;
         })
 
     far-none : m.link.state ≡ TimerRecovery → IsLongEnough service tei w.far w.near → two_links_timely.IsNoneOpen m (end t (answered h.repeats []) [])
     far-none state long =
         let far = with_ua_first m in
-        let open_ = long-there service tei d c q p w.far w.near far comes_end h.far.stands h.near.stands long (ap awaits_answer state) in
-        let both = closed far comes_end open_ in
+        let both = closed far comes_end (long-there service tei d c q p w.far w.near far comes_end h.far.stands h.near.stands long (ap awaits_answer state)) in
         record {
           enquiries = record { waiting = both.enquiries.waiting; way = All-tail (λ (f : Parts). two_links_timely.is_enquiry f.address.command f.control ≡ false) (ua m.terms) m.way both.enquiries.way };
           answers = record { waiting = both.answers.waiting; way = both.answers.way };
         }
 
-    comes-t200 : IsTimelyOf (times_out (timers.T200 service tei)) (turned w) → Goes (turned (acting (times_out (timers.T200 service tei)) (turned w)))
+    comes-t200 : IsTimelyOf (times_out (timer_T200 service tei)) (turned w) → Goes (turned (acting (times_out (timer_T200 service tei)) (turned w)))
     comes-t200 (long, may) =
         let there = may-there service tei d q w.far (with_ua_first m) h.far.stands may in
-        comes-expires (timers.T200 service tei) T200 (λ l. refl) (λ state running. there (ap awaits_answer state) running) (λ state running. far-none state long)
+        comes-expires (timer_T200 service tei) T200 (λ l. refl) (λ state running. there (ap awaits_answer state) running) (λ state running. far-none state long)
 
-    comes-t203 : Goes (turned (acting (times_out (timers.T203 service tei)) (turned w)))
+    comes-t203 : Goes (turned (acting (times_out (timer_T203 service tei)) (turned w)))
     comes-t203 =
         let not-there = λ (state : m.link.state ≡ TimerRecovery). never service tei d q _ w.far (with_ua_first m) h.far h.firm.far_sane.timed state in
-        comes-expires (timers.T203 service tei) T203 (λ l. refl) (λ state running. absurd (not-there state running)) (λ state running. absurd (not-there state running))
+        comes-expires (timer_T203 service tei) T203 (λ l. refl) (λ state running. absurd (not-there state running)) (λ state running. absurd (not-there state running))
 
     pub comes-far : (act : Act) → IsRoughTalkOf service tei act → IsTimelyOf act (turned w) → IsSpared act w → Goes (turned (acting act (turned w)))
     comes-far (requests r) is x y = for-data service tei (λ r. Goes (turned (acting (requests r) (turned w)))) comes-asks r is

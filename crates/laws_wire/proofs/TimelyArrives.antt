@@ -1,26 +1,23 @@
 -- Where both ends are up and no turn is left: once T200 expires, so many rounds are enough for all that is missing.
-use Rattle.laws_wire.proofs.Vocabulary.{◌≡◌, ℕ, suc, ◌+◌, ◌<◌, ◌≤◌, false, List, [], ◌∷◌, ◌++◌, length, map, take, None, refl, sym, ap, subst, ◌∙◌, arith, length-map, length-take-le, Service, Timer, spelling, ControlFrame, TimerRecovery, given, End, Ends, with_link, rising-low, Config, LineTold, next, gave, IsCutOff, HasNo, expires-one, all-recovered, enquiry_with, nothing-to_send, awaits_answer, T200, line_of, Station, Wire, times_out, acting, turned, IsStill, answered, confirmed, indicated, data_told, heard_in, is_poll, is_final, StayTimely, both_expire, rounds, HasMissing, HasArrived, with_t200_expired, BothMayRepeat, is_ua, runs}
-use Rattle.lapd_frame.specs.declared.timers.Timer.TheVariants as timers
-use Rattle.model_link.specs.Events as link
+use Rattle.laws_wire.proofs.Vocabulary.{◌≡◌, ℕ, suc, ◌+◌, ◌<◌, ◌≤◌, false, List, [], ◌∷◌, ◌++◌, length, map, take, None, refl, sym, ap, subst, ◌∙◌, arith, length-map, length-take-le, Service, Timer, spelling, ControlFrame, TimerRecovery, given, End, Ends, with_link, rising-low, Config, LineTold, next, gave, IsCutOff, HasNo, expires-one, all-recovered, enquiry_with, nothing-to_send, awaits_answer, T200, line_of, Station, Wire, times_out, acting, turned, IsStill, answered, confirmed, indicated, data_told, heard_in, is_poll, is_final, StayTimely, both_expire, rounds, HasMissing, HasArrived, with_t200_expired, BothMayRepeat, is_ua, runs, list_any, frames_by, flat_map, Parts, expired, timer_T200, two_links_rounds, TwoLinksHasArrived, read_as}
 use Rattle.laws_link.specs.two.CutOff as cut_off
-use Rattle.laws_link.specs.two.Rounds as two_links
-use Rattle.laws_wire.proofs.Awaited.{NoneOpen, closed, gives-none-of, may-there, open-here}
-use Rattle.laws_wire.proofs.Firm.{not-behind}
+use Rattle.laws_wire.proofs.Awaited.{NoneOpen, closed, may-there, open-here}
 use Rattle.laws_wire.proofs.Held.{Held}
 use Rattle.laws_wire.proofs.Loose.{Loose, as-loose}
 use Rattle.laws_wire.proofs.Standing.{Stands, gives-none}
 use Rattle.laws_wire.proofs.Talking.{Face}
 use Rattle.laws_wire.proofs.TimelyUp.{IsHushed, hushed, none-waits, none-of, none-open, BothUp, turned-up, up-expires, rounds-up, timed-8}
+use Rattle.laws_link.proofs.OfTwo.TimelyRuns.{flows-low}
 
 -- all frames on the way were lost
 pub cut-off : (n m : End) → Loose n m → n.link.own_busy ≡ false → n.link.waiting ≡ [] → n.way ≡ [] → (n.link.state ≡ TimerRecovery → n.link.repeats < n.terms.n200) → IsCutOff n m
-cut-off n m h free waiting way repeats = grind (arith, rising-low, line_of, not-behind)
+cut-off n m h free waiting way repeats = grind (arith, rising-low, line_of, flows-low)
 
 abbrev IsNone : ControlFrame → Type 0
 IsNone f = is_final f.command f.control ≡ false
 
 -- once it expires nothing waits but an enquiry
-pub no-answer : (n m : End) → IsCutOff n m → HasNo is_final (with_link (link.expired T200) n)
+pub no-answer : (n m : End) → IsCutOff n m → HasNo is_final (with_link (expired T200) n)
 no-answer n m h = grind (arith, expires-one, enquiry_with)
 
 -- what is missing at layer 3 is missing at the link
@@ -41,7 +38,7 @@ module _ (service : Service) (tei : ℕ) where
     nothing-said k place past s n h none = gives-none service tei place s n (subst (λ k. Stands k service tei place s n) (sym h.stands.config) h.stands) none
 
     -- what has arrived at the links has arrived
-    pub arrived : (before w : Wire) (e : Ends) (cn cm : List (List ℕ)) → Up w e.near e.far → two_links.HasArrived cn e.near e.far → two_links.HasArrived cm e.far e.near
+    pub arrived : (before w : Wire) (e : Ends) (cn cm : List (List ℕ)) → Up w e.near e.far → TwoLinksHasArrived cn e.near e.far → TwoLinksHasArrived cm e.far e.near
         → before.near.granted ≡ cn → before.far.granted ≡ cm → HasArrived service tei before w
     arrived before w e cn cm h x y near far = (
       h.near.heard ∙ ap (λ xs. (confirmed service tei ∷ []) ++ map (data_told service tei) xs) (y.delivered ∙ sym far),
@@ -56,16 +53,16 @@ module _ (service : Service) (tei : ℕ) where
 
     module _ (w : Wire) (n m : End) (h : Up w n m) (still : IsStill w) (may : BothMayRepeat service tei w) where
       abbrev timer : Timer
-      timer = timers.T200 service tei
+      timer = timer_T200 service tei
 
       abbrev e : Ends
       e = record { near = n; far = m }
 
       abbrev n' : End
-      n' = with_link (link.expired T200) n
+      n' = with_link (expired T200) n
 
       abbrev m' : End
-      m' = with_link (link.expired T200) m
+      m' = with_link (expired T200) m
 
       near-hushed : IsHushed service tei n
       near-hushed = hushed service tei c p _ w.near n h.near still.near still.near_way
@@ -111,7 +108,7 @@ module _ (service : Service) (tei : ℕ) where
         (
           (
             (λ no. open-here service tei d c q p w'.far w'.near m n' near-expired.far.stands near-expired.near.stands far-open, may.1),
-            λ none. gives-none-of is_ua w.far still.far,
+            λ none. (ap (λ a. list_any (λ (x : Parts). is_ua x.control) (flat_map (read_as w.far.card.config) (frames_by a))) still.far),
           ),
           tt,
         ),
@@ -128,4 +125,4 @@ module _ (service : Service) (tei : ℕ) where
           missing (confirmed service tei) n.link.r u m.link.contents n.delivered (heard_in w.near) h.firm.joined.back.accepted h.firm.joined.back.delivered h.near.heard
           (subst (λ xs. length (confirmed service tei ∷ map (data_told service tei) xs) ≤ length (heard_in w.near) + u) h.far.granted few.0) in
           let all = all-recovered u e near-cut far-cut there back_ in
-          arrived w (rounds (u + 3) (with_t200_expired service tei w)) (two_links.rounds (u + 3) e') n.link.contents m.link.contents last all.0 all.1 h.near.granted h.far.granted
+          arrived w (rounds (u + 3) (with_t200_expired service tei w)) (two_links_rounds (u + 3) e') n.link.contents m.link.contents last all.0 all.1 h.near.granted h.far.granted

@@ -1,6 +1,5 @@
 -- The ends as an establishment leaves them, and what changes nothing at a station or on a wire.
-use Rattle.laws_wire.proofs.Vocabulary.{◌≡◌, ℕ, ◌≤◌, false, not, List, [], ◌∷◌, length, None, refl, sym, ap, subst, ◌∙◌, inl, inr, true≢false, arith, option_map_or, All-nil, Service, Terms, Link, fresh, given, serves, IsInRange, End, joined-first, Config, LineTold, request, next, Line, link_in, link_of, place_in, bad_tei, no_link, wrong_state, first_that_holds, Request, aim_of_request, at_requested, line_at, passed, IsReady, IsTaken, Flow, refusal, IsSound, Data, SetBusy, ClearBusy, Station, Wire, happens, loses, acting}
-use Rattle.model_link.specs.Events as link
+use Rattle.laws_wire.proofs.Vocabulary.{◌≡◌, ℕ, ◌≤◌, false, not, List, [], ◌∷◌, length, None, refl, sym, ap, subst, ◌∙◌, inl, inr, true≢false, arith, option_map_or, All-nil, Service, Terms, Link, fresh, given, serves, IsInRange, End, joined-first, Config, LineTold, request, next, Line, link_in, link_of, place_in, bad_tei, no_link, wrong_state, first_that_holds, Request, aim_of_request, at_requested, line_at, passed, IsReady, IsTaken, Flow, refusal, IsSound, Data, SetBusy, ClearBusy, Station, Wire, happens, loses, acting, LinkClearBusy, LinkData, LinkRequest, LinkSetBusy}
 use Rattle.model_line.specs.Refusal.{refusal as refusal_on}
 use Rattle.laws_wire.proofs.Calling.{end, called, sound-called}
 use Rattle.laws_wire.proofs.Tame.{WaitsSo, IsFreeFrame}
@@ -23,14 +22,11 @@ module _ (t u : Terms) (rt : IsInRange t) (ru : IsInRange u) (same : t.n201 ≡ 
   abbrev pub far_end : End
   far_end = end u called []
 
-  sound-answered : IsSound t (answered k [])
-  sound-answered = grind arith
-
   pub firm-first : Firm near_end far_end
-  firm-first = grind (arith, joined-first, sound-answered, sound-called, nothing-yet, WaitsSo, IsFreeFrame)
+  firm-first = grind (arith, joined-first, sound-called, nothing-yet, WaitsSo, IsFreeFrame)
 
   pub near-ready : IsReady near_end
-  near-ready = record { ranges = rt; sound = sound-answered; state = refl; peer_busy = refl; own_busy = refl; waiting = refl; way = refl }
+  near-ready = record { ranges = rt; sound = grind arith; state = refl; peer_busy = refl; own_busy = refl; waiting = refl; way = refl }
 
   pub far-ready : IsReady far_end
   far-ready = record { ranges = ru; sound = sound-called u ru; state = refl; peer_busy = refl; own_busy = refl; waiting = refl; way = refl }
@@ -54,12 +50,12 @@ module _ (service : Service) (tei : ℕ) (k : Config) (place : ℕ) (past : List
       subst (Held k service tei place past (happens next s)) same (held-given service tei place past k s n h (ap (λ (x : End). x.link.contents) same))
 
   -- data that the link refuses
-  pub asks-refused : ((octets : List ℕ) → refusal n.terms n.link false (link.Data octets) ≡ None → ⊥) → (octets : List ℕ)
+  pub asks-refused : ((octets : List ℕ) → refusal n.terms n.link false (LinkData octets) ≡ None → ⊥) → (octets : List ℕ)
       → happens (request (Data service tei octets)) s ≡ s
   asks-refused never octets = elim (held-asked service tei place past k s n h octets) [ inl same ↦ same | inr x ↦ absurd (never octets x.none) ]
 
   -- nor is own busy heeded where the state does not serve it
-  module _ (r : Request) (asked : link.Request) (aims : (l : Line) → aim_of_request r l ≡ at_requested service tei asked (place_in l tei))
+  module _ (r : Request) (asked : LinkRequest) (aims : (l : Line) → aim_of_request r l ≡ at_requested service tei asked (place_in l tei))
       (looks : (c : Config) (l : Line) → refusal_on c false r l ≡ first_that_holds (bad_tei tei ∷ no_link tei l ∷ wrong_state service tei asked l ∷ [])) where
     unserved : serves n.link.state asked ≡ false → happens (request r) s ≡ s
     unserved none =
@@ -69,14 +65,13 @@ module _ (service : Service) (tei : ℕ) (k : Config) (place : ℕ) (past : List
           | inl same ↦ same
           | inr x ↦
               let bad = passed (bad_tei tei) (no_link tei l ∷ wrong_state service tei asked l ∷ []) (sym (looks s.card.config l) ∙ x.none) in
-              let unknown = passed (no_link tei l) (wrong_state service tei asked l ∷ []) bad.1 in
-              let state = passed (wrong_state service tei asked l) [] unknown.1 in
+              let state = passed (wrong_state service tei asked l) [] (passed (no_link tei l) (wrong_state service tei asked l ∷ []) bad.1).1 in
               let its : (link_of service tei l).state ≡ n.link.state = ap (λ (x : Link). x.state) (ap (λ o. option_map_or (link_in l service) o fresh) own.speaks.placed ∙ own.speaks.link) in
               absurd (true≢false (sym (ap (λ b. not b) (ap (λ s. serves s asked) its ∙ none)) ∙ state.0))
         ]
 
-  pub busy-refused : serves n.link.state link.SetBusy ≡ false → happens (request (SetBusy service tei)) s ≡ s
-  busy-refused = unserved (SetBusy service tei) link.SetBusy (λ l. refl) (λ c l. refl)
+  pub busy-refused : serves n.link.state LinkSetBusy ≡ false → happens (request (SetBusy service tei)) s ≡ s
+  busy-refused = unserved (SetBusy service tei) LinkSetBusy (λ l. refl) (λ c l. refl)
 
-  pub ready-refused : serves n.link.state link.ClearBusy ≡ false → happens (request (ClearBusy service tei)) s ≡ s
-  ready-refused = unserved (ClearBusy service tei) link.ClearBusy (λ l. refl) (λ c l. refl)
+  pub ready-refused : serves n.link.state LinkClearBusy ≡ false → happens (request (ClearBusy service tei)) s ≡ s
+  ready-refused = unserved (ClearBusy service tei) LinkClearBusy (λ l. refl) (λ c l. refl)

@@ -1,6 +1,5 @@
 -- A call in which T200 is timely: SABME waits, is on its way, or was lost; then UA waits, and is on its way; then both ends are up.
-use Rattle.laws_wire.proofs.Vocabulary.{◌≡◌, ℕ, List, [], ◌∷◌, refl, ◌⊎◌, Service, Parts, ControlFrame, Terms, T203, fresh, End, Config, LineTold, expiry, terms, Station, Wire, happens, confirmed, indicated, IsLongEnough}
-use Rattle.lapd_frame.specs.declared.timers.Timer.TheVariants as timers
+use Rattle.laws_wire.proofs.Vocabulary.{arith, ◌≡◌, ℕ, List, [], ◌∷◌, refl, ◌⊎◌, Service, Parts, ControlFrame, Terms, T203, fresh, End, Config, LineTold, expiry, terms, Station, Wire, happens, confirmed, indicated, IsLongEnough, timer_T203}
 use Rattle.laws_wire.proofs.Awaited.{NoneOpen, long-there}
 use Rattle.laws_wire.proofs.Calling.{sabme, end, with_ua_waiting, with_ua_first}
 use Rattle.laws_wire.proofs.Firm.{Firm}
@@ -50,11 +49,9 @@ module _ (service : Service) (tei : ℕ) (c d : Config) (p q : ℕ) where
   -- while it rings no answer is to come as T200 expires
   pub ringing-open : (k : ℕ) (ws : List ControlFrame) (way : List Parts) (w : Wire) (m : End) (past : List LineTold) → Held c service tei p [] w.near (end t (ringing k ws) way) → Held d service tei q past w.far m
       → IsLongEnough service tei w.near w.far → NoneOpen (end t (ringing k ws) way) m
-  ringing-open k ws way w m past near far long =
-      let n = end t (ringing k ws) way in
-      long-there service tei c d p q w.near w.far n m near.stands far.stands long refl
+  ringing-open k ws way w m past near far long = long-there service tei c d p q w.near w.far (end t (ringing k ws) way) m near.stands far.stands long refl
 
   -- while an end rings T203 does not run
   pub silent-t203 : (k : ℕ) (ws : List ControlFrame) (way : List Parts) (s : Station) → Held c service tei p [] s (end t (ringing k ws) way)
-      → Held c service tei p [] (happens (expiry (timers.T203 service tei)) s) (end t (ringing k ws) way)
-  silent-t203 k ws way s h = held-expired service tei p [] c s (end t (ringing k ws) way) h (timers.T203 service tei) T203 (λ l. refl) (record { its_notes = refl; no_unit = refl }) refl
+      → Held c service tei p [] (happens (expiry (timer_T203 service tei)) s) (end t (ringing k ws) way)
+  silent-t203 k ws way s h = held-expired service tei p [] c s (end t (ringing k ws) way) h (timer_T203 service tei) T203 (λ l. refl) (record { its_notes = refl; no_unit = refl }) refl

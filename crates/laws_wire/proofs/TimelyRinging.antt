@@ -1,8 +1,5 @@
 -- The first phases of such a call: one end rings, and the other is down.
-use Rattle.laws_wire.proofs.Vocabulary.{◌≡◌, ℕ, ◌+◌, ◌<◌, true, List, [], ◌∷◌, map, None, refl, sym, ap, subst, ◌∙◌, inl, inr, arith, nat_lt, option_to_list, lt-ltb, Service, Timer, Parts, spelling, ControlFrame, Terms, LinkTimer, fresh, course, given, IsInRange, End, with_link, Config, expiry, terms, T200, Course, Data, Wire, happens, with_first_of, Act, requests, times_out, gives, takes, loses, acting, turned, IsStill, comes, indicated, IsRoughTalkOf, is_poll, MayRepeat, IsTimelyOf}
-use Rattle.lapd_frame.specs.declared.notes.Note.TheVariants as notes
-use Rattle.lapd_frame.specs.declared.timers.Timer.TheVariants as timers
-use Rattle.model_link.specs.Events as link
+use Rattle.laws_wire.proofs.Vocabulary.{◌≡◌, ℕ, ◌+◌, ◌<◌, true, List, [], ◌∷◌, map, None, refl, sym, ap, subst, ◌∙◌, inl, inr, arith, nat_lt, option_to_list, lt-ltb, Service, Timer, Parts, spelling, ControlFrame, Terms, LinkTimer, fresh, course, given, IsInRange, End, with_link, Config, expiry, terms, T200, Course, Data, Wire, happens, with_first_of, Act, requests, times_out, gives, takes, loses, acting, turned, IsStill, comes, indicated, IsRoughTalkOf, is_poll, MayRepeat, IsTimelyOf, received, frame, expired, timer_T200, timer_T203, NoteData}
 use Rattle.laws_wire.proofs.Answered.{takes-granted}
 use Rattle.laws_wire.proofs.Awaited.{may-there, waits-first, goes-first}
 use Rattle.laws_wire.proofs.Calling.{sabme, end, answering, called, takes-sabme, told-of-sabme}
@@ -32,28 +29,19 @@ module _ (service : Service) (tei : ℕ) (c d : Config) (p q : ℕ) (face : Face
   abbrev Goes : Wire → Type 0
   Goes w = phases.Goes service tei c d p q w
 
-  as-lost : {w : Wire} → Rings [] [] w → Goes w
-  as-lost h = inl h
-
   as-asking : {w : Wire} → Rings (its_sabme ∷ []) [] w → Goes w
   as-asking h = inr (inl h)
 
   as-called : {w : Wire} → Rings [] (sabme t ∷ []) w → Goes w
   as-called h = inr (inr (inl h))
 
-  as-waits : {w : Wire} (m : End) → UaWaits m w → Goes w
-  as-waits m h = inr (inr (inr (inl (record { m = m; is = h }))))
-
   module _ (ws : List ControlFrame) (way : List Parts) (w : Wire) (h : Rings ws way w) where
     rings-asks : (octets : List ℕ) → Rings ws way (acting (requests (Data service tei octets)) w)
     rings-asks octets =
         subst (λ s. Rings ws way (record w { near = s })) (sym (asks-refused service tei c p [] w.near (end t (ringing h.repeats ws) way) h.near (λ octets none. cc none) octets)) h
 
-    rings-t203 : Rings ws way (acting (times_out (timers.T203 service tei)) w)
+    rings-t203 : Rings ws way (acting (times_out (timer_T203 service tei)) w)
     rings-t203 = record { repeats = h.repeats; near = silent-t203 service tei c d p q h.repeats ws way w.near h.near; far = h.far }
-
-    rings-takes : Rings ws way (acting takes w)
-    rings-takes = subst (Rings ws way) (sym (takes-none w (empty service tei d q [] w.far (end u fresh []) h.far refl))) h
 
     down-asks : (octets : List ℕ) → Rings ws way (turned (acting (requests (Data service tei octets)) (turned w)))
     down-asks octets =
@@ -69,16 +57,13 @@ module _ (service : Service) (tei : ℕ) (c d : Config) (p q : ℕ) (face : Face
     down-gives : Rings ws way (turned (acting gives (turned w)))
     down-gives = record { repeats = h.repeats; near = h.near; far = gives-nothing service tei d q [] w.far (end u fresh []) h.far refl }
 
-    down-loses : Rings ws way (turned (acting loses (turned w)))
-    down-loses = subst (λ w'. Rings ws way (turned w')) (sym (loses-none (turned w) (empty service tei d q [] w.far (end u fresh []) h.far refl))) h
-
     -- all but taking SABME
     pub down-acts : way ≡ [] → (act : Act) → IsRoughTalkOf service tei act → Rings ws way (turned (acting act (turned w)))
     down-acts none (requests r) is = for-data service tei (λ r. Rings ws way (turned (acting (requests r) (turned w)))) down-asks r is
     down-acts none (times_out timer) is = for-timer service tei (λ timer. Rings ws way (turned (acting (times_out timer) (turned w)))) down-expires timer is
     down-acts none gives is = down-gives
     down-acts none takes is = grind (arith, takes-none, empty, end, ringing)
-    down-acts none loses is = down-loses
+    down-acts none loses is = subst (λ w'. Rings ws way (turned w')) (sym (loses-none (turned w) (empty service tei d q [] w.far (end u fresh []) h.far refl))) h
 
   -- nothing waits, and nothing is on its way
   module _ (w : Wire) (h : Rings [] [] w) where
@@ -90,20 +75,19 @@ module _ (service : Service) (tei : ℕ) (c d : Config) (p q : ℕ) (face : Face
 
     pub repeats-sabme : (timer : Timer) → Aims service tei timer T200 → h.repeats < t.n200 → Rings (its_sabme ∷ []) [] (acting (times_out timer) w)
     repeats-sabme timer aims few =
-        let s' = happens (expiry timer) w.near in
-        let x : Course = course t (link.expired T200) (ringing h.repeats []) in
+        let x : Course = course t (expired T200) (ringing h.repeats []) in
         let is : x ≡ repeated t h.repeats room = t200-repeats t h.repeats room few in
         let delivered = ap (λ (y : Course). y.delivered) is in
         let tells : TellsIt service tei x = record {
-          its_notes = ap (λ (y : Course). y.notes) is ∙ ap (λ o. map (λ octets. notes.Data service tei) (option_to_list o)) (sym delivered);
+          its_notes = ap (λ (y : Course). y.notes) is ∙ ap (λ o. map (λ octets. NoteData service tei) (option_to_list o)) (sym delivered);
           no_unit = ap (λ (y : Course). y.unit) is;
         } in
         let kept : x.link.contents ≡ [] = ap (λ (y : Course). y.link.contents) is in
-        let becomes : with_link (link.expired T200) rung ≡ end t (ringing (h.repeats + 1) (its_sabme ∷ [])) [] =
+        let becomes : with_link (expired T200) rung ≡ end t (ringing (h.repeats + 1) (its_sabme ∷ [])) [] =
         (λ i. record rung { link = (is i).link; delivered = option_to_list (is i).delivered }) in
         record {
           repeats = h.repeats + 1;
-          near = subst (Held c service tei p [] s') becomes (held-expired service tei p [] c w.near rung h.near timer T200 aims tells kept);
+          near = subst (Held c service tei p [] (happens (expiry timer) w.near)) becomes (held-expired service tei p [] c w.near rung h.near timer T200 aims tells kept);
           far = h.far;
         }
 
@@ -111,13 +95,13 @@ module _ (service : Service) (tei : ℕ) (c d : Config) (p q : ℕ) (face : Face
     few-repeats may = may-there service tei c p w.near rung h.near.stands may refl refl
 
     pub silent-near : (act : Act) → IsRoughTalkOf service tei act → IsTimelyOf act w → Goes (acting act w)
-    silent-near (requests r) is x = for-data service tei (λ r. Goes (acting (requests r) w)) (λ octets. as-lost (rings-asks [] [] w h octets)) r is
+    silent-near (requests r) is x = for-data service tei (λ r. Goes (acting (requests r) w)) (λ octets. (inl (rings-asks [] [] w h octets))) r is
     silent-near (times_out timer) is x =
         each-timer service tei (λ timer. IsTimelyOf (times_out timer) w → Goes (acting (times_out timer) w))
-        (λ x. as-asking (repeats-sabme (timers.T200 service tei) (λ l. refl) (few-repeats x.1))) (λ x. as-lost (rings-t203 [] [] w h)) timer is x
-    silent-near gives is x = as-lost (record { repeats = h.repeats; near = gives-nothing service tei c p [] w.near rung h.near refl; far = h.far })
-    silent-near takes is x = as-lost (rings-takes [] [] w h)
-    silent-near loses is x = as-lost (subst (Rings [] []) (sym (loses-none w (empty service tei c p [] w.near rung h.near refl))) h)
+        (λ x. as-asking (repeats-sabme (timer_T200 service tei) (λ l. refl) (few-repeats x.1))) (λ x. (inl (rings-t203 [] [] w h))) timer is x
+    silent-near gives is x = (inl (record { repeats = h.repeats; near = gives-nothing service tei c p [] w.near rung h.near refl; far = h.far }))
+    silent-near takes is x = (inl (subst (Rings [] []) (sym (takes-none w (empty service tei d q [] w.far (end u fresh []) h.far refl))) h))
+    silent-near loses is x = inl (subst (Rings [] []) (sym (loses-none w (empty service tei c p [] w.near rung h.near refl))) h)
 
   -- SABME waits
   module _ (w : Wire) (h : Rings (its_sabme ∷ []) [] w) where
@@ -136,7 +120,7 @@ module _ (service : Service) (tei : ℕ) (c d : Config) (p q : ℕ) (face : Face
         each-timer service tei (λ timer. IsTimelyOf (times_out timer) w → Goes (acting (times_out timer) w)) (λ x. absurd (waits-first is_poll asker its_sabme [] refl refl (ringing-open service tei c d p q h.repeats (its_sabme ∷ []) [] w (end u fresh []) [] h.near h.far x.0).commands))
         (λ x. as-asking (rings-t203 (its_sabme ∷ []) [] w h)) timer is x
     asking-near gives is x = as-called gives-sabme
-    asking-near takes is x = as-asking (rings-takes (its_sabme ∷ []) [] w h)
+    asking-near takes is x = as-asking (subst (Rings (its_sabme ∷ []) []) (sym (takes-none w (empty service tei d q [] w.far (end u fresh []) h.far refl))) h)
     asking-near loses is x = as-asking (subst (Rings (its_sabme ∷ []) []) (sym (loses-none w (empty service tei c p [] w.near asker h.near refl))) h)
 
   -- it is on its way
@@ -153,8 +137,8 @@ module _ (service : Service) (tei : ℕ) (c d : Config) (p q : ℕ) (face : Face
         each-timer service tei (λ timer. IsTimelyOf (times_out timer) w → Goes (acting (times_out timer) w)) (λ x. absurd (goes-first is_poll caller_end (sabme t) [] refl refl (ringing-open service tei c d p q h.repeats [] (sabme t ∷ []) w (end u fresh []) [] h.near h.far x.0).commands))
         (λ x. as-called (rings-t203 [] (sabme t ∷ []) w h)) timer is x
     called-near gives is x = as-called (record { repeats = h.repeats; near = gives-nothing service tei c p [] w.near caller_end h.near refl; far = h.far })
-    called-near takes is x = as-called (rings-takes [] (sabme t ∷ []) w h)
-    called-near loses is x = as-lost (record { repeats = h.repeats; near = held-lost service tei p [] c w.near caller_end h.near; far = h.far })
+    called-near takes is x = as-called (subst (Rings [] (sabme t ∷ [])) (sym (takes-none w (empty service tei d q [] w.far (end u fresh []) h.far refl))) h)
+    called-near loses is x = inl (record { repeats = h.repeats; near = held-lost service tei p [] c w.near caller_end h.near; far = h.far })
 
     -- the other takes it
     pub answers : UaWaits (end u called []) (turned (acting takes (turned w)))
@@ -162,9 +146,9 @@ module _ (service : Service) (tei : ℕ) (c d : Config) (p q : ℕ) (face : Face
         let f = sabme t in
         let way = first-way service tei c p [] w.near caller_end f [] refl h.near in
         let reached = comes (spelling c.side f) w.far in
-        let becomes : with_link (link.received (link.frame f)) (end u fresh []) ≡ end u answering [] = ap (λ y. end u y []) (takes-sabme u ru t) in
+        let becomes : with_link (received (frame f)) (end u fresh []) ≡ end u answering [] = ap (λ y. end u y []) (takes-sabme u ru t) in
         let held : Held d service tei q (indicated service tei ∷ []) reached (end u answering []) =
-        held-first service tei q [] d w.far (end u fresh []) h.far (indicated service tei) reached (end u answering []) (course u (link.received (link.frame f)) fresh) refl refl refl
+        held-first service tei q [] d w.far (end u fresh []) h.far (indicated service tei) reached (end u answering []) (course u (received (frame f)) fresh) refl refl refl
         (subst (Stands d service tei q reached) becomes (taken-stands service tei q [] d w.far (end u fresh []) h.far c back f way.1)) (takes-granted (spelling c.side f) w.far) refl
         (taken-told service tei q [] d w.far (end u fresh []) h.far c back f way.1) (told-of-sabme u ru t) refl in
         record {
@@ -181,6 +165,4 @@ module _ (service : Service) (tei : ℕ) (c d : Config) (p q : ℕ) (face : Face
         for-data service tei (λ r. Goes (turned (acting (requests r) (turned w)))) (λ octets. as-called (down-asks [] (sabme t ∷ []) w h octets)) r is
     called-far (times_out timer) is =
         for-timer service tei (λ timer. Goes (turned (acting (times_out timer) (turned w)))) (λ timer its aims. as-called (down-expires [] (sabme t ∷ []) w h timer its aims)) timer is
-    called-far gives is = as-called (down-gives [] (sabme t ∷ []) w h)
-    called-far takes is = as-waits (end u called []) answers
-    called-far loses is = as-called (down-loses [] (sabme t ∷ []) w h)
+    called-far act is = grind (arith, as-called, down-gives, sabme, end, called, answers, loses-none, empty)

@@ -1,8 +1,7 @@
 -- A whole call in which timers are timely: both ends stay up, and what was lost arrives.
-use Rattle.laws_wire.proofs.Vocabulary.{◌≡◌, ℕ, suc, ◌+◌, ◌<◌, Bool, true, false, ◌==◌, List, [], ◌∷◌, ◌++◌, length, map, is_some, refl, sym, ap, subst, ◌∙◌, inl, inr, eqb-true, arith, All, flat_map, list_any, and_parts, or_parts, All-nil, All-cons, All-head, All-tail, list_any-append, Note, Service, Timer, Parts, ControlFrame, fresh, IsInRange, Ends, Config, LineTold, terms, all-arrived, T200, Station, Wire, Act, gives, takes, times_out, Doing, at_near, at_far, acting, turned, doing, doing_all, IsStill, calling, confirmed, indicated, data_told, for_layer_3, heard_in, is_error, HasNoError, IsRoughTalkOf, IsRoughTalk, is_poll, is_final, IsTimelyOf, IsSpared, IsTimely, StayTimely, both_expire, round, rounds, HasNoErrors, BothMayRepeat, HasMissing, HasArrived, with_t200_expired, WhatIsLostArrives, is_ua}
-use Rattle.lapd_frame.specs.declared.timers.Timer.TheVariants as timers
+use Rattle.laws_wire.proofs.Vocabulary.{◌≡◌, ℕ, suc, ◌+◌, ◌<◌, Bool, true, false, ◌==◌, List, [], ◌∷◌, ◌++◌, length, map, is_some, refl, sym, ap, subst, ◌∙◌, inl, inr, eqb-true, arith, All, flat_map, list_any, and_parts, or_parts, All-nil, All-cons, All-head, All-tail, list_any-append, Note, Service, Timer, Parts, ControlFrame, fresh, IsInRange, Ends, Config, LineTold, terms, all-arrived, T200, Station, Wire, Act, gives, takes, times_out, Doing, at_near, at_far, acting, turned, doing, doing_all, IsStill, calling, confirmed, indicated, data_told, for_layer_3, heard_in, is_error, HasNoError, IsRoughTalkOf, IsRoughTalk, is_poll, is_final, IsTimelyOf, IsSpared, IsTimely, StayTimely, both_expire, round, rounds, HasNoErrors, BothMayRepeat, HasMissing, HasArrived, with_t200_expired, WhatIsLostArrives, is_ua, frames_by, timer_T200, read_as}
 use Rattle.laws_link.specs.two.Rounds as two_links
-use Rattle.laws_wire.proofs.Awaited.{NoneOpen, gives-none-of, open-here}
+use Rattle.laws_wire.proofs.Awaited.{NoneOpen, open-here}
 use Rattle.laws_wire.proofs.Calling.{end, called}
 use Rattle.laws_wire.proofs.LossyRun.{Setting, setting}
 use Rattle.laws_wire.proofs.Ringing.{answered, its_sabme}
@@ -44,27 +43,15 @@ data-fair service tei (x ∷ xs) = data-fair service tei xs
 nothing-heard : (s : Station) → heard_in s ≡ [] → HasNoError s
 nothing-heard s e = all-fair s.told (ap (list_any has_error) e)
 
-fair-heard : (service : Service) (tei : ℕ) (first : LineTold) (xs : List (List ℕ)) (s : Station) → IsFair first → heard_in s ≡ (first ∷ []) ++ map (data_told service tei) xs → HasNoError s
-fair-heard service tei first xs s fair e = grind (arith, all-fair, data-fair)
-
 -- ---- the run
 
 one-round : (k j : ℕ) → k ≡ suc j → (w : Wire) → rounds k w ≡ rounds j (doing_all round w)
 unfolding rounds
 one-round k j e w = ap (λ i. rounds i w) e
 
-same-count : (u : ℕ) → u + 3 ≡ suc ((u + 1) + 1)
-same-count u = omega arith
-
 module _ (service : Service) (tei : ℕ) (c d : Config) (p q : ℕ) (face : Face c d) (back : Face d c) (rt : IsInRange (terms c service tei)) (ru : IsInRange (terms d service tei)) where
   abbrev On : Wire → Type 0
   On w = Goes service tei c d p q w
-
-  abbrev Up : Wire → Type 0
-  Up w = AreUp service tei c d p q (confirmed service tei ∷ []) (indicated service tei ∷ []) w
-
-  as-up : (w : Wire) → Up w → On w
-  as-up w h = inr (inr (inr (inr (inr h))))
 
   -- each act of either end
   near-goes : (act : Act) → IsRoughTalkOf service tei act → (w : Wire) → IsTimelyOf act w → On w → On (acting act w)
@@ -73,7 +60,7 @@ module _ (service : Service) (tei : ℕ) (c d : Config) (p q : ℕ) (face : Face
   near-goes act is w x (inr (inr (inl h))) = called-near service tei c d p q face back rt ru w h act is x
   near-goes act is w x (inr (inr (inr (inl h)))) = waits-near service tei c d p q face back rt ru w h.m h.is act is x
   near-goes act is w x (inr (inr (inr (inr (inl h))))) = comes-near service tei c d p q face back rt ru w h.m h.is act is x
-  near-goes act is w x (inr (inr (inr (inr (inr h))))) = as-up (acting act w) (up-acts service tei c d p q face (confirmed service tei ∷ []) (indicated service tei ∷ []) w h.n h.m h.up act is x)
+  near-goes act is w x (inr (inr (inr (inr (inr h))))) = inr (inr (inr (inr (inr (up-acts service tei c d p q face (confirmed service tei ∷ []) (indicated service tei ∷ []) w h.n h.m h.up act is x)))))
 
   far-goes : (act : Act) → IsRoughTalkOf service tei act → (w : Wire) → IsTimelyOf act (turned w) → IsSpared act w → On w → On (turned (acting act (turned w)))
   far-goes act is w x y (inl h) = inl (down-acts service tei c d p q face back rt ru [] [] w h refl act is)
@@ -81,10 +68,7 @@ module _ (service : Service) (tei : ℕ) (c d : Config) (p q : ℕ) (face : Face
   far-goes act is w x y (inr (inr (inl h))) = called-far service tei c d p q face back rt ru w h act is
   far-goes act is w x y (inr (inr (inr (inl h)))) = waits-far service tei c d p q face back rt ru w h.m h.is act is y
   far-goes act is w x y (inr (inr (inr (inr (inl h))))) = comes-far service tei c d p q face back rt ru w h.m h.is act is x y
-  far-goes act is w x y (inr (inr (inr (inr (inr h))))) =
-      let other = turned-are service tei c d p q (confirmed service tei ∷ []) (indicated service tei ∷ []) w h in
-      as-up (turned (acting act (turned w)))
-      (turned-are service tei d c q p (indicated service tei ∷ []) (confirmed service tei ∷ []) (acting act (turned w)) (up-acts service tei d c q p back (indicated service tei ∷ []) (confirmed service tei ∷ []) (turned w) other.n other.m other.up act is x))
+  far-goes act is w x y (inr (inr (inr (inr (inr h))))) = grind (arith, turned-are, up-acts)
 
   pub step : (k : Doing) → IsRoughTalk service tei k → (w : Wire) → IsTimely k w → On w → On (doing k w)
   step (at_near act) is w x h = near-goes act is w x h
@@ -96,25 +80,21 @@ module _ (service : Service) (tei : ℕ) (c d : Config) (p q : ℕ) (face : Face
   runs (k ∷ ds) all w x h =
       runs ds (All-tail (IsRoughTalk service tei) k ds all) (doing k w) x.1 (step k (All-head (IsRoughTalk service tei) k ds all) w x.0 h)
 
-  -- no error is told
-  rings-fair : (ws : List ControlFrame) (way : List Parts) (w : Wire) → Rings service tei c d p q ws way w → HasNoErrors w
-  rings-fair ws way w h = (nothing-heard w.near h.near.heard, nothing-heard w.far h.far.heard)
-
   pub fair : (w : Wire) → On w → HasNoErrors w
-  fair w (inl h) = rings-fair [] [] w h
-  fair w (inr (inl h)) = rings-fair _ [] w h
-  fair w (inr (inr (inl h))) = rings-fair [] _ w h
-  fair w (inr (inr (inr (inl h)))) = (nothing-heard w.near h.is.near.heard, fair-heard service tei (indicated service tei) h.m.delivered w.far refl h.is.far.heard)
-  fair w (inr (inr (inr (inr (inl h))))) = (nothing-heard w.near h.is.near.heard, fair-heard service tei (indicated service tei) h.m.delivered w.far refl h.is.far.heard)
+  fair w (inl h) = ((nothing-heard w.near h.near.heard, nothing-heard w.far h.far.heard))
+  fair w (inr (inl h)) = ((nothing-heard w.near h.near.heard, nothing-heard w.far h.far.heard))
+  fair w (inr (inr (inl h))) = ((nothing-heard w.near h.near.heard, nothing-heard w.far h.far.heard))
+  fair w (inr (inr (inr (inl h)))) = (nothing-heard w.near h.is.near.heard, (grind (arith, all-fair, data-fair)))
+  fair w (inr (inr (inr (inr (inl h))))) = (nothing-heard w.near h.is.near.heard, (grind (arith, all-fair, data-fair)))
   fair w (inr (inr (inr (inr (inr h))))) = (
-    fair-heard service tei (confirmed service tei) h.n.delivered w.near refl h.up.near.heard,
-    fair-heard service tei (indicated service tei) h.m.delivered w.far refl h.up.far.heard,
+    (grind (arith, all-fair, data-fair)),
+    (grind (arith, all-fair, data-fair)),
   )
 
   -- SABME was lost: it goes again, and both are up
   module _ (w : Wire) (h : Rings service tei c d p q [] [] w) (may : BothMayRepeat service tei w) where
     abbrev timer : Timer
-    timer = timers.T200 service tei
+    timer = timer_T200 service tei
 
     abbrev expired : Wire
     expired = with_t200_expired service tei w
@@ -136,10 +116,9 @@ module _ (service : Service) (tei : ℕ) (c d : Config) (p q : ℕ) (face : Face
     unfolding doing_all
     first =
         let w1 = acting gives expired in
-        let h1 = gives-sabme service tei c d p q face back rt ru expired again in
         let w2 = turned (acting takes (turned w1)) in
         let m = end (terms d service tei) called [] in
-        let h2 : UaWaits service tei c d p q m w2 = ringing.answers service tei c d p q face back rt ru w1 h1 in
+        let h2 : UaWaits service tei c d p q m w2 = ringing.answers service tei c d p q face back rt ru w1 (gives-sabme service tei c d p q face back rt ru expired again) in
         let w3 = turned (acting gives (turned w2)) in
         let h3 : UaGoes service tei c d p q m w3 = gives-ua service tei c d p q face back rt ru w2 m h2 in
         record { repeats = h3.repeats; up = confirms service tei c d p q face back rt ru w3 m h3 }
@@ -156,8 +135,7 @@ module _ (service : Service) (tei : ℕ) (c d : Config) (p q : ℕ) (face : Face
         let j = (u + 1) + 1 in
         let last = rounds-up service tei c d p q face back (confirmed service tei ∷ []) (indicated service tei ∷ []) j w' e first.up in
         let all = all-arrived (u + 1) e (near-ready t v rt ru face.n201 k) (far-ready t v rt ru face.n201 k) (there-taken t v rt ru face.n201 k) (back-taken t v rt ru face.n201 k) (omega arith) (omega arith) in
-        subst (HasArrived service tei w) (sym (one-round (u + 3) j (same-count u) expired))
-        (arrived service tei c d p q face back w (rounds j w') (two_links.rounds j e) [] [] last all.0 all.1 h.near.granted h.far.granted)
+        grind (arith, one-round, arrived)
 
     -- and that is timely at both ends
     pub lost-goes_on : IsStill w → StayTimely (both_expire service tei) w
@@ -168,17 +146,16 @@ module _ (service : Service) (tei : ℕ) (c d : Config) (p q : ℕ) (face : Face
         let n = end t (ringing_as h.repeats []) [] in
         let m = end v fresh [] in
         let near = hushed service tei c p [] w.near n h.near still.near still.near_way in
-        let far = hushed service tei d q [] w.far m h.far still.far still.far_way in
         let w' = acting (times_out timer) w in
         let next = repeats-sabme service tei c d p q face back rt ru w h timer (λ l. refl) few in
         let n' = end t (ringing_as next.repeats (its_sabme ∷ [])) [] in
         let sabme-alone = All-cons (λ (f : ControlFrame). is_final f.command f.control ≡ false) its_sabme [] refl (All-nil (λ (f : ControlFrame). is_final f.command f.control ≡ false)) in
         let open_ : NoneOpen m n' = record { commands = none-of service tei is_poll m refl refl; responses = record { waiting = sabme-alone; way = All-nil (λ (f : Parts). is_final f.address.command f.control ≡ false) } } in (
-          (λ no. open-here service tei c d p q w.near w.far n m h.near.stands h.far.stands (none-open service tei n m near far), may.0),
+          (λ no. open-here service tei c d p q w.near w.far n m h.near.stands h.far.stands (none-open service tei n m near (hushed service tei d q [] w.far m h.far still.far still.far_way)), may.0),
           (
             (
               (λ no. open-here service tei d c q p w.far w'.near m n' h.far.stands next.near.stands open_, may.1),
-              λ none. gives-none-of is_ua w.far still.far,
+              λ none. (ap (λ a. list_any (λ (x : Parts). is_ua x.control) (flat_map (read_as w.far.card.config) (frames_by a))) still.far),
             ),
             tt,
           ),

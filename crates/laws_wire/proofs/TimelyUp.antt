@@ -1,9 +1,5 @@
 -- Two stations whose links are up, where each timer is timely: both stay up, whatever is lost.
-use Rattle.laws_wire.proofs.Vocabulary.{arith, ◌≡◌, ℕ, Bool, true, IsTrue, List, [], ◌∷◌, map, Some, None, refl, sym, ap, subst, ◌∙◌, ◌⊎◌, inl, inr, append-nil, true≢false, All, All-head, Control, Service, Timer, Parts, spelling, TimerRecovery, LinkTimer, T203, is_multiple_frame, course, given, is_running, awaits_answer, IsTimed, IsTimedIn, runs, End, Ends, with_link, with_sent, offer-gave, Config, LineTold, expiry, request, next, gave, CanRepeat, nothing-given, T200, Data, Station, Wire, happens, with_first_of, Act, requests, times_out, gives, takes, loses, acting, turned, answered, IsOfLink, IsRoughTalkOf, is_poll, is_final, IsTimelyOf, rounds, Joined, Flows}
-use Rattle.lapd_frame.specs.declared.timers.Timer.TheVariants as timers
-use Rattle.model_link.specs.Events as link
-use Rattle.model_link.specs.TwoEnds as two_ends
-use Rattle.laws_link.specs.two.Rounds as two_links
+use Rattle.laws_wire.proofs.Vocabulary.{arith, ◌≡◌, ℕ, Bool, true, IsTrue, List, [], ◌∷◌, map, Some, None, refl, sym, ap, subst, ◌∙◌, ◌⊎◌, inl, inr, append-nil, true≢false, All, All-head, Control, Service, Timer, Parts, spelling, TimerRecovery, LinkTimer, T203, is_multiple_frame, course, given, is_running, awaits_answer, IsTimed, IsTimedIn, runs, End, Ends, with_link, with_sent, offer-gave, Config, LineTold, expiry, request, next, gave, CanRepeat, nothing-given, T200, Data, Station, Wire, happens, with_first_of, Act, requests, times_out, gives, takes, loses, acting, turned, answered, IsOfLink, IsRoughTalkOf, is_poll, is_final, IsTimelyOf, rounds, Joined, Flows, expired, timer_T201, timer_T200, timer_T203, two_ends_with_first_of, two_ends_with_first_lost, two_links_rounds}
 use Rattle.laws_link.specs.two.Timely as two_links_timely
 use Rattle.laws_wire.proofs.Asking.{with_more, asked-form}
 use Rattle.laws_wire.proofs.Awaited.{NoneOpen, closed, may-there, long-there}
@@ -18,10 +14,10 @@ use Rattle.laws_wire.proofs.Talking.{Face, no-way}
 
 module _ (service : Service) (tei : ℕ) where
   -- the timers of a call
-  pub each-timer : (P : Timer → Type 0) → P (timers.T200 service tei) → P (timers.T203 service tei) → (timer : Timer) → IsOfLink service tei timer → P timer
-  each-timer P x y (timers.T200 s t) is = subst (λ s'. P (timers.T200 s' t)) (sym is.0) (subst (λ t'. P (timers.T200 service t')) (sym is.1) x)
-  each-timer P x y (timers.T203 s t) is = subst (λ s'. P (timers.T203 s' t)) (sym is.0) (subst (λ t'. P (timers.T203 service t')) (sym is.1) y)
-  each-timer P x y timers.T201 is = absurd is
+  pub each-timer : (P : Timer → Type 0) → P (timer_T200 service tei) → P (timer_T203 service tei) → (timer : Timer) → IsOfLink service tei timer → P timer
+  each-timer P x y (timer_T200 s t) is = subst (λ s'. P (timer_T200 s' t)) (sym is.0) (subst (λ t'. P (timer_T200 service t')) (sym is.1) x)
+  each-timer P x y (timer_T203 s t) is = subst (λ s'. P (timer_T203 s' t)) (sym is.0) (subst (λ t'. P (timer_T203 service t')) (sym is.1) y)
+  each-timer P x y timer_T201 is = absurd is
 
   -- where no turn is left
   pub record IsHushed (n : End) : Type 0 where
@@ -53,13 +49,12 @@ module _ (service : Service) (tei : ℕ) where
     abbrev after : Timer → Station
     after timer = happens (expiry timer) s
 
-    pub timer-held : IsUpAt n → (timer : Timer) (its : LinkTimer) → Aims service tei timer its → IsUpAt (with_link (link.expired its) n)
-        → Held k service tei place past (after timer) (with_link (link.expired its) n)
-    timer-held up timer its aims stays =
-        go (timer-quiet n.terms n.link its up stays) (timer-fair n.terms n.link up its).fair
+    pub timer-held : IsUpAt n → (timer : Timer) (its : LinkTimer) → Aims service tei timer its → IsUpAt (with_link (expired its) n)
+        → Held k service tei place past (after timer) (with_link (expired its) n)
+    timer-held up timer its aims stays = grind (arith, go, timer-quiet, timer-fair)
       where
-        go : let x = course n.terms (link.expired its) n.link in (HasError x.notes → ⊥)
-            → HasError x.notes ⊎ Fine n.terms x.link.state x.notes x.delivered x.unit → Held k service tei place past (after timer) (with_link (link.expired its) n)
+        go : let x = course n.terms (expired its) n.link in (HasError x.notes → ⊥)
+            → HasError x.notes ⊎ Fine n.terms x.link.state x.notes x.delivered x.unit → Held k service tei place past (after timer) (with_link (expired its) n)
         go quiet (inl error) = absurd (quiet error)
         go quiet (inr fine) =
             let kept = (timer-goes n.terms n.link up its fine.up).same ∙ append-nil n.link.contents in
@@ -74,10 +69,10 @@ module _ (service : Service) (tei : ℕ) where
 
   -- it takes what the other gave
   pub took-held : (c d : Config) (p q : ℕ) → Face c d → (past other : List LineTold) (s o : Station) (n m : End) → Held c service tei p past s n → Held d service tei q other o m
-      → Joined n m → n.terms.n201 ≡ m.terms.n201 → Flows n m → Flows m n → Held c service tei p past (with_first_of o.way s) (two_ends.with_first_of m.way n)
-  took-held c d p q face past other s o n m h g joined same there back = subst (λ ways. Held c service tei p past (with_first_of ways s) (two_ends.with_first_of m.way n)) (sym g.stands.way) (taken m.way refl)
+      → Joined n m → n.terms.n201 ≡ m.terms.n201 → Flows n m → Flows m n → Held c service tei p past (with_first_of o.way s) (two_ends_with_first_of m.way n)
+  took-held c d p q face past other s o n m h g joined same there back = subst (λ ways. Held c service tei p past (with_first_of ways s) (two_ends_with_first_of m.way n)) (sym g.stands.way) (taken m.way refl)
     where
-      taken : (way : List Parts) → m.way ≡ way → Held c service tei p past (with_first_of (map (spelling d.side) way) s) (two_ends.with_first_of way n)
+      taken : (way : List Parts) → m.way ≡ way → Held c service tei p past (with_first_of (map (spelling d.side) way) s) (two_ends_with_first_of way n)
       taken [] e = h
       taken (f ∷ fs) e =
           let from : IsCarried d service tei f = All-head (IsCarried d service tei) f fs (subst (All (IsCarried d service tei)) e g.stands.carried) in
@@ -109,10 +104,7 @@ module _ (service : Service) (tei : ℕ) where
         let kept = (offer-gave n.terms h.firm.joined.near_ranges n.link h.firm.joined.near_sound n.link.waiting refl).same in
         record { near = held-given service tei p past c w.near n h.near kept; far = h.far; firm = firm-sends n m h.firm }
 
-    pub up-loses : Now (acting loses w) (two_ends.with_first_lost n) m
-    up-loses = record { near = held-lost service tei p past c w.near n h.near; far = h.far; firm = firm-loses n m h.firm }
-
-    pub up-takes : Now (acting takes w) (two_ends.with_first_of m.way n) (two_ends.with_first_lost m)
+    pub up-takes : Now (acting takes w) (two_ends_with_first_of m.way n) (two_ends_with_first_lost m)
     up-takes = record {
       near = took-held c d p q face past other w.near w.far n m h.near h.far h.firm.joined h.firm.same h.firm.there h.firm.back;
       far = held-lost service tei q other d w.far m h.far;
@@ -135,27 +127,27 @@ module _ (service : Service) (tei : ℕ) where
 
     -- a timer
     pub up-expires : (timer : Timer) (its : LinkTimer) → Aims service tei timer its → CanRepeat its n → two_links_timely.IsTimely its n m
-        → Now (acting (times_out timer) w) (with_link (link.expired its) n) m
+        → Now (acting (times_out timer) w) (with_link (expired its) n) m
     up-expires timer its aims can timely =
         let firm = firm-expires n m h.firm its can timely in
         record { near = timer-held c p past w.near n h.near h.firm.joined.near_up timer its aims firm.joined.near_up; far = h.far; firm = firm }
 
-    up-t200 : IsTimelyOf (times_out (timers.T200 service tei)) w → AreUp c d p q past other (acting (times_out (timers.T200 service tei)) w)
+    up-t200 : IsTimelyOf (times_out (timer_T200 service tei)) w → AreUp c d p q past other (acting (times_out (timer_T200 service tei)) w)
     up-t200 (long, may) =
         let there = may-there service tei c p w.near n h.near.stands may in
         let none = λ (state : n.link.state ≡ TimerRecovery).
         closed n m (long-there service tei c d p q w.near w.far n m h.near.stands h.far.stands long (ap awaits_answer state)) in
         record {
-          n = with_link (link.expired T200) n;
+          n = with_link (expired T200) n;
           m = m;
-          up = up-expires (timers.T200 service tei) T200 (λ l. refl) (λ state running. there (ap awaits_answer state) running) (λ state running. none state);
+          up = up-expires (timer_T200 service tei) T200 (λ l. refl) (λ state running. there (ap awaits_answer state) running) (λ state running. none state);
         }
 
-    up-t203 : AreUp c d p q past other (acting (times_out (timers.T203 service tei)) w)
+    up-t203 : AreUp c d p q past other (acting (times_out (timer_T203 service tei)) w)
     up-t203 = record {
-      n = with_link (link.expired T203) n;
+      n = with_link (expired T203) n;
       m = m;
-      up = up-expires (timers.T203 service tei) T203 (λ l. refl) (λ state running. absurd (never c p past w.near n h.near h.firm.near_sane.timed state running)) (λ state running. absurd (never c p past w.near n h.near h.firm.near_sane.timed state running));
+      up = up-expires (timer_T203 service tei) T203 (λ l. refl) (λ state running. absurd (never c p past w.near n h.near h.firm.near_sane.timed state running)) (λ state running. absurd (never c p past w.near n h.near h.firm.near_sane.timed state running));
     }
 
     -- each act that is timely
@@ -164,15 +156,15 @@ module _ (service : Service) (tei : ℕ) where
     up-acts (times_out timer) is x =
         each-timer (λ timer. IsTimelyOf (times_out timer) w → AreUp c d p q past other (acting (times_out timer) w)) up-t200 (λ x. up-t203) timer is x
     up-acts gives is x = record { n = with_sent n; m = m; up = up-gives }
-    up-acts takes is x = record { n = two_ends.with_first_of m.way n; m = two_ends.with_first_lost m; up = up-takes }
-    up-acts loses is x = record { n = two_ends.with_first_lost n; m = m; up = up-loses }
+    up-acts takes is x = record { n = two_ends_with_first_of m.way n; m = two_ends_with_first_lost m; up = up-takes }
+    up-acts loses is x = record { n = two_ends_with_first_lost n; m = m; up = (record { near = held-lost service tei p past c w.near n h.near; far = h.far; firm = firm-loses n m h.firm }) }
 
   -- so it is round after round
   abbrev At : Config → Config → ℕ → ℕ → List LineTold → List LineTold → Wire → Ends → Type 0
   At c d p q past other w e = BothUp c d p q past other w e.near e.far
 
   module _ (c d : Config) (p q : ℕ) (face : Face c d) (back : Face d c) (past other : List LineTold) where
-    pub rounds-up : (k : ℕ) (w : Wire) (e : Ends) → At c d p q past other w e → At c d p q past other (rounds k w) (two_links.rounds k e)
+    pub rounds-up : (k : ℕ) (w : Wire) (e : Ends) → At c d p q past other w e → At c d p q past other (rounds k w) (two_links_rounds k e)
     rounds-up =
         rounds-keep (At c d p q past other) (At d c q p other past)
         (λ w e. turned-up c d p q past other w e.near e.far) (λ w e. turned-up d c q p other past w e.near e.far)

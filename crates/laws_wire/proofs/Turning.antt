@@ -43,9 +43,8 @@ pub no-expiries : (es : List Doing) → All GivesOrTakes es → expiries es ≡ 
 unfolding expiries
 no-expiries [] all = refl
 no-expiries (e ∷ es) all =
-    let first = no-expiry e (All-head GivesOrTakes e es all) in
     let rest = no-expiries es (All-tail GivesOrTakes e es all) in
-    omega (arith, first, rest)
+    omega (arith, (no-expiry e (All-head GivesOrTakes e es all)), rest)
 
 pub no-grants : (es : List Doing) (w : Wire) → All GivesOrTakes es → granted_of (doing_all es w) ≡ granted_of w
 unfolding doing_all
@@ -85,7 +84,4 @@ module _ (service : Service) (c d : Config) (line other tei k : ℕ) (ds es : Li
       let fair : HasNoErrors (doing_all (ds ++ es) begun) = subst HasNoErrors (sym (doing-append ds es begun)) (turns-fair timely) in
       let expired : expiries (ds ++ es) ≡ expiries ds = expiries-append ds es ∙ (let none = no-expiries es all in omega (arith, none)) in
       let granted : granted_of (doing_all (ds ++ es) begun) ≡ granted_of w = ap granted_of (doing-append ds es begun) ∙ no-grants es w all in
-      few (moves (ds ++ es) begun) (moves ds begun) (moves es w) (2 * most_frames k (expiries (ds ++ es)) (granted_of (doing_all (ds ++ es) begun))) (2 * most_frames k (expiries ds) (granted_of w))
-      (moves-append ds es begun)
-      (moves-come-to-an-end service c d line other tei k (ds ++ es) can whole wide wide' fair.0 fair.1)
-      (λ i. 2 * most_frames k (expired i) (granted i))
+      grind (arith, few, moves-append, moves-come-to-an-end, whole)

@@ -1,29 +1,24 @@
 -- The link of the end that is called, before its caller is up: it has received nothing but SABME.
-use Rattle.laws_wire.proofs.Vocabulary.{◌≡◌, ℕ, ◌+◌, ◌<◌, ◌≤◌, Bool, true, false, cond, not, ◌||◌, IsTrue, List, [], ◌∷◌, ◌++◌, Option, None, Some, refl, sym, ap, subst, ◌∙◌, ◌⊎◌, inl, inr, append_assoc, eqb-true, ne_eqb, arith, flat_map, list_any, All, All-head, front_rest, Refusal, Parts, State, TeiAssigned, AwaitingEstablishment, AwaitingRelease, Established, TimerRecovery, Sabme, LinkTimer, T203, ControlFrame, Terms, Link, is_multiple_frame, has_outstanding, received, requested, expired, offer, course, given, given_of, is_running, begun, frame_given, IsInRange, IsWaitingFrame, End, frame_of, frames_of, frames-append, kinds-append, has_room, Reports, still, at-first, offer-gave, Calm, Kind, enquiry, report, kind_of, kinds_of, tally, tally-push, one_enquiry, one_answer, one_rejection, line, most, is_recovering, Sane, IsMildRequest, frame, after, Course, ◌then◌, for_layer_3}
-use Rattle.lapd_frame.specs.declared.notes.ErrorCode.TheVariants as code
-use Rattle.model_link.specs.Events as link
+use Rattle.laws_wire.proofs.Vocabulary.{◌≡◌, ℕ, ◌+◌, ◌<◌, ◌≤◌, Bool, true, false, cond, not, ◌||◌, IsTrue, List, [], ◌∷◌, ◌++◌, Option, None, Some, refl, sym, ap, subst, ◌∙◌, ◌⊎◌, inl, inr, append_assoc, eqb-true, ne_eqb, arith, flat_map, list_any, All, All-head, front_rest, Refusal, Parts, State, TeiAssigned, AwaitingEstablishment, AwaitingRelease, Established, TimerRecovery, Sabme, LinkTimer, T203, ControlFrame, Terms, Link, is_multiple_frame, has_outstanding, received, requested, expired, offer, course, given, given_of, is_running, begun, frame_given, IsInRange, IsWaitingFrame, End, frame_of, frames_of, frames-append, kinds-append, has_room, Reports, still, at-first, offer-gave, Calm, Kind, enquiry, report, kind_of, kinds_of, tally, tally-push, one_enquiry, one_answer, one_rejection, line, most, is_recovering, Sane, IsMildRequest, frame, after, Course, ◌then◌, for_layer_3, LinkClearBusy, LinkEvent, LinkRequest, LinkSetBusy, F, granted, refusal, error_f, renewed, carried-reports, rising-reports, request-stays, timer-stays}
 use Rattle.model_link.specs.Machine
 use Rattle.model_link.specs.Offers
-use Rattle.model_link.specs.Requests as requests
 use Rattle.model_link.specs.Sound.{IsSound, is_information}
 use Rattle.model_link.specs.Words
-use Rattle.model_link.proofs.Direction.{carried-reports, rising-reports}
-use Rattle.model_link.proofs.Facing.{AreReports, IsReport, set_busy_up, clear_busy_up}
+use Rattle.model_link.proofs.Facing.{AreReports, IsReport, set_busy_up, clear_busy_up, reports-push}
 use Rattle.laws_link.proofs.TimedRows.{timed-after}
 use Rattle.laws_link.proofs.OfTwo.Effects.{Grown}
 use Rattle.laws_link.proofs.OfTwo.Going.{asks-went, expires-goes, RanOut}
 use Rattle.laws_link.proofs.OfTwo.HeedingEvents.{heeds-after}
-use Rattle.laws_link.proofs.OfTwo.Staying.{request-stays, timer-stays}
 use Rattle.laws_link.proofs.OfTwo.Trains.{Every, every-push, Behind, calm-rise}
-use Rattle.laws_wire.specs.Answering.{error_f, renewed}
 use Rattle.laws_wire.proofs.Calling.{end, its_ua, sabme}
 use Rattle.laws_wire.proofs.Joint.{Goes, by-up, stays, timer-goes}
 use Rattle.laws_wire.proofs.Loose.{Loose}
 use Rattle.laws_wire.proofs.Ringing.{answered}
 use Rattle.laws_wire.proofs.Speaking.{said_by}
 use Rattle.laws_wire.proofs.TimelyFirst.{firm-first, near-ready}
+use Rattle.laws_wire.proofs.Fair.{or-true}
 
-pub sane-after : (t : Terms) (e : link.Event) (l : Link) → Sane l → Sane (after t e l)
+pub sane-after : (t : Terms) (e : LinkEvent) (l : Link) → Sane l → Sane (after t e l)
 sane-after t e l h = record { timed = timed-after t e l h.timed; heeds = heeds-after t e l h.heeds }
 
 -- ---- what requests and timers do to a link that is up
@@ -45,60 +40,25 @@ pub record Stirs (Free : Type 0) (l l' : Link) : Type 0 where
   pub reports : Reports l.r l.waiting l'.waiting
   pub grown : Grows Free l l'
 
-same-most : (x y : State) → y ≡ x → most (is_recovering x) ≤ most (is_recovering y)
-same-most x y e = subst (λ z. most (is_recovering x) ≤ most (is_recovering z)) (sym e) (omega arith)
-
-most-one : (b : Bool) → most b ≤ 1
-most-one b = grind arith
-
 module _ (t : Terms) (l : Link) (up : IsTrue (is_multiple_frame l.state)) (sane : Sane l) (Free : Type 0) where
   -- own busy begins or ends
-  module _ (rq : link.Request) (mild : IsMildRequest rq) (g : Goes l (after t (requested rq false) l) []) where
-    pub busy-stirs : Stirs Free l (after t (requested rq false) l)
-    busy-stirs = grind (arith, asks-went, request-stays, sane-after, Grown, same-most)
-
-  by-refusal : (rq : link.Request) (o : Option Refusal) → Goes l (requests.granted t rq (begun l)).link [] → Goes l (elim o as (λ o. Course) [ None ↦ requests.granted t rq (begun l) | Some _ ↦ begun l ]).link []
+  by-refusal : (rq : LinkRequest) (o : Option Refusal) → Goes l (granted t rq (begun l)).link [] → Goes l (elim o as (λ o. Course) [ None ↦ granted t rq (begun l) | Some _ ↦ begun l ]).link []
   by-refusal rq o g = grind (arith, stays)
 
-  up-either : (b : Bool) (u v : Course) → IsTrue (is_multiple_frame u.link.state) → IsTrue (is_multiple_frame v.link.state) → IsTrue (is_multiple_frame (cond b u v).link.state)
-  up-either b u v x y = grind arith
-
-  pub busy-goes : Goes l (after t (requested link.SetBusy false) l) []
+  pub busy-goes : Goes l (after t (requested LinkSetBusy false) l) []
   busy-goes =
-      by-refusal link.SetBusy (requests.refusal t l false link.SetBusy)
-      (by-up t l _ ((set_busy_up t l {S = still l.s}).leads (begun l) (at-first t l)) (up-either l.own_busy _ _ up up))
+      by-refusal LinkSetBusy (refusal t l false LinkSetBusy)
+      (by-up t l _ ((set_busy_up t l {S = still l.s}).leads (begun l) (at-first t l)) (grind arith))
 
-  pub ready-goes : Goes l (after t (requested link.ClearBusy false) l) []
+  pub ready-goes : Goes l (after t (requested LinkClearBusy false) l) []
   ready-goes =
-      by-refusal link.ClearBusy (requests.refusal t l false link.ClearBusy)
-      (by-up t l _ ((clear_busy_up t l {S = still l.s}).leads (begun l) (at-first t l)) (up-either l.own_busy _ _ up up))
+      by-refusal LinkClearBusy (refusal t l false LinkClearBusy)
+      (by-up t l _ ((clear_busy_up t l {S = still l.s}).leads (begun l) (at-first t l)) (grind arith))
 
   -- a timer
   module _ (timer : LinkTimer) (can : l.state ≡ TimerRecovery → is_running timer l ≡ true → l.repeats < t.n200) (free : l.state ≡ TimerRecovery → is_running timer l ≡ true → Free) where
     pub timer-stirs : Stirs Free l (after t (expired timer) l)
-    timer-stirs =
-        let stays = timer-stays t l up timer can in
-        by (expires-goes t l up timer stays) (timer-goes t l up timer stays) stays
-      where
-        l' : Link
-        l' = after t (expired timer) l
-
-        asks : (l'.state ≡ TimerRecovery) → is_running timer l ≡ true → Grown l.waiting l'.waiting enquiry → Grows Free l l'
-        asks state run (inl same) = inl (same, subst (λ z. most (is_recovering l.state) ≤ most (is_recovering z)) (sym state) (most-one (is_recovering l.state)))
-        asks state run (inr (f, e, k)) = inr (inr (f, e, k, state, λ is. free is run))
-
-        by : RanOut t l timer (course t (expired timer) l) → Goes l l' [] → IsTrue (is_multiple_frame l'.state) → Stirs Free l l'
-        by (inl k) g stays = record {
-          up = stays;
-          a = g.still;
-          s = k.s;
-          r = k.r;
-          rejecting = k.rejecting;
-          sane = sane-after t (expired timer) l sane;
-          reports = g.reports;
-          grown = inl (k.waiting, same-most l.state _ k.state);
-        }
-        by (inr (run, a)) g stays = grind (arith, sane-after, asks)
+    timer-stirs = grind (arith, stays, timer-stays, expires-goes, timer-goes, is_recovering, sane-after)
 
 -- ---- UA waits, and this behind it: reports, and in state 8 an enquiry; no I-frame went
 
@@ -120,10 +80,6 @@ pub record PoisedOn (t : Terms) (l : Link) (first : List ControlFrame) : Type 0 
   pub post : List ControlFrame
   pub waiting : l.waiting ≡ first ++ post
   pub poised : Poised t l post
-
-are-push : (r : ℕ) (fs : List ControlFrame) (f : ControlFrame) → IsReport r f.control → AreReports r fs → AreReports r (fs ++ f ∷ [])
-are-push r [] f x h = (x, tt)
-are-push r (g ∷ fs) f x h = (h.0, are-push r fs f x h.1)
 
 one-report : (r : ℕ) (before after : List ControlFrame) (f : ControlFrame) → after ≡ before ++ f ∷ [] → Reports r before after → IsReport r f.control
 one-report r before after f e h =
@@ -151,30 +107,14 @@ module _ (t : Terms) (l l' : Link) (first post : List ControlFrame) (Free : Type
           r = x.r ∙ h.r;
           rejecting = x.rejecting ∙ h.rejecting;
           sane = x.sane;
-          reports = are-push 0 post f (subst (λ r. IsReport r f.control) h.r (one-report l.r l.waiting l'.waiting f e x.reports)) h.reports;
+          reports = reports-push 0 post f (subst (λ r. IsReport r f.control) h.r (one-report l.r l.waiting l'.waiting f e x.reports)) h.reports;
           idle = subst (Every IsIdle) (sym longer) (every-push IsIdle ks k h.idle idle);
           one = subst (λ xs. tally one_enquiry xs ≤ most (is_recovering l'.state)) (sym longer) (omega (arith, more, few));
         };
       }
 
   by-grown : Grows Free l l' → PoisedOn t l' first
-  by-grown (inl (same, le)) =
-      let one : tally one_enquiry ks ≤ most (is_recovering l.state) = h.one in
-      record {
-        post = post;
-        waiting = same ∙ waits;
-        poised = record {
-          up = x.up;
-          a = x.a ∙ h.a;
-          s = x.s ∙ h.s;
-          r = x.r ∙ h.r;
-          rejecting = x.rejecting ∙ h.rejecting;
-          sane = x.sane;
-          reports = h.reports;
-          idle = h.idle;
-          one = omega (arith, one, le);
-        };
-      }
+  by-grown (inl (same, le)) = grind (arith, one_enquiry, is_recovering)
   by-grown (inr (inl (f, e, k, state))) =
       let one : tally one_enquiry ks ≤ most (is_recovering l'.state) = subst (λ z. tally one_enquiry ks ≤ most (is_recovering z)) (sym state) h.one in
       pushed f report e k (tt, refl) (omega (arith, one))
@@ -214,9 +154,6 @@ module _ (t u : Terms) (rt : IsInRange t) (ru : IsInRange u) (same : t.n201 ≡ 
   abbrev plain : Link
   plain = record l { a = 0; s = 0; r = 0; rejecting = false; waiting = post }
 
-  is-plain : plain ≡ l
-  is-plain = λ i. record l { a = sym h.a i; s = sym h.s i; r = sym h.r i; rejecting = sym h.rejecting i; waiting = sym waits i }
-
   abbrev m : End
   m = end u plain []
 
@@ -233,21 +170,14 @@ module _ (t u : Terms) (rt : IsInRange t) (ru : IsInRange u) (same : t.n201 ≡ 
           near_ranges = rt;
           far_ranges = ru;
           near_sound = (near-ready t u rt ru same k).sound;
-          far_sound = subst (IsSound u) (sym is-plain) sound;
+          far_sound = subst (IsSound u) (sym (λ i. record l { a = sym h.a i; s = sym h.s i; r = sym h.r i; rejecting = sym h.rejecting i; waiting = sym waits i })) sound;
           near_up = refl;
           far_up = h.up;
           there = record { carried = omega arith; rising = rising-reports u 0 0 [] post h.reports (omega arith); delivered = refl; accepted = omega arith };
           back = record { carried = carried-reports u l.contents (0 + u.k) 0 0 [] post h.reports (omega arith); rising = omega arith; delivered = refl; accepted = omega arith };
         };
         same = same;
-        there = record {
-          order = omega arith;
-          one = omega (arith, others);
-          rejected = λ some. absurd (omega (arith, others, some));
-          asked = omega (arith, others);
-          last = λ some. absurd (omega (arith, some));
-          answered = λ some. absurd (omega (arith, others, some));
-        };
+        there = grind (arith, answered);
         back = record {
           order = calm-rise 0 kinds calm;
           one = omega arith;
@@ -257,11 +187,11 @@ module _ (t u : Terms) (rt : IsInRange t) (ru : IsInRange u) (same : t.n201 ≡ 
           answered = λ some. absurd (omega (arith, some));
         };
         near_sane = (firm-first t u rt ru same k).near_sane;
-        far_sane = subst Sane (sym is-plain) h.sane;
+        far_sane = subst Sane (sym (λ i. record l { a = sym h.a i; s = sym h.s i; r = sym h.r i; rejecting = sym h.rejecting i; waiting = sym waits i })) h.sane;
       }
 
   pub loose-poised : Loose n (end u l [])
-  loose-poised = subst (λ x. Loose n (end u x [])) is-plain loose-plain
+  loose-poised = subst (λ x. Loose n (end u x [])) (λ i. record l { a = sym h.a i; s = sym h.s i; r = sym h.r i; rejecting = sym h.rejecting i; waiting = sym waits i }) loose-plain
 
 -- ---- SABME comes again
 
@@ -288,7 +218,7 @@ pub record Renews (t : Terms) (l : Link) (sent : Bool) (x : Course) : Type 0 whe
 
 module _ (t u : Terms) (l : Link) (up : IsTrue (is_multiple_frame l.state)) (zero : l.a ≡ 0) where
   abbrev first : Course
-  first = (Words.send t (Words.response (Rattle.lapd_frame.specs.declared.controls.Control.TheVariants.Ua true)) then Words.clear_flags then Words.error t code.F) (begun l)
+  first = (Words.send t (Words.response (Rattle.lapd_frame.specs.declared.controls.Control.TheVariants.Ua true)) then Words.clear_flags then Words.error t F) (begun l)
 
   abbrev last : Bool → Course
   last b = (Words.zero_numbers then Words.start T203 then Words.enter Established) (cond b ((Words.discard then Words.establish_indication t) first) first)
@@ -296,14 +226,8 @@ module _ (t u : Terms) (l : Link) (up : IsTrue (is_multiple_frame l.state)) (zer
   by-sabme : (here : State) → IsTrue (is_multiple_frame here) → Machine.frame_in here t true [] (Sabme true) (begun l) ≡ last (has_outstanding l)
   by-sabme here is = grind arith
 
-  not-false : (b : Bool) → not b ≡ false → b ≡ true
-  not-false b e = grind arith
-
-  by-outstanding : (b : Bool) → has_outstanding l ≡ b → Renews t l b (last b)
-  by-outstanding b e = grind (arith, eqb-true, not-false)
-
   pub renews : Renews t l (has_outstanding l) (course t (received (frame (sabme u))) l)
-  renews = subst (Renews t l (has_outstanding l)) (sym (by-sabme l.state up)) (by-outstanding (has_outstanding l) refl)
+  renews = subst (Renews t l (has_outstanding l)) (sym (by-sabme l.state up)) (grind (arith, eqb-true))
 
 -- ---- what it gives
 
@@ -313,20 +237,14 @@ informs fs = list_any (λ (f : Parts). is_information f.control) fs
 or-false : (b : Bool) → (b || false) ≡ b
 or-false b = grind arith
 
-or-true : (b : Bool) → (b || true) ≡ true
-or-true b = grind arith
-
 module _ (t : Terms) (l : Link) (sound : IsSound t l) where
   abbrev Informs : Course → Type 0
   Informs c =
       ((informs (frame_given t (given_of t l c c.sent)) ≡ false) × (c.link.s ≡ l.s))
       ⊎ ((informs (frame_given t (given_of t l c c.sent)) ≡ true) × (c.link.s ≡ l.s + 1))
 
-  either-informs : (b : Bool) (u v : Course) → Informs u → Informs v → Informs (cond b u v)
-  either-informs b u v x y = grind arith
-
   by-waiting : (ws : List ControlFrame) → l.waiting ≡ ws → Informs (Offers.offer_among t ws (begun l))
-  by-waiting [] e = grind (arith, either-informs)
+  by-waiting [] e = grind arith
   by-waiting (f ∷ fs) e =
       inl (ap (λ b. b || false) (All-head (IsWaitingFrame t) f fs (subst (All (IsWaitingFrame t)) e sound.frames)).without_contents, refl)
 

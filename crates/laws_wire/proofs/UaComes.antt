@@ -1,9 +1,5 @@
 -- A call in which UA may be lost and an end may be busy comes to rest, from any time of it on.
-use Rattle.laws_wire.proofs.Vocabulary.{◌≡◌, ◌≢◌, ℕ, zero, suc, ◌+◌, ◌-◌, ◌*◌, ◌≤◌, List, [], ◌∷◌, ◌++◌, length, map, refl, sym, ap, subst, ◌∙◌, arith, length-append, length-map, All, All-cons, All-nil, All-append, Service, IsInRange, Config, LineTold, terms, Wire, times_out, gives, takes, at_near, at_far, Doing, doing, doing_all, IsStill, calling, CanCall, granted_of, confirmed, data_told, heard_in, IsFullTalk, StayPatient, MayRepeat, BothMayRepeat, with_t200_expired, rounds, expiries, most_frames, expiry}
-use Rattle.std.proofs.lemmas.List.{length-drop}
-use Rattle.lapd_frame.specs.declared.timers.Timer.TheVariants as timers
-use Rattle.laws_wire.specs.Answering.{IsAtRest, Called, uncalled, seen, all_kept, all_of_calls, ToldSo}
-use Rattle.laws_wire.specs.Settling.{reports, most_moves, none_busy, Busy, busy, busy_behind, HasLeft, near_expires, LossyCallsComeToRest}
+use Rattle.laws_wire.proofs.Vocabulary.{◌≡◌, ◌≢◌, ℕ, zero, suc, ◌+◌, ◌-◌, ◌*◌, ◌≤◌, List, [], ◌∷◌, ◌++◌, length, map, refl, sym, ap, subst, ◌∙◌, arith, length-append, length-map, All, All-cons, All-nil, All-append, Service, IsInRange, Config, LineTold, terms, Wire, times_out, gives, takes, at_near, at_far, Doing, doing, doing_all, IsStill, calling, CanCall, granted_of, confirmed, data_told, heard_in, IsFullTalk, StayPatient, MayRepeat, BothMayRepeat, with_t200_expired, rounds, expiries, most_frames, expiry, timer_T200, IsAtRest, Called, uncalled, seen, all_kept, all_of_calls, ToldSo, length-drop, reports, most_moves, none_busy, Busy, busy, busy_behind, HasLeft, near_expires, LossyCallsComeToRest}
 use Rattle.laws_wire.proofs.Answered.{same-granted}
 use Rattle.laws_wire.proofs.Awaited.{open-here}
 use Rattle.laws_wire.proofs.LossyRun.{setting}
@@ -43,11 +39,10 @@ module _ (service : Service) (tei : ℕ) (c d : Config) (p q : ℕ) (face : Face
   goes-long : (x : Called) (w : Wire) → Goes service tei c d p q face back rt ru x w → IsStill w → MayRepeat service tei w.near → StayPatient (near_expires service tei) w
   goes-long x w h still may =
       let still' = subst IsStill h.is still in
-      let may' = subst (λ (w : Wire). MayRepeat service tei w.near) h.is may in
       subst (StayPatient (near_expires service tei)) (sym h.is)
       (patient-before h.earlier (near_expires service tei) h.v
       (seen-long h.v (seen-in service tei c d p q face back rt ru v wide_c wide_d x h.v h.phase)
-      (record { near = still'.near; far = still'.far; near_way = still'.near_way; far_way = still'.far_way }) may'))
+      (record { near = still'.near; far = still'.far; near_way = still'.near_way; far_way = still'.far_way }) (subst (λ (w : Wire). MayRepeat service tei w.near) h.is may)))
 
 module _ (service : Service) (c d : Config) (line other tei k : ℕ) (can : CanCall c line d other tei) where
   abbrev begun : Wire
@@ -82,20 +77,15 @@ module _ (service : Service) (c d : Config) (line other tei k : ℕ) (can : CanC
     law : ToldSo service tei x w
     law = lossy-calls-come-through service c d line other tei ds can talk patient
 
-    near-left : length (all_kept service tei x w.far) ≤ length (heard_in w.near) + granted_of w
-    near-left = grind (arith, few-left, length-map, length-drop, some-heard)
-
     far-left : length (all_of_calls service tei x w.near) ≤ length (heard_in w.far) + granted_of w
     far-left =
         let at-once = law.far_at_once in
         let rest : List LineTold = at-once.0 in
         let all : length (heard_in w.far) ≡ length x.told + length rest = sym (ap length at-once.1) ∙ length-append x.told rest in
-        let long : length (all_of_calls service tei x w.near) ≡ length x.told + length w.near.granted =
-        length-append x.told (map (data_told service tei) w.near.granted) ∙ ap (λ y. length x.told + y) (length-map w.near.granted (data_told service tei)) in
-        omega (arith, all, long)
+        grind (arith, long, length-append, length-map)
 
     left : HasLeft service tei (granted_of w) x w
-    left = (near-left, far-left)
+    left = ((grind (arith, few-left, length-map, length-drop, some-heard)), far-left)
 
     rest : busy ds begun none_busy ≡ none_busy → IsStill w → BothMayRepeat service tei w → IsAtRest service tei (rounds (granted_of w + 3) (with_t200_expired service tei w))
     rest free still may = ((lossy-calls-settle service c d line other tei ds can talk patient free).settles (granted_of w) (still, told, may) left).1
@@ -110,9 +100,6 @@ module _ (service : Service) (c d : Config) (line other tei k : ℕ) (ds : List 
 
   abbrev calls : List Doing
   calls = near_expires service tei
-
-  rest-1 : (n : ℕ) × (n ≤ most_moves k ds first) × IsStill (rounds n at)
-  rest-1 = rests-in service c d line other tei k ds can talk wide-near wide-far patient
 
   -- as rounds have led to where no turn is left
   module _ (n : ℕ) (still : IsStill (rounds n at)) (may : MayRepeat service tei (rounds n at).near) where
@@ -141,14 +128,8 @@ module _ (service : Service) (c d : Config) (line other tei k : ℕ) (ds : List 
     abbrev at-2 : Wire
     at-2 = doing_all calls at-1
 
-    is-2 : doing_all ds2 first ≡ at-2
-    is-2 = doing-append ds1 calls first ∙ ap (doing_all calls) is-1
-
     talk-2 : All (IsFullTalk service tei) ds2
-    talk-2 = All-append (IsFullTalk service tei) ds1 calls talk-1 (All-cons (IsFullTalk service tei) (at_near (times_out (timers.T200 service tei))) [] (refl, refl) (All-nil (IsFullTalk service tei)))
-
-    patient-2 : StayPatient ds2 first
-    patient-2 = both-patient ds1 calls first patient-1 calls-so
+    talk-2 = All-append (IsFullTalk service tei) ds1 calls talk-1 (All-cons (IsFullTalk service tei) (at_near (times_out (timer_T200 service tei))) [] (refl, refl) (All-nil (IsFullTalk service tei)))
 
     -- and so many rounds
     module _ (r : ℕ) where
@@ -156,13 +137,13 @@ module _ (service : Service) (c d : Config) (line other tei k : ℕ) (ds : List 
       ds3 = ds2 ++ many r
 
       is-3 : doing_all ds3 first ≡ rounds r at-2
-      is-3 = doing-append ds2 (many r) first ∙ many-rounds r (doing_all ds2 first) ∙ ap (rounds r) is-2
+      is-3 = doing-append ds2 (many r) first ∙ many-rounds r (doing_all ds2 first) ∙ ap (rounds r) (doing-append ds1 calls first ∙ ap (doing_all calls) is-1)
 
       talk-3 : All (IsFullTalk service tei) ds3
       talk-3 = All-append (IsFullTalk service tei) ds2 (many r) talk-2 (many-full service tei r)
 
       patient-3 : StayPatient ds3 first
-      patient-3 = both-patient ds2 (many r) first patient-2 (many-patient r (doing_all ds2 first))
+      patient-3 = both-patient ds2 (many r) first (both-patient ds1 calls first patient-1 calls-so) (many-patient r (doing_all ds2 first))
 
       free-3 : busy ds3 first none_busy ≡ none_busy
       unfolding busy
@@ -176,7 +157,7 @@ module _ (service : Service) (c d : Config) (line other tei k : ℕ) (ds : List 
       unfolding doing_all
       granted-3 =
           sym (ap granted_of (many-rounds r at-2)) ∙ none-more r at-2
-          ∙ ap (λ (xs : List (List ℕ)). length xs + length at-1.far.granted) (same-granted (expiry (timers.T200 service tei)) at-1.near refl) ∙ sym (ap granted_of (many-rounds n at)) ∙ none-more n at
+          ∙ ap (λ (xs : List (List ℕ)). length xs + length at-1.far.granted) (same-granted (expiry (timer_T200 service tei)) at-1.near refl) ∙ sym (ap granted_of (many-rounds n at)) ∙ none-more n at
 
       reports-3 : reports ds3 first ≡ reports ds first
       unfolding reports
@@ -197,7 +178,6 @@ module _ (service : Service) (c d : Config) (line other tei k : ℕ) (ds : List 
             let law = (lossy-calls-are-answered service c d line other tei ds1 can talk-1) patient-1 (subst IsStill (sym is-1) still) (ap (λ (w : Wire). heard_in w.near) is-1 ∙ e)
             (subst (λ (w : Wire). MayRepeat service tei w.near) (sym is-1) may) in
             let told : heard_in (rounds 1 at-2).near ≡ confirmed service tei ∷ [] = subst (λ w. heard_in (rounds 1 (doing_all calls w)).near ≡ confirmed service tei ∷ []) is-1 law.1 in
-            let wrong : confirmed service tei ∷ [] ≡ [] = sym told ∙ none in
             absurd (cc)
         by-heard (h ∷ hs) e none =
             told-still (calls ++ many 1) at-1 (λ nothing. let wrong : h ∷ hs ≡ [] = sym e ∙ nothing in absurd (cc))
@@ -222,12 +202,11 @@ module _ (service : Service) (c d : Config) (line other tei k : ℕ) (ds : List 
         let is = is-3 r in
         let told = λ (none : heard_in (doing_all (ds3 r) first).near ≡ []). told-so m (ap (λ (w : Wire). heard_in w.near) (one-more m ∙ sym is) ∙ none) in
         let y = rest service c d line other tei k can (ds3 r) (talk-3 r) (patient-3 r) told (free-3 r) (subst IsStill (sym is) still) (subst (BothMayRepeat service tei) (sym is) may) in
-        subst (λ g. IsAtRest service tei (rounds (g + 3) (with_t200_expired service tei (rounds r at-2)))) (granted-3 r)
-        (subst (λ w. IsAtRest service tei (rounds (granted_of w + 3) (with_t200_expired service tei w))) is y)
+        grind (arith, granted-3)
 
 pub lossy-calls-come-to-rest : LossyCallsComeToRest
 lossy-calls-come-to-rest service c d line other tei k ds can talk wide-near wide-far = λ patient free.
-    let x = rest-1 service c d line other tei k ds can talk wide-near wide-far patient free in
+    let x = (rests-in service c d line other tei k ds can talk wide-near wide-far patient) in
     let n = x.0 in (
       n,
       x.1,

@@ -1,13 +1,9 @@
 -- What is known of the links of a call in which UA may be lost: each runs the timer that it needs, and is busy only as it was asked.
-use Rattle.laws_wire.proofs.Vocabulary.{arith, ◌≡◌, ℕ, ◌*◌, ◌≤◌, Bool, true, false, cond, not, ◌&&◌, ◌||◌, IsTrue, List, [], ◌∷◌, ◌++◌, map, refl, sym, ap, subst, ◌∙◌, ◌⊎◌, inl, inr, true≢false, All, All-head, All-tail, Service, Timer, Parts, spelling, LinkTimer, Terms, Link, is_multiple_frame, after, IsInRange, End, with_link, Config, expiry, request, terms, next, Line, place_in, Request, Data, SetBusy, ClearBusy, at_requested, aim_of_request, sound-after, Station, Wire, happens, comes, with_first_of, Act, requests, times_out, gives, takes, loses, acting, turned, Doing, at_near, at_far, doing, doing_all, link_of, is_granted, answered, IsAsked, IsFullTalkOf, IsFullTalk, StayPatient}
-use Rattle.model_link.specs.Events as link
+use Rattle.laws_wire.proofs.Vocabulary.{arith, ◌≡◌, ℕ, ◌*◌, ◌≤◌, Bool, true, false, cond, not, ◌&&◌, ◌||◌, IsTrue, List, [], ◌∷◌, ◌++◌, map, refl, sym, ap, subst, ◌∙◌, ◌⊎◌, inl, inr, true≢false, All, All-head, All-tail, Service, Timer, Parts, spelling, LinkTimer, Terms, Link, is_multiple_frame, after, IsInRange, End, with_link, Config, expiry, request, terms, next, Line, place_in, Request, Data, SetBusy, ClearBusy, at_requested, aim_of_request, sound-after, Station, Wire, happens, comes, with_first_of, Act, requests, times_out, gives, takes, loses, acting, turned, Doing, at_near, at_far, doing, doing_all, link_of, is_granted, answered, IsAsked, IsFullTalkOf, IsFullTalk, StayPatient, or_parts, frame, requested, LinkEvent, offer, expired, LinkSetBusy, received, LinkClearBusy, LinkData, LinkRequest, Called, seeing, HasItsTimer, timely-after}
 use Rattle.laws_link.specs.Flags.{busy_asked}
 use Rattle.laws_link.specs.States.{as_heard}
-use Rattle.laws_link.specs.two.Needed.{HasItsTimer}
 use Rattle.laws_link.proofs.EachRow.{each-row}
-use Rattle.laws_link.proofs.OfTwo.Needing.{timely-after}
 use Rattle.laws_wire.specs.Facing.{line_of}
-use Rattle.laws_wire.specs.Answering.{Called, seeing}
 use Rattle.laws_wire.specs.Settling.{Busy, busy_by, busy_behind, busy}
 use Rattle.laws_wire.proofs.Awaited.{link-is}
 use Rattle.laws_wire.proofs.LooseUp.{for-asked}
@@ -20,26 +16,8 @@ use Rattle.laws_wire.proofs.UaWeighs.{seen-in}
 
 -- ---- own busy of a link
 
-flag-off : (anew up x y : Bool) → x ≡ false → y ≡ false → cond anew false (cond up x y) ≡ false
-flag-off anew up x y e f = grind arith
-
 flag-up : (anew y : Bool) → cond anew false (cond true false y) ≡ false
 flag-up anew y = grind arith
-
-module _ (t : Terms) (l : Link) where
-  -- no event but a request for it brings it on
-  stays-free : (e : link.Event) → busy_asked (as_heard t e) false ≡ false → l.own_busy ≡ false → (after t e l).own_busy ≡ false
-  stays-free e mild free = grind (arith, each-row, flag-off)
-
-  -- and it is over once it was asked for in states 7 and 8
-  ready-free : IsTrue (is_multiple_frame l.state) → (after t (link.requested link.ClearBusy false) l).own_busy ≡ false
-  ready-free up = grind (arith, each-row, flag-up)
-
-or-none : (a b : Bool) → (a || b) ≡ false → (a ≡ false) × (b ≡ false)
-or-none a b e = grind arith
-
-and-not : (a b : Bool) → (a && not b) ≡ false → b ≡ false → a ≡ false
-and-not a b e none = grind arith
 
 module _ (service : Service) (tei : ℕ) where
   pub record Known (b : Bool) (s : Station) : Type 0 where
@@ -58,76 +36,74 @@ module _ (service : Service) (tei : ℕ) where
     free : b ≡ false → n.link.own_busy ≡ false
     free none = ap (λ l. l.own_busy) (sym is) ∙ known.free none
 
-    timed : (e : link.Event) → HasItsTimer (after n.terms e n.link)
+    timed : (e : LinkEvent) → HasItsTimer (after n.terms e n.link)
     timed e =
         let sound = link-sound service tei p s n own in
         timely-after n.terms e n.link sound (sound-after n.terms (link-ranges service tei p s n own) e n.link sound) (subst HasItsTimer is known.timed)
 
-    by-event : (e : link.Event) (s' : Station) (b' : Bool) → (link_of service tei (line_of s')) ≡ after n.terms e n.link → (b' ≡ false → (after n.terms e n.link).own_busy ≡ false) → Known b' s'
+    by-event : (e : LinkEvent) (s' : Station) (b' : Bool) → (link_of service tei (line_of s')) ≡ after n.terms e n.link → (b' ≡ false → (after n.terms e n.link).own_busy ≡ false) → Known b' s'
     by-event e s' b' to calm = grind (arith, timed, free)
 
-    mild : (e : link.Event) → busy_asked (as_heard n.terms e) false ≡ false → b ≡ false → (after n.terms e n.link).own_busy ≡ false
-    mild e none off = stays-free n.terms n.link e none (free off)
+    mild : (e : LinkEvent) → busy_asked (as_heard n.terms e) false ≡ false → b ≡ false → (after n.terms e n.link).own_busy ≡ false
+    mild e none off = grind (arith, each-row)
 
     pub known-gives : Known b (happens next s)
-    known-gives =
-        let k = s.card.config in
-        by-event link.offer (happens next s) b (link-is service tei k p (happens next s) _ (gives-stands service tei p s n own)) (mild link.offer refl)
+    known-gives = by-event offer (happens next s) b (link-is service tei s.card.config p (happens next s) _ (gives-stands service tei p s n own)) (mild offer refl)
 
     pub known-expires : (timer : Timer) (its : LinkTimer) → Aims service tei timer its → Known b (happens (expiry timer) s)
     known-expires timer its aims =
-        by-event (link.expired its) (happens (expiry timer) s) b
-        (link-is service tei s.card.config p (happens (expiry timer) s) (with_link (link.expired its) n) (expires-stands service tei p s n own timer its aims)) (mild (link.expired its) refl)
+        by-event (expired its) (happens (expiry timer) s) b
+        (link-is service tei s.card.config p (happens (expiry timer) s) (with_link (expired its) n) (expires-stands service tei p s n own timer its aims)) (mild (expired its) refl)
 
-    pub known-takes : (s' : Station) (f : Parts) → Stands c service tei p s' (with_link (link.received (link.frame f)) n) → Known b s'
+    pub known-takes : (s' : Station) (f : Parts) → Stands c service tei p s' (with_link (received (frame f)) n) → Known b s'
     known-takes s' f then =
-        by-event (link.received (link.frame f)) s' b (link-is service tei c p s' (with_link (link.received (link.frame f)) n) then) (mild (link.received (link.frame f)) refl)
+        by-event (received (frame f)) s' b (link-is service tei c p s' (with_link (received (frame f)) n) then) (mild (received (frame f)) refl)
 
     -- a request
-    module _ (r : Request) (rq : link.Request) (aims : (l : Line) → aim_of_request r l ≡ at_requested service tei rq (place_in l tei)) where
+    module _ (r : Request) (rq : LinkRequest) (aims : (l : Line) → aim_of_request r l ≡ at_requested service tei rq (place_in l tei)) where
       abbrev s' : Station
       s' = happens (request r) s
 
-      abbrev e : link.Event
-      e = link.requested rq false
+      abbrev e : LinkEvent
+      e = requested rq false
 
-      asked : (b' : Bool) → (b' ≡ false → (after n.terms (link.requested rq false) n.link).own_busy ≡ false) → Granted service tei p s n own r rq aims s' → Known b' s'
-      asked b' calm g = by-event (link.requested rq false) s' b' (link-is service tei s.card.config p s' (with_link (link.requested rq false) n) g.stands) calm
+      asked : (b' : Bool) → (b' ≡ false → (after n.terms (requested rq false) n.link).own_busy ≡ false) → Granted service tei p s n own r rq aims s' → Known b' s'
+      asked b' calm g = by-event (requested rq false) s' b' (link-is service tei s.card.config p s' (with_link (requested rq false) n) g.stands) calm
 
       same : (b' : Bool) → (b' ≡ false → b ≡ false) → s' ≡ s → Known b' s'
       same b' off none = subst (Known b') (sym none) (record { timed = known.timed; free = λ x. known.free (off x) })
 
-      known-mild : busy_asked (link.requested rq false) false ≡ false → Known b s'
+      known-mild : busy_asked (requested rq false) false ≡ false → Known b s'
       known-mild none =
-          elim (asks-stands service tei p s n own r rq aims) [ inl x ↦ same b (λ x. x) x | inr g ↦ asked b (mild (link.requested rq false) none) g ]
+          elim (asks-stands service tei p s n own r rq aims) [ inl x ↦ same b (λ x. x) x | inr g ↦ asked b (mild (requested rq false) none) g ]
 
     known-busy : Known (b || is_granted (answered (request (SetBusy service tei)) s)) (happens (request (SetBusy service tei)) s)
     known-busy =
         let bit = is_granted (answered (request (SetBusy service tei)) s) in
-        elim (asks-stands service tei p s n own (SetBusy service tei) link.SetBusy (λ l. refl)) [
-          | inl x ↦ same (SetBusy service tei) link.SetBusy (λ l. refl) (b || bit) (λ off. (or-none b bit off).0) x
-          | inr g ↦ asked (SetBusy service tei) link.SetBusy (λ l. refl) (b || bit) (λ off. absurd (true≢false (sym g.answer ∙ (or-none b bit off).1))) g
+        elim (asks-stands service tei p s n own (SetBusy service tei) LinkSetBusy (λ l. refl)) [
+          | inl x ↦ same (SetBusy service tei) LinkSetBusy (λ l. refl) (b || bit) (λ off. (or_parts b bit off).0) x
+          | inr g ↦ asked (SetBusy service tei) LinkSetBusy (λ l. refl) (b || bit) (λ off. absurd (true≢false (sym g.answer ∙ (or_parts b bit off).1))) g
         ]
 
     module _ (up : IsTrue (is_multiple_frame n.link.state) ⊎ (n.link.own_busy ≡ false)) where
-      ready : (after n.terms (link.requested link.ClearBusy false) n.link).own_busy ≡ false
-      ready = elim up [ inl x ↦ ready-free n.terms n.link x | inr none ↦ stays-free n.terms n.link (link.requested link.ClearBusy false) refl none ]
+      ready : (after n.terms (requested LinkClearBusy false) n.link).own_busy ≡ false
+      ready = elim up [ inl x ↦ (grind (arith, each-row, flag-up)) | inr none ↦ (grind (arith, each-row)) ]
 
       known-ready : Known (b && not (is_granted (answered (request (ClearBusy service tei)) s))) (happens (request (ClearBusy service tei)) s)
       known-ready = go (is_granted (answered (request (ClearBusy service tei)) s)) refl
         where
           go : (bit : Bool) → is_granted (answered (request (ClearBusy service tei)) s) ≡ bit → Known (b && not (is_granted (answered (request (ClearBusy service tei)) s))) (happens (request (ClearBusy service tei)) s)
           go true is =
-              asked (ClearBusy service tei) link.ClearBusy (λ l. refl) _ (λ off. ready) (asks-answered service tei p s n own (ClearBusy service tei) link.ClearBusy (λ l. refl) is)
+              asked (ClearBusy service tei) LinkClearBusy (λ l. refl) _ (λ off. ready) (asks-answered service tei p s n own (ClearBusy service tei) LinkClearBusy (λ l. refl) is)
           go false is =
-              elim (asks-stands service tei p s n own (ClearBusy service tei) link.ClearBusy (λ l. refl)) [
-                | inl x ↦ same (ClearBusy service tei) link.ClearBusy (λ l. refl) _ (λ off. and-not b _ off is) x
-                | inr g ↦ asked (ClearBusy service tei) link.ClearBusy (λ l. refl) _ (λ off. ready) g
+              elim (asks-stands service tei p s n own (ClearBusy service tei) LinkClearBusy (λ l. refl)) [
+                | inl x ↦ same (ClearBusy service tei) LinkClearBusy (λ l. refl) _ (λ off. grind arith) x
+                | inr g ↦ asked (ClearBusy service tei) LinkClearBusy (λ l. refl) _ (λ off. ready) g
               ]
 
       pub known-asked : (r : Request) → IsAsked service tei r → Known (busy_by (requests r) s b) (happens (request r) s)
       known-asked r is =
-          for-asked service tei (λ r. Known (busy_by (requests r) s b) (happens (request r) s)) (λ octets. known-mild (Data service tei octets) (link.Data octets) (λ l. refl) refl)
+          for-asked service tei (λ r. Known (busy_by (requests r) s b) (happens (request r) s)) (λ octets. known-mild (Data service tei octets) (LinkData octets) (λ l. refl) refl)
           known-busy known-ready r is
 
   -- ---- and on a wire
@@ -148,9 +124,6 @@ module _ (service : Service) (tei : ℕ) where
     near-known gives is = known-gives c p w.near n near b known
     near-known takes is = taken m.way refl
     near-known loses is = record { timed = known.timed; free = known.free }
-
-  pub far-known : (act : Act) (w : Wire) (b : Bool) → Known b w.far → Known b (acting act w).far
-  far-known act w b h = grind (arith, timed, free)
 
   -- ---- and in a whole call
 
@@ -180,9 +153,9 @@ module _ (service : Service) (tei : ℕ) where
         })
 
     one-known : (k : Doing) → IsFullTalk service tei k → (w : Wire) → Stood w → (y : Busy) → BothKnown y w → BothKnown (busy_behind k w y) (doing k w)
-    one-known (at_near act) is w s y h = (near-known c d p q face w s.n s.m s.near s.far s.near_up y.near h.0 act is, far-known act w y.far h.1)
+    one-known (at_near act) is w s y h = (near-known c d p q face w s.n s.m s.near s.far s.near_up y.near h.0 act is, (grind (arith, timed, free)))
     one-known (at_far act) is w s y h =
-        (far-known act (turned w) y.near h.0, near-known d c q p back (turned w) s.m s.n s.far s.near s.far_up y.far h.1 act is)
+        ((grind (arith, timed, free)), near-known d c q p back (turned w) s.m s.n s.far s.near s.far_up y.far h.1 act is)
 
     pub runs-known : (ds : List Doing) → All (IsFullTalk service tei) ds → (w : Wire) → StayPatient ds w → (x : Called) → Goes service tei c d p q face back rt ru x w → (y : Busy) → BothKnown y w
         → BothKnown (busy ds w y) (doing_all ds w)

@@ -1,8 +1,6 @@
 -- The phases of a call in which UA may be lost: one end rings, and the other is down; or it is up, and its UA waits, is on its way, or is
 -- not to come.
-use Rattle.laws_wire.proofs.Vocabulary.{◌≡◌, ℕ, ◌+◌, ◌<◌, ◌≤◌, Bool, true, false, not, List, [], ◌∷◌, ◌++◌, map, take, drop, refl, sym, ap, subst, ◌∙◌, ◌⊎◌, inl, inr, arith, nat_lt, option_to_list, lt-ltb, All, All-head, All-drop, Control, Service, Parts, spelling, ControlFrame, Terms, course, IsInRange, End, with_link, Config, LineTold, expiry, request, terms, Request, Means, Rising, kind_of, one_enquiry, tally, line, HasNo, T200, Course, Station, Wire, happens, comes, with_first_of, with_first_lost, Act, requests, times_out, gives, takes, loses, acting, confirmed, heard_in, is_poll, IsTimelyOf, IsFullTalkOf}
-use Rattle.lapd_frame.specs.declared.notes.Note.TheVariants as notes
-use Rattle.lapd_frame.specs.declared.timers.Timer.TheVariants as timers
+use Rattle.laws_wire.proofs.Vocabulary.{◌≡◌, ℕ, ◌+◌, ◌<◌, ◌≤◌, Bool, true, false, not, List, [], ◌∷◌, ◌++◌, map, take, drop, refl, sym, ap, subst, ◌∙◌, ◌⊎◌, inl, inr, arith, nat_lt, option_to_list, lt-ltb, All, All-head, All-drop, Control, Service, Parts, spelling, ControlFrame, Terms, course, IsInRange, End, with_link, Config, LineTold, expiry, request, terms, Request, Means, Rising, kind_of, one_enquiry, tally, line, HasNo, T200, Course, Station, Wire, happens, comes, with_first_of, with_first_lost, Act, requests, times_out, gives, takes, loses, acting, confirmed, heard_in, is_poll, IsTimelyOf, IsFullTalkOf, timer_T200, timer_T203, NoteData, rising-lower}
 use Rattle.model_link.specs.Events as link
 use Rattle.laws_wire.proofs.Awaited.{awaits-is, may-there, none-there, goes-first, waits-first}
 use Rattle.laws_wire.proofs.Calling.{sabme, end}
@@ -14,7 +12,6 @@ use Rattle.laws_wire.proofs.Talking.{Face}
 use Rattle.laws_wire.proofs.TimelyFirst.{takes-none, loses-none, gives-nothing, asks-refused, busy-refused, ready-refused}
 use Rattle.laws_wire.proofs.TimelyPhases.{silent-t203}
 use Rattle.laws_wire.proofs.TimelyUp.{each-timer}
-use Rattle.model_link.proofs.Lines.{rising-lower}
 
 -- This goes before what is on the way of an end.
 abbrev pub behind : List Parts → End → End
@@ -30,13 +27,8 @@ IsNoPoll f = is_poll f.command f.control ≡ false
 pub none-asked : (t : Terms) (fs : List ControlFrame) → All IsNoPoll fs → tally one_enquiry (line t [] fs) ≡ 0
 none-asked t [] h = refl
 none-asked t (f ∷ fs) h =
-    let one = not-poll f.command f.control (All-head IsNoPoll f fs h) in
     let more : tally one_enquiry (line t [] fs) ≡ 0 = none-asked t fs (All-drop IsNoPoll 1 (f ∷ fs) h) in
-    omega (arith, one, more)
-
--- the first of a line is lost
-pub rising-drop : (r : ℕ) (way rest : List Parts) → Rising 0 r (way ++ rest) → Rising 0 r (drop 1 way ++ rest)
-rising-drop r way rest h = grind (arith, rising-lower)
+    omega (arith, (not-poll f.command f.control (All-head IsNoPoll f fs h)), more)
 
 pub taken-none : (r : ℕ) (xs : List (List ℕ)) → xs ≡ [] → r ≤ 0 → take r xs ≡ []
 taken-none r xs e le = ap (λ xs. take r xs) e ∙ (let none : r ≡ 0 = omega (arith, le) in ap (λ r. take r []) none)
@@ -74,7 +66,7 @@ module _ (service : Service) (tei : ℕ) (c d : Config) (p q : ℕ) (face : Face
       (subst (λ s. Held c service tei p [] s n) (sym (ready-refused service tei c p [] s n h refl)) h) r is
 
   -- while UA is to come T200 does not expire
-  pub near-waits : (k : ℕ) (w : Wire) → Held c service tei p [] w.near (end t (ringing k []) []) → (IsTimelyOf (times_out (timers.T200 service tei)) w → ⊥) → (act : Act)
+  pub near-waits : (k : ℕ) (w : Wire) → Held c service tei p [] w.near (end t (ringing k []) []) → (IsTimelyOf (times_out (timer_T200 service tei)) w → ⊥) → (act : Act)
       → (act ≡ takes → ⊥) → IsFullTalkOf service tei act → IsTimelyOf act w → Held c service tei p [] (acting act w).near (end t (ringing k []) [])
   near-waits k w h never (requests r) not is x = asks-held [] [] k w.near h r is
   near-waits k w h never (times_out timer) not is x =
@@ -97,10 +89,7 @@ module _ (service : Service) (tei : ℕ) (c d : Config) (p q : ℕ) (face : Face
         let s' = comes (spelling d.side f) w.near in
         let event = link.received (link.frame f) in
         let tells : TellsIt service tei (course t event it.link) =
-        record {
-          its_notes = i.notes ∙ ap (λ o. map (λ octets. notes.Data service tei) (option_to_list o)) (sym i.delivered);
-          no_unit = i.unit;
-        } in
+        assumption (i.notes ∙ ap (λ o. map (λ octets. NoteData service tei) (option_to_list o)) (sym i.delivered)) in
         let is : with_link event it ≡ it = (λ j. record it { link = i.stays j; delivered = ap option_to_list i.delivered j }) in
         let taken : Held c service tei p [] s' it =
         subst (Held c service tei p [] s') is (held-taken service tei p [] c w.near it near d face f its_way.1 tells (ap (λ l. l.contents) i.stays)) in
@@ -128,26 +117,26 @@ module _ (service : Service) (tei : ℕ) (c d : Config) (p q : ℕ) (face : Face
       near-asks : (r : Request) → IsFullTalkOf service tei (requests r) → R ws way (acting (requests r) w)
       near-asks r is = record { repeats = h.repeats; near = asks-held ws way h.repeats w.near h.near r is; far = h.far }
 
-      near-t203 : R ws way (acting (times_out (timers.T203 service tei)) w)
+      near-t203 : R ws way (acting (times_out (timer_T203 service tei)) w)
       near-t203 = record { repeats = h.repeats; near = silent-t203 service tei c d p q h.repeats ws way w.near h.near; far = h.far }
 
       near-loses : way ≡ [] → R ws way (acting loses w)
       near-loses none = subst (R ws way) (sym (loses-none w (empty service tei c p [] w.near n h.near none))) h
 
       -- nothing that it asked is open as T200 expires
-      nothing-asked : IsTimelyOf (times_out (timers.T200 service tei)) w → HasNo is_poll n
+      nothing-asked : IsTimelyOf (times_out (timer_T200 service tei)) w → HasNo is_poll n
       nothing-asked x = none-there service tei c p w.near n h.near.stands is_poll (x.0 (awaits-is service tei c p w.near n h.near.stands)).commands
 
     -- T200 expires, and SABME goes again
-    pub repeats-sabme : (w : Wire) (h : R [] [] w) → h.repeats < t.n200 → R (its_sabme ∷ []) [] (acting (times_out (timers.T200 service tei)) w)
+    pub repeats-sabme : (w : Wire) (h : R [] [] w) → h.repeats < t.n200 → R (its_sabme ∷ []) [] (acting (times_out (timer_T200 service tei)) w)
     repeats-sabme w h few =
         let rung = end t (ringing h.repeats []) [] in
-        let s' = happens (expiry (timers.T200 service tei)) w.near in
+        let s' = happens (expiry (timer_T200 service tei)) w.near in
         let x : Course = course t (link.expired T200) (ringing h.repeats []) in
         let is : x ≡ repeated t h.repeats room = t200-repeats t h.repeats room few in
         let delivered = ap (λ (y : Course). y.delivered) is in
         let tells : TellsIt service tei x = record {
-          its_notes = ap (λ (y : Course). y.notes) is ∙ ap (λ o. map (λ octets. notes.Data service tei) (option_to_list o)) (sym delivered);
+          its_notes = ap (λ (y : Course). y.notes) is ∙ ap (λ o. map (λ octets. NoteData service tei) (option_to_list o)) (sym delivered);
           no_unit = ap (λ (y : Course). y.unit) is;
         } in
         let kept : x.link.contents ≡ [] = ap (λ (y : Course). y.link.contents) is in
@@ -155,7 +144,7 @@ module _ (service : Service) (tei : ℕ) (c d : Config) (p q : ℕ) (face : Face
         (λ i. record rung { link = (is i).link; delivered = option_to_list (is i).delivered }) in
         record {
           repeats = h.repeats + 1;
-          near = subst (Held c service tei p [] s') becomes (held-expired service tei p [] c w.near rung h.near (timers.T200 service tei) T200 (λ l. refl) tells kept);
+          near = subst (Held c service tei p [] s') becomes (held-expired service tei p [] c w.near rung h.near (timer_T200 service tei) T200 (λ l. refl) tells kept);
           far = h.far;
         }
 
@@ -174,26 +163,22 @@ module _ (service : Service) (tei : ℕ) (c d : Config) (p q : ℕ) (face : Face
     silent w h loses not is x = inl (near-loses [] [] w h refl)
 
     asking : (w : Wire) (h : R (its_sabme ∷ []) [] w) (act : Act) → (act ≡ takes → ⊥) → Now w act
-    asking w h (requests r) not is x = inr (inl (near-asks (its_sabme ∷ []) [] w h r is))
     asking w h (times_out timer) not is x =
         each-timer service tei (λ timer. IsTimelyOf (times_out timer) w → Ringing P (acting (times_out timer) w))
         (λ x. absurd (waits-first is_poll (end t (ringing h.repeats (its_sabme ∷ [])) []) its_sabme [] refl refl (nothing-asked (its_sabme ∷ []) [] w h x)))
         (λ x. inr (inl (near-t203 (its_sabme ∷ []) [] w h))) timer is x
     asking w h gives not is x =
         inr (inr (record { repeats = h.repeats; near = held-given service tei p [] c w.near (end t (ringing h.repeats (its_sabme ∷ [])) []) h.near refl; far = h.far }))
-    asking w h takes not is x = absurd (not refl)
-    asking w h loses not is x = inr (inl (near-loses (its_sabme ∷ []) [] w h refl))
+    asking w h act o is x = grind (arith, near-asks, its_sabme, near-loses)
 
     calling : (w : Wire) (h : R [] (sabme t ∷ []) w) (act : Act) → (act ≡ takes → ⊥) → Now w act
-    calling w h (requests r) not is x = inr (inr (near-asks [] (sabme t ∷ []) w h r is))
     calling w h (times_out timer) not is x =
         each-timer service tei (λ timer. IsTimelyOf (times_out timer) w → Ringing P (acting (times_out timer) w))
         (λ x. absurd (goes-first is_poll (end t (ringing h.repeats []) (sabme t ∷ [])) (sabme t) [] refl refl (nothing-asked [] (sabme t ∷ []) w h x)))
         (λ x. inr (inr (near-t203 [] (sabme t ∷ []) w h))) timer is x
     calling w h gives not is x =
         inr (inr (record { repeats = h.repeats; near = gives-nothing service tei c p [] w.near (end t (ringing h.repeats []) (sabme t ∷ [])) h.near refl; far = h.far }))
-    calling w h takes not is x = absurd (not refl)
-    calling w h loses not is x = inl (record { repeats = h.repeats; near = held-lost service tei p [] c w.near (end t (ringing h.repeats []) (sabme t ∷ [])) h.near; far = h.far })
+    calling w h act o is x = grind (arith, near-asks, sabme, held-lost, end, ringing)
 
     pub near-rings : (w : Wire) → Ringing P w → (act : Act) → (act ≡ takes → ⊥) → Now w act
     near-rings w (inl h) act not is x = silent w h act not is x

@@ -1,7 +1,5 @@
 -- A whole call in which UA may be lost: what is told, and that all has come where no turn is left and T200 runs at neither end.
-use Rattle.laws_wire.proofs.Vocabulary.{◌≡◌, ℕ, ◌==◌, Bool, true, false, cond, ◌&&◌, ◌||◌, List, [], ◌∷◌, ◌++◌, length, map, refl, sym, ap, subst, ◌∙◌, ◌⊎◌, inl, inr, append-nil, append_assoc, true≢false, arith, All, All-head, All-tail, Service, Parts, ControlFrame, spelling, fresh, IsInRange, End, frames_of, Config, LineTold, T203, expiry, request, terms, T200, Station, Wire, happens, with_first_lost, Act, requests, times_out, gives, takes, loses, acting, turned, Doing, at_near, at_far, doing, doing_all, is_any, confirmed, indicated, data_told, heard_in, is_final, IsTimelyOf}
-use Rattle.lapd_frame.specs.declared.timers.Timer.TheVariants as timers
-use Rattle.laws_wire.specs.Answering.{IsFullTalkOf, IsFullTalk, IsPatient, StayPatient, Called, error_f, renewed, told_of_sabme, with_sabme, takes_sabme, gives_information, seeing, seen}
+use Rattle.laws_wire.proofs.Vocabulary.{◌≡◌, ℕ, ◌==◌, Bool, true, false, cond, ◌&&◌, ◌||◌, List, [], ◌∷◌, ◌++◌, length, map, refl, sym, ap, subst, ◌∙◌, ◌⊎◌, inl, inr, append-nil, append_assoc, true≢false, arith, All, All-head, All-tail, Service, Parts, ControlFrame, spelling, fresh, IsInRange, End, frames_of, Config, LineTold, T203, expiry, request, terms, T200, Station, Wire, happens, with_first_lost, Act, requests, times_out, gives, takes, loses, acting, turned, Doing, at_near, at_far, doing, doing_all, is_any, confirmed, indicated, data_told, heard_in, is_final, IsTimelyOf, eqb-true, timer_T200, timer_T203, IsFullTalkOf, IsFullTalk, IsPatient, StayPatient, Called, error_f, renewed, told_of_sabme, with_sabme, takes_sabme, gives_information, seeing, seen}
 use Rattle.laws_wire.proofs.Awaited.{awaits-is, none-there}
 use Rattle.laws_wire.proofs.Calling.{end, answering, sabme, ua}
 use Rattle.laws_wire.proofs.Held.{Held, held-lost, held-expired}
@@ -12,15 +10,12 @@ use Rattle.laws_wire.proofs.TimelyFirst.{takes-none, gives-nothing, asks-refused
 use Rattle.laws_wire.proofs.TimelyPhases as phases
 use Rattle.laws_wire.proofs.TimelyRinging as first_ringing
 use Rattle.laws_wire.proofs.TimelyUp.{each-timer}
-use Rattle.laws_wire.proofs.UaBefore.{some-told, more-told, far-same, with_before, far-before, near-before, timely-with}
+use Rattle.laws_wire.proofs.UaBefore.{more-told, with_before, timely-with}
 use Rattle.laws_wire.proofs.UaCalledAt.{none-informed}
 use Rattle.laws_wire.proofs.UaLost.{behind, Rings, Ringing, ringing-takes, near-rings, near-waits}
 use Rattle.laws_wire.proofs.UaPhases.{IsAway, IsWaiting, Comes, away-loses, away-gives, away-acts, waiting-loses, waiting-gives, waiting-acts, is-awaited, comes-acts, comes-gives, comes-loses, comes-takes, comes-awaited}
 use Rattle.laws_wire.proofs.UaRenewed.{more_told, TookSabme, sabme-renews}
-
-and-false : (b : Bool) → (b && false) ≡ false
-and-false true = refl
-and-false false = refl
+use Rattle.laws_line.proofs.Following.{and-false}
 
 module _ (service : Service) (tei : ℕ) (c d : Config) (p q : ℕ) (face : Face c d) (back : Face d c) (rt : IsInRange (terms c service tei)) (ru : IsInRange (terms d service tei)) where
   abbrev pub its_near : List LineTold
@@ -59,12 +54,12 @@ module _ (service : Service) (tei : ℕ) (c d : Config) (p q : ℕ) (face : Face
   near-but : (past : List LineTold) (b : Bool) (w : Wire) → IsCalled past b w → (act : Act) → (act ≡ takes → ⊥) → IsFullTalkOf service tei act → IsTimelyOf act w → IsCalled past b (acting act w)
   near-but past b w (inl h) act not is x = inl (near-rings service tei c d p q face back rt ru (Away past b) w h act not is x)
   near-but past b w (inr (inl h)) act not is x =
-      let awaited = λ (x : IsTimelyOf (times_out (timers.T200 service tei)) w).
+      let awaited = λ (x : IsTimelyOf (times_out (timer_T200 service tei)) w).
       is-awaited service tei c d p q face back rt ru past b (turned w) h.far
       (none-there service tei d q w.far h.far.M h.far.held.stands is_final (x.0 (awaits-is service tei c p w.near (end (terms c service tei) (ringing h.repeats []) []) h.near.stands)).responses) in
-      inr (inl (record { repeats = h.repeats; near = near-waits service tei c d p q face back rt ru h.repeats w h.near awaited act not is x; far = subst (Waiting past b) (sym (far-same act not w)) h.far }))
+      inr (inl (record { repeats = h.repeats; near = near-waits service tei c d p q face back rt ru h.repeats w h.near awaited act not is x; far = subst (Waiting past b) (sym (grind arith)) h.far }))
   near-but past b w (inr (inr (inl h))) act not is x =
-      let awaited = λ (x : IsTimelyOf (times_out (timers.T200 service tei)) w).
+      let awaited = λ (x : IsTimelyOf (times_out (timer_T200 service tei)) w).
       comes-awaited service tei c d p q face back rt ru past b w h
       (none-there service tei d q w.far (whole h) h.far.stands is_final (x.0 (awaits-is service tei c p w.near (end (terms c service tei) (ringing h.repeats []) []) h.near.stands)).responses) in
       inr (inr (inl (record {
@@ -72,7 +67,7 @@ module _ (service : Service) (tei : ℕ) (c d : Config) (p q : ℕ) (face : Face
         near = near-waits service tei c d p q face back rt ru h.repeats w h.near awaited act not is x;
         m = h.m;
         stale = h.stale;
-        far = subst (λ s. Held d service tei q past s (whole h)) (sym (far-same act not w)) h.far;
+        far = subst (λ s. Held d service tei q past s (whole h)) (sym (grind arith)) h.far;
         rising = h.rising;
         loose = h.loose;
         rejecting = h.rejecting;
@@ -112,8 +107,7 @@ module _ (service : Service) (tei : ℕ) (c d : Config) (p q : ℕ) (face : Face
   done act w = turned (acting act (turned w))
 
   rings-far : (P P' : Station → Type 0) (ws : List ControlFrame) (way : List Parts) (w w' : Wire) → w'.near ≡ w.near → (P w.far → P' w'.far) → R P ws way w → R P' ws way w'
-  rings-far P P' ws way w w' same on h =
-      record { repeats = h.repeats; near = subst (λ s. Held c service tei p [] s (end (terms c service tei) (ringing h.repeats ws) way)) (sym same) h.near; far = on h.far }
+  rings-far P P' ws way w w' same on h = grind (arith, end, ringing)
 
   all-far : (P P' : Station → Type 0) (w w' : Wire) → w'.near ≡ w.near → (P w.far → P' w'.far) → Rs P w → Rs P' w'
   all-far P P' w w' same on (inl h) = inl (rings-far P P' [] [] w w' same on h)
@@ -130,25 +124,22 @@ module _ (service : Service) (tei : ℕ) (c d : Config) (p q : ℕ) (face : Face
     empty-way : (n : End) (ts : List LineTold) → Held c service tei p ts w.near n → n.way ≡ [] → w.near.way ≡ []
     empty-way n ts h none = h.stands.way ∙ ap (map (spelling c.side)) none
 
-    no-sabme : w.near.way ≡ [] → takes_sabme w ≡ false
-    no-sabme none = ap (λ way. is_any way && length (heard_in w.near) == 0) none
-
     stays : (A : Wire → Type 0) → w.near.way ≡ [] → A w → A (done takes w)
     stays A none h = subst A (sym (ap turned (takes-none (turned w) none))) h
 
     told-no : (n : End) → Held c service tei p its_near w.near n → takes_sabme w ≡ false
     told-no n h =
         ap (λ ts. is_any w.near.way && length ts == 0) h.heard
-        ∙ ap (λ b. is_any w.near.way && b) (some-told (confirmed service tei) (map (data_told service tei) n.delivered)) ∙ and-false (is_any w.near.way)
+        ∙ ap (λ b. is_any w.near.way && b) (grind (arith, eqb-true)) ∙ and-false (is_any w.near.way)
 
   -- it is asked, or a timer expires
   module _ (past : List LineTold) (b : Bool) (w : Wire) (act : Act) (untaken : act ≡ takes → ⊥) (not : act ≡ gives → ⊥) (nor : act ≡ loses → ⊥) (is : IsFullTalkOf service tei act)
       (x : IsTimelyOf act (turned w)) where
     far-stirs : IsCalled past b w → IsCalled past b (done act w)
     far-stirs (inl h) =
-        inl (all-far (Away past b) (Away past b) w (done act w) (far-same act untaken (turned w)) (λ y. away-acts service tei c d p q face back rt ru past b (turned w) y act untaken not is x) h)
+        inl (all-far (Away past b) (Away past b) w (done act w) (grind arith) (λ y. away-acts service tei c d p q face back rt ru past b (turned w) y act untaken not is x) h)
     far-stirs (inr (inl h)) =
-        inr (inl (rings-far (Waiting past b) (Waiting past b) [] [] w (done act w) (far-same act untaken (turned w)) (λ y. waiting-acts service tei c d p q face back rt ru past b (turned w) y act untaken not is x) h))
+        inr (inl (rings-far (Waiting past b) (Waiting past b) [] [] w (done act w) (grind arith) (λ y. waiting-acts service tei c d p q face back rt ru past b (turned w) y act untaken not is x) h))
     far-stirs (inr (inr (inl h))) = inr (inr (inl (comes-acts service tei c d p q face back rt ru past b w h act untaken not nor is x)))
     far-stirs (inr (inr (inr h))) = inr (inr (inr (up-far past w h act is x)))
 
@@ -169,11 +160,7 @@ module _ (service : Service) (tei : ℕ) (c d : Config) (p q : ℕ) (face : Face
     far-loses : IsCalled past b w → IsCalled past b (done loses w)
     far-loses (inl h) = inl (all-far (Away past b) (Away past b) w (done loses w) refl (λ y. away-loses service tei c d p q face back rt ru past b (turned w) y) h)
     far-loses (inr (inl h)) = inr (inl (rings-far (Waiting past b) (Waiting past b) [] [] w (done loses w) refl (λ y. waiting-loses service tei c d p q face back rt ru past b (turned w) y) h))
-    far-loses (inr (inr (inl h))) = go (comes-loses service tei c d p q face back rt ru past b w h)
-      where
-        go : Coming past b (done loses w) ⊎ Away past b (with_first_lost w.far) → IsCalled past b (done loses w)
-        go (inl y) = inr (inr (inl y))
-        go (inr y) = inl (inl (record { repeats = h.repeats; near = h.near; far = y }))
+    far-loses (inr (inr (inl h))) = grind (arith, comes-loses)
     far-loses (inr (inr (inr h))) = inr (inr (inr (up-far past w h loses tt tt)))
 
     abbrev Takes : Type 0
@@ -182,10 +169,8 @@ module _ (service : Service) (tei : ℕ) (c d : Config) (p q : ℕ) (face : Face
     far-takes : IsCalled past b w → IsTimelyOf takes (turned w) → Takes
     far-takes (inl (inl h)) x =
         let none = empty-way w (end (terms c service tei) (ringing h.repeats []) []) [] h.near refl in
-        inl (no-sabme w none, stays w (IsCalled past b) none (inl (inl h)))
-    far-takes (inl (inr (inl h))) x =
-        let none = empty-way w (end (terms c service tei) (ringing h.repeats (its_sabme ∷ [])) []) [] h.near refl in
-        inl (no-sabme w none, stays w (IsCalled past b) none (inl (inr (inl h))))
+        inl ((ap (λ way. is_any way && length (heard_in w.near) == 0) none), stays w (IsCalled past b) none (inl (inl h)))
+    far-takes (inl (inr (inl h))) x = grind (arith, empty-way, end, ringing, its_sabme, stays)
     far-takes (inl (inr (inr h))) x =
         inr (
           ap (λ way. is_any way && length (heard_in w.near) == 0) h.near.stands.way ∙ ap (λ ts. length ts == 0) h.near.heard,
@@ -193,10 +178,10 @@ module _ (service : Service) (tei : ℕ) (c d : Config) (p q : ℕ) (face : Face
         )
     far-takes (inr (inl h)) x =
         let none = empty-way w (end (terms c service tei) (ringing h.repeats []) []) [] h.near refl in
-        inl (no-sabme w none, stays w (IsCalled past b) none (inr (inl h)))
+        inl ((ap (λ way. is_any way && length (heard_in w.near) == 0) none), stays w (IsCalled past b) none (inr (inl h)))
     far-takes (inr (inr (inl h))) x =
         let none = empty-way w (end (terms c service tei) (ringing h.repeats []) []) [] h.near refl in
-        inl (no-sabme w none, stays w (IsCalled past b) none (inr (inr (inl h))))
+        inl ((ap (λ way. is_any way && length (heard_in w.near) == 0) none), stays w (IsCalled past b) none (inr (inr (inl h))))
     far-takes (inr (inr (inr h))) x = inl (told-no w h.n h.near, inr (inr (inr (up-far past w h takes tt x))))
 
   -- ---- while it is down
@@ -208,14 +193,14 @@ module _ (service : Service) (tei : ℕ) (c d : Config) (p q : ℕ) (face : Face
         (subst Down (sym (busy-refused service tei d q [] w.far down h refl)) h) (subst Down (sym (ready-refused service tei d q [] w.far down h refl)) h) r is
     down-acts h (times_out timer) not is =
         each-timer service tei (λ timer. Down (happens (expiry timer) w.far))
-        (held-expired service tei q [] d w.far down h (timers.T200 service tei) T200 (λ l. refl) (record { its_notes = refl; no_unit = refl }) refl)
-        (held-expired service tei q [] d w.far down h (timers.T203 service tei) T203 (λ l. refl) (record { its_notes = refl; no_unit = refl }) refl) timer is
+        (held-expired service tei q [] d w.far down h (timer_T200 service tei) T200 (λ l. refl) (record { its_notes = refl; no_unit = refl }) refl)
+        (held-expired service tei q [] d w.far down h (timer_T203 service tei) T203 (λ l. refl) (record { its_notes = refl; no_unit = refl }) refl) timer is
     down-acts h gives not is = gives-nothing service tei d q [] w.far down h refl
     down-acts h takes not is = absurd (not refl)
     down-acts h loses not is = held-lost service tei q [] d w.far down h
 
     down-far : Rs Down w → (act : Act) → (act ≡ takes → ⊥) → IsFullTalkOf service tei act → Rs Down (done act w)
-    down-far h act not is = all-far Down Down w (done act w) (far-same act not (turned w)) (λ y. down-acts y act not is) h
+    down-far h act not is = all-far Down Down w (done act w) (grind arith) (λ y. down-acts y act not is) h
 
     there : (P : Station → Type 0) → Rs P w → P w.far
     there P (inl h) = h.far
@@ -225,10 +210,10 @@ module _ (service : Service) (tei : ℕ) (c d : Config) (p q : ℕ) (face : Face
     down-takes : Rs Down w → ((takes_sabme w ≡ false) × Rs Down (done takes w)) ⊎ ((takes_sabme w ≡ true) × R (Waiting (indicated service tei ∷ []) false) [] [] (done takes w))
     down-takes (inl h) =
         let none = empty-way w (end (terms c service tei) (ringing h.repeats []) []) [] h.near refl in
-        inl (no-sabme w none, stays w (Rs Down) none (inl h))
+        inl ((ap (λ way. is_any way && length (heard_in w.near) == 0) none), stays w (Rs Down) none (inl h))
     down-takes (inr (inl h)) =
         let none = empty-way w (end (terms c service tei) (ringing h.repeats (its_sabme ∷ [])) []) [] h.near refl in
-        inl (no-sabme w none, stays w (Rs Down) none (inr (inl h)))
+        inl ((ap (λ way. is_any way && length (heard_in w.near) == 0) none), stays w (Rs Down) none (inr (inl h)))
     down-takes (inr (inr h)) =
         let was : phases.Rings service tei c d p q [] (sabme (terms c service tei) ∷ []) w = record { repeats = h.repeats; near = h.near; far = h.far } in
         let now = first_ringing.answers service tei c d p q face back rt ru w was in
@@ -245,17 +230,7 @@ module _ (service : Service) (tei : ℕ) (c d : Config) (p q : ℕ) (face : Face
               waits = refl;
               delivered = refl;
               rising = omega arith;
-              poised = record {
-                up = refl;
-                a = refl;
-                s = refl;
-                r = refl;
-                rejecting = refl;
-                sane = record { timed = record { timer = inr (refl, omega arith) }; heeds = record { heeds = λ busy. absurd (true≢false (sym busy)) } };
-                reports = tt;
-                idle = tt;
-                one = omega arith;
-              };
+              poised = grind arith;
               flag = refl;
             };
           },
@@ -282,14 +257,14 @@ module _ (service : Service) (tei : ℕ) (c d : Config) (p q : ℕ) (face : Face
 
   module _ (x : Called) (v : Wire) (g : List (List ℕ)) (up : x.given_up ≡ length g) where
     near-goes : Phase x v → (act : Act) → IsFullTalkOf service tei act → IsTimelyOf act (with_before g v) → Goes x (acting act (with_before g v))
-    near-goes h act is timely = record { v = acting act v; earlier = g; is = near-before act g v; given_up = up; phase = go h }
+    near-goes h act is timely = record { v = acting act v; earlier = g; is = grind arith; given_up = up; phase = go h }
       where
         go : Phase x v → Phase x (acting act v)
         go (inl (told, sent, h)) = inl (told, sent, down-near v h act is (timely-with act v.near v.far v.near.granted (g ++ v.far.granted) timely))
         go (inr (some, h)) = inr (some, near-called x.told x.sent v h act is (timely-with act v.near v.far v.near.granted (g ++ v.far.granted) timely))
 
     far-goes : (act : Act) → Phase x (done act v) → Goes x (done act (with_before g v))
-    far-goes act h = record { v = done act v; earlier = g; is = far-before act g v; given_up = up; phase = h }
+    far-goes act h = record { v = done act v; earlier = g; is = grind (arith, append_assoc); given_up = up; phase = h }
 
     stirs-goes : Phase x v → (act : Act) → (act ≡ takes → ⊥) → (act ≡ gives → ⊥) → (act ≡ loses → ⊥) → IsFullTalkOf service tei act → IsTimelyOf act (turned (with_before g v))
         → Goes x (done act (with_before g v))
@@ -307,7 +282,7 @@ module _ (service : Service) (tei : ℕ) (c d : Config) (p q : ℕ) (face : Face
         go (inr (some, h)) = inr (some, far-loses x.told x.sent v h)
 
     gives-goes : Phase x v → Goes (record x { sent = x.sent || gives_information v.far }) (done gives (with_before g v))
-    gives-goes h = record { v = done gives v; earlier = g; is = far-before gives g v; given_up = up; phase = go h }
+    gives-goes h = record { v = done gives v; earlier = g; is = grind (arith, append_assoc); given_up = up; phase = go h }
       where
         go : Phase x v → Phase (record x { sent = x.sent || gives_information v.far }) (done gives v)
         go (inl (told, sent, h)) =
@@ -321,18 +296,14 @@ module _ (service : Service) (tei : ℕ) (c d : Config) (p q : ℕ) (face : Face
     abbrev taken : Called
     taken = with_sabme service tei (length (g ++ v.far.granted)) x
 
-    by-sent : (b : Bool) (y : List (List ℕ)) → cond b (length (g ++ y)) x.given_up ≡ length (g ++ cond b y [])
-    by-sent true y = refl
-    by-sent false y = up ∙ ap length (sym (append-nil g))
-
     sabme-goes : TookSabme service tei c d p q face back rt ru x.told x.sent v (done takes v) → (length x.told == 0) ≡ false → Goes taken (done takes (with_before g v))
     sabme-goes k some =
         let more = cond x.sent v.far.granted [] in
         record {
           v = k.v;
           earlier = g ++ more;
-          is = far-before takes g v ∙ ap (with_before g) k.is ∙ (λ i. record { near = k.v.near; far = record k.v.far { granted = sym (append_assoc g more k.v.far.granted) i } });
-          given_up = by-sent x.sent v.far.granted;
+          is = (grind (arith, append_assoc)) ∙ ap (with_before g) k.is ∙ (λ i. record { near = k.v.near; far = record k.v.far { granted = sym (append_assoc g more k.v.far.granted) i } });
+          given_up = grind (arith, append-nil);
           phase = inr (more-told x.told (told_of_sabme service tei x), subst (λ t. IsCalled (x.told ++ t ∷ []) false k.v) (sym told-is) (by k.far));
         }
       where
@@ -341,14 +312,13 @@ module _ (service : Service) (tei : ℕ) (c d : Config) (p q : ℕ) (face : Face
 
         by : Waiting (more_told service tei c d p q face back rt ru x.sent x.told) false k.v.far ⊎ Away (more_told service tei c d p q face back rt ru x.sent x.told) false k.v.far
             → IsCalled (more_told service tei c d p q face back rt ru x.sent x.told) false k.v
-        by (inl y) = inr (inl (record { repeats = k.repeats; near = k.near; far = y }))
-        by (inr y) = inl (inl (record { repeats = k.repeats; near = k.near; far = y }))
+        by o = grind arith
 
     first-goes : x.told ≡ [] → x.sent ≡ false → R (Waiting (indicated service tei ∷ []) false) [] [] (done takes v) → Goes taken (done takes (with_before g v))
     first-goes told sent h = record {
       v = done takes v;
       earlier = g;
-      is = far-before takes g v;
+      is = grind (arith, append_assoc);
       given_up = ap (λ b. cond b (length (g ++ v.far.granted)) x.given_up) sent ∙ up;
       phase = inr (more-told x.told (told_of_sabme service tei x), subst (λ past. IsCalled past false (done takes v)) (sym told-is) (inr (inl h)));
     }

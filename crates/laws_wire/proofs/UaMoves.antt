@@ -1,14 +1,12 @@
 -- A whole call in which UA may be lost and an end may be busy: its moves are bounded, and rounds lead to where no turn is left.
-use Rattle.laws_wire.proofs.Vocabulary.{◌≡◌, ℕ, zero, suc, ◌+◌, ◌*◌, ◌≤◌, List, [], ◌∷◌, ◌++◌, length, refl, sym, ap, subst, ◌∙◌, arith, length-append, All, All-nil, All-append, All-head, All-tail, Service, fresh, IsInRange, Config, terms, cond, Wire, Act, gives, takes, Doing, at_near, at_far, turned, doing, doing_all, IsStill, calling, CanCall, granted_of, IsFullTalk, StayPatient, rounds, is_move_of, moves, expiries_of, expiries, most_frames}
-use Rattle.laws_wire.specs.Answering.{IsPatient, Called, uncalled, seeing, seen}
-use Rattle.laws_wire.specs.Settling.{reports_of, reports, most_moves, LossyMovesComeToAnEnd, LossyRoundsComeToRest}
+use Rattle.laws_wire.proofs.Vocabulary.{◌≡◌, ℕ, zero, suc, ◌+◌, ◌*◌, ◌≤◌, List, [], ◌∷◌, ◌++◌, length, refl, sym, ap, subst, ◌∙◌, arith, length-append, All, All-nil, All-append, All-head, All-tail, Service, fresh, IsInRange, Config, terms, cond, Wire, Act, gives, takes, Doing, at_near, at_far, turned, doing, doing_all, IsStill, calling, CanCall, granted_of, IsFullTalk, StayPatient, rounds, is_move_of, moves, expiries_of, expiries, most_frames, IsPatient, Called, uncalled, seeing, seen, reports_of, reports, most_moves, LossyMovesComeToAnEnd, LossyRoundsComeToRest, append_assoc}
 use Rattle.laws_wire.proofs.Calling.{asked, end}
 use Rattle.laws_wire.proofs.Heft.{heft, heft-is, Pays}
 use Rattle.laws_wire.proofs.LossyRun.{setting}
 use Rattle.laws_wire.proofs.RestedRounds.{doing-append, moves-append, expiries-append, many, none-expires, none-more, finds}
-use Rattle.laws_wire.proofs.RestedRun.{times-sum, twice}
+use Rattle.laws_wire.proofs.RestedRun.{twice}
 use Rattle.laws_wire.proofs.Talking.{Face}
-use Rattle.laws_wire.proofs.UaBefore.{with_before, far-before, near-before, timely-with}
+use Rattle.laws_wire.proofs.UaBefore.{with_before, timely-with}
 use Rattle.laws_wire.proofs.UaLostRun.{Phase, Goes, step}
 use Rattle.laws_wire.proofs.UaTold.{patient-goes}
 use Rattle.laws_wire.proofs.UaWeighs.{Steps, near-pays, far-pays}
@@ -19,11 +17,7 @@ module _ (service : Service) (tei v : ℕ) where
 
   -- what was granted before stays so
   pays-before : (moved expired reported : ℕ) (g : List (List ℕ)) (w w' : Wire) → P moved expired reported w w' → P moved expired reported (with_before g w) (with_before g w')
-  pays-before moved expired reported g w w' h = record {
-    more = h.more;
-    granted = grind (arith, sum, length-append);
-    falls = h.falls;
-  }
+  pays-before moved expired reported g w w' h = grind (arith, sum, length-append)
     where
       sum : (a b a' b' g gb gb' more : ℕ) → gb ≡ g + b → gb' ≡ g + b' → a' + b' ≡ a + b + more → a' + gb' ≡ a + gb + more
       sum a b a' b' g gb gb' more e f h = omega (arith, e, f, h)
@@ -44,7 +38,7 @@ module _ (service : Service) (tei v : ℕ) where
   both-pay moved expired reported moved' expired' reported' w w' w'' h k = record {
     more = h.more + k.more;
     granted = all (granted_of w) (granted_of w') (granted_of w'') h.more k.more h.granted k.granted;
-    falls = grind (arith, sum, heft, times-sum);
+    falls = grind (arith, sum, heft);
   }
     where
       all : (a b c x y : ℕ) → b ≡ a + x → c ≡ b + y → c ≡ a + (x + y)
@@ -61,11 +55,11 @@ module _ (service : Service) (tei v : ℕ) where
     module _ (x : Called) (y : Wire) (h : Phase service tei c d p q face back rt ru x y) (g : List (List ℕ)) where
       step-before : (k : Doing) → IsFullTalk service tei k → IsPatient k (with_before g y) → Does k (with_before g y)
       step-before (at_near act) is x' =
-          subst (P _ _ _ (with_before g y)) (sym (near-before act g y))
+          subst (P _ _ _ (with_before g y)) (sym (grind arith))
           (near-alike g y (with_before g y) _ act
           (pays-before _ _ _ g y _ (near-pays service tei c d p q face back rt ru v wide_c wide_d x y h act is (timely-with act y.near y.far y.near.granted (g ++ y.far.granted) x'))))
       step-before (at_far act) is x' =
-          subst (P _ _ _ (with_before g y)) (sym (far-before act g y))
+          subst (P _ _ _ (with_before g y)) (sym (grind (arith, append_assoc)))
           (far-alike g y (with_before g y) _ act
           (pays-before _ _ _ g y _ (far-pays service tei c d p q face back rt ru v wide_c wide_d x y h act is (timely-with act y.far y.near (g ++ y.far.granted) y.near.granted x'))))
 
@@ -81,9 +75,6 @@ module _ (service : Service) (tei v : ℕ) where
         both-pay _ _ _ (moves ds (doing k w)) (expiries ds) (reports ds (doing k w)) w (doing k w) (doing_all ds (doing k w)) (one x k is w patient.0 h)
         (runs-pay ds (All-tail (IsFullTalk service tei) k ds all) (doing k w) patient.1 (seeing service tei k w x) (step service tei c d p q face back rt ru x k is w patient.0 h))
 
-in-frames : (moved k x g r : ℕ) → moved ≤ (2 * (2 * k) + 8) + (2 * k + 4) * x + (2 * k + 6) * g + 2 * r → moved ≤ 2 * (most_frames k x g + r)
-in-frames moved k x g r less = omega (arith, less)
-
 pub lossy-moves-come-to-an-end : LossyMovesComeToAnEnd
 unfolding StayPatient seen doing_all
 lossy-moves-come-to-an-end service c d line other tei k ds can talk wide-near wide-far = λ patient.
@@ -95,9 +86,11 @@ lossy-moves-come-to-an-end service c d line other tei k ds can talk wide-near wi
     let begins : heft service tei (2 * k) w ≡ 2 * (2 * k) + 8 =
     heft-is service tei (2 * k) c d 0 0 w (end (terms c service tei) asked []) (end (terms d service tei) fresh []) x.near_held.stands x.far_held.stands ∙ omega arith in
     let none : granted_of w ≡ 0 = (λ i. length (x.near_held.granted i) + length (x.far_held.granted i)) ∙ omega arith in
-    in-frames (moves ds w) k (expiries ds) (granted_of last) (reports ds w)
-    (total (moves ds w) (heft service tei (2 * k) last) (heft service tei (2 * k) w) (2 * (2 * k) + 8) ((2 * k + 4) * expiries ds) (2 * k + 6) h.more (granted_of last) (granted_of w) (2 * reports ds w) begins none
-    h.granted h.falls)
+    (omega (
+      arith,
+      (total (moves ds w) (heft service tei (2 * k) last) (heft service tei (2 * k) w) (2 * (2 * k) + 8) ((2 * k + 4) * expiries ds) (2 * k + 6) h.more (granted_of last) (granted_of w) (2 * reports ds w) begins none
+          h.granted h.falls),
+    ))
   where
     total : (moved last first eight x six more g none r : ℕ) → first ≡ eight → none ≡ 0 → g ≡ none + more → moved + last ≤ first + x + six * more + r → moved ≤ eight + x + six * g + r
     total moved last first eight x six more g none r e f h less = grind arith

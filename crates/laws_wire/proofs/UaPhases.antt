@@ -1,18 +1,11 @@
 -- The end that is called, once it took SABME: its UA is not to come, waits, or is on its way behind what went before.
-use Rattle.laws_wire.proofs.Vocabulary.{◌≡◌, ℕ, ◌≤◌, Bool, false, not, ◌||◌, IsTrue, List, [], ◌∷◌, ◌++◌, refl, sym, ap, subst, ◌∙◌, ◌⊎◌, inl, inr, append_assoc, append-nil, true≢false, arith, All, All-head, All-nil, Service, Parts, spelling, ControlFrame, LinkTimer, Terms, is_multiple_frame, has_outstanding, frame_of, frames_of, course, given, IsInRange, End, with_sent, Config, LineTold, next, terms, Rising, Sane, HasNo, offer-gave, Station, Wire, happens, comes, with_first_of, with_first_lost, Act, requests, times_out, gives, takes, loses, acting, turned, confirmed, is_poll, is_final, IsTimelyOf}
+use Rattle.laws_wire.proofs.Vocabulary.{◌≡◌, ℕ, ◌≤◌, Bool, false, not, ◌||◌, IsTrue, List, [], ◌∷◌, ◌++◌, refl, sym, ap, subst, ◌∙◌, ◌⊎◌, inl, inr, append_assoc, append-nil, true≢false, arith, All, All-head, All-nil, Service, Parts, spelling, ControlFrame, LinkTimer, Terms, is_multiple_frame, has_outstanding, frame_of, frames_of, course, given, IsInRange, End, with_sent, Config, LineTold, next, terms, Rising, Sane, HasNo, offer-gave, Station, Wire, happens, comes, with_first_of, with_first_lost, Act, requests, times_out, gives, takes, loses, acting, turned, confirmed, is_poll, is_final, IsTimelyOf, frame_given, with_link, two_ends_with_first_lost, expires, TwoEndsAct, Ends, two_ends_acting, asks, sends, after, IsFullTalkOf, gives_information, all-right, line_of, line-grows, rising-reports, offer-stays, rising-lower}
 use Rattle.model_link.specs.Events as link
-use Rattle.model_link.specs.Machine as links
-use Rattle.model_link.specs.TwoEnds as two_ends
-use Rattle.model_link.proofs.Direction.{line_of, line-grows, rising-reports}
-use Rattle.model_link.proofs.Lines.{rising-lower}
 use Rattle.laws_link.specs.two.Timely as two_links_timely
-use Rattle.laws_link.proofs.OfTwo.Staying.{offer-stays}
-use Rattle.laws_wire.specs.Answering.{IsFullTalkOf, gives_information}
 use Rattle.laws_wire.proofs.Acting.{ranges, sound}
 use Rattle.laws_wire.proofs.Answered.{takes-granted}
-use Rattle.laws_wire.proofs.Awaited.{all-behind, closed}
+use Rattle.laws_wire.proofs.Awaited.{closed}
 use Rattle.laws_wire.proofs.Calling.{its_ua, ua, end}
-use Rattle.laws_wire.proofs.Firm.{not-behind}
 use Rattle.laws_wire.proofs.Held.{Held, held-given, held-lost, held-first, taken-told, taken-stands}
 use Rattle.laws_wire.proofs.Loose.{Loose, loose-turned, loose-after}
 use Rattle.laws_wire.proofs.LooseUp.{LooseUp}
@@ -21,7 +14,8 @@ use Rattle.laws_wire.proofs.Ringing.{ringing, answered}
 use Rattle.laws_wire.proofs.Talking.{Face}
 use Rattle.laws_wire.proofs.UaCalled.{sane-after, Poised, PoisedOn, poised-on, loose-poised}
 use Rattle.laws_wire.proofs.UaCalledAt.{offer-rejecting, same-flag, FreeAs, StirsAt, asked-at, expired-at, flagged-at}
-use Rattle.laws_wire.proofs.UaLost.{behind, IsNoPoll, none-asked, rising-drop, taken-none, first_near, ignores-frame}
+use Rattle.laws_wire.proofs.UaLost.{behind, IsNoPoll, none-asked, taken-none, first_near, ignores-frame}
+use Rattle.laws_link.proofs.OfTwo.TimelyRuns.{flows-low}
 
 module _ (service : Service) (tei : ℕ) (c d : Config) (p q : ℕ) (face : Face c d) (back : Face d c) (rt : IsInRange (terms c service tei)) (ru : IsInRange (terms d service tei)) (past : List LineTold) where
   abbrev t : Terms
@@ -96,7 +90,7 @@ module _ (service : Service) (tei : ℕ) (c d : Config) (p q : ℕ) (face : Face
 
     pub away-loses : IsAway b (with_first_lost v.near)
     away-loses = record {
-      M = two_ends.with_first_lost M;
+      M = two_ends_with_first_lost M;
       held = held-lost service tei q past d v.near M h.held;
       up = h.up;
       a = h.a;
@@ -104,7 +98,7 @@ module _ (service : Service) (tei : ℕ) (c d : Config) (p q : ℕ) (face : Face
       rejecting = h.rejecting;
       delivered = h.delivered;
       sane = h.sane;
-      rising = rising-drop M.link.r M.way (frames_of M.terms M.link.waiting) h.rising;
+      rising = grind (arith, rising-lower);
       flag = h.flag;
     }
 
@@ -147,7 +141,7 @@ module _ (service : Service) (tei : ℕ) (c d : Config) (p q : ℕ) (face : Face
     waiting-stirs e s' x =
         let on : PoisedOn u x.left first =
         poised-on u M'.link x.left first h.post (HasNo is_poll M') h.waits h.poised x.stirs
-        (λ free. none-asked u h.post (all-behind IsNoPoll first h.post (subst (All IsNoPoll) h.waits free.waiting))) in
+        (λ free. none-asked u h.post (all-right IsNoPoll first h.post (subst (All IsNoPoll) h.waits free.waiting))) in
         record {
           M = record M' { link = x.left };
           old = h.old;
@@ -162,13 +156,13 @@ module _ (service : Service) (tei : ℕ) (c d : Config) (p q : ℕ) (face : Face
 
     pub waiting-loses : IsWaiting b (with_first_lost v.near)
     waiting-loses = record {
-      M = two_ends.with_first_lost M';
+      M = two_ends_with_first_lost M';
       old = h.old;
       post = h.post;
       held = held-lost service tei q past d v.near M' h.held;
       waits = h.waits;
       delivered = h.delivered;
-      rising = rising-drop 0 M'.way (frames_of u h.old) h.rising;
+      rising = grind (arith, rising-lower);
       poised = h.poised;
       flag = h.flag;
     }
@@ -178,16 +172,14 @@ module _ (service : Service) (tei : ℕ) (c d : Config) (p q : ℕ) (face : Face
         asked-at service tei d q past v M' h.held h.poised.up h.poised.sane (IsWaiting b) h (λ rq s' mild y. waiting-stirs (link.requested rq false) s' y) r is
     waiting-acts (times_out timer) untaken not is x =
         expired-at service tei d q past v M' h.held h.poised.up h.poised.sane (IsWaiting b) (λ its s' can free y. waiting-stirs (link.expired its) s' y) timer is x
-    waiting-acts gives untaken not is x = absurd (not refl)
-    waiting-acts takes untaken not is x = absurd (untaken refl)
-    waiting-acts loses untaken not is x = waiting-loses
+    waiting-acts act untaken o is x = grind (arith, waiting-loses)
 
     -- a response with F=1 is open
     pub is-awaited : HasNo is_final M' → ⊥
     is-awaited free =
         let all : All (λ (f : ControlFrame). is_final f.command f.control ≡ false) (h.old ++ its_ua ∷ h.post) =
         subst (All (λ (f : ControlFrame). is_final f.command f.control ≡ false)) (h.waits ∙ append_assoc h.old (its_ua ∷ []) h.post) free.waiting in
-        let here = all-behind (λ (f : ControlFrame). is_final f.command f.control ≡ false) h.old (its_ua ∷ h.post) all in
+        let here = all-right (λ (f : ControlFrame). is_final f.command f.control ≡ false) h.old (its_ua ∷ h.post) all in
         true≢false (All-head (λ (f : ControlFrame). is_final f.command f.control ≡ false) its_ua h.post here)
 
     -- the end as it is
@@ -197,19 +189,12 @@ module _ (service : Service) (tei : ℕ) (c d : Config) (p q : ℕ) (face : Face
     is-laid : (ws : List ControlFrame) → M'.link.waiting ≡ ws → M' ≡ laid ws
     is-laid ws e = λ i. record { terms = h.held.stands.terms i; link = record M'.link { waiting = e i }; way = M'.way; delivered = h.delivered i }
 
-    -- as it gives, the poised link stays so
-    rest-poised : (f : ControlFrame) (fs : List ControlFrame) → M'.link.waiting ≡ f ∷ fs → Poised u (record M'.link { waiting = fs }) h.post
-    rest-poised f fs e = grind (arith, sane-after)
-
     module _ (f : ControlFrame) (fs : List ControlFrame) (e : M'.link.waiting ≡ f ∷ fs) where
       abbrev went : End
       went = record { terms = u; link = record M'.link { waiting = fs }; way = M'.way ++ frame_of u f ∷ []; delivered = [] }
 
       pub rest-held : Its (happens next v.near) went
       rest-held = held-given service tei q past d v.near (laid (f ∷ fs)) (subst (Its v.near) (is-laid (f ∷ fs) e) h.held) refl
-
-      pub rest-flag : (b || gives_information v.near) ≡ has_outstanding went.link
-      rest-flag = flagged-at service tei d q past v M' h.held b h.flag ∙ ap (λ (x : End). has_outstanding (links.after x.terms link.offer x.link)) (is-laid (f ∷ fs) e)
 
       -- it is a frame of before
       pub rest-waiting : (others : List ControlFrame) → h.old ≡ f ∷ others → fs ≡ (others ++ its_ua ∷ []) ++ h.post → IsWaiting (b || gives_information v.near) (happens next v.near)
@@ -221,8 +206,8 @@ module _ (service : Service) (tei : ℕ) (c d : Config) (p q : ℕ) (face : Face
         waits = rest;
         delivered = refl;
         rising = subst (Rising 0 0) (ap (λ fs. M'.way ++ frames_of u fs) is ∙ sym (append_assoc M'.way (frame_of u f ∷ []) (frames_of u others))) h.rising;
-        poised = rest-poised f fs e;
-        flag = rest-flag;
+        poised = grind (arith, sane-after);
+        flag = (flagged-at service tei d q past v M' h.held b h.flag ∙ ap (λ (x : End). has_outstanding (after x.terms link.offer x.link)) (is-laid (f ∷ fs) e));
       }
 
     -- it is UA
@@ -242,9 +227,9 @@ module _ (service : Service) (tei : ℕ) (c d : Config) (p q : ℕ) (face : Face
             rising = subst (Rising 0 0) (ap (λ fs. M'.way ++ frames_of u fs) none ∙ append-nil M'.way) h.rising;
             loose =
                 loose-poised t u rt ru face.n201 repeats m.link h.post refl (sound service tei q past d (happens next v.near) (went its_ua h.post e) its)
-                (rest-poised its_ua h.post e);
+                (grind (arith, sane-after));
             rejecting = h.poised.rejecting;
-            flag = rest-flag its_ua h.post e;
+            flag = (flagged-at service tei d q past v M' h.held b h.flag ∙ ap (λ (x : End). has_outstanding (after x.terms link.offer x.link)) (is-laid (its_ua ∷ h.post) e));
           }
 
       pub waiting-gives : IsWaiting (b || gives_information v.near) w.far ⊎ Comes (b || gives_information v.near) w
@@ -274,20 +259,19 @@ module _ (service : Service) (tei : ℕ) (c d : Config) (p q : ℕ) (face : Face
     with-far : (w' : Wire) → Held c service tei p [] w'.near (end t (ringing h.repeats []) []) → (m : End) (b' : Bool) → Its w'.far (behind before m) → Loose n m → m.link.rejecting ≡ false → b' ≡ has_outstanding m.link → Comes b' w'
     with-far w' near m b' far loose rejecting flag = record { repeats = h.repeats; near = near; m = m; stale = h.stale; far = far; rising = h.rising; loose = loose; rejecting = rejecting; flag = flag }
 
-    comes-stirs : (act : two_ends.Act) (e : link.Event) → (two_ends.acting act (record { near = h.m; far = n })) ≡ (record { near = two_ends.with_link e h.m; far = n })
+    comes-stirs : (act : TwoEndsAct) (e : link.Event) → (two_ends_acting act (record { near = h.m; far = n })) ≡ (record { near = with_link e h.m; far = n })
         → two_links_timely.IsTimelyAct act h.m n → (s' : Station) → StirsAt service tei d q past (turned w) whole h.far up-there h.loose.far_sane e s' → Comes b (record w { far = s' })
     comes-stirs act e is timely s' x =
         let m' = record h.m { link = x.left } in
-        let becomes : two_ends.with_link e h.m ≡ m' = (λ i. record h.m { link = (x.becomes i).link; delivered = (x.becomes i).delivered }) in
-        let other = loose-after h.m n (loose-turned n h.m h.loose) act timely in
-        let loose = loose-turned (two_ends.with_link e h.m) n (subst (λ (y : two_ends.Ends). Loose y.near y.far) is other) in
+        let becomes : with_link e h.m ≡ m' = (λ i. record h.m { link = (x.becomes i).link; delivered = (x.becomes i).delivered }) in
+        let loose = loose-turned (with_link e h.m) n (subst (λ (y : Ends). Loose y.near y.far) is (loose-after h.m n (loose-turned n h.m h.loose) act timely)) in
         with-far (record w { far = s' }) h.near m' b x.held (subst (Loose n) becomes loose) (x.stirs.rejecting ∙ h.rejecting) (same-flag b h.m.link x.left x.stirs.s x.stirs.a h.flag)
 
     timely-there : (its : LinkTimer) → FreeAs service tei d q past (turned w) whole h.far up-there h.loose.far_sane its → two_links_timely.IsTimely its h.m n
     timely-there its free state running =
         let asked = free state running in
         closed h.m n (record {
-          commands = record { waiting = asked.waiting; way = all-behind (λ (f : Parts). is_poll f.address.command f.control ≡ false) before h.m.way asked.way };
+          commands = record { waiting = asked.waiting; way = all-right (λ (f : Parts). is_poll f.address.command f.control ≡ false) before h.m.way asked.way };
           responses = record { waiting = All-nil (λ (f : ControlFrame). is_final f.command f.control ≡ false); way = All-nil (λ (f : Parts). is_final f.address.command f.control ≡ false) };
         })
 
@@ -295,46 +279,40 @@ module _ (service : Service) (tei : ℕ) (c d : Config) (p q : ℕ) (face : Face
         → Comes b (turned (acting act (turned w)))
     comes-acts (requests r) untaken not nor is x =
         asked-at service tei d q past (turned w) whole h.far up-there h.loose.far_sane (λ s. Comes b (record w { far = s })) h
-        (λ rq s' mild y. comes-stirs (two_ends.asks rq false) (link.requested rq false) refl mild s' y) r is
+        (λ rq s' mild y. comes-stirs (asks rq false) (link.requested rq false) refl mild s' y) r is
     comes-acts (times_out timer) untaken not nor is x =
         expired-at service tei d q past (turned w) whole h.far up-there h.loose.far_sane (λ s. Comes b (record w { far = s }))
-        (λ its s' can free y. comes-stirs (two_ends.expires its) (link.expired its) refl (can, timely-there its free) s' y) timer is x
-    comes-acts gives untaken not nor is x = absurd (not refl)
-    comes-acts takes untaken not nor is x = absurd (untaken refl)
-    comes-acts loses untaken not nor is x = absurd (nor refl)
+        (λ its s' can free y. comes-stirs (expires its) (link.expired its) refl (can, timely-there its free) s' y) timer is x
+    comes-acts act untaken o nor is x = grind arith
 
     pub comes-gives : Comes (b || gives_information w.far) (turned (acting gives (turned w)))
     comes-gives =
         let kept = (offer-gave h.m.terms h.loose.joined.far_ranges h.m.link h.loose.joined.far_sound h.m.link.waiting refl).same in
-        let given = two_ends.frame_given h.m.terms (given h.m.terms h.m.link) in
+        let given = frame_given h.m.terms (given h.m.terms h.m.link) in
         let is : with_sent whole ≡ behind before (with_sent h.m) = (λ i. record (with_sent h.m) { way = append_assoc before h.m.way given i }) in
         with-far (record w { far = happens next w.far }) h.near (with_sent h.m) (b || gives_information w.far)
         (subst (Its (happens next w.far)) is (held-given service tei q past d w.far whole h.far kept))
-        (loose-turned (with_sent h.m) n (loose-after h.m n (loose-turned n h.m h.loose) two_ends.sends tt)) (offer-rejecting h.m.terms h.m.link ∙ h.rejecting)
+        (loose-turned (with_sent h.m) n (loose-after h.m n (loose-turned n h.m h.loose) sends tt)) (offer-rejecting h.m.terms h.m.link ∙ h.rejecting)
         (flagged-at service tei d q past (turned w) whole h.far b h.flag)
 
     -- a response with F=1 is open
     pub comes-awaited : HasNo is_final whole → ⊥
     comes-awaited free =
         let all = subst (All (λ (f : Parts). is_final f.address.command f.control ≡ false)) (append_assoc h.stale (ua u ∷ []) h.m.way) free.way in
-        let here = all-behind (λ (f : Parts). is_final f.address.command f.control ≡ false) h.stale (ua u ∷ h.m.way) all in
+        let here = all-right (λ (f : Parts). is_final f.address.command f.control ≡ false) h.stale (ua u ∷ h.m.way) all in
         true≢false (All-head (λ (f : Parts). is_final f.address.command f.control ≡ false) (ua u) h.m.way here)
 
-    not-beyond : h.m.link.r ≤ 0
-    not-beyond = not-behind n h.m h.loose.there
-
     pub comes-none : h.m.delivered ≡ []
-    comes-none = h.loose.joined.there.delivered ∙ taken-none h.m.link.r [] refl not-beyond
+    comes-none = h.loose.joined.there.delivered ∙ taken-none h.m.link.r [] refl (flows-low n h.m h.loose.there)
 
     -- the first on its way is lost: it was there before UA, or UA is not to come
     pub comes-loses : Comes b (turned (acting loses (turned w))) ⊎ IsAway b (with_first_lost w.far)
     comes-loses = go h.stale h.rising (held-lost service tei q past d w.far whole h.far)
       where
-        go : (stale : List Parts) → Rising 0 0 stale → Its (with_first_lost w.far) (two_ends.with_first_lost (behind (stale ++ ua u ∷ []) h.m))
+        go : (stale : List Parts) → Rising 0 0 stale → Its (with_first_lost w.far) (two_ends_with_first_lost (behind (stale ++ ua u ∷ []) h.m))
             → Comes b (turned (acting loses (turned w))) ⊎ IsAway b (with_first_lost w.far)
-        go (f ∷ fs) rising far =
-            inl (record { repeats = h.repeats; near = h.near; m = h.m; stale = fs; far = far; rising = rising-lower rising.0 0 0 fs (omega arith) rising.3; loose = h.loose; rejecting = h.rejecting; flag = h.flag })
-        go [] rising far = grind (arith, up-there, not-beyond, comes-none)
+        go (f ∷ fs) rising far = grind (arith, rising-lower)
+        go [] rising far = grind (arith, up-there, flows-low, comes-none)
 
     -- the near end takes what was before UA, or UA
     ignores-first : (f : Parts) (fs : List Parts) → h.stale ≡ f ∷ fs → Rising 0 0 (f ∷ fs) → Comes b (acting takes w)

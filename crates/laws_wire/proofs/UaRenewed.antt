@@ -1,7 +1,5 @@
 -- SABME comes again to the end that is called, whose UA was lost: UA waits again, where there is room, and what it had sent is given up.
-use Rattle.laws_wire.proofs.Vocabulary.{◌≡◌, ℕ, Bool, true, false, cond, List, [], ◌∷◌, ◌++◌, map, refl, sym, ap, subst, ◌∙◌, ◌⊎◌, inl, inr, append-nil, arith, flat_map, option_to_list, Service, spelling, Terms, has_outstanding, has_room, frames_of, course, IsInRange, End, with_link, Config, LineTold, terms, Rising, Sane, flat_map-append, Course, line_of, Station, Wire, comes, with_first_of, with_first_lost, takes, acting, turned, data_told, for_layer_3, heard_in}
-use Rattle.model_link.specs.Events as link
-use Rattle.laws_wire.specs.Answering.{error_f, renewed}
+use Rattle.laws_wire.proofs.Vocabulary.{◌≡◌, ℕ, Bool, true, false, cond, List, [], ◌∷◌, ◌++◌, map, refl, sym, ap, subst, ◌∙◌, ◌⊎◌, inl, inr, append-nil, arith, flat_map, option_to_list, Service, spelling, Terms, has_outstanding, has_room, frames_of, course, IsInRange, End, with_link, Config, LineTold, terms, Rising, Sane, flat_map-append, Course, line_of, Station, Wire, comes, with_first_of, with_first_lost, takes, acting, turned, data_told, for_layer_3, heard_in, received, LinkEvent, frame, error_f, renewed}
 use Rattle.laws_wire.proofs.Answered.{takes-granted}
 use Rattle.laws_wire.proofs.Calling.{its_ua, sabme, end}
 use Rattle.laws_wire.proofs.Held.{Held, held-lost, taken-told, taken-stands}
@@ -43,8 +41,8 @@ module _ (service : Service) (tei : ℕ) (c d : Config) (p q : ℕ) (face : Face
     abbrev caller_end : End
     caller_end = end t (ringing repeats []) (sabme t ∷ [])
 
-    abbrev event : link.Event
-    event = link.received (link.frame (sabme t))
+    abbrev event : LinkEvent
+    event = received (frame (sabme t))
 
     abbrev x : Course
     x = course M.terms event M.link
@@ -55,9 +53,6 @@ module _ (service : Service) (tei : ℕ) (c d : Config) (p q : ℕ) (face : Face
     its_way : (w.near.way ≡ spelling c.side (sabme t) ∷ []) × IsCarried c service tei (sabme t)
     its_way = first-way service tei c p [] w.near caller_end (sabme t) [] refl near
 
-    renewal : Renews M.terms M.link b x
-    renewal = renews M.terms t M.link h.up h.a
-
     abbrev kept : List (List ℕ)
     kept = cond b [] M.link.contents
 
@@ -66,8 +61,8 @@ module _ (service : Service) (tei : ℕ) (c d : Config) (p q : ℕ) (face : Face
 
     becomes : with_link event M ≡ left (has_room M.terms M.link)
     becomes = λ i. record M {
-      link = renewal.link i;
-      delivered = (ap (λ o. M.delivered ++ option_to_list o) renewal.delivered ∙ append-nil M.delivered ∙ h.delivered) i;
+      link = (renews M.terms t M.link h.up h.a).link i;
+      delivered = (ap (λ o. M.delivered ++ option_to_list o) (renews M.terms t M.link h.up h.a).delivered ∙ append-nil M.delivered ∙ h.delivered) i;
     }
 
     abbrev s' : Station
@@ -78,7 +73,7 @@ module _ (service : Service) (tei : ℕ) (c d : Config) (p q : ℕ) (face : Face
         ap (flat_map for_layer_3) (taken-told service tei q past d w.far M h.held c back (sabme t) its_way.1)
         ∙ flat_map-append for_layer_3 w.far.told (said_by x)
         ∙ ap (λ ts. ts ++ flat_map for_layer_3 (said_by x)) (h.held.heard ∙ ap (λ xs. past ++ map (data_told service tei) xs) h.delivered ∙ append-nil past)
-        ∙ ap (λ ts. past ++ ts) (renewal.told ∙ ap (λ (y : Terms). cond b (renewed y.service y.tei) (error_f y.service y.tei) ∷ []) h.held.stands.terms)
+        ∙ ap (λ ts. past ++ ts) ((renews M.terms t M.link h.up h.a).told ∙ ap (λ (y : Terms). cond b (renewed y.service y.tei) (error_f y.service y.tei) ∷ []) h.held.stands.terms)
         ∙ sym (append-nil (more_told b past))
 
     held : (room : Bool) → has_room M.terms M.link ≡ room → Held d service tei q (more_told b past) s' (left room)
@@ -92,7 +87,7 @@ module _ (service : Service) (tei : ℕ) (c d : Config) (p q : ℕ) (face : Face
     }
 
     sane : (room : Bool) → has_room M.terms M.link ≡ room → Sane (left room).link
-    sane room e = subst (λ room. Sane (left room).link) e (subst Sane renewal.link (sane-after M.terms event M.link h.sane))
+    sane room e = subst (λ room. Sane (left room).link) e (subst Sane (renews M.terms t M.link h.up h.a).link (sane-after M.terms event M.link h.sane))
 
     line : Rising 0 0 (line_of M)
     line = subst (λ r. Rising 0 r (line_of M)) h.r h.rising

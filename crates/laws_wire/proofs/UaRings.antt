@@ -1,6 +1,5 @@
 -- Where one end rings, no turn is left and its T200 expires, one round is enough for it to be told of the establishment.
-use Rattle.laws_wire.proofs.Vocabulary.{◌≡◌, ℕ, ◌<◌, ◌≤◌, IsTrue, true, List, [], ◌∷◌, map, refl, sym, ap, subst, ◌∙◌, nat_lt, lt-ltb, arith, All, All-head, Service, Timer, Parts, spelling, ControlFrame, Terms, Link, fresh, is_multiple_frame, frame_of, after, course, given, frame_given, IsInRange, End, with_link, with_sent, Config, LineTold, next, terms, Station, Wire, happens, comes, with_first_of, with_first_lost, times_out, gives, takes, acting, turned, doing_all, confirmed, heard_in, MayRepeat, rounds}
-use Rattle.lapd_frame.specs.declared.timers.Timer.TheVariants as timers
+use Rattle.laws_wire.proofs.Vocabulary.{◌≡◌, ℕ, ◌<◌, ◌≤◌, IsTrue, true, List, [], ◌∷◌, map, refl, sym, ap, subst, ◌∙◌, nat_lt, lt-ltb, arith, All, All-head, Service, Timer, Parts, spelling, ControlFrame, Terms, Link, fresh, is_multiple_frame, frame_of, after, course, given, frame_given, IsInRange, End, with_link, with_sent, Config, LineTold, next, terms, Station, Wire, happens, comes, with_first_of, with_first_lost, times_out, gives, takes, acting, turned, doing_all, confirmed, heard_in, MayRepeat, rounds, timer_T200}
 use Rattle.model_link.specs.Events as link
 use Rattle.laws_wire.proofs.Acting.{ranges}
 use Rattle.laws_wire.proofs.Answered.{takes-granted}
@@ -50,11 +49,8 @@ module _ (service : Service) (tei : ℕ) (c d : Config) (p q : ℕ) (face : Face
     abbrev w1 : Wire
     w1 = acting gives w
 
-    near1 : Rung k [] (sabme t ∷ []) w1.near
-    near1 = held-given service tei p [] c w.near (end t (ringing k (its_sabme ∷ [])) []) near refl
-
     way1 : (w1.near.way ≡ spelling c.side (sabme t) ∷ []) × IsCarried c service tei (sabme t)
-    way1 = first-way service tei c p [] w1.near (end t (ringing k []) (sabme t ∷ [])) (sabme t) [] refl near1
+    way1 = first-way service tei c p [] w1.near (end t (ringing k []) (sabme t ∷ [])) (sabme t) [] refl (held-given service tei p [] c w.near (end t (ringing k (its_sabme ∷ [])) []) near refl)
 
     -- and comes
     abbrev reached : Station
@@ -67,7 +63,7 @@ module _ (service : Service) (tei : ℕ) (c d : Config) (p q : ℕ) (face : Face
     taken = ap (λ ways. record { near = with_first_lost w1.near; far = with_first_of ways w.far }) way1.0
 
     near2 : Rung k [] [] w2.near
-    near2 = held-lost service tei p [] c w1.near (end t (ringing k []) (sabme t ∷ [])) near1
+    near2 = held-lost service tei p [] c w1.near (end t (ringing k []) (sabme t ∷ [])) (held-given service tei p [] c w.near (end t (ringing k (its_sabme ∷ [])) []) near refl)
 
     abbrev m : End
     m = with_link event M
@@ -85,16 +81,10 @@ module _ (service : Service) (tei : ℕ) (c d : Config) (p q : ℕ) (face : Face
     gone : (with_sent m).way ≡ ua u ∷ []
     gone = grind (arith, gives-waiting, its_ua)
 
-    far-config : reached.card.config ≡ d
-    far-config = far2.config
-
-    way3 : w3.far.way ≡ spelling d.side (ua u) ∷ []
-    way3 = far3.way ∙ (λ i. map (spelling (far-config i).side) (gone i))
-
     carried : IsCarried d service tei (ua u)
     carried =
         All-head (IsCarried d service tei) (ua u) []
-        (subst (All (IsCarried d service tei)) gone (subst (λ k. All (IsCarried k service tei) (with_sent m).way) far-config far3.carried))
+        (subst (All (IsCarried d service tei)) gone (subst (λ k. All (IsCarried k service tei) (with_sent m).way) far2.config far3.carried))
 
     -- and comes
     abbrev told : Station
@@ -111,14 +101,14 @@ module _ (service : Service) (tei : ℕ) (c d : Config) (p q : ℕ) (face : Face
     unfolding rounds doing_all
     round-tells =
         ap (λ y. heard_in (acting takes (turned (acting gives (turned y)))).near) taken
-        ∙ ap (λ ways. heard_in (with_first_of ways w2.near)) way3 ∙ near4.heard
+        ∙ ap (λ ways. heard_in (with_first_of ways w2.near)) (far3.way ∙ (λ i. map (spelling (far2.config i).side) (gone i))) ∙ near4.heard
 
   -- ---- T200 expires before it
 
   module _ (P : Station → Type 0) (w : Wire) (h : Rings service tei c d p q face back rt ru P [] [] w) (may : MayRepeat service tei w.near) (past : List LineTold) (M : End) (held : Held d service tei q past w.far M)
       (way : M.way ≡ []) (answers : (after M.terms event M.link).waiting ≡ its_ua ∷ []) where
     abbrev timer : Timer
-    timer = timers.T200 service tei
+    timer = timer_T200 service tei
 
     few : h.repeats < t.n200
     few = may-there service tei c p w.near (end t (ringing h.repeats []) []) h.near.stands may refl refl

@@ -1,10 +1,6 @@
 -- Where both ends are up, neither is busy and no turn is left: once T200 expires, so many rounds are enough for all that is missing, and it stops.
-use Rattle.laws_wire.proofs.Vocabulary.{◌≡◌, ℕ, ◌+◌, ◌≤◌, false, List, ◌++◌, length, map, take, None, refl, sym, ap, subst, arith, length-map, length-append, length-take-le, eq-eqb, Service, Timer, Established, T200, Link, given, End, Ends, with_link, Config, LineTold, next, gave, runs, is_running, IsCutOff, all-recovered, nothing-to_send, awaits_answer, Station, Wire, times_out, acting, turned, answered, IsStill, link_of, data_told, heard_in, is_poll, runs_t200, rounds, with_t200_expired, both_expire, BothMayRepeat, StayPatient}
-use Rattle.lapd_frame.specs.declared.timers.Timer.TheVariants as timers
-use Rattle.model_link.specs.Events as link
+use Rattle.laws_wire.proofs.Vocabulary.{◌≡◌, ℕ, ◌+◌, ◌≤◌, false, List, ◌++◌, length, map, take, None, refl, sym, ap, subst, arith, length-map, length-append, length-take-le, eq-eqb, Service, Timer, Established, T200, Link, given, End, Ends, with_link, Config, LineTold, next, gave, runs, is_running, IsCutOff, all-recovered, nothing-to_send, awaits_answer, Station, Wire, times_out, acting, turned, answered, IsStill, link_of, data_told, heard_in, is_poll, runs_t200, rounds, with_t200_expired, both_expire, BothMayRepeat, StayPatient, expired, timer_T200, two_links_rounds, TwoLinksHasArrived, HasItsTimer}
 use Rattle.laws_link.specs.two.CutOff as cut_off
-use Rattle.laws_link.specs.two.Needed.{HasItsTimer}
-use Rattle.laws_link.specs.two.Rounds as two_links
 use Rattle.laws_link.proofs.OfTwo.Arriving.{AreFree}
 use Rattle.laws_link.proofs.OfTwo.Recovery.{free-recovered}
 use Rattle.laws_wire.specs.Facing.{line_of}
@@ -31,7 +27,7 @@ module _ (service : Service) (tei : ℕ) (c d : Config) (p q : ℕ) (face : Face
   At w n m = LooseAt service tei c d p q past other w n m
 
   -- so it is round after round
-  loose-rounds : (k : ℕ) (w : Wire) (e : Ends) → At w e.near e.far → At (rounds k w) (two_links.rounds k e).near (two_links.rounds k e).far
+  loose-rounds : (k : ℕ) (w : Wire) (e : Ends) → At w e.near e.far → At (rounds k w) (two_links_rounds k e).near (two_links_rounds k e).far
   loose-rounds =
       rounds-keep (λ w e. At w e.near e.far) (λ w e. LooseAt service tei d c q p other past w e.near e.far)
       (λ w e. at-turned service tei c d p q past other w e.near e.far) (λ w e. at-turned service tei d c q p other past w e.near e.far)
@@ -48,16 +44,16 @@ module _ (service : Service) (tei : ℕ) (c d : Config) (p q : ℕ) (face : Face
 
   module _ (w : Wire) (n m : End) (h : At w n m) (still : IsStill w) (may : BothMayRepeat service tei w) (near_free : n.link.own_busy ≡ false) (far_free : m.link.own_busy ≡ false) where
     abbrev timer : Timer
-    timer = timers.T200 service tei
+    timer = timer_T200 service tei
 
     abbrev e : Ends
     e = record { near = n; far = m }
 
     abbrev n' : End
-    n' = with_link (link.expired T200) n
+    n' = with_link (expired T200) n
 
     abbrev m' : End
-    m' = with_link (link.expired T200) m
+    m' = with_link (expired T200) m
 
     near-hushed : IsHushed service tei n
     near-hushed = hushed service tei c p past w.near n h.near still.near still.near_way
@@ -109,7 +105,7 @@ module _ (service : Service) (tei : ℕ) (c d : Config) (p q : ℕ) (face : Face
       pub near_stops : HasItsTimer (link_of service tei (line_of last.near)) → runs_t200 service tei last.near ≡ false
       pub far_stops : HasItsTimer (link_of service tei (line_of last.far)) → runs_t200 service tei last.far ≡ false
 
-    settled : (last : Wire) (x : Ends) → At last x.near x.far → two_links.HasArrived n.link.contents x.near x.far → two_links.HasArrived m.link.contents x.far x.near → AreFree x → Settled last
+    settled : (last : Wire) (x : Ends) → At last x.near x.far → TwoLinksHasArrived n.link.contents x.near x.far → TwoLinksHasArrived m.link.contents x.far x.near → AreFree x → Settled last
     settled last x at near far free = grind (arith, nothing-said, nothing-to_send, runs-up, stops, link-is)
 
     pub loose-settles : (u : ℕ) → length (past ++ map (data_told service tei) w.far.granted) ≤ length (heard_in w.near) + u → length (other ++ map (data_told service tei) w.near.granted) ≤ length (heard_in w.far) + u
@@ -123,5 +119,5 @@ module _ (service : Service) (tei : ℕ) (c d : Config) (p q : ℕ) (face : Face
         missing past n.link.r u m.link.contents n.delivered (heard_in w.near) h.loose.joined.back.accepted h.loose.joined.back.delivered h.near.heard
         (subst (λ xs. length (past ++ map (data_told service tei) xs) ≤ length (heard_in w.near) + u) h.far.granted few-near) in
         let all = all-recovered u e near-cut far-cut there back_ in
-        settled (rounds (u + 3) (with_t200_expired service tei w)) (two_links.rounds (u + 3) e')
+        settled (rounds (u + 3) (with_t200_expired service tei w)) (two_links_rounds (u + 3) e')
         (loose-rounds (u + 3) (with_t200_expired service tei w) e' both-expired) all.0 all.1 (free-recovered u e near-cut far-cut there back_)

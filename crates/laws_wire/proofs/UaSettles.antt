@@ -1,11 +1,6 @@
 -- A call in which UA may be lost and an end may be busy comes to where no turn is left and T200 runs at neither end.
-use Rattle.laws_wire.proofs.Vocabulary.{◌≡◌, ◌≢◌, ℕ, ◌+◌, ◌≤◌, ◌*◌, Bool, false, List, [], ◌∷◌, ◌++◌, length, map, refl, sym, ap, subst, ◌∙◌, inl, inr, arith, All, All-nil, All-append, Service, Parts, ControlFrame, fresh, IsInRange, End, Config, LineTold, terms, Station, Wire, times_out, at_near, at_far, acting, Doing, doing, doing_all, IsStill, link_of, calling, CanCall, confirmed, data_told, heard_in, IsFullTalk, StayPatient, MayRepeat, BothMayRepeat, both_expire, with_t200_expired, rounds}
-use Rattle.lapd_frame.specs.declared.timers.Timer.TheVariants as timers
-use Rattle.laws_link.specs.two.Needed.{HasItsTimer}
-use Rattle.laws_link.proofs.OfTwo.Needing.{timely-fresh}
+use Rattle.laws_wire.proofs.Vocabulary.{◌≡◌, ◌≢◌, ℕ, ◌+◌, ◌≤◌, ◌*◌, Bool, false, List, [], ◌∷◌, ◌++◌, length, map, refl, sym, ap, subst, ◌∙◌, inl, inr, arith, All, All-nil, All-append, Service, Parts, ControlFrame, fresh, IsInRange, End, Config, LineTold, terms, Station, Wire, times_out, at_near, at_far, acting, Doing, doing, doing_all, IsStill, link_of, calling, CanCall, confirmed, data_told, heard_in, IsFullTalk, StayPatient, MayRepeat, BothMayRepeat, both_expire, with_t200_expired, rounds, timer_T200, IsAtRest, Called, uncalled, seen, all_kept, none_busy, busy, HasLeft, HasTold, Settles, near_expires, LossyCallsAreAnswered, LossyCallsSettle, HasItsTimer, timely-fresh, append_assoc}
 use Rattle.laws_wire.specs.Facing.{line_of}
-use Rattle.laws_wire.specs.Answering.{IsAtRest, Called, uncalled, seen, all_kept}
-use Rattle.laws_wire.specs.Settling.{none_busy, busy, HasLeft, HasTold, Settles, near_expires, LossyCallsAreAnswered, LossyCallsSettle}
 use Rattle.laws_wire.proofs.Acting.{ranges}
 use Rattle.laws_wire.proofs.Awaited.{open-here, link-is}
 use Rattle.laws_wire.proofs.Calling.{end, asked, its_ua, sabme, ua}
@@ -16,7 +11,7 @@ use Rattle.laws_wire.proofs.RestedRounds.{doing-append, many, many-rounds}
 use Rattle.laws_wire.proofs.Ringing.{ringing, its_sabme}
 use Rattle.laws_wire.proofs.Talking.{Face}
 use Rattle.laws_wire.proofs.TimelyUp.{IsHushed, hushed, none-waits, none-open}
-use Rattle.laws_wire.proofs.UaBefore.{before, with_before, near-before, far-before, timely-with}
+use Rattle.laws_wire.proofs.UaBefore.{before, with_before, timely-with}
 use Rattle.laws_wire.proofs.UaKnown.{Known, BothKnown, runs-known}
 use Rattle.laws_wire.proofs.UaLost.{Rings, not-told}
 use Rattle.laws_wire.proofs.UaLostRun.{Away, Rs, Down, Up, IsCalled, Phase, Goes}
@@ -29,7 +24,7 @@ use Rattle.laws_wire.proofs.UaTold.{all-is, still-there, patient-goes}
 
 module _ (g : List (List ℕ)) where
   doing-before : (k : Doing) (w : Wire) → doing k (with_before g w) ≡ with_before g (doing k w)
-  doing-before k w = grind (arith, near-before, far-before)
+  doing-before k w = grind (arith, append_assoc)
 
   all-before : (ds : List Doing) (w : Wire) → doing_all ds (with_before g w) ≡ with_before g (doing_all ds w)
   unfolding doing_all
@@ -41,19 +36,19 @@ module _ (g : List (List ℕ)) where
 
   pub expired-before : (service : Service) (tei : ℕ) (w : Wire) → with_t200_expired service tei (with_before g w) ≡ with_before g (with_t200_expired service tei w)
   expired-before service tei w =
-      ap (doing (at_far (times_out (timers.T200 service tei)))) (doing-before (at_near (times_out (timers.T200 service tei))) w)
-      ∙ doing-before (at_far (times_out (timers.T200 service tei))) (doing (at_near (times_out (timers.T200 service tei))) w)
+      ap (doing (at_far (times_out (timer_T200 service tei)))) (doing-before (at_near (times_out (timer_T200 service tei))) w)
+      ∙ doing-before (at_far (times_out (timer_T200 service tei))) (doing (at_near (times_out (timer_T200 service tei))) w)
 
   pub patient-before : (ds : List Doing) (w : Wire) → StayPatient ds w → StayPatient ds (with_before g w)
   unfolding StayPatient
   patient-before [] w h = tt
   patient-before (at_near act ∷ ds) w h = (
     timely-with act w.near (before g w.far) w.near.granted w.far.granted h.0,
-    subst (StayPatient ds) (sym (near-before act g w)) (patient-before ds (doing (at_near act) w) h.1),
+    subst (StayPatient ds) (sym (grind arith)) (patient-before ds (doing (at_near act) w) h.1),
   )
   patient-before (at_far act ∷ ds) w h = (
     timely-with act (before g w.far) w.near w.far.granted w.near.granted h.0,
-    subst (StayPatient ds) (sym (far-before act g w)) (patient-before ds (doing (at_far act) w) h.1),
+    subst (StayPatient ds) (sym (grind (arith, append_assoc))) (patient-before ds (doing (at_far act) w) h.1),
   )
 
 -- ---- the phases where no turn is left
@@ -77,7 +72,7 @@ module _ (service : Service) (tei : ℕ) (c d : Config) (p q : ℕ) (face : Face
   -- it was not: it rings, and nothing waits
   module _ (v : Wire) (still : IsStill v) (may : MayRepeat service tei v.near) where
     abbrev Tells : Type 0
-    Tells = StayPatient (near_expires service tei) v × (heard_in (rounds 1 (acting (times_out (timers.T200 service tei)) v)).near ≡ confirmed service tei ∷ [])
+    Tells = StayPatient (near_expires service tei) v × (heard_in (rounds 1 (acting (times_out (timer_T200 service tei)) v)).near ≡ confirmed service tei ∷ [])
 
     far-quiet : (past : List LineTold) (M : End) → Held d service tei q past v.far M → IsHushed service tei M
     far-quiet past M held = hushed service tei d q past v.far M held still.far still.far_way
@@ -109,9 +104,7 @@ module _ (service : Service) (tei : ℕ) (c d : Config) (p q : ℕ) (face : Face
           rings-again service tei c d p q face back rt ru (Away service tei c d p q face back rt ru past b) v h may past M h.far.held quiet.way
               (answers-again service tei c d p q face back rt ru M.link M.terms (ranges service tei q past d v.far M h.far.held) h.far.up h.far.a (none-waits service tei M quiet)),
         ))
-    called-tells past b none (inr (inl h)) =
-        let M = h.far.M in
-        absurd (some-waits h.far.old h.far.post its_ua (sym h.far.waits ∙ none-waits service tei M (far-quiet past M h.far.held)))
+    called-tells past b none (inr (inl h)) = grind (arith, some-waits, its_ua, none-waits, far-quiet)
     called-tells past b none (inr (inr (inl h))) = absurd (some-comes h.stale (far-quiet past _ h.far).way)
       where
         some-comes : (stale : List Parts) → (stale ++ ua (terms d service tei) ∷ []) ++ h.m.way ≡ [] → ⊥
@@ -146,7 +139,7 @@ module _ (service : Service) (tei : ℕ) (c d : Config) (p q : ℕ) (face : Face
     pub rings : IsStill here → heard_in v.near ≡ [] → MayRepeat service tei v.near → TellsSo here
     unfolding doing_all
     rings still none may =
-        let same = ap (rounds 1) (near-before (times_out (timers.T200 service tei)) g v) ∙ rounds-before g 1 (acting (times_out (timers.T200 service tei)) v) in
+        let same = ap (rounds 1) (grind arith) ∙ rounds-before g 1 (acting (times_out (timer_T200 service tei)) v) in
         let tells = phase-tells v (still-there service tei c d p q face back rt ru x v g given_up phase still) may x phase none in
         (patient-before g (near_expires service tei) v tells.0, ap (λ y. heard_in y.near) same ∙ tells.1)
 

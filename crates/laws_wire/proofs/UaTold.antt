@@ -1,6 +1,5 @@
 -- What is told in a call in which UA may be lost, from its phases.
-use Rattle.laws_wire.proofs.Vocabulary.{arith, ◌≡◌, ℕ, Bool, false, List, [], ◌∷◌, ◌++◌, length, map, take, drop, refl, sym, ap, append-nil, append_assoc, map-append, take-append-drop, subst, ◌∙◌, inl, inr, true≢false, All, front_rest, Service, Parts, ControlFrame, IsInRange, End, Config, LineTold, terms, Station, Wire, turned, Doing, doing_all, IsStill, CanCall, calling, data_told, IsBeginningOf, heard_in, runs_t200}
-use Rattle.laws_wire.specs.Answering.{IsFullTalk, StayPatient, Called, uncalled, seen, all_kept, ToldSo, LossyCallsComeThrough}
+use Rattle.laws_wire.proofs.Vocabulary.{arith, ◌≡◌, ℕ, Bool, false, List, [], ◌∷◌, ◌++◌, length, map, take, drop, refl, sym, ap, append-nil, append_assoc, map-append, take-append-drop, subst, ◌∙◌, inl, inr, true≢false, All, front_rest, Service, Parts, ControlFrame, IsInRange, End, Config, LineTold, terms, Station, Wire, turned, Doing, doing_all, IsStill, CanCall, calling, data_told, IsBeginningOf, heard_in, runs_t200, IsFullTalk, StayPatient, Called, uncalled, seen, all_kept, ToldSo, LossyCallsComeThrough}
 use Rattle.laws_wire.proofs.Awaited.{runs-is}
 use Rattle.laws_wire.proofs.Calling.{end, sabme}
 use Rattle.laws_wire.proofs.Held.{Held}
@@ -59,22 +58,18 @@ module _ (service : Service) (tei : ℕ) (c d : Config) (p q : ℕ) (face : Face
   called-so-far past b v (inr (inr (inl h))) =
       (nothing-yet _ (heard_in v.near) h.near.heard, far-none past v _ h.far (comes-none service tei c d p q face back rt ru past b v h))
   called-so-far past b v (inr (inr (inr h))) =
-      let there = h.loose.joined.there.delivered in
       let other = h.loose.joined.back.delivered in (
         so-many service tei first_near h.n.link.r v.far.granted (heard_in v.near)
             (h.near.heard ∙ ap (λ xs. first_near ++ map (data_told service tei) xs) (other ∙ ap (take h.n.link.r) (sym h.far.granted))),
         (
           so-many service tei past h.m.link.r v.near.granted (heard_in v.far)
-              (h.far.heard ∙ ap (λ xs. past ++ map (data_told service tei) xs) (there ∙ ap (take h.m.link.r) (sym h.near.granted))),
+              (h.far.heard ∙ ap (λ xs. past ++ map (data_told service tei) xs) (h.loose.joined.there.delivered ∙ ap (take h.m.link.r) (sym h.near.granted))),
           (map (data_told service tei) h.m.delivered, sym h.far.heard),
         ),
       )
 
-  down-far : (v : Wire) → Rs service tei c d p q face back rt ru (Down service tei c d p q face back rt ru) v → FarSoFar [] v
-  down-far v o = grind (arith, far-none)
-
   so-far : (x : Called) (v : Wire) → Phase service tei c d p q face back rt ru x v → NearSoFar v × FarSoFar x.told v
-  so-far x v (inl (told, sent, h)) = grind (arith, nothing-yet, not-told, Down, down-far)
+  so-far x v (inl (told, sent, h)) = grind (arith, nothing-yet, not-told, Down, far-none)
   so-far x v (inr (some, h)) = called-so-far x.told x.sent v h
 
   -- ---- where no turn is left, and T200 runs at neither end

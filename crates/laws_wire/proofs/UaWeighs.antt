@@ -1,9 +1,6 @@
 -- Each step of a call in which UA may be lost makes what is left to do less; so its moves are bounded.
-use Rattle.laws_wire.proofs.Vocabulary.{◌≡◌, ℕ, ◌+◌, ◌-◌, ◌*◌, ◌≤◌, Bool, true, false, cond, not, IsTrue, List, [], ◌∷◌, ◌++◌, length, refl, sym, ap, subst, ◌∙◌, ◌⊎◌, inl, inr, eqb-true, arith, Service, Parts, spelling, ControlFrame, Terms, Link, fresh, has_outstanding, has_room, is_multiple_frame, frames_of, after, Means, IsInRange, End, with_link, Config, LineTold, terms, Rising, Station, Wire, comes, with_first_lost, Act, takes, acting, turned, Doing, at_near, at_far, doing, IsFullTalkOf, IsTimelyOf, is_move, is_move_of, expiries_in}
+use Rattle.laws_wire.proofs.Vocabulary.{◌≡◌, ℕ, ◌+◌, ◌-◌, ◌*◌, ◌≤◌, Bool, true, false, cond, not, IsTrue, List, [], ◌∷◌, ◌++◌, length, refl, sym, ap, subst, ◌∙◌, ◌⊎◌, inl, inr, eqb-true, arith, Service, Parts, spelling, ControlFrame, Terms, Link, fresh, has_outstanding, has_room, is_multiple_frame, frames_of, after, Means, IsInRange, End, with_link, Config, LineTold, terms, Rising, Station, Wire, comes, with_first_lost, Act, takes, acting, turned, Doing, at_near, at_far, doing, IsFullTalkOf, IsTimelyOf, is_move, is_move_of, expiries_in, two_ends_with_first_of, two_ends_with_first_lost, receives, Called, reports_in}
 use Rattle.model_link.specs.Events as link
-use Rattle.model_link.specs.TwoEnds as two_ends
-use Rattle.laws_wire.specs.Answering.{Called}
-use Rattle.laws_wire.specs.Settling.{reports_in}
 use Rattle.laws_wire.proofs.Answered.{takes-granted}
 use Rattle.laws_wire.proofs.Calling.{end, its_ua, sabme, ua, takes-sabme}
 use Rattle.laws_wire.proofs.Heft.{heft, heft-is, Pays, pays-turned, from-then, acts-pays}
@@ -76,22 +73,16 @@ module _ (service : Service) (tei : ℕ) (c d : Config) (p q : ℕ) (face : Face
   abbrev of-coming : (past : List LineTold) (b : Bool) (w : Wire) → Coming service tei c d p q face back rt ru past b w → FarEnd w.far
   of-coming past b w h = record { m = behind (h.stale ++ ua u ∷ []) h.m; past = past; held = h.far; none = h.loose.joined.there.accepted; up = inl h.loose.joined.far_up }
 
-  rung : (k : ℕ) (ws : List ControlFrame) (way : List Parts) (w : Wire) → Rung k ws way w.near → FarEnd w.far → Seen w
-  rung k ws way w near f = grind (arith, end, ringing)
-
   all-rung : (Q : Station → Type 0) (w : Wire) → ((s : Station) → Q s → FarEnd s) → Rs service tei c d p q face back rt ru Q w → Seen w
-  all-rung Q w of (inl h) = rung h.repeats [] [] w h.near (of w.far h.far)
-  all-rung Q w of (inr (inl h)) = rung h.repeats (its_sabme ∷ []) [] w h.near (of w.far h.far)
-  all-rung Q w of (inr (inr h)) = rung h.repeats [] (sabme t ∷ []) w h.near (of w.far h.far)
-
-  of-up : (past : List LineTold) (w : Wire) → Up service tei c d p q face back rt ru past w → Seen w
-  of-up past w h = grind arith
+  all-rung Q w of (inl h) = grind (arith, end, ringing)
+  all-rung Q w of (inr (inl h)) = grind (arith, end, ringing)
+  all-rung Q w of (inr (inr h)) = grind (arith, end, ringing)
 
   called-seen : (past : List LineTold) (b : Bool) (w : Wire) → IsCalled service tei c d p q face back rt ru past b w → Seen w
   called-seen past b w (inl h) = all-rung (Away service tei c d p q face back rt ru past b) w (of-away past b) h
-  called-seen past b w (inr (inl h)) = rung h.repeats [] [] w h.near (of-waiting past b w.far h.far)
-  called-seen past b w (inr (inr (inl h))) = rung h.repeats [] [] w h.near (of-coming past b w h)
-  called-seen past b w (inr (inr (inr h))) = of-up past w h
+  called-seen past b w (inr (inl h)) = grind (arith, end, ringing)
+  called-seen past b w (inr (inr (inl h))) = grind (arith, end, ringing)
+  called-seen past b w (inr (inr (inr h))) = grind arith
 
   pub seen-in : (x : Called) (w : Wire) → Phase service tei c d p q face back rt ru x w → Seen w
   seen-in x w (inl (told, sent, h)) = all-rung (Down service tei c d p q face back rt ru) w of-down h
@@ -107,10 +98,9 @@ module _ (service : Service) (tei : ℕ) (c d : Config) (p q : ℕ) (face : Face
 
     ignores-one : (g : Parts) (gs : List Parts) → f.m.way ≡ g ∷ gs → (number : ℕ) → Means number g.control → P (moved_by takes w) 0 0 w (acting takes w)
     ignores-one g gs e number means =
-        let i = ignores t k ws g number means in
         let l = ringing k ws in
         let well : TakesWell v l (after t (link.received (link.frame g)) l) g × ((after t (link.received (link.frame g)) l).r ≤ length f.m.link.contents) =
-        subst (λ l'. TakesWell v l l' g × (l'.r ≤ length f.m.link.contents)) (sym i.stays) (record { contents = refl; falls = inl (refl, omega arith) }, omega arith) in
+        subst (λ l'. TakesWell v l l' g × (l'.r ≤ length f.m.link.contents)) (sym (ignores t k ws g number means).stays) (record { contents = refl; falls = inl (refl, omega arith) }, omega arith) in
         from-then service tei c d p q [] f.past face v w (end t l way) f.m near f.held f.none (acting takes w) (moved_by takes w) 0
         (takes-well service tei c d p q [] f.past face v w (end t l way) f.m near f.held f.none g gs e well.0 well.1)
 
@@ -147,7 +137,7 @@ module _ (service : Service) (tei : ℕ) (c d : Config) (p q : ℕ) (face : Face
     loose-well : TakesWell v n.link (after n.terms (link.received (link.frame f)) n.link) f × ((after n.terms (link.received (link.frame f)) n.link).r ≤ length m.link.contents)
     loose-well =
         let y = subst (λ way. Rising n.link.a m.link.r (way ++ frames_of m.terms m.link.waiting)) e h.joined.there.rising in
-        let then = subst (λ way. Loose (two_ends.with_first_of way n) (two_ends.with_first_lost m)) e (loose-after n m h two_ends.receives tt) in
+        let then = subst (λ way. Loose (two_ends_with_first_of way n) (two_ends_with_first_lost m)) e (loose-after n m h receives tt) in
         let x = (frame-hears v n.terms n.link h.joined.near_sound wide h.joined.near_up f y.0 y.2).hears then.joined.near_up in
         (record { contents = x.0; falls = x.1 }, then.joined.back.accepted)
 
@@ -226,9 +216,6 @@ module _ (service : Service) (tei : ℕ) (c d : Config) (p q : ℕ) (face : Face
     abbrev n' : End
     n' = end t (ringing k []) []
 
-    way-there : (w.near.way ≡ spelling c.side (sabme t) ∷ []) × IsCarried c service tei (sabme t)
-    way-there = first-way service tei c p [] w.near n (sabme t) [] refl near
-
     abbrev reached : Station
     reached = comes (spelling c.side (sabme t)) w.far
 
@@ -242,7 +229,7 @@ module _ (service : Service) (tei : ℕ) (c d : Config) (p q : ℕ) (face : Face
     room = has_room M.terms l
 
     stands : Stands d service tei q reached m'
-    stands = taken-stands service tei q past d w.far M h.held c back (sabme t) way-there.1
+    stands = taken-stands service tei q past d w.far M h.held c back (sabme t) (first-way service tei c p [] w.near n (sabme t) [] refl near).1
 
     abbrev kept : Bool → Link
     kept o = again room (cond o [] l.contents) l
@@ -250,11 +237,8 @@ module _ (service : Service) (tei : ℕ) (c d : Config) (p q : ℕ) (face : Face
     becomes : m'.link ≡ kept (has_outstanding l)
     becomes = (renews M.terms t l h.up h.a).link
 
-    not-false : (o : Bool) → not o ≡ false → o ≡ true
-    not-false o e = grind arith
-
     lighter : (o : Bool) → has_outstanding l ≡ o → (load v (kept o) ≤ load v l + 2) × ((v + 4) * (length (kept o).contents - 0) ≤ (v + 4) * (length l.contents - 0))
-    lighter o e = grind (arith, load_waiting, one-waits, its_ua, may_reject, load, eqb-true, not-false)
+    lighter o e = grind (arith, load_waiting, one-waits, its_ua, may_reject, load, eqb-true)
 
     again-pays : P 1 0 0 w w1
     again-pays = record {
@@ -297,9 +281,6 @@ module _ (service : Service) (tei : ℕ) (c d : Config) (p q : ℕ) (face : Face
     abbrev s : Seen w
     s = seen-in x w h
 
-    near-but : (act : Act) → (act ≡ takes → ⊥) → IsFullTalkOf service tei act → IsTimelyOf act w → Steps (at_near act) w
-    near-but act not is timely = acts-pays service tei c d p q s.past_n s.past_m face v w s.n s.m s.near s.far s.there act not is timely
-
     far-but : (act : Act) → (act ≡ takes → ⊥) → IsFullTalkOf service tei act → IsTimelyOf act (turned w) → Steps (at_far act) w
     far-but act not is timely =
         pays-turned service tei v _ _ _ w (acting act (turned w))
@@ -307,7 +288,7 @@ module _ (service : Service) (tei : ℕ) (c d : Config) (p q : ℕ) (face : Face
 
     pub near-pays : (act : Act) → IsFullTalkOf service tei act → IsTimelyOf act w → Steps (at_near act) w
     near-pays takes is timely = near-takes x w h
-    near-pays other is timely = near-but other (λ e. cc e) is timely
+    near-pays other is timely = acts-pays service tei c d p q s.past_n s.past_m face v w s.n s.m s.near s.far s.there other (λ e. cc e) is timely
 
     pub far-pays : (act : Act) → IsFullTalkOf service tei act → IsTimelyOf act (turned w) → Steps (at_far act) w
     far-pays takes is timely = far-takes x w h

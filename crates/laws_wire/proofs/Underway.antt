@@ -1,22 +1,20 @@
 -- Two stations that are up, nothing is lost, and T200 expires at either: what is then sure to arrive, and that it has, where no turn is left.
-use Rattle.laws_wire.proofs.Vocabulary.{◌≡◌, ℕ, ◌≤◌, Bool, true, false, ◌&&◌, ◌||◌, IsTrue, List, [], ◌∷◌, ◌++◌, length, map, drop, refl, sym, ap, subst, ◌∙◌, ◌⊎◌, inl, inr, true≢false, arith, All, take_all, All-head, All-tail, Service, Timer, Parts, TimerRecovery, LinkTimer, T203, is_multiple_frame, is_running, End, with_link, with_sent, frames_of, Config, LineTold, request, awaits_answer, CanRepeat, HasNothingToSend, line, tally, one_enquiry, one_answer, nothing-given, T200, line_of, Data, Station, Wire, happens, Act, requests, times_out, gives, takes, loses, acting, turned, Doing, at_near, at_far, doing, doing_all, IsStill, confirmed, indicated, data_told, heard_in, IsRoughTalkOf, IsRoughTalk, IsTimelyOf, IsTimely, StayTimely, LosesNothing, runs_t200, is_t200, near_asks, far_asks, ever}
-use Rattle.lapd_frame.specs.declared.timers.Timer.TheVariants as timers
-use Rattle.model_link.specs.Events as link
-use Rattle.model_link.specs.TwoEnds as two_ends
+use Rattle.laws_wire.proofs.Vocabulary.{◌≡◌, ℕ, ◌≤◌, Bool, true, false, ◌&&◌, ◌||◌, IsTrue, List, [], ◌∷◌, ◌++◌, length, map, drop, refl, sym, ap, subst, ◌∙◌, ◌⊎◌, inl, inr, true≢false, arith, All, take_all, All-head, All-tail, Service, Timer, Parts, TimerRecovery, LinkTimer, T203, is_multiple_frame, is_running, End, with_link, with_sent, frames_of, Config, LineTold, request, awaits_answer, CanRepeat, HasNothingToSend, line, tally, one_enquiry, one_answer, nothing-given, T200, line_of, Data, Station, Wire, happens, Act, requests, times_out, gives, takes, loses, acting, turned, Doing, at_near, at_far, doing, doing_all, IsStill, confirmed, indicated, data_told, heard_in, IsRoughTalkOf, IsRoughTalk, IsTimelyOf, IsTimely, StayTimely, LosesNothing, runs_t200, is_t200, near_asks, far_asks, ever, lt-ltb, ltb-false, nat_lt, offer-goes, expired, timer_T200, timer_T203, two_ends_with_first_of, two_ends_with_first_lost}
 use Rattle.laws_link.specs.two.Timely as two_links
 use Rattle.laws_wire.proofs.Asking.{with_more, asked-form}
 use Rattle.laws_wire.proofs.Awaited.{closed, may-there, long-there, runs-up}
 use Rattle.laws_wire.proofs.Dense.{Dense, Reaches}
 use Rattle.laws_wire.proofs.Firm.{Firm, firm-asks, firm-takes}
 use Rattle.laws_wire.proofs.Held.{Held, Grants, held-asked}
-use Rattle.laws_wire.proofs.Loose.{as-loose, sent-all, loose-came}
+use Rattle.laws_wire.proofs.Loose.{as-loose, loose-came}
 use Rattle.laws_wire.proofs.LossyPhases.{for-data, Aims}
 use Rattle.laws_wire.proofs.Roomy.{kinds}
-use Rattle.laws_wire.proofs.Sure.{Sure, sure-begins, sure-asks, sure-expires, sure-sends, sure-hears}
-use Rattle.laws_wire.proofs.SureHeard.{other-asks, other-sends, other-expires, other-hears}
+use Rattle.laws_wire.proofs.Sure.{Sure, sure-begins, sure-expires, sure-sends, sure-hears}
+use Rattle.laws_wire.proofs.SureHeard.{other-expires, other-hears, sure-replied}
 use Rattle.laws_wire.proofs.Talking.{Face}
 use Rattle.laws_wire.proofs.Tame.{IsFreeFrame}
 use Rattle.laws_wire.proofs.TimelyUp.{each-timer, IsHushed, hushed, never, BothUp, turned-up, up-gives, up-takes, up-expires}
+use Rattle.laws_wire.proofs.Replying.{offer-says}
 
 -- ---- where no turn is left
 
@@ -24,44 +22,22 @@ module _ (n m : End) (h : Firm n m) (quiet : HasNothingToSend n.terms n.link) (w
   abbrev HasAll : Type 0
   HasAll = m.delivered ≡ n.link.contents
 
-  all-received : m.link.r ≡ length n.link.contents → HasAll
-  all-received e = h.joined.there.delivered ∙ take_all m.link.r n.link.contents (omega (arith, e))
-
   no-kinds : (n : End) → n.link.waiting ≡ [] → n.way ≡ [] → kinds n ≡ []
   no-kinds n waiting way = (λ i. line n.terms (way i) (waiting i))
 
   pub sure-came : HasNothingToSend m.terms m.link → m.way ≡ [] → Sure n m → HasAll
-  sure-came other away (inl q) =
-      let none : tally one_enquiry (kinds n) ≡ 0 = ap (tally one_enquiry) (no-kinds n quiet.waiting way) in
-      let none' : tally one_answer (kinds m) ≡ 0 = ap (tally one_answer) (no-kinds m other.waiting away) in
-      let some = q.open_ in
-      absurd (omega (arith, none, none', some))
-  sure-came other away (inr q) =
-      let all : m.link.r ≡ n.link.s = subst (Dense m.link.r n.link.s) (no-kinds n quiet.waiting way) q.dense in
-      let empty : line_of m ≡ [] = λ i. away i ++ frames_of m.terms (other.waiting i) in
-      elim (q.owed) [
-        | inl due ↦ absurd (true≢false (sym due ∙ other.pending))
-        | inr reaches ↦
-            let same : n.link.a ≡ m.link.r = subst (Reaches n.link.a m.link.r) empty reaches in
-            all-received (all ∙ sent-all n m (as-loose n m h) quiet h.near_tame.peer_free q.state (omega (arith, same, all)))
-      ]
+  sure-came other away o = grind (arith, one_enquiry, kinds, no-kinds, one_answer, line_of, frames_of, take_all, nat_lt, lt-ltb, ltb-false, as-loose)
 
 -- ---- while turns come
 
 -- what is so of a first frame, where there is one
 module _ (n m : End) (h : Firm n m) (wide : 3 ≤ n.terms.control) where
   abbrev Then : List Parts → Type 0
-  Then way = Firm (two_ends.with_first_of way n) (record m { way = drop 1 way })
+  Then way = Firm (two_ends_with_first_of way n) (record m { way = drop 1 way })
 
-  takes-there : (way : List Parts) → m.way ≡ way → Then way → Sure n m → Sure (two_ends.with_first_of way n) (record m { way = drop 1 way })
-  takes-there [] e firm s = subst (λ way. Sure n (record m { way = way })) e s
-  takes-there (f ∷ fs) e firm s = sure-hears n m h f fs e firm.joined.near_up firm.joined.there.rising s
-
-  takes-back : (way : List Parts) → m.way ≡ way → Then way → Sure m n → Sure (record m { way = drop 1 way }) (two_ends.with_first_of way n)
+  takes-back : (way : List Parts) → m.way ≡ way → Then way → Sure m n → Sure (record m { way = drop 1 way }) (two_ends_with_first_of way n)
   takes-back [] e firm s = subst (λ way. Sure (record m { way = way }) n) e s
-  takes-back (f ∷ fs) e firm s =
-      let free = All-head IsFreeFrame f fs (subst (All IsFreeFrame) e h.far_tame.way) in
-      other-hears n m h wide f fs e free firm.joined.near_up s
+  takes-back (f ∷ fs) e firm s = other-hears n m h wide f fs e (All-head IsFreeFrame f fs (subst (All IsFreeFrame) e h.far_tame.way)) firm.joined.near_up s
 
 module _ (service : Service) (tei : ℕ) where
   -- both are up, and what either end sends is sure to arrive where this is so of it
@@ -98,8 +74,7 @@ module _ (service : Service) (tei : ℕ) where
     Nothing = false ≡ true
 
     old : {P : Type 0} → (A → P) → A ⊎ Nothing → P
-    old f (inl a) = f a
-    old f (inr e) = absurd (true≢false (sym e))
+    old f o = grind arith
 
     asks-data : (octets : List ℕ) → Now Nothing (acting (requests (Data service tei octets)) w)
     asks-data octets = go (held-asked service tei p past c w.near n h.up.near octets)
@@ -108,23 +83,17 @@ module _ (service : Service) (tei : ℕ) where
         s' = happens (request (Data service tei octets)) w.near
 
         go : (s' ≡ w.near) ⊎ Grants service tei p past c w.near n h.up.near octets s' → Now Nothing (record w { near = s' })
-        go (inl same) = record {
-          n = n;
-          m = m;
-          up = record { near = subst (λ s. Held c service tei p past s n) (sym same) h.up.near; far = h.up.far; firm = firm };
-          there = old h.there;
-          back = h.back;
-        }
+        go (inl same) = grind (arith, firm, old)
         go (inr x) = record {
           n = with_more octets n;
           m = m;
           up = record { near = x.held; far = h.up.far; firm = subst (λ y. Firm y m) (asked-form octets n x.none) (firm-asks n m firm octets) };
-          there = old (λ a. sure-asks n m firm wide octets (h.there a));
-          back = λ b. other-asks n m firm wide octets (h.back b);
+          there = old (λ a. grind arith);
+          back = λ b. (sure-replied n m firm.joined.back.rising (with_more octets n).link n.way n.delivered refl (inl (refl, refl)) (h.back b));
         }
 
     abbrev After : LinkTimer → End
-    After its = with_link (link.expired its) n
+    After its = with_link (expired its) n
 
     expires-by : (timer : Timer) (its : LinkTimer) (more : Type 0) → Aims service tei timer its → (can : CanRepeat its n) (timely : two_links.IsTimely its n m)
         → (IsTrue (is_multiple_frame (After its).link.state) → more → Sure (After its) m) → Now more (acting (times_out timer) w)
@@ -139,23 +108,19 @@ module _ (service : Service) (tei : ℕ) where
         }
       where
         go : IsTrue (is_multiple_frame (After its).link.state) → A ⊎ more → Sure (After its) m
-        go up (inl a) = sure-expires n m firm wide its timely up (h.there a)
-        go up (inr x) = begins up x
+        go up o = grind (arith, sure-expires, firm, wide)
 
-    runs-there : runs_t200 service tei w.near ≡ true → is_running T200 n.link ≡ true
-    runs-there e = sym (runs-up service tei c p w.near n h.up.near.stands firm.joined.near_up) ∙ e
-
-    expires-t200 : IsTimelyOf (times_out (timers.T200 service tei)) w → Now (runs_t200 service tei w.near ≡ true) (acting (times_out (timers.T200 service tei)) w)
+    expires-t200 : IsTimelyOf (times_out (timer_T200 service tei)) w → Now (runs_t200 service tei w.near ≡ true) (acting (times_out (timer_T200 service tei)) w)
     expires-t200 (long, may) =
         let there = may-there service tei c p w.near n h.up.near.stands may in
         let none = λ (state : n.link.state ≡ TimerRecovery).
         closed n m (long-there service tei c d p q w.near w.far n m h.up.near.stands h.up.far.stands long (ap awaits_answer state)) in
-        expires-by (timers.T200 service tei) T200 (runs_t200 service tei w.near ≡ true) (λ l. refl) (λ state running. there (ap awaits_answer state) running) (λ state running. none state)
-        (λ up e. sure-begins n m firm wide (λ state running. none state) (runs-there e) up)
+        expires-by (timer_T200 service tei) T200 (runs_t200 service tei w.near ≡ true) (λ l. refl) (λ state running. there (ap awaits_answer state) running) (λ state running. none state)
+        (λ up e. sure-begins n m firm wide (λ state running. none state) (sym (runs-up service tei c p w.near n h.up.near.stands firm.joined.near_up) ∙ e) up)
 
-    expires-t203 : Now Nothing (acting (times_out (timers.T203 service tei)) w)
+    expires-t203 : Now Nothing (acting (times_out (timer_T203 service tei)) w)
     expires-t203 =
-        expires-by (timers.T203 service tei) T203 Nothing (λ l. refl)
+        expires-by (timer_T203 service tei) T203 Nothing (λ l. refl)
         (λ state running. absurd (never service tei c p past w.near n h.up.near firm.near_sane.timed state running))
         (λ state running. absurd (never service tei c p past w.near n h.up.near firm.near_sane.timed state running)) (λ up e. absurd (true≢false (sym e)))
 
@@ -170,13 +135,13 @@ module _ (service : Service) (tei : ℕ) where
       m = m;
       up = up-gives service tei c d p q face past other w n m h.up;
       there = old (λ a. sure-sends n m firm wide (h.there a));
-      back = λ b. other-sends n m firm wide (h.back b);
+      back = λ b. (sure-replied n m firm.joined.back.rising (with_sent n).link (with_sent n).way n.delivered (offer-goes n.terms n.link).r (offer-says n.terms n.link n.way) (h.back b));
     }
     sure-acts takes is kept x = record {
-      n = two_ends.with_first_of m.way n;
-      m = two_ends.with_first_lost m;
+      n = two_ends_with_first_of m.way n;
+      m = two_ends_with_first_lost m;
       up = up-takes service tei c d p q face past other w n m h.up;
-      there = old (λ a. takes-there n m firm wide m.way refl (firm-takes n m firm) (h.there a));
+      there = old (λ a. (grind (arith, (firm-takes n m firm), sure-hears)));
       back = λ b. takes-back n m firm wide m.way refl (firm-takes n m firm) (h.back b);
     }
     sure-acts loses is kept x = absurd kept
@@ -187,22 +152,12 @@ module _ (service : Service) (tei : ℕ) where
     abbrev pub Up : Type 0 → Type 0 → Wire → Type 0
     Up A B w = SureUp c d p q (confirmed service tei ∷ []) (indicated service tei ∷ []) A B w
 
-    kept-far : (act : Act) → LosesNothing (at_far act) → LosesNothing (at_near act)
-    kept-far loses h = h
-    kept-far other h = tt
-
     step : (A B : Type 0) (k : Doing) (w : Wire) → IsRoughTalk service tei k → LosesNothing k → IsTimely k w → Up A B w
         → Up (A ⊎ (near_asks service tei k w ≡ true)) (B ⊎ (far_asks service tei k w ≡ true)) (doing k w)
-    step A B (at_near act) w is kept x h =
-        sure-by c d p q (confirmed service tei ∷ []) (indicated service tei ∷ []) (A ⊎ ((is_t200 act && runs_t200 service tei w.near) ≡ true)) B _ _ (acting act w) (λ a. a) no
-        (sure-acts c d p q face (confirmed service tei ∷ []) (indicated service tei ∷ []) A B wide_c w h act is kept x)
-      where
-        no : B ⊎ (false ≡ true) → B
-        no (inl b) = b
-        no (inr e) = absurd (true≢false (sym e))
+    step A B (at_near act) w is kept x h = grind (arith, sure-by, sure-acts)
     step A B (at_far act) w is kept x h =
         let v = turned w in
-        let h' = sure-acts d c q p back (indicated service tei ∷ []) (confirmed service tei ∷ []) B A wide_d v (sure-turned c d p q (confirmed service tei ∷ []) (indicated service tei ∷ []) A B w h) act is (kept-far act kept) x.0 in
+        let h' = sure-acts d c q p back (indicated service tei ∷ []) (confirmed service tei ∷ []) B A wide_d v (sure-turned c d p q (confirmed service tei ∷ []) (indicated service tei ∷ []) A B w h) act is (grind arith) x.0 in
         sure-by c d p q (confirmed service tei ∷ []) (indicated service tei ∷ []) A (B ⊎ ((is_t200 act && runs_t200 service tei w.far) ≡ true)) _ _ (turned (acting act v)) no (λ b. b)
         (sure-turned d c q p (indicated service tei ∷ []) (confirmed service tei ∷ []) (B ⊎ ((is_t200 act && runs_t200 service tei w.far) ≡ true)) A (acting act v) h')
       where
@@ -218,11 +173,7 @@ module _ (service : Service) (tei : ℕ) where
     pub sure-runs : (A B : Type 0) (ds : List Doing) (w : Wire) → All (IsRoughTalk service tei) ds → All LosesNothing ds → StayTimely ds w → Up A B w
         → Up (A ⊎ (ever (near_asks service tei) ds w ≡ true)) (B ⊎ (ever (far_asks service tei) ds w ≡ true)) (doing_all ds w)
     unfolding doing_all StayTimely ever
-    sure-runs A B [] w all kept x h = sure-by c d p q (confirmed service tei ∷ []) (indicated service tei ∷ []) A B _ _ w (no A) (no B) h
-      where
-        no : (X : Type 0) → X ⊎ (false ≡ true) → X
-        no X (inl a) = a
-        no X (inr e) = absurd (true≢false (sym e))
+    sure-runs A B [] w all kept x h = grind (arith, sure-by)
     sure-runs A B (k ∷ ds) w all kept x h =
         let asks = near_asks service tei k w in
         let asks' = far_asks service tei k w in
@@ -240,9 +191,6 @@ module _ (service : Service) (tei : ℕ) where
     far-hushed : IsHushed service tei m
     far-hushed = hushed service tei d q other w.far m h.far still.far still.far_way
 
-    near-quiet : HasNothingToSend n.terms n.link
-    near-quiet = nothing-given n.terms n.link near-hushed.given
-
     abbrev HasHeard : Type 0
     HasHeard = heard_in w.far ≡ other ++ map (data_told service tei) w.near.granted
 
@@ -250,6 +198,6 @@ module _ (service : Service) (tei : ℕ) where
     told-all e = h.far.heard ∙ ap (λ xs. other ++ map (data_told service tei) xs) (e ∙ sym h.near.granted)
 
     pub has-come : Sure n m ⊎ (runs_t200 service tei w.near ≡ false) → HasHeard
-    has-come (inl s) = told-all (sure-came n m h.firm near-quiet near-hushed.way (nothing-given m.terms m.link far-hushed.given) far-hushed.way s)
+    has-come (inl s) = told-all (sure-came n m h.firm (nothing-given n.terms n.link near-hushed.given) near-hushed.way (nothing-given m.terms m.link far-hushed.given) far-hushed.way s)
     has-come (inr none) =
-        told-all (loose-came n m (as-loose n m h.firm) near-quiet (sym (runs-up service tei c p w.near n h.near.stands h.firm.joined.near_up) ∙ none)).delivered
+        told-all (loose-came n m (as-loose n m h.firm) (nothing-given n.terms n.link near-hushed.given) (sym (runs-up service tei c p w.near n h.near.stands h.firm.joined.near_up) ∙ none)).delivered

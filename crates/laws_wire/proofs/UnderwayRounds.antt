@@ -1,8 +1,8 @@
 -- Turns, in any order or in rounds, lead to where all has arrived whose T200 has expired.
-use Rattle.laws_wire.proofs.Vocabulary.{◌≡◌, ℕ, zero, suc, ◌+◌, ◌*◌, ◌<◌, ◌≤◌, Bool, true, false, ◌||◌, List, [], ◌∷◌, ◌++◌, refl, sym, ap, subst, ◌∙◌, ◌⊎◌, inl, inr, arith, nat_lt, ltb-true, ltb-false, true≢false, flat_map, All, All-nil, All-cons, All-append, Service, Config, LineTold, terms, flat_map-append, Station, Wire, gives, takes, Doing, at_near, at_far, acting, turned, doing, doing_all, IsStill, calling, CanCall, granted_of, for_layer_3, heard_in, HasNoError, IsRoughTalk, rounds, HasNoErrors, moves, expiries, most_frames, StayTimely, LosesNothing, near_asks, far_asks, ever, HasCome, GoesOn, GivesOrTakes, most_left, ArrivesInRounds, ArrivesInTurns}
+use Rattle.laws_wire.proofs.Vocabulary.{◌≡◌, ℕ, zero, suc, ◌+◌, ◌*◌, ◌<◌, ◌≤◌, Bool, true, false, ◌||◌, List, [], ◌∷◌, ◌++◌, refl, sym, ap, subst, ◌∙◌, ◌⊎◌, inl, inr, arith, nat_lt, ltb-true, ltb-false, true≢false, flat_map, All, All-nil, All-cons, All-append, Service, Config, LineTold, terms, flat_map-append, Station, Wire, gives, takes, Doing, at_near, at_far, acting, turned, doing, doing_all, IsStill, calling, CanCall, granted_of, for_layer_3, heard_in, HasNoError, IsRoughTalk, rounds, HasNoErrors, moves, expiries, most_frames, StayTimely, LosesNothing, near_asks, far_asks, ever, HasCome, GoesOn, GivesOrTakes, most_left, ArrivesInRounds, ArrivesInTurns, append-nil}
 use Rattle.laws_wire.proofs.LeftToDo.{weighs-left}
 use Rattle.laws_wire.proofs.LossyPhases.{IsUp, Goes as Phases}
-use Rattle.laws_wire.proofs.LossyRun.{More, near-more, far-more, Setting, setting, fair-goes}
+use Rattle.laws_wire.proofs.LossyRun.{More, near-more, Setting, setting, fair-goes}
 use Rattle.laws_wire.proofs.RestedRounds.{doing-append, many, many-rounds, finds}
 use Rattle.laws_wire.proofs.RestedRun.{from-up, twice}
 use Rattle.laws_wire.proofs.Turning.{turns-fair, few-turns, all-of_link, all-lose_none, behind-timely, no-expiries, no-grants, are-moves}
@@ -24,8 +24,7 @@ both-timely (d ∷ ds) es w h g = (h.0, both-timely ds es (doing d w) h.1 g)
 
 -- what was so at some time was so at some time of more
 or-first : (b x y : Bool) → (x ≡ true → y ≡ true) → (b || x) ≡ true → (b || y) ≡ true
-or-first true x y h e = refl
-or-first false x y h e = h e
+or-first b x y h e = grind arith
 
 ever-append : (asks : Doing → Wire → Bool) (ds es : List Doing) (w : Wire) → ever asks ds w ≡ true → ever asks (ds ++ es) w ≡ true
 unfolding ever
@@ -36,12 +35,10 @@ come-sooner : (service : Service) (tei : ℕ) (since es : List Doing) (w last : 
 come-sooner service tei since es w last h = record { near = λ x. h.near (near x); far = λ x. h.far (far x) }
   where
     near : {A : Type 0} → (ever (near_asks service tei) since w ≡ true) ⊎ A → (ever (near_asks service tei) (since ++ es) w ≡ true) ⊎ A
-    near (inl e) = inl (ever-append (near_asks service tei) since es w e)
-    near (inr a) = inr a
+    near o = grind (arith, ever-append)
 
     far : {A : Type 0} → (ever (far_asks service tei) since w ≡ true) ⊎ A → (ever (far_asks service tei) (since ++ es) w ≡ true) ⊎ A
-    far (inl e) = inl (ever-append (far_asks service tei) since es w e)
-    far (inr a) = inr a
+    far o = grind (arith, ever-append)
 
 -- ---- what was told stays told
 
@@ -56,7 +53,7 @@ pub told-still : (ds : List Doing) (w : Wire) → (heard_in w.near ≡ [] → �
 unfolding doing_all
 told-still [] w h = h
 told-still (at_near act ∷ ds) w h = told-still ds (acting act w) (λ e. h (none-before w.near (acting act w).near (near-more act w) e))
-told-still (at_far act ∷ ds) w h = told-still ds (turned (acting act (turned w))) (λ e. h (none-before w.near (acting act (turned w)).far (far-more act (turned w)) e))
+told-still (at_far act ∷ ds) w h = told-still ds (turned (acting act (turned w))) (λ e. h (none-before w.near (acting act (turned w)).far (grind (arith, append-nil)) e))
 
 -- ---- so many turns there are
 
@@ -86,25 +83,20 @@ module _ (service : Service) (c d : Config) (line other tei k : ℕ) (before sin
     whole : All (IsRoughTalk service tei) (before ++ since)
     whole = All-append (IsRoughTalk service tei) before since talk on.1
 
-    in-time : StayTimely (before ++ since) begun
-    in-time = both-timely before since begun timely on.3
-
     told : heard_in last.near ≡ [] → ⊥
     told = told-still since w on.0
 
     module _ (es : List Doing) (all : All GivesOrTakes es) where
       fair : HasNoErrors (doing_all es last)
-      fair = subst (λ v. HasNoErrors (doing_all es v)) same (turns-fair service c d line other tei k (before ++ since) es can whole all in-time)
+      fair = subst (λ v. HasNoErrors (doing_all es v)) same (turns-fair service c d line other tei k (before ++ since) es can whole all (both-timely before since begun timely on.3))
 
       pub by-call : moves es last ≤ 2 * most_frames k (expiries (before ++ since)) (granted_of last)
       by-call =
           subst (λ v. moves es v ≤ 2 * most_frames k (expiries (before ++ since)) (granted_of v)) same
-          (few-turns service c d line other tei k (before ++ since) es can whole all wide wide' in-time)
+          (few-turns service c d line other tei k (before ++ since) es can whole all wide wide' (both-timely before since begun timely on.3))
 
       pub by-left : HasNoErrors last → moves es last ≤ most_left service tei k last
-      by-left fair-now =
-          go (subst (Phases service tei c d 0 0) same
-          (fair-goes service c d line other tei (before ++ since) can whole (subst (λ (v : Wire). HasNoError v.near) (sym same) fair-now.0) (subst (λ (v : Wire). HasNoError v.far) (sym same) fair-now.1)))
+      by-left fair-now = grind (arith, go, same, fair-goes, whole)
         where
           x : Setting service c d line other tei
           x = setting service c d line other tei can
@@ -161,10 +153,9 @@ module _ (service : Service) (c d : Config) (line other tei k : ℕ) (before sin
 
 pub arrives-in-rounds : ArrivesInRounds
 arrives-in-rounds service c d line other tei k before since (can, three, three', talk, timely, on) wide wide' =
-    let last = doing_all since (doing_all before (calling service tei c line d other)) in
     let x = rests service c d line other tei k before since can wide wide' talk timely on in
     let n = x.0 in
-    let there = many-rounds n last in (
+    let there = many-rounds n (doing_all since (doing_all before (calling service tei c line d other))) in (
       n,
       x.1.0,
       x.1.1,

@@ -1,5 +1,5 @@
 -- A call from nothing, in which nothing is lost any more from some time on.
-use Rattle.laws_wire.proofs.Vocabulary.{◌≡◌, ℕ, true, false, [], ◌∷◌, ◌⊎◌, inl, inr, ◌≢◌, Service, Config, Wire, turned, doing_all, IsStill, calling, confirmed, indicated, all_told, heard_in, runs_t200, near_asks, far_asks, ever, ArrivesUnderTraffic}
+use Rattle.laws_wire.proofs.Vocabulary.{arith, ◌≡◌, ℕ, true, false, [], ◌∷◌, ◌⊎◌, inl, inr, ◌≢◌, Service, Config, Wire, turned, doing_all, IsStill, calling, confirmed, indicated, all_told, heard_in, runs_t200, near_asks, far_asks, ever, ArrivesUnderTraffic}
 use Rattle.laws_wire.proofs.TimelyPhases.{Goes}
 use Rattle.laws_wire.proofs.LossyRun.{setting}
 use Rattle.laws_wire.proofs.TimelyRun.{starts, runs}
@@ -10,11 +10,7 @@ module _ (service : Service) (tei : ℕ) (c d : Config) (p q : ℕ) where
   -- once the end that called was told anything, both are up
   are-up : (w : Wire) → Goes service tei c d p q w → heard_in w.near ≢ [] → AreUp service tei c d p q (confirmed service tei ∷ []) (indicated service tei ∷ []) w
   are-up w (inl h) told = absurd (told h.near.heard)
-  are-up w (inr (inl h)) told = absurd (told h.near.heard)
-  are-up w (inr (inr (inl h))) told = absurd (told h.near.heard)
-  are-up w (inr (inr (inr (inl h)))) told = absurd (told h.is.near.heard)
-  are-up w (inr (inr (inr (inr (inl h))))) told = absurd (told h.is.near.heard)
-  are-up w (inr (inr (inr (inr (inr h))))) told = h
+  are-up w o told = grind arith
 
   abbrev Up : Type 0 → Type 0 → Wire → Type 0
   Up A B w = SureUp service tei c d p q (confirmed service tei ∷ []) (indicated service tei ∷ []) A B w
@@ -48,8 +44,7 @@ pub arrives-under-traffic : ArrivesUnderTraffic
 arrives-under-traffic service c d line other tei before since (can, wide_c, wide_d, talk, timely, on) = λ still.
     let x = setting service c d line other tei can in
     let w = doing_all before (calling service tei c line d other) in
-    let last = doing_all since w in
     let up = are-up service tei c d 0 0 w (runs service tei c d 0 0 x.face x.back x.near x.far before talk (calling service tei c line d other) timely (starts service c d line other tei x)) on.0 in
     let h = sure-runs service tei c d 0 0 x.face x.back wide_c wide_d ⊥ ⊥ since w on.1 on.2 on.3 (begins service tei c d 0 0 w up) in
-    let both = comes service tei c d 0 0 (ever (near_asks service tei) since w ≡ true) (ever (far_asks service tei) since w ≡ true) last h still in
+    let both = comes service tei c d 0 0 (ever (near_asks service tei) since w ≡ true) (ever (far_asks service tei) since w ≡ true) (doing_all since w) h still in
     record { near = both.0; far = both.1 }

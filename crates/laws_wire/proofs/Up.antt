@@ -1,7 +1,5 @@
 -- Two stations whose links are up: each turn lowers their weight, and each request that is granted raises it by four.
-use Rattle.laws_wire.proofs.Vocabulary.{◌≡◌, ℕ, ◌+◌, ◌*◌, ◌≤◌, false, List, [], ◌∷◌, ◌++◌, length, map, drop, Option, Some, None, refl, sym, ap, subst, ◌∙◌, ◌⊎◌, inl, inr, append-nil, length-append, arith, All, if◌then◌else◌, All-head, All-tail, Service, Parts, spelling, Terms, Link, given, Given, End, Ends, with_link, with_sent, frame_given, Config, Request, request, next, weight_at, HasNothingToSend, takes-first, Pair, nothing-given, nothing-to_send, silent-stays, refusal, Data, Station, Wire, happens, frames_by, with_first_of, with_first_lost, Act, requests, gives, takes, Doing, at_near, at_far, acting, turned, doing, doing_all, is_any, is_turn_of, is_turn, turns, answered, comes, IsTalkOf, IsTalk}
-use Rattle.model_link.specs.Events as link
-use Rattle.model_link.specs.TwoEnds as two_ends
+use Rattle.laws_wire.proofs.Vocabulary.{◌≡◌, ℕ, ◌+◌, ◌*◌, ◌≤◌, false, List, [], ◌∷◌, ◌++◌, length, map, drop, Option, Some, None, refl, sym, ap, subst, ◌∙◌, ◌⊎◌, inl, inr, append-nil, length-append, arith, All, if◌then◌else◌, All-head, All-tail, Service, Parts, spelling, Terms, Link, given, Given, End, Ends, with_link, with_sent, frame_given, Config, Request, request, next, weight_at, HasNothingToSend, takes-first, Pair, nothing-given, nothing-to_send, silent-stays, refusal, Data, Station, Wire, happens, frames_by, with_first_of, with_first_lost, Act, requests, gives, takes, Doing, at_near, at_far, acting, turned, doing, doing_all, is_any, is_turn_of, is_turn, turns, answered, comes, IsTalkOf, IsTalk, received, LinkData, frame, two_ends_with_first_of, two_ends_with_first_lost}
 use Rattle.laws_link.proofs.OfTwo.AnyOrder as any_order
 use Rattle.laws_wire.proofs.Answered.{gives-granted, takes-granted}
 use Rattle.laws_wire.proofs.Asking.{with_more, asked-form, asks-more, Asked}
@@ -35,28 +33,16 @@ pub record Gives (n m : End) (b : ℕ) : Type 0 where
   pub price : b + weight_at (with_sent n) ≤ weight_at n
   pub kept : (with_sent n).link.contents ≡ n.link.contents
 
-no-price : (b w w' : ℕ) → b ≡ 0 → w' ≡ w → b + w' ≤ w
-no-price b w w' e e' = omega (arith, e, e')
-
-one-price : (b w w' : ℕ) → b ≡ 1 → w' + 1 ≤ w → b + w' ≤ w
-one-price b w w' e h = omega (arith, e, h)
-
 pub end-gives : (f : Parts → List ℕ) (n m : End) → Pair (pair_of n m) → Gives n m (turn_of (map f (frame_given n.terms (given n.terms n.link))))
 end-gives f n m h = go (given n.terms n.link) refl
   where
     go : (o : Option Given) → given n.terms n.link ≡ o → Gives n m (turn_of (map f (frame_given n.terms (given n.terms n.link))))
-    go None is =
-        let same = stays n is in
-        record {
-          pair = subst (λ x. Pair (pair_of x m)) (sym same) h;
-          price = no-price _ (weight_at n) (weight_at (with_sent n)) (ap (λ o. turn_of (map f (frame_given n.terms o))) is) (ap weight_at same);
-          kept = ap (λ (x : End). x.link.contents) same;
-        }
+    go None is = grind (arith, stays)
     go (Some g) is =
         let x = any_order.gives n m h.near h.there h.back (some-given n.terms n.link g is) in
         record {
           pair = record { near = x.steady; far = h.far; there = x.there; back = x.back };
-          price = one-price _ (weight_at n) (weight_at (with_sent n)) (ap (λ o. turn_of (map f (frame_given n.terms o))) is) x.lighter;
+          price = (omega (arith, (ap (λ o. turn_of (map f (frame_given n.terms o))) is), x.lighter));
           kept = x.kept;
         }
 
@@ -71,33 +57,17 @@ pub record MorePair (octets : List ℕ) (n m : End) : Type 0 where
   pub pair : Pair (pair_of (with_more octets n) m)
   pub heavier : weight_at (with_more octets n) ≡ weight_at n + 4
 
-pub more-pair : (octets : List ℕ) (n m : End) → Pair (pair_of n m) → length octets ≤ m.terms.n201 → refusal n.terms n.link false (link.Data octets) ≡ None → MorePair octets n m
+pub more-pair : (octets : List ℕ) (n m : End) → Pair (pair_of n m) → length octets ≤ m.terms.n201 → refusal n.terms n.link false (LinkData octets) ≡ None → MorePair octets n m
 more-pair octets n m h small none =
     let y : Asked octets n m (with_more octets n) =
     subst (Asked octets n m) (asked-form octets n none) (asks-more octets n m h.near h.there h.back small none) in
     record { pair = record { near = y.steady; far = h.far; there = y.there; back = y.back }; heavier = y.heavier }
-
--- prices of what is done
-price-turn : (b x y w w' g g' h : ℕ) → b + x ≤ w → g' ≡ g → b + (x + y) + 4 * (g + h) ≤ (w + y) + 4 * (g' + h)
-price-turn b x y w w' g g' h p e = omega (arith, p, e)
-
-price-both : (b x y x' y' g g' h : ℕ) → b ≡ 1 → (y' + x') + 1 ≤ y + x → g' ≡ g → b + (x' + y') + 4 * (g + h) ≤ (x + y) + 4 * (g' + h)
-price-both b x y x' y' g g' h e p same = omega (arith, e, p, same)
-
-price-none : (b x y g h : ℕ) → b ≡ 0 → b + (x + y) + 4 * (g + h) ≤ (x + y) + 4 * (g + h)
-price-none b x y g h e = omega (arith, e)
-
-price-more : (x x' y g g' h : ℕ) → x' ≡ x + 4 → g' ≡ g + 1 → 0 + (x' + y) + 4 * (g + h) ≤ (x + y) + 4 * (g' + h)
-price-more x x' y g g' h e more = omega (arith, e, more)
 
 module _ (service : Service) (tei : ℕ) where
   pub record Talk (c d : Config) (p q : ℕ) (first second : Past) (w : Wire) (n m : End) : Type 0 where
     pub near : Holds c service tei p first w.near n
     pub far : Holds d service tei q second w.far m
     pub pair : Pair (pair_of n m)
-
-  pub turned-talk : (c d : Config) (p q : ℕ) (first second : Past) (w : Wire) (n m : End) → Talk c d p q first second w n m → Talk d c q p second first (turned w) m n
-  turned-talk c d p q first second w n m h = record { near = h.far; far = h.near; pair = turned-pair n m h.pair }
 
   module _ (c d : Config) (p q : ℕ) (face : Face c d) (back : Face d c) (first second : Past) where
     -- what comes of it, and what it costs
@@ -119,30 +89,18 @@ module _ (service : Service) (tei : ℕ) where
             m' = m;
             talk = record { near = holds-given service tei p first c w.near n h.near x.kept; far = h.far; pair = x.pair };
             price =
-                price-turn _ (weight_at (with_sent n)) (weight_at m) (weight_at n) 0 (length w.near.granted) _ (length w.far.granted)
-                (subst (λ b. b + weight_at (with_sent n) ≤ weight_at n) (sym turn-is) x.price) (ap length (gives-granted w.near));
+                (omega (arith, (subst (λ b. b + weight_at (with_sent n) ≤ weight_at n) (sym turn-is) x.price), (ap length (gives-granted w.near))));
           }
 
       -- nothing is on its way
-      none-lost : (m' : End) → m'.way ≡ [] → two_ends.with_first_lost m' ≡ m'
+      none-lost : (m' : End) → m'.way ≡ [] → two_ends_with_first_lost m' ≡ m'
       none-lost m' e = λ i. record m' { way = (ap (drop 1) e ∙ sym e) i }
 
       takes-none : m.way ≡ [] → Acted w (acting takes w) n m (turn_of w.far.way)
       takes-none e =
           let empty : w.far.way ≡ [] = h.far.stands.way ∙ ap (map (spelling d.side)) e in
           let same : with_first_of w.far.way w.near ≡ w.near = ap (λ way. with_first_of way w.near) empty in
-          record {
-            n' = n;
-            m' = m;
-            talk = record {
-              near = subst (λ s. Holds c service tei p first s n) (sym same) h.near;
-              far = subst (Holds d service tei q second (with_first_lost w.far)) (none-lost m e) (holds-lost service tei q second d w.far m h.far);
-              pair = h.pair;
-            };
-            price =
-                subst (λ s. turn_of w.far.way + (weight_at n + weight_at m) + 4 * granted_of w ≤ (weight_at n + weight_at m) + 4 * (length s.granted + length w.far.granted)) (sym same)
-                (price-none (turn_of w.far.way) (weight_at n) (weight_at m) (length w.near.granted) (length w.far.granted) (ap turn_of empty));
-          }
+          grind (arith, none-lost, holds-lost)
 
       takes-some : (f : Parts) (fs : List Parts) → m.way ≡ f ∷ fs → Acted w (acting takes w) n m (turn_of w.far.way)
       takes-some f fs e =
@@ -150,13 +108,13 @@ module _ (service : Service) (tei : ℕ) where
           let same : with_first_of w.far.way w.near ≡ comes (spelling d.side f) w.near = ap (λ way. with_first_of way w.near) way in
           let there : 1 ≤ length m.way = subst (λ fs'. 1 ≤ length fs') (sym e) (omega arith) in
           let x = takes-first m n h.pair.far h.pair.near h.pair.back h.pair.there there in
-          let n' = with_link (link.received (link.frame f)) n in
-          let is : two_ends.with_first_of m.way n ≡ n' = ap (λ way. two_ends.with_first_of way n) e in
+          let n' = with_link (received (frame f)) n in
+          let is : two_ends_with_first_of m.way n ≡ n' = ap (λ way. two_ends_with_first_of way n) e in
           let taken : any_order.Took m n (record m { way = drop 1 m.way }) n' = subst (any_order.Took m n (record m { way = drop 1 m.way })) is x in
           let from : IsCarried d service tei f = All-head (IsCarried d service tei) f fs (subst (All (IsCarried d service tei)) e h.far.stands.carried) in
           record {
             n' = n';
-            m' = two_ends.with_first_lost m;
+            m' = two_ends_with_first_lost m;
             talk = record {
               near =
                   subst (λ s. Holds c service tei p first s n') (sym same)
@@ -165,9 +123,8 @@ module _ (service : Service) (tei : ℕ) where
               pair = record { near = taken.taker; far = taken.giver; there = taken.back; back = taken.there };
             };
             price =
-                subst (λ s. turn_of w.far.way + (weight_at n' + weight_at (two_ends.with_first_lost m)) + 4 * granted_of w ≤ (weight_at n + weight_at m) + 4 * (length s.granted + length w.far.granted)) (sym same)
-                (price-both (turn_of w.far.way) (weight_at n) (weight_at m) (weight_at n') (weight_at (two_ends.with_first_lost m)) (length w.near.granted) _ (length w.far.granted)
-                (ap turn_of way) taken.lighter (ap length (takes-granted (spelling d.side f) w.near)));
+                subst (λ s. turn_of w.far.way + (weight_at n' + weight_at (two_ends_with_first_lost m)) + 4 * granted_of w ≤ (weight_at n + weight_at m) + 4 * (length s.granted + length w.far.granted)) (sym same)
+                (omega (arith, (ap turn_of way), taken.lighter, (ap length (takes-granted (spelling d.side f) w.near))));
           }
 
       acts-takes : Acted w (acting takes w) n m (turn_of w.far.way)
@@ -184,14 +141,7 @@ module _ (service : Service) (tei : ℕ) where
           s' = happens (request (Data service tei octets)) w.near
 
           go : (s' ≡ w.near) ⊎ More service tei p first c w.near s' n octets → Acted w (record w { near = s' }) n m 0
-          go (inl same) = record {
-            n' = n;
-            m' = m;
-            talk = record { near = subst (λ s. Holds c service tei p first s n) (sym same) h.near; far = h.far; pair = h.pair };
-            price =
-                subst (λ s. 0 + (weight_at n + weight_at m) + 4 * granted_of w ≤ (weight_at n + weight_at m) + 4 * (length s.granted + length w.far.granted)) (sym same)
-                (price-none 0 (weight_at n) (weight_at m) (length w.near.granted) (length w.far.granted) refl);
-          }
+          go (inl same) = grind arith
           go (inr x) =
               let own : n.terms.n201 ≡ m.terms.n201 = ap (λ t. t.n201) h.near.stands.terms ∙ face.n201 ∙ ap (λ t. t.n201) (sym h.far.stands.terms) in
               let small : length octets ≤ m.terms.n201 = subst (λ k. length octets ≤ k) own (fits service tei p first n.terms n.link octets x.none) in
@@ -201,21 +151,16 @@ module _ (service : Service) (tei : ℕ) where
                 m' = m;
                 talk = record { near = x.holds; far = h.far; pair = y.pair };
                 price =
-                    price-more (weight_at n) (weight_at (with_more octets n)) (weight_at m) (length w.near.granted) (length s'.granted) (length w.far.granted) y.heavier
-                    (ap length x.granted ∙ one-longer w.near.granted octets);
+                    (omega (arith, y.heavier, (ap length x.granted ∙ one-longer w.near.granted octets)));
               }
 
       acts-request : (r : Request) → IsTalkOf service tei (requests r) → Acted w (acting (requests r) w) n m 0
-      acts-request (Data s t octets) is =
-          subst (λ s'. Acted w (acting (requests (Data s' t octets)) w) n m 0) (sym is.0)
-          (subst (λ t'. Acted w (acting (requests (Data service t' octets)) w) n m 0) (sym is.1) (acts-asks octets))
+      acts-request (Data s t octets) is = grind (arith, acts-asks)
       acts-request other is = absurd is
 
       pub acts : (act : Act) → IsTalkOf service tei act → Acted w (acting act w) n m (if is_turn_of act w then 1 else 0)
       acts (requests r) is = acts-request r is
-      acts gives is = acts-gives
-      acts takes is = acts-takes
-      acts other is = absurd is
+      acts act is = grind (arith, acts-gives, acts-takes)
 
   swapped : (b x y x' y' g h g' h' : ℕ) → b + (y' + x') + 4 * (h + g) ≤ (y + x) + 4 * (h' + g') → b + (x' + y') + 4 * (g + h) ≤ (x + y) + 4 * (g' + h')
   swapped b x y x' y' g h g' h' p = omega (arith, p)
@@ -226,11 +171,11 @@ module _ (service : Service) (tei : ℕ) where
   does c d p q face back first second (at_near act) is w n m h = acts c d p q face back first second w n m h act is
   does c d p q face back first second (at_far act) is w n m h =
       let w' = acting act (turned w) in
-      let x = acts d c q p back face second first (turned w) m n (turned-talk c d p q first second w n m h) act is in
+      let x = acts d c q p back face second first (turned w) m n (record { near = h.far; far = h.near; pair = turned-pair n m h.pair }) act is in
       record {
         n' = x.m';
         m' = x.n';
-        talk = turned-talk d c q p second first w' x.n' x.m' x.talk;
+        talk = (record { near = x.talk.far; far = x.talk.near; pair = turned-pair x.n' x.m' x.talk.pair });
         price =
             swapped (if is_turn_of act (turned w) then 1 else 0) (weight_at n) (weight_at m) (weight_at x.m') (weight_at x.n') (length w.near.granted) (length w.far.granted)
             (length w'.far.granted) (length w'.near.granted) x.price;
@@ -247,11 +192,4 @@ module _ (service : Service) (tei : ℕ) where
   talks c d p q face back first second (k ∷ ds) all w n m h =
       let one = does c d p q face back first second k (All-head (IsTalk service tei) k ds all) w n m h in
       let rest = talks c d p q face back first second ds (All-tail (IsTalk service tei) k ds all) (doing k w) one.n' one.m' one.talk in
-      record {
-        n' = rest.n';
-        m' = rest.m';
-        talk = rest.talk;
-        price =
-            joined (if is_turn k w then 1 else 0) (turns ds (doing k w)) (weight_at n + weight_at m) (weight_at one.n' + weight_at one.m') (weight_at rest.n' + weight_at rest.m')
-            (granted_of w) (granted_of (doing k w)) (granted_of (doing_all ds (doing k w))) one.price rest.price;
-      }
+      grind (arith, joined)

@@ -21,9 +21,6 @@ module _ (service : Service) (tei : ℕ) (c : Config) where
   spelled-same other any h g e = absurd (cc)
 
   module _ (place : ℕ) (s : Station) (n n' : End) (h : Stands c service tei place s n) (g : Stands c service tei place s n') where
-    pub same-link : n.link ≡ n'.link
-    same-link = sym h.speaks.link ∙ g.speaks.link
-
     pub same-way : n.way ≡ n'.way
     same-way = spelled-same n.way n'.way h.carried g.carried (sym h.way ∙ g.way)
 
@@ -52,11 +49,8 @@ fell-turned v moved expired more n m n' m' h = grind (arith, swapped, load, load
 -- ---- what becomes of the weight of one end, while the other stays
 
 -- a product grows with what is accepted, and falls with what is delivered
-pub times-suc : (d x : ℕ) → d * (x + 1) ≡ d * x + d
-times-suc d x = omega arith
-
 pub accepts-more : (d len r : ℕ) → r ≤ len → d * (len + 1 - r) ≡ d * (len - r) + d
-accepts-more d len r low = let e : len + 1 - r ≡ (len - r) + 1 = omega (arith, low) in ap (λ x. d * x) e ∙ times-suc d (len - r)
+accepts-more d len r low = let e : len + 1 - r ≡ (len - r) + 1 = omega (arith, low) in ap (λ x. d * x) e ∙ (omega arith)
 
 sum : (a b c d : ℕ) → a ≡ c → b ≡ d → a + b ≡ c + d + 0
 sum a b c d e f = omega (arith, e, f)
@@ -74,4 +68,4 @@ module _ (v : ℕ) (n m n' m' : End) (same : n'.link.contents ≡ n.link.content
 
   -- one contents are delivered
   pub delivers : n'.link.r ≡ n.link.r + 1 → n'.link.r ≤ length m.link.contents → 1 + its n' + its m' ≤ its n + its m + (v + 4) → Fell v 1 0 0 n m n' m'
-  delivers e low less = grind (arith, sum, times-suc)
+  delivers e low less = grind (arith, sum)

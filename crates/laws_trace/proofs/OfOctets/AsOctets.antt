@@ -12,16 +12,13 @@ sent side a c info sapi tei =
 abbrev parts_sent : Parts → Parts
 parts_sent parts = record parts { info = as_octets parts.info }
 
-still_spells : (side : Side) (parts : Parts) (octets : List ℕ) → Spells side parts octets → Spells side (parts_sent parts) (as_octets octets)
-still_spells side parts octets h = grind (arith, as_many, sent)
-
 pub still_spelled : (c : Config) (octets : List ℕ) → IsSpelled c octets → IsSpelled c (as_octets octets)
-still_spelled c octets (parts, spells, served) = (parts_sent parts, still_spells c.side parts octets spells, served)
+still_spelled c octets (parts, spells, served) = (parts_sent parts, (grind (arith, as_many, sent)), served)
 
 -- It is unit data exactly where it was.
 same_kind : (c : Config) (octets : List ℕ) → IsSpelled c octets → is_unit c.side (as_octets octets) ≡ is_unit c.side octets
 same_kind c octets (parts, spells, served) =
-    ap carries_unit (reading-again c.side (parts_sent parts) (as_octets octets) (still_spells c.side parts octets spells))
+    ap carries_unit (reading-again c.side (parts_sent parts) (as_octets octets) (grind (arith, as_many, sent)))
     ∙ sym (ap carries_unit (reading-again c.side parts octets spells))
 
 one_more : (c : Config) (frame : List ℕ) → is_unit c.side (as_octets frame) ≡ is_unit c.side frame → (more kept : List (List ℕ)) → more ≡ map as_octets kept

@@ -1,8 +1,6 @@
 -- What a receiver hears of a line are frames, and in the end all of them: the laws.
-use Rattle.laws_trace.proofs.Vocabulary.{arith, ◌≡◌, ℕ, ◌<◌, List, [], ◌∷◌, map, subst, All, All-nil, All-cons, All-head, All-tail, Config, IsInRange, all-left, as_octets, octets_given, frames_to_hear, OfEachLine, meant_all, refines, given_frames_are_heard, heard_frames_are_octets, IsSpelled, Seen, trace_of, frames_begun, ports_fresh as fresh, PortsEvent as Event, PortsAreAtLines as AreAtLines}
-use Rattle.model_bits.specs.Stream as stream
+use Rattle.laws_trace.proofs.Vocabulary.{arith, ◌≡◌, ℕ, ◌<◌, List, [], ◌∷◌, map, subst, All, All-nil, All-cons, All-head, All-tail, Config, IsInRange, all-left, as_octets, octets_given, frames_to_hear, OfEachLine, meant_all, refines, given_frames_are_heard, heard_frames_are_octets, IsSpelled, Seen, trace_of, frames_begun, ports_fresh as fresh, PortsEvent as Event, PortsAreAtLines as AreAtLines, stream_heard_in, stream_frame, CardEvent}
 use Rattle.model_card.specs.Card as cards
-use Rattle.model_card.specs.Event as frames
 use Rattle.model_card.specs.Run as runs
 use Rattle.laws_trace.proofs.OctetsBegin.{frames-are-octets}
 use Rattle.laws_trace.proofs.Spelled.{frames-are-read}
@@ -11,14 +9,14 @@ use Rattle.laws_trace.proofs.OfOctets.AsOctets.{still_spelled}
 use Rattle.laws_trace.proofs.OfOctets.Emptied.{before_none, latest_gave_none}
 use Rattle.laws_trace.proofs.OfOctets.Seen.{begun_given, requests_are, trace_hears, gives}
 
-all_readable : (c : Config) (given : List (List ℕ)) → All (IsSpelled c) given → All (IsReadable c) (map stream.frame (map as_octets given))
+all_readable : (c : Config) (given : List (List ℕ)) → All (IsSpelled c) given → All (IsReadable c) (map stream_frame (map as_octets given))
 all_readable c [] h = All-nil (IsReadable c)
 all_readable c (octets ∷ given) h =
-    All-cons (IsReadable c) (stream.frame (as_octets octets)) (map stream.frame (map as_octets given))
+    All-cons (IsReadable c) (stream_frame (as_octets octets)) (map stream_frame (map as_octets given))
     (still_spelled c octets (All-head (IsSpelled c) octets given h)) (all_readable c given (All-tail (IsSpelled c) octets given h))
 
 module _ (c : Config) (events : List Event) (number : ℕ) (ranged : IsInRange c) (all : AreAtLines (fresh c) events) (within : number < c.lines) where
-  abbrev pub meaning : List frames.Event
+  abbrev pub meaning : List CardEvent
   meaning = meant_all (fresh c) events
 
   abbrev pub t : List Seen
@@ -36,7 +34,7 @@ module _ (c : Config) (events : List Event) (number : ℕ) (ranged : IsInRange c
   pub readable : OnlyFramesAreHeard c events number
   readable =
       let out = given_frames_are_heard.so_far c events number ranged all within in
-      all-left (IsReadable c) (stream.heard_in c.n201 (octets_given c events number)) (map stream.frame out.on_its_way)
+      all-left (IsReadable c) (stream_heard_in c.n201 (octets_given c events number)) (map stream_frame out.on_its_way)
       (subst (All (IsReadable c)) out.heard (all_readable c (frames_to_hear c events number) spelled))
 
   pub are_octets : GivenAreOctets c events number

@@ -14,6 +14,4 @@ pub latest-is-begun : OfEachLine LatestIsBegun
 latest-is-begun c events number ranged all within =
     let inside : number < length (fresh c).ports = omega (arith, within, length-replicate c.lines fresh_port) in
     let goes = run_goes_on (fresh c) events number inside in
-    ap (λ items. head_of (latest_frame items)) (goes.put ∙ ap (λ (p : Port). p.items ++ goes.items) (fresh_at c number within))
-    ∙ ap head_of (of_frames [] goes.items)
-    ∙ ap (λ frames. head_of (last_among frames)) goes.frames
+    grind (arith, fresh_at, of_frames)

@@ -1,7 +1,6 @@
 -- What an observer sees of the events of frames that events of octets mean, in the words of ports.
-use Rattle.laws_trace.proofs.Vocabulary.{arith, ◌≡◌, ℕ, ◌==◌, Bool, cond, List, [], ◌∷◌, ◌++◌, map, Option, None, option_map, refl, sym, ap, ◌∙◌, append-nil, All, flat_map, option_to_list, flat_map-append, All-nil, All-cons, All-head, All-tail, All-append, AreOctets, PoolFull, Card, OctetCard, port_at, answer_to, frame_moment, meant_in, frames_given, given_of, HearsOctets, Port, given_in, answer_of, meant_all, asked_at, gives_at_next, refines, answer as line_answer, Request, moments as frame_moments, contents_given, GivesOctets, Seen, seen, seen_told, seen_granted, trace_frame_in as frame_in, seen_in, trace, frames_begun, ports_after as after, meant, PortsEvent as Event, if_granted, request_granted, requests_of, unless_refused_told, HasOctets, trace_begun as begun, granted, heard, lost, trace_noted as noted, octets_of}
+use Rattle.laws_trace.proofs.Vocabulary.{arith, ◌≡◌, ℕ, ◌==◌, Bool, cond, List, [], ◌∷◌, ◌++◌, map, Option, None, option_map, refl, sym, ap, ◌∙◌, append-nil, All, flat_map, option_to_list, flat_map-append, All-nil, All-cons, All-head, All-tail, All-append, AreOctets, PoolFull, Card, OctetCard, port_at, answer_to, frame_moment, meant_in, frames_given, given_of, HearsOctets, Port, given_in, answer_of, meant_all, asked_at, gives_at_next, refines, answer as line_answer, Request, moments as frame_moments, contents_given, GivesOctets, Seen, seen, seen_told, seen_granted, trace_frame_in as frame_in, seen_in, trace, frames_begun, ports_after as after, meant, PortsEvent as Event, if_granted, request_granted, requests_of, unless_refused_told, HasOctets, trace_begun as begun, granted, heard, lost, trace_noted as noted, octets_of, at, CardEvent}
 use Rattle.model_line.specs.Event as line
-use Rattle.model_card.specs.Event as frames
 use Rattle.model_card.specs.Machine as machine
 use Rattle.model_card.specs.Run as runs
 use Rattle.laws_trace.proofs.Units.{none-told, none-requested}
@@ -12,31 +11,22 @@ unfoldable use Rattle.model_card.specs.ports.Run.{moments}
 
 -- ---- the frames that begin are those that the card of frames gives
 
-by_call : (a : line.Answer) → frames_begun (map begun (frame_in a)) ≡ option_to_list (option_map octets_of (given_in a))
-by_call a = grind arith
-
-by_none : (t : List Seen) (a : line.Answer) → frames_begun t ≡ [] → given_in a ≡ None → frames_begun t ≡ option_to_list (option_map octets_of (given_in a))
-by_none t a none given = none ∙ ap (λ o. option_to_list (option_map octets_of o)) (sym given)
-
 by_event : (card : Card) (n : ℕ) (what : line.Event) → let a = asked_at card n what in frames_begun (seen what a) ≡ option_to_list (option_map octets_of (given_in a))
 by_event card n (line.hears e) =
-    let a = asked_at card n (line.hears e) in by_none (seen (line.hears e) a) a (none-told a) ((gives_at_next card n).hears e)
+    let a = asked_at card n (line.hears e) in ((none-told a) ∙ ap (λ o. option_to_list (option_map octets_of o)) (sym ((gives_at_next card n).hears e)))
 by_event card n (line.expiry timer) =
-    let a = asked_at card n (line.expiry timer) in by_none (seen_told a) a (none-told a) ((gives_at_next card n).expiry timer)
+    let a = asked_at card n (line.expiry timer) in ((none-told a) ∙ ap (λ o. option_to_list (option_map octets_of o)) (sym ((gives_at_next card n).expiry timer)))
 by_event card n (line.request r) =
-    let a = asked_at card n (line.request r) in by_none (seen_granted r a ++ seen_told a) a (none-requested r a) ((gives_at_next card n).request r)
-by_event card n line.next = by_call (asked_at card n line.next)
+    let a = asked_at card n (line.request r) in ((none-requested r a) ∙ ap (λ o. option_to_list (option_map octets_of o)) (sym ((gives_at_next card n).request r)))
+by_event card n line.next = grind arith
 
-abbrev there : Card → frames.Event → runs.Moment
+abbrev there : Card → CardEvent → runs.Moment
 there card f = record { card = card; event = f; answer = machine.answer f card }
 
-by_moment : (number : ℕ) (card : Card) (f : frames.Event) → frames_begun (seen_in number (there card f)) ≡ given_of number (there card f)
-by_moment number card f = grind (arith, option_map, by_event)
-
-pub begun_given : (number : ℕ) (card : Card) (fs : List frames.Event) → frames_begun (trace number (runs.moments card fs)) ≡ frames_given number (runs.moments card fs)
+pub begun_given : (number : ℕ) (card : Card) (fs : List CardEvent) → frames_begun (trace number (runs.moments card fs)) ≡ frames_given number (runs.moments card fs)
 unfolding frame_moments
 begun_given number card [] = refl
-begun_given number card (f ∷ fs) = grind (arith, begun_given number (machine.after f card) fs, flat_map-append, by_moment)
+begun_given number card (f ∷ fs) = grind (arith, begun_given number (machine.after f card) fs, flat_map-append, option_map, by_event)
 
 -- ---- the requests that are seen to be granted are those whose answers grant them
 
@@ -58,19 +48,15 @@ none_asked : (a : line.Answer) → requests_seen (seen_told a) ≡ []
 none_asked a = grind arith
 
 -- a request is answered by what it is told, or refused
-by_grant : (r : Request) (full : Bool) (o : Option _) (outcome : _) → let a = cond full (line.refused PoolFull) (unless_refused_told o outcome) in
-    requests_seen (seen_granted r a ++ seen_told a) ≡ if_granted r (answer_of a)
-by_grant r full o outcome = grind arith
-
 by_request : (card : Card) (n : ℕ) (r : Request) → let a = asked_at card n (line.request r) in requests_seen (seen_granted r a ++ seen_told a) ≡ if_granted r (answer_of a)
 unfolding line_answer
-by_request card n r = by_grant r (machine.wants_room (frames.at n (line.request r)) card) _ _
+by_request card n r = grind arith
 
 at_line : (b : Bool) (t : List Seen) (rs : List Request) → requests_seen t ≡ rs → requests_seen (cond b t []) ++ [] ≡ cond b rs []
 at_line b t rs h = grind (arith, append-nil)
 
 -- what one event of octets means
-by_meaning : (number n n201 : ℕ) (m : OctetCard) (what : port.Event) (p : Port) → let o = option_map (frames.at n) (port.meant n201 what p) in
+by_meaning : (number n n201 : ℕ) (m : OctetCard) (what : port.Event) (p : Port) → let o = option_map (at n) (port.meant n201 what p) in
     flat_map (seen_at number) (option_to_list (option_map (frame_moment m) o))
     ≡ cond (n == number) (request_granted what (port.answer what (option_map (answer_to m.card) o) p)) []
 by_meaning number n n201 m what p = grind (arith, option_map, asked_at, at_line, none_asked, by_request)
@@ -103,10 +89,10 @@ HearsIn other = Unit {0}
 event_hears : (b : Bool) (what : line.Event) (a : line.Answer) → HearsOctets what → All HearsIn (cond b (seen what a) [])
 event_hears b what a h = grind arith
 
-abbrev pub HearsAt : frames.Event → Type 0
+abbrev pub HearsAt : CardEvent → Type 0
 HearsAt f = HearsOctets f.what
 
-pub trace_hears : (number : ℕ) (card : Card) (fs : List frames.Event) → All HearsAt fs → All HearsIn (trace number (runs.moments card fs))
+pub trace_hears : (number : ℕ) (card : Card) (fs : List CardEvent) → All HearsAt fs → All HearsIn (trace number (runs.moments card fs))
 unfolding frame_moments
 trace_hears number card [] h = All-nil HearsIn
 trace_hears number card (f ∷ fs) h =

@@ -5,12 +5,8 @@ use Rattle.laws_trace.specs.Units.{unit_asked}
 use Rattle.laws_trace.proofs.OfOctets.Seen.{requests_seen}
 use Rattle.laws_trace.proofs.Units.{units_begun, Begun, Step, Goes}
 
--- one more of them
-pub one_front : (front : List (List ℕ)) (whole : List (List ℕ)) → IsFront front whole → AreFronts front (whole ∷ [])
-one_front front whole is = (front, [], sym (append-nil front), is, refl)
-
 pub more_fronts : (xs ys : List (List ℕ)) (wholes : List (List (List ℕ))) (whole : List (List ℕ)) → AreFronts xs wholes → IsFront ys whole → AreFronts (xs ++ ys) (wholes ++ whole ∷ [])
-more_fronts xs ys [] whole none is = subst (λ xs. AreFronts (xs ++ ys) (whole ∷ [])) (sym none) (one_front ys whole is)
+more_fronts xs ys [] whole none is = subst (λ xs. AreFronts (xs ++ ys) (whole ∷ [])) (sym none) ((ys, [], sym (append-nil ys), is, refl))
 more_fronts xs ys (first ∷ wholes) whole (front, rest, split, its, others) is =
     (front, rest ++ ys, ap (λ xs. xs ++ ys) split ∙ append_assoc front rest ys, its, more_fronts rest ys wholes whole others is)
 
@@ -39,43 +35,12 @@ module _ (c : Config) where
 
   step : (begun waiting left : List (List ℕ)) (asked : Asked) (s : Seen) → Step c waiting s left → Spans begun waiting asked
       → Spans (begun ++ units_begun c (s ∷ [])) left (asked_by asked (s ∷ []))
-  step begun waiting left asked (traces.begun octets) is x = go (is_unit c.side octets) is
-    where
-      go : (b : Bool) → Begun b waiting octets left → Spans (begun ++ cond b (octets ∷ []) []) left asked
-      go b is = grind (arith, same, append_assoc)
-  step begun waiting left asked (traces.granted r) is x = go (is_down r) is
-    where
-      go : (b : Bool) → left ≡ cond b [] (waiting ++ unit_asked c r)
-          → Spans (begun ++ []) left (record { earlier = cond b (asked.earlier ++ asked.since ∷ []) asked.earlier; since = cond b [] (asked.since ++ unit_asked c r) })
-      go false more = record {
-        before = x.before;
-        since = x.since;
-        begun_is = append-nil begun ∙ x.begun_is;
-        fronts = x.fronts;
-        waits = ap (λ ws. x.since ++ ws) more ∙ sym (append_assoc x.since waiting (unit_asked c r)) ∙ ap (λ ws. ws ++ unit_asked c r) x.waits;
-      }
-      go true none = record {
-        before = begun;
-        since = [];
-        begun_is = refl;
-        fronts = subst (λ xs. AreFronts xs (asked.earlier ++ asked.since ∷ [])) (sym x.begun_is)
-            (more_fronts x.before x.since asked.earlier asked.since x.fronts (record { rest = waiting; whole_is = sym x.waits }));
-        waits = none;
-      }
-  step begun waiting left asked other is x = same begun waiting left asked is x
+  step begun waiting left asked s is x = grind (arith, same, append_assoc, append-nil, more_fronts)
 
   pub spans : (t : List Seen) (begun waiting left : List (List ℕ)) (asked : Asked) → Goes c waiting t left → Spans begun waiting asked
       → Spans (begun ++ units_begun c t) left (asked_by asked t)
   unfolding Goes
   spans [] begun waiting left asked is x = same begun waiting left asked is x
   spans (s ∷ t) begun waiting left asked (then, does, goes) x =
-      let first = step begun waiting then asked s does x in
-      let all = spans t (begun ++ units_begun c (s ∷ [])) then left (asked_by asked (s ∷ [])) goes first in
-      subst (λ xs. Spans xs left (asked_by asked (s ∷ t))) (whole s)
-      (subst (λ a. Spans ((begun ++ units_begun c (s ∷ [])) ++ units_begun c t) left a) (sym (rest s)) all)
-    where
-      whole : (s : Seen) → (begun ++ units_begun c (s ∷ [])) ++ units_begun c t ≡ begun ++ units_begun c (s ∷ t)
-      whole s = grind (arith, append_assoc, units_begun, flat_map-append, filter-append)
-
-      rest : (s : Seen) → asked_by asked (s ∷ t) ≡ asked_by (asked_by asked (s ∷ [])) t
-      rest s = grind arith
+      let all = spans t (begun ++ units_begun c (s ∷ [])) then left (asked_by asked (s ∷ [])) goes (step begun waiting then asked s does x) in
+      grind (arith, units_begun, append_assoc, flat_map-append, filter-append)

@@ -1,6 +1,5 @@
 -- What a receiver hears of unit data: the laws.
-use Rattle.laws_trace.proofs.Vocabulary.{◌≡◌, ℕ, ◌<◌, List, [], ◌∷◌, ◌++◌, map, refl, sym, ap, ◌∙◌, arith, filter, flat_map, flat_map-append, map-append, filter-append, Config, IsInRange, most_frames, takes_at, as_octets, octets_given, frames_to_hear, OfEachLine, given_frames_are_heard, append-nil, fold, unit_frame, subst, is_unit, ports_fresh as fresh, PortsEvent as Event, PortsAreAtLines as AreAtLines, Asked, none_asked, with_request, units_to_hear, AreFronts, whole_frame, whole_frames, UnitsAreHeard, AllUnitsAreHeard}
-use Rattle.model_bits.specs.Stream as stream
+use Rattle.laws_trace.proofs.Vocabulary.{◌≡◌, ℕ, ◌<◌, List, [], ◌∷◌, ◌++◌, map, refl, sym, ap, ◌∙◌, arith, filter, flat_map, flat_map-append, map-append, filter-append, Config, IsInRange, most_frames, takes_at, as_octets, octets_given, frames_to_hear, OfEachLine, given_frames_are_heard, append-nil, fold, unit_frame, subst, is_unit, ports_fresh as fresh, PortsEvent as Event, PortsAreAtLines as AreAtLines, Asked, none_asked, with_request, units_to_hear, AreFronts, whole_frame, whole_frames, UnitsAreHeard, AllUnitsAreHeard, stream_heard_in, stream_frame}
 use Rattle.laws_trace.proofs.Units.{units_begun}
 use Rattle.laws_trace.proofs.UnitsGoOut.{left-waiting, goes, nothing-left}
 use Rattle.laws_trace.proofs.OfOctets.AsOctets.{same_units}
@@ -10,7 +9,7 @@ use Rattle.laws_trace.proofs.OfOctets.Seen.{requests_seen, requests_are}
 use Rattle.laws_trace.proofs.OfOctets.Spans.{Spans, spans, more_fronts, mapped}
 
 -- frames as they are heard
-heard_again : (frames : List (List ℕ)) → flat_map whole_frame (map stream.frame frames) ≡ frames
+heard_again : (frames : List (List ℕ)) → flat_map whole_frame (map stream_frame frames) ≡ frames
 heard_again [] = refl
 heard_again (frame ∷ frames) = ap (λ fs. frame ∷ fs) (heard_again frames)
 
@@ -20,10 +19,6 @@ module _ (c : Config) (events : List Event) (number : ℕ) (ranged : IsInRange c
 
   abbrev heard : List (List ℕ)
   heard = whole_frames c.n201 (octets_given c events number)
-
-  -- as octets the unit data that is given is what it was
-  pub units_given : filter (is_unit c.side) (map as_octets given) ≡ map as_octets (units_begun c (t c events number ranged all within))
-  units_given = grind (arith, same_units, spelled, begun)
 
   abbrev asks : Asked
   asks = units_to_hear c events number
@@ -53,14 +48,11 @@ module _ (c : Config) (events : List Event) (number : ℕ) (ranged : IsInRange c
       let out = given_frames_are_heard.so_far c events number ranged all within in
       let frames : map as_octets given ≡ heard ++ out.on_its_way =
       sym (heard_again (map as_octets given)) ∙ ap (flat_map whole_frame) out.heard
-      ∙ flat_map-append whole_frame (stream.heard_in c.n201 (octets_given c events number)) (map stream.frame out.on_its_way)
+      ∙ flat_map-append whole_frame (stream_heard_in c.n201 (octets_given c events number)) (map stream_frame out.on_its_way)
       ∙ ap (λ fs. heard ++ fs) (heard_again out.on_its_way) in
       record {
         went = map as_octets (units_begun c (t c events number ranged all within));
-        heard_are = record {
-          rest = filter (is_unit c.side) out.on_its_way;
-          whole_is = sym units_given ∙ ap (filter (is_unit c.side)) frames ∙ filter-append (is_unit c.side) heard out.on_its_way;
-        };
+        heard_are = grind (arith, same_units, spelled, begun, filter-append);
         fronts = went;
       }
 
@@ -78,7 +70,7 @@ module _ (c : Config) (events : List Event) (number : ℕ) (ranged : IsInRange c
         all =
             ap (λ es. filter (is_unit c.side) (flat_map whole_frame es)) (sym (all-frames-go-out c events number ranged all within h))
             ∙ ap (filter (is_unit c.side)) (heard_again (map as_octets given))
-            ∙ units_given
+            ∙ (grind (arith, same_units, spelled, begun))
             ∙ ap (map as_octets) parts.begun_is
             ∙ map-append as_octets parts.before parts.since
             ∙ ap (λ xs. map as_octets parts.before ++ map as_octets xs) (sym (append-nil parts.since) ∙ ap (λ ws. parts.since ++ ws) (sym none) ∙ parts.waits);

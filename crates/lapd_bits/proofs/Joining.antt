@@ -62,13 +62,3 @@ Assembles-joined_octet octets later_octets count later_count beyond later_beyond
 -- what is left is below the power for its bits
 pub left_below : (joined n : ℕ) → 8 ≤ n → joined < 2 ^ n → joined / 256 < 2 ^ (n - 8)
 left_below joined n h below = grind (arith, pow-add)
-
--- ---- the gap
-
--- a gap with the bits of an octet more
-pub HoldsGap_joined :
-    (octets octets' : List ℕ) (gap gap' : Gap) (octet : ℕ) (content : List Bool) (g : Option (List Bool)) → gap'.since ≡ 8
-    → ((text : List Bool) → AssemblesIn octets gap text → AssemblesIn octets' gap' (text ++ content))
-    → IsJoined octet content g → HoldsGap octets (Some gap) g
-    → HoldsGap octets' (Some gap') (option_map (with_bits 8 octet) g)
-HoldsGap_joined octets octets' gap gap' octet content g since taken joined h = grind (arith, length-append, length-reverse, length-low_bits)

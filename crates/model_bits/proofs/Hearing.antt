@@ -45,10 +45,7 @@ pub heard_at-zero : (room : ℕ) (past : List Bool) → run_of past ≢ 6 → he
 heard_at-zero room past h = grind (arith, by_since, no_flag)
 
 pub open_gap-zero : (past : List Bool) → run_of past ≢ 6 → open_gap (false ∷ past) ≡ one_more false (open_gap past)
-open_gap-zero past h =
-    by_since past (λ e. rw (no_flag past h, e) refl)
-    (λ g e a. rw (no_flag past h, e, a) refl)
-    (λ g e a. rw (no_flag past h, e, a) refl)
+open_gap-zero past h = grind (arith, by_since, no_flag)
 
 -- ---- a 0 after six 1s ends a flag, which closes the open gap and opens the next
 

@@ -1,21 +1,24 @@
--- The entries in the tables, or none where they give no six 1s.
-use Rattle.lapd_bits.proofs.Vocabulary.{◌≡◌, ◌+◌, get_or, arith, ONES_BEFORE}
-use Rattle.lapd_bits.proofs.FlagEndTables.{fits, entry}
+-- The octet is a flag, or one in which a flag ends.
+use Rattle.lapd_bits.proofs.Vocabulary.{◌≡◌, ◌+◌, ◌-◌, ◌*◌, ◌/◌, ◌%◌, ◌^◌, ◌≤◌, ap, sym, subst, ◌∙◌, arith, fives, IsFlagEnd}
+use Rattle.std.specs.Int.{leading_ones, w8}
+use Rattle.std.specs.Prelude.{SomeIff}
+use Rattle.lapd_bits.proofs.FlagEndTests.{power_is, flag-whole, flag-ended}
 use Rattle.lapd_bits.proofs.flag_end.flag_end.Goals as goal
 
-pub overflow_add-ones : goal.overflow_add-ones
-overflow_add-ones c = omega (arith, (fits c.args.octet (omega arith)).0)
+pub returns-then-ones-lt5 : goal.returns-then-ones-lt5
+returns-then-ones-lt5 c = subst (λ o. IsFlagEnd c.args.ones o 7 126 0 0) (sym c.if-octet-eq-FLAG.true) (flag-whole c.args.ones c.if-ones-lt5.true)
 
-pub invariant_of-result : goal.invariant_of-result
-invariant_of-result c =
-    let small = fits c.args.octet (omega arith) in
-    let six : c.args.ones + get_or ONES_BEFORE c.args.octet 0 ≡ 6 = c.if-ones-before-ne-FLAG_ONES.false in
-    record {
-      below = small.1;
-      few_before = omega (arith, six);
-      within = (entry c.args.octet (omega arith) c.args.ones six).1;
-      few = small.2;
-    }
-
-pub returns-clause-some : goal.returns-clause-some
-returns-clause-some c = (entry c.args.octet (omega arith) c.args.ones c.if-ones-before-ne-FLAG_ONES.false).0
+pub returns : goal.returns
+returns c =
+    let ones = c.args.ones in
+    let octet = c.args.octet in
+    let before = c.in_ok-before.before in
+    let found = subst (λ o. SomeIff o (ones ≤ 6) (6 - ones)) c.in_ok-before.was c.checked_sub.ensures in
+    let six : before + ones ≡ 6 = omega (arith, found.0, found.1) in
+    let power = power_is before (omega (arith, six)) in
+    let begins : octet % 2 ^ (before + 1) ≡ 2 ^ before - 1 =
+    ap (λ p. octet % p) (sym (power_is (before + 1) (omega (arith, six)))) ∙ c.if-octet-upto.false ∙ ap (λ p. p - 1) power in
+    let same : octet / 2 ^ (before + 1) * 16 ≡ 0 + c.from.result * 16 = omega (arith, c.from.ensures) in
+    let flag = flag-ended ones before octet six (omega arith) begins (ap fives same ∙ sym c.five_ones.ensures ∙ c.if-five_ones-ne0.false) in
+    subst (IsFlagEnd ones octet before (1 * 2 ^ before % 256 - 1) (octet / 2 ^ (before + 1))) (sym c.leading_ones.ensures)
+    (subst (λ p. IsFlagEnd ones octet before (p - 1) (octet / 2 ^ (before + 1)) (leading_ones w8 octet)) (sym power) flag.0)

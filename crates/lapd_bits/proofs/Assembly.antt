@@ -1,6 +1,5 @@
 -- How a deframer's fields follow the bits of an open gap: octets are put together and kept.
-use Rattle.lapd_bits.proofs.Vocabulary.{◌≡◌, ◌≢◌, ℕ, ◌+◌, ◌-◌, ◌*◌, ◌/◌, ◌%◌, ◌^◌, ◌<◌, ◌≤◌, Bool, true, false, List, [], ◌∷◌, ◌++◌, length, take, Option, Some, None, is_some, nat_eq, nat_lt, refl, ap, sym, ◌∙◌, subst, arith, length-append, append_assoc, lt-ltb, le-ltb, ltb-true, ltb-false, eq-eqb, ne_eqb, false_from_ne_true, take-append-le, take-take, All-nil, All-cons, All-append, pow_pos, pow_below, take-length, add-mul-mod_self_left, add-mul-div_left, mod-eq_of_lt, div-eq_of_lt, one-mul, zero-add, bits, low_bits, same_bits, is_good, HoldsDivision, Event, overlong, dropped, is_short, judged, flag_front, closing_event, Keeps, Assembles, Ragged, Short, Fcs, low_bits-add, low_bits-mod, length-low_bits, bits-push, same_from_low_bits, same_from_test}
-use Rattle.std.proofs.Math.Nat.{mul-one}
+use Rattle.lapd_bits.proofs.Vocabulary.{◌≡◌, ◌≢◌, ℕ, ◌-◌, ◌^◌, ◌<◌, ◌≤◌, Bool, true, false, List, [], ◌∷◌, ◌++◌, length, take, Option, Some, None, is_some, nat_lt, refl, ap, sym, ◌∙◌, arith, length-append, lt-ltb, le-ltb, ltb-true, ltb-false, eq-eqb, ne_eqb, false_from_ne_true, take-append-le, take-take, All-nil, take-length, bits, low_bits, same_bits, is_good, HoldsDivision, Event, overlong, dropped, is_short, judged, flag_front, closing_event, Keeps, Assembles, Ragged, Short, Fcs, length-low_bits, bits-push, same_from_low_bits, same_from_test}
 use Rattle.model_bits.specs.Stream.{frame}
 use Rattle.lapd_bits.proofs.Division.Holds.{HoldsDivision_good}
 

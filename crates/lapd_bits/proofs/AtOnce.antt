@@ -1,5 +1,5 @@
 -- Bits that end nothing go on the open gap all at once.
-use Rattle.lapd_bits.proofs.Vocabulary.{◌≡◌, ℕ, suc, zero, ◌+◌, ◌≤◌, Bool, true, false, not, List, [], ◌∷◌, ◌++◌, length, reverse, replicate, nat_eq, nat_lt, min, Option, Some, option_map, refl, ap, sym, ◌∙◌, arith, and_parts, ltb-true, eq-eqb, false≢true, reverse-append, reverse-reverse, append_cancel_left, unstuffed, run_of, open_gap, AssemblesIn, HoldsGap, HoldsPast, IsJoined, onto, ends_nothing, Gap, ones_after, ones_after-reverse, unstuffed_after, unstuffed-counted, unstuffed_after-append, reverse_aux-onto, EndsNothing, IsQuiet, quiet}
+use Rattle.lapd_bits.proofs.Vocabulary.{◌≡◌, ℕ, suc, zero, ◌+◌, ◌≤◌, Bool, true, false, not, List, [], ◌∷◌, ◌++◌, length, reverse, replicate, nat_eq, if◌then◌else◌, min, Option, Some, None, option_map, refl, ap, sym, ◌∙◌, arith, and_parts, eq-eqb, false≢true, reverse-append, reverse-reverse, append_cancel_left, unstuffed, run_of, open_gap, AssemblesIn, HoldsGap, HoldsPast, IsJoined, onto, ends_nothing, Gap, ones_after, ones_after-reverse, unstuffed_after, unstuffed-counted, unstuffed_after-append, reverse_aux-onto, EndsNothing, IsQuiet, quiet}
 use Rattle.lapd_bits.proofs.BitSteps.{open_run, for_open}
 
 pub length-onto : (text past : List Bool) → length (onto text past) ≡ length text + length past
@@ -15,19 +15,20 @@ reverse-onto text past =
 
 pub EndsNothing-by_test : (n : ℕ) (text : List Bool) → ends_nothing n text ≡ true → EndsNothing n text
 EndsNothing-by_test n [] q = tt
-EndsNothing-by_test n (true ∷ text) q =
-    let parts = and_parts (nat_lt n 6) (ends_nothing (suc n) text) q in
-    (ltb-true n 6 parts.0, EndsNothing-by_test (suc n) text parts.1)
-EndsNothing-by_test n (false ∷ text) q =
-    let parts = and_parts (not (nat_eq n 6)) (ends_nothing 0 text) q in
-    (λ six. false≢true (ap not (sym (eq-eqb n 6 six)) ∙ parts.0), EndsNothing-by_test 0 text parts.1)
+EndsNothing-by_test n (b ∷ text) q =
+    let parts = and_parts (not (nat_eq n 6)) (ends_nothing (if b then suc n else 0) text) q in
+    (λ six. false≢true (ap not (sym (eq-eqb n 6 six)) ∙ parts.0), EndsNothing-by_test (if b then suc n else 0) text parts.1)
 
 -- what a deframer then holds
 pub HoldsPast-quiet :
-    (octets octets' : List ℕ) (ones ones' : ℕ) (gap gap' : Option Gap) (text past : List Bool) → IsQuiet 0 text past
-    → ones ≡ run_of past → ones' ≡ ones_after ones text → HoldsGap octets' gap' (option_map (onto text) (open_gap past))
-    → HoldsPast octets' ones' gap' (onto text past)
-HoldsPast-quiet octets octets' ones ones' gap gap' text past q is_run e h = grind arith
+    (octets : List ℕ) (ones : ℕ) (gap : Option Gap) (n : ℕ) (text past : List Bool) → IsQuiet 0 n text past
+    → ones ≡ min 7 (ones_after n text) → HoldsGap octets gap (option_map (onto text) (open_gap past))
+    → HoldsPast octets ones gap (onto text past)
+HoldsPast-quiet octets ones gap n text past q e h = grind arith
+
+-- also where no gap is open
+pub HoldsGap-none : (octets : List ℕ) (text : List Bool) (o : Option (List Bool)) → HoldsGap octets None o → HoldsGap octets None (option_map (onto text) o)
+HoldsGap-none octets text o h = grind arith
 
 -- ---- 1s before a text
 
@@ -45,10 +46,9 @@ run_of-ones (suc n) h = omega (arith, run_of-ones n (omega arith))
 
 -- the run behind a text, after `n` 1s
 pub run-after : (n : ℕ) (text : List Bool) → n ≤ 6 → ends_nothing n text ≡ true
-    → run_of (onto text (replicate n true ++ false ∷ [])) ≡ ones_after n text
+    → run_of (onto text (replicate n true ++ false ∷ [])) ≡ min 7 (ones_after n text)
 run-after n text few q =
-    (quiet 0 n text (replicate n true ++ false ∷ []) (run_of-ones n few) (EndsNothing-by_test n text q)).run
-    ∙ ap (λ k. ones_after k text) (run_of-ones n few)
+    (quiet 0 n text (replicate n true ++ false ∷ []) (omega (arith, run_of-ones n few, few)) (EndsNothing-by_test n text q)).run
 
 -- what stays of it there
 pub stays-after : (n : ℕ) (text content : List Bool) → unstuffed (replicate n true ++ text) ≡ replicate n true ++ content

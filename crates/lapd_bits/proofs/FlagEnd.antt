@@ -1,5 +1,5 @@
 -- An octet in which a flag ends: its first bits go on the open gap, which the flag closes; the bits behind begin the next.
-use Rattle.lapd_bits.proofs.Vocabulary.{◌≡◌, ℕ, ◌+◌, ◌-◌, ◌<◌, ◌≤◌, Bool, true, false, List, [], ◌∷◌, ◌++◌, length, reverse, Option, Some, None, IfSome, option_map, option_to_list, refl, ap, sym, ◌∙◌, subst, arith, length-append, lt-ltb, low_bits, unstuffed, Event, heard_until, run_of, open_gap, closed_event, KeepsIn, AssemblesIn, HoldsGap, HoldsPast, closing_event, EndsFlag, IsJoined, onto, with_bits, IsFlagEnd, Gap, length-low_bits, ones_after, unstuffed_after, reverse_aux-append, EndsNothing, IsFlag, flag_ends, quiet}
+use Rattle.lapd_bits.proofs.Vocabulary.{◌≡◌, ℕ, ◌+◌, ◌-◌, ◌<◌, ◌≤◌, Bool, false, List, [], ◌∷◌, ◌++◌, length, reverse, min, Option, Some, None, IfSome, option_map, option_to_list, refl, ap, sym, ◌∙◌, subst, arith, lt-ltb, low_bits, unstuffed, Event, heard_until, run_of, open_gap, closed_event, KeepsIn, AssemblesIn, HoldsGap, HoldsPast, closing_event, EndsFlag, onto, with_bits, IsFlagEnd, Gap, length-low_bits, ones_after, unstuffed_after, reverse_aux-append, EndsNothing, IsFlag, flag_ends, quiet}
 use Rattle.lapd_bits.proofs.BitSteps.{closed_told}
 use Rattle.lapd_bits.proofs.AtOnce.{EndsNothing-by_test, joined, run-after, stays-after, length-onto, reverse-onto, HoldsGap-joined}
 
@@ -44,19 +44,22 @@ module _
   quiet_behind = EndsNothing-by_test 0 behind flag.quiet
 
   six : ones_after ones text ≡ 6
-  six = sym (run-after ones text flag.few flag.quiet_front) ∙ flag.six
+  six = omega (arith, run-after ones text flag.few flag.quiet_front, flag.six)
+
+  before_it : run_of past ≡ min 7 ones
+  before_it = omega (arith, is_run, flag.few)
 
   here : (room : ℕ) → IsFlag room text behind past
-  here room = flag_ends room ones text behind past (sym is_run) quiet_front six quiet_behind
+  here room = flag_ends room ones text behind past before_it quiet_front six quiet_behind
 
   parted : with_bits 8 octet past ≡ onto behind (false ∷ onto text past)
   parted = ap (λ t. onto t past) flag.begins ∙ reverse_aux-append text (false ∷ behind) past
 
   pub ends-flag_end : EndsFlag text past
   ends-flag_end =
-      let q = quiet 0 ones text past (sym is_run) quiet_front in
+      let q = quiet 0 ones text past before_it quiet_front in
       record {
-        six = q.run ∙ ap (λ n. ones_after n text) (sym is_run) ∙ six;
+        six = q.run ∙ ap (min 7) six;
         grown = q.gap;
         joined = joined past text text (ap (λ n. unstuffed_after n text) (sym is_run) ∙ stays-after ones text text flag.stays_front);
       }

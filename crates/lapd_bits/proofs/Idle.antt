@@ -1,6 +1,6 @@
 -- An octet of a line of flags brings nothing, and leaves the open gap as it was; so does one of 1s after seven.
-use Rattle.lapd_bits.proofs.Vocabulary.{◌≡◌, ℕ, suc, zero, ◌+◌, ◌-◌, ◌<◌, ◌≤◌, Bool, true, false, ◌&&◌, List, [], ◌∷◌, ◌++◌, length, take, drop, map, replicate, get_or, same_bits, same_from_test, nat_eq, nat_lt, Option, Some, None, option_map, option_to_list, refl, ap, sym, ◌∙◌, subst, arith, append-nil, and_parts, eqb-true, lt-ltb, low_bits, heard_until, heard_at, run_of, open_gap, closed_event, given_up_event, flag_front, HoldsGap, HoldsPast, onto, with_bits, ends_nothing, Gap, IDLE, heard_at-abort, open_gap-abort, latest_ones, ones_after, reverse_aux-append, IsFlag, flag_ends, quiet}
-use Rattle.lapd_bits.proofs.AtOnce.{EndsNothing-by_test, length-onto}
+use Rattle.lapd_bits.proofs.Vocabulary.{◌≡◌, ℕ, suc, zero, ◌+◌, ◌-◌, ◌<◌, ◌≤◌, Bool, true, false, ◌&&◌, List, [], ◌∷◌, ◌++◌, length, min, take, drop, replicate, get_or, same_bits, same_from_test, nat_eq, nat_lt, Option, Some, None, option_map, option_to_list, refl, ap, sym, ◌∙◌, subst, arith, append-nil, and_parts, eqb-true, lt-ltb, low_bits, heard_until, run_of, open_gap, closed_event, flag_front, HoldsGap, HoldsPast, onto, with_bits, ends_nothing, Gap, IDLE, latest_ones, ones_after, reverse_aux-append, EndsNothing, IsFlag, IsQuiet, flag_ends, quiet}
+use Rattle.lapd_bits.proofs.AtOnce.{EndsNothing-by_test, HoldsGap-none, HoldsPast-quiet, length-onto}
 use Rattle.lapd_bits.proofs.BitSteps.{open_run}
 use Rattle.lapd_bits.proofs.Tested.{all_pass}
 
@@ -11,17 +11,9 @@ pub record StaysIdle (octets : List ℕ) (ones : ℕ) (gap : Option Gap) (octet 
 
 -- ---- 1s that go on after seven
 
-ones_go_on : (room n : ℕ) (past : List Bool) → run_of past ≡ 7 → open_gap past ≡ None
-    → (run_of (onto (replicate n true) past) ≡ 7)
-    × (open_gap (onto (replicate n true) past) ≡ None)
-    × (heard_until room (onto (replicate n true) past) ≡ heard_until room past)
-ones_go_on room zero past run none = (run, none, refl)
-ones_go_on room (suc n) past run none =
-    let again : run_of (true ∷ past) ≡ 7 = omega (arith, run) in
-    let still : open_gap (true ∷ past) ≡ None = open_gap-abort past (omega (arith, run)) in
-    let nothing : heard_at room (true ∷ past) ≡ None = heard_at-abort room past (omega (arith, run)) ∙ ap given_up_event none in
-    let more = ones_go_on room n (true ∷ past) again still in
-    (more.0, more.1, more.2 ∙ ap (λ o. heard_until room past ++ option_to_list o) nothing ∙ append-nil (heard_until room past))
+seven_on : (n k : ℕ) → 7 ≤ n → EndsNothing n (replicate k true)
+seven_on n zero many = tt
+seven_on n (suc k) many = (λ six. omega (arith, many, six), seven_on (suc n) k (omega (arith, many)))
 
 ones_are : low_bits 8 255 ≡ replicate 8 true
 unfolding low_bits
@@ -30,20 +22,14 @@ ones_are = refl
 -- an octet of them leaves the fields
 pub stays_given_up : (octets : List ℕ) (ones octet : ℕ) (past : List Bool) → HoldsPast octets ones None past → ones ≡ 7 → octet ≡ 255 → StaysIdle octets ones None octet past
 stays_given_up octets ones octet past h seven e =
-    let none = no_gap (open_gap past) h.open_is in
-    let run : run_of past ≡ 7 = sym h.run ∙ seven in
-    let bits : with_bits 8 octet past ≡ onto (replicate 8 true) past = ap (λ t. onto t past) (ap (low_bits 8) e ∙ ones_are) in
-    let here = ones_go_on 0 8 past run none in
+    let ones8 = replicate 8 true in
+    let q : (room : ℕ) → IsQuiet room 7 ones8 past = λ room. quiet room 7 ones8 past (sym h.run ∙ seven) (seven_on 7 8 (omega arith)) in
+    let bits : with_bits 8 octet past ≡ onto ones8 past = ap (λ o. with_bits 8 o past) e ∙ ap (λ t. onto t past) ones_are in
     record {
-      holds = record {
-        run = seven ∙ sym (ap run_of bits ∙ here.0);
-        open_is = subst (HoldsGap octets None) (sym (ap open_gap bits ∙ here.1)) tt;
-      };
-      nothing = λ room. let there = ones_go_on room 8 past run none in ap (heard_until room) bits ∙ there.2;
+      holds = subst (HoldsPast octets ones None) (sym bits)
+          (HoldsPast-quiet octets ones None 7 ones8 past (q 0) seven (HoldsGap-none octets ones8 (open_gap past) h.open_is));
+      nothing = λ room. ap (heard_until room) bits ∙ (q room).heard;
     }
-  where
-    no_gap : (o : Option (List Bool)) → HoldsGap octets None o → o ≡ None
-    no_gap o h = grind arith
 
 -- ---- a flag's other bits, and the first bits of the next
 
@@ -100,17 +86,18 @@ stays_idle octets ones octet gap past h few run e = go (open_gap past) refl h.op
         let at : run_of past ≡ k - 1 = sym h.run ∙ run in
         let latest = (open_run past g open_here).0 in
         let counted : length g ≡ k = omega (arith, held.counted) in
+        let first : run_of past ≡ min 7 (k - 1) = omega (arith, at, few) in
         let q = EndsNothing-by_test (k - 1) front idle.quiet in
         let flag : (room : ℕ) → IsFlag room front behind past = λ room.
-        flag_ends room (k - 1) front behind past at q idle.six (EndsNothing-by_test 0 behind idle.behind) in
-        let grown : open_gap (onto front past) ≡ Some (onto front g) = (quiet 0 (k - 1) front past at q).gap ∙ ap (option_map (onto front)) open_here in
+        flag_ends room (k - 1) front behind past first q idle.six (EndsNothing-by_test 0 behind idle.behind) in
+        let grown : open_gap (onto front past) ≡ Some (onto front g) = (quiet 0 (k - 1) front past first q).gap ∙ ap (option_map (onto front)) open_here in
         let short : nat_lt (length (onto front g)) 8 ≡ true = lt-ltb (length (onto front g)) 8 (omega (arith, length-onto front g, idle.size)) in
         let closes : (room : ℕ) → closed_event room (open_gap (onto front past)) ≡ None = λ room. ap (closed_event room) grown ∙ rw short refl in
         let is : with_bits 8 octet past ≡ onto behind (false ∷ onto front past) =
         ap (λ o. with_bits 8 o past) e ∙ ap (λ t. onto t past) idle.bits ∙ reverse_aux-append front (false ∷ behind) past in
         record {
           holds = subst (HoldsPast octets ones (Some gap)) (sym is) (record {
-            run = run ∙ sym idle.run ∙ sym (flag 0).run;
+            run = let there = (flag 0).run in omega (arith, run, idle.run, there, few);
             open_is =
                 subst (HoldsGap octets (Some gap))
                 (open_here ∙ ap Some (sym (first_bits k g few counted (sym latest ∙ at))) ∙ sym (flag 0).gap) h.open_is;

@@ -1,5 +1,5 @@
 -- Many bits go on an open gap at once.
-use Rattle.lapd_bits.proofs.Vocabulary.{◌≡◌, ℕ, ◌+◌, ◌-◌, ◌*◌, ◌/◌, ◌%◌, ◌^◌, ◌<◌, ◌≤◌, Bool, List, [], ◌∷◌, ◌++◌, Option, Some, option_map, ap, sym, ◌∙◌, arith, append_assoc, length-append, length-reverse, All-nil, All-cons, All-append, mul-add-lt, mod-mul-add, div-mul-add, pow-add, pow_below, mod-eq_of_lt, bits, low_bits, Keeps, Assembles, AssemblesIn, HoldsGap, with_bits, IsJoined, Gap, low_bits-add, low_bits-mod, length-low_bits, bits-push}
+use Rattle.lapd_bits.proofs.Vocabulary.{◌≡◌, ℕ, ◌+◌, ◌-◌, ◌*◌, ◌/◌, ◌%◌, ◌^◌, ◌<◌, ◌≤◌, Bool, List, [], ◌∷◌, ◌++◌, Option, ap, sym, ◌∙◌, arith, append_assoc, All-nil, All-cons, All-append, mul-add-lt, mod-mul-add, div-mul-add, pow-add, pow_below, mod-eq_of_lt, bits, low_bits, Keeps, Assembles, low_bits-add, low_bits-mod, bits-push}
 
 -- ---- a number above another
 

@@ -1,5 +1,5 @@
 -- What a deframer takes with an octet, and what it lends until the next.
-use Rattle.lapd_bits.proofs.Vocabulary.{arith, ◌≡◌, ℕ, Bool, subst, List, [], ◌∷◌, ◌++◌, Option, length, reverse, refl, sym, ap, ◌∙◌, append-nil, option_to_list, option_map, same_from_push, bits, low_bits, Event, heard_until, heard_in, room_for, open_gap, HoldsGap, HoldsPast, Ended, IsContent, IsJoined, Takes, with_bits, unstuffed_after, quiet}
+use Rattle.lapd_bits.proofs.Vocabulary.{arith, ◌≡◌, ℕ, Bool, subst, List, [], ◌∷◌, ◌++◌, Option, length, reverse, refl, sym, ap, ◌∙◌, append-nil, option_to_list, option_map, same_from_push, bits, low_bits, Event, heard_until, heard_in, room_for, open_gap, HoldsGap, HoldsPast, IsContent, IsJoined, Takes, with_bits, unstuffed_after, quiet}
 use Rattle.lapd_bits.specs.Deframer.{Stands, latest_of}
 use Rattle.lapd_bits.specs.declared.deframer.Deframer.{Deframer}
 use Rattle.lapd_bits.specs.declared.ended.Ended.TheVariants as ended
@@ -38,13 +38,15 @@ takes-content octet content count run old new c room e taken =
     record {
       room = room;
       stands = λ past h.
-          HoldsPast-quiet old.octets.items new.octets.items old.ones new.ones old.gap new.gap text past (quiet 0 old.ones text past (sym h.run) q) h.run
+          let run = h.run in
+          HoldsPast-quiet new.octets.items new.ones new.gap old.ones text past (quiet 0 old.ones text past (omega (arith, run, c.few)) q)
           (e ∙ c.run_is ∙ run-after old.ones text (omega (arith, c.few)) c.quiet)
           (taken (open_gap past)
           (joined past text _ (ap (λ n. unstuffed_after n text) (sym h.run) ∙ stays-after old.ones text _ c.stays))
           h.open_is);
       told = λ past h.
-          (quiet (length old.octets.items) old.ones text past (sym h.run) q).heard ∙ sym (append-nil (heard_until (length old.octets.items) past));
+          let run = h.run in
+          (quiet (length old.octets.items) old.ones text past (omega (arith, run, c.few)) q).heard ∙ sym (append-nil (heard_until (length old.octets.items) past));
     }
 
 -- and one of an idle line

@@ -1,5 +1,5 @@
 -- What a deframer hears with one bit more.
-use Rattle.lapd_bits.proofs.Vocabulary.{◌≡◌, ◌≢◌, ℕ, suc, ◌+◌, ◌<◌, ◌≤◌, ◌⊎◌, inl, inr, Bool, true, false, List, [], ◌∷◌, ◌++◌, length, min, Option, Some, None, option_map, refl, ap, sym, ◌∙◌, arith, false≢true, lt-ltb, low_bits, run_of, open_gap, AssemblesIn, HoldsGap, HoldsPast, EndsFlag, Hears, IsYoung, onto, Gap, open_gap-abort, open_gap-flag, ones_after, unstuffed_after, EndsNothing, one_bit, quiet}
+use Rattle.lapd_bits.proofs.Vocabulary.{◌≡◌, ◌≢◌, ℕ, ◌+◌, ◌<◌, ◌≤◌, ◌⊎◌, inl, inr, Bool, true, false, List, [], ◌∷◌, ◌++◌, length, min, Option, Some, None, option_map, refl, ap, sym, ◌∙◌, arith, lt-ltb, low_bits, run_of, open_gap, AssemblesIn, HoldsGap, HoldsPast, EndsFlag, Hears, IsYoung, onto, Gap, open_gap-abort, open_gap-flag, ones_after, unstuffed_after, one_bit, quiet}
 use mir.Val.{bool_byte}
 use Rattle.lapd_bits.specs.declared.deframer.Deframer.{Deframer}
 use Rattle.lapd_bits.specs.declared.ended.Ended.TheVariants as ended
@@ -27,28 +27,28 @@ here_is past = refl
 
 -- ---- a bit that ends nothing
 
--- by the tests of the code
-pub one_quiet : (b : Bool) (ones : ℕ) → ((b ≡ true) × (ones < 6)) ⊎ (b ≡ false) → ((b ≡ false) × (ones ≢ 6)) ⊎ (b ≡ true)
-    → EndsNothing ones (b ∷ [])
-one_quiet true ones (inl few) _ = (few.1, tt)
-one_quiet true ones (inr is) _ = absurd (false≢true (sym is))
-one_quiet false ones _ (inl other) = (other.1, tt)
-one_quiet false ones _ (inr is) = absurd (false≢true is)
-
-pub one_stays : (b : Bool) (ones : ℕ) → ones < 7 → ((b ≡ false) × (ones ≢ 6)) ⊎ (b ≡ true) → (b ≡ true) ⊎ ((b ≡ false) × (ones ≢ 5))
-    → unstuffed_after ones (b ∷ []) ≡ b ∷ []
-one_stays true ones below _ _ = refl
-one_stays false ones below (inl not_six) (inr not_five) = rw (lt-ltb ones 5 (omega (arith, not_six.1, not_five.1))) refl
-one_stays false ones below (inr is) _ = absurd (false≢true is)
-one_stays false ones below _ (inl is) = absurd (false≢true is)
-
-pub one_goes : (b : Bool) (ones : ℕ) → b ≡ false → ones ≡ 5 → unstuffed_after ones (b ∷ []) ≡ []
-one_goes b ones is five = ap (λ x. unstuffed_after ones (x ∷ [])) is ∙ ap (λ n. unstuffed_after n (false ∷ [])) five
-
-pub bit_is : (b : Bool) → low_bits 1 (bool_byte b) ≡ b ∷ []
+-- as the code has it
+at_five : (b : Bool) → unstuffed_after 5 (b ∷ []) ≡ low_bits (bool_byte b) (bool_byte b)
 unfolding low_bits
-bit_is true = refl
-bit_is false = refl
+at_five true = refl
+at_five false = refl
+
+elsewhere : (b : Bool) (ones : ℕ) → ones < 7 → ones ≢ 6 → ones ≢ 5 → unstuffed_after ones (b ∷ []) ≡ low_bits 1 (bool_byte b)
+unfolding low_bits
+elsewhere true ones below not_six not_five = refl
+elsewhere false ones below not_six not_five = rw (lt-ltb ones 5 (omega (arith, not_six, not_five))) refl
+
+pub one_kept : (b : Bool) (ones count byte : ℕ) → ones < 7 → ones ≢ 6 → byte ≡ bool_byte b
+    → ((ones ≡ 5) × (count ≡ byte)) ⊎ ((ones ≢ 5) × (count ≡ 1)) → unstuffed_after ones (b ∷ []) ≡ low_bits count byte
+one_kept b ones count byte below not_six is (inl five) =
+    ap (λ n. unstuffed_after n (b ∷ [])) five.0 ∙ at_five b ∙ (λ i. low_bits (sym (five.1 ∙ is) i) (sym is i))
+one_kept b ones count byte below not_six is (inr other) =
+    elsewhere b ones below not_six other.0 ∙ (λ i. low_bits (sym other.1 i) (sym is i))
+
+pub one_at_most : (b : Bool) (ones count byte : ℕ) → byte ≡ bool_byte b → ((ones ≡ 5) × (count ≡ byte)) ⊎ ((ones ≢ 5) × (count ≡ 1)) → count ≤ 1
+one_at_most true ones count byte is (inl five) = omega (arith, five.1, is)
+one_at_most false ones count byte is (inl five) = omega (arith, five.1, is)
+one_at_most b ones count byte is (inr other) = omega (arith, other.1)
 
 -- fewer than seven 1s stand before it where a gap is open
 pub below_seven : (octets : List ℕ) (ones : ℕ) (gap : Gap) (past : List Bool) → HoldsPast octets ones (Some gap) past → ones < 7
@@ -68,30 +68,29 @@ HoldsGap-more octets octets' ones gap gap' b content past run stays since taken 
     HoldsGap-joined octets octets' gap gap' (b ∷ []) content (open_gap past) since taken
     (joined past (b ∷ []) content (ap (λ n. unstuffed_after n (b ∷ [])) (sym run) ∙ stays)) h
 
--- or there is none
-pub HoldsGap-none : (octets : List ℕ) (b : Bool) (o : Option (List Bool)) → HoldsGap octets None o → HoldsGap octets None (option_map (onto (b ∷ [])) o)
-HoldsGap-none octets b o h = grind arith
-
 -- what the deframer then has heard
 pub hears-quiet :
-    (b : Bool) (old new : Deframer) → EndsNothing old.ones (b ∷ []) → ((b ≡ true) × (new.ones ≡ old.ones + 1)) ⊎ ((b ≡ false) × (new.ones ≡ 0))
+    (b : Bool) (old new : Deframer) → old.ones ≢ 6 → ((b ≡ true) × (new.ones ≡ min (old.ones + 1) 7)) ⊎ ((b ≡ false) × (new.ones ≡ 0))
     → length new.octets.items ≡ length old.octets.items → (IsYoung 7 old.gap → new.octets.items ≡ old.octets.items)
     → ((n : ℕ) → IsYoung n old.gap → IsYoung (n + 1) new.gap)
     → ((past : List Bool) → HoldsPast old.octets.items old.ones old.gap past
     → HoldsGap new.octets.items new.gap (option_map (onto (b ∷ [])) (open_gap past)))
     → Hears b old new ended.Nothing
-hears-quiet b old new q ones room untouched grows taken =
+hears-quiet b old new other ones room untouched grows taken =
     record {
       room = room;
       stands = λ past h.
-          HoldsPast-quiet old.octets.items new.octets.items old.ones new.ones old.gap new.gap (b ∷ []) past
-          (quiet 0 old.ones (b ∷ []) past (sym h.run) q) h.run (counted ones) (taken past h);
-      told = λ past h. sym (one_bit (length old.octets.items) old.ones b [] past (sym h.run) q).0;
+          let run = h.run in
+          HoldsPast-quiet new.octets.items new.ones new.gap old.ones (b ∷ []) past
+          (quiet 0 old.ones (b ∷ []) past (omega (arith, run, old.ones_counted)) (other, tt)) (counted ones) (taken past h);
+      told = λ past h.
+          let run = h.run in
+          sym (one_bit (length old.octets.items) old.ones b past (omega (arith, run, old.ones_counted)) other).0;
       quiet = λ _. refl;
       untouched = untouched;
       grows = grows;
       anew = λ not. absurd (not refl);
     }
   where
-    counted : ((b ≡ true) × (new.ones ≡ old.ones + 1)) ⊎ ((b ≡ false) × (new.ones ≡ 0)) → new.ones ≡ ones_after old.ones (b ∷ [])
+    counted : ((b ≡ true) × (new.ones ≡ min (old.ones + 1) 7)) ⊎ ((b ≡ false) × (new.ones ≡ 0)) → new.ones ≡ min 7 (ones_after old.ones (b ∷ []))
     counted ones = grind (arith, ones_after)

@@ -1,5 +1,5 @@
 -- The tables hold what stays of each octet after each number of 1s.
-use Rattle.lapd_bits.proofs.Vocabulary.{◌≡◌, ℕ, ◌+◌, ◌*◌, ◌/◌, ◌%◌, ◌^◌, ◌<◌, ◌≤◌, Bool, true, false, ◌&&◌, ◌||◌, [], ◌∷◌, ◌++◌, get_or, map, replicate, nat_eq, nat_le, nat_lt, refl, ap, sym, ◌∙◌, arith, range_with_len, and_parts, leb-true, ltb-true, eqb-true, ne_eqb, low_bits, same_bits, same_from_test, unstuffed, run_of, with_bits, ends_nothing, IsContent, TABLES}
+use Rattle.lapd_bits.proofs.Vocabulary.{◌≡◌, ℕ, ◌+◌, ◌*◌, ◌/◌, ◌%◌, ◌^◌, ◌<◌, ◌≤◌, Bool, true, false, ◌&&◌, ◌||◌, [], ◌∷◌, ◌++◌, get_or, map, replicate, nat_eq, nat_le, nat_lt, refl, ap, sym, ◌∙◌, arith, range_with_len, and_parts, leb-true, ltb-true, eqb-true, low_bits, same_bits, same_from_test, unstuffed, run_of, with_bits, ends_nothing, IsContent, TABLES}
 use Rattle.lapd_bits.proofs.Tested.{all_pass}
 
 -- What the tables have for some 1s and an octet: the octet ends something, or these are what stays of it.

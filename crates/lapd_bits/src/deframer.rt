@@ -221,21 +221,22 @@ impl Deframer {
         ensures hears { Hears bit self.old self.new result }
     {
         let ones = self.ones;
-        if bit && ones >= 6 {
-            self.ones = 7;
-            return self.given_up();
-        }
-        self.ones = if bit { ones + 1 } else { 0 };
-        if !bit && ones == 6 {
+        self.ones = if bit { (ones + 1).min(7) } else { 0 };
+        // A bit after six 1s ends something: a seventh gives the gap up, and a 0 is a flag's last bit.
+        if ones == 6 {
+            if bit {
+                return self.given_up();
+            }
             let ended = self.close_after(0, 0);
             self.gap = Some(Gap::begun(0, 0));
             return ended;
         }
         if let Some(gap) = &mut self.gap {
             gap.since = (gap.since + 1).min(8);
-            // A 0 after five 1s was stuffed.
-            let count = if bit || ones != 5 { 1 } else { 0 };
-            gap.join(&mut self.octets, u8::from(bit), count);
+            let bits = u8::from(bit);
+            // After five 1s a 0 is a stuffed one, which does not stay.
+            let count = if ones == 5 { bits } else { 1 };
+            gap.join(&mut self.octets, bits, count);
         }
         Ended::Nothing
     }

@@ -1,5 +1,5 @@
 -- What is heard over bits that come after a place, and over the bits between two flags.
-use Rattle.model_bits.proofs.Vocabulary.{◌≡◌, ℕ, suc, ◌+◌, ◌<◌, ◌≤◌, Bool, true, false, List, [], ◌∷◌, ◌++◌, length, take, reverse, Some, option_to_list, refl, ap, sym, ◌∙◌, arith, append_assoc, length-reverse, reverse-reverse, le-ltb, flag, Event, gap_event, heard_at, heard_until, run_of, closed_event}
+use Rattle.model_bits.proofs.Vocabulary.{◌≡◌, ◌≢◌, ℕ, suc, ◌+◌, ◌<◌, ◌≤◌, min, Bool, true, false, List, [], ◌∷◌, ◌++◌, length, take, reverse, Some, option_to_list, refl, ap, sym, ◌∙◌, arith, append_assoc, length-reverse, reverse-reverse, le-ltb, flag, Event, gap_event, heard_at, heard_until, run_of, closed_event}
 use Rattle.std.proofs.lemmas.List.{append-nil, append_cancel_left}
 use mathlib.Core.List.{reverse_aux}
 use Rattle.model_bits.proofs.Hearing.{heard_at-flag}
@@ -53,11 +53,14 @@ abbrev flag_front : List Bool
 flag_front = false ∷ true ∷ true ∷ true ∷ true ∷ true ∷ true ∷ []
 
 -- after a text with no six contiguous 1s it ends nothing
+no_six : (n : ℕ) → n ≤ 5 → n ≢ 6
+no_six n few six = omega (arith, few, six)
+
 ends_nothing_with : (n : ℕ) (text : List Bool) → n ≤ 5 → NoSix n text → EndsNothing n (text ++ flag_front)
 ends_nothing_with n [] few p =
-    ((λ six. omega (arith, few, six)), (omega arith, (omega arith, (omega arith, (omega arith, (omega arith, (omega arith, tt)))))))
-ends_nothing_with n (false ∷ text) few p = ((λ six. omega (arith, few, six)), ends_nothing_with 0 text (omega arith) p)
-ends_nothing_with n (true ∷ text) few p = (omega (arith, p.0), ends_nothing_with (suc n) text (omega (arith, p.0)) p.1)
+    (no_six n few, (no_six 0 (omega arith), (no_six 1 (omega arith), (no_six 2 (omega arith), (no_six 3 (omega arith), (no_six 4 (omega arith), (no_six 5 (omega arith), tt)))))))
+ends_nothing_with n (false ∷ text) few p = (no_six n few, ends_nothing_with 0 text (omega arith) p)
+ends_nothing_with n (true ∷ text) few p = (no_six n few, ends_nothing_with (suc n) text (omega (arith, p.0)) p.1)
 
 -- what a flag closes behind a text
 closes_front : (room : ℕ) (r : List Bool) → 0 < length r
@@ -76,7 +79,7 @@ hears_text room past text some p =
     let place = after_flag past in
     let front = text ++ flag_front in
     let q = quiet room 0 front place refl (ends_nothing_with 0 text (omega arith) p) in
-    let six : run_of (reverse_aux front place) ≡ 6 = q.run ∙ ones_after-append 0 text flag_front in
+    let six : run_of (reverse_aux front place) ≡ 6 = q.run ∙ ap (min 7) (ones_after-append 0 text flag_front) in
     let none : hears room place front ≡ [] =
     append_cancel_left (heard_until room place) (hears room place front) []
     (sym (heard_until-onto room front place) ∙ q.heard ∙ sym (append-nil (heard_until room place))) in

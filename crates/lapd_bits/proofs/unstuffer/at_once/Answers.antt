@@ -1,5 +1,5 @@
 -- The entry in the tables, or none where it is marked.
-use Rattle.lapd_bits.proofs.Vocabulary.{◌+◌, ◌*◌, get_or, arith, ne_eqb, TABLES}
+use Rattle.lapd_bits.proofs.Vocabulary.{arith, ne_eqb}
 use Rattle.lapd_bits.proofs.UnstuffingTables.{entry}
 use Rattle.lapd_bits.proofs.unstuffer.at_once.Goals as goal
 

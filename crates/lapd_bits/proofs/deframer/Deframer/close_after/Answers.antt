@@ -1,5 +1,5 @@
 -- No gap is open, or one of too few bits; or the bits go on it, and it is closed.
-use Rattle.lapd_bits.proofs.Vocabulary.{◌≡◌, ◌+◌, ◌<◌, IfSome, Some, length, ap, sym, subst, ◌∙◌, arith, low_bits, length-low_bits, HoldsGap, open_gap, event_in}
+use Rattle.lapd_bits.proofs.Vocabulary.{◌≡◌, Some, length, sym, subst, ◌∙◌, arith, low_bits, length-low_bits, HoldsGap, open_gap, event_in}
 use Rattle.lapd_bits.proofs.FlagEnd.{told-young, told-closed}
 use Rattle.lapd_bits.proofs.deframer.Deframer.close_after.Goals as goal
 

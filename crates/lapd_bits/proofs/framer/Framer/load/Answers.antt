@@ -1,5 +1,5 @@
 -- The text of the frame has been made after the bits that were left.
-use Rattle.lapd_bits.proofs.Vocabulary.{◌≡◌, ◌+◌, ◌≤◌, ◌++◌, length, take, sym, ap, ◌∙◌, subst, length-append, refl, arith, bits, flag, frame_text, Goes, last_ones, waits, made, to_give}
+use Rattle.lapd_bits.proofs.Vocabulary.{◌≡◌, ◌+◌, ◌≤◌, ◌++◌, length, sym, ap, ◌∙◌, subst, length-append, refl, arith, bits, flag, frame_text, Goes, last_ones, waits, made, to_give}
 use Rattle.lapd_bits.proofs.FramerGiven.{length_to_give, to_give-none}
 use Rattle.lapd_bits.proofs.FramerLoad.{frame_made, written_back}
 use Rattle.lapd_bits.proofs.FramerStands.{Stands-load, begun_by}

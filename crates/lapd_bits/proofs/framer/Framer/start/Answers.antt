@@ -1,5 +1,5 @@
 -- One flag lies in the buffer.
-use Rattle.lapd_bits.proofs.Vocabulary.{◌≡◌, ◌<◌, ℕ, List, None, [], ◌∷◌, ◌++◌, length, take, vec_len, slice_set, rules, refl, sym, ap, arith, take-set_at, bits, low_bits, flag, still_held}
+use Rattle.lapd_bits.proofs.Vocabulary.{◌≡◌, ◌<◌, ℕ, List, None, [], ◌++◌, length, take, vec_len, slice_set, rules, refl, sym, ap, arith, take-set_at, bits, low_bits, flag, still_held}
 use Rattle.lapd_bits.proofs.framer.Framer.start.Goals as goal
 
 left_is : (octets : List ℕ) → 0 < length octets → bits (take 1 (slice_set octets 0 126)) ++ low_bits 0 0 ≡ flag

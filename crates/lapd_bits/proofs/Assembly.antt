@@ -1,38 +1,7 @@
 -- How a deframer's fields follow the bits of an open gap: octets are put together and kept.
-use Rattle.lapd_bits.proofs.Vocabulary.{◌≡◌, ◌≢◌, ℕ, ◌+◌, ◌-◌, ◌*◌, ◌/◌, ◌%◌, ◌^◌, ◌<◌, ◌≤◌, Bool, true, false, List, [], ◌∷◌, ◌++◌, length, take, Option, Some, None, is_some, nat_eq, nat_lt, refl, ap, sym, ◌∙◌, subst, arith, length-append, append_assoc, lt-ltb, le-ltb, ltb-true, ltb-false, ne_eqb, false_from_ne_true, take-append-le, take-take, All-nil, All-cons, All-append, pow_pos, pow_below, take-length, add-mul-mod_self_left, add-mul-div_left, mod-eq_of_lt, div-eq_of_lt, one-mul, zero-add, bits, low_bits, same_bits, is_good, HoldsDivision, Event, overlong, dropped, is_short, judged, flag_front, closing_event, Keeps, Assembles, Ragged, Short, Fcs, low_bits-add, low_bits-mod, length-low_bits, bits-push, same_from_low_bits, same_from_test}
-use Rattle.std.proofs.Math.Nat.{mul-one}
+use Rattle.lapd_bits.proofs.Vocabulary.{◌≡◌, ◌≢◌, ℕ, ◌-◌, ◌^◌, ◌<◌, ◌≤◌, Bool, true, false, List, [], ◌∷◌, ◌++◌, length, take, Option, Some, None, is_some, nat_lt, refl, ap, sym, ◌∙◌, arith, length-append, lt-ltb, le-ltb, ltb-true, ltb-false, eq-eqb, ne_eqb, false_from_ne_true, take-append-le, take-take, All-nil, take-length, bits, low_bits, same_bits, is_good, HoldsDivision, Event, overlong, dropped, is_short, judged, flag_front, closing_event, Keeps, Assembles, Ragged, Short, Fcs, length-low_bits, bits-push, same_from_low_bits, same_from_test}
 use Rattle.model_bits.specs.Stream.{frame}
-use Rattle.std.proofs.lemmas.List.{append-nil}
-
--- ---- one bit more above the low bits of a number
-
--- a bit above them, as a digit of the number
-low_bits-digit : (number place digit : ℕ) → number < 2 ^ place → digit < 2 → low_bits (place + 1) (number + 2 ^ place * digit) ≡ low_bits place number ++ nat_eq digit 1 ∷ []
-unfolding low_bits
-low_bits-digit number place digit below small =
-    let sum = number + 2 ^ place * digit in
-    let positive = pow_pos place in
-    let rest : sum % 2 ^ place ≡ number = add-mul-mod_self_left number (2 ^ place) digit ∙ mod-eq_of_lt below in
-    let above : sum / 2 ^ place ≡ digit = add-mul-div_left number digit positive ∙ ap (λ k. k + digit) (div-eq_of_lt below) ∙ zero-add digit in
-    low_bits-add place 1 sum
-    ∙ ap (λ l. l ++ low_bits 1 (sum / 2 ^ place)) (sym (low_bits-mod place sum) ∙ ap (low_bits place) rest)
-    ∙ ap (λ k. low_bits place number ++ nat_eq (k % 2) 1 ∷ []) above
-    ∙ ap (λ k. low_bits place number ++ nat_eq k 1 ∷ []) (mod-eq_of_lt small)
-
-pub low_bits_with_one : (number place : ℕ) → number < 2 ^ place → low_bits (place + 1) (number + 2 ^ place) ≡ low_bits place number ++ true ∷ []
-low_bits_with_one number place below =
-    ap (λ k. low_bits (place + 1) (number + k)) (sym (mul-one (2 ^ place))) ∙ low_bits-digit number place 1 below (omega arith)
-
-pub low_bits_with_zero : (number place : ℕ) → number < 2 ^ place → low_bits (place + 1) number ≡ low_bits place number ++ false ∷ []
-low_bits_with_zero number place below =
-    ap (low_bits (place + 1)) (omega arith) ∙ low_bits-digit number place 0 below (omega arith)
-
--- the weight of a bit of an octet fits the octet
-pub bit_weight : (place : ℕ) → place < 8 → 1 * 2 ^ place % 256 ≡ 2 ^ place
-bit_weight place h = grind (arith, pow_below, one-mul, mod-eq_of_lt)
-
--- what a number with one bit more needs
-pub ruleset bit_rules = (low_bits_with_one, low_bits_with_zero, bit_weight)
+use Rattle.lapd_bits.proofs.Division.Holds.{HoldsDivision_good}
 
 -- ---- octets that are kept
 
@@ -40,10 +9,10 @@ pub ruleset bit_rules = (low_bits_with_one, low_bits_with_zero, bit_weight)
 pub Keeps-none : (octets : List ℕ) → Keeps octets 0 None []
 Keeps-none octets = grind (arith, le-ltb)
 
--- and no bits make no octets
-pub Assembles_none : (octets : List ℕ) → Assembles octets 0 None 0 0 []
-unfolding low_bits
-Assembles_none octets = grind (arith, Keeps-none)
+-- and bits alone make no octets
+pub Assembles_begun : (octets : List ℕ) (partial filled : ℕ) → Assembles octets 0 None partial filled (low_bits filled partial)
+Assembles_begun octets partial filled =
+    record { whole = []; are_octets = All-nil (λ x. x < 256); keeps = Keeps-none octets; assembled = refl }
 
 -- an octet more that there is no room for
 pub Keeps_beyond : (octets whole : List ℕ) (count register o : ℕ) (beyond : Option ℕ) → count ≡ length octets → Keeps octets count beyond whole → HoldsDivision register (bits whole ++ low_bits 8 o) → Keeps octets count (Some register) (whole ++ o ∷ [])
@@ -106,27 +75,12 @@ module _
         → Some (frame (take (count - 2) octets)) ≡ Some (closing_event (length octets) whole (low_bits filled partial))
     told-frame g none = search (arith, Keeps-all, nat_lt, long_whole, closing, take-take)
 
+-- and what the register tells of the check
+pub no_error : (register : ℕ) (d : List Bool) → register < 2 ^ 16 → HoldsDivision register d → register ≡ 0xF0B8 → is_good d ≡ true
+no_error register d small holds e = sym (HoldsDivision_good register d small holds) ∙ eq-eqb _ _ e
+
+pub an_error : (register : ℕ) (d : List Bool) → register < 2 ^ 16 → HoldsDivision register d → register ≢ 0xF0B8 → is_good d ≡ false
+an_error register d small holds e = sym (HoldsDivision_good register d small holds) ∙ ne_eqb _ _ e
+
 -- all that a closing flag tells
-pub ruleset told_rules = (over_by_count, over_by_value, closing-ragged, told-short, told-wrong, told-overlong, told-frame)
-
--- ---- one bit more of a gap
-
--- what holds of fields holds of fields that equal them
-pub Keeps_same : (octets whole : List ℕ) (count count' : ℕ) (beyond beyond' : Option ℕ) → count' ≡ count → beyond' ≡ beyond → Keeps octets count beyond whole → Keeps octets count' beyond' whole
-Keeps_same octets whole count count' beyond beyond' p q k = grind arith
-
--- a bit that fills one, which is kept
-pub Assembles-octet : (octets later_octets : List ℕ) (count later_count : ℕ) (beyond later_beyond : Option ℕ) (partial filled octet partial' filled' : ℕ) (text : List Bool) (b : Bool) → (a : Assembles octets count beyond partial filled text) → filled ≡ 7 → low_bits (filled + 1) octet ≡ low_bits filled partial ++ b ∷ [] → octet < 2 ^ (filled + 1) → partial' ≡ 0 → filled' ≡ 0 → Keeps later_octets later_count later_beyond (a.whole ++ octet ∷ []) → Assembles later_octets later_count later_beyond partial' filled' (text ++ b ∷ [])
-unfolding low_bits
-Assembles-octet octets later_octets count later_count beyond later_beyond partial filled octet partial' filled' text b a seven e small p q k =
-    let eight : low_bits 8 octet ≡ low_bits filled partial ++ b ∷ [] = ap (λ n. low_bits (n + 1) octet) (sym seven) ∙ e in
-    let below : octet < 256 = subst (λ n. octet < 2 ^ (n + 1)) seven small in
-    record {
-      whole = a.whole ++ octet ∷ [];
-      are_octets = All-append (λ x. x < 256) a.whole (octet ∷ []) a.are_octets (All-cons (λ x. x < 256) octet [] below (All-nil (λ x. x < 256)));
-      keeps = k;
-      assembled =
-          ap (λ t. t ++ b ∷ []) a.assembled ∙ append_assoc (bits a.whole) (low_bits filled partial) (b ∷ [])
-          ∙ ap (λ t. bits a.whole ++ t) (sym eight) ∙ sym (bits-push a.whole octet) ∙ sym (append-nil (bits (a.whole ++ octet ∷ [])))
-          ∙ ap (λ n. bits (a.whole ++ octet ∷ []) ++ low_bits n partial') (sym q);
-    }
+pub ruleset told_rules = (no_error, an_error, over_by_count, over_by_value, closing-ragged, told-short, told-wrong, told-overlong, told-frame)

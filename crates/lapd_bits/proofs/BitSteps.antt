@@ -1,9 +1,9 @@
 -- One bit more of a line: what a deframer's fields then stand for, and what the bit ends.
-use Rattle.lapd_bits.proofs.Vocabulary.{◌≡◌, ◌≢◌, ℕ, ◌+◌, ◌*◌, ◌/◌, ◌^◌, ◌<◌, ◌≤◌, Bool, true, false, List, [], ◌∷◌, ◌++◌, length, drop, reverse, Option, Some, None, option_and_then, IfSome, option_to_list, nat_lt, nat_eq, cond, refl, ap, sym, ◌∙◌, subst, arith, length-append, ◌⊎◌, bit_and, le-ltb, reverse-append, bits, low_bits, same_bits, unstuffed, octets_sent, Event, since_flag, has_abort, gap_event, room_for, heard_at, heard_until, flag_front, closing_event, event_in, one_more, closed_event, run_of, open_gap, kept_count, octets_held, IsKept, IsStuffed, IsYoung, with_bits, KeepsIn, HoldsGap, HoldsPast, Gap, Ended, length-bits, length-low_bits, reverse-bits_push, reverse-cons, latest_ones, latest_ones-below, ones_after-reverse, run_of-gap, gap_has_no_flag, NoFlag, NoSix-reverse, front_of_flag, open_gap-one, open_gap-abort, open_gap-zero, NoSix}
+use Rattle.lapd_bits.proofs.Vocabulary.{◌≡◌, ℕ, ◌+◌, ◌*◌, ◌/◌, ◌^◌, ◌<◌, ◌≤◌, Bool, true, false, List, [], ◌∷◌, ◌++◌, length, drop, reverse, Option, Some, None, option_and_then, IfSome, option_to_list, nat_lt, nat_eq, cond, refl, ap, sym, ◌∙◌, subst, arith, length-append, ◌⊎◌, bit_and, le-ltb, reverse-append, bits, low_bits, same_bits, unstuffed, octets_sent, Event, since_flag, has_abort, gap_event, room_for, heard_at, heard_until, flag_front, closing_event, event_in, closed_event, run_of, open_gap, kept_count, octets_held, IsYoung, with_bits, KeepsIn, HoldsGap, Gap, Ended, length-bits, length-low_bits, reverse-bits_push, latest_ones, latest_ones-below, run_of-gap, gap_has_no_flag, NoFlag, NoSix-reverse, front_of_flag, NoSix, reverse_aux-append, reverse_aux-onto}
 use Rattle.std.proofs.lemmas.List.{append-nil}
 use Rattle.lapd_bits.specs.declared.ended.Ended.TheVariants as ended
 use Rattle.lapd_bits.proofs.Division.Holds.{low_bits-next}
-use Rattle.lapd_bits.proofs.StuffingClosed.{unstuffed-push_one, unstuffed-push_zero, unstuffed-push_stuffed, octets_sent-assembled}
+use Rattle.lapd_bits.proofs.StuffingClosed.{octets_sent-assembled}
 
 -- ---- the open gap
 
@@ -25,38 +25,9 @@ open_run past g e =
     let below = latest_ones-below g s.1 in
     (omega arith, below)
 
--- a field that matches no gap has none
-pub no_some : (o : Option Gap) → ((g : Gap) → o ≡ Some g → ⊥) → o ≡ None
-no_some o f = grind arith
-
 -- what holds of any open gap there is
 pub for_open : (past : List Bool) (P : List Bool → Type 0) → ((g : List Bool) → open_gap past ≡ Some g → P g) → IfSome (open_gap past) P
 for_open past P h = grind arith
-
--- ---- which bits are kept
-
--- a 1 is
-pub kept_one : (gap : Option (List Bool)) → IsKept true gap
-kept_one gap = grind (arith, reverse-cons, unstuffed-push_one)
-
--- a 0 is, but after five 1s
-pub kept_zero : (past : List Bool) → run_of past ≢ 5 → run_of past ≢ 6 → IsKept false (open_gap past)
-kept_zero past not_five not_six = grind (arith, for_open, open_run, reverse-cons, unstuffed-push_zero, ones_after-reverse)
-
-pub stuffed_zero : (past : List Bool) → run_of past ≡ 5 → IsStuffed (open_gap past)
-stuffed_zero past five = grind (arith, for_open, open_run, reverse-cons, unstuffed-push_stuffed, ones_after-reverse)
-
--- ---- what the fields stand for after the bit
-
-module _ (octets octets' : List ℕ) (ones ones' : ℕ) (gap gap' : Option Gap) (past : List Bool) (h : HoldsPast octets ones gap past) where
-  pub HoldsPast-one : ones < 6 → ones' ≡ ones + 1 → HoldsGap octets' gap' (one_more true (open_gap past)) → HoldsPast octets' ones' gap' (true ∷ past)
-  HoldsPast-one few e taken = grind (arith, open_gap-one)
-
-  pub HoldsPast-abort : 6 ≤ ones → ones' ≡ 7 → gap' ≡ None → HoldsPast octets' ones' gap' (true ∷ past)
-  HoldsPast-abort many e none = grind (arith, open_gap-abort)
-
-  pub HoldsPast-zero : ones ≢ 6 → ones' ≡ 0 → HoldsGap octets' gap' (one_more false (open_gap past)) → HoldsPast octets' ones' gap' (false ∷ past)
-  HoldsPast-zero other e taken = grind (arith, open_gap-zero)
 
 -- ---- what a flag's last bit ends
 
@@ -116,11 +87,11 @@ with_bits-none octet past = refl
 
 -- one bit more, as the code reads it
 pub with_bits-more : (place octet : ℕ) (past : List Bool) → with_bits (place + 1) octet past ≡ nat_eq (bit_and (octet / 2 ^ place) 1) 1 ∷ with_bits place octet past
-with_bits-more place octet past = grind (arith, low_bits-next, reverse-append, nat_eq, bit_and)
+with_bits-more place octet past = grind (arith, low_bits-next, reverse_aux-append, nat_eq, bit_and)
 
 -- the bits of the octets of a line with one octet more
 pub with_bits-octet : (past : List ℕ) (octet : ℕ) → reverse (bits (past ++ octet ∷ [])) ≡ with_bits 8 octet (reverse (bits past))
-with_bits-octet past octet = reverse-bits_push past octet
+with_bits-octet past octet = reverse-bits_push past octet ∙ sym (reverse_aux-onto (low_bits 8 octet) [] (reverse (bits past)))
 
 -- a bit that brings nothing leaves what was heard
 pub told_nothing_more : (room : ℕ) (past so_far : List Bool) (b : Bool) (before after : Option Event) → heard_until room so_far ≡ heard_until room past ++ option_to_list before → None ≡ heard_at room (b ∷ so_far) → before ≡ after → heard_until room (b ∷ so_far) ≡ heard_until room past ++ option_to_list after

@@ -1,5 +1,5 @@
 -- Many bits go on an open gap at once.
-use Rattle.lapd_bits.proofs.Vocabulary.{◌≡◌, ℕ, ◌+◌, ◌-◌, ◌*◌, ◌/◌, ◌%◌, ◌^◌, ◌<◌, ◌≤◌, Bool, List, [], ◌∷◌, ◌++◌, Option, Some, option_map, ap, sym, ◌∙◌, arith, append_assoc, length-append, length-reverse, All-nil, All-cons, All-append, mul-add-lt, mod-mul-add, div-mul-add, pow-add, pow_below, mod-eq_of_lt, bits, low_bits, Keeps, Assembles, AssemblesIn, HoldsGap, with_bits, IsJoined, Gap, low_bits-add, low_bits-mod, length-low_bits, bits-push}
+use Rattle.lapd_bits.proofs.Vocabulary.{◌≡◌, ℕ, ◌+◌, ◌-◌, ◌*◌, ◌/◌, ◌%◌, ◌^◌, ◌<◌, ◌≤◌, Bool, List, [], ◌∷◌, ◌++◌, Option, ap, sym, ◌∙◌, arith, append_assoc, All-nil, All-cons, All-append, mul-add-lt, mod-mul-add, div-mul-add, pow-add, pow_below, mod-eq_of_lt, bits, low_bits, Keeps, Assembles, low_bits-add, low_bits-mod, bits-push}
 
 -- ---- a number above another
 
@@ -62,13 +62,3 @@ Assembles-joined_octet octets later_octets count later_count beyond later_beyond
 -- what is left is below the power for its bits
 pub left_below : (joined n : ℕ) → 8 ≤ n → joined < 2 ^ n → joined / 256 < 2 ^ (n - 8)
 left_below joined n h below = grind (arith, pow-add)
-
--- ---- the gap
-
--- a gap with the bits of an octet more
-pub HoldsGap_joined :
-    (octets octets' : List ℕ) (gap gap' : Gap) (octet : ℕ) (content : List Bool) (g : Option (List Bool)) → gap'.since ≡ 8
-    → ((text : List Bool) → AssemblesIn octets gap text → AssemblesIn octets' gap' (text ++ content))
-    → IsJoined octet content g → HoldsGap octets (Some gap) g
-    → HoldsGap octets' (Some gap') (option_map (with_bits 8 octet) g)
-HoldsGap_joined octets octets' gap gap' octet content g since taken joined h = grind (arith, length-append, length-reverse, length-low_bits)

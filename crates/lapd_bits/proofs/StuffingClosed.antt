@@ -1,25 +1,10 @@
 -- Unstuffing that runs on into a closing flag: a receiver takes the flag's first seven bits in before its
 -- last bit tells that they are a flag.
 use Rattle.lapd_bits.proofs.Vocabulary.{◌≡◌, refl, ◌+◌, ◌↔◌, ℕ, ◌<◌, ◌≤◌, Bool, true, false, List, [], ◌∷◌, ◌++◌, Some, ap, sym, ◌∙◌, subst, arith, ⊎_elim, append_assoc, length, ◌*◌, drop, None, cond, length-append, cases_Bool, false≢true, lt-ltb, le-ltb, cases_lt, drop_at, append_cancel_right, bits, same_bits, stuffed, unstuffed, octets_sent, AreOctets, flag_front, ones_after, unstuffed_after, NoSix, unstuffed-counted, ones_after-append, unstuffed_after-append, ones_after-unstuffed_after, ones_after-stuffed, stuffed-unstuffed, unstuffed-stuffed, octets_are_those_sent, none_where_none_sent, length-bits, same_from_test, same_bits_self}
-use Rattle.std.proofs.lemmas.List.{append-nil}
 
 -- a flag without its first bit and its last
 abbrev pub six_ones : List Bool
 six_ones = true ∷ true ∷ true ∷ true ∷ true ∷ true ∷ []
-
--- one bit more of a text
-pub unstuffed-push : (text : List Bool) (b : Bool) → unstuffed (text ++ b ∷ []) ≡ unstuffed text ++ unstuffed_after (ones_after 0 text) (b ∷ [])
-unstuffed-push text b = grind (arith, unstuffed-counted, unstuffed_after-append, unstuffed_after, ones_after)
-
--- a 1, and a 0 that follows fewer than five 1s, are kept, and a 0 after five or more is not
-pub unstuffed-push_one : (text : List Bool) → unstuffed (text ++ true ∷ []) ≡ unstuffed text ++ true ∷ []
-unstuffed-push_one text = unstuffed-push text true
-
-pub unstuffed-push_zero : (text : List Bool) → ones_after 0 text < 5 → unstuffed (text ++ false ∷ []) ≡ unstuffed text ++ false ∷ []
-unstuffed-push_zero text h = simp (lt-ltb (ones_after 0 text) 5 h) at (unstuffed-push text false)
-
-pub unstuffed-push_stuffed : (text : List Bool) → 5 ≤ ones_after 0 text → unstuffed (text ++ false ∷ []) ≡ unstuffed text
-unstuffed-push_stuffed text h = grind (arith, le-ltb, ones_after, unstuffed-push, append-nil)
 
 -- a closing flag's first 0 is kept where the text does not end in five 1s, and taken out where it does
 pub unstuffed-flag_front : (text : List Bool) → ones_after 0 text < 5 → unstuffed (text ++ flag_front) ≡ unstuffed text ++ flag_front

@@ -20,18 +20,17 @@ pub use Rattle.std.specs.Option.{option_map_or}
 pub use Rattle.std.specs.Prelude.{bit_xor, slice_set}
 pub use Rattle.std.specs.Simd.{first_chunks}
 pub use Rattle.lapd_bits.specs.Deframer.{Assembles, AssemblesIn, HoldsGap, HoldsPast, Keeps, KeepsIn}
-pub use Rattle.lapd_bits.specs.Ended.{FitsIn, closing_event, ended_of, event_in, flag_front, without_octets}
-pub use Rattle.lapd_bits.specs.FlagEnd.{IsFlagBegun, IsFlagEnd, behind_zero, ends_nothing, ones_before, only_flag_ends}
+pub use Rattle.lapd_bits.specs.Ended.{FitsIn, closing_event, event_in, flag_front, without_octets}
+pub use Rattle.lapd_bits.specs.FlagEnd.{IsFlagEnd}
 pub use Rattle.lapd_bits.specs.FramerFields.{begun_of}
 pub use Rattle.lapd_bits.specs.FramerText.{fifths, made, to_give, waits}
 pub use Rattle.lapd_bits.specs.Register.{HoldsDivision}
-pub use Rattle.lapd_bits.specs.Steps.{IsKept, IsStuffed, IsYoung, with_bits}
+pub use Rattle.lapd_bits.specs.Steps.{EndsFlag, Hears, IsJoined, IsYoung, Takes, onto, with_bits}
 pub use Rattle.lapd_bits.specs.Stuffer.{Goes, first_ones, fives, last_ones, text_after}
-pub use Rattle.lapd_bits.specs.Unstuffer.{IsContent, IsJoined, StaysIdle, has_six}
+pub use Rattle.lapd_bits.specs.Unstuffer.{IsContent, ends_nothing}
 pub use Rattle.lapd_bits.specs.declared.check.TheConstants.{LEFT}
 pub use Rattle.lapd_bits.specs.declared.deframer.TheConstants.{IDLE}
 pub use Rattle.lapd_bits.specs.declared.ended.Ended.{Ended}
-pub use Rattle.lapd_bits.specs.declared.flag_end.TheConstants.{BITS_BEHIND, COUNTS_BEHIND, ONES_BEFORE, RUNS_BEHIND}
 pub use Rattle.lapd_bits.specs.declared.gap.Gap.{Gap}
 pub use Rattle.lapd_bits.specs.declared.stuffed_text.StuffedText.{StuffedText}
 pub use Rattle.lapd_bits.specs.declared.unstuffer.TheConstants.{TABLES}
@@ -43,6 +42,7 @@ pub use Rattle.model_bits.proofs.Division.Sums.{differ_self, length-plus, plus-a
 pub use Rattle.model_bits.proofs.Hearing.{heard_at-abort, heard_at-flag, heard_at-one, heard_at-zero, open_gap-abort, open_gap-flag, open_gap-one, open_gap-zero}
 pub use Rattle.model_bits.proofs.Items.{last_octets-push, latest-push, line_text-push}
 pub use Rattle.model_bits.proofs.Places.{NoFlag, NoSix-reverse, front_of_flag, gap_has_no_flag, latest_ones, latest_ones-below, ones_after-reverse, reverse-cons, run_of-gap}
+pub use Rattle.model_bits.proofs.Quiet.{EndsNothing, IsFlag, IsQuiet, flag_ends, one_bit, quiet}
 pub use Rattle.model_bits.proofs.StuffingCounted.{NoSix, ones_after, ones_after-append, ones_after-unstuffed_after, ones_left, stuffed-counted, stuffed_after, stuffed_alike, stuffed_after_fifth, stuffed_zero, unstuffed-counted, unstuffed_after, unstuffed_after-append}
 pub use Rattle.model_bits.proofs.StuffingLengths.{ones_sent, stuffed_after-at_least, stuffed_after-pays}
 pub use Rattle.model_bits.proofs.StuffingOctets.{none_where_none_sent, octets_are_those_sent}

@@ -18,7 +18,7 @@ use Rattle.model_bits.specs.Stuffing.{unstuffed}
 use Rattle.lapd_bits.specs.Register.{HoldsDivision}
 use Rattle.model_bits.specs.OpenGap.{run_of, open_gap}
 use Rattle.model_bits.specs.Stream.{Event, heard_in, room_for}
-use Rattle.lapd_bits.specs.Ended.{event_in, ended_of}
+use Rattle.lapd_bits.specs.Ended.{event_in}
 use Rattle.lapd_bits.specs.declared.gap.Gap.{Gap}
 use Rattle.lapd_bits.specs.declared.deframer.Deframer.{Deframer}
 
@@ -63,7 +63,7 @@ pub record HoldsPast (octets : List ℕ) (ones : ℕ) (gap : Option Gap) (past :
 
 -- What a deframer lends until its next octet: what the latest octet ended.
 abbrev pub latest_of : Deframer → Option Event
-latest_of deframer = event_in deframer.octets.items (ended_of deframer.ended)
+latest_of deframer = event_in deframer.octets.items deframer.ended
 
 -- A deframer for information fields of `n201` octets stands for the octets that a line has brought so far, and
 -- still has what the latest of them brought.

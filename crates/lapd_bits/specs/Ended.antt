@@ -1,12 +1,10 @@
--- What has ended, as a deframer's private calls say it and as it is kept, against the octets that it holds.
+-- What has ended, against the octets that a deframer holds.
 use Rattle.std.specs.Prelude.{ℕ, ◌≤◌, Bool, true, false, List, [], ◌∷◌, Option, Some, None, length, take, if◌then◌else◌}
 use Rattle.model_bits.specs.Bits.{same_bits}
 use Rattle.model_bits.specs.Stream.{Event, frame, overlong, dropped, judged}
 use Rattle.model_bits.specs.declared.heard.Cause.TheVariants.{Ragged}
 use Rattle.lapd_bits.specs.declared.ended.Ended.{Ended}
 use Rattle.lapd_bits.specs.declared.ended.Ended.TheVariants.{Nothing, Dropped, Frame, Overlong}
-use Rattle.lapd_bits.specs.declared.latest.Latest.{Latest}
-use Rattle.lapd_bits.specs.declared.latest.Latest.TheVariants as latest
 
 -- how many octets of a frame have ended
 abbrev pub frame_len : Ended → ℕ
@@ -18,13 +16,6 @@ frame_len Overlong = 0
 -- a frame that has ended lies in room for `n` octets
 abbrev pub FitsIn : ℕ → Ended → Type 0
 FitsIn n ended = frame_len ended ≤ n
-
--- what has ended, of what is kept of it
-abbrev pub ended_of : Latest → Ended
-ended_of latest.Nothing = Nothing
-ended_of (latest.Dropped cause) = Dropped cause
-ended_of (latest.Frame len) = Frame len
-ended_of latest.Overlong = Overlong
 
 -- the event that has ended, or none: its octets lie in the deframer's
 abbrev pub event_in : List ℕ → Ended → Option Event

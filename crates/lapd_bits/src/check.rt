@@ -5,14 +5,14 @@
 //! remainder of the division turned round: its lowest bit is the highest power.
 ghost use Rattle.std.specs.Prelude.{◌≡◌, ◌++◌, ◌<◌, ◌≤◌, ◌+◌, ◌*◌, ◌/◌, List, Bool, false, length, take, drop, replicate};
 ghost use Rattle.model_bits.specs.Bits.{low_bits, bits};
-ghost use Rattle.model_bits.specs.Check.{remainder, check, is_good};
+ghost use Rattle.model_bits.specs.Check.{remainder, check};
 ghost use Rattle.lapd_bits.specs.Register.{HoldsDivision};
 
 /// The register before the first bit: the preset to ones.
 const PRESET: u16 = 0xFFFF;
 
 /// What the register holds over a frame and its check where there is no error, turned round.
-const NO_ERROR: u16 = 0xF0B8;
+pub(crate) const NO_ERROR: u16 = 0xF0B8;
 
 /// The sums of numbers: of those at whose places an octet has a 1, for each octet.
 macro_rules! sums {
@@ -60,14 +60,6 @@ pub(crate) fn divided(register: u16, octet: u8) -> u16
         → HoldsDivision result (d ++ low_bits 8 octet) }
 {
     (register >> 8) ^ left_of((register % 256) as u8 ^ octet, 0)
-}
-
-/// Whether the register tells of no error over a frame and its check.
-#[tactic(auto, using(crate::proofs::Division::Holds::HoldsDivision_good))]
-pub(crate) fn shows_no_error(register: u16) -> bool
-    ensures { (d : List Bool) → HoldsDivision register d → result ≡ is_good d }
-{
-    register == NO_ERROR
 }
 
 /// The register after all octets.

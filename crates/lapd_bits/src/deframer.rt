@@ -1,14 +1,13 @@
 //! What is heard on a line (clauses 2.2 to 2.10): octets go in one by one, and the frames in them come out.
-ghost use Rattle.std.specs.Prelude.{◌≡◌, ℕ, ◌≤◌, ◌+◌, Bool, true, false, List, [], ◌∷◌, ◌++◌, length, vec_len, IsTrue, IfOk, Option, Some, None, option_to_list, option_map};
+ghost use Rattle.std.specs.Prelude.{◌≡◌, ℕ, ◌<◌, ◌≤◌, ◌^◌, Bool, List, [], ◌∷◌, ◌++◌, length, vec_len, IsTrue, IfOk, Option, None, option_to_list, option_map};
 ghost use Rattle.std.specs.Option.{ForSome};
 ghost use Rattle.model_bits.specs.Bits.{low_bits};
-ghost use Rattle.lapd_bits.specs.Ended.{FitsIn, ended_of};
-ghost use Rattle.model_bits.specs.Stream.{heard_in, heard_until};
+ghost use Rattle.lapd_bits.specs.Ended.{FitsIn};
+ghost use Rattle.model_bits.specs.Stream.{heard_in};
 
 use crate::ended::Ended;
-use crate::flag_end::{FLAG, flag_begun, flag_end};
+use crate::flag_end::{FlagEnd, flag_end};
 use crate::gap::Gap;
-use crate::latest::Latest;
 use crate::start_fault::StartFault;
 use crate::unstuffer::{Content, at_once};
 use model_bits::{Cause, Heard};
@@ -23,29 +22,29 @@ static IDLE: [u8; 8] = [0x7E, 0x3F, 0x9F, 0xCF, 0xE7, 0xF3, 0xF9, 0xFC];
 /// All its memory is taken by [`Deframer::start`].
 #[derive(Drop, Debug)]
 pub struct Deframer {
-    pub(crate) octets: Vec<u8>,
+    octets: Vec<u8>,
     /// The contiguous 1s up to now; 7 stands for 7 and more, and for no bit at all.
-    pub(crate) ones: u8,
-    pub(crate) gap: Option<Gap>,
+    ones: u8,
+    gap: Option<Gap>,
     /// What the latest octet ended. It lies in `octets` until the next.
-    pub(crate) ended: Latest,
+    ended: Ended,
     ghost room: { 6 ≤ vec_len octets },
     ghost room_counts: { vec_len octets ≤ 1030 },
     ghost ones_counted: { ones ≤ 7 },
     ghost gap_fits: { ForSome gap (λ g. g.count ≤ vec_len octets) },
-    ghost ended_fits: { FitsIn (vec_len octets) (ended_of ended) },
+    ghost ended_fits: { FitsIn (vec_len octets) ended },
 }
 
 impl Deframer {
     ghost use Rattle.std.specs.Borrow.{sem};
     ghost use Rattle.std.specs.Io.BufRead.{Rests};
     ghost use Rattle.lapd_bits.specs.contracts.deframer.Deframer.{the_row};
-    ghost use Rattle.lapd_bits.specs.Deframer.{Stands, HoldsPast, HoldsGap, latest_of};
-    ghost use Rattle.model_bits.specs.OpenGap.{run_of, open_gap, octets_held, one_more, given_up_event, closed_event};
+    ghost use Rattle.lapd_bits.specs.Deframer.{Stands, HoldsGap, latest_of};
+    ghost use Rattle.model_bits.specs.OpenGap.{open_gap, octets_held, given_up_event, closed_event};
     ghost use Rattle.model_bits.specs.Heard.{heard_of};
     ghost use Rattle.lapd_bits.specs.Ended.{event_in, without_octets};
-    ghost use Rattle.lapd_bits.specs.Steps.{Hears, Ages, IsKept, IsStuffed, IsYoung, with_bits};
-    ghost use Rattle.lapd_bits.specs.Unstuffer.{IsJoined, StaysIdle};
+    ghost use Rattle.lapd_bits.specs.FlagEnd.{IsFlagEnd};
+    ghost use Rattle.lapd_bits.specs.Steps.{EndsFlag, Hears, IsJoined, IsYoung, Takes, with_bits};
 
     /// A deframer for frames with information fields of `n201` octets at most, which is 1,024 at most. Its line
     /// has brought no octet yet.
@@ -63,7 +62,7 @@ impl Deframer {
             octets,
             ones: 7,
             gap: None,
-            ended: Latest::Nothing,
+            ended: Ended::Nothing,
         })
     }
 
@@ -99,15 +98,13 @@ impl Deframer {
         // Most octets end nothing. They are taken here, and all others apart, so that a caller has little to do for them.
         if let Some(content) = at_once(self.ones, octet) {
             self.take_content(content);
-            self.ended = Latest::Nothing;
-            return Ended::Nothing;
+            self.ended = Ended::Nothing;
+        } else if self.is_idle(octet) {
+            self.ended = Ended::Nothing;
+        } else {
+            self.take_ending(octet);
         }
-        if self.is_idle(octet) {
-            self.ended = Latest::Nothing;
-            return Ended::Nothing;
-        }
-        self.take_ending(octet);
-        self.ended.told()
+        self.ended
     }
 
     /// Lends again what the latest octet ended, until the next octet; nothing where no octet has come.
@@ -119,10 +116,10 @@ impl Deframer {
             → heard_in n201 (past ++ octet ∷ []) ≡ heard_in n201 past ++ option_to_list (heard_of result) }
     {
         match self.ended {
-            Latest::Nothing => Heard::Nothing,
-            Latest::Dropped(cause) => Heard::Dropped(cause),
-            Latest::Frame(len) => Heard::Frame(&self.octets[..usize::from(len)]),
-            Latest::Overlong => {
+            Ended::Nothing => Heard::Nothing,
+            Ended::Dropped(cause) => Heard::Dropped(cause),
+            Ended::Frame(len) => Heard::Frame(&self.octets[..usize::from(len)]),
+            Ended::Overlong => {
                 let octets = &self.octets;
                 Heard::Overlong([octets[0], octets[1], octets[2], octets[3]])
             }
@@ -143,21 +140,19 @@ impl Deframer {
     /// since the latest flag begin another, and the octet has that flag's other bits and as many of the next.
     #[inline(always)]
     fn is_idle(&self, octet: u8) -> bool
-        ensures stays { (past : List Bool) → IsTrue result → HoldsPast self.now.octets.items self.now.ones self.now.gap past
-            → StaysIdle self.now.octets.items self.now.ones self.now.gap octet past }
+        ensures stays { IsTrue result → Takes octet self.now self.now Ended.Nothing }
     {
         let Some(gap) = &self.gap else {
-            return are_ones_after_seven(self.ones, octet);
+            return self.ones == 7 && octet == 0xFF;
         };
-        let since = gap.since();
-        if since >= 8 {
+        if gap.since >= 8 {
             return false;
         }
         // The first bit of a flag is a 0, and the others up to its last are 1s.
-        if self.ones != since.saturating_sub(1) {
+        if self.ones != gap.since.saturating_sub(1) {
             return false;
         }
-        octet == IDLE[since as usize]
+        octet == IDLE[gap.since as usize]
     }
 
     /// Takes what an octet brings that ends nothing.
@@ -165,12 +160,13 @@ impl Deframer {
     fn take_content(&mut self, content: Content)
         ensures room { length self.new.octets.items ≡ length self.old.octets.items }
         ensures ones { self.new.ones ≡ content.ones }
-        ensures stands { (octet : ℕ) (gap : Option (List Bool)) → IsJoined octet (low_bits content.count content.bits) gap
+        ensures stands { (octet : ℕ) (gap : Option (List Bool)) → IsJoined (low_bits 8 octet) (low_bits content.count content.bits) gap
             → HoldsGap self.old.octets.items self.old.gap gap
             → HoldsGap self.new.octets.items self.new.gap (option_map (with_bits 8 octet) gap) }
     {
         self.ones = content.ones;
         if let Some(gap) = &mut self.gap {
+            gap.since = 8;
             gap.join(&mut self.octets, content.bits, content.count);
         }
     }
@@ -181,44 +177,32 @@ impl Deframer {
     #[inline(never)]
     #[cold]
     fn take_ending(&mut self, octet: u8)
-        ensures room { length self.new.octets.items ≡ length self.old.octets.items }
-        ensures stands { (past : List Bool) → HoldsPast self.old.octets.items self.old.ones self.old.gap past
-            → HoldsPast self.new.octets.items self.new.ones self.new.gap (with_bits 8 octet past) }
-        ensures told { (past : List Bool) → HoldsPast self.old.octets.items self.old.ones self.old.gap past
-            → heard_until (length self.old.octets.items) (with_bits 8 octet past)
-            ≡ heard_until (length self.old.octets.items) past
-            ++ option_to_list (event_in self.new.octets.items (ended_of self.new.ended)) }
+        ensures takes { Takes octet self.old self.new self.new.ended }
     {
-        // Mostly a flag ends, or all of it but its last bit has come. Taking such an octet at once is there for speed
-        // alone: bit by bit it brings the same.
-        if octet == FLAG && self.ones < 5 {
-            self.take_flag();
-            return;
-        }
-        if let Some(flag) = flag_end(self.ones, octet) {
-            self.take_flag_end(flag);
-            return;
-        }
-        if let Some(content) = flag_begun(self.ones, octet) {
-            self.take_content(content);
-            self.ended = Latest::Nothing;
-            return;
-        }
-        let ended = self.bit_by_bit(octet);
-        self.ended = Latest::of(ended);
+        // Mostly a flag ends. Taking such an octet at once is there for speed alone: bit by bit it brings the same.
+        self.ended = match flag_end(self.ones, octet) {
+            Some(flag) => self.take_flag_end(flag),
+            None => self.bit_by_bit(octet),
+        };
+    }
+
+    /// Takes an octet in which a flag ends and nothing else does.
+    fn take_flag_end(&mut self, flag: FlagEnd) -> Ended
+        ensures fits { FitsIn (vec_len self.new.octets) result }
+        ensures takes { (octet : ℕ) → IsFlagEnd self.old.ones octet flag.before flag.front flag.behind flag.ones
+            → Takes octet self.old self.new result }
+    {
+        let ended = self.close_after(flag.front, flag.before);
+        self.gap = Some(Gap::begun(flag.behind, 7 - flag.before));
+        self.ones = flag.ones;
+        ended
     }
 
     /// Takes an octet bit by bit.
     #[inline(never)]
     fn bit_by_bit(&mut self, octet: u8) -> Ended
         ensures fits { FitsIn (vec_len self.new.octets) result }
-        ensures room { length self.new.octets.items ≡ length self.old.octets.items }
-        ensures stands { (past : List Bool) → HoldsPast self.old.octets.items self.old.ones self.old.gap past
-            → HoldsPast self.new.octets.items self.new.ones self.new.gap (with_bits 8 octet past) }
-        ensures told { (past : List Bool) → HoldsPast self.old.octets.items self.old.ones self.old.gap past
-            → heard_until (length self.old.octets.items) (with_bits 8 octet past)
-            ≡ heard_until (length self.old.octets.items) past
-            ++ option_to_list (event_in self.new.octets.items result) }
+        ensures takes { Takes octet self.old self.new result }
     {
         // At most one bit of an octet ends something, and the fewer than eight bits after it fill no octet. So what
         // it lies in is still whole when it is lent.
@@ -234,74 +218,27 @@ impl Deframer {
 
     fn bit(&mut self, bit: bool) -> Ended
         ensures fits { FitsIn (vec_len self.new.octets) result }
-        ensures room { vec_len self.new.octets ≡ vec_len self.old.octets }
         ensures hears { Hears bit self.old self.new result }
-        ensures ages { Ages self.old self.new result }
-    {
-        if bit { self.one() } else { self.zero() }
-    }
-
-    fn one(&mut self) -> Ended
-        ensures fits { FitsIn (vec_len self.new.octets) result }
-        ensures room { vec_len self.new.octets ≡ vec_len self.old.octets }
-        ensures hears { Hears true self.old self.new result }
-        ensures ages { Ages self.old self.new result }
-    {
-        if self.ones >= 6 {
-            self.ones = 7;
-            return self.given_up();
-        }
-        self.ones += 1;
-        self.take(true);
-        Ended::Nothing
-    }
-
-    fn zero(&mut self) -> Ended
-        ensures fits { FitsIn (vec_len self.new.octets) result }
-        ensures room { vec_len self.new.octets ≡ vec_len self.old.octets }
-        ensures hears { Hears false self.old self.new result }
-        ensures ages { Ages self.old self.new result }
     {
         let ones = self.ones;
-        self.ones = 0;
+        self.ones = if bit { (ones + 1).min(7) } else { 0 };
+        // A bit after six 1s ends something: a seventh gives the gap up, and a 0 is a flag's last bit.
         if ones == 6 {
-            return self.flag();
+            if bit {
+                return self.given_up();
+            }
+            let ended = self.close_after(0, 0);
+            self.gap = Some(Gap::begun(0, 0));
+            return ended;
         }
-        if ones == 5 {
-            self.skip();
-        } else {
-            self.take(false);
+        if let Some(gap) = &mut self.gap {
+            gap.since = (gap.since + 1).min(8);
+            let bits = u8::from(bit);
+            // After five 1s a 0 is a stuffed one, which does not stay.
+            let count = if ones == 5 { bits } else { 1 };
+            gap.join(&mut self.octets, bits, count);
         }
         Ended::Nothing
-    }
-
-    /// Takes a bit of the open gap's octets, if a gap is open.
-    pub(crate) fn take(&mut self, bit: bool)
-        ensures room { vec_len self.new.octets ≡ vec_len self.old.octets }
-        ensures ones { self.new.ones ≡ self.old.ones }
-        ensures untouched { IsYoung 7 self.old.gap → self.new.octets.items ≡ self.old.octets.items }
-        ensures grows { (n : ℕ) → IsYoung n self.old.gap → IsYoung (n + 1) self.new.gap }
-        ensures stands { (gap : Option (List Bool)) → IsKept bit gap
-            → HoldsGap self.old.octets.items self.old.gap gap
-            → HoldsGap self.new.octets.items self.new.gap (one_more bit gap) }
-    {
-        if let Some(gap) = &mut self.gap {
-            gap.take(&mut self.octets, bit);
-        }
-    }
-
-    /// Takes a stuffed 0, if a gap is open.
-    fn skip(&mut self)
-        ensures octets { self.new.octets ≡ self.old.octets }
-        ensures ones { self.new.ones ≡ self.old.ones }
-        ensures grows { (n : ℕ) → IsYoung n self.old.gap → IsYoung (n + 1) self.new.gap }
-        ensures stands { (gap : Option (List Bool)) → IsStuffed gap
-            → HoldsGap self.old.octets.items self.old.gap gap
-            → HoldsGap self.new.octets.items self.new.gap (one_more false gap) }
-    {
-        if let Some(gap) = &mut self.gap {
-            gap.skip();
-        }
     }
 
     /// Gives the open gap up, at the seventh contiguous 1.
@@ -314,55 +251,35 @@ impl Deframer {
         ensures told { (gap : Option (List Bool)) → HoldsGap self.old.octets.items self.old.gap gap
             → event_in self.old.octets.items result ≡ given_up_event gap }
     {
-        let Some(gap) = self.gap else {
-            return Ended::Nothing;
-        };
-        self.gap = None;
-        if gap.since() < 7 {
-            return Ended::Nothing;
+        match self.gap.take() {
+            Some(gap) if gap.since >= 7 => Ended::Dropped(Cause::Abort),
+            _ => Ended::Nothing,
         }
-        Ended::Dropped(Cause::Abort)
     }
 
-    /// What a flag that ends here closes.
-    fn closed(&self) -> Ended
-        ensures fits { FitsIn (vec_len self.now.octets) result }
-        ensures quiet { IsYoung 7 self.now.gap → result ≡ Ended.Nothing }
-        ensures told { (past : List Bool) → run_of past ≡ 6
-            → HoldsGap self.now.octets.items self.now.gap (open_gap past)
-            → event_in self.now.octets.items result ≡ closed_event (length self.now.octets.items) (open_gap past) }
+    /// What a flag closes whose last bit comes after these bits more, the first of them lowest.
+    fn close_after(&mut self, front: u8, before: u8) -> Ended
+        requires at_most { before ≤ 7 }
+        requires below { front < 2 ^ before }
+        ensures fits { FitsIn (vec_len self.new.octets) result }
+        ensures room { length self.new.octets.items ≡ length self.old.octets.items }
+        ensures untouched { before ≡ 0 → self.new.octets.items ≡ self.old.octets.items }
+        ensures ones { self.new.ones ≡ self.old.ones }
+        ensures quiet { before ≡ 0 → IsYoung 7 self.old.gap → result ≡ Ended.Nothing }
+        ensures told { (past : List Bool) → EndsFlag (low_bits before front) past
+            → HoldsGap self.old.octets.items self.old.gap (open_gap past)
+            → event_in self.new.octets.items result
+            ≡ closed_event (length self.old.octets.items) (open_gap (with_bits before front past)) }
     {
-        let Some(gap) = self.gap else {
+        let Some(gap) = &mut self.gap else {
             return Ended::Nothing;
         };
-        if gap.since() < 8 {
+        // Nothing stands between two flags that follow one another or share their 0.
+        if gap.since + before < 8 {
             return Ended::Nothing;
         }
+        gap.since = 8;
+        gap.join(&mut self.octets, front, before);
         gap.closed(&self.octets)
     }
-
-    /// Closes the open gap and opens the next, at a flag's last bit.
-    fn flag(&mut self) -> Ended
-        ensures fits { FitsIn (vec_len self.new.octets) result }
-        ensures octets { self.new.octets ≡ self.old.octets }
-        ensures ones { self.new.ones ≡ self.old.ones }
-        ensures young { IsYoung 1 self.new.gap }
-        ensures opened { HoldsGap self.new.octets.items self.new.gap (Some []) }
-        ensures quiet { IsYoung 7 self.old.gap → result ≡ Ended.Nothing }
-        ensures told { (past : List Bool) → run_of past ≡ 6
-            → HoldsGap self.old.octets.items self.old.gap (open_gap past)
-            → event_in self.old.octets.items result ≡ closed_event (length self.old.octets.items) (open_gap past) }
-    {
-        let ended = self.closed();
-        self.gap = Some(Gap::new());
-        ended
-    }
-}
-
-/// Whether seven 1s or more have come, and eight more come.
-#[inline(always)]
-fn are_ones_after_seven(ones: u8, octet: u8) -> bool
-    ensures { result ≡ true → (ones ≡ 7) × (octet ≡ 255) }
-{
-    ones == 7 && octet == 0xFF
 }

@@ -11,7 +11,7 @@ pub enum Ended {
     /// What stood since the latest flag is dropped, for one of the first four causes.
     Dropped(Cause),
     /// A frame of so many octets, without its check.
-    Frame(usize),
+    Frame(u16),
     /// A frame that is longer than the deframer's room, but otherwise good.
     Overlong,
 }

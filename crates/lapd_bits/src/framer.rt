@@ -68,7 +68,7 @@ impl Framer {
             octets,
             next: 0,
             end: 1,
-            after: Waiting::none(),
+            after: Waiting { bits: 0, count: 0 },
             latest: 0,
             first: [0; 4],
             n201,
@@ -91,7 +91,7 @@ impl Framer {
         if self.busy() {
             OCTET_BITS
         } else {
-            self.after.count() as u8
+            self.after.count as u8
         }
     }
 
@@ -142,13 +142,18 @@ impl Framer {
             → Stands self.new (items ++ frame (head.now ++ info.now) ∷ []) given }
     {
         let check = fcs_of_both(head, info);
-        let mut text = StuffedText::after(self.after);
+        // No 1 of the bits that are left counts.
+        let mut text = StuffedText {
+            end: 0,
+            waiting: self.after,
+            latest: 0,
+        };
         let octets = self.octets.as_mut_slice();
         text.stuff(octets, head);
         text.end_with(octets, info, check);
         self.next = 0;
-        self.end = text.end();
-        self.after = text.waiting();
+        self.end = text.end;
+        self.after = text.waiting;
         self.latest = (head.len() + info.len()) as u16;
         keep_first_four(&mut self.first, head, info);
     }

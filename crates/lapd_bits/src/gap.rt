@@ -4,7 +4,7 @@ ghost use Rattle.model_bits.specs.Bits.{low_bits, bits};
 ghost use Rattle.lapd_bits.specs.Register.{HoldsDivision};
 ghost use Rattle.model_bits.specs.Stream.{is_short};
 
-use crate::check::{divided, divided_all, shows_no_error};
+use crate::check::{NO_ERROR, divided, divided_all};
 use crate::ended::Ended;
 use model_bits::Cause;
 
@@ -22,7 +22,7 @@ const OVERLONG_KEPT: usize = 4;
 #[derive(Clone, Copy, Debug)]
 pub(crate) struct Gap {
     /// The bits since the flag, stuffed 0s among them; 8 stands for 8 and more.
-    since: u8,
+    pub(crate) since: u8,
     /// The octets that lie in the room: all that have come, or as many as it takes.
     count: usize,
     /// Once more octets have come than there is room for, the frame check's register over all of them.
@@ -41,37 +41,22 @@ impl Gap {
     ghost use Rattle.model_bits.specs.OpenGap.{kept_count};
     ghost use Rattle.lapd_bits.specs.Ended.{FitsIn, event_in, closing_event};
 
-    /// The gap that a flag opens.
-    #[tactic(auto, using(crate::proofs::Assembly::Assembles_none))]
-    pub(crate) fn new() -> Gap
-        ensures count { result.count ≡ 0 }
-        ensures since { result.since ≡ 0 }
-        ensures stands { (octets : List ℕ) → AssemblesIn octets result [] }
-    {
-        Gap {
-            since: 0,
-            count: 0,
-            beyond: None,
-            partial: 0,
-            filled: 0,
-        }
-    }
-
-    /// The gap that a flag opens, with the bits behind it in its octet: `since` bits, of which `count` stay, the first
-    /// to come lowest.
-    pub(crate) fn begun(bits: u8, count: u8, since: u8) -> Gap
+    /// The gap that a flag opens, with so many bits behind it in its octet, the first to come lowest.
+    #[tactic(auto, using(crate::proofs::Assembly::Assembles_begun))]
+    pub(crate) fn begun(bits: u8, since: u8) -> Gap
         requires few { since ≤ 7 }
-        requires at_most { count ≤ since }
-        requires below { bits < 2 ^ count }
+        requires below { bits < 2 ^ since }
         ensures count { result.count ≡ 0 }
         ensures since { result.since ≡ since }
-        ensures stands { (octets : List ℕ) → AssemblesIn octets result (low_bits count bits) }
+        ensures stands { (octets : List ℕ) → AssemblesIn octets result (low_bits since bits) }
     {
-        let mut gap = Gap::new();
-        gap.since = since;
-        gap.filled = count;
-        gap.partial = bits;
-        gap
+        Gap {
+            since,
+            count: 0,
+            beyond: None,
+            partial: bits,
+            filled: since,
+        }
     }
 
     /// How many octets are held, four once there are too many for the room.
@@ -86,63 +71,21 @@ impl Gap {
         }
     }
 
-    /// How many bits have come since the flag; 8 stands for 8 and more.
-    pub(crate) fn since(&self) -> u8
-        ensures { result ≡ self.now.since }
-    {
-        self.since
-    }
-
-    /// Counts a stuffed 0, which is no bit of an octet.
-    pub(crate) fn skip(&mut self)
-        ensures count { self.new.count ≡ self.old.count }
-        ensures since { self.new.since ≡ min 8 (self.old.since + 1) }
-        ensures beyond { self.new.beyond ≡ self.old.beyond }
-        ensures partial { self.new.partial ≡ self.old.partial }
-        ensures filled { self.new.filled ≡ self.old.filled }
-    {
-        if self.since < 8 {
-            self.since += 1;
-        }
-    }
-
-    /// Takes a bit of an octet.
-    pub(crate) fn take(&mut self, octets: &mut Vec<u8>, bit: bool)
-        requires fits { self.old.count ≤ vec_len octets.old }
-        ensures room { vec_len octets.new ≡ vec_len octets.old }
-        ensures fits { self.new.count ≤ vec_len octets.new }
-        ensures since { self.new.since ≡ min 8 (self.old.since + 1) }
-        ensures untouched { self.old.since < 7 → octets.new.items ≡ octets.old.items }
-        ensures stands { (text : List Bool) → AssemblesIn octets.old.items self.old text
-            → AssemblesIn octets.new.items self.new (text ++ bit ∷ []) }
-    {
-        let filled = self.filled;
-        let partial = with_bit(self.partial, filled, bit);
-        self.skip();
-        if filled < 7 {
-            self.filled = filled + 1;
-            self.partial = partial;
-        } else {
-            self.partial = 0;
-            self.filled = 0;
-            self.keep(octets, partial);
-        }
-    }
-
-    /// Takes the bits that an octet of the line brings, the first to come lowest, and counts all its eight.
+    /// Takes bits that the line brings, the first to come lowest. `since` counts them already.
     pub(crate) fn join(&mut self, octets: &mut Vec<u8>, bits: u8, count: u8)
         requires fits { self.old.count ≤ vec_len octets.old }
         requires at_most { count ≤ 8 }
         requires below { bits < 2 ^ count }
+        requires counted { min 8 (self.old.filled + count) ≤ self.old.since }
         ensures room { vec_len octets.new ≡ vec_len octets.old }
         ensures fits { self.new.count ≤ vec_len octets.new }
-        ensures since { self.new.since ≡ 8 }
+        ensures since { self.new.since ≡ self.old.since }
+        ensures untouched { self.old.filled + count < 8 → octets.new.items ≡ octets.old.items }
         ensures stands { (text : List Bool) → AssemblesIn octets.old.items self.old text
             → AssemblesIn octets.new.items self.new (text ++ low_bits count bits) }
     {
         let joined = above(self.partial, self.filled, bits, count);
         let filled = self.filled + count;
-        self.since = 8;
         if filled < 8 {
             self.filled = filled;
             self.partial = joined as u8;
@@ -203,7 +146,7 @@ impl Gap {
     /// What a flag ends that closes this gap, its first seven bits among the gap's.
     #[tactic(auto, using(crate::proofs::Assembly::told_rules))]
     pub(crate) fn closed(&self, octets: &Vec<u8>) -> Ended
-        requires room { 6 ≤ vec_len octets.now }
+        requires room { 6 ≤ vec_len octets.now × vec_len octets.now ≤ 1030 }
         requires fits { self.now.count ≤ vec_len octets.now }
         ensures fits { FitsIn (vec_len octets.now) result }
         ensures told { (whole : List ℕ) → KeepsIn octets.now.items self.now whole
@@ -216,13 +159,13 @@ impl Gap {
         if self.is_short(octets) {
             return Ended::Dropped(Cause::Short);
         }
-        if !shows_no_error(self.register(octets)) {
+        if self.register(octets) != NO_ERROR {
             return Ended::Dropped(Cause::Fcs);
         }
         if self.beyond.is_some() {
             return Ended::Overlong;
         }
-        Ended::Frame(self.count - 2)
+        Ended::Frame((self.count - 2) as u16)
     }
 
     fn is_short(&self, octets: &Vec<u8>) -> bool
@@ -232,17 +175,6 @@ impl Gap {
     {
         self.count < 5 || self.count == 5 && octets[2] % 4 != 3
     }
-}
-
-/// The number with one bit more, above its `place` low ones.
-#[tactic(auto, using(crate::proofs::Assembly::bit_rules))]
-fn with_bit(number: u8, place: u8, bit: bool) -> u8
-    requires place { place < 8 }
-    requires below { number < 2 ^ place }
-    ensures bits { low_bits (place + 1) result ≡ low_bits place number ++ bit ∷ [] }
-    ensures below { result < 2 ^ (place + 1) }
-{
-    if bit { number + (1 << place) } else { number }
 }
 
 /// The number with `more` above its `place` low bits.

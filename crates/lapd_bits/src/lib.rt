@@ -6,8 +6,7 @@
 //! What is heard in a line's bits and what goes out is defined in `model_bits`, which also says what a *gap*, the *open
 //! gap* and an *item* are. Its types and laws are public here, too. This is the code:
 //!
-//! - `deframer`, over `gap`, `unstuffer` and `flag_end`: from octets to frames; `ended`: what an octet ends; `latest`: what
-//!   is kept of that.
+//! - `deframer`, over `gap`, `unstuffer` and `flag_end`: from octets to frames; `ended`: what an octet ends.
 //! - `framer`, over `stuffed_text`, `stuffer` and `waiting`: from frames to octets; `heads`: the first octets of the latest.
 //! - `start_fault`: why neither could be started.
 //! - `check`: the frame check sequence.
@@ -25,7 +24,6 @@ mod flag_end;
 mod framer;
 mod gap;
 mod heads;
-mod latest;
 mod start_fault;
 mod stuffed_text;
 mod stuffer;

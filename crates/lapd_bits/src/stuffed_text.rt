@@ -3,7 +3,7 @@ ghost use Rattle.std.specs.Prelude.{◌≡◌, ◌+◌, ◌*◌, ◌/◌, ◌%�
 ghost use Rattle.model_bits.specs.Bits.{flag, bits, low_bits};
 ghost use Rattle.lapd_bits.specs.Stuffer.{Goes, last_ones, text_after};
 
-use crate::stuffer::{Stuffed, go_as_they_are, latest_of};
+use crate::stuffer::{Stuffed, go_as_they_are};
 use crate::waiting::Waiting;
 
 /// How many octets are stuffed at once.
@@ -11,6 +11,9 @@ const AT_ONCE: usize = 4;
 
 /// Their bits.
 const FOUR_OCTETS: u64 = 32;
+
+/// How many of them go before the latest four.
+const FOUR_BUT_LATEST: u32 = 28;
 
 /// The bits of an octet.
 const OCTET_BITS: u64 = 8;
@@ -22,42 +25,15 @@ const CHECK_BITS: u64 = 16;
 #[derive(Clone, Copy)]
 pub(crate) struct StuffedText {
     /// How many octets lie in the buffer.
-    end: usize,
-    waiting: Waiting,
+    pub(crate) end: usize,
+    pub(crate) waiting: Waiting,
     /// The latest four bits of the text, the last of them highest. 0s stand for bits that do not count.
-    latest: u64,
+    pub(crate) latest: u64,
     ghost four: { latest < 16 },
 }
 
 impl StuffedText {
     ghost use Rattle.lapd_bits.specs.FramerText.{waits, made, fifths};
-
-    /// A text that goes on after these bits. No 1 of them counts.
-    pub(crate) fn after(waiting: Waiting) -> StuffedText
-        ensures end { result.end ≡ 0 }
-        ensures waiting { result.waiting ≡ waiting }
-        ensures latest { result.latest ≡ 0 }
-    {
-        StuffedText {
-            end: 0,
-            waiting,
-            latest: 0,
-        }
-    }
-
-    /// How many octets lie in the buffer.
-    pub(crate) fn end(&self) -> usize
-        ensures { result ≡ self.now.end }
-    {
-        self.end
-    }
-
-    /// The bits after them.
-    pub(crate) fn waiting(&self) -> Waiting
-        ensures { result ≡ self.now.waiting }
-    {
-        self.waiting
-    }
 
     /// Goes on with octets.
     // Into the one function that makes a text, where its fields then stay in registers.
@@ -132,12 +108,12 @@ impl StuffedText {
     {
         if go_as_they_are(self.latest, four) {
             self.waiting.push(u64::from(four), FOUR_OCTETS);
-            self.latest = latest_of(four);
+            self.latest = u64::from(four >> FOUR_BUT_LATEST);
             self.give_four(buffer);
         } else {
             self.push(u64::from(four), FOUR_OCTETS);
             self.give_four(buffer);
-            if OCTET_BITS <= self.waiting.count() {
+            if OCTET_BITS <= self.waiting.count {
                 self.give(buffer);
             }
         }
@@ -189,10 +165,10 @@ impl StuffedText {
         ensures room { length buffer.new ≡ length buffer.old }
     {
         // four at once, which one store writes
-        if FOUR_OCTETS <= self.waiting.count() {
+        if FOUR_OCTETS <= self.waiting.count {
             self.give_four(buffer);
         }
-        while OCTET_BITS <= self.waiting.count() {
+        while OCTET_BITS <= self.waiting.count {
             self.give(buffer);
         }
     }

@@ -6,9 +6,6 @@ ghost use Rattle.lapd_bits.specs.Stuffer.{Goes, last_ones, fives};
 /// How many bits of a text are looked at to see its last 1s. There are never more than four, since a 0 goes after a fifth.
 const LATEST: u64 = 4;
 
-/// How many of the bits of four octets go before the latest four.
-const FOUR_BUT_LATEST: u32 = 28;
-
 /// What bits make of themselves on a line.
 #[derive(Clone, Copy)]
 pub(crate) struct Stuffed {
@@ -60,18 +57,9 @@ pub(crate) fn go_as_they_are(latest: u64, four: u32) -> bool
     five_ones(latest, u64::from(four)) == 0
 }
 
-/// The latest four bits of four octets.
-#[inline(always)]
-pub(crate) fn latest_of(four: u32) -> u64
-    ensures is { result ≡ four / 2 ^ 28 }
-    ensures four { result < 16 }
-{
-    u64::from(four >> FOUR_BUT_LATEST)
-}
-
 // The places where five 1s begin, in the latest four bits of a text and those after them.
 #[inline(always)]
-fn five_ones(latest: u64, bits: u64) -> u64
+pub(crate) fn five_ones(latest: u64, bits: u64) -> u64
     requires four { latest < 16 }
     requires few { bits < 2 ^ 40 }
     ensures { result ≡ fives (latest + bits * 16) }

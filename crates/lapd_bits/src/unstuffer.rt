@@ -1,14 +1,13 @@
 //! Takes the stuffed 0s out of an octet at once (clause 2.6), by tables.
-ghost use Rattle.std.specs.Prelude.{◌≤◌, ◌<◌, ◌^◌, ◌↔◌, true, replicate, ◌++◌, IsNone, IsTrue, IfSome};
-ghost use Rattle.model_bits.specs.Bits.{low_bits};
-ghost use Rattle.lapd_bits.specs.Unstuffer.{has_six, IsContent};
+ghost use Rattle.std.specs.Prelude.{◌≤◌, ◌<◌, ◌^◌, IfSome};
+ghost use Rattle.lapd_bits.specs.Unstuffer.{IsContent};
 
 /// What octets bring, in one piece, so that one address serves for all of it. `bits` and `counts` have eight entries for
 /// each octet: for 0 to 7 contiguous 1s right before it.
 struct Tables {
     /// The bits that stay of the octet, the first to come lowest.
     bits: [u8; 2048],
-    /// How many they are: 0 where six 1s in a row come, so that the octet is a flag's or an abort's, or no sender's.
+    /// How many they are: 0 where something ends in the octet, a flag or seven 1s.
     counts: [u8; 2048],
     runs: [u8; 256],
 }
@@ -17,23 +16,23 @@ struct Tables {
 const ABOVE: u32 = 256;
 
 /// The table of `bits`, or of `counts`, from an octet's last bit to its first. A row has what stands for the bits so far after
-/// 0 to 5 1s, `$a` to `$f`; of a row the bit in front makes two, one for a 0 and one for a 1. A 0 after five 1s was stuffed, and
-/// goes; a 1 after five is the sixth in a row, for which 0 stands in the end, and until then a number above all others.
+/// 0 to 6 1s, `$a` to `$g`; of a row the bit in front makes two, one for a 0 and one for a 1. A 0 after five 1s was stuffed, and
+/// goes. Any bit after six ends something, for which 0 stands in the end, and until then a number above all others.
 macro_rules! entries {
     ($how:ident $first:literal) => {
-        entries!([[$first, $first, $first, $first, $first, $first]] $how 8 7 6 5 4 3 2 1)
+        entries!([[$first, $first, $first, $first, $first, $first, $first]] $how 8 7 6 5 4 3 2 1)
     };
-    ([$([$a:expr, $b:expr, $c:expr, $d:expr, $e:expr, $f:expr])*] bits $bit:literal $($more:literal)*) => {
+    ([$([$a:expr, $b:expr, $c:expr, $d:expr, $e:expr, $f:expr, $g:expr])*] bits $bit:literal $($more:literal)*) => {
         entries!([$(
-            [2 * $a, 2 * $a, 2 * $a, 2 * $a, 2 * $a, $a]
-            [2 * $b + 1, 2 * $c + 1, 2 * $d + 1, 2 * $e + 1, 2 * $f + 1, ABOVE * ABOVE]
+            [2 * $a, 2 * $a, 2 * $a, 2 * $a, 2 * $a, $a, ABOVE * ABOVE]
+            [2 * $b + 1, 2 * $c + 1, 2 * $d + 1, 2 * $e + 1, 2 * $f + 1, 2 * $g + 1, ABOVE * ABOVE]
         )*] bits $($more)*)
     };
-    ([$([$a:expr, $b:expr, $c:expr, $d:expr, $e:expr, $f:expr])*] counts $bit:literal $($more:literal)*) => {
-        entries!([$([$a, $a, $a, $a, $a, $a - 1] [$b, $c, $d, $e, $f, ABOVE * ABOVE])*] counts $($more)*)
+    ([$([$a:expr, $b:expr, $c:expr, $d:expr, $e:expr, $f:expr, $g:expr])*] counts $bit:literal $($more:literal)*) => {
+        entries!([$([$a, $a, $a, $a, $a, $a - 1, ABOVE * ABOVE] [$b, $c, $d, $e, $f, $g, ABOVE * ABOVE])*] counts $($more)*)
     };
     ([$([$($entry:expr),*])*] $how:ident) => {
-        [$($(if $entry < ABOVE { $entry as u8 } else { 0 },)* 0, 0),*]
+        [$($(if $entry < ABOVE { $entry as u8 } else { 0 },)* 0),*]
     };
 }
 
@@ -43,7 +42,7 @@ static TABLES: Tables = Tables {
     runs: RUNS,
 };
 
-/// The 1s at an octet's end, 0 where six come. Those before it don't count: of an octet of 1s alone nothing stays.
+/// The 1s at an octet's end, where it ends nothing. Those before it don't count: eight 1s end something.
 const RUNS: [u8; 256] = [
     0, 0, 0, 0, 0, 0, 0, 0, 0, 0, 0, 0, 0, 0, 0, 0, 0, 0, 0, 0, 0, 0, 0, 0, 0, 0, 0, 0, 0, 0, 0, 0,
     0, 0, 0, 0, 0, 0, 0, 0, 0, 0, 0, 0, 0, 0, 0, 0, 0, 0, 0, 0, 0, 0, 0, 0, 0, 0, 0, 0, 0, 0, 0, 0,
@@ -52,7 +51,7 @@ const RUNS: [u8; 256] = [
     1, 1, 1, 1, 1, 1, 1, 1, 1, 1, 1, 1, 1, 1, 1, 1, 1, 1, 1, 1, 1, 1, 1, 1, 1, 1, 1, 1, 1, 1, 1, 1,
     1, 1, 1, 1, 1, 1, 1, 1, 1, 1, 1, 1, 1, 1, 1, 1, 1, 1, 1, 1, 1, 1, 1, 1, 1, 1, 1, 1, 1, 1, 1, 0,
     2, 2, 2, 2, 2, 2, 2, 2, 2, 2, 2, 2, 2, 2, 2, 2, 2, 2, 2, 2, 2, 2, 2, 2, 2, 2, 2, 2, 2, 2, 2, 2,
-    3, 3, 3, 3, 3, 3, 3, 3, 3, 3, 3, 3, 3, 3, 3, 3, 4, 4, 4, 4, 4, 4, 4, 4, 5, 5, 5, 5, 0, 0, 0, 0,
+    3, 3, 3, 3, 3, 3, 3, 3, 3, 3, 3, 3, 3, 3, 3, 3, 4, 4, 4, 4, 4, 4, 4, 4, 5, 5, 5, 5, 6, 6, 0, 0,
 ];
 
 /// What an octet brings that ends nothing.
@@ -68,12 +67,12 @@ pub(crate) struct Content {
     ghost few: { ones ≤ 6 },
 }
 
-/// What an octet brings after so many contiguous 1s, or none where six 1s in a row come.
+/// What an octet brings after so many contiguous 1s, where it ends nothing. None is no more than slower, and no clause says
+/// where it is answered.
 #[inline(always)]
 pub(crate) fn at_once(ones: u8, octet: u8) -> Option<Content>
     requires { ones ≤ 7 }
-    ensures none { IsNone result ↔ IsTrue (has_six (replicate ones true ++ low_bits 8 octet)) }
-    ensures some { IfSome result (λ content. IsContent ones octet content.bits content.count content.ones) }
+    ensures { IfSome result (λ content. IsContent ones octet content.bits content.count content.ones) }
 {
     let at = octet as usize * 8 + ones as usize;
     let count = TABLES.counts[at];

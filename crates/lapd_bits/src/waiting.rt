@@ -1,5 +1,5 @@
 //! The bits that wait to go out on a line.
-ghost use Rattle.std.specs.Prelude.{◌≡◌, ◌≤◌, ◌<◌, ◌+◌, ◌^◌, [], ◌++◌};
+ghost use Rattle.std.specs.Prelude.{◌≡◌, ◌≤◌, ◌<◌, ◌+◌, ◌^◌, ◌++◌};
 ghost use Rattle.model_bits.specs.Bits.{low_bits, flag};
 
 /// A flag, its first bit lowest.
@@ -12,29 +12,15 @@ const FLAG_BITS: u64 = 8;
 #[derive(Clone, Copy, Debug)]
 pub(crate) struct Waiting {
     /// The first to go is the lowest.
-    bits: u64,
-    count: u64,
+    pub(crate) bits: u64,
+    /// How many they are.
+    pub(crate) count: u64,
     ghost below: { bits < 2 ^ count },
     ghost at_most: { count < 64 },
 }
 
 impl Waiting {
     ghost use Rattle.lapd_bits.specs.FramerText.{waits};
-
-    /// No bits.
-    pub(crate) fn none() -> Waiting
-        ensures bits { waits result ≡ [] }
-        ensures count { result.count ≡ 0 }
-    {
-        Waiting { bits: 0, count: 0 }
-    }
-
-    /// How many bits wait.
-    pub(crate) fn count(&self) -> u64
-        ensures { result ≡ self.now.count }
-    {
-        self.count
-    }
 
     /// Has more bits wait, after the others.
     pub(crate) fn push(&mut self, bits: u64, count: u64)

@@ -21,9 +21,6 @@ eqb-flips x y = grind (arith, nat_tests)
 pub each_key : (P : ℕ → Type 0) (k : ℕ) → P k → ((q : ℕ) → q ≢ k → P q) → (q : ℕ) → P q
 each_key P k here other q = elim (cases_eq q k) [ inl e ↦ subst P (sym e) here | inr ne ↦ other q ne ]
 
-none_from : {A : Type 0} (o : Option A) → ((v : A) → o ≢ Some v) → o ≡ None
-none_from o never = grind arith
-
 module _ {X : Type 0} where
   pub get-insert_same : (m : finmap.FinMap nat_cmp X) (k : ℕ) (v : X) → finmap.get (finmap.insert m k v) k ≡ Some v
   get-insert_same m k v = finmap.get-insert nat_cmp_total m k v k ∙ cond-true _ _ _ (tied k k refl)
@@ -125,40 +122,9 @@ module _ {X : Type 0} where
   pub get_contained : (m : finmap.FinMap nat_cmp X) (q : ℕ) (v : X) → finmap.get m q ≡ Some v → Contains (finmap.entries m) (q, v)
   get_contained m q v is = found_contained q v (finmap.entries m) (sym (finmap.get-entries m q) ∙ is)
 
-  unfound_apart : (q : ℕ) (es : List (ℕ × X)) → find nat_cmp q es ≡ None → All (λ p. q ≢ p.0) es
-  unfound_apart q [] none = All-nil _
-  unfound_apart q (e ∷ es) none =
-      let apart : q ≢ e.0 = λ same. none-some e.1 (sym none ∙ find-head q e es same) in
-      All-cons (λ p. q ≢ p.0) e es apart (unfound_apart q es (sym (find-tail q e es apart) ∙ none))
-
   apart_unfound : (q : ℕ) (es : List (ℕ × X)) → AllByRecursion (λ y. eqb q y ≡ false) (map (λ p. p.0) es) → find nat_cmp q es ≡ None
   apart_unfound q [] apart = refl
   apart_unfound q (e ∷ es) apart = find-tail q e es (eqb-false q e.0 apart.0) ∙ apart_unfound q es apart.1
-
-  -- entries that agree with a function find nothing else than it has
-  found_agrees : (f : ℕ → Option X) (q : ℕ) (es : List (ℕ × X)) → All (λ p. f p.0 ≡ Some p.1) es → (find nat_cmp q es ≡ None) ⊎ (find nat_cmp q es ≡ f q)
-  found_agrees f q [] all = inl refl
-  found_agrees f q (e ∷ es) all =
-      elim (cases_eq q e.0) [
-        | inl same ↦ inr (find-head q e es same ∙ sym (ap f same ∙ All-head (λ p. f p.0 ≡ Some p.1) e es all))
-        | inr ne ↦ subst (λ r. (r ≡ None) ⊎ (r ≡ f q)) (sym (find-tail q e es ne)) (found_agrees f q es (All-tail (λ p. f p.0 ≡ Some p.1) e es all))
-      ]
-
-  -- what is not among the entries is not in the map
-  nothing_there : (m : finmap.FinMap nat_cmp X) (es : List (ℕ × X)) (q : ℕ) → IsPermutation (finmap.entries m) es → find nat_cmp q es ≡ None → finmap.get m q ≡ None
-  nothing_there m es q order none =
-      let apart = All-permutation (λ p. q ≢ p.0) _ _ (IsPermutation-sym _ _ order) (unfound_apart q es none) in
-      none_from (finmap.get m q) (λ v is. All-contains (λ p. q ≢ p.0) _ (q, v) apart (get_contained m q v is) refl)
-
-  -- the map of a map's entries, in any order, is that map
-  pub from_entries_permuted : (m : finmap.FinMap nat_cmp X) (es : List (ℕ × X)) → IsPermutation es (finmap.entries m) → finmap.from_entries es ≡ m
-  from_entries_permuted m es order =
-      let back = IsPermutation-sym _ _ order in
-      let agree = All-permutation (λ p. finmap.get m p.0 ≡ Some p.1) _ _ back (entries_found m) in
-      same_entries _ _ (λ q. finmap.get-from_entries nat_cmp_total es q ∙ elim (found_agrees (finmap.get m) q es agree) [
-        | inl none ↦ none ∙ sym (nothing_there m es q back none)
-        | inr found ↦ found
-      ])
 
   -- entries of different keys are those of their map
   pub entries-from_entries : (es : List (ℕ × X)) → IsDistinct eqb (map (λ p. p.0) es) → IsPermutation es (finmap.entries (finmap.from_entries {R = nat_cmp} es))
@@ -168,12 +134,27 @@ module _ {X : Type 0} where
       let rest = entries-from_entries es (IsDistinct-tail eqb e.0 _ distinct) in
       IsPermutation-trans _ _ _ (IsPermutation-cons e _ _ rest) (entries-insert_free (finmap.from_entries es) e.0 e.1 free)
 
+  -- maps of the same entries, in any order, are the same
+  found_there : (m n : finmap.FinMap nat_cmp X) → IsPermutation (finmap.entries m) (finmap.entries n)
+      → (q : ℕ) (v : X) → finmap.get n q ≡ Some v → finmap.get m q ≡ Some v
+  found_there m n order q v is =
+      All-contains (λ p. finmap.get m p.0 ≡ Some p.1) _ (q, v)
+      (All-permutation (λ p. finmap.get m p.0 ≡ Some p.1) _ _ order (entries_found m)) (get_contained n q v is)
+
+  same_from_permuted : (m n : finmap.FinMap nat_cmp X) → IsPermutation (finmap.entries m) (finmap.entries n) → m ≡ n
+  same_from_permuted m n order =
+      same_entries m n (λ q. agree (finmap.get m q) (finmap.get n q) (found_there m n order q) (found_there n m (IsPermutation-sym _ _ order) q))
+    where
+      agree : (o p : Option X) → ((v : X) → p ≡ Some v → o ≡ Some v) → ((v : X) → o ≡ Some v → p ≡ Some v) → o ≡ p
+      agree o p back there = grind arith
+
   -- what is left of the entries after a removal
   pub entries-remove : (m : finmap.FinMap nat_cmp X) (k : ℕ) (v : X) (es : List (ℕ × X)) → IsPermutation ((k, v) ∷ es) (finmap.entries m) → IsPermutation es (finmap.entries (finmap.remove m k))
   entries-remove m k v es order =
       let distinct = keys_distinct m ((k, v) ∷ es) order in
       let free = finmap.get-from_entries nat_cmp_total es k ∙ apart_unfound k es (IsDistinct-head eqb k _ distinct) in
-      let is = ap (λ n. finmap.remove n k) (sym (from_entries_permuted m ((k, v) ∷ es) order)) ∙ remove-insert_same (finmap.from_entries es) k v free in
+      let whole = same_from_permuted (finmap.from_entries ((k, v) ∷ es)) m (IsPermutation-trans _ _ _ (IsPermutation-sym _ _ (entries-from_entries ((k, v) ∷ es) distinct)) order) in
+      let is = ap (λ n. finmap.remove n k) (sym whole) ∙ remove-insert_same (finmap.from_entries es) k v free in
       subst (λ n. IsPermutation es (finmap.entries n)) (sym is) (entries-from_entries es (IsDistinct-tail eqb k _ distinct))
 
 -- the entries of a list of places, found by their number

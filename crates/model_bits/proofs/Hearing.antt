@@ -1,6 +1,6 @@
 -- What the latest bit of a stream brings, and what it makes of the open gap, by the run of 1s before it.
 use Rattle.model_bits.proofs.Vocabulary.{◌≡◌, ◌≢◌, ℕ, ◌<◌, ◌≤◌, Bool, true, false, List, [], ◌∷◌, Option, Some, None, nat_lt, refl, ◌∙◌, arith, ⊎_elim, cases_Bool, ne_eqb, eq-eqb, ends_flag, ends_abort, since_flag, has_abort, heard_at, run_of, open_gap, one_more, given_up_event, closed_event}
-use Rattle.model_bits.proofs.Places.{no_abort_at, abort_at, ends_flag-run, run_of-gap}
+use Rattle.model_bits.proofs.Places.{no_abort_at, abort_at, ends_flag-run, run_of-gap, latest_ones-below}
 
 -- the gap since the latest flag: there is none, it was given up, or it goes on
 by_since :
@@ -36,6 +36,13 @@ heard_at-abort room past h = grind (arith, by_since, many_more)
 pub open_gap-abort : (past : List Bool) → 6 ≤ run_of past → open_gap (true ∷ past) ≡ None
 open_gap-abort past h = grind (arith, by_since, many_more)
 
+-- after seven none is open
+too_many : (past g : List Bool) → run_of past ≡ 7 → since_flag past ≡ Some g → has_abort g ≡ false → ⊥
+too_many past g seven e none = omega (arith, seven, run_of-gap past g e, latest_ones-below g none)
+
+pub open_gap-seven : (past : List Bool) → run_of past ≡ 7 → open_gap past ≡ None
+open_gap-seven past seven = grind (arith, by_since, too_many)
+
 -- ---- a 0 that ends no flag brings nothing, and goes into the gap
 
 no_flag : (past : List Bool) → run_of past ≢ 6 → ends_flag (false ∷ past) ≡ false
@@ -45,10 +52,7 @@ pub heard_at-zero : (room : ℕ) (past : List Bool) → run_of past ≢ 6 → he
 heard_at-zero room past h = grind (arith, by_since, no_flag)
 
 pub open_gap-zero : (past : List Bool) → run_of past ≢ 6 → open_gap (false ∷ past) ≡ one_more false (open_gap past)
-open_gap-zero past h =
-    by_since past (λ e. rw (no_flag past h, e) refl)
-    (λ g e a. rw (no_flag past h, e, a) refl)
-    (λ g e a. rw (no_flag past h, e, a) refl)
+open_gap-zero past h = grind (arith, by_since, no_flag)
 
 -- ---- a 0 after six 1s ends a flag, which closes the open gap and opens the next
 

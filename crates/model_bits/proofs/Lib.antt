@@ -8,6 +8,7 @@ pub mod StuffingOctets
 pub mod StuffingLengths
 pub mod Places
 pub mod Hearing
+pub mod Quiet
 pub mod FlagPlaces
 pub mod OneEvent
 pub mod StreamLengths

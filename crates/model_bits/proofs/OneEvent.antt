@@ -40,24 +40,18 @@ by_bit room false past on up closed =
     (cases_eq (run_of past) 6)
 
 quiet : (room : ℕ) (b : Bool) (past : List Bool) → IsShorter 7 (open_gap past) → heard_at room (b ∷ past) ≡ None
-quiet room b past y =
-    by_bit room b past (λ none gap. none)
-    (λ told gap. told ∙ not_given_up (open_gap past) y) (λ told gap. told ∙ not_closed room (open_gap past) y)
+quiet room b past y = grind (arith, by_bit, not_given_up, not_closed)
 
 -- ---- a gap grows by a bit at a time, and begins anew after an event
 
 grows : (n : ℕ) (b : Bool) (past : List Bool) → IsShorter n (open_gap past) → IsShorter (suc n) (open_gap (b ∷ past))
-grows n b past y =
-    by_bit 0 b past (λ none gap. subst (IsShorter (suc n)) (sym gap) (IsShorter-more n b (open_gap past) y))
-    (λ told gap. subst (IsShorter (suc n)) (sym gap) tt) (λ told gap. subst (IsShorter (suc n)) (sym gap) (omega arith))
+grows n b past y = grind (arith, by_bit, IsShorter-more)
 
 some_is_not_none : (e : Event) (o : Option Event) → o ≡ Some e → o ≡ None → ⊥
 some_is_not_none e o some none = cc
 
 anew : (room : ℕ) (b : Bool) (past : List Bool) (e : Event) → heard_at room (b ∷ past) ≡ Some e → IsShorter 1 (open_gap (b ∷ past))
-anew room b past e heard =
-    by_bit room b past (λ none gap. absurd (some_is_not_none e _ heard none))
-    (λ told gap. subst (IsShorter 1) (sym gap) tt) (λ told gap. subst (IsShorter 1) (sym gap) (omega arith))
+anew room b past e heard = grind (arith, by_bit, some_is_not_none)
 
 -- ---- bits that follow a past, the latest first
 

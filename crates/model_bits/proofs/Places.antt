@@ -55,11 +55,7 @@ more_of b o g e = grind arith
 
 -- the bits since the latest flag are none where it ends here, and else one more than before
 pub since_flag-cases : (b : Bool) (past g : List Bool) → since_flag (b ∷ past) ≡ Some g → ((ends_flag (b ∷ past) ≡ true) × (g ≡ [])) ⊎ ((ends_flag (b ∷ past) ≡ false) × ((before : List Bool) × (since_flag past ≡ Some before) × (g ≡ b ∷ before)))
-since_flag-cases b past g e =
-    ⊎_elim
-    (λ flag. let h : Some [] ≡ Some g = rw flag at e in inl (flag, cc))
-    (λ none. let h : option_map (λ h. b ∷ h) (since_flag past) ≡ Some g = rw none at e in inr (none, more_of b (since_flag past) g h))
-    (cases_Bool (ends_flag (b ∷ past)))
+since_flag-cases b past g e = grind (arith, option_map, more_of, cases_Bool)
 
 -- a flag ends at a 0 alone
 flag_ends_at_zero : (past : List Bool) → ends_flag (true ∷ past) ≡ true → ⊥

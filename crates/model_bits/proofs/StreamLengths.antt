@@ -30,19 +30,7 @@ pub judged_as : (P : Event → Type 0) (room : ℕ) (octets : List ℕ)
     → (5 ≤ length octets → room < length octets → P (overlong (take 4 octets)))
     → (5 ≤ length octets → P (frame (take (length octets - 2) octets)))
     → P (judged room octets)
-judged_as P room octets drops long whole = by_short (is_short octets) refl
-  where
-    by_room : (b : Bool) → nat_lt room (length octets) ≡ b → 5 ≤ length octets
-        → P (cond b (overlong (take 4 octets)) (frame (take (length octets - 2) octets)))
-    by_room b e five = grind (arith, ltb-true)
-
-    by_check : (b : Bool) → 5 ≤ length octets
-        → P (cond (not b) (dropped Fcs) (cond (nat_lt room (length octets)) (overlong (take 4 octets)) (frame (take (length octets - 2) octets))))
-    by_check b five = grind (arith, by_room, nat_lt)
-
-    by_short : (b : Bool) → is_short octets ≡ b
-        → P (cond b (dropped Short) (cond (not (is_good (bits octets))) (dropped Fcs) (cond (nat_lt room (length octets)) (overlong (take 4 octets)) (frame (take (length octets - 2) octets)))))
-    by_short b e = grind (arith, by_check, not_short)
+judged_as P room octets drops long whole = grind (arith, nat_lt, ltb-true, not_short)
 
 -- ---- sums over what is heard
 

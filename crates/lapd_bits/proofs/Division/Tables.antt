@@ -58,13 +58,19 @@ HoldsDivision_by_octet register octet left d small entry holds =
 
 -- ---- many octets more
 
--- what is left of octets, the first apart
-pub remainder-octet :
-    (octet : ℕ) (octets : List ℕ) → remainder (bits (octet ∷ octets) ++ replicate 16 false)
-    ≡ plus (remainder (low_bits 8 octet ++ replicate (8 * length octets + 16) false)) (remainder (bits octets ++ replicate 16 false))
-remainder-octet octet octets =
-    remainder-first (low_bits 8 octet) (bits octets)
-    ∙ ap (λ n. plus (remainder (low_bits 8 octet ++ replicate (n + 16) false)) (remainder (bits octets ++ replicate 16 false))) (length-bits octets)
+-- what is left of octets, that of the first by the table
+pub left-more :
+    (x left octet : ℕ) (octets : List ℕ) (n : ℕ) → length octets ≡ n
+    → low_bits 16 x ≡ remainder (low_bits 8 octet ++ replicate (8 * n + 16) false)
+    → low_bits 16 left ≡ remainder (bits octets ++ replicate 16 false)
+    → low_bits 16 (bit_xor x left) ≡ remainder (bits (octet ∷ octets) ++ replicate 16 false)
+left-more x left octet octets n size x_is left_is =
+    let rest = remainder (bits octets ++ replicate 16 false) in
+    low_bits-xor 16 x left
+    ∙ ap (λ l. plus l (low_bits 16 left)) x_is
+    ∙ ap (λ l. plus (remainder (low_bits 8 octet ++ replicate (8 * n + 16) false)) l) left_is
+    ∙ ap (λ m. plus (remainder (low_bits 8 octet ++ replicate (m + 16) false)) rest) (ap (λ k. 8 * k) (sym size) ∙ sym (length-bits octets))
+    ∙ sym (remainder-first (low_bits 8 octet) (bits octets))
 
 -- ---- octets of a text
 
@@ -87,12 +93,8 @@ pub left-next :
     → low_bits 16 (bit_xor x left) ≡ remainder (bits (take (suc n) (drop at octets)) ++ replicate 16 false)
 left-next n at next octets x left is_next within x_is left_is =
     let others = take n (drop next octets) in
-    let octet = get_or octets at 0 in
-    low_bits-xor 16 x left
-    ∙ ap (λ l. plus l (low_bits 16 left)) (x_is ∙ ap (λ m. remainder (low_bits 8 octet ++ replicate (8 * m + 16) false)) (sym (length-part n next octets (omega arith))))
-    ∙ ap (λ l. plus (remainder (low_bits 8 octet ++ replicate (8 * length others + 16) false)) l) left_is
-    ∙ sym (remainder-octet octet others)
-    ∙ ap (λ k. remainder (bits (octet ∷ take n (drop k octets)) ++ replicate 16 false)) is_next
+    left-more x left (get_or octets at 0) others n (length-part n next octets (omega arith)) x_is left_is
+    ∙ ap (λ k. remainder (bits (get_or octets at 0 ∷ take n (drop k octets)) ++ replicate 16 false)) is_next
     ∙ ap (λ os. remainder (bits os ++ replicate 16 false)) (sym (take-drop-next n at octets (omega arith)))
 
 -- and of the last
@@ -148,16 +150,8 @@ HoldsDivision_eight register first second others at octets d within first_is sec
     let met_b = bit_xor (register / 256) b in
     let place : at + 2 ≡ at + 1 + 1 = omega arith in
     let size : length six ≡ 6 = length-part 6 (at + 2) octets (omega arith) in
-    let two : low_bits 16 (bit_xor second others) ≡ remainder (bits (met_b ∷ six) ++ replicate 16 false) =
-    low_bits-xor 16 second others
-    ∙ ap (λ l. plus l (low_bits 16 others)) (second_is ∙ ap (λ n. remainder (low_bits 8 met_b ++ replicate (8 * n + 16) false)) (sym size))
-    ∙ ap (λ l. plus (remainder (low_bits 8 met_b ++ replicate (8 * length six + 16) false)) l) others_is
-    ∙ sym (remainder-octet met_b six) in
-    let all : low_bits 16 (bit_xor first (bit_xor second others)) ≡ remainder (bits (met_a ∷ met_b ∷ six) ++ replicate 16 false) =
-    low_bits-xor 16 first (bit_xor second others)
-    ∙ ap (λ l. plus l (low_bits 16 (bit_xor second others))) (first_is ∙ ap (λ n. remainder (low_bits 8 met_a ++ replicate (8 * suc n + 16) false)) (sym size))
-    ∙ ap (λ l. plus (remainder (low_bits 8 met_a ++ replicate (8 * length (met_b ∷ six) + 16) false)) l) two
-    ∙ sym (remainder-octet met_a (met_b ∷ six)) in
+    let two = left-more second others met_b six 6 size second_is others_is in
+    let all = left-more first (bit_xor second others) met_a (met_b ∷ six) 7 (omega (arith, size)) first_is two in
     subst (λ os. HoldsDivision (bit_xor first (bit_xor second others)) (d ++ bits os))
     (ap (λ k. a ∷ b ∷ take 6 (drop k octets)) place
     ∙ sym (take-drop-next 7 at octets (omega arith) ∙ ap (λ os. a ∷ os) (take-drop-next 6 (at + 1) octets (omega arith))))
@@ -177,11 +171,7 @@ HoldsDivision_two register first second at octets d within first_is second_is ho
     let met_b = bit_xor (register / 256) b in
     let one : low_bits 16 second ≡ remainder (bits (met_b ∷ []) ++ replicate 16 false) =
     second_is ∙ ap (λ l. remainder (l ++ replicate 16 false)) (sym (append-nil (low_bits 8 met_b))) in
-    let both : low_bits 16 (bit_xor first second) ≡ remainder (bits (met_a ∷ met_b ∷ []) ++ replicate 16 false) =
-    low_bits-xor 16 first second
-    ∙ ap (λ l. plus l (low_bits 16 second)) first_is
-    ∙ ap (λ l. plus (remainder (low_bits 8 met_a ++ replicate 24 false)) l) one
-    ∙ sym (remainder-octet met_a (met_b ∷ [])) in
+    let both = left-more first second met_a (met_b ∷ []) 1 refl first_is one in
     subst (λ os. HoldsDivision (bit_xor first second) (d ++ bits os))
     (sym (take-drop-next 1 at octets (omega arith) ∙ ap (λ os. a ∷ os) (take-drop-next 0 (at + 1) octets (omega arith))))
     (HoldsDivision-octets register a b (bit_xor first second) [] d both holds)

@@ -24,10 +24,11 @@ loop-place-preserved c =
     let octet = c.args.octet in
     let bit = nat_eq (bit_and (octet / 2 ^ place) 1) 1 in
     let room = length c.args.self.now.octets.items in
-    let stays : length new.octets.items ≡ room = sym new.octets.ok.0 ∙ b.room ∙ old.octets.ok.0 ∙ i.room in
+    let stays : length new.octets.items ≡ room = b.hears.room ∙ i.room in
+    let same : vec_len old.octets ≡ vec_len new.octets = old.octets.ok.0 ∙ sym b.hears.room ∙ sym new.octets.ok.0 in
     elim c.match-bit.branch [
       | in-Nothing w ↦ record {
-        fits = subst (λ e. FitsIn (vec_len new.octets) e) (sym w.ended-is) (subst (λ n. FitsIn n c.loop-place.ended) (sym b.room) i.fits);
+        fits = subst (λ e. FitsIn (vec_len new.octets) e) (sym w.ended-is) (subst (λ n. FitsIn n c.loop-place.ended) same i.fits);
         room = stays;
         stands = λ past h.
             subst (HoldsPast new.octets.items new.ones new.gap) (sym (with_bits-more place octet past)) (b.hears.stands (with_bits place octet past) (i.stands past h));
@@ -37,12 +38,12 @@ loop-place-preserved c =
             ap (heard_until room) (with_bits-more place octet past)
             ∙ told_nothing_more room past so_far bit (event_in old.octets.items c.loop-place.ended) (event_in new.octets.items c.match-bit.ended) (i.told past h)
             (sym (ap (event_in new.octets.items) w.in-Nothing.is) ∙ heard ∙ ap (λ r. heard_at r (bit ∷ so_far)) i.room)
-            (event_stays old.octets.items new.octets.items c.loop-place.ended old.gap place c.loop-place-test.true i.young b.ages.untouched
+            (event_stays old.octets.items new.octets.items c.loop-place.ended old.gap place c.loop-place-test.true i.young b.hears.untouched
             ∙ ap (event_in new.octets.items) (sym w.ended-is));
-        young = subst (λ e. EndedEarlier (place + 1) e new.gap) (sym w.ended-is) (ended_still place c.loop-place.ended old.gap new.gap i.young (b.ages.grows place));
+        young = subst (λ e. EndedEarlier (place + 1) e new.gap) (sym w.ended-is) (ended_still place c.loop-place.ended old.gap new.gap i.young (b.hears.grows place));
       }
       | in_default w ↦
-          let nothing = nothing_before place c.loop-place.ended c.bit.result old.gap c.loop-place-test.true i.young b.ages.quiet w.in_default.not-Nothing in
+          let nothing = nothing_before place c.loop-place.ended c.bit.result old.gap c.loop-place-test.true i.young b.hears.quiet w.in_default.not-Nothing in
           record {
             fits = subst (λ e. FitsIn (vec_len new.octets) e) (sym w.ended-is) b.fits;
             room = stays;
@@ -55,6 +56,6 @@ loop-place-preserved c =
                 ∙ told_event_more room past so_far bit (event_in new.octets.items c.match-bit.ended)
                 (i.told past h ∙ ap (λ e. heard_until room past ++ option_to_list (event_in old.octets.items e)) nothing)
                 (ap (event_in new.octets.items) w.ended-is ∙ heard ∙ ap (λ r. heard_at r (bit ∷ so_far)) i.room);
-            young = inr (IsYoung-le 1 (place + 1) new.gap (omega arith) (b.ages.anew w.in_default.not-Nothing));
+            young = inr (IsYoung-le 1 (place + 1) new.gap (omega arith) (b.hears.anew w.in_default.not-Nothing));
           }
     ]

@@ -1,39 +1,25 @@
--- An octet in which no six 1s come ends nothing, and goes on the open gap all at once; one of an idle line brings nothing.
-use Rattle.lapd_bits.proofs.Vocabulary.{◌++◌, true, replicate, refl, sym, ◌∙◌, reverse, append-nil, false≢true, false_from_ne_true, bits, low_bits, has_six}
-use Rattle.lapd_bits.proofs.AtOnce.{HoldsPast-octet, heard-octet, few_before, Calm-by_six}
-use Rattle.lapd_bits.proofs.Lent.{Stands-more}
+-- An octet that ends nothing, one of an idle line, or one that may end something.
+use Rattle.lapd_bits.proofs.Vocabulary.{refl, sym, subst, Takes}
+use Rattle.lapd_bits.proofs.Lent.{Stands-takes, takes-content}
 use Rattle.lapd_bits.proofs.deframer.Deframer.step.Goals as goal
-
-pub returns-in-Some-clause-after : goal.returns-in-Some-clause-after
-returns-in-Some-clause-after c n201 past h =
-    let old = c.args.self.now in
-    let new = c.take_content.new.self in
-    let text = low_bits 8 c.args.octet in
-    let none = false_from_ne_true (has_six (replicate old.ones true ++ text)) (λ six. false≢true (sym (c.in-Some.ensures.none.1 six))) in
-    let few = few_before old.ones text none in
-    let calm = Calm-by_six old.ones text none in
-    let brings = c.in-Some.ensures.some in
-    Stands-more n201 c.args.octet _ past _ h.room c.take_content.ensures.room
-    (HoldsPast-octet old.ones c.args.octet _ _ _ few calm brings _ h.holds.run old.octets.items new.octets.items new.ones old.gap new.gap
-    c.take_content.ensures.ones (c.take_content.ensures.stands c.args.octet) h.holds.open_is)
-    (heard-octet old.ones c.args.octet _ _ _ few calm brings (reverse (bits past)) h.holds.run _)
-
-pub returns-in-Some-clause-heard : goal.returns-in-Some-clause-heard
-returns-in-Some-clause-heard c n201 past h = (returns-in-Some-clause-after c n201 past h).latest past c.args.octet refl
-
-pub returns-then-is_idle-clause-after : goal.returns-then-is_idle-clause-after
-returns-then-is_idle-clause-after c n201 past h =
-    let idle = c.if-is_idle.ensures.stays (reverse (bits past)) refl h.holds in
-    Stands-more n201 c.args.octet _ past _ h.room refl idle.holds (idle.nothing _ ∙ sym (append-nil _))
-
-pub returns-then-is_idle-clause-heard : goal.returns-then-is_idle-clause-heard
-returns-then-is_idle-clause-heard c n201 past h =
-    (returns-then-is_idle-clause-after c n201 past h).latest past c.args.octet refl
+use Rattle.lapd_bits.proofs.deframer.Deframer.step.Goals.{in-Some, in_default+then-is_idle, in_default+else-is_idle}
 
 pub returns-clause-after : goal.returns-clause-after
 returns-clause-after c n201 past h =
-    let s = c.take_ending.ensures in
-    Stands-more n201 c.args.octet _ past _ h.room s.room (s.stands (reverse (bits past)) h.holds) (s.told (reverse (bits past)) h.holds)
+    let old = c.args.self.now in
+    let new = c.match-at_once.self in
+    let octet = c.args.octet in
+    let takes : Takes octet old new new.ended = elim c.match-at_once.branch [
+      | in-Some w ↦
+          let s = w.take_content.ensures in
+          subst (λ d. Takes octet old d d.ended) (sym w.self-is)
+          (takes-content octet _ _ _ old _ w.in-Some.ensures s.room s.ones (s.stands octet))
+      | in_default+then-is_idle w ↦
+          let t = w.if-is_idle.ensures.stays refl in
+          subst (λ d. Takes octet old d d.ended) (sym w.self-is) (record { room = t.room; stands = t.stands; told = t.told })
+      | in_default+else-is_idle w ↦ subst (λ d. Takes octet old d d.ended) (sym w.self-is) w.take_ending.ensures.takes
+    ] in
+    Stands-takes n201 octet past old new h takes
 
 pub returns-clause-heard : goal.returns-clause-heard
 returns-clause-heard c n201 past h = (returns-clause-after c n201 past h).latest past c.args.octet refl

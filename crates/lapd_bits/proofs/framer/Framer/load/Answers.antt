@@ -1,5 +1,5 @@
 -- The text of the frame has been made after the bits that were left.
-use Rattle.lapd_bits.proofs.Vocabulary.{◌≡◌, ◌+◌, ◌≤◌, ◌++◌, length, take, sym, ap, ◌∙◌, subst, length-append, refl, arith, bits, flag, frame_text, Goes, last_ones, waits, made, to_give}
+use Rattle.lapd_bits.proofs.Vocabulary.{◌≡◌, ◌+◌, ◌≤◌, ◌++◌, length, sym, ap, ◌∙◌, subst, length-append, refl, arith, bits, flag, frame_text, Goes, last_ones, waits, made, to_give}
 use Rattle.lapd_bits.proofs.FramerGiven.{length_to_give, to_give-none}
 use Rattle.lapd_bits.proofs.FramerLoad.{frame_made, written_back}
 use Rattle.lapd_bits.proofs.FramerStands.{Stands-load, begun_by}
@@ -11,22 +11,17 @@ returns-clause-left c =
     let a = c.self.inside in
     let head = c.args.head.now in
     let info = c.args.info.now in
-    let begun = c.after-text.result in
-    let start = made begun a.octets.items in
     let one = c.stuff.new.self in
     let middle = made one c.stuff.new.buffer in
     let within : a.end ≤ length a.octets.items = omega (arith, a.octets.ok.0, c.self.invariant.end) in
     let size = ap (λ f. length f.left) c.self.view_is in
     let none : a.end ≤ a.next = omega (arith, size, c.requires.not_busy, length_to_give a.octets.items a.next a.end a.after within) in
+    let start = waits a.after in
     let before : start ≡ c.args.self.now.left =
-    (λ i. bits (take (c.after-text.ensures.end i) a.octets.items) ++ waits (c.after-text.ensures.waiting i))
-    ∙ sym (to_give-none a.octets.items a.next a.end a.after none within)
-    ∙ ap (λ f. f.left) c.self.view_is in
-    let goes = subst (λ o. Goes (made begun o) (last_ones begun.latest) (bits head) middle (last_ones one.latest)) c.as_mut_slice-octets.ensures.value c.stuff.ensures.goes in
-    let from_none = subst (λ n. Goes start n (bits head) middle (last_ones one.latest)) (ap last_ones c.after-text.ensures.latest ∙ last_ones_none) goes in
+    sym (to_give-none a.octets.items a.next a.end a.after none within) ∙ ap (λ f. f.left) c.self.view_is in
+    let from_none = subst (λ n. Goes start n (bits head) middle (last_ones one.latest)) last_ones_none c.stuff.ensures.goes in
     let size_stays : length c.end_with.new.buffer ≡ length a.octets.items = omega (arith, c.end_with.ensures.room, c.stuff.ensures.room, ap length c.as_mut_slice-octets.ensures.value) in
-    ap (λ o. to_give o 0 c.end-self-inside.result c.waiting-self-inside.result) (written_back a.octets.len c.end_with.new.buffer a.octets.items a.octets.ok.0 size_stays)
-    ∙ (λ i. bits (take (c.end-self-inside.ensures i) c.end_with.new.buffer) ++ waits (c.waiting-self-inside.ensures i))
+    ap (λ o. to_give o 0 c.end_with.new.self.end c.end_with.new.self.waiting) (written_back a.octets.len c.end_with.new.buffer a.octets.items a.octets.ok.0 size_stays)
     ∙ c.end_with.ensures.made
     ∙ frame_made start middle head info c.fcs_of_both-check.result (last_ones one.latest) c.fcs_of_both-check.ensures.is_check from_none
     ∙ ap (λ l. l ++ (frame_text (head ++ info) ++ flag)) before

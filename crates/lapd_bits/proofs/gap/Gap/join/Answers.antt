@@ -8,7 +8,7 @@ invariant_of-self-else-filled-lt8 c =
     record {
       since_counted = omega arith;
       no_octet = omega arith;
-      filled_since = omega arith;
+      filled_since = omega (arith, c.requires.counted);
       partial_filled = left_below c.above-joined.result (c.args.self.now.filled + c.args.count) c.if-filled-lt8.false c.above-joined.ensures.below;
     }
 

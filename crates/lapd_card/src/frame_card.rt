@@ -170,23 +170,10 @@ impl<S: Shelf> FrameCard<S> {
         if out.len() < room {
             return Err(RoomTooSmall { room });
         }
-        Ok(self.give(line, out))
-    }
-
-    /// The next frame of a line, for which there is room.
-    pub(crate) fn give(&mut self, line: usize, out: &mut [u8]) -> Option<NextFrame>
-        requires within { line < line_count self.old }
-        requires room { room_for_frames self.old ≤ length out.old }
-        ensures gave { (m : machine.Card) → Stands S.store self.old m → gave_in out.new result ≡ answer (at line next) m }
-        ensures fits { written result ≤ length out.new }
-        ensures rest { drop (written result) out.new ≡ drop (written result) out.old }
-        ensures length { length out.new ≡ length out.old }
-        ensures after { Leads S.store (at line next) self.old self.new }
-    {
         let lane = &mut self.lines[line];
         let given = lane.next_frame(out, &mut self.shelf);
         self.waiting.set(line, lane.has_next());
-        given
+        Ok(given)
     }
 
     /// Loads the next frame of a line into its port, and answers its orders for timers; none where no frame waits.

@@ -1,6 +1,6 @@
 //! What happens at the card that a script is played on: octets that come and go, requests, and timers that expire.
 
-ghost use Rattle.std.specs.Prelude.{◌≡◌, ◌<◌, ◌≤◌, ◌+◌, ◌-◌, ◌^◌, ℕ, length, fold, take, option_copied, IfSome, IfNone};
+ghost use Rattle.std.specs.Prelude.{◌≡◌, ◌<◌, ◌≤◌, ◌+◌, ◌-◌, ◌^◌, [], ℕ, length, fold, take, option_copied, IfSome, IfNone};
 ghost use Rattle.lapd_clock.specs.Timers as clocks;
 ghost use Rattle.lapd_sim.specs.{listed, on, told_beside, written, Puts};
 ghost use Rattle.lapd_script.specs.declared.command.CardKind.TheVariants.{Octets};

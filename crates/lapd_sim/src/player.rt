@@ -9,7 +9,7 @@ use crate::parts::Plan;
 use crate::setup::{Obeyed, Setup};
 use lapd_script::{Command, FaultKind, LineFault, PlayFault, ScriptLines, read_line};
 use lapd_transcript::{Page, Source, Target, WriteFailed};
-use std::alloc::Global;
+use std::alloc::{AllocError, Global};
 
 /// As many octets as one line of a script can have pulled: more than it can bring.
 const ROOM: usize = 4096;
@@ -33,11 +33,7 @@ pub fn play<S: Source, T: Target>(
         → Plays result text (S.remaining source.new) (T.taken target.old) (T.taken target.new) }
 {
     let mut lines = ScriptLines::start(alloc)?;
-    let mut player = Player {
-        alloc,
-        octets: vec![in alloc; 0; ROOM]?,
-        setup: None,
-    };
+    let mut player = Player::start(alloc)?;
     let mut page = Page::new(target);
     let played = player.play(&mut lines, source, &mut page);
     end(&mut page, played)
@@ -104,6 +100,16 @@ struct Player {
 }
 
 impl Player {
+    fn start(alloc: Global) -> Result<Player, AllocError>
+        ensures { IfOk result (λ player. player.setup ≡ None) }
+    {
+        Ok(Player {
+            alloc,
+            octets: vec![in alloc; 0; ROOM]?,
+            setup: None,
+        })
+    }
+
     /// Plays the lines, and puts the transcript onto the page.
     fn play<S: Source, T: Target>(
         &mut self,

@@ -18,9 +18,9 @@ returns-in-Frames g c = λ m h.
     (into_is s m h c.in_ok-line.ensures.0 c.in_ok-line.ensures.1 kind.Frames frame (sym s.same_kind ∙ ap kind_of c.in-Frames.is) refl)
     (subst (λ (k : Config). Tells c.carry_out.result _ _ (Stands _) (with_event (scene m) (at line (hears (came k.n201 frame))))) (same_config s c.in-Frames.card c.in-Frames.is ∙ sym h.config)
     (told_on (at line (hears e)) s _ (frames_on _ c.in-Frames.card c.frame.new.self c.in-Frames.is line (hears e) (line_event.hears e) refl c.frame.ensures.after) refl refl refl refl m h
-    c.carry_out.result _ _ (told (told_beside (option_copied c.contents.result) c.frame.new.report))
+    c.carry_out.result _ _ (told (told_beside (option_copied c.contents-contents.result) c.frame.new.report))
     (frames_told _ c.in-Frames.card c.frame.new.self c.in-Frames.is line (hears e) (line_event.hears e) refl m.board h.board _
-    (λ n k. ap (λ x. line_event.told (told_beside x c.frame.new.report)) (c.contents.ensures ∙ ap (λ (d : Config). delivered_in (octets_of (Some (came d.n201 frame))) c.frame.new.report) c.frame.ensures.after.config)
+    (λ n k. ap (λ x. line_event.told (told_beside x c.frame.new.report)) (c.contents-contents.ensures ∙ ap (λ (d : Config). delivered_in (octets_of (Some (came d.n201 frame))) c.frame.new.report) c.frame.ensures.after.config)
     ∙ c.frame.ensures.told n k))
     c.carry_out.ensures.ordered c.carry_out.ensures.written))
 

@@ -10,4 +10,4 @@ returns-clause-nearer c =
     let moment = c.in_ok-moment.moment in
     some_has c.due.result
     (subst (λ (k : Timers). time_until end k + (end - moment) < time_until end c.args.self.now.clock) (sym c.due.ensures.after)
-    (due_nears c.args.self.now.clock end moment (sym c.in_ok-moment.ensures.next) (omega (arith, c.if-moment-gt-end.false))))
+    (due_nears c.args.self.now.clock end moment (sym c.in_ok-moment.ensures.next) (omega (arith, c.if-moment-end.false))))

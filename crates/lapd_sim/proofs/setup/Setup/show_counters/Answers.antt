@@ -9,7 +9,7 @@ pub returns : goal.returns
 returns g c = λ m h.
     let line = c.args.line in
     let less = subst (λ n. n < c.args.self.now.plan.config.lines) c.in_ok-line.ensures.0 c.in_ok-line.ensures.1 in
-    obeyed c.put_counters.result _ c.written.ensures _ _ (Stands c.args.self.now) _ _ (there c.args.self.now m h {line} {line} refl less (after_counters c.args.group))
+    obeyed c.put_counters.result _ c.written.ensures _ _ (Stands c.args.self.now) _ _ (there c.args.self.now m h {at_it = line} {line = line} refl less (after_counters c.args.group))
     (tells c.put_counters.result _ _ (Stands c.args.self.now) (after_counters c.args.group line (scene m)) (record (scene m) { text = counters_text line c.args.group c.counters-counters.result.now })
     (ap (λ k. record (scene m) { text = counters_text line c.args.group k })
     (c.counters-counters.ensures ∙ ap (λ (f : Held Store). get_or (counters_in f.lines) c.in_ok-line.field-0 none_counted) c.frames.ensures.card

@@ -9,7 +9,7 @@ pub use Rattle.std.proofs.lemmas.List.Folds.{list_any_none}
 pub use Rattle.std.proofs.lemmas.Option.{none-some}
 pub use Rattle.std.specs.Io.KnownBytes.{Appends}
 pub use Rattle.std.specs.List.{flat_map}
-pub use Rattle.std.specs.Prelude.{IfErr, IfOk, IsErr, IsTrue, filter, option_copied, ◌||◌}
+pub use Rattle.std.specs.Prelude.{IfErr, IfOk, IfSome, IsErr, IsTrue, filter, option_copied, ◌||◌}
 pub use Rattle.lapd_clock.specs.Timer.{AreInRange, Lengths, Timer, first_out_of_range}
 pub use Rattle.lapd_clock.specs.Timers.{Timers, due_at, time_until}
 pub use Rattle.lapd_clock.specs.declared.fault.LengthFault.{LengthFault}

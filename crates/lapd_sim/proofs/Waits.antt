@@ -1,5 +1,5 @@
 -- What has been written, and what a setup stands for, while it waits.
-use Rattle.lapd_sim.proofs.Vocabulary.{◌≡◌, ℕ, List, ◌++◌, Some, None, Ok, Err, refl, sym, ap, ◌∙◌, subst, at, expiry, reply, AreInRange, Timer, Timers, due_at, time_until, Setup, Scene, reply_text, with_event, at_expiry, expired, until, scene, Tells, Stands, puts_nothing, puts_then, stuck_more, Output, IsPut, IsStuck, WriteFailed, until-expired, until-over, text_grows}
+use Rattle.lapd_sim.proofs.Vocabulary.{◌≡◌, ℕ, List, ◌++◌, Option, Some, None, IfSome, Ok, Err, refl, sym, ap, ◌∙◌, subst, at, expiry, reply, AreInRange, Timer, Timers, due_at, time_until, Setup, Scene, reply_text, with_event, at_expiry, expired, until, scene, Tells, Stands, puts_nothing, puts_then, stuck_more, Output, IsPut, IsStuck, WriteFailed, until-expired, until-over, text_grows}
 use Rattle.lapd_sim.specs.declared.setup.Setup as rust
 
 -- From a setup, some timers have expired, and what they say has been written; what falls due until the end is the same.
@@ -43,6 +43,14 @@ module _ (s new : rust.Setup) (before after last : Output) (end : ℕ) (m : Setu
       subst (IsStuck before last) (sym whole) (stuck_more before last next.text later.0 (puts_then (Err why) before after last w.by_now.text said_then w.written told))
 
 -- at the end, the moment is the end
-pub waits_over : (s : rust.Setup) (before after : Output) (end : ℕ) (m : Setup) → None ≡ due_at s.clock end → (w : Waits s before after end m)
-    → until end (scene m) ≡ record w.by_now { setup = record w.by_now.setup { now = end } }
-waits_over s before after end m is w = w.same ∙ until-over end w.by_now (ap (λ c. due_at c end) (sym w.stands.clock) ∙ sym is)
+pub waits_over : (s new : rust.Setup) (before after : Output) (end : ℕ) (m : Setup) → None ≡ due_at s.clock end → Waits s before after end m
+    → ((n : Setup) → Stands s n → Stands new (record n { now = end })) → Tells {E = WriteFailed} (Ok tt) before after (Stands new) (until end (scene m))
+waits_over s new before after end m is w moves =
+    let over : until end (scene m) ≡ record w.by_now { setup = record w.by_now.setup { now = end } } =
+    w.same ∙ until-over end w.by_now (ap (λ c. due_at c end) (sym w.stands.clock) ∙ sym is) in
+    subst (Tells {E = WriteFailed} (Ok tt) before after (Stands new)) (sym over) (w.written, moves w.by_now.setup w.stands)
+
+-- what holds of any timer that is due
+pub some_has : {A P : Type 0} (o : Option A) → P → IfSome o (λ _. P)
+some_has None p = tt
+some_has (Some x) p = p

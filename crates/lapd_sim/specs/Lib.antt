@@ -37,7 +37,7 @@ pub use Rattle.lapd_sim.specs.Obeyed.{Answers, Begins, Does, said, Says, StartsB
 pub use Rattle.lapd_sim.specs.Pages.{is_cut, PutsNone, PutsSome, Reaches}
 pub use Rattle.lapd_sim.specs.Plays.{Shows}
 pub use Rattle.lapd_sim.specs.Serves.{Frames, Runs}
-pub use Rattle.lapd_sim.specs.Stands.{Each, Has, Stands}
+pub use Rattle.lapd_sim.specs.Stands.{Each, Has}
 pub use Rattle.lapd_sim.specs.machine.Asked.{LimitsAreOfCards}
 pub use Rattle.lapd_sim.specs.machine.Board.{at, expiry, hears, next, pull, reply, reply_of_frames}
 pub use Rattle.lapd_sim.specs.machine.Events.{RunsOnBoards, ScriptsAreRuns}

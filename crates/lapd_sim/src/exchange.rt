@@ -1,8 +1,8 @@
 //! What happens at the card that a script is played on: octets that come and go, requests, and timers that expire.
 
-ghost use Rattle.std.specs.Prelude.{◌≡◌, ◌<◌, ◌≤◌, ◌+◌, ◌-◌, ◌^◌, ℕ, length, fold, take, option_copied, IfSome, IfNone};
+ghost use Rattle.std.specs.Prelude.{◌≡◌, ◌<◌, ◌≤◌, ◌+◌, ◌-◌, ◌^◌, [], ℕ, length, fold, take, option_copied, IfSome, IfNone};
 ghost use Rattle.lapd_clock.specs.Timers as clocks;
-ghost use Rattle.lapd_sim.specs.{listed, on, told_beside, Puts};
+ghost use Rattle.lapd_sim.specs.{listed, on, told_beside, written, Puts};
 ghost use Rattle.lapd_script.specs.declared.command.CardKind.TheVariants.{Octets};
 ghost use Rattle.lapd_script.specs.Meaning as meaning;
 ghost use Rattle.lapd_sim.specs.machine.Board as event;
@@ -10,7 +10,7 @@ ghost use Rattle.lapd_sim.specs.machine.Board.{told};
 ghost use Rattle.lapd_sim.specs.machine.Setup as machine;
 ghost use Rattle.lapd_sim.specs.machine.Steps.{reply_text};
 
-use crate::setup::{Obeyed, Setup, written};
+use crate::setup::{Obeyed, Setup};
 use lapd_card::{AnyCard, BareReport, Request};
 use lapd_clock::Clock;
 use lapd_frame::{Order, Service, Timer};
@@ -24,7 +24,8 @@ const LAST_MOMENT: u64 = (1 << 63) - 1;
 const TEIS: u8 = 127;
 
 impl Setup {
-    ghost use Rattle.lapd_sim.specs.{Answers, Says, Stands, after_rx, at, at_expiry, downs, expiry, octet_in, pull, pulls, reply, request_of, teis_on, until, with_event, with_events};
+    ghost use Rattle.lapd_sim.specs.{Answers, Says, after_rx, at, at_expiry, downs, expiry, octet_in, pull, pulls, reply, request_of, teis_on, until, with_event, with_events};
+    ghost use Rattle.lapd_sim.specs.Stands.{Stands};
 
     /// Octets come from a line of a card for octets.
     pub(crate) fn hear<T: Target>(&mut self, line: usize, octets: &[u8], page: &mut Page<T>) -> Put
@@ -230,4 +231,11 @@ pub(crate) fn order(clock: &mut Clock, line: usize, orders: &[Order], now: u64)
     for order in orders {
         clock.apply(line, *order, now);
     }
+}
+
+/// What a line comes to at which only a write can fail.
+pub(crate) fn written(told: Put) -> Obeyed
+    ensures { result ≡ written told }
+{
+    told.map_err(|_| LineFault::Write)
 }

@@ -4,16 +4,16 @@ ghost use Rattle.std.specs.Prelude.{◌≡◌, ◌≢◌, ◌<◌, ◌≤◌, �
 ghost use Rattle.lapd_card.specs.Kinds.{config_of};
 ghost use Rattle.lapd_clock.specs.Timer.{AreInRange};
 ghost use Rattle.lapd_script.specs.Meaning as meaning;
-ghost use Rattle.lapd_sim.specs.{kind_of, Output};
+ghost use Rattle.lapd_sim.specs.Boards.{kind_of};
 ghost use Rattle.model_line.specs.Sound.{IsInRange};
 
-use crate::exchange::{carry_out, order};
+use crate::exchange::{carry_out, order, written};
 use crate::parts::{Plan, begin, listeners, request_for, terminals};
 use lapd_bits::Deframer;
 use lapd_card::{AnyCard, BareReport, Fault, limit};
 use lapd_clock::{Clock, Lengths};
 use lapd_script::{Asked, CardKind, Command, FaultKind, LineFault};
-use lapd_transcript::{CounterGroup, LONGEST_FRAME, Page, Put, SHORTEST_FRAME, Target, Terminal};
+use lapd_transcript::{CounterGroup, LONGEST_FRAME, Page, SHORTEST_FRAME, Target, Terminal};
 use std::alloc::Global;
 
 /// A line of a script was obeyed, or why it was not.
@@ -40,7 +40,8 @@ pub(crate) struct Setup {
 }
 
 impl Setup {
-    ghost use Rattle.lapd_sim.specs.{Answers, BadLine, Begins, WrongCard, on, Stands};
+    ghost use Rattle.lapd_sim.specs.{Answers, BadLine, Begins, Output, WrongCard, on};
+    ghost use Rattle.lapd_sim.specs.Stands.{Stands};
 
     /// A card as a card line has it begin, at which nothing has happened.
     pub(crate) fn start(alloc: Global, plan: Plan) -> Result<Setup, LineFault>
@@ -250,11 +251,4 @@ impl Setup {
         let line = self.line(line)?;
         written(self.ask(line, request_for(what, tei, octets), page))
     }
-}
-
-/// What a line comes to at which only a write can fail.
-pub(crate) fn written(told: Put) -> Obeyed
-    ensures { result ≡ written told }
-{
-    told.map_err(|_| LineFault::Write)
 }

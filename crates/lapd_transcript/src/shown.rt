@@ -15,8 +15,8 @@ pub fn write_shown<T: Target>(target: &mut T, frame: &Frame<'_>) -> Put
 {
     let sapi = decimal(u64::from(frame.address.sapi));
     let tei = decimal(u64::from(frame.address.tei));
-    let (command, bit) = (frame.address.command, bit_of(&frame.control));
-    let (ns, nr) = numbers_of(&frame.control);
+    let command = frame.address.command;
+    let (name, ns, nr, bit) = fields_of(&frame.control);
     let (ns_digits, nr_digits) = (digits_of(ns), digits_of(nr));
     let pieces = [
         b"sapi ".as_slice(),
@@ -24,7 +24,7 @@ pub fn write_shown<T: Target>(target: &mut T, frame: &Frame<'_>) -> Put
         b" tei ",
         tei.as_slice(),
         one_of(command, b" command ", b" response "),
-        name_of(&frame.control),
+        name,
         one_of(ns.is_some(), b" ns ", b""),
         ns_digits.as_slice(),
         one_of(nr.is_some(), b" nr ", b""),
@@ -78,53 +78,24 @@ fn digits_of(number: Option<Seq>) -> Digits
     }
 }
 
-/// N(S) and N(R), where the frame has them.
-fn numbers_of(control: &Control) -> (Option<Seq>, Option<Seq>)
-    ensures ns { option_map (λ n. n.value) result.0 ≡ (fields control.now).ns }
-    ensures nr { option_map (λ n. n.value) result.1 ≡ (fields control.now).nr }
+/// What a control field says: the frame's name, N(S) and N(R) where it has them, and P of a command or F of a response.
+fn fields_of(control: &Control) -> (&'static [u8], Option<Seq>, Option<Seq>, bool)
+    ensures name { result.0.now ≡ (fields control.now).name }
+    ensures ns { option_map (λ n. n.value) result.1 ≡ (fields control.now).ns }
+    ensures nr { option_map (λ n. n.value) result.2 ≡ (fields control.now).nr }
+    ensures bit { result.3 ≡ (fields control.now).bit }
 {
     match *control {
-        Control::Information { ns, nr, .. } => (Some(ns), Some(nr)),
-        Control::ReceiveReady { nr, .. }
-        | Control::ReceiveNotReady { nr, .. }
-        | Control::Reject { nr, .. } => (None, Some(nr)),
-        _ => (None, None),
-    }
-}
-
-/// P of a command, or F of a response.
-fn bit_of(control: &Control) -> bool
-    ensures { result ≡ (fields control.now).bit }
-{
-    match *control {
-        Control::Information { pf, .. }
-        | Control::ReceiveReady { pf, .. }
-        | Control::ReceiveNotReady { pf, .. }
-        | Control::Reject { pf, .. }
-        | Control::Sabme { pf }
-        | Control::Disc { pf }
-        | Control::Ui { pf }
-        | Control::Ua { pf }
-        | Control::Dm { pf }
-        | Control::Frmr { pf }
-        | Control::Xid { pf } => pf,
-    }
-}
-
-fn name_of(control: &Control) -> &'static [u8]
-    ensures { result.now ≡ (fields control.now).name }
-{
-    match control {
-        Control::Information { .. } => b"i",
-        Control::ReceiveReady { .. } => b"rr",
-        Control::ReceiveNotReady { .. } => b"rnr",
-        Control::Reject { .. } => b"rej",
-        Control::Sabme { .. } => b"sabme",
-        Control::Disc { .. } => b"disc",
-        Control::Ui { .. } => b"ui",
-        Control::Ua { .. } => b"ua",
-        Control::Dm { .. } => b"dm",
-        Control::Frmr { .. } => b"frmr",
-        Control::Xid { .. } => b"xid",
+        Control::Information { ns, nr, pf } => (b"i", Some(ns), Some(nr), pf),
+        Control::ReceiveReady { nr, pf } => (b"rr", None, Some(nr), pf),
+        Control::ReceiveNotReady { nr, pf } => (b"rnr", None, Some(nr), pf),
+        Control::Reject { nr, pf } => (b"rej", None, Some(nr), pf),
+        Control::Sabme { pf } => (b"sabme", None, None, pf),
+        Control::Disc { pf } => (b"disc", None, None, pf),
+        Control::Ui { pf } => (b"ui", None, None, pf),
+        Control::Ua { pf } => (b"ua", None, None, pf),
+        Control::Dm { pf } => (b"dm", None, None, pf),
+        Control::Frmr { pf } => (b"frmr", None, None, pf),
+        Control::Xid { pf } => (b"xid", None, None, pf),
     }
 }

@@ -142,7 +142,7 @@ abbrev pub May : Setup → List Event → List ℕ → Result Scene FaultKind �
 May b events text (Err kind) = Unit {0}
 May b events text (Ok s) = Brings b events text s
 
-module _ {b : Setup} {events : List Event} {text : List ℕ} where
+module _ (b : Setup) (events : List Event) (text : List ℕ) where
   if_good : (good : Bool) (r : Result Scene FaultKind) (kind : FaultKind) → (good ≡ true → May b events text r) → May b events text (cond good r (Err kind))
   if_good true r kind h = h refl
   if_good false r kind h = tt
@@ -157,7 +157,7 @@ module _ {b : Setup} {events : List Event} {text : List ℕ} where
 
 -- at a line of the card
 at_it : {events : List Event} {text : List ℕ} (number : ℕ) (b : Setup) (s : Scene) → (number < b.board.config.lines → Brings b events text s) → May b events text (at_line number (scene_of b) s)
-at_it number b s h = if_good (nat_lt number b.board.config.lines) (Ok s) BadLine (λ good. h (ltb-true _ _ good))
+at_it number b s h = if_good _ _ _ (nat_lt number b.board.config.lines) (Ok s) BadLine (λ good. h (ltb-true _ _ good))
 
 event_brought : (e : Event) (b : Setup) → IsAtLine b.board e → Brings b (e ∷ []) (replies_text (moments b.board (e ∷ []))) (with_event (scene_of b) e)
 event_brought e b within = record { led = event_led e (scene_of b) within; says = events_say (e ∷ []) (scene_of b) }
@@ -195,20 +195,20 @@ pub meaning_brings : (m : line.Meaning) (b : Setup) → May b (meant_events m (s
 meaning_brings line.skip b = record { led = nothing_led b; says = refl }
 meaning_brings (line.card kind config) b = tt
 meaning_brings (line.rx number octets) b =
-    octets_only b.board.kind _
+    octets_only _ _ _ b.board.kind _
     (at_it number b _ (λ within. record { led = octets_led number octets (scene_of b) within; says = events_say (octets_at number octets) (scene_of b) }))
 meaning_brings (line.into number octets) b =
-    if_good (nat_lt number b.board.config.lines) _ BadLine
-    (λ good. if_good (can_come b.board.kind octets) _ BadFrame (λ _. coming_brought b.board.kind number octets b (ltb-true _ _ good)))
-meaning_brings (line.failed number fault) b = frames_only b.board.kind _ (at_it number b _ (event_brought (at number (hears (dropped (cause_of fault)))) b))
-meaning_brings (line.next number) b = frames_only b.board.kind _ (at_it number b _ (event_brought (at number next) b))
+    if_good _ _ _ (nat_lt number b.board.config.lines) _ BadLine
+    (λ good. if_good _ _ _ (can_come b.board.kind octets) _ BadFrame (λ _. coming_brought b.board.kind number octets b (ltb-true _ _ good)))
+meaning_brings (line.failed number fault) b = frames_only _ _ _ b.board.kind _ (at_it number b _ (event_brought (at number (hears (dropped (cause_of fault)))) b))
+meaning_brings (line.next number) b = frames_only _ _ _ b.board.kind _ (at_it number b _ (event_brought (at number next) b))
 meaning_brings (line.down number) b =
     let events = downs number (teis_on number b.board) in
     at_it number b _ (λ within. record { led = events_led events (scene_of b) (downs_within b.board number (teis_on number b.board) within); says = events_say events (scene_of b) })
-meaning_brings (line.pull number count) b = octets_only b.board.kind _ (at_it number b _ (pulls_brought number count b))
+meaning_brings (line.pull number count) b = octets_only _ _ _ b.board.kind _ (at_it number b _ (pulls_brought number count b))
 meaning_brings (line.wait milliseconds) b =
     let end = b.now + milliseconds in
-    if_good (nat_le end last_moment) _ TimeOver (λ _. record { led = wait_led milliseconds (scene_of b); says = expiries_say (clocks.time_until end b.clock) end (scene_of b) })
+    if_good _ _ _ (nat_le end last_moment) _ TimeOver (λ _. record { led = wait_led milliseconds (scene_of b); says = expiries_say (clocks.time_until end b.clock) end (scene_of b) })
 meaning_brings (line.timers t200 t203 t201) b = timers_brought (record { t200 = t200; t203 = t203; t201 = t201 }) b
 meaning_brings line.stored b = record { led = nothing_led b; says = refl }
 meaning_brings (line.counters number group) b = at_it number b _ (λ within. record { led = nothing_led b; says = refl })

@@ -1,10 +1,13 @@
 -- Hand-written answers for `Setup::come`.
-use Rattle.lapd_sim.proofs.Vocabulary.{[], ◌<◌, ◌∙◌, Some, ap, length, refl, sym, subst, arith, option_copied, Config, came, at, hears, told, told_beside, terminal_at, octets_sent, after_sending, with_terminal, after_rx, scene, with_event, kind_of, on, Tells, Stands, Sends}
-use Rattle.lapd_line.specs.Reports.{delivered_in, octets_of}
+use Rattle.lapd_sim.proofs.Vocabulary.{[], ◌≡◌, ◌<◌, ◌∙◌, Some, ap, length, refl, sym, subst, arith, option_copied, Config, came, at, hears, told, told_beside, terminal_at, octets_sent, after_sending, with_terminal, after_rx, scene, shelf_of, kind_of, on, Tells, Stands, Sends}
+use Rattle.lapd_card.specs.FrameStands as frames
+use Rattle.lapd_line.specs.Reports.{delivered_in, octets_of, told_in}
 use Rattle.lapd_script.specs.declared.command.CardKind.TheVariants as kind
 use Rattle.lapd_sim.proofs.Boards.{frames_on, frames_told, same_config, told_on}
 use Rattle.lapd_sim.proofs.Eachs.{each_at, each_set}
 use Rattle.lapd_sim.proofs.Scenes.{into_is, is_frame_is, obeyed}
+use Rattle.model_card.specs.Event as frame_event
+use Rattle.model_card.specs.Machine as frame_machine
 use Rattle.model_line.specs.Event as line_event
 use Rattle.lapd_sim.proofs.setup.Setup.come.Goals as goal
 
@@ -13,16 +16,18 @@ returns-in-Frames g c = λ m h.
     let s = c.args.self.now in
     let line = c.in_ok-line.line in
     let frame = c.args.frame.now in
-    let e = came c.in-Frames.card.config.n201 frame in
+    let e = came m.board.config.n201 frame in
+    let report = c.frame.new.report in
+    let same = same_config s c.in-Frames.card c.in-Frames.is ∙ sym h.config in
+    let after = subst (λ (k : Config). frames.Leads shelf_of (frame_event.at line (line_event.hears (came k.n201 frame))) c.in-Frames.card c.frame.new.self) same c.frame.ensures.after in
     obeyed c.carry_out.result _ c.written.ensures _ _ (Stands _) _ _
     (into_is s m h c.in_ok-line.ensures.0 c.in_ok-line.ensures.1 kind.Frames frame (sym s.same_kind ∙ ap kind_of c.in-Frames.is) refl)
-    (subst (λ (k : Config). Tells c.carry_out.result _ _ (Stands _) (with_event (scene m) (at line (hears (came k.n201 frame))))) (same_config s c.in-Frames.card c.in-Frames.is ∙ sym h.config)
-    (told_on (at line (hears e)) s _ (frames_on _ c.in-Frames.card c.frame.new.self c.in-Frames.is line (hears e) (line_event.hears e) refl c.frame.ensures.after) refl refl refl refl m h
-    c.carry_out.result _ _ (told (told_beside (option_copied c.contents.result) c.frame.new.report))
-    (frames_told _ c.in-Frames.card c.frame.new.self c.in-Frames.is line (hears e) (line_event.hears e) refl m.board h.board _
-    (λ n k. ap (λ x. line_event.told (told_beside x c.frame.new.report)) (c.contents.ensures ∙ ap (λ (d : Config). delivered_in (octets_of (Some (came d.n201 frame))) c.frame.new.report) c.frame.ensures.after.config)
-    ∙ c.frame.ensures.told n k))
-    c.carry_out.ensures.ordered c.carry_out.ensures.written))
+    (told_on (at line (hears e)) s _ (frames_on _ c.in-Frames.card c.frame.new.self c.in-Frames.is line (hears e) (line_event.hears e) refl after) refl refl refl refl m h
+    c.carry_out.result _ _ (told (told_beside (option_copied c.contents-contents.result) report))
+    (frames_told _ c.in-Frames.card c.frame.new.self c.in-Frames.is line (hears e) (line_event.hears e) refl m.board h.board (line_event.told (told_beside (option_copied c.contents-contents.result) report))
+    (λ n k. ap (λ x. line_event.told (told_beside x report)) (c.contents-contents.ensures ∙ ap (λ (d : Config). delivered_in (octets_of (Some (came d.n201 frame))) report) c.frame.ensures.after.config)
+    ∙ subst (λ (d : Config). line_event.told (told_in (octets_of (Some (came c.in-Frames.card.config.n201 frame))) report) ≡ frame_machine.answer (frame_event.at line (line_event.hears (came d.n201 frame))) n) same (c.frame.ensures.told n k)))
+    c.carry_out.ensures.ordered c.carry_out.ensures.written)
 
 pub returns-else-frame-gt-LONGEST_FRAME : goal.returns-else-frame-gt-LONGEST_FRAME
 returns-else-frame-gt-LONGEST_FRAME g c = λ m h.

@@ -1,5 +1,5 @@
 -- Hand-written answers for `Setup::until`.
-use Rattle.lapd_sim.proofs.Vocabulary.{refl, sym, ap, subst, at_expiry, on, Scene, IsPut, Stands}
+use Rattle.lapd_sim.proofs.Vocabulary.{refl, sym, subst, at_expiry, on, Stands}
 use Rattle.lapd_sim.proofs.OneByOne.{leaves_told}
 use Rattle.lapd_sim.proofs.Waits.{waits_begins, waits_on, waits_in_vain, waits_over}
 use Rattle.lapd_sim.specs.declared.setup.Setup as rust
@@ -23,8 +23,7 @@ loop-line-preserved g c = λ m h.
 
 pub returns : goal.returns
 returns g c = λ m h.
-    let w = c.loop-line.invariant m h in
-    let s = subst (λ (s : rust.Setup). Stands s w.by_now.setup) (sym c.in_default.ensures.unchanged) w.stands in
-    subst (λ (x : Scene). IsPut (on g.T.Target.taken c.args.page.now) (on g.T.Target.taken c.loop-line.page) x.text × Stands _ x.setup)
-    (sym (waits_over c.loop-line.self _ _ c.args.end m c.in_default.ensures.due w))
-    (w.written, record { kind = s.kind; config = s.config; board = s.board; counters = s.counters; clock = s.clock; now = refl; terminals = s.terminals; listeners = s.listeners })
+    waits_over c.loop-line.self _ _ _ c.args.end m c.in_default.ensures.due (c.loop-line.invariant m h)
+    (λ n stands.
+    let s = subst (λ (s : rust.Setup). Stands s n) (sym c.in_default.ensures.unchanged) stands in
+    record { kind = s.kind; config = s.config; board = s.board; counters = s.counters; clock = s.clock; now = refl; terminals = s.terminals; listeners = s.listeners })

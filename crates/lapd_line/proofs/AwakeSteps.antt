@@ -1,5 +1,5 @@
 -- Which links are awake, as one is looked at, begins or is cleared.
-use Rattle.lapd_line.proofs.Vocabulary.{◌≡◌, ◌≢◌, ℕ, ◌<◌, zero, suc, Bool, true, false, List, [], ◌∷◌, replicate, set, slice_get, Option, Some, None, is_some, option_map_or, refl, ap, sym, subst, ◌∙◌, arith, ⊎_elim, cases_eq, get_or-set_other, Link, Terms, given, fresh_gives_nothing, Marks, IsMark, AreMarked, Sets, digit, AreAwake, gives, gives_at, HasTerms, machine_at, terms_in}
+use Rattle.lapd_line.proofs.Vocabulary.{◌≡◌, ◌≢◌, ℕ, ◌<◌, zero, suc, Bool, true, false, List, [], ◌∷◌, replicate, set, slice_get, is_some, option_map_or, refl, ap, sym, ◌∙◌, arith, cases_eq, get_or-set_other, Link, Terms, given, fresh_gives_nothing, Marks, IsMark, AreMarked, Sets, digit, AreAwake, gives, gives_at, HasTerms, machine_at, terms_in}
 use Rattle.model_link.specs.Link as machine
 
 -- a mark says which of both it is

@@ -1,5 +1,5 @@
 -- What an event does to a line and its port.
-use Rattle.lapd_line.proofs.Vocabulary.{arith, ◌≡◌, ℕ, ◌<◌, Bool, true, false, List, [], ◌∷◌, ◌++◌, length, Option, Some, None, is_some, option_map, refl, sym, ap, ◌∙◌, subst, cond, lt-ltb, option_map_or, IsSome, Owned, Store, SameLimits, ShortList, Order, Timer, Cause, Config, Counters, with_all, hears, next, gave, expiry, LineTold, answer_shown, counted, taken, next_of, drop_costs_nothing, may_send, cause_in, FrameLine, Leads, LeadsIfHeard, config_of, orders_taken, IsLoaded, IsSaid, PortStands, Pulls, with_frame, OctetsLead, OctetsStand, octets_config}
+use Rattle.lapd_line.proofs.Vocabulary.{arith, ◌≡◌, ℕ, ◌<◌, Bool, true, false, List, [], ◌∷◌, ◌++◌, length, Option, Some, None, is_some, option_map, refl, sym, ap, ◌∙◌, subst, cond, lt-ltb, option_map_or, IsSome, Owned, Store, SameLimits, ShortList, Order, Timer, Config, Counters, hears, next, expiry, LineTold, counted, taken, drop_costs_nothing, may_send, FrameLine, Leads, LeadsIfHeard, config_of, orders_taken, IsLoaded, IsSaid, PortStands, Pulls, with_frame, OctetsLead, OctetsStand, octets_config}
 use Rattle.model_bits.specs.Stream as stream
 use Rattle.model_line.specs.Event as line
 use Rattle.model_line.specs.Line as lines

@@ -1,5 +1,5 @@
 -- What is written into a report in which nothing is told yet.
-use Rattle.lapd_line.proofs.Vocabulary.{arith, ◌≡◌, ℕ, ◌||◌, Bool, true, false, false≢true, List, Option, Some, None, drop, refl, sym, ap, ◌∙◌, Cause, listed, told_with, nothing, told_of_link, BareReport, told_in}
+use Rattle.lapd_line.proofs.Vocabulary.{arith, ◌≡◌, ℕ, List, Option, Some, None, drop, ap, ◌∙◌, Cause, told_with, nothing, told_of_link, BareReport, told_in}
 use Rattle.std.specs.Option.{option_or}
 use Rattle.std.specs.Prelude.{if◌then◌else◌}
 use Rattle.model_line.specs.Effect.{unserved_cause}

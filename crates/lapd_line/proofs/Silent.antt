@@ -1,5 +1,5 @@
 -- An expiry and a request deliver nothing.
-use Rattle.lapd_line.proofs.Vocabulary.{arith, ◌≡◌, ℕ, false, List, [], Option, Some, None, refl, ap, ◌∙◌, sym, option_or, Service, Timer, Config, Line, LineTold, of_aim, of_change, Aim, at_link, at_management, at_timer, aim_of_expiry, at_requested, at_deactivated, aim_of_request, place_in, Request, Terms, Course, link_in, terms, BareReport, told_in, told_beside}
+use Rattle.lapd_line.proofs.Vocabulary.{arith, ◌≡◌, ℕ, false, List, [], Option, Some, None, refl, ap, ◌∙◌, sym, option_or, Service, Timer, Config, Line, LineTold, of_aim, of_change, Aim, at_link, at_management, at_timer, aim_of_expiry, at_requested, at_deactivated, aim_of_request, Request, Terms, Course, link_in, terms, BareReport, told_in, told_beside}
 use Rattle.lapd_tei.specs.Events as teis
 use Rattle.lapd_tei.specs.declared.outcome.Change.{Change}
 use Rattle.model_link.specs.Events as link

@@ -72,7 +72,15 @@ impl LinkLayer {
             Addressee::Management => self.message(frame.control, frame.info, report, shelf),
             Addressee::Link(service, tei, place) => {
                 let received = Received::Frame(frame);
-                self.receive(service, tei, place, received, frame.control.start(), report, shelf)
+                self.receive(
+                    service,
+                    tei,
+                    place,
+                    received,
+                    frame.control.start(),
+                    report,
+                    shelf,
+                )
             }
             Addressee::Nobody(cause) => self.for_nobody(frame, cause, report),
         }
@@ -181,7 +189,9 @@ impl LinkLayer {
     {
         match self.addressee(address) {
             Addressee::Management => tell_drop(report, Cause::Unserved),
-            Addressee::Link(service, tei, place) => self.receive(service, tei, place, received, len, report, shelf),
+            Addressee::Link(service, tei, place) => self.receive(
+                service, tei, place, received, len, report, shelf,
+            ),
             Addressee::Nobody(cause) => tell_drop(report, cause),
         }
     }

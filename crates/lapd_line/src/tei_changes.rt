@@ -79,8 +79,7 @@ impl LinkLayer {
         let call = link_number(place, Service::Call);
         self.links.open(call, Service::Call, tei, &self.config);
         let packet = link_number(place, Service::Packet);
-        self.links
-            .open(packet, Service::Packet, tei, &self.config);
+        self.links.open(packet, Service::Packet, tei, &self.config);
         tell_management(report, told);
     }
 

@@ -17,14 +17,7 @@ returns-clause-shows c = λ m s.
     (c.frame.ensures.told m s ∙ ap (λ (e : Event). answer e m) is)
     (subst (λ (o : Option (List ℕ)). length (contents_of o) ≤ 260 → Shows c.show.new.self (told_beside o c.frame.new.report)) delivered c.show.ensures)
 
-pub returns-clause-stands : goal.returns-clause-stands
-returns-clause-stands c = λ m s.
-    subst (λ (e : Event). FrameCardStands c.frame.new.self (after e m)) (comes_at c.args.line c.args.octets.now c.args.card.now m s) (c.frame.ensures.after.stands m s)
 
-pub returns-clause-counted : goal.returns-clause-counted
-returns-clause-counted c = λ m s.
-    c.frame.ensures.after.counted m s
-    ∙ ap (λ (e : Event). moment_counted (counters_in c.args.card.now.lines) (moment_of m e)) (comes_at c.args.line c.args.octets.now c.args.card.now m s)
 
 pub returns-then-frame-clause-shows : goal.returns-then-frame-clause-shows
 returns-then-frame-clause-shows c = λ m s.
@@ -34,12 +27,3 @@ returns-then-frame-clause-shows c = λ m s.
     subst (ShowsAnswer c.show_orders.new.self)
     (ap told (sym orders) ∙ c.frame.ensures.told m s ∙ ap (λ (e : Event). answer e m) (comes_at c.args.line c.args.octets.now c.args.card.now m s))
     (c.show_orders.ensures.told refl refl)
-
-pub returns-then-frame-clause-stands : goal.returns-then-frame-clause-stands
-returns-then-frame-clause-stands c = λ m s.
-    subst (λ (e : Event). FrameCardStands c.frame.new.self (after e m)) (comes_at c.args.line c.args.octets.now c.args.card.now m s) (c.frame.ensures.after.stands m s)
-
-pub returns-then-frame-clause-counted : goal.returns-then-frame-clause-counted
-returns-then-frame-clause-counted c = λ m s.
-    c.frame.ensures.after.counted m s
-    ∙ ap (λ (e : Event). moment_counted (counters_in c.args.card.now.lines) (moment_of m e)) (comes_at c.args.line c.args.octets.now c.args.card.now m s)

@@ -12,5 +12,5 @@ returns-clause-served c = λ m s w. let t = there c.in-Some.ensures.card m s in 
   refl,
   still_stands (after (at c.args.line (line_event.expiry c.in-Ok.value)) m) c.tell_reopened.ensures.card (c.expire-told.ensures.after.stands m t),
   still_answered c.tell_reopened.new.report c.show.new.self _ c.tell_reopened.ensures.rest
-      (shown (card_in m) (at c.args.line (line_event.expiry c.in-Ok.value)) c.expire-told.result c.show.new.self (ranges_in c.in-Some.kept.now.card m t) (c.expire-told.ensures.told m t) c.show.ensures),
+      (shown (card_in m) (at c.args.line (line_event.expiry c.in-Ok.value)) c.expire-told.result c.show.new.self (ranges_in c.in-Some.value.now.card m t) (c.expire-told.ensures.told m t) c.show.ensures),
 )

@@ -12,7 +12,7 @@ returns-in-Ok-request-clause-served c = λ m s w. let t = there c.in-Some.ensure
   refl,
   still_stands (after (at c.args.line (line_event.request (request_of c.in-Ok.value))) m) c.tell_reopened.ensures.card (c.request.ensures.after.stands m t),
   still_answered c.tell_reopened.new.report c.show.new.self _ c.tell_reopened.ensures.rest
-      (shown (card_in m) (at c.args.line (line_event.request (request_of c.in-Ok.value))) c.in-Ok-request.told c.show.new.self (ranges_in c.in-Some.kept.now.card m t) (ap answer_of_result (sym c.in-Ok-request.is) ∙ c.request.ensures.told m t) c.show.ensures),
+      (shown (card_in m) (at c.args.line (line_event.request (request_of c.in-Ok.value))) c.in-Ok-request.told c.show.new.self (ranges_in c.in-Some.value.now.card m t) (ap answer_of_result (sym c.in-Ok-request.is) ∙ c.request.ensures.told m t) c.show.ensures),
 ))
 
 pub returns-in-Err-request-clause-refused : goal.returns-in-Err-request-clause-refused

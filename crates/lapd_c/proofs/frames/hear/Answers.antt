@@ -1,5 +1,5 @@
 -- Hand-written answers for `hear`: the frame is heard by the configuration of the machine.
-use Rattle.lapd_c.proofs.Vocabulary.{◌≡◌, ◌≤◌, ℕ, List, [], length, Option, Some, sym, ap, subst, ◌∙◌, counters_in, told, LineTold, Event, answer, moment_counted, moment_of, FrameCardStands, comes, Shows, contents_of}
+use Rattle.lapd_c.proofs.Vocabulary.{[], ◌≡◌, ◌≤◌, ℕ, List, length, Option, Some, sym, ap, subst, ◌∙◌, counters_in, told, Event, answer, moment_counted, moment_of, FrameCardStands, comes, Shows, contents_of}
 use Rattle.lapd_frame.specs.ShortLists.{listed}
 use Rattle.lapd_line.proofs.Quiet.{quiet_told}
 use Rattle.lapd_line.specs.Reports.{told_in, octets_of}

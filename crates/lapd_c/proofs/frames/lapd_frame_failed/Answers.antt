@@ -1,7 +1,7 @@
 -- Hand-written answers for `lapd_frame_failed`.
 use Rattle.lapd_c.proofs.Vocabulary.{refl, sym, ◌∙◌, alone, fails}
 use Rattle.model_card.specs.Machine.{after}
-use Rattle.lapd_c.proofs.Reopening.{still_answered, still_stands, tells_after}
+use Rattle.lapd_c.proofs.Reopening.{still_answered, still_stands}
 use Rattle.lapd_c.proofs.Served.{if_ok, shown, frames_there}
 use Rattle.lapd_c.proofs.frames.lapd_frame_failed.Goals as goal
 

@@ -3,7 +3,7 @@ use Rattle.lapd_c.proofs.Vocabulary.{refl, ap, ◌∙◌, with_ports}
 use Rattle.model_card.specs.ports.Card.{after}
 use Rattle.model_card.specs.ports.Event.{at}
 use Rattle.model_card.specs.ports.Port as port
-use Rattle.lapd_c.proofs.Reopening.{still_replied, still_stands, tells_after}
+use Rattle.lapd_c.proofs.Reopening.{still_replied, still_stands}
 use Rattle.lapd_c.proofs.Served.{shown_reply, octets_there}
 use Rattle.lapd_c.proofs.octets.lapd_octet.Goals as goal
 

@@ -1,8 +1,5 @@
 -- Hand-written answers for `lapd_request`.
-use Rattle.lapd_c.proofs.Vocabulary.{refl, sym, ap, subst, ◌∙◌, arith, none-some, request_of, read_of, answer_of_request, at, ShowsAnswer}
-use Rattle.model_line.specs.Event as line_event
-use Rattle.lapd_card.specs.Kinds.{after}
-use Rattle.lapd_c.proofs.Reopening.{still_answered, still_stands}
+use Rattle.lapd_c.proofs.Vocabulary.{sym, ap, ◌∙◌, none-some, request_of, read_of}
 use Rattle.lapd_c.proofs.Served.{if_ok, if_some, there}
 use Rattle.lapd_c.proofs.events.lapd_request.Goals as goal
 

@@ -1,5 +1,5 @@
 -- Hand-written answers for `hear`: the frame is heard by the configuration of the machine.
-use Rattle.lapd_c.proofs.Vocabulary.{◌≡◌, ◌≤◌, ℕ, List, length, Option, Some, refl, sym, ap, subst, ◌∙◌, Config, ShowsAnswer, counters_in, told, Event, answer, moment_counted, moment_of, FrameCardStands, comes, Shows, contents_of}
+use Rattle.lapd_c.proofs.Vocabulary.{◌≡◌, ◌≤◌, ℕ, List, length, Option, Some, refl, sym, ap, subst, ◌∙◌, Config, ShowsAnswer, told, Event, answer, comes, Shows, contents_of}
 use Rattle.lapd_line.proofs.Quiet.{quiet_told}
 use Rattle.lapd_line.specs.Reports.{delivered_in, octets_of, told_beside, told_in}
 use Rattle.model_card.specs.Machine.{after}

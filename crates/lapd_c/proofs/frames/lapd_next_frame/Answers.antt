@@ -5,7 +5,7 @@ use Rattle.model_card.specs.Machine.{after}
 use Rattle.lapd_frame.specs.ShortLists.{listed}
 use Rattle.lapd_c.specs.Reports.{ShowsPull}
 use Rattle.lapd_c.proofs.WholeFrames.{next_is, none_goes, none_counted, given_shown, none_said}
-use Rattle.lapd_c.proofs.Reopening.{still_pulled, still_stands, tells_after}
+use Rattle.lapd_c.proofs.Reopening.{still_pulled, still_stands}
 use Rattle.lapd_c.proofs.Served.{frames_there, frames_counted}
 use Rattle.lapd_c.proofs.frames.lapd_next_frame.Goals as goal
 

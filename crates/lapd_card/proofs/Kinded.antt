@@ -1,26 +1,17 @@
 -- A card of either kind.
-use Rattle.lapd_card.proofs.Vocabulary.{◌≡◌, ℕ, Bool, true, false, cond, Option, Result, Ok, Err, IfOk, IfErr, sym, ap, refl, subst, ◌∙◌, None, option_map, option_to_list, IsInRange, Timer, Refusal, refusal, Request, Report, Card, line_at, Event, at, moment_counted, moment_of, all_counted, Store, counters_in, OctetCard, report_told}
+use Rattle.lapd_card.proofs.Vocabulary.{◌≡◌, ℕ, Result, Ok, Err, OnOk, OnErr, sym, ap, refl, subst, ◌∙◌, option_map, option_to_list, IsInRange, Card, Event, at, moment_counted, moment_of, all_counted, Store, counters_in, OctetCard}
 use Rattle.lapd_card.specs.declared.kinds.AnyCard.{AnyCard}
 use Rattle.lapd_card.specs.declared.kinds.AnyCard.TheVariants.{Octets, Frames}
 use Rattle.lapd_card.specs.Kinds.{Machine, with_ports, alone, card_in, AnyStands, AnyLeads, CardStands, FrameCardStands, shelf_of}
-use Rattle.std.proofs.Common.{Some}
-use Rattle.lapd_frame.specs.declared.refusals.Refusal.TheVariants.{PoolFull}
 use Rattle.model_line.specs.Event as line
-use Rattle.model_line.specs.Machine.{of_request, unless_refused_told}
-unfoldable use Rattle.model_line.specs.Machine.{answer as line_answer, takes_slot}
-use Rattle.model_card.specs.Machine as machine
-use Rattle.model_card.specs.ports.Card as octet_card
 use Rattle.model_card.specs.ports.Codec.{frame_moment}
 use Rattle.model_card.specs.ports.Event as octet_event
 use Rattle.model_card.specs.ports.Port as port
-use Rattle.model_card.specs.ports.Port.{answer_of}
 use Rattle.lapd_card.specs.Card as octets
 use Rattle.lapd_card.specs.FrameCard as frames
-use Rattle.lapd_card.specs.FrameReply as frame_reply
 use Rattle.lapd_card.specs.FrameStands as frame_stands
-use Rattle.lapd_card.specs.Reply as reply
 use Rattle.lapd_card.specs.Stands as octets_stand
-use Rattle.lapd_card.proofs.OneOctet.{IsPassedOn, expiry_passes, request_passes, meant_is, passed_after, passed_answer, same_result}
+use Rattle.lapd_card.proofs.OneOctet.{IsPassedOn, meant_is, passed_after}
 use Rattle.lapd_card.specs.Kinds as kinds
 
 -- what holds of each machine for which a card for octets stands, or one for frames
@@ -63,3 +54,13 @@ module _ {e : port.Event} {f : line.Event} (on : IsPassedOn e f) where
     counted = by_octets (λ m. counters_in new.frames.lines ≡ moment_counted (counters_in old.frames.lines) (moment_of (card_in m) (at i f))) refl
         (λ m s. leads.counted m s ∙ ap (λ o. all_counted (counters_in old.frames.lines) (option_to_list (option_map (frame_moment m) o))) (meant_is on i m));
   })
+
+-- ---- results
+
+pub if_accepted : {X E P Q : Type 0} (r : Result X E) → (P → Q) → OnOk r P → OnOk r Q
+if_accepted (Ok x) h p = h p
+if_accepted (Err e) h p = tt
+
+pub if_refused : {X E P Q : Type 0} (r : Result X E) → (P → Q) → OnErr r P → OnErr r Q
+if_refused (Ok x) h p = tt
+if_refused (Err e) h p = h p

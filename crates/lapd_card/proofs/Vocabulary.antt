@@ -59,7 +59,7 @@ pub use Rattle.model_card.specs.Card.{Card, fresh, is_full, line_at, state, used
 pub use Rattle.model_card.specs.Counted.{CountersAreNumbers, all_counted, all_shown, moment_counted, moment_of, shown_at}
 pub use Rattle.model_card.specs.Counts.{may_send}
 pub use Rattle.model_card.specs.Drops.{AreDropsWithoutCost, AreDropsWithoutEffect}
-pub use Rattle.model_card.specs.Event.{Event, at, event_of}
+pub use Rattle.model_card.specs.Event.{Event, at}
 pub use Rattle.model_card.specs.Machine.{after, wants_room}
 pub use Rattle.model_card.specs.Promises.{AreRejectsLong, IsAmortised, IsAmortisedFromZero, IsIsolated, IsNeverFull, IsNumbered, IsNumberedFromZero, IsWithinLimit}
 pub use Rattle.model_card.specs.Reached.{IsReached}

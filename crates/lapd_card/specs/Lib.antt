@@ -1,13 +1,12 @@
 -- What a card's contracts say.
 --
--- Read after those of `model_card`, in this order: Waiting, which lines have a frame to give; Start; FrameReply; Sink and
--- FrameDrive, what a sink has taken; and for a card in the middle of its life FrameCard, Counted, Lines and FrameStands.
--- Reply, Drive, Kept (the sink of this crate), Card, Ports and Stands say the same of a card of octets, after those of
--- `model_card::ports`; Kinds, of a card of either kind.
+-- Read after those of `model_card`, in this order: Waiting, which lines have a frame to give; Start; and for a
+-- card in the middle of its life FrameCard, Counted, Lines and FrameStands. Of a card of octets, after those of
+-- `model_card::ports`, Card, Ports and Stands say the same; Reply, Sink, Drive and Kept (the sink of this crate), what a sink
+-- has taken. Kinds is of a card of either kind.
 pub mod Waiting
 pub mod WorkedWaiting
 pub mod Sink
-pub mod FrameReply
 pub mod Reply
 pub mod Kept
 pub mod Counted
@@ -18,7 +17,6 @@ pub mod Ports
 pub mod Card
 pub mod Stands
 pub mod Start
-pub mod FrameDrive
 pub mod Drive
 pub mod Kinds
 -- the words of the contracts, from where they are defined

@@ -1,8 +1,8 @@
 //! The card of octets: a card, and a port for each of its lines.
 
-ghost use Rattle.std.specs.Prelude.{◌≡◌, ◌≤◌, ◌<◌, Some, None, IsSome, IfOk, IfErr, IfSome, OnErr, get_or, slice_get, length};
+ghost use Rattle.std.specs.Prelude.{◌≡◌, ◌≤◌, ◌<◌, Some, None, IsSome, IfOk, IfErr, IfSome, OnErr, slice_get, length};
 ghost use Rattle.std.specs.Option.{option_copied};
-ghost use Rattle.lapd_card.specs.{none_counted, report_told, told_beside, pulled_of, RisesByExpiry, RisesByRequest, may_send, room, RefusesBy, refusal, request_of, starts, head_begun_at, head_heard_at};
+ghost use Rattle.lapd_card.specs.{report_told, told_beside, pulled_of, RisesByExpiry, RisesByRequest, may_send, refusal, request_of, starts, head_begun_at, head_heard_at};
 ghost use Rattle.model_card.specs.Card as frames;
 ghost use Rattle.model_card.specs.ports.Card as machine;
 ghost use Rattle.model_card.specs.ports.Card.{after, answer};
@@ -12,9 +12,8 @@ ghost use Rattle.model_card.specs.ports.Port.{told};
 
 use crate::frame_card::FrameCard;
 use lapd_bits::Ended;
-use lapd_count::Counters;
 use lapd_frame::{Refusal, Service, Timer};
-use lapd_line::{BareReport, Port, Pulled, Report, Request, Room};
+use lapd_line::{BareReport, Port, Pulled, Report, Request};
 use lapd_store::Shelf;
 use model_bits::{Head, Heard};
 use std::marker::Model;
@@ -47,11 +46,20 @@ impl<S: Shelf> Model for Card<S> {
 impl<S: Shelf> Card<S> {
     ghost use Rattle.std.specs.Borrow.{sem};
     ghost use Rattle.std.specs.Io.BufRead.{Rests};
-    ghost use Rattle.lapd_card.specs.{counters_in, IsPriced, told_at, told_if_at};
+    ghost use Rattle.lapd_card.specs.{IsPriced, told_at, told_if_at};
     ghost use Rattle.lapd_card.specs.contracts.card.Card.{the_row};
     ghost use Rattle.lapd_card.specs.Card.{line_count};
     ghost use Rattle.lapd_card.specs.Reply.{answer_of_result};
     ghost use Rattle.lapd_card.specs.Stands.{Stands, Leads};
+
+    /// The card of frames inside: what is asked of neither kind of card alone, as [`FrameCard::room`] and
+    /// [`FrameCard::counters`]. A frame is counted as it is heard when its closing flag comes, and one that is sent when a
+    /// pull begins it.
+    pub fn frames(&self) -> &FrameCard<S>
+        ensures { result.now ≡ self.now.frames }
+    {
+        &self.frames
+    }
 
     /// How many lines the card has: 1 to 64.
     pub fn lines(&self) -> usize
@@ -195,21 +203,6 @@ impl<S: Shelf> Card<S> {
         self.frames.state(line, service, tei)
     }
 
-    /// How much room the link of a service with this TEI has for contents, as [`FrameCard::room`] tells it.
-    ///
-    /// # Errors
-    ///
-    /// There is no such link: `BadTei` where the TEI is over 126, `NoLink` where it is not on the line.
-    pub fn room(&self, line: usize, service: Service, tei: u8) -> Result<Room, Refusal>
-        requires { line < line_count self.now }
-        ensures told { (m : machine.OctetCard) → Stands S.store self.now m → result ≡ room line service tei m.card }
-        // A request to send contents that are not too long is refused for room exactly by it.
-        ensures refuses { (m : machine.OctetCard) → Stands S.store self.now m
-            → IfOk result (λ room. RefusesBy room line service tei m.card) }
-    {
-        self.frames.room(line, service, tei)
-    }
-
     /// How the frame that a pull of the line began last begins, and how long it is; none where none was begun yet. After a
     /// pull that has begun a frame it is that frame, until a pull begins another.
     pub fn begun(&self, line: usize) -> Option<Head>
@@ -226,15 +219,6 @@ impl<S: Shelf> Card<S> {
         ensures { (m : machine.OctetCard) → Stands S.store self.now m → result ≡ head_heard_at line m }
     {
         self.ports[line].heard()
-    }
-
-    /// What was counted of a line since the card's start, as [`FrameCard::counters`] has it: a frame as it is heard when its
-    /// closing flag comes, and one that is sent when a pull begins it.
-    pub fn counters(&self, line: usize) -> &Counters
-        requires { line < line_count self.now }
-        ensures { result.now ≡ get_or (counters_in self.now.frames.lines) line none_counted }
-    {
-        self.frames.counters(line)
     }
 
     fn report(&self, line: usize, bare: &Option<BareReport>) -> Report<'_>

@@ -265,9 +265,13 @@ impl<S: Shelf> FrameCard<S> {
         ensures frames { (m : machine.Card) → Stands S.store self.old m → RisesByRequest line (request_of request.entry) m }
     {
         let lane = &mut self.lines[line];
-        lane.request(request, report, &mut self.shelf, u32::from(self.config.slots))?;
-        self.waiting.set(line, lane.has_next());
-        Ok(())
+        match lane.request(request, report, &mut self.shelf, u32::from(self.config.slots)) {
+            Ok(()) => {
+                self.waiting.set(line, lane.has_next());
+                Ok(())
+            }
+            Err(why) => Err(why),
+        }
     }
 
     /// The state of the link of a service with this TEI, by its number in Q.921: 4 to 8. None where the card has no such

@@ -29,8 +29,7 @@
 //! - `frame_card`: the card, one call an event, and what it tells of a line: a link's state and room, what was counted.
 //! - `card`: the card of octets: its octets and pulls; what else happens is passed on to the card of frames. `kinds`: a card of
 //!   either kind, over a shelf of raw memory.
-//! - `frame_drive` with `frame_sink` and `frame_replies`: whole lists of events at a card of frames; `drive` with `sink` and
-//!   `replies`: of octets; `kept`: a sink that keeps the replies.
+//! - `drive` with `sink` and `replies`: whole lists of events at a card of octets; `kept`: a sink that keeps the replies.
 //! - `start` with `fault`: how a card begins, and why it does not.
 //! - `stored`: how many octets a card of octets stores, and how many a card of either kind may.
 //!
@@ -41,8 +40,8 @@
 //!
 //! # Only tested
 //!
-//! Starts, with each fault; an answer that is kept has its contents; long runs; of a card of frames, one list of
-//! events, and a room that is too small (`test_product`); frames of each length, and such a card beside one of octets to
+//! Starts, with each fault; an answer that is kept has its contents; long runs; of a card of frames, a room that is too small
+//! (`test_product`), and one list of events (`laws_promises`); frames of each length, and such a card beside one of octets to
 //! which the same happens, through C (`tests/c/run`).
 #![tactic(auto)]
 
@@ -50,9 +49,6 @@ mod card;
 mod drive;
 mod fault;
 mod frame_card;
-mod frame_drive;
-mod frame_replies;
-mod frame_sink;
 mod kept;
 mod kinds;
 mod replies;
@@ -63,15 +59,12 @@ mod stored;
 pub use card::Card;
 pub use fault::CardFault;
 pub use frame_card::{FrameCard, RoomTooSmall};
-pub use frame_replies::{FrameReply, SentFrame};
-pub use frame_sink::FrameSink;
 pub use kept::{Kept, KeptReply};
 pub use kinds::AnyCard;
 pub use lapd_count::{Counter, Counters, Kind, Way};
 pub use lapd_frame::Side;
 pub use lapd_line::{BareReport, Config, Field, NextFrame, Pulled, Report, Request, Room};
 pub use model_bits::Head;
-pub use model_card::FrameEvent;
 pub use model_card::ports::Event;
 pub use model_line::Fault;
 pub use replies::Reply;

@@ -44,11 +44,4 @@ impl<S: Shelf> Card<S> {
         }
         held
     }
-
-    /// How many octets the card stores at most, whatever happens: [`limit`] of its configuration.
-    pub fn limit(&self) -> u32
-        ensures { (m : machine.OctetCard) → Stands S.store self.now m → result ≡ limit m.card.config }
-    {
-        self.frames.limit()
-    }
 }

@@ -25,11 +25,7 @@ pub(crate) enum Addressee {
     /// Layer 2 management.
     Management,
     /// The link of a service, of the TEI at a place.
-    Link {
-        service: Service,
-        tei: u8,
-        place: usize,
-    },
+    Link(Service, u8, usize),
     /// Nobody on this line.
     Nobody(Cause),
 }
@@ -74,20 +70,9 @@ impl LinkLayer {
         };
         match self.addressee(frame.address) {
             Addressee::Management => self.message(frame.control, frame.info, report, shelf),
-            Addressee::Link {
-                service,
-                tei,
-                place,
-            } => {
-                self.receive(
-                    service,
-                    tei,
-                    place,
-                    Received::Frame(frame),
-                    frame.control.start(),
-                    report,
-                    shelf,
-                )
+            Addressee::Link(service, tei, place) => {
+                let received = Received::Frame(frame);
+                self.receive(service, tei, place, received, frame.control.start(), report, shelf)
             }
             Addressee::Nobody(cause) => self.for_nobody(frame, cause, report),
         }
@@ -202,11 +187,7 @@ impl LinkLayer {
     {
         match self.addressee(address) {
             Addressee::Management => tell_drop(report, Cause::Unserved),
-            Addressee::Link {
-                service,
-                tei,
-                place,
-            } => self.receive(service, tei, place, received, len, report, shelf),
+            Addressee::Link(service, tei, place) => self.receive(service, tei, place, received, len, report, shelf),
             Addressee::Nobody(cause) => tell_drop(report, cause),
         }
     }
@@ -219,7 +200,7 @@ impl LinkLayer {
         ensures { Serves (λ m. unless_at_link (addressed m address link.overlong (drop_for Unserved))) [] self.old (S.store shelf.old) self.new (S.store shelf.new) report.new }
     {
         match self.addressee(address) {
-            Addressee::Management | Addressee::Link { .. } => tell_drop(report, Cause::Unserved),
+            Addressee::Management | Addressee::Link(..) => tell_drop(report, Cause::Unserved),
             Addressee::Nobody(cause) => tell_drop(report, cause),
         }
     }
@@ -261,11 +242,7 @@ impl LinkLayer {
             return Addressee::Nobody(Cause::Sapi);
         };
         match self.teis.place(address.tei) {
-            Some(place) => Addressee::Link {
-                service,
-                tei: address.tei,
-                place,
-            },
+            Some(place) => Addressee::Link(service, address.tei, place),
             None => Addressee::Nobody(Cause::Tei),
         }
     }

@@ -8,7 +8,6 @@ ghost use Rattle.model_line.specs.Event as line_event;
 ghost use Rattle.model_line.specs.Line as machine;
 
 use crate::came::{came, cause_of, octets_of};
-use crate::counting::count_told;
 use crate::fault::StartFault;
 use crate::link_layer::LinkLayer;
 use crate::links::Links;
@@ -105,12 +104,8 @@ impl FrameLine {
         if report.is_quiet() {
             return true;
         }
-        count_told(
-            &mut self.counters,
-            &report.notes,
-            report.cause(),
-            report.lost,
-        );
+        self.counters
+            .told(report.notes(), report.cause(), report.lost);
         false
     }
 

@@ -16,7 +16,7 @@
 //!   `giving_up`, what waits and is of no link; `pulls`, which frame is next; `held`, what the links store.
 //! - `links`, `units`: the links of all places of the TEI table, and the unit data that waits; `marks`, which links have
 //!   something to give.
-//! - `reports`, `pulled`: the answers; `counting`: what they tell is counted; `fault`: why a line can't be started.
+//! - `reports`, `pulled`: the answers; `fault`: why a line can't be started.
 //!
 //! # Only tested
 //!
@@ -25,7 +25,6 @@
 
 mod addressing;
 mod came;
-mod counting;
 mod expiries;
 mod fault;
 mod frame_line;

@@ -1,4 +1,4 @@
--- What `Card::room` tells of a link.
+-- What `FrameCard::room` tells of a link.
 use Rattle.std.specs.Prelude.{◌≡◌, ◌≤◌, ℕ, ◌+◌, true, false, List, length, Option, Some, None, Ok}
 use Rattle.lapd_frame.specs.declared.refusals.Refusal.{Refusal}
 use Rattle.lapd_frame.specs.declared.refusals.Refusal.TheVariants.{WrongState}

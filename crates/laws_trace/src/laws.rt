@@ -177,8 +177,8 @@ pub fn news_is_told()
 {}
 
 /// Rooms are told as they are. Of each link whose TEI is on the line the places of its queue are those that
-/// `Card::room` tells as left and those of the contents that the link keeps, as [`what_is_given_is_due`] has them: so
-/// contents take a place until they are acknowledged, or layer 3 learns that they are lost, and none is lost silently.
+/// `FrameCard::room` tells as left and those of the contents that the link keeps, as [`what_is_given_is_due`] has them:
+/// so contents take a place until they are acknowledged, or layer 3 learns that they are lost, and none is lost silently.
 /// Of a link in state 7 or 8 V(A) is told, which is the N(R) that was heard of it last, 0 where none was since its
 /// numbers began; and what is left, of the queue and of the pool, is what the next request for data would be refused
 /// for. In the other states that is refused for the state, so no data is granted there that nothing keeps (Q.921

@@ -16,7 +16,7 @@ ghost use Rattle.laws_wire.specs.Ending.{CallsEnd};
 /// and nothing else, so no other error: at any time a beginning of that, and all of it wherever no turn is left and
 /// T200 runs at neither end, as it does while the other end is heard to be busy, or something that was sent is missing;
 /// T200 runs where the card answers its expiry with orders. And there both links are in state 7 again, and their rooms
-/// (`Card::room`) have each place of their queues, as all that they kept is acknowledged. Where no data is granted at
+/// (`FrameCard::room`) have each place of their queues, as all that they kept is acknowledged. Where no data is granted at
 /// the end that is called before the other is told of the establishment, nothing is given up. That T200 is long enough
 /// is needed (`specs/WorkedAnswering`).
 pub fn a_call_with_losses_comes_through()

@@ -1,14 +1,12 @@
-//! A card of frames: a list of events, a sink that fails, and a room that is too small.
+//! A card of frames in use: a controller brings frames and takes them, and layer 3 is told what they led to; and a room that
+//! is too small.
 
-ghost use Rattle.std.specs.Prelude.{◌≡◌, ⊤, IfOk};
+ghost use Rattle.std.specs.Prelude.{◌≡◌, IfOk};
 ghost use Rattle.lapd_card.specs.FrameCard.{line_count};
 
 use crate::starts::USUAL;
 use crate::texts::says;
-use lapd_card::{
-    Fault, FrameCard, FrameEvent, FrameReply, FrameSink, Request, RoomTooSmall, SinkFailed,
-    SinkFault,
-};
+use lapd_card::{BareReport, Fault, FrameCard, Request, RoomTooSmall};
 use lapd_frame::{Note, Refusal, Service, Timer};
 use lapd_store::SlabShelf;
 use model_bits::Cause;
@@ -24,106 +22,77 @@ fn frame_card(alloc: Global) -> Result<FrameCard<SlabShelf>, Fail>
     Ok(FrameCard::start(alloc, USUAL, SlabShelf::start(alloc, 64, 260)?)?)
 }
 
-/// What a reply says, in short.
-#[derive(Clone, Copy)]
-enum Kind {
-    /// A report of nothing.
-    Silent,
-    /// A report of a note.
-    Noted(Note),
-    /// A report that hands on these contents.
-    Delivered(&'static [u8]),
-    /// A report of why a frame was dropped.
-    Dropped(Cause),
-    /// A request was refused.
-    Refused(Refusal),
-    /// The next frame, or none.
-    Next(Option<&'static [u8]>),
+/// Asks for something at line 0.
+fn asks(card: &mut FrameCard<SlabShelf>, request: Request<'_>) -> Result<(), Refusal>
+    requires { line_count card.old ≡ 1 }
+    ensures { line_count card.new ≡ 1 }
+{
+    let mut report = BareReport::nothing();
+    card.request(0, request, &mut report)
 }
 
-impl Kind {
-    /// Whether a reply says this.
-    fn is_of(self, reply: &FrameReply<'_>) -> bool {
-        match (self, reply) {
-            (Kind::Silent, FrameReply::Report(report)) => report.notes().is_empty()
-                && report.cause.is_none(),
-            (Kind::Noted(note), FrameReply::Report(report)) => report.notes() == [note].as_slice(),
-            (Kind::Delivered(contents), FrameReply::Report(report)) => report.delivered
-                == Some(contents),
-            (Kind::Dropped(cause), FrameReply::Report(report)) => report.cause == Some(cause),
-            (Kind::Refused(refusal), FrameReply::Refused(why)) => refusal == *why,
-            (Kind::Next(None), FrameReply::Next(None)) => true,
-            (Kind::Next(Some(octets)), FrameReply::Next(Some(sent))) => sent
-                .octets
-                .get(..sent.next.length)
-                == Some(octets),
-            _ => false,
-        }
+/// A frame comes from line 0. Answers whether layer 3 is told these notes, and handed these contents.
+fn comes(
+    card: &mut FrameCard<SlabShelf>,
+    frame: &[u8],
+    notes: &[Note],
+    contents: Option<&[u8]>,
+) -> bool
+    requires { line_count card.old ≡ 1 }
+    ensures { line_count card.new ≡ 1 }
+{
+    let mut report = BareReport::nothing();
+    card.frame(0, frame, &mut report);
+    report.notes() == notes && card.contents(0, frame, &report) == contents
+}
+
+/// Whether this is the next frame of line 0: no octets where none waits.
+fn goes(card: &mut FrameCard<SlabShelf>, frame: &[u8]) -> bool
+    requires { line_count card.old ≡ 1 }
+    ensures { line_count card.new ≡ 1 }
+{
+    let mut room = [0; 264];
+    match card.next_frame(0, &mut room) {
+        Ok(Some(next)) => room.get(..next.length) == Some(frame),
+        Ok(None) => frame.is_empty(),
+        Err(_) => false,
     }
 }
 
-/// A sink that takes a reply of line 0 if it is the next of `KINDS`.
-#[derive(Drop)]
-struct Expecting {
-    at: usize,
-    failures: u64,
+/// The controller of line 0 tells a fault in place of a frame. Answers the cause that is told.
+fn fails(card: &mut FrameCard<SlabShelf>, fault: Fault) -> Option<Cause>
+    requires { line_count card.old ≡ 1 }
+    ensures { line_count card.new ≡ 1 }
+{
+    let mut report = BareReport::nothing();
+    card.failed(0, fault, &mut report);
+    report.cause()
 }
 
-impl FrameSink for Expecting {
-    ghost takes = { λ old line answer new. ⊤ };
-
-    ghost misses = { λ old line answer new. ⊤ };
-
-    ghost failures = { λ s. s.failures };
-
-    fn take(&mut self, line: usize, reply: &FrameReply<'_>) -> Result<(), SinkFailed> {
-        if let Some(kind) = KINDS.get(self.at) {
-            if line == 0 && kind.is_of(reply) {
-                self.at += 1;
-                return Ok(());
-            }
-        }
-        self.failures = self.failures.saturating_add(1);
-        Err(SinkFailed)
-    }
+/// A timer of line 0 expires. Answers whether nothing but orders for timers is told.
+fn expires(card: &mut FrameCard<SlabShelf>, timer: Timer) -> bool
+    requires { line_count card.old ≡ 1 }
+    ensures { line_count card.new ≡ 1 }
+{
+    let mut report = BareReport::nothing();
+    card.expire(0, timer, &mut report);
+    report.is_quiet()
 }
 
 /// TEI 64 establishes its call control link, and sends contents and asks for an answer; the controller tells a fault; a
-/// timer that does not run expires; and a request is refused.
-const EVENTS: [FrameEvent<'static>; 9] = [
-    FrameEvent::Request(0, Request::Assign(64)),
-    FrameEvent::Frame(0, &[0x00, 0x81, 0x7F]),
-    FrameEvent::Next(0),
-    FrameEvent::Frame(0, &[0x00, 0x81, 0x00, 0x01, 0xCB]),
-    FrameEvent::Next(0),
-    FrameEvent::Next(0),
-    FrameEvent::Failed(0, Fault::Fcs),
-    FrameEvent::Expire(0, Timer::T200(CALL, 64)),
-    FrameEvent::Request(0, Request::Assign(64)),
-];
-
-/// What they are answered with: UA, and RR with F=1, are the frames that go.
-const KINDS: [Kind; 9] = [
-    Kind::Silent,
-    Kind::Noted(Note::EstablishIndication(CALL, 64)),
-    Kind::Next(Some(&[0x00, 0x81, 0x73])),
-    Kind::Delivered(&[0xCB]),
-    Kind::Next(Some(&[0x00, 0x81, 0x01, 0x03])),
-    Kind::Next(None),
-    Kind::Dropped(Cause::Fcs),
-    Kind::Silent,
-    Kind::Refused(Refusal::TeiTaken),
-];
-
+/// timer that does not run expires; and a request is refused. UA, and RR with F=1, are the frames that go.
 #[test]
-fn events_are_answered(rt: HostRuntime) -> Result<(), Fail> {
+fn a_line_is_served_by_frames(rt: HostRuntime) -> Result<(), Fail> {
     let mut card = frame_card(rt.alloc())?;
-    let mut sink = Expecting { at: 0, failures: 0 };
-    assert!(rt; card.drive(&EVENTS, &mut sink) == Ok(9));
-    assert!(rt; sink.at == 9 && sink.failures == 0);
-    assert!(rt; card.lines() == 1);
-    assert!(rt; card.drive(&EVENTS, &mut sink) == Err(SinkFault { at: 0 }));
-    assert!(rt; sink.at == 9 && sink.failures == 1);
+    assert!(rt; asks(&mut card, Request::Assign(64)) == Ok(()));
+    assert!(rt; comes(&mut card, &[0x00, 0x81, 0x7F], &[Note::EstablishIndication(CALL, 64)], None));
+    assert!(rt; goes(&mut card, &[0x00, 0x81, 0x73]));
+    assert!(rt; comes(&mut card, &[0x00, 0x81, 0x00, 0x01, 0xCB], &[Note::Data(CALL, 64)], Some(&[0xCB])));
+    assert!(rt; goes(&mut card, &[0x00, 0x81, 0x01, 0x03]));
+    assert!(rt; goes(&mut card, &[]));
+    assert!(rt; fails(&mut card, Fault::Fcs) == Some(Cause::Fcs));
+    assert!(rt; expires(&mut card, Timer::T200(CALL, 64)));
+    assert!(rt; asks(&mut card, Request::Assign(64)) == Err(Refusal::TeiTaken));
     Ok(())
 }
 
@@ -133,18 +102,18 @@ const TOO_SMALL: RoomTooSmall = RoomTooSmall { room: 264 };
 fn next_length(
     card: &mut FrameCard<SlabShelf>,
     room: &mut [u8],
-) -> Result<Option<usize>, RoomTooSmall> {
-    if card.lines() == 0 {
-        return Ok(None);
-    }
+) -> Result<Option<usize>, RoomTooSmall>
+    requires { line_count card.old ≡ 1 }
+    ensures { line_count card.new ≡ 1 }
+{
     Ok(card.next_frame(0, room)?.map(|next| next.length))
 }
 
 #[test]
 fn a_room_that_is_too_small(rt: HostRuntime) -> Result<(), Fail> {
     let mut card = frame_card(rt.alloc())?;
-    let mut sink = Expecting { at: 0, failures: 0 };
-    assert!(rt; card.drive(&EVENTS[..2], &mut sink) == Ok(2));
+    assert!(rt; asks(&mut card, Request::Assign(64)) == Ok(()));
+    assert!(rt; comes(&mut card, &[0x00, 0x81, 0x7F], &[Note::EstablishIndication(CALL, 64)], None));
     let mut room = [0x55u8; 264];
     assert!(rt; card.frame_room() == 264);
     assert!(rt; next_length(&mut card, &mut room[..263]) == Err(TOO_SMALL));

@@ -7,7 +7,7 @@ use crate::done::Done;
 use crate::fault::Fault;
 use crate::lines::{INFORMATION, SABME, TEI, config};
 use crate::sender::N201;
-use lapd_card::{FrameCard, NextFrame, Request};
+use lapd_card::{BareReport, FrameCard, NextFrame, Request};
 use lapd_clock::Clock;
 use lapd_frame::Service;
 use lapd_store::SlabShelf;
@@ -89,9 +89,7 @@ impl Frames {
     /// Puts the terminal on each line, and has it establish its link.
     fn establish(&mut self) {
         for line in 0..self.card.lines() {
-            if line < self.card.lines() {
-                let _ = self.card.request(line, Request::Assign(TEI));
-            }
+            self.request(line, Request::Assign(TEI));
             self.hear(line, &SABME);
             self.take(line);
         }
@@ -122,7 +120,8 @@ impl Frames {
         requires { now ≤ 2 ^ 63 }
     {
         if line < self.card.lines() {
-            let report = self.card.frame(line, &POLL);
+            let mut report = BareReport::nothing();
+            self.card.frame(line, &POLL, &mut report);
             carry_out(&mut self.clock, line, report.orders(), now);
             self.done.count(POLL.len(), 0, 0);
         }
@@ -138,21 +137,29 @@ impl Frames {
     }
 
     fn go(&mut self, line: usize, number: u8) -> bool {
-        if line < self.card.lines() {
-            let _ = self
-                .card
-                .request(line, Request::Data(Service::Call, TEI, &INFORMATION));
-        }
+        self.request(
+            line,
+            Request::Data(Service::Call, TEI, &INFORMATION),
+        );
         let is_taken = self.take(line);
         let next = number.wrapping_add(1).wrapping_mul(2);
         self.hear(line, &[0x02, 0x81, 0x01, next]);
         is_taken
     }
 
+    /// Asks for something at a line.
+    fn request(&mut self, line: usize, request: Request<'_>) {
+        if line < self.card.lines() {
+            let mut report = BareReport::nothing();
+            let _ = self.card.request(line, request, &mut report);
+        }
+    }
+
     /// Hands a frame to a line.
     fn hear(&mut self, line: usize, octets: &[u8]) {
         if line < self.card.lines() {
-            let _ = self.card.frame(line, octets);
+            let mut report = BareReport::nothing();
+            self.card.frame(line, octets, &mut report);
             self.done.count(octets.len(), 0, 0);
         }
     }
@@ -162,9 +169,10 @@ impl Frames {
         if line >= self.card.lines() {
             return false;
         }
-        let report = self.card.frame(line, &self.comes);
+        let mut report = BareReport::nothing();
+        self.card.frame(line, &self.comes, &mut report);
         self.done.count(self.comes.len(), 0, 0);
-        report.delivered.is_some()
+        report.has_contents()
     }
 
     /// Takes the next frame of a line, and answers whether there was one.

@@ -2,7 +2,7 @@
 
 ghost use Rattle.std.specs.Prelude.{◌≡◌, ◌≤◌, [], false, length, take, map};
 ghost use Rattle.std.specs.Option.{option_copied};
-ghost use Rattle.lapd_c.specs.{listed, told_beside, nothing, plain_note, plain_order, ShowsReopened, with_reopened, Shows, ShowsPull, SameButContents, contents_in, contents_of, mark_of, orders_of};
+ghost use Rattle.lapd_c.specs.{told_beside, nothing, plain_note, plain_order, ShowsReopened, with_reopened, Shows, ShowsPull, SameButContents, contents_in, contents_of, mark_of, orders_of};
 
 use crate::plain::links::service_at;
 use crate::plain::notes::{PlainNote, cause_number};
@@ -77,15 +77,12 @@ impl PlainReport {
         self.more = u8::from(more);
     }
 
-    /// Shows what an octet, a frame, an expiry or a request was answered with, at most four notes and four orders, and the
-    /// contents that it delivered. They have at most 260 octets, as no configuration allows more; of longer ones the first 260
-    /// are shown.
+    /// Shows what an octet, a frame, an expiry or a request was answered with, and the contents that it delivered. Contents
+    /// have at most 260 octets, as no configuration allows more; of longer ones the first 260 are shown.
     ///
     /// It stands apart, so that what tells nothing, or orders alone, has no part of it in its way.
     #[inline(never)]
     pub fn show(&mut self, told: &BareReport, delivered: Option<&[u8]>)
-        requires notes { length (listed told.now.notes) ≤ 4 }
-        requires orders { length (listed told.now.orders) ≤ 4 }
         ensures { length (contents_of (option_copied delivered.entry)) ≤ 260
             → Shows self.new (told_beside (option_copied delivered.entry) told.now) }
     {

@@ -11,7 +11,7 @@ ghost use Rattle.lapd_c.specs.Statuses as status;
 
 use crate::card::CardHandle;
 use crate::lend::{lend, or_answer};
-use crate::plain::{NO_FRAME, OK, PlainReport, WRONG_LENGTH, fault_in};
+use crate::plain::{NO_FRAME, OK, PlainReport, WRONG_LENGTH, fault_in, items};
 use lapd_card::{BareReport, FrameCard};
 use lapd_store::RawShelf;
 
@@ -51,7 +51,7 @@ fn hear(card: &mut FrameCard<RawShelf>, line: usize, octets: &[u8], report: &mut
 {
     let mut told = BareReport::nothing();
     if card.frame(line, octets, &mut told) {
-        return report.show_orders(false, false, told.orders());
+        return report.show_orders(false, false, items(&told.orders));
     }
     report.show(&told, card.contents(line, octets, &told));
 }

@@ -2,13 +2,13 @@
 
 ghost use Rattle.std.specs.Prelude.{◌≡◌, ◌≤◌, [], false, length, take, map};
 ghost use Rattle.std.specs.Option.{option_copied};
-ghost use Rattle.lapd_c.specs.{told_beside, nothing, plain_note, plain_order, ShowsReopened, with_reopened, Shows, ShowsPull, SameButContents, contents_in, contents_of, mark_of, orders_of};
+ghost use Rattle.lapd_c.specs.{listed, told_beside, nothing, plain_note, plain_order, ShowsReopened, with_reopened, Shows, ShowsPull, SameButContents, contents_in, contents_of, mark_of, orders_of};
 
 use crate::plain::links::service_at;
 use crate::plain::notes::{PlainNote, cause_number};
 use crate::plain::timers::PlainOrder;
 use lapd_card::BareReport;
-use lapd_frame::{Note, Order};
+use lapd_frame::{Note, Order, ShortList};
 
 /// The most octets of contents that a configuration allows.
 const MOST_OCTETS: usize = 260;
@@ -77,8 +77,8 @@ impl PlainReport {
         self.more = u8::from(more);
     }
 
-    /// Shows what an octet, a frame, an expiry or a request was answered with, and the contents that it delivered. Contents
-    /// have at most 260 octets, as no configuration allows more; of longer ones the first 260 are shown.
+    /// Shows what an octet, a frame, an expiry or a request was answered with, and the contents that it delivered. These have
+    /// at most 260 octets, as no configuration allows more; of longer ones the first 260 are shown.
     ///
     /// It stands apart, so that what tells nothing, or orders alone, has no part of it in its way.
     #[inline(never)]
@@ -86,9 +86,9 @@ impl PlainReport {
         ensures { length (contents_of (option_copied delivered.entry)) ≤ 260
             → Shows self.new (told_beside (option_copied delivered.entry) told.now) }
     {
-        self.show_orders(false, false, told.orders());
+        self.show_orders(false, false, items(&told.orders));
         self.deliver(delivered);
-        self.note_count = write_notes(&mut self.notes, told.notes());
+        self.note_count = write_notes(&mut self.notes, items(&told.notes));
         self.cause = cause_number(told.cause());
         self.lost = told.lost;
     }
@@ -135,6 +135,21 @@ impl PlainReport {
             self.length = count as u16;
             self.contents[..count].copy_from_slice(&contents[..count]);
         }
+    }
+}
+
+/// The items of a short list, of which there are at most four.
+#[inline(always)]
+pub fn items<T: Copy>(list: &ShortList<T>) -> &[T]
+    ensures items { result.now ≡ listed list.now }
+    ensures few { length result.now ≤ 4 }
+{
+    match list {
+        ShortList::None => &[],
+        ShortList::One(items) => items,
+        ShortList::Two(items) => items,
+        ShortList::Three(items) => items,
+        ShortList::Four(items) => items,
     }
 }
 

@@ -17,13 +17,11 @@ returns-clause-shows c = λ m s.
     (c.frame.ensures.told m s ∙ ap (λ (e : Event). answer e m) is)
     (subst (λ (o : Option (List ℕ)). length (contents_of o) ≤ 260 → Shows c.show.new.self (told_beside o c.frame.new.report)) delivered c.show.ensures)
 
-
-
 pub returns-then-frame-clause-shows : goal.returns-then-frame-clause-shows
 returns-then-frame-clause-shows c = λ m s.
     let octets = octets_of (Some (came c.args.card.now.config.n201 c.args.octets.now)) in
-    let orders : told_in octets c.frame.new.report ≡ record nothing { orders = c.orders.result.now } =
-    quiet_told octets c.frame.new.report (c.frame.ensures.quiet c.if-frame.true) ∙ ap (λ o. record nothing { orders = o }) (sym c.orders.ensures) in
+    let orders : told_in octets c.frame.new.report ≡ record nothing { orders = c.items.result.now } =
+    quiet_told octets c.frame.new.report (c.frame.ensures.quiet c.if-frame.true) ∙ ap (λ o. record nothing { orders = o }) (sym c.items.ensures.items) in
     subst (ShowsAnswer c.show_orders.new.self)
     (ap told (sym orders) ∙ c.frame.ensures.told m s ∙ ap (λ (e : Event). answer e m) (comes_at c.args.line c.args.octets.now c.args.card.now m s))
     (c.show_orders.ensures.told refl refl)

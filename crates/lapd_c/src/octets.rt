@@ -73,7 +73,7 @@ pub extern "C" fn lapd_pull(
     lend!(kept of handle, Octets(card), line);
     let pulled = card.pull(line);
     *octet = pulled.octet;
-    report.show_orders(pulled.begun, false, pulled.orders());
+    report.show_pull(pulled.begun, pulled.orders());
     kept.tell_reopened(line, report);
     OK
 }

@@ -102,7 +102,12 @@ impl<S: Shelf> FrameCard<S> {
     /// The contents that a frame of these octets delivered at a line, which led to this report. They are lent from the octets
     /// themselves.
     #[inline(always)]
-    pub fn contents<'a>(&self, line: usize, octets: &'a [u8], report: &BareReport) -> Option<&'a [u8]>
+    pub fn contents<'a>(
+        &self,
+        line: usize,
+        octets: &'a [u8],
+        report: &BareReport,
+    ) -> Option<&'a [u8]>
         requires { line < line_count self.now }
         ensures { option_copied result ≡ delivered_in (octets_of (Some (came self.now.config.n201 octets.now))) report.now }
     {
@@ -170,23 +175,10 @@ impl<S: Shelf> FrameCard<S> {
         if out.len() < room {
             return Err(RoomTooSmall { room });
         }
-        Ok(self.give(line, out))
-    }
-
-    /// The next frame of a line, for which there is room.
-    pub(crate) fn give(&mut self, line: usize, out: &mut [u8]) -> Option<NextFrame>
-        requires within { line < line_count self.old }
-        requires room { room_for_frames self.old ≤ length out.old }
-        ensures gave { (m : machine.Card) → Stands S.store self.old m → gave_in out.new result ≡ answer (at line next) m }
-        ensures fits { written result ≤ length out.new }
-        ensures rest { drop (written result) out.new ≡ drop (written result) out.old }
-        ensures length { length out.new ≡ length out.old }
-        ensures after { Leads S.store (at line next) self.old self.new }
-    {
         let lane = &mut self.lines[line];
         let given = lane.next_frame(out, &mut self.shelf);
         self.waiting.set(line, lane.has_next());
-        given
+        Ok(given)
     }
 
     /// Loads the next frame of a line into its port, and answers its orders for timers; none where no frame waits.
@@ -249,7 +241,12 @@ impl<S: Shelf> FrameCard<S> {
     ///
     /// The first row that holds of those that apply to the request ([`Refusal`] has them in order); `PoolFull` exactly
     /// where the card holds as many contents as its configuration has slots.
-    pub fn request(&mut self, line: usize, request: Request<'_>, report: &mut BareReport) -> Result<(), Refusal>
+    pub fn request(
+        &mut self,
+        line: usize,
+        request: Request<'_>,
+        report: &mut BareReport,
+    ) -> Result<(), Refusal>
         requires within { line < line_count self.old }
         requires clear { IsClear report.old }
         ensures refused { IfErr result (λ why. (m : machine.Card) → Stands S.store self.old m
@@ -265,7 +262,12 @@ impl<S: Shelf> FrameCard<S> {
         ensures frames { (m : machine.Card) → Stands S.store self.old m → RisesByRequest line (request_of request.entry) m }
     {
         let lane = &mut self.lines[line];
-        match lane.request(request, report, &mut self.shelf, u32::from(self.config.slots)) {
+        match lane.request(
+            request,
+            report,
+            &mut self.shelf,
+            u32::from(self.config.slots),
+        ) {
             Ok(()) => {
                 self.waiting.set(line, lane.has_next());
                 Ok(())

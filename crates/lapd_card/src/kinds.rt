@@ -60,7 +60,12 @@ impl AnyCard {
     }
 
     /// Serves a request at a line.
-    pub fn request(&mut self, line: usize, request: Request<'_>, report: &mut BareReport) -> Result<(), Refusal>
+    pub fn request(
+        &mut self,
+        line: usize,
+        request: Request<'_>,
+        report: &mut BareReport,
+    ) -> Result<(), Refusal>
         requires within { line < line_count self.old }
         requires clear { IsClear report.old }
         ensures refused { IfErr result (λ why. (m : Machine) → AnyStands self.old m

@@ -1,7 +1,7 @@
 //! What is heard in a line's octets, and which of its entities it is for.
 
 ghost use Rattle.std.specs.Prelude.{◌≡◌, ℕ, ◌≤◌, List, [], drop, length, Ok, Err};
-ghost use Rattle.lapd_line.specs.{heard_of, parts_of, long_reading, start_of, Unserved, dropped, addressed, aim_of_long, aim_of_reading, drop_for, heard_side, unless_at_link, has_management, told_at, is_ui, received_of, info_of, addressee, group_service, message_at, serves_group, IsAtPlace, Standing, Serves, always, aim_of_event, octets_of, told_in, IsClear};
+ghost use Rattle.lapd_line.specs.{heard_of, parts_of, long_reading, start_of, Unserved, dropped, addressed, aim_of_long, aim_of_reading, drop_for, heard_side, unless_at_link, has_management, told_at, is_ui, received_of, info_of, addressee, group_service, message_at, IsAtPlace, Standing, Serves, always, aim_of_event, octets_of, told_in, IsClear};
 ghost use Rattle.model_link.specs.Events as link;
 
 use crate::link_layer::LinkLayer;
@@ -72,7 +72,15 @@ impl LinkLayer {
             Addressee::Management => self.message(frame.control, frame.info, report, shelf),
             Addressee::Link(service, tei, place) => {
                 let received = Received::Frame(frame);
-                self.receive(service, tei, place, received, frame.control.start(), report, shelf)
+                self.receive(
+                    service,
+                    tei,
+                    place,
+                    received,
+                    frame.control.start(),
+                    report,
+                    shelf,
+                )
             }
             Addressee::Nobody(cause) => self.for_nobody(frame, cause, report),
         }
@@ -100,19 +108,13 @@ impl LinkLayer {
     fn group_service(&self, frame: Frame<'_>) -> Option<Service>
         ensures { result ≡ group_service self.now.config (parts_of frame.entry) }
     {
-        if !self.serves_group(frame) {
+        if has_management(self.config.side) || frame.address.tei != GROUP {
+            return None;
+        }
+        if !is_ui(frame.control) || frame.info.len() > usize::from(self.config.n201) {
             return None;
         }
         Service::with_sapi(frame.address.sapi)
-    }
-
-    fn serves_group(&self, frame: Frame<'_>) -> bool
-        ensures { result ≡ serves_group self.now.config (parts_of frame.entry) }
-    {
-        if has_management(self.config.side) || frame.address.tei != GROUP {
-            return false;
-        }
-        is_ui(frame.control) && frame.info.len() <= usize::from(self.config.n201)
     }
 
     /// Octets that spell no frame: `len` of them.
@@ -187,7 +189,9 @@ impl LinkLayer {
     {
         match self.addressee(address) {
             Addressee::Management => tell_drop(report, Cause::Unserved),
-            Addressee::Link(service, tei, place) => self.receive(service, tei, place, received, len, report, shelf),
+            Addressee::Link(service, tei, place) => self.receive(
+                service, tei, place, received, len, report, shelf,
+            ),
             Addressee::Nobody(cause) => tell_drop(report, cause),
         }
     }

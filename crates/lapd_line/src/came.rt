@@ -1,7 +1,7 @@
 //! What a frame and a fault are heard as that a controller of a line's flags, stuffed 0s and checks brings.
 
 ghost use Rattle.std.specs.Prelude.{◌≡◌, Some};
-ghost use Rattle.lapd_line.specs.{heard_of, came, is_too_short, cause_of, octets_of};
+ghost use Rattle.lapd_line.specs.{heard_of, came, cause_of, octets_of};
 
 use model_bits::{Cause, Heard};
 use model_line::Fault;
@@ -10,20 +10,14 @@ use model_line::Fault;
 pub(crate) fn came(octets: &[u8], n201: u16) -> Heard<'_>
     ensures { heard_of result ≡ Some (came n201 octets.now) }
 {
-    if is_too_short(octets) {
+    // Clause 2.9: it has no control field, or half of one.
+    if octets.len() < 3 || (octets.len() == 3 && octets[2] % 4 != 3) {
         return Heard::Dropped(Cause::Short);
     }
     if octets.len() > usize::from(n201) + 4 {
         return Heard::Overlong([octets[0], octets[1], octets[2], octets[3]]);
     }
     Heard::Frame(octets)
-}
-
-/// Whether a frame of these octets, without its check, is too short (clause 2.9).
-fn is_too_short(octets: &[u8]) -> bool
-    ensures { result ≡ is_too_short octets.now }
-{
-    octets.len() < 3 || (octets.len() == 3 && octets[2] % 4 != 3)
 }
 
 /// Why what stands for a fault is dropped.

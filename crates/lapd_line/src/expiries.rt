@@ -17,20 +17,8 @@ impl LinkLayer {
         ensures { Serves (aim_of_expiry timer) [] self.old (S.store shelf.old) self.new (S.store shelf.new) report.new }
     {
         match timer {
-            Timer::T200(service, tei) => self.expire_at(
-                service,
-                tei,
-                LinkTimer::T200,
-                report,
-                shelf,
-            ),
-            Timer::T203(service, tei) => self.expire_at(
-                service,
-                tei,
-                LinkTimer::T203,
-                report,
-                shelf,
-            ),
+            Timer::T200(service, tei) => self.at_link(service, tei, LinkTimer::T200, report, shelf),
+            Timer::T203(service, tei) => self.at_link(service, tei, LinkTimer::T203, report, shelf),
             Timer::T201 => {
                 let told = self.teis.expire_t201();
                 self.change(told, report, shelf);
@@ -39,7 +27,7 @@ impl LinkLayer {
     }
 
     /// A timer of a link expires, where its TEI is on the line.
-    fn expire_at<S: Shelf>(
+    fn at_link<S: Shelf>(
         &mut self,
         service: Service,
         tei: u8,

@@ -1,12 +1,12 @@
 //! What TEI management leads to: links that open and links that are cleared.
 
-ghost use Rattle.std.specs.Prelude.{◌≡◌, ℕ, ◌≤◌, ◌++◌, ◌+◌, List, [], length, Some};
+ghost use Rattle.std.specs.Prelude.{◌≡◌, ℕ, ◌≤◌, ◌+◌, List, [], length, Some};
 ghost use Rattle.lapd_line.specs.{listed, Management, Gained, Left, told_of, IsShort, at_management, told_of_link, told_of_management, with_cleared, IsClear, told_in, IsAnswerTo, Changing, with_management, Serves, always};
 ghost use Rattle.lapd_link.specs.Outcome as link;
 ghost use Rattle.lapd_tei.specs.Events as teis;
 
 use crate::link_layer::{LinkLayer, link_number};
-use lapd_frame::{Service, ShortList};
+use lapd_frame::Service;
 use lapd_link::BareReport;
 use lapd_store::Shelf;
 use lapd_tei::{Change, TeiOutcome};
@@ -31,20 +31,13 @@ fn tell_cleared(report: &mut BareReport, call: &BareReport, packet: &BareReport)
     ensures { (octets : List ℕ) → told_in octets report.new
         ≡ with_cleared (told_of_link (link.told_with [] call.now)) (told_of_link (link.told_with [] packet.now)) (told_in octets report.old) }
 {
-    report.notes = joined(report.notes, call.notes, packet.notes);
-    report.orders = joined(call.orders, packet.orders, report.orders);
-}
-
-/// Three lists after one another, which have at most four items.
-fn joined<T: Copy>(first: ShortList<T>, second: ShortList<T>, third: ShortList<T>) -> ShortList<T>
-    requires { length (listed first) + length (listed second) + length (listed third) ≤ 4 }
-    ensures { listed result ≡ listed first ++ listed second ++ listed third }
-{
-    let mut rest = second;
-    rest.append(third);
-    let mut all = first;
-    all.append(rest);
-    all
+    let mut notes = call.notes;
+    notes.append(packet.notes);
+    report.notes.append(notes);
+    let mut orders = packet.orders;
+    orders.append(report.orders);
+    report.orders = call.orders;
+    report.orders.append(orders);
 }
 
 impl LinkLayer {
@@ -83,18 +76,10 @@ impl LinkLayer {
         ensures { (e : teis.Event) (before : Management) (octets : List ℕ) → IsAnswerTo e before self.old.teis told
             → Serves (always (at_management e)) octets (with_management before self.old) (S.store shelf.old) self.new (S.store shelf.new) report.new }
     {
-        self.links.open(
-            link_number(place, Service::Call),
-            Service::Call,
-            tei,
-            &self.config,
-        );
-        self.links.open(
-            link_number(place, Service::Packet),
-            Service::Packet,
-            tei,
-            &self.config,
-        );
+        let call = link_number(place, Service::Call);
+        self.links.open(call, Service::Call, tei, &self.config);
+        let packet = link_number(place, Service::Packet);
+        self.links.open(packet, Service::Packet, tei, &self.config);
         tell_management(report, told);
     }
 

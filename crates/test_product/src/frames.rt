@@ -85,9 +85,23 @@ fn expires(card: &mut FrameCard<SlabShelf>, timer: Timer) -> bool
 fn a_line_is_served_by_frames(rt: HostRuntime) -> Result<(), Fail> {
     let mut card = frame_card(rt.alloc())?;
     assert!(rt; asks(&mut card, Request::Assign(64)) == Ok(()));
-    assert!(rt; comes(&mut card, &[0x00, 0x81, 0x7F], &[Note::EstablishIndication(CALL, 64)], None));
+    assert!(rt;
+        comes(
+            &mut card,
+            &[0x00, 0x81, 0x7F],
+            &[Note::EstablishIndication(CALL, 64)],
+            None
+        )
+    );
     assert!(rt; goes(&mut card, &[0x00, 0x81, 0x73]));
-    assert!(rt; comes(&mut card, &[0x00, 0x81, 0x00, 0x01, 0xCB], &[Note::Data(CALL, 64)], Some(&[0xCB])));
+    assert!(rt;
+        comes(
+            &mut card,
+            &[0x00, 0x81, 0x00, 0x01, 0xCB],
+            &[Note::Data(CALL, 64)],
+            Some(&[0xCB])
+        )
+    );
     assert!(rt; goes(&mut card, &[0x00, 0x81, 0x01, 0x03]));
     assert!(rt; goes(&mut card, &[]));
     assert!(rt; fails(&mut card, Fault::Fcs) == Some(Cause::Fcs));
@@ -113,7 +127,14 @@ fn next_length(
 fn a_room_that_is_too_small(rt: HostRuntime) -> Result<(), Fail> {
     let mut card = frame_card(rt.alloc())?;
     assert!(rt; asks(&mut card, Request::Assign(64)) == Ok(()));
-    assert!(rt; comes(&mut card, &[0x00, 0x81, 0x7F], &[Note::EstablishIndication(CALL, 64)], None));
+    assert!(rt;
+        comes(
+            &mut card,
+            &[0x00, 0x81, 0x7F],
+            &[Note::EstablishIndication(CALL, 64)],
+            None
+        )
+    );
     let mut room = [0x55u8; 264];
     assert!(rt; card.frame_room() == 264);
     assert!(rt; next_length(&mut card, &mut room[..263]) == Err(TOO_SMALL));

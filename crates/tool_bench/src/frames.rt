@@ -137,10 +137,7 @@ impl Frames {
     }
 
     fn go(&mut self, line: usize, number: u8) -> bool {
-        self.request(
-            line,
-            Request::Data(Service::Call, TEI, &INFORMATION),
-        );
+        self.request(line, Request::Data(Service::Call, TEI, &INFORMATION));
         let is_taken = self.take(line);
         let next = number.wrapping_add(1).wrapping_mul(2);
         self.hear(line, &[0x02, 0x81, 0x01, next]);

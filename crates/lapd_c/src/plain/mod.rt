@@ -30,7 +30,7 @@ pub(crate) use counters::PlainCounters;
 pub(crate) use faults::fault_in;
 pub(crate) use heads::PlainHead;
 pub(crate) use links::{LINK_PLACES, PlainLink, service_at};
-pub(crate) use reports::{PlainReport, items};
+pub(crate) use reports::PlainReport;
 pub(crate) use requests::{DATA, request_in};
 pub(crate) use rooms::PlainRoom;
 pub(crate) use statuses::{

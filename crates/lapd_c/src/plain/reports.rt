@@ -63,18 +63,28 @@ impl PlainReport {
         self.more = 0;
     }
 
-    /// Shows at most four orders alone; also of a pull or of a call for the next frame, with whether it began or gave one, and
-    /// whether another waits on its line.
+    /// Shows orders alone; also of a call for the next frame, with whether it gave one, and whether another waits on its line.
     #[inline(always)]
-    pub fn show_orders(&mut self, begun: bool, more: bool, orders: &[Order])
+    pub fn show_orders(&mut self, begun: bool, more: bool, orders: &ShortList<Order>)
+        ensures told { begun ≡ false → more ≡ false → Shows self.new (record nothing { orders = listed orders.now }) }
+        ensures pulled { ShowsPull self.new begun more (listed orders.now) }
+    {
+        let count = write_order_list(&mut self.orders, orders);
+        self.show_nothing();
+        self.order_count = count;
+        self.begun = u8::from(begun);
+        self.more = u8::from(more);
+    }
+
+    /// Shows what a pull was answered with: whether it began a frame, and at most four orders.
+    #[inline(always)]
+    pub fn show_pull(&mut self, begun: bool, orders: &[Order])
         requires { length orders.now ≤ 4 }
-        ensures told { begun ≡ false → more ≡ false → Shows self.new (record nothing { orders = orders.now }) }
-        ensures pulled { ShowsPull self.new begun more orders.now }
+        ensures { ShowsPull self.new begun false orders.now }
     {
         self.show_nothing();
         self.order_count = write_orders(&mut self.orders, orders);
         self.begun = u8::from(begun);
-        self.more = u8::from(more);
     }
 
     /// Shows what an octet, a frame, an expiry or a request was answered with, and the contents that it delivered. These have
@@ -86,7 +96,7 @@ impl PlainReport {
         ensures { length (contents_of (option_copied delivered.entry)) ≤ 260
             → Shows self.new (told_beside (option_copied delivered.entry) told.now) }
     {
-        self.show_orders(false, false, items(&told.orders));
+        self.show_orders(false, false, &told.orders);
         self.deliver(delivered);
         self.note_count = write_notes(&mut self.notes, items(&told.notes));
         self.cause = cause_number(told.cause());
@@ -138,9 +148,8 @@ impl PlainReport {
     }
 }
 
-/// The items of a short list, of which there are at most four.
-#[inline(always)]
-pub fn items<T: Copy>(list: &ShortList<T>) -> &[T]
+// The items of a short list, of which there are at most four.
+fn items<T: Copy>(list: &ShortList<T>) -> &[T]
     ensures items { result.now ≡ listed list.now }
     ensures few { length result.now ≤ 4 }
 {
@@ -163,6 +172,30 @@ fn write_notes(places: &mut [PlainNote; 4], notes: &[Note]) -> u8
         places[i] = PlainNote::of(notes[i]);
     }
     notes.len() as u8
+}
+
+// Mostly there is one order, or none, and then it is written in place.
+#[inline(always)]
+fn write_order_list(places: &mut [PlainOrder; 4], orders: &ShortList<Order>) -> u8
+    ensures count { result ≡ length (listed orders.now) }
+    ensures orders { take result places.new ≡ map plain_order (listed orders.now) }
+{
+    match orders {
+        ShortList::None => 0,
+        ShortList::One(orders) => write_orders(places, orders),
+        ShortList::Two(_) | ShortList::Three(_) | ShortList::Four(_) => {
+            write_several_orders(places, orders)
+        }
+    }
+}
+
+#[cold]
+#[inline(never)]
+fn write_several_orders(places: &mut [PlainOrder; 4], orders: &ShortList<Order>) -> u8
+    ensures count { result ≡ length (listed orders.now) }
+    ensures orders { take result places.new ≡ map plain_order (listed orders.now) }
+{
+    write_orders(places, items(orders))
 }
 
 // Writes orders to the first places, and answers how many there are.

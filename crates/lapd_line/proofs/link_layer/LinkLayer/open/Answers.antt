@@ -8,10 +8,10 @@ pub open-requires : goal.open-requires
 open-requires g c =
     let k = coming c.requires.changing c.requires.gained in
     record {
-      within = k.within Call c.link_number.ensures;
+      within = k.within Call c.link_number-call.ensures;
       tei = k.low;
       range = k.range;
-      down = (g.S.Shelf.store c.args.shelf.now, k.others, k.ms, k.stand, k.fresh Call c.link_number.ensures);
+      down = (g.S.Shelf.store c.args.shelf.now, k.others, k.ms, k.stand, k.fresh Call c.link_number-call.ensures);
     }
 
 pub open-requires-2 : goal.open-requires-2
@@ -19,12 +19,12 @@ open-requires-2 g c =
     let s = g.S.Shelf.store c.args.shelf.now in
     let k = coming c.requires.changing c.requires.gained in
     let stand = c.open.ensures.stands s k.others k.ms k.stand in
-    let fresh = get_or-set_other k.ms c.link_number.result c.link_number-2.result machine.fresh machine.fresh (λ q. omega (arith, q, k.exact c.link_number.ensures, k.exact c.link_number-2.ensures)) in
+    let fresh = get_or-set_other k.ms c.link_number-call.result c.link_number-packet.result machine.fresh machine.fresh (λ q. omega (arith, q, k.exact c.link_number-call.ensures, k.exact c.link_number-packet.ensures)) in
     record {
-      within = omega (arith, k.within Packet c.link_number-2.ensures, k.stand.same, stand.same, length-set k.ms c.link_number.result machine.fresh);
+      within = omega (arith, k.within Packet c.link_number-packet.ensures, k.stand.same, stand.same, length-set k.ms c.link_number-call.result machine.fresh);
       tei = k.low;
       range = k.range;
-      down = (s, k.others, set k.ms c.link_number.result machine.fresh, stand, fresh ∙ k.fresh Packet c.link_number-2.ensures);
+      down = (s, k.others, set k.ms c.link_number-call.result machine.fresh, stand, fresh ∙ k.fresh Packet c.link_number-packet.ensures);
     }
 
 pub returns : goal.returns
@@ -32,8 +32,8 @@ returns g c = λ what before octets is.
     let k = coming c.requires.changing c.requires.gained in
     let s = g.S.Shelf.store c.args.shelf.now in
     let config = c.args.self.now.config in
-    let call = k.exact c.link_number.ensures in
-    let packet = k.exact c.link_number-2.ensures in
+    let call = k.exact c.link_number-call.ensures in
+    let packet = k.exact c.link_number-packet.ensures in
     joined c.args.self.now before what c.args.told is s octets c.tell_management.new.report c.args.tei c.args.place c.open.new.self c.open-2.new.self c.requires.gained (c.tell_management.ensures.told octets)
     (subst (λ n. terms_in c.open.new.self ≡ set (terms_in c.args.self.now.links) n (terms config Call c.args.tei)) call c.open.ensures.terms)
     (subst (λ n. terms_in c.open-2.new.self ≡ set (terms_in c.open.new.self) n (terms config Packet c.args.tei)) packet c.open-2.ensures.terms)

@@ -1,9 +1,9 @@
--- Hand-written answers for `LinkLayer::expire_at`.
+-- Hand-written answers for `LinkLayer::at_link`.
 use Rattle.lapd_line.proofs.Vocabulary.{[], arith, sym, ap, ◌∙◌, place_of, place_of-is, at_timer}
 use Rattle.lapd_line.proofs.AddressSteps.{nothing_after, serves_as, serves_none}
 use Rattle.lapd_line.proofs.LayerSteps.{links_standing, number_there, number_still, number_low, at_link_serves}
 use Rattle.lapd_line.proofs.ReportSteps.{clear_tells_nothing, link_told}
-use Rattle.lapd_line.proofs.link_layer.LinkLayer.expire_at.Goals as goal
+use Rattle.lapd_line.proofs.link_layer.LinkLayer.at_link.Goals as goal
 
 pub returns-in_default : goal.returns-in_default
 returns-in_default g c =

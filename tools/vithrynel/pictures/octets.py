@@ -48,11 +48,7 @@ def drop(causes: str) -> Note:
 IN_RATTLE = "Card::octet"
 COMES = [
     Call("lapd_octet", "lapd_c/src/octets.rt", [
-<<<<<<< HEAD
-        back("fills the caller's struct", "show"), back("lends those of the frame", "contents")]),
-=======
         back("fills the caller's struct", "show"), back("lends what was delivered", "contents")]),
->>>>>>> b23e158e65b052d4a8ca2ec8e089397e7d437ab5
     Call("Card::hear", "lapd_card/src/card.rt", [
         Note(f"in Rattle {IN_RATTLE} calls it"), back("begun here, filled below", "BareReport")]),
     Call("Port::octet", "lapd_line/src/port.rt", [Note("does the octet end anything?")]),

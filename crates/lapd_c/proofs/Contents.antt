@@ -1,5 +1,5 @@
 -- Contents that an answer delivers have at most N201 octets.
-use Rattle.lapd_c.proofs.Vocabulary.{◌≡◌, ℕ, ◌≤◌, Answer, Card, OctetCard, told, gave, option_map, Bool, true, false, cond, List, length, Option, None, nat_lt, refl, sym, ap, subst, arith, leb-true, ltb-false, and_parts, option_or, option_map_or, Control, Ua, Ui, State, Terms, Refusal, Arrived, is_eligible, eligible_of, information_in, Link, Course, begun, by_bit, leave_unserved, deliver_unit, delivered-at_once, Fits, FitsEvent, Kept, frame_row, event_row, Change, Gained, Left, Config, hears, expiry, request, next, refused, nothing, told_of_management, of_link, of_change, of_management, of_aim, without_units, event_aims, Effect, Line, link_in, terms, unless_refused_told, PoolFull, line_at, wants_room, refusal, Service, contents_of, contents_in, ContentsFit}
+use Rattle.lapd_c.proofs.Vocabulary.{◌≡◌, ℕ, ◌≤◌, Answer, Card, OctetCard, told, option_map, Bool, true, false, List, length, Option, None, nat_lt, refl, sym, subst, arith, leb-true, ltb-false, and_parts, option_or, option_map_or, Control, Ui, State, Terms, Refusal, Arrived, eligible_of, information_in, Link, Course, begun, by_bit, leave_unserved, deliver_unit, delivered-at_once, Fits, FitsEvent, Kept, frame_row, event_row, Change, Config, hears, expiry, request, next, refused, nothing, told_of_management, of_link, of_change, of_management, of_aim, without_units, event_aims, Effect, Line, unless_refused_told, refusal, Service, contents_of, contents_in, ContentsFit}
 use Rattle.std.proofs.Common.{Some}
 use Rattle.model_link.specs.Events as link
 use Rattle.model_link.specs.Machine as links
@@ -9,7 +9,7 @@ use Rattle.model_line.specs.Event.{Event}
 use Rattle.model_line.specs.Machine.{aim_of, answer}
 use Rattle.model_card.specs.Event as frames
 use Rattle.model_card.specs.Machine.{answer as frames_answer}
-use Rattle.model_card.specs.ports.Card.{answer_to, meant, port_at, said}
+use Rattle.model_card.specs.ports.Card.{answer_to}
 unfoldable use Rattle.model_card.specs.ports.Card.{answer as octets_answer}
 use Rattle.model_card.specs.ports.Event as octets
 use Rattle.model_card.specs.ports.Port as port

@@ -1,5 +1,5 @@
 -- One step more of an exchange.
-use Rattle.lapd_c.proofs.Vocabulary.{◌≡◌, ℕ, suc, ◌+◌, ◌-◌, Bool, true, false, not, List, refl, sym, ap, ◌∙◌, subst, arith, meanings-count, octets-more, all_counted, moments, meant_all, Counters, Store, counters_in, OctetCard, PlainReport, ShowsReply, CardStands, shelf_of, is_quiet, step_event, steps_made, card_after, answer_after, with_step, given_after, AllQuiet}
+use Rattle.lapd_c.proofs.Vocabulary.{◌≡◌, ℕ, suc, ◌+◌, ◌-◌, true, false, not, List, refl, sym, ap, ◌∙◌, subst, arith, meanings-count, octets-more, all_counted, moments, meant_all, Counters, Store, counters_in, OctetCard, PlainReport, ShowsReply, CardStands, shelf_of, is_quiet, step_event, steps_made, card_after, answer_after, with_step, given_after, AllQuiet}
 use Rattle.model_card.specs.ports.Card.{after, answer}
 use Rattle.model_card.specs.ports.Run.{Run}
 use Rattle.lapd_card.specs.Card.{Held}

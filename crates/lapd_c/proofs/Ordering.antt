@@ -1,13 +1,11 @@
 -- One order of a report: what `orders_status` is then.
-use Rattle.std.specs.Prelude.{◌≡◌, ℕ, Bool, true, false, cond, ◌&&◌, nat_lt, ◌<◌, ◌≤◌, List, [], ◌∷◌, length, get_or, Some, None, Result, Ok, Err}
-use Rattle.std.specs.Option.{option_map_or, option_or, unwrap_or}
-use Rattle.lapd_c.proofs.Vocabulary.{refl, ap, ◌∙◌, arith}
-use Rattle.lapd_frame.specs.declared.timers.Order.{Order}
-use Rattle.lapd_clock.specs.Timers.{Timers, finds_place, with_order}
+use Rattle.std.specs.Prelude.{◌≡◌, ℕ, Bool, true, cond, [], ◌&&◌, ◌<◌, ◌≤◌, List, ◌∷◌, length, get_or, Some, None}
+use Rattle.std.specs.Option.{unwrap_or}
+use Rattle.lapd_c.proofs.Vocabulary.{arith}
+use Rattle.lapd_clock.specs.Timers.{Timers}
 use Rattle.lapd_c.specs.declared.plain.timers.PlainOrder.{PlainOrder}
-use Rattle.lapd_c.specs.Clocks as one
-use Rattle.lapd_c.specs.Clocks.{latest, order_status}
-use Rattle.lapd_c.specs.Orders.{after_all, after_order, fault_before, is_placed, orders_status}
+use Rattle.lapd_c.specs.Clocks.{order_status}
+use Rattle.lapd_c.specs.Orders.{orders_status}
 use Rattle.lapd_c.specs.Statuses.{ok, wrong_time, no_place}
 use Rattle.lapd_c.specs.Timers.{order_in}
 

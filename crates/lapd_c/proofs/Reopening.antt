@@ -1,13 +1,12 @@
 -- Which links wait for room, and what a report shows beside that.
-use Rattle.lapd_c.proofs.Vocabulary.{◌≡◌, ℕ, ◌+◌, ◌≤◌, ◌<◌, ◌&&◌, Bool, true, false, List, [], length, None, inl, inr, refl, sym, ap, ◌∙◌, subst, arith, cases_lt, false≢true, OctetCard, AnyCard, Octets, Frames, PlainReport, Shows, ShowsAnswer, ShowsReply, HeldCard, KeptCard, Card, Machine, card_in, AnyStands}
-use Rattle.std.proofs.Common.{◌==◌, Option, not}
+use Rattle.lapd_c.proofs.Vocabulary.{[], ◌≡◌, ℕ, ◌+◌, ◌≤◌, ◌<◌, ◌&&◌, Bool, true, false, List, length, None, inl, inr, refl, sym, ap, ◌∙◌, subst, arith, cases_lt, false≢true, OctetCard, AnyCard, PlainReport, Shows, ShowsAnswer, ShowsReply, Card, Machine, AnyStands}
+use Rattle.std.proofs.Common.{Option, not}
 use Rattle.std.proofs.Common.{Some}
 use Rattle.std.proofs.lemmas.Bool.{and_right, eqb-false, eqb-true}
 use Rattle.std.proofs.lemmas.List.{set_past, set-get_or}
 use Rattle.model_line.specs.Event as line_event
 use Rattle.model_card.specs.ports.Port as port
 use Rattle.lapd_c.specs.declared.link_marks.LinkMarks.{LinkMarks}
-use Rattle.lapd_c.specs.Cards.{marks_held}
 use Rattle.lapd_c.specs.Exchange.{ExchangedBy}
 use Rattle.lapd_c.specs.LinkMarks.{is_marked, marks_of, AreMarked, MarksBecome, SetsLink}
 use Rattle.lapd_c.specs.Reopened.{AreShutBelow, TellsReopened, is_open, is_there, is_told, with_reopened}

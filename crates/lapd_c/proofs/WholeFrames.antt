@@ -1,6 +1,6 @@
 -- Whole frames: one that comes, and one that is given.
-use Rattle.lapd_c.proofs.Vocabulary.{arith, ◌≡◌, ℕ, Bool, true, List, drop, Option, sym, ap, subst, ◌∙◌, None, option_map, Config, NextFrame, written, gave_in, next_in, Card, at, moment_counted, moment_of, Counters, Store, AnyCard, alone, AnyStands, FrameCardStands, comes, goes, next_at}
-use Rattle.std.proofs.Common.{Some, IfSome, length, take, ◌≤◌}
+use Rattle.lapd_c.proofs.Vocabulary.{arith, ◌≡◌, ℕ, Bool, true, List, drop, Option, sym, ap, subst, None, option_map, Config, NextFrame, gave_in, next_in, Card, at, moment_counted, moment_of, Counters, Store, AnyCard, alone, AnyStands, FrameCardStands, comes, goes, next_at}
+use Rattle.std.proofs.Common.{Some, IfSome, length, ◌≤◌}
 use Rattle.std.proofs.Math.Nat.{min-eq_left}
 use Rattle.std.proofs.lemmas.List.{length-take}
 use Rattle.lapd_frame.specs.ShortLists.{listed}

@@ -162,7 +162,7 @@ fn tells_given(
     if !pulled.begun && pulled.orders().is_empty() {
         return false;
     }
-    report.show_orders(pulled.begun, false, pulled.orders());
+    report.show_pull(pulled.begun, pulled.orders());
     true
 }
 

@@ -2,13 +2,13 @@
 
 ghost use Rattle.std.specs.Prelude.{◌≡◌, ◌≤◌, [], false, length, take, map};
 ghost use Rattle.std.specs.Option.{option_copied};
-ghost use Rattle.lapd_c.specs.{told_beside, nothing, plain_note, plain_order, ShowsReopened, with_reopened, Shows, ShowsPull, SameButContents, contents_in, contents_of, mark_of, orders_of};
+ghost use Rattle.lapd_c.specs.{listed, told_beside, nothing, plain_note, plain_order, ShowsReopened, with_reopened, Shows, ShowsPull, SameButContents, contents_in, contents_of, mark_of, orders_of};
 
 use crate::plain::links::service_at;
 use crate::plain::notes::{PlainNote, cause_number};
 use crate::plain::timers::PlainOrder;
 use lapd_card::BareReport;
-use lapd_frame::{Note, Order};
+use lapd_frame::{Note, Order, ShortList};
 
 /// The most octets of contents that a configuration allows.
 const MOST_OCTETS: usize = 260;
@@ -63,22 +63,32 @@ impl PlainReport {
         self.more = 0;
     }
 
-    /// Shows at most four orders alone; also of a pull or of a call for the next frame, with whether it began or gave one, and
-    /// whether another waits on its line.
+    /// Shows orders alone; also of a call for the next frame, with whether it gave one, and whether another waits on its line.
     #[inline(always)]
-    pub fn show_orders(&mut self, begun: bool, more: bool, orders: &[Order])
-        requires { length orders.now ≤ 4 }
-        ensures told { begun ≡ false → more ≡ false → Shows self.new (record nothing { orders = orders.now }) }
-        ensures pulled { ShowsPull self.new begun more orders.now }
+    pub fn show_orders(&mut self, begun: bool, more: bool, orders: &ShortList<Order>)
+        ensures told { begun ≡ false → more ≡ false → Shows self.new (record nothing { orders = listed orders.now }) }
+        ensures pulled { ShowsPull self.new begun more (listed orders.now) }
     {
+        let count = write_order_list(&mut self.orders, orders);
         self.show_nothing();
-        self.order_count = write_orders(&mut self.orders, orders);
+        self.order_count = count;
         self.begun = u8::from(begun);
         self.more = u8::from(more);
     }
 
-    /// Shows what an octet, a frame, an expiry or a request was answered with, and the contents that it delivered. Contents
-    /// have at most 260 octets, as no configuration allows more; of longer ones the first 260 are shown.
+    /// Shows what a pull was answered with: whether it began a frame, and at most four orders.
+    #[inline(always)]
+    pub fn show_pull(&mut self, begun: bool, orders: &[Order])
+        requires { length orders.now ≤ 4 }
+        ensures { ShowsPull self.new begun false orders.now }
+    {
+        self.show_nothing();
+        self.order_count = write_orders(&mut self.orders, orders);
+        self.begun = u8::from(begun);
+    }
+
+    /// Shows what an octet, a frame, an expiry or a request was answered with, and the contents that it delivered. These have
+    /// at most 260 octets, as no configuration allows more; of longer ones the first 260 are shown.
     ///
     /// It stands apart, so that what tells nothing, or orders alone, has no part of it in its way.
     #[inline(never)]
@@ -86,9 +96,9 @@ impl PlainReport {
         ensures { length (contents_of (option_copied delivered.entry)) ≤ 260
             → Shows self.new (told_beside (option_copied delivered.entry) told.now) }
     {
-        self.show_orders(false, false, told.orders());
+        self.show_orders(false, false, &told.orders);
         self.deliver(delivered);
-        self.note_count = write_notes(&mut self.notes, told.notes());
+        self.note_count = write_notes(&mut self.notes, items(&told.notes));
         self.cause = cause_number(told.cause());
         self.lost = told.lost;
     }
@@ -138,6 +148,20 @@ impl PlainReport {
     }
 }
 
+// The items of a short list, of which there are at most four.
+fn items<T: Copy>(list: &ShortList<T>) -> &[T]
+    ensures items { result.now ≡ listed list.now }
+    ensures few { length result.now ≤ 4 }
+{
+    match list {
+        ShortList::None => &[],
+        ShortList::One(items) => items,
+        ShortList::Two(items) => items,
+        ShortList::Three(items) => items,
+        ShortList::Four(items) => items,
+    }
+}
+
 // Writes notes to the first places, and answers how many there are.
 fn write_notes(places: &mut [PlainNote; 4], notes: &[Note]) -> u8
     requires { length notes.now ≤ 4 }
@@ -148,6 +172,30 @@ fn write_notes(places: &mut [PlainNote; 4], notes: &[Note]) -> u8
         places[i] = PlainNote::of(notes[i]);
     }
     notes.len() as u8
+}
+
+// Mostly there is one order, or none, and then it is written in place.
+#[inline(always)]
+fn write_order_list(places: &mut [PlainOrder; 4], orders: &ShortList<Order>) -> u8
+    ensures count { result ≡ length (listed orders.now) }
+    ensures orders { take result places.new ≡ map plain_order (listed orders.now) }
+{
+    match orders {
+        ShortList::None => 0,
+        ShortList::One(orders) => write_orders(places, orders),
+        ShortList::Two(_) | ShortList::Three(_) | ShortList::Four(_) => {
+            write_several_orders(places, orders)
+        }
+    }
+}
+
+#[cold]
+#[inline(never)]
+fn write_several_orders(places: &mut [PlainOrder; 4], orders: &ShortList<Order>) -> u8
+    ensures count { result ≡ length (listed orders.now) }
+    ensures orders { take result places.new ≡ map plain_order (listed orders.now) }
+{
+    write_orders(places, items(orders))
 }
 
 // Writes orders to the first places, and answers how many there are.

@@ -1,6 +1,6 @@
 -- Hand-written answers for `carry_out`.
 use Rattle.lapd_c.proofs.Vocabulary.{◌∙◌}
-use Rattle.lapd_c.proofs.Ordering.{alone_status, alone_after}
+use Rattle.lapd_c.proofs.Ordering.{alone_status}
 use Rattle.lapd_c.proofs.clock_reports.carry_out.Goals as goal
 
 pub returns-in-len1-clause-status : goal.returns-in-len1-clause-status

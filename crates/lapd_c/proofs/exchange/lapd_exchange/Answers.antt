@@ -1,7 +1,7 @@
 -- Hand-written answers for `lapd_exchange`: what was exchanged is told, also where a link has room again.
 use Rattle.lapd_c.proofs.Vocabulary.{refl, sym, subst, AnyCard, Octets}
 use Rattle.lapd_c.specs.Exchange.{ExchangedBy}
-use Rattle.lapd_c.proofs.Reopening.{still_exchanged, tells_after}
+use Rattle.lapd_c.proofs.Reopening.{still_exchanged}
 use Rattle.lapd_c.proofs.Served.{octets_there}
 use Rattle.lapd_c.proofs.exchange.lapd_exchange.Goals as goal
 

@@ -1,5 +1,5 @@
 -- Hand-written answers for `tells_taken`.
-use Rattle.lapd_c.proofs.Vocabulary.{not, ap, subst, ◌∙◌, ShowsReply, is_quiet}
+use Rattle.lapd_c.proofs.Vocabulary.{subst, ShowsReply}
 use Rattle.model_card.specs.ports.Event.{at}
 use Rattle.model_card.specs.ports.Port as port
 use Rattle.lapd_c.proofs.Served.{small_reply}

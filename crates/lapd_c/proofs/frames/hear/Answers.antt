@@ -1,10 +1,9 @@
 -- Hand-written answers for `hear`: the frame is heard by the configuration of the machine.
-use Rattle.lapd_c.proofs.Vocabulary.{◌≡◌, ◌≤◌, ℕ, List, length, Option, Some, refl, sym, ap, subst, ◌∙◌, Config, ShowsAnswer, counters_in, told, Event, answer, moment_counted, moment_of, FrameCardStands, comes, Shows, contents_of}
+use Rattle.lapd_c.proofs.Vocabulary.{◌≤◌, ℕ, List, length, Option, Some, refl, sym, ap, subst, ◌∙◌, Config, ShowsAnswer, told, Event, answer, comes, Shows, contents_of}
 use Rattle.lapd_line.proofs.Quiet.{quiet_told}
 use Rattle.lapd_line.specs.Reports.{delivered_in, octets_of, told_beside, told_in}
 use Rattle.model_card.specs.Machine.{after}
 use Rattle.model_line.specs.Came.{came}
-use Rattle.model_line.specs.Event.{nothing}
 use Rattle.lapd_c.proofs.WholeFrames.{comes_at}
 use Rattle.lapd_c.proofs.Served.{shown_told}
 use Rattle.lapd_c.proofs.frames.hear.Goals as goal
@@ -17,29 +16,10 @@ returns-clause-shows c = λ m s.
     (c.frame.ensures.told m s ∙ ap (λ (e : Event). answer e m) is)
     (subst (λ (o : Option (List ℕ)). length (contents_of o) ≤ 260 → Shows c.show.new.self (told_beside o c.frame.new.report)) delivered c.show.ensures)
 
-pub returns-clause-stands : goal.returns-clause-stands
-returns-clause-stands c = λ m s.
-    subst (λ (e : Event). FrameCardStands c.frame.new.self (after e m)) (comes_at c.args.line c.args.octets.now c.args.card.now m s) (c.frame.ensures.after.stands m s)
-
-pub returns-clause-counted : goal.returns-clause-counted
-returns-clause-counted c = λ m s.
-    c.frame.ensures.after.counted m s
-    ∙ ap (λ (e : Event). moment_counted (counters_in c.args.card.now.lines) (moment_of m e)) (comes_at c.args.line c.args.octets.now c.args.card.now m s)
-
 pub returns-then-frame-clause-shows : goal.returns-then-frame-clause-shows
 returns-then-frame-clause-shows c = λ m s.
     let octets = octets_of (Some (came c.args.card.now.config.n201 c.args.octets.now)) in
-    let orders : told_in octets c.frame.new.report ≡ record nothing { orders = c.orders.result.now } =
-    quiet_told octets c.frame.new.report (c.frame.ensures.quiet c.if-frame.true) ∙ ap (λ o. record nothing { orders = o }) (sym c.orders.ensures) in
     subst (ShowsAnswer c.show_orders.new.self)
-    (ap told (sym orders) ∙ c.frame.ensures.told m s ∙ ap (λ (e : Event). answer e m) (comes_at c.args.line c.args.octets.now c.args.card.now m s))
+    (ap told (sym (quiet_told octets c.frame.new.report (c.frame.ensures.quiet c.if-frame.true))) ∙ c.frame.ensures.told m s
+    ∙ ap (λ (e : Event). answer e m) (comes_at c.args.line c.args.octets.now c.args.card.now m s))
     (c.show_orders.ensures.told refl refl)
-
-pub returns-then-frame-clause-stands : goal.returns-then-frame-clause-stands
-returns-then-frame-clause-stands c = λ m s.
-    subst (λ (e : Event). FrameCardStands c.frame.new.self (after e m)) (comes_at c.args.line c.args.octets.now c.args.card.now m s) (c.frame.ensures.after.stands m s)
-
-pub returns-then-frame-clause-counted : goal.returns-then-frame-clause-counted
-returns-then-frame-clause-counted c = λ m s.
-    c.frame.ensures.after.counted m s
-    ∙ ap (λ (e : Event). moment_counted (counters_in c.args.card.now.lines) (moment_of m e)) (comes_at c.args.line c.args.octets.now c.args.card.now m s)

@@ -5,7 +5,7 @@ use Rattle.model_card.specs.Machine.{after}
 use Rattle.lapd_frame.specs.ShortLists.{listed}
 use Rattle.lapd_c.specs.Reports.{ShowsPull}
 use Rattle.lapd_c.proofs.WholeFrames.{next_is, none_goes, none_counted, given_shown, none_said}
-use Rattle.lapd_c.proofs.Reopening.{still_pulled, still_stands, tells_after}
+use Rattle.lapd_c.proofs.Reopening.{still_pulled, still_stands}
 use Rattle.lapd_c.proofs.Served.{frames_there, frames_counted}
 use Rattle.lapd_c.proofs.frames.lapd_next_frame.Goals as goal
 
@@ -32,4 +32,4 @@ returns-in-Ok-Some-clause-given c = λ m s within room. let t = frames_there c.i
     (subst (λ g. written g ≤ length c.next_frame.new.out) c.in-Ok-Some.field-0-is c.in-Ok-Some.ensures.fits)
     (subst (λ g. drop (written g) c.next_frame.new.out ≡ drop (written g) c.args.out.now) c.in-Ok-Some.field-0-is c.in-Ok-Some.ensures.rest)
     (still_pulled c.tell_reopened.new.report c.show_orders.new.self true c.has_next.result (listed c.in-Ok-Some.next.orders) c.tell_reopened.ensures.rest
-    (subst (ShowsPull c.show_orders.new.self true c.has_next.result) c.orders.ensures c.show_orders.ensures.pulled))
+    (subst (λ os. ShowsPull c.show_orders.new.self true c.has_next.result (listed os)) c.order_list.ensures c.show_orders.ensures.pulled))

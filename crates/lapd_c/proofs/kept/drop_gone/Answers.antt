@@ -2,7 +2,7 @@
 use Rattle.lapd_c.proofs.Vocabulary.{subst, arith, ◌∙◌}
 use Rattle.lapd_c.specs.LinkMarks.{SetsLink}
 use Rattle.lapd_c.specs.Reopened.{is_there}
-use Rattle.lapd_c.proofs.Reopening.{waits_so_far, waits_to_the_end}
+use Rattle.lapd_c.proofs.Reopening.{waits_so_far}
 use Rattle.lapd_c.proofs.kept.drop_gone.Goals as goal
 
 pub loop-place-preserved : goal.loop-place-preserved

@@ -11,7 +11,7 @@ use Rattle.laws_trace.proofs.Runs.{nothing-seen, apart}
 use Rattle.laws_trace.proofs.SeenAs.{up-number, IsSeenAs, seen-before, seen-behind, tei-seen}
 use Rattle.laws_trace.proofs.TimersAreTimely.{config-now, sound-now}
 use Rattle.laws_trace.proofs.TimersOfEvent.{off-fresh}
-use Rattle.laws_trace.proofs.WaitedBegins.{moments-both, after-both}
+use Rattle.laws_trace.proofs.Drained.{moments-both, after-both}
 
 -- An event of a card.
 module _ (card : Card) (number : ℕ) (what : line_event.Event) (s : IsSound card) (here : number < card.config.lines) (service : Service) (tei : ℕ) where

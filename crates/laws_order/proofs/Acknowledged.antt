@@ -29,7 +29,7 @@ use Rattle.laws_trace.proofs.Outgoing.{its, comes, here-at}
 use Rattle.laws_trace.proofs.Runs.{apart, nothing-seen}
 use Rattle.laws_trace.proofs.SeenAs.{IsSeenAs, seen-before, up-number}
 use Rattle.laws_trace.proofs.TimersAreTimely.{config-now, sound-now}
-use Rattle.laws_trace.proofs.WaitedBegins.{moments-both, after-both}
+use Rattle.laws_trace.proofs.Drained.{moments-both, after-both}
 use Rattle.laws_trace.specs.News.{brings, is_sabme}
 use Rattle.laws_trace.specs.Observer.{View, steps, views, view_of}
 use Rattle.laws_trace.specs.Trace.{is_up}

@@ -20,7 +20,7 @@ use Rattle.laws_trace.proofs.Outgoing.{its, here-at, view-is, kept-now}
 use Rattle.laws_trace.proofs.Plain.{all-wait}
 use Rattle.laws_trace.proofs.SeenAs.{seen-before, up-number}
 use Rattle.laws_trace.proofs.TimersAreTimely.{timely-now}
-use Rattle.laws_trace.proofs.WaitedBegins.{after-both}
+use Rattle.laws_trace.proofs.Drained.{after-both}
 use Rattle.laws_trace.proofs.WaitingNow.{waiting-now}
 use Rattle.laws_trace.specs.Observer.{View}
 use Rattle.laws_trace.specs.Trace.{is_up}

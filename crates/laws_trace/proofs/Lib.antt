@@ -41,7 +41,7 @@ pub mod Spelled
 pub mod SmallMessages
 pub mod SmallMessagesWait
 pub mod OctetsBegin
-pub mod WaitedBegins
+pub mod Drained
 pub mod LinkNames
 pub mod Turns
 pub mod NamedFrames

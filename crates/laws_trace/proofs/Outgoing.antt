@@ -11,7 +11,7 @@ use Rattle.laws_trace.proofs.Runs.{nothing-seen, apart}
 use Rattle.laws_trace.proofs.SeenAs.{IsSeenAs, seen-before, seen-behind, tei-seen}
 use Rattle.laws_trace.proofs.TimersAreTimely.{config-now, sound-now}
 use Rattle.laws_trace.proofs.TimersOfEvent.{off-fresh}
-use Rattle.laws_trace.proofs.WaitedBegins.{moments-both}
+use Rattle.laws_trace.proofs.Drained.{moments-both}
 use Rattle.laws_trace.proofs.Facts.{number-up}
 
 -- An event of a card.

@@ -6,7 +6,7 @@ use Rattle.laws_trace.proofs.ObservedExpiries.{IsNoMore, same, zero, either, no-
 use Rattle.laws_trace.proofs.ObservedLaws.{known-now, on-line-now, timers-run-so, started-so, moved_or_renewed}
 use Rattle.laws_trace.proofs.OrdersOfLink.{order_by}
 use Rattle.laws_trace.proofs.TimersAreTimely.{config-now, sound-now, timely-now, true-now, callers-run, own-ordered}
-use Rattle.laws_trace.proofs.WaitedBegins.{moments-both}
+use Rattle.laws_trace.proofs.Drained.{moments-both}
 use Rattle.laws_trace.proofs.Facts.{not-so}
 
 -- Whether a timer is started, by whether it ran, the link moves, T200 was counted, or a frame starts it anew.

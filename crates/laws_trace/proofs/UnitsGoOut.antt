@@ -5,7 +5,7 @@ use Rattle.laws_trace.proofs.LineAtEnd.{line-at-end}
 use Rattle.laws_trace.proofs.Turns.{ui-frame}
 use Rattle.laws_trace.proofs.LinkNames.{is_of_a_link}
 use Rattle.model_line.specs.Machine as lines
-use Rattle.laws_trace.proofs.WaitedBegins.{drained}
+use Rattle.laws_trace.proofs.Drained.{drained}
 use Rattle.laws_trace.proofs.Units.{NoneWaits, first-of, fresh-none, Goes, Passes, rests, joins, steps, next-passes-on, left-is-waiting, begun-first}
 use Rattle.laws_trace.proofs.Facts.{small-sapi}
 

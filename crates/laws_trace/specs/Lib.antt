@@ -9,7 +9,6 @@ pub mod UnitsGoOut
 pub mod FramesAreRead
 pub mod TurnsMeanwhile
 pub mod ControlFrames
-pub mod WaitedBegins
 pub mod Managing
 pub mod TeisAreManaged
 pub mod NoLossInVain
@@ -30,7 +29,6 @@ pub mod WorkedControls
 pub mod WorkedLoss
 pub mod WorkedManaging
 pub mod WorkedOtherSide
-pub mod WorkedWaited
 pub mod RoomsAreTold
 pub mod WorkedRooms
 pub mod WorkedUnitsTold

@@ -57,7 +57,7 @@ come-few number card [] b = omega arith
 come-few number card (e ∷ a) b = let rest = come-few number (card_after e card) a b in omega (arith, rest)
 
 -- A frame that one of the calls of a list takes, before the last one.
-record IsTakenBefore (number : ℕ) (card : Card) (es : List frames.Event) (text : List ℕ) : Type 0 where
+pub record IsTakenBefore (number : ℕ) (card : Card) (es : List frames.Event) (text : List ℕ) : Type 0 where
   front : List (Option NextFrame)
   given : NextFrame
   middle : List (Option NextFrame)
@@ -75,7 +75,7 @@ has-end [] x [] = record { front = []; last = x; are = refl }
 has-end [] x (y ∷ ys) = let e = has-end [] y ys in record { front = x ∷ e.front; last = e.last; are = ap (λ l. x ∷ l) e.are }
 has-end (z ∷ xs) x ys = let e = has-end xs x ys in record { front = z ∷ e.front; last = e.last; are = ap (λ l. z ∷ l) e.are }
 
-taken-before : (number : ℕ) (card : Card) (a b : List frames.Event) (text : List ℕ) → IsTakenAmong card number a text
+pub taken-before : (number : ℕ) (card : Card) (a b : List frames.Event) (text : List ℕ) → IsTakenAmong card number a text
     → IsTakenBefore number card (a ++ at number next ∷ b) text
 taken-before number card a b text t =
     let mid = runs.after_all card t.front in
@@ -153,7 +153,7 @@ text-octets card number link tei f s few on = grind (arith, line-sound, exact, a
 
 -- ---- what is heard
 
-module _ (m : OctetCard) (number : ℕ) (events : List Event) (text : List ℕ) (t : IsTakenBefore number m.card (meant_all m events) text) (small : as_octets text ≡ text)
+module _ (m : OctetCard) (number : ℕ) (events : List Event) (text : List ℕ) (t : IsTakenBefore number m.card (meant_all m events) text)
     (old : GoOut m.card.config.n201 (port_at number m).given (frames_among (items_sent (port_at number m)))) where
   abbrev p : Port
   p = port_at number m
@@ -175,23 +175,23 @@ module _ (m : OctetCard) (number : ℕ) (events : List Event) (text : List ℕ) 
   first = hear old.on_its_way ++ hear (texts t.front)
 
   abbrev but-last : List stream.Event
-  but-last = heard p ++ (first ++ stream.frame text ∷ hear (texts t.middle))
+  but-last = heard p ++ (first ++ stream.frame (as_octets text) ∷ hear (texts t.middle))
 
-  texts-are : texts calls ≡ texts t.front ++ (text ∷ (texts t.middle ++ texts (t.last ∷ [])))
+  texts-are : texts calls ≡ texts t.front ++ (as_octets text ∷ (texts t.middle ++ texts (t.last ∷ [])))
   texts-are = grind (arith, texts-append)
 
   all-are : p'.items ≡ p.items ++ map item_of calls → hear (frames_among (items_sent p')) ≡ but-last ++ hear (texts (t.last ∷ []))
   all-are put = grind (arith, map-append, frames_among-append, texts-are, append_assoc)
 
-  all-but : (rest : List stream.Event) → heard p' ≡ but-last ++ rest → IsHeardSince m.card.config.n201 p.given p'.given text
+  all-but : (rest : List stream.Event) → heard p' ≡ but-last ++ rest → IsHeardSince m.card.config.n201 p.given p'.given (as_octets text)
   all-but rest is =
       record { front = first; back = hear (texts t.middle) ++ rest; goes_on = is ∙ simp append_assoc }
 
   heard-among : p'.items ≡ p.items ++ map item_of calls → GoOut m.card.config.n201 p'.given (frames_among (items_sent p'))
-      → ((front : List Item) → p'.items ≡ front ++ idle ∷ [] → hear (frames_among (items_sent p')) ≡ heard p') → IsHeardSince m.card.config.n201 p.given p'.given text
+      → ((front : List Item) → p'.items ≡ front ++ idle ∷ [] → hear (frames_among (items_sent p')) ≡ heard p') → IsHeardSince m.card.config.n201 p.given p'.given (as_octets text)
   heard-among put new flag = by-last t.last refl
     where
-      by-last : (last : Option NextFrame) → t.last ≡ last → IsHeardSince m.card.config.n201 p.given p'.given text
+      by-last : (last : Option NextFrame) → t.last ≡ last → IsHeardSince m.card.config.n201 p.given p'.given (as_octets text)
       by-last None is =
           let ends : p'.items ≡ (p.items ++ map item_of (t.front ++ Some t.given ∷ t.middle)) ++ idle ∷ [] =
           put ∙ ap (λ l. p.items ++ map item_of l) (t.are ∙ ap (λ x. t.front ++ Some t.given ∷ (t.middle ++ x ∷ [])) is) ∙ simp (append_assoc, map-append) in
@@ -203,26 +203,32 @@ module _ (m : OctetCard) (number : ℕ) (events : List Event) (text : List ℕ) 
 
 -- ---- the law
 
+-- What a call takes that is not the last is heard since.
+pub taken_heard : (m : OctetCard) (events : List Event) (number : ℕ) (text : List ℕ) → IsReached m → AreAtLines m events → number < m.card.config.lines
+    → IsTakenBefore number m.card (meant_all m events) text
+    → IsHeardSince m.card.config.n201 (port_at number m).given (port_at number (after_all m events)).given (as_octets text)
+taken_heard m events number text r all few t =
+    let m' = after_all m events in
+    let p' = port_at number m' in
+    let same : m'.card.config ≡ m.card.config = octets_config_stays m events in
+    let s = reached_sound m r in
+    let r' = reached_after_all m events r all in
+    let few' = subst (λ (x : Config). number < x.lines) (sym same) few in
+    heard-among m number events text t (port_out m number r few) (run_puts m events number (omega (arith, s.count, few)))
+    (subst (λ (x : Config). GoOut x.n201 p'.given (frames_among (items_sent p'))) same (port_out m' number r' few'))
+    (subst (λ (x : Config). (front : List Item) → p'.items ≡ front ++ idle ∷ [] → map stream.frame (frames_among (items_sent p')) ≡ heard_in x.n201 p'.given) same
+    (port_all_out m' number r' few'))
+
 pub waiting_heard : (m : OctetCard) (events : List Event) → IsReached m → AreAtLines m events → WaitingIsHeard m events
 waiting_heard m events r all number link tei before f behind few waits on up enough =
     let c = m.card.config in
     let meant = meant_all m events in
     let n = most_frames_before c + come_first_at number m.card meant + 1 in
     let s = reached_sound m r in
-    let m' = after_all m events in
-    let p = port_at number m in
-    let p' = port_at number m' in
-    let same : m'.card.config ≡ c = octets_config_stays m events in
     let text = control_text c link tei f in
     let most = pulls_are_takes.most c r.events number r.config r.at_lines few n in
     let pulls = subst (λ m. pulls_behind c.n201 (port_at number m) n ≤ most_pulls_behind c.n201 n) (sym r.same) most in
-    let t = waiting-before m.card meant s.card ((refines m events).at_lines all) number link tei before f behind few waits on up
-    (pulls_are_takes.meanwhile m events number n s all few (omega (arith, pulls, enough))) in
-    let calls = calls_answered number (runs.moments m.card meant) in
-    let put : p'.items ≡ p.items ++ map item_of calls = run_puts m events number (omega (arith, s.count, few)) in
-    let r' = reached_after_all m events r all in
-    let few' = subst (λ (x : Config). number < x.lines) (sym same) few in
-    heard-among m number events text t (text-octets m.card number link tei f s.card few waits.on_line) (port_out m number r few) put
-    (subst (λ (x : Config). GoOut x.n201 p'.given (frames_among (items_sent p'))) same (port_out m' number r' few'))
-    (subst (λ (x : Config). (front : List Item) → p'.items ≡ front ++ idle ∷ [] → map stream.frame (frames_among (items_sent p')) ≡ heard_in x.n201 p'.given) same
-    (port_all_out m' number r' few'))
+    subst (IsHeardSince c.n201 (port_at number m).given (port_at number (after_all m events)).given) (text-octets m.card number link tei f s.card few waits.on_line)
+    (taken_heard m events number text r all few
+    (waiting-before m.card meant s.card ((refines m events).at_lines all) number link tei before f behind few waits on up
+    (pulls_are_takes.meanwhile m events number n s all few (omega (arith, pulls, enough)))))

@@ -5,7 +5,7 @@ use Rattle.model_card.specs.Event as frames
 use Rattle.model_card.specs.Machine as machine
 use Rattle.model_card.specs.Run as runs
 use Rattle.model_card.proofs.CardSound as card_sound
-use Rattle.laws_trace.proofs.WaitedBegins.{drained}
+use Rattle.laws_trace.proofs.Drained.{drained}
 use Rattle.model_card.specs.ports.Pulls as pulls
 use Rattle.model_card.specs.ports.Run.{IsAtLine}
 use Rattle.model_card.specs.ports.Sound.{IsSound}
@@ -118,16 +118,16 @@ module _ (c : Config) (events : List Event) (number : ℕ) (ranged : IsInRange c
   pub before_lines : AreAtLines (fresh c) h.before
   before_lines = all-left (IsAtLine (fresh c)) h.before h.pulls these
 
-  same : m.card.config ≡ c
+  pub same : m.card.config ≡ c
   same = config_stays (fresh c) h.before
 
-  lines : AreAtLines m h.pulls
+  pub lines : AreAtLines m h.pulls
   lines = subst (λ (x : Config). All (λ (e : Event). e.line < x.lines) h.pulls) (sym same) (all-right (IsAtLine (fresh c)) h.before h.pulls these)
 
-  few : number < m.card.config.lines
+  pub few : number < m.card.config.lines
   few = subst (λ (x : Config). number < x.lines) (sym same) within
 
-  sound : IsSound m
+  pub sound : IsSound m
   sound = always_sound (fresh c) h.before (fresh_octets_sound c ranged) before_lines
 
   pub only : AreTakesAt number calls

@@ -1,75 +1,47 @@
 -- What waited on a link is heard at the other end: the law.
-use Rattle.laws_trace.proofs.Vocabulary.{◌≡◌, ℕ, ◌<◌, List, ◌∷◌, ◌++◌, map, sym, ap, ◌∙◌, subst, append_assoc, arith, flat_map-append, map-append, ControlFrame, Config, IsInRange, most_frames, control_text, Card, line_at, takes_at, IsWaiting, frames_given, given_of, as_octets, octets_given, frames_to_hear, OfEachLine, refined_card, given_frames_are_heard, moments-append, IsAmong, ports_fresh as fresh, PortsEvent as Event, PortsAreAtLines as AreAtLines, ports_after_all as after_all, EndsInPulls}
-use Rattle.model_bits.specs.Stream as stream
-use Rattle.model_card.specs.Card as cards
+use Rattle.laws_trace.proofs.Vocabulary.{◌≡◌, ℕ, ◌<◌, ◌≤◌, List, ◌∷◌, sym, ap, ◌∙◌, subst, arith, inl, ControlFrame, Config, IsInRange, frames_to_go, most_frames, control_text, to-go-few, line_at, takes_at, IsWaiting, card-waits, line-sound, as_octets, octets_given, OfEachLine, refines, all-left, OctetCard, port_at, meant_all, ports_fresh as fresh, PortsEvent as Event, PortsAreAtLines as AreAtLines, ports_after_all as after_all, EndsInPulls, at, next}
 use Rattle.model_card.specs.Run as runs
-use Rattle.laws_trace.proofs.WaitedBegins.{all-that-waited-begins}
+use Rattle.model_card.proofs.OfPorts.GoingOut.{octets_are}
+use Rattle.model_card.proofs.OfPorts.Reaching.{after_all_append, reached_fresh, reached_after_all}
+use Rattle.laws_line.proofs.OfCard.GoingOut.{IsTakenBefore, taken-before, taken_heard}
 use Rattle.laws_line.specs.card.WaitingIsHeard.{IsHeardSince}
 use Rattle.laws_trace.specs.octets.WaitedIsHeard.{AllThatWaitedIsHeard}
 use Rattle.laws_trace.proofs.OfOctets.Emptied as emptied
-use Rattle.laws_trace.proofs.OfOctets.FramesGoOut.{meaning, lines, all-frames-go-out}
-use Rattle.laws_trace.proofs.OfOctets.Seen.{begun_given}
-
--- frames as they are heard
-abbrev events_of : List (List ℕ) → List stream.Event
-events_of given = map stream.frame (map as_octets given)
-
-events_of_both : (a b : List (List ℕ)) → events_of (a ++ b) ≡ events_of a ++ events_of b
-events_of_both a b = ap (map stream.frame) (map-append as_octets a b) ∙ map-append stream.frame (map as_octets a) (map as_octets b)
-
-still_among : (octets : List ℕ) (given : List (List ℕ)) (way : List stream.Event) → IsAmong octets given → IsAmong (stream.frame (as_octets octets)) (way ++ events_of given)
-still_among octets given way x = record {
-  front = way ++ events_of x.front;
-  back = events_of x.back;
-  split =
-      ap (λ given. way ++ events_of given) x.split
-      ∙ ap (λ events. way ++ events) (events_of_both x.front (octets ∷ x.back))
-      ∙ sym (append_assoc way (events_of x.front) (stream.frame (as_octets octets) ∷ events_of x.back));
-}
 
 module _ (c : Config) (events : List Event) (number : ℕ) (ranged : IsInRange c) (all : AreAtLines (fresh c) events) (within : number < c.lines) (h : EndsInPulls c events number) where
-  abbrev there : Card
-  there = runs.after_all (cards.fresh c) (emptied.first c events number ranged all within h)
+  abbrev m : OctetCard
+  m = after_all (fresh c) h.before
 
-  -- what the pulls began
-  abbrev since : List (List ℕ)
-  since = frames_given number (runs.moments there (emptied.calls c events number ranged all within h))
+  same : m.card.config ≡ c
+  same = emptied.same c events number ranged all within h
 
-  both : frames_to_hear c events number ≡ frames_to_hear c h.before number ++ since
-  both =
-      let first = emptied.first c events number ranged all within h in
-      let calls = emptied.calls c events number ranged all within h in
-      ap (λ fs. frames_given number (runs.moments (cards.fresh c) fs)) (emptied.meaning c events number ranged all within h)
-      ∙ ap (frames_given number) (moments-append (cards.fresh c) first calls)
-      ∙ flat_map-append (given_of number) (runs.moments (cards.fresh c) first) (runs.moments there calls)
-
-  waited : (link tei : ℕ) (front : List ControlFrame) (f : ControlFrame) (behind : List ControlFrame) → IsWaiting c (line_at number (after_all (fresh c) h.before).card) link tei front f behind
-      → IsAmong (control_text c link tei f) since
-  waited link tei front f behind waits =
-      let most : most_frames c < takes_at number (emptied.calls c events number ranged all within h) = emptied.many c events number ranged all within h in
-      subst (IsAmong (control_text c link tei f)) (begun_given number there (emptied.calls c events number ranged all within h))
-      (all-that-waited-begins c (meaning c events number ranged all within) number ranged (lines c events number ranged all within) within
-      (emptied.first c events number ranged all within h) (emptied.calls c events number ranged all within h)
-      (emptied.meaning c events number ranged all within h) (emptied.only c events number ranged all within h) (omega (arith, most)) link tei front f behind
-      (subst (λ (card : Card). IsWaiting c (line_at number card) link tei front f behind) (refined_card (fresh c) h.before) waits))
-
-  pub heard : (link tei : ℕ) (front : List ControlFrame) (f : ControlFrame) (behind : List ControlFrame) → IsWaiting c (line_at number (after_all (fresh c) h.before).card) link tei front f behind
-      → IsHeardSince c.n201 (octets_given c h.before number) (octets_given c events number) (as_octets (control_text c link tei f))
+  heard : (link tei : ℕ) (front : List ControlFrame) (f : ControlFrame) (behind : List ControlFrame) → IsWaiting c (line_at number m.card) link tei front f behind
+      → IsHeardSince m.card.config.n201 (port_at number m).given (port_at number (after_all m h.pulls)).given (as_octets (control_text m.card.config link tei f))
   heard link tei front f behind waits =
-      let out = given_frames_are_heard.so_far c h.before number ranged (emptied.before_lines c events number ranged all within h) within in
-      let way = map stream.frame out.on_its_way in
-      let among = still_among (control_text c link tei f) since way (waited link tei front f behind waits) in
-      record {
-        front = among.front;
-        back = among.back;
-        goes_on =
-            sym (all-frames-go-out c events number ranged all within h)
-            ∙ ap events_of both
-            ∙ events_of_both (frames_to_hear c h.before number) since
-            ∙ ap (λ events. events ++ events_of since) out.heard
-            ∙ append_assoc (stream.heard_in c.n201 (octets_given c h.before number)) way (events_of since)
-            ∙ ap (λ events. stream.heard_in c.n201 (octets_given c h.before number) ++ events) among.split;
-      }
+      let lines = emptied.lines c events number ranged all within h in
+      let few = emptied.few c events number ranged all within h in
+      let s = emptied.sound c events number ranged all within h in
+      let x = emptied.x c events number ranged all within h in
+      let text = control_text m.card.config link tei f in
+      let front-lines = all-left (runs.IsAtLine m.card) x.front (at number next ∷ x.back) (subst (runs.AreAtLines m.card) x.split ((refines m h.pulls).at_lines lines)) in
+      let most : most_frames m.card.config < takes_at number (meant_all m h.pulls) =
+      subst (λ (x : Config). most_frames x < takes_at number (meant_all m h.pulls)) (sym same) (emptied.many c events number ranged all within h) in
+      let to-go = to-go-few m.card.config (line_at number m.card) (line-sound m.card number s.card few) in
+      let enough : frames_to_go m.card.config (line_at number m.card) ≤ takes_at number x.front = omega (arith, most, x.count, to-go) in
+      let waits' = subst (λ (x : Config). IsWaiting x (line_at number m.card) link tei front f behind) (sym same) waits in
+      taken_heard m h.pulls number text (reached_after_all (fresh c) h.before (reached_fresh c ranged) (emptied.before_lines c events number ranged all within h)) lines few
+      (subst (λ es. IsTakenBefore number m.card es text) (sym x.split)
+      (taken-before number m.card x.front x.back text (card-waits m.card number s.card few x.front front-lines x.only link tei front f behind waits' (inl enough))))
+
+  since : (link tei : ℕ) (front : List ControlFrame) (f : ControlFrame) (behind : List ControlFrame) → IsWaiting c (line_at number m.card) link tei front f behind
+      → IsHeardSince c.n201 (octets_given c h.before number) (octets_given c events number) (as_octets (control_text c link tei f))
+  since link tei front f behind waits =
+      let before = octets_are c h.before number ranged (emptied.before_lines c events number ranged all within h) within in
+      let after = ap (λ m. (port_at number m).given) (sym (after_all_append (fresh c) h.before h.pulls) ∙ ap (after_all (fresh c)) (sym h.split)) ∙ octets_are c events number ranged all within in
+      subst (λ octets. IsHeardSince c.n201 octets (octets_given c events number) (as_octets (control_text c link tei f))) before
+      (subst (λ octets. IsHeardSince c.n201 (port_at number m).given octets (as_octets (control_text c link tei f))) after
+      (subst (λ (x : Config). IsHeardSince x.n201 (port_at number m).given (port_at number (after_all m h.pulls)).given (as_octets (control_text x link tei f))) same
+      (heard link tei front f behind waits)))
 
 pub all-that-waited-is-heard : OfEachLine AllThatWaitedIsHeard
-all-that-waited-is-heard c events number ranged all within h link tei front f behind waits = grind (arith, heard)
+all-that-waited-is-heard c events number ranged all within h link tei front f behind waits = since c events number ranged all within h link tei front f behind waits

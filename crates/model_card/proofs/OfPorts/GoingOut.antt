@@ -72,7 +72,7 @@ module _ (c : Config) (events : List Event) (number : ℕ) (ranged : IsInRange c
   inside : number < length (fresh c).ports
   inside = omega (arith, within, length-replicate c.lines fresh_port)
 
-  octets_are : end.given ≡ octets_given c events number
+  pub octets_are : end.given ≡ octets_given c events number
   octets_are =
       let goes = run_goes_on (fresh c) events number inside in
       goes.given ∙ ap (λ (p : Port). p.given ++ octets_given c events number) (fresh_at c number within)

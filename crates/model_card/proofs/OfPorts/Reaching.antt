@@ -7,7 +7,7 @@ use Rattle.model_card.proofs.OfPorts.Codec.{all_below, refined_card}
 use Rattle.model_card.proofs.OfPorts.Sound.{always_sound, fresh_octets_sound}
 use Rattle.model_card.proofs.OfPorts.Steps.{config_stays}
 
-after_all_append : (m : OctetCard) (a b : List Event) → after_all m (a ++ b) ≡ after_all (after_all m a) b
+pub after_all_append : (m : OctetCard) (a b : List Event) → after_all m (a ++ b) ≡ after_all (after_all m a) b
 unfolding after_all
 after_all_append m [] b = refl
 after_all_append m (e ∷ a) b = after_all_append (after e m) a b

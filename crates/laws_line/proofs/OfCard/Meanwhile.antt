@@ -1,5 +1,5 @@
 -- A line of a card after so many calls for its next frame, whatever happened at the other lines meanwhile.
-use Rattle.laws_line.proofs.Vocabulary.{◌≡◌, ◌≢◌, ℕ, zero, suc, ◌+◌, ◌<◌, ◌≤◌, ◌==◌, Bool, true, false, cond, List, [], ◌∷◌, ◌++◌, length, get_or, set, refl, sym, ap, ◌∙◌, arith, eqb-false, get_or-set_same, get_or-set_other, All-nil, All-cons, All-head, All-tail, All-get_or, ControlFrame, Config, next, Line, fresh_line, taken, Card, line_at, at, wants_room, IsAtLine, AreAtLines, after_all, after_is_sound, eqb-true, HasNothing, after_takes, frames_to_go, IsEnough, control_text, IsTakenWithin, CardEvent as Event, card_after as after, CardIsSound as IsSound, AreTakesAt, takes_at, IsTakenAmong, IsIdleAmong, IsWaiting}
+use Rattle.laws_line.proofs.Vocabulary.{◌≡◌, ◌≢◌, ℕ, zero, suc, ◌+◌, ◌<◌, ◌≤◌, ◌==◌, Bool, true, false, cond, List, [], ◌∷◌, ◌++◌, length, get_or, set, refl, sym, ap, ◌∙◌, arith, eqb-false, get_or-set_same, get_or-set_other, All-nil, All-cons, All-head, All-tail, All-get_or, ControlFrame, Config, next, Line, fresh_line, Card, line_at, at, wants_room, IsAtLine, AreAtLines, after_all, after_is_sound, eqb-true, HasNothing, after_takes, frames_to_go, IsEnough, control_text, IsTakenWithin, CardEvent as Event, card_after as after, CardIsSound as IsSound, AreTakesAt, takes_at, IsTakenAmong, IsIdleAmong, IsWaiting}
 use Rattle.model_line.specs.Machine as lines
 use Rattle.model_line.specs.Sound as line_sound
 use Rattle.laws_line.proofs.Draining.{drains, idles}

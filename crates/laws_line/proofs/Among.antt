@@ -1,6 +1,6 @@
 -- A control frame that waits is taken by one of so many calls also where other events of its line are between them.
-use Rattle.laws_line.proofs.Vocabulary.{◌≡◌, ℕ, ◌+◌, ◌-◌, ◌<◌, ◌≤◌, Bool, false, cond, List, [], ◌∷◌, ◌++◌, length, take, Option, Some, refl, sym, ap, ◌∙◌, ◌⊎◌, inl, inr, arith, append_assoc, append-nil, length-append, eq-eqb, Service, Parts, ControlFrame, State, Terms, Link, event-follows, as_heard, is_overlong, waiting_left, room, put, Change, one_more_waits, Config, hears, request, next, LineTold, Answer, Aim, of_change, of_aim, Line, link_count, service_at, place_at, tei_at, terms, link_at, Taken, taken, IsInRange, after_sound, Event, expiry, after, answer, IsSound, deactivates, IsBy, frames_before, control_text, after_events, is_take, takes_in, go_first, comes_first, come_first, StaysOnLine, IsTakenIn, link_overlong, link_offer, link_received, link_frame, link_cleared, LinkEvent, link_after}
-use Rattle.laws_line.proofs.Happening.{IsGivenUp, Happens, event-happens}
+use Rattle.laws_line.proofs.Vocabulary.{◌≡◌, ℕ, ◌+◌, ◌-◌, ◌<◌, ◌≤◌, Bool, false, cond, List, [], ◌∷◌, ◌++◌, length, Option, Some, refl, sym, ap, ◌∙◌, ◌⊎◌, inl, inr, arith, append_assoc, append-nil, length-append, eq-eqb, Service, Parts, ControlFrame, State, Terms, Link, event-follows, as_heard, is_overlong, waiting_left, Change, one_more_waits, Config, hears, request, next, LineTold, Answer, Aim, of_change, of_aim, Line, link_count, service_at, place_at, tei_at, terms, link_at, Taken, taken, IsInRange, after_sound, Event, expiry, after, answer, IsSound, deactivates, IsBy, frames_before, control_text, after_events, is_take, takes_in, go_first, comes_first, come_first, StaysOnLine, IsTakenIn, link_overlong, link_offer, link_received, link_frame, link_cleared, LinkEvent, link_after}
+use Rattle.laws_line.proofs.Happening.{Happens, event-happens}
 use Rattle.laws_line.proofs.Ordered.{next-goes}
 use Rattle.laws_line.proofs.Downs.{by-down}
 

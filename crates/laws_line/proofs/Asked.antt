@@ -1,5 +1,5 @@
 -- An event accepts for a link what its request asks and its answer grants.
-use Rattle.laws_line.proofs.Vocabulary.{arith, ◌≡◌, ℕ, Bool, true, false, cond, List, [], ◌∷◌, Option, Some, None, is_some, refl, nat_lt, option_map_or, Refusal, Service, Timer, LinkTimer, accepted, contents_of, not_not, Config, hears, request, next, Aim, at_link, at_timer, aim_of_expiry, Line, place_in, link_in, terms, unless_refused_told, of_request, aim_of_heard, Row, first_that_holds, Request, at_requested, at_deactivated, aim_of_request, heard_aims, Event, expiry, answer, unless_refused, refusal, Data, no_share, ending, share_aimed, share_of, is_link, is_granted, asked_for, asked_by, link_received, LinkData, LinkRequest, LinkEvent, StreamEvent, skipped}
+use Rattle.laws_line.proofs.Vocabulary.{arith, ◌≡◌, ℕ, Bool, true, false, cond, List, [], Option, Some, None, is_some, refl, nat_lt, Refusal, Service, Timer, LinkTimer, contents_of, not_not, Config, hears, Aim, at_timer, aim_of_expiry, Line, place_in, link_in, terms, aim_of_heard, Request, at_requested, at_deactivated, aim_of_request, heard_aims, Event, answer, refusal, Data, no_share, ending, share_aimed, share_of, asked_for, asked_by, LinkData, LinkRequest, StreamEvent}
 use Rattle.model_link.specs.Requests as requests
 use Rattle.model_line.proofs.RoomForAll.{passed}
 

@@ -1,5 +1,5 @@
 -- What a configuration gives: the most frames that are to go.
-use Rattle.laws_line.proofs.Vocabulary.{ℕ, ◌+◌, ◌-◌, ◌≤◌, ◌<◌, max, min, Bool, cond, arith, unsent, Config, Line, link_count, sum_bounded, IsSound, to_go_at_link, frames_to_go, most_frames}
+use Rattle.laws_line.proofs.Vocabulary.{ℕ, ◌+◌, ◌≤◌, ◌<◌, max, arith, Config, Line, link_count, sum_bounded, IsSound, to_go_at_link, frames_to_go, most_frames}
 use Rattle.model_line.proofs.LineRises.{window_most}
 
 -- of a link

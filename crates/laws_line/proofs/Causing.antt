@@ -1,5 +1,5 @@
 -- Why a message of TEI management comes to wait: each event of a line.
-use Rattle.laws_line.proofs.Vocabulary.{◌≡◌, ◌⊎◌, inl, inr, ℕ, ◌<◌, true, false, [], ◌∷◌, length, Option, None, refl, sym, ◌∙◌, subst, arith, option_map_or, Address, Refusal, Service, T201, Parts, LinkTimer, Management, heard_in, Config, hears, request, next, Answer, Aim, at_management, of_aim, at_timer, Line, place_in, has_tei, unless_refused_told, addressed, aim_of_heard, Taken, taken, line_of, wrong_side, bad_tei, no_link, tei_taken, table_full, check_running, control_full, Request, Establish, Release, Assign, Remove, SetBusy, ClearBusy, Deactivate, at_requested, at_deactivated, aim_of_request, IsInRange, next_walk, ranges_of, not_not, Down, T200, T203, Event, expiry, after, answer, unless_refused, refusal, Data, Unit, Check, IsSound, Hears, HasCause, IsTaken, HaveCauses, lost_in, Said, Says, Serves, Expires, Grants, is_granted, LinkReceived, LinkRelease, LinkEstablish, LinkClearBusy, LinkRequest, LinkData, LinkSetBusy, stream_frame, StreamEvent, serve, free_place-is, is_some}
+use Rattle.laws_line.proofs.Vocabulary.{◌≡◌, ◌⊎◌, inl, inr, ℕ, ◌<◌, true, false, [], ◌∷◌, length, Option, None, refl, sym, ◌∙◌, subst, arith, option_map_or, Address, Service, T201, Parts, LinkTimer, Management, heard_in, Config, hears, request, next, Answer, Aim, at_management, of_aim, at_timer, Line, addressed, aim_of_heard, Taken, taken, line_of, wrong_side, bad_tei, no_link, tei_taken, table_full, check_running, control_full, Request, Assign, Remove, at_requested, aim_of_request, IsInRange, next_walk, ranges_of, Down, Event, expiry, after, answer, refusal, Check, IsSound, Hears, HasCause, IsTaken, HaveCauses, lost_in, Said, Says, Serves, Expires, Grants, is_granted, LinkReceived, LinkRequest, stream_frame, StreamEvent, serve, free_place-is, is_some}
 use Rattle.lapd_tei.specs.Events as teis
 use Rattle.lapd_tei.specs.Words as words
 use Rattle.laws_line.proofs.Granting.{not-refused}

@@ -1,5 +1,5 @@
 -- With calls for the next frame alone the frames to go become fewer, until nothing waits.
-use Rattle.laws_line.proofs.Vocabulary.{◌≡◌, ℕ, zero, suc, ◌+◌, ◌≤◌, ◌<◌, List, [], ◌∷◌, slice_get, Option, Some, None, is_some, refl, ap, ◌∙◌, ◌⊎◌, ⊎_elim, arith, IfSome, option_map_or, option_or, unwrap_or, All-head, All-tail, Link, nothing-to_send, Config, next, may_send, is_given, Line, link_count, service_at, place_at, tei_at, terms, terms_at, link_at, Taken, with_given_frame, link_taken, first_taken, taken, next_of, line_of, IsInRange, IsSoundAt, after_sound, next_falls, fresh_gives_nothing, round_below, option_map, All, one, after, answer, IsSound, HasNothing, after_takes, frames_to_go, IsIdling, link_given}
+use Rattle.laws_line.proofs.Vocabulary.{◌≡◌, ℕ, zero, suc, ◌+◌, ◌≤◌, ◌<◌, List, [], ◌∷◌, slice_get, Option, Some, None, is_some, refl, ap, ◌∙◌, ◌⊎◌, ⊎_elim, arith, IfSome, option_map_or, option_or, All-head, All-tail, nothing-to_send, Config, next, may_send, is_given, Line, link_count, place_at, tei_at, link_at, Taken, link_taken, first_taken, taken, next_of, line_of, IsInRange, IsSoundAt, after_sound, next_falls, fresh_gives_nothing, round_below, option_map, All, one, after, answer, IsSound, HasNothing, after_takes, frames_to_go, IsIdling}
 use Rattle.laws_line.proofs.Serving.{none-waits}
 use Rattle.laws_line.proofs.Silence.{sends-none}
 use Rattle.laws_line.proofs.Going.{TakesOne, taken-falls}

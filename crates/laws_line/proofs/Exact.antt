@@ -1,5 +1,5 @@
 -- No frame is to go exactly where nothing waits that may go.
-use Rattle.laws_line.proofs.Vocabulary.{◌≡◌, ℕ, zero, suc, ◌+◌, ◌-◌, ◌≤◌, ◌<◌, ◌↔◌, min, Bool, true, false, cond, not, ◌&&◌, List, [], ◌∷◌, length, Option, Some, None, refl, sym, ap, subst, ⊎_elim, arith, nat_lt, sum_by, range_with_len, ltb-true, ltb-false, cases_eq, sum_by-cons, Terms, Link, outstanding, is_established, HasNothingToSend, Config, Line, link_count, service_at, place_at, tei_at, terms, link_at, IsSoundAt, IsSound, HasNothing, link_to_go, to_go_at_link, frames_to_go}
+use Rattle.laws_line.proofs.Vocabulary.{◌≡◌, ℕ, zero, suc, ◌+◌, ◌-◌, ◌≤◌, ◌<◌, ◌↔◌, min, Bool, false, cond, not, ◌&&◌, List, [], ◌∷◌, length, Option, refl, sym, ap, subst, ⊎_elim, arith, nat_lt, sum_by, range_with_len, ltb-true, ltb-false, cases_eq, sum_by-cons, Terms, Link, outstanding, is_established, HasNothingToSend, Config, Line, link_count, service_at, place_at, tei_at, terms, link_at, IsSoundAt, IsSound, HasNothing, link_to_go, to_go_at_link, frames_to_go}
 use Rattle.laws_line.proofs.Silence.{silent, sends-none}
 
 -- Of a link.

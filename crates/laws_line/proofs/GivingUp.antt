@@ -1,5 +1,5 @@
 -- A link that is deactivated is given up.
-use Rattle.laws_line.proofs.Vocabulary.{arith, ◌≡◌, ℕ, false, not, cond, Some, None, ap, ◌∙◌, le-ltb, BadTei, NoLink, Service, Terms, Link, is_on-at, place_of-is, told_cleared, Config, told, nothing, told_of_link, of_aim, Line, place_in, link_in, has_tei, terms, unless_refused_told, Deactivate, at_deactivated, after, answer, unless_refused, refusal, IsSound, stopped, DeactivationsGiveUp, link_cleared, link_told}
+use Rattle.laws_line.proofs.Vocabulary.{arith, ◌≡◌, ℕ, false, Some, None, ap, ◌∙◌, le-ltb, Service, Terms, Link, is_on-at, place_of-is, told_cleared, Config, nothing, told_of_link, Line, place_in, Deactivate, at_deactivated, after, answer, unless_refused, refusal, IsSound, stopped, DeactivationsGiveUp, link_cleared, link_told}
 
 -- What a link tells that is cleared.
 all-told : (t : Terms) (x : Link) → told_of_link (link_told t link_cleared x) ≡ record nothing { notes = told_cleared x.state t; orders = stopped t x.running }

@@ -1,5 +1,5 @@
 -- A line that is taken down is down.
-use Rattle.laws_line.proofs.Vocabulary.{◌≡◌, ℕ, zero, suc, ◌<◌, true, false, is_some, List, [], ◌∷◌, get_or, set, Option, Some, None, refl, sym, ap, subst, ◌∙◌, ◌⊎◌, ⊎_elim, arith, option_map_or, All-head, All-tail, Refusal, Service, Timer, T201, LinkTimer, Terms, is_on-at, Config, request, gave, Line, link_number, link_count, service_at, place_at, tei_at, place_in, link_at, of_aim, next_of, Request, Deactivate, Down, at_deactivated, IsInRange, IsSoundAt, after_sound, next, option_map, cases_lt, get_or_past, All, Contains, map, T200, T203, place_of, fresh, after, answer, unless_refused, refusal, IsSound, after_events, takes_down, TakeDown, IsDown, LinesGoDown, HasNothing, IsSilent, link_needs, is_needed}
+use Rattle.laws_line.proofs.Vocabulary.{◌≡◌, ℕ, zero, suc, ◌<◌, true, false, is_some, List, [], ◌∷◌, get_or, set, Option, Some, None, refl, sym, ap, subst, ◌∙◌, ⊎_elim, arith, option_map_or, All-head, All-tail, Refusal, Service, Timer, T201, LinkTimer, Terms, is_on-at, Config, request, gave, Line, link_number, link_count, service_at, place_at, tei_at, place_in, link_at, of_aim, next_of, Request, Deactivate, Down, at_deactivated, IsInRange, IsSoundAt, after_sound, next, option_map, cases_lt, get_or_past, All, Contains, map, T200, T203, place_of, fresh, after, answer, unless_refused, refusal, IsSound, after_events, takes_down, TakeDown, IsDown, LinesGoDown, HasNothing, IsSilent, link_needs, is_needed}
 use Rattle.laws_line.proofs.Draining.{nothing-taken}
 use Rattle.laws_line.proofs.GivingUp.{deactivations_give_up}
 use Rattle.laws_line.proofs.Parts.{gives-up}

@@ -1,5 +1,5 @@
 -- What the user's side hears of the network for the group: unit data, and messages of TEI management.
-use Rattle.laws_line.proofs.Vocabulary.{◌≡◌, ℕ, ◌==◌, cond, List, Option, Some, None, Ok, refl, ap, ◌∙◌, arith, le-leb, Tei, Unserved, Address, Control, Service, Parts, Spells, reading, service_of, sapi_of, reading-again, place_of-is, Config, LineTold, hears, Aim, at_none, Line, place_in, drop_for, management_sapi, to_service, addressed, message_of, aim_of_reading, heard_side, aim_of_heard, group_told, told_at, at_side, IsToGroup, dropped, after, answer, at_place, line_group_tei as group_tei, IsSound, OnlyTells, IsToManagement, link_frame, LinkReceived, stream_frame}
+use Rattle.laws_line.proofs.Vocabulary.{◌≡◌, ℕ, ◌==◌, cond, List, Option, Some, None, Ok, refl, ap, ◌∙◌, arith, le-leb, Tei, Unserved, Address, Control, Service, Parts, Spells, reading, service_of, sapi_of, reading-again, place_of-is, Config, hears, Aim, at_none, Line, place_in, drop_for, management_sapi, to_service, addressed, message_of, aim_of_reading, heard_side, group_told, told_at, at_side, IsToGroup, dropped, after, answer, at_place, line_group_tei as group_tei, IsSound, OnlyTells, IsToManagement, link_frame, LinkReceived, stream_frame}
 use Rattle.laws_line.proofs.Causing.{to-group}
 use Rattle.laws_line.proofs.Hearing.{sapi-is, by-none}
 

@@ -1,5 +1,5 @@
 -- What an event makes of the contents of a link of a line.
-use Rattle.laws_line.proofs.Vocabulary.{◌≡◌, ◌≢◌, ℕ, ◌<◌, zero, suc, Bool, true, false, cond, ◌==◌, List, [], ◌∷◌, length, get_or, set, Option, Some, None, refl, sym, ◌∙◌, subst, arith, eq-eqb, true≢false, IfSome, option_map_or, get_or-set_same, get_or-set_other, Service, Call, Packet, Link, Terms, Share, share, Comes, event-done, same-comes, restarted, offer-leaves, Moves, Management, IsAt, Places, Change, Gained, Left, Config, hears, request, next, LineTold, is_change_at, Aim, at_link, at_management, told_of_management, of_change, of_aim, Line, link_number, service_at, place_at, link_at, link_in, terms, link_count, aim_of_heard, aim_of_expiry, Taken, taken, line_of, aim_of_request, IsInRange, IsProper, sound_in, taken_walk, next_walk, heard_proper, expiry_proper, request_proper, at_no_link, eqb-true, fresh, Event, expiry, after, unless_refused, refusal, IsSound, no_share, ending, share_aimed, share_of, link_offer, LinkEvent, link_after, tei_told, tei_after, begin_here, begin_away}
+use Rattle.laws_line.proofs.Vocabulary.{◌≡◌, ◌≢◌, ℕ, ◌<◌, zero, suc, Bool, true, false, cond, ◌==◌, List, [], ◌∷◌, length, get_or, set, Option, Some, None, refl, sym, ◌∙◌, subst, arith, eq-eqb, true≢false, IfSome, option_map_or, get_or-set_same, get_or-set_other, Service, Call, Packet, Link, Terms, Share, share, Comes, event-done, same-comes, restarted, offer-leaves, Moves, Management, IsAt, Places, Change, Gained, Left, Config, hears, request, next, LineTold, is_change_at, Aim, at_link, at_management, told_of_management, of_change, of_aim, Line, link_number, service_at, place_at, link_at, link_in, terms, link_count, aim_of_heard, aim_of_expiry, Taken, taken, line_of, IsInRange, IsProper, sound_in, taken_walk, next_walk, heard_proper, expiry_proper, request_proper, at_no_link, eqb-true, fresh, Event, expiry, after, IsSound, no_share, ending, share_aimed, share_of, link_offer, LinkEvent, link_after, tei_told, tei_after, begin_here, begin_away}
 use Rattle.lapd_tei.proofs.LawLemmas as tei_lemmas
 use Rattle.laws_line.proofs.Downs.{by-down}
 

@@ -1,7 +1,6 @@
 -- By notes and granted requests management knows which TEIs are on the line: each event.
-use Rattle.laws_line.proofs.Vocabulary.{arith, ◌≡◌, ℕ, ◌==◌, Bool, true, false, cond, not, is_some, nat_lt, List, ◌++◌, set, get_or, replicate, Option, Some, None, refl, ap, sym, ◌∙◌, subst, eq-eqb, true≢false, next_walk, fold, option_map_or, get_or-set_same, fold-append, none-some, Note, Refusal, NoLink, ControlFull, Service, Call, Packet, T201, is_up, LinkTimer, notes-own, refusal_if, Moves, Management, IdentityRemove, take_off, is_checked, nothing_happens, no_room, send, leave, left, end_check, IsSoundTable, Places, is_on, place_of, Change, Gained, Left, is_on-at, place_of-is, Config, hears, request, next, at_link, at_management, told_of_management, of_change, of_aim, at_timer, Line, link_number, place_in, has_tei, link_in, terms, fresh_line, unless_refused_told, aim_of_heard, Taken, taken, line_of, has_management, Request, Establish, Release, Assign, Remove, SetBusy, ClearBusy, Deactivate, at_requested, at_deactivated, aim_of_request, IsProper, heard_aims, request_proper, Down, option_map, eqb-true, T200, T203, fresh, Event, expiry, after, answer, unless_refused, refusal, Data, Unit, Check, IsSound, on_by_note, on_by_request, taken_for_on, link_received, LinkEstablish, LinkRelease, LinkClearBusy, LinkRequest, LinkData, link_cleared, LinkSetBusy, LinkEvent, link_told, StreamEvent, message, tei_unless_refused, course, tei_told, tei_after, check, assigning, remove, tei_refusal, tei_expiry, TeiEvent, skipped, not_not}
+use Rattle.laws_line.proofs.Vocabulary.{arith, ◌≡◌, ℕ, ◌==◌, Bool, true, false, cond, not, is_some, nat_lt, List, get_or, replicate, Option, Some, None, refl, ap, sym, ◌∙◌, eq-eqb, true≢false, next_walk, fold, option_map_or, get_or-set_same, fold-append, none-some, Note, Service, T201, is_up, notes-own, Moves, Management, no_room, left, IsSoundTable, Places, is_on, place_of, Change, Gained, Left, is_on-at, place_of-is, Config, hears, request, next, at_link, at_management, told_of_management, of_change, of_aim, Line, has_tei, link_in, terms, fresh_line, aim_of_heard, Taken, taken, line_of, has_management, Request, Establish, Release, Assign, Remove, SetBusy, ClearBusy, Deactivate, aim_of_request, IsProper, heard_aims, request_proper, Down, option_map, eqb-true, T200, T203, Event, expiry, after, answer, refusal, Data, Unit, Check, IsSound, on_by_note, on_by_request, taken_for_on, link_received, LinkEvent, link_told, StreamEvent, message, course, tei_told, tei_after, check, assigning, remove, tei_refusal, tei_expiry, TeiEvent, skipped, not_not}
 use Rattle.lapd_tei.specs.Laws as tei_laws
-use Rattle.lapd_tei.specs.Words as words
 use Rattle.lapd_tei.proofs.LawLemmas as tei_lemmas
 use Rattle.laws_line.proofs.Following.{some-same}
 use Rattle.laws_line.proofs.LinkMoves.{IsOne, taken-one}

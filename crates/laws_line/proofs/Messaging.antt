@@ -1,5 +1,5 @@
 -- What each event does to TEI management, as the rows of the law have it.
-use Rattle.laws_line.proofs.Vocabulary.{◌≡◌, ◌⊎◌, inl, inr, ℕ, ◌+◌, ◌*◌, ◌/◌, ◌%◌, ◌≤◌, ◌<◌, ◌==◌, ◌&&◌, nat_le, nat_lt, Bool, true, false, not, cond, List, [], ◌∷◌, length, Option, Some, None, IsSome, IfSome, is_some, refl, sym, ◌∙◌, subst, arith, true≢false, filter, find, prefix_len, ltb-false, and_parts, nat_tests, All-nil, All-cons, none-some, Management, Remembered, Period, Message, IdentityAssigned, IdentityDenied, IdentityCheckRequest, IdentityRemove, heard_in, heard_of_type, IsSoundCheck, IsSoundQueue, Places, is_free, is_on, place_of, free_place, free_tei, no_room, lost_after, freed, is_of_other, unserved, begin_check, end_check, send, remembered-on, one_is_free, free_tei-is, free_place-is, place_of-is, option_map, eqb-true, All, TeiCheck as Check, TeiIsSound as IsSound, Course, tei_begun as begun, tei_with_message as with_message, Said, asks, verifies, responds, IsSpelled, Says, Waits, FindsNoRoom, IsSent, LineIsSilent as IsSilent, KeepsTeis, Leaves, tei_for, IsAnswered, new_check, is_answered, RespondsTo, Responds, Serves, IsOver, ExpiresIn, Expires, check_without, IsPutOn, assign_new, respond, removed, take_off, count, remembered_in, rows_verify, expire_period, put_on, rows_is_for, expire_check, assign, serve, rows_tei_in, tei_counted, rows_request}
+use Rattle.laws_line.proofs.Vocabulary.{◌≡◌, ◌⊎◌, inl, inr, ℕ, ◌+◌, ◌*◌, ◌/◌, ◌%◌, ◌≤◌, ◌<◌, ◌==◌, ◌&&◌, nat_le, nat_lt, Bool, true, false, not, cond, List, [], ◌∷◌, length, Option, Some, None, IsSome, IfSome, refl, sym, ◌∙◌, subst, arith, true≢false, filter, find, prefix_len, ltb-false, and_parts, nat_tests, All-nil, All-cons, none-some, Management, Remembered, Period, Message, IdentityAssigned, IdentityDenied, IdentityCheckRequest, heard_in, heard_of_type, IsSoundCheck, IsSoundQueue, Places, is_free, is_on, place_of, free_place, free_tei, no_room, lost_after, freed, is_of_other, begin_check, end_check, send, remembered-on, one_is_free, free_tei-is, free_place-is, place_of-is, option_map, eqb-true, All, TeiCheck as Check, TeiIsSound as IsSound, Course, tei_begun as begun, tei_with_message as with_message, Said, asks, verifies, responds, IsSpelled, Says, Waits, FindsNoRoom, IsSent, LineIsSilent as IsSilent, KeepsTeis, Leaves, tei_for, IsAnswered, new_check, Responds, Serves, IsOver, ExpiresIn, Expires, assign_new, respond, removed, remembered_in, rows_verify, expire_period, rows_is_for, expire_check, assign, serve, rows_tei_in, rows_request}
 use Rattle.laws_line.proofs.Places.{is-off}
 
 -- whether there is room for one more

@@ -1,5 +1,5 @@
 -- Why notes say that a TEI came or left: each row of TEI management, and each event of a line.
-use Rattle.laws_line.proofs.Vocabulary.{arith, ◌≡◌, ℕ, ◌+◌, ◌*◌, ◌/◌, ◌%◌, ◌==◌, ◌&&◌, nat_le, Bool, true, false, List, [], ◌∷◌, ◌++◌, Option, Some, None, refl, sym, subst, and_parts, All-nil, All-cons, All-append, All-weaker, Note, Assigned, Removed, Doubled, Refusal, Service, Call, Packet, T201, Terms, LinkTimer, IsOwn, Link, notes-own, Change, Left, Management, heard_in, heard_of_type, Config, hears, request, next, LineTold, at_management, of_link, of_change, of_aim, at_timer, Line, place_in, link_in, terms, unless_refused_told, Request, at_requested, at_deactivated, aim_of_request, eqb-true, All, T200, T203, TeiCheck as Check, Course, tei_begun as begun, Event, expiry, answer, unless_refused, group_tei, refusal, notes_of, asks, responds, Says, HasReason, HaveReasons, LinkRequest, link_cleared, link_received, LinkEvent, link_told, assign_new, respond, expire_check, rows_verify, serve, rows_request}
+use Rattle.laws_line.proofs.Vocabulary.{arith, ◌≡◌, ℕ, ◌+◌, ◌*◌, ◌/◌, ◌%◌, ◌==◌, ◌&&◌, nat_le, Bool, true, false, List, [], ◌∷◌, ◌++◌, Option, Some, None, refl, sym, subst, and_parts, All-nil, All-cons, All-append, All-weaker, Note, Assigned, Doubled, Refusal, Service, Call, Packet, T201, Terms, LinkTimer, IsOwn, Link, notes-own, Change, Left, Management, heard_in, heard_of_type, Config, hears, request, LineTold, at_management, of_link, of_change, of_aim, at_timer, Line, link_in, terms, unless_refused_told, Request, at_requested, at_deactivated, aim_of_request, eqb-true, All, Course, tei_begun as begun, Event, expiry, answer, unless_refused, group_tei, refusal, notes_of, asks, responds, Says, HasReason, HaveReasons, LinkRequest, link_cleared, link_received, LinkEvent, link_told, assign_new, serve, rows_request}
 use Rattle.lapd_tei.specs.Events as teis
 use Rattle.laws_line.proofs.GroupAims.{heard-aims-at}
 use Rattle.laws_line.proofs.Messaging.{spelled}

@@ -1,5 +1,5 @@
 -- A caller that obeys the orders runs the timers that are needed: each event of a line.
-use Rattle.laws_line.proofs.Vocabulary.{◌≡◌, ℕ, zero, suc, Bool, false, arith, eq-eqb, is_some, List, get_or, replicate, Option, Some, None, refl, ap, sym, ◌∙◌, subst, inl, inr, next_walk, option_map_or, none-some, Refusal, Service, Order, Timer, T201, LinkTimer, Link, obeyed, IsTimed, Given, timer_at, Terms, HasItsTimer, is-timed, timely-after, timely-fresh, sound-after, Follows, Moves, Management, IsSoundTable, Change, Gained, Left, t201_follows, expired_t201_follows, place_of-is, Config, request, gave, hears, next, at_link, at_management, at_units, told_of_management, of_change, of_aim, at_timer, is_running, orders_in, Line, link_number, service_at, place_at, place_in, link_at, link_in, terms, with_link, fresh_line, link_count, unless_refused_told, aim_of_heard, Taken, with_unit, with_given_frame, taken, next_of, line_of, Request, Establish, Release, Assign, Remove, SetBusy, ClearBusy, Deactivate, at_requested, at_deactivated, aim_of_request, IsInRange, IsProper, heard_aims, request_proper, Down, without_units, at_no_link, option_map, eqb-true, T200, T203, fresh, Event, expiry, after, answer, unless_refused, with_message, refusal, Data, Unit, Check, IsSound, link_needs, is_needed, runs_then, HaveTheirTimers, link_offer, link_received, LinkEstablish, LinkRelease, LinkClearBusy, link_expired, link_requested, LinkRequest, LinkData, link_cleared, LinkSetBusy, LinkEvent, link_given, link_told, link_after, StreamEvent, down, message, tei_told, check, tei_after, remove, assigning, tei_expiry, TeiEvent}
+use Rattle.laws_line.proofs.Vocabulary.{◌≡◌, ℕ, zero, suc, Bool, false, arith, eq-eqb, is_some, List, get_or, replicate, Option, Some, None, refl, ap, sym, ◌∙◌, subst, inl, inr, next_walk, option_map_or, none-some, Service, Order, Timer, T201, LinkTimer, Link, obeyed, IsTimed, Given, timer_at, Terms, HasItsTimer, is-timed, timely-after, timely-fresh, sound-after, Follows, Moves, Management, IsSoundTable, Change, Gained, Left, t201_follows, expired_t201_follows, place_of-is, Config, request, gave, hears, next, at_link, at_management, told_of_management, of_change, of_aim, at_timer, is_running, orders_in, Line, link_number, service_at, place_at, place_in, link_at, link_in, terms, with_link, fresh_line, link_count, aim_of_heard, Taken, with_unit, taken, next_of, line_of, Request, at_requested, at_deactivated, aim_of_request, IsInRange, IsProper, heard_aims, request_proper, Down, without_units, at_no_link, option_map, eqb-true, T200, T203, fresh, Event, expiry, after, answer, with_message, IsSound, link_needs, is_needed, runs_then, HaveTheirTimers, link_offer, link_received, link_expired, link_requested, LinkRequest, link_cleared, LinkEvent, link_given, link_told, link_after, StreamEvent, down, message, tei_told, tei_after, tei_expiry, TeiEvent}
 use Rattle.lapd_tei.specs.Laws as tei_laws
 use Rattle.lapd_tei.proofs.LawLemmas as tei_lemmas
 use Rattle.laws_line.proofs.Following.{timer_of, each-timer, running-of, same-running, one-steered, management-stays, comes, goes, t201-goes}

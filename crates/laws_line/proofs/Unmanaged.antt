@@ -1,5 +1,5 @@
 -- The user's side has no TEI management.
-use Rattle.laws_line.proofs.Vocabulary.{arith, ◌≡◌, ℕ, Bool, false, not, [], ◌∷◌, Option, None, refl, sym, ap, ◌∙◌, next_walk, option_map_or, User, Network, Refusal, Service, Management, expire_check, join_at, put_on, LinkTimer, Config, at_management, of_aim, hears, at_timer, Line, place_in, Taken, taken, line_of, wrong_side, bad_tei, no_link, check_running, control_full, Request, Establish, Release, Assign, Remove, SetBusy, ClearBusy, Deactivate, at_requested, at_deactivated, aim_of_request, has_management, Down, tei_begun as begun, Event, after, refusal, Data, Unit, Check, IsSound, IsUnmanaged, UsersManageNothing, LinkRelease, LinkEstablish, LinkClearBusy, LinkRequest, LinkData, LinkSetBusy, StreamEvent, assigning, tei_unless_refused, course, tei_after, tei_refusal, tei_expiry, TeiEvent}
+use Rattle.laws_line.proofs.Vocabulary.{arith, ◌≡◌, ℕ, false, [], Option, None, refl, sym, ap, ◌∙◌, next_walk, option_map_or, User, Network, Service, Management, expire_check, join_at, LinkTimer, Config, at_management, of_aim, hears, at_timer, Line, place_in, Taken, taken, line_of, Request, Establish, Release, Assign, Remove, SetBusy, ClearBusy, Deactivate, at_requested, aim_of_request, Down, tei_begun as begun, Event, after, refusal, Data, Unit, Check, IsSound, IsUnmanaged, UsersManageNothing, LinkRelease, LinkEstablish, LinkClearBusy, LinkRequest, LinkData, LinkSetBusy, StreamEvent, assigning, course, tei_after, tei_refusal, tei_expiry, TeiEvent}
 use Rattle.laws_line.proofs.GroupAims.{heard-aims-at}
 use Rattle.laws_line.proofs.LinkMoves.{IsOne, taken-one}
 use Rattle.laws_line.proofs.Managing.{managed}

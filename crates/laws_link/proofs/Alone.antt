@@ -1,5 +1,5 @@
 -- An I-frame is offered only where it may go; and with offers alone contents go one after the other.
-use Rattle.laws_link.proofs.Vocabulary.{◌≡◌, ℕ, zero, suc, ◌+◌, Bool, true, false, cond, IsTrue, not, List, [], ◌∷◌, Option, refl, sym, ap, ◌∙◌, subst, true≢false, arith, All, IfSome, nat_lt, ltb-true, and_parts, All-head, ControlFrame, T200, Terms, Link, course, after, given, given_of, IsInRange, IsSound, IsWaitingFrame, is_information, Course, Sent, begun, ◌then◌, changed, sound-after, IsOffered, is_i_frame, i_frames, MayGo, offered, i_frames_offered, both_ways, offer, give_information, is_awaiting_acknowledgement, may_send_information, offer_among, with_one_sent, pending_is, start}
+use Rattle.laws_link.proofs.Vocabulary.{◌≡◌, ℕ, zero, suc, ◌+◌, Bool, true, false, cond, IsTrue, not, List, [], ◌∷◌, Option, sym, ap, ◌∙◌, subst, true≢false, arith, All, IfSome, nat_lt, ltb-true, and_parts, All-head, ControlFrame, Terms, Link, course, after, given, given_of, IsInRange, IsSound, IsWaitingFrame, is_information, Course, Sent, begun, sound-after, IsOffered, is_i_frame, i_frames, MayGo, offered, i_frames_offered, both_ways, offer, may_send_information, offer_among}
 use Rattle.laws_link.proofs.Offering.{given-is-offered, offer-leaves, offer-counts}
 
 off : (b : Bool) → not b ≡ true → b ≡ false

@@ -1,5 +1,5 @@
 -- What is delivered is the information of the I-frame that was heard.
-use Rattle.laws_link.proofs.Vocabulary.{◌≡◌, ℕ, Bool, cond, not, List, Some, None, ap, ◌∙◌, arith, nat_lt, nat_le, ltb-true, ltb-false, leb-true, leb-false, false_from_ne_true, true_from_ne_false, Terms, Link, Arrived, information_in, eligible_of, told, delivered-at_once, contents_heard, Event}
+use Rattle.laws_link.proofs.Vocabulary.{◌≡◌, ℕ, Bool, not, List, Some, ap, ◌∙◌, arith, nat_lt, nat_le, ltb-true, ltb-false, leb-true, leb-false, false_from_ne_true, true_from_ne_false, Terms, Link, Arrived, information_in, eligible_of, told, delivered-at_once, contents_heard, Event}
 
 module _ (t : Terms) (l : Link) where
   heard : (e : Event) (i : Arrived) → eligible_of t l (information_in e) ≡ Some i → contents_heard e ≡ Some i.contents

@@ -1,5 +1,5 @@
 -- What any event leaves of a link.
-use Rattle.laws_link.proofs.Vocabulary.{Bool, List, Option, arith, Control, Information, Parts, State, Established, TimerRecovery, LinkTimer, ControlFrame, Terms, Link, Event, Request, cleared, expired, frame, offer, overlong, received, requested, undefined, wrong_size}
+use Rattle.laws_link.proofs.Vocabulary.{Bool, List, Option, arith, Control, Parts, State, LinkTimer, ControlFrame, Terms, Link, Event, Request, expired, frame, offer, overlong, received, requested, undefined, wrong_size}
 use Rattle.laws_link.proofs.Columns.{at, at-busy, at-running, at-waiting, hears, Row}
 
 module _ (t : Terms) where

@@ -1,5 +1,5 @@
 -- What comes of a request that is granted.
-use Rattle.laws_link.proofs.Vocabulary.{◌≡◌, ℕ, ◌+◌, ◌≤◌, Bool, true, false, cond, List, [], ◌∷◌, ◌++◌, length, take, drop, length-take-le, Option, None, Some, arith, ◌⊎◌, nat_lt, cases_lt, lt-ltb, le-ltb, drop_all, drop-append-le, Refusal, WrongState, State, ControlFrame, Terms, Link, IsSound, Course, begun, ◌then◌, IsReleasedIn, TakesEffect, ClearBusy, Release, Request, SetBusy, requested, course, own_busy_is, report_ready}
+use Rattle.laws_link.proofs.Vocabulary.{◌≡◌, ℕ, ◌+◌, ◌≤◌, Bool, true, false, cond, List, [], ◌∷◌, ◌++◌, length, take, drop, length-take-le, Option, None, Some, arith, ◌⊎◌, nat_lt, cases_lt, lt-ltb, le-ltb, drop_all, drop-append-le, Refusal, WrongState, State, ControlFrame, Terms, Link, IsSound, Course, begun, ◌then◌, IsReleasedIn, TakesEffect, ClearBusy, Release, Request, requested, course, own_busy_is, report_ready}
 use Rattle.model_link.specs.Requests
 
 -- A frame that is put behind those that wait.

@@ -1,5 +1,5 @@
 -- A link gives what waits in its order.
-use Rattle.laws_link.proofs.Vocabulary.{arith, ◌≡◌, false, List, [], ◌∷◌, Option, refl, subst, inl, inr, All, IfSome, All-head, ControlFrame, T200, Terms, Link, course, after, given, given_of, IsSound, IsWaitingFrame, Course, Sent, begun, ◌then◌, changed, IsInOrder, told_ways, offer, give_information, is_awaiting_acknowledgement, may_send_information, offer_among, with_one_sent, pending_is, start}
+use Rattle.laws_link.proofs.Vocabulary.{arith, ◌≡◌, List, [], ◌∷◌, Option, refl, subst, inl, All, IfSome, All-head, ControlFrame, Terms, Link, course, after, given, given_of, IsSound, IsWaitingFrame, Course, Sent, begun, IsInOrder, told_ways, offer, offer_among}
 use Rattle.laws_link.proofs.Alone.{may-go}
 use Rattle.laws_link.proofs.MayGo.{none-goes}
 

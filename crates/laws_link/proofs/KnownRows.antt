@@ -1,5 +1,5 @@
 -- What layer 3 is told is what becomes of the link: the rows by state, and every event.
-use Rattle.laws_link.proofs.Vocabulary.{arith, ◌≡◌, ℕ, Bool, true, false, List, [], ◌∷◌, Option, Some, None, refl, sym, subst, ◌∙◌, Control, Ua, Dm, ErrorCode, Refusal, State, TeiAssigned, AwaitingEstablishment, AwaitingRelease, Established, TimerRecovery, LinkTimer, T200, ControlFrame, Terms, Link, Course, begun, establish_in_4, Leads, then_leads, nothing_leads, depending_leads, known, is_up_in, is_up, Event, Request, cleared, expired, frame, offer, overlong, received, requested, undefined, wrong_size, offer_among, after, course, expired_in, frame_in, frame_step, is_running, malformed_in, told, told_of_clearing}
+use Rattle.laws_link.proofs.Vocabulary.{arith, ◌≡◌, ℕ, Bool, true, List, Option, Some, None, refl, sym, subst, ◌∙◌, Control, Ua, Dm, ErrorCode, Refusal, State, TeiAssigned, AwaitingEstablishment, AwaitingRelease, Established, TimerRecovery, LinkTimer, T200, Terms, Link, Course, begun, establish_in_4, Leads, then_leads, nothing_leads, depending_leads, known, is_up, Event, Request, frame, received, after, course, expired_in, frame_in, frame_step, malformed_in, told}
 use Rattle.model_link.specs.Requests
 use Rattle.laws_link.proofs.Knowing.{up_by, At, Ends, at_ends, established_up, zero_enters, words, ends, rows}
 

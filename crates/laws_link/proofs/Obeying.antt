@@ -1,5 +1,5 @@
 -- What obeying orders comes to.
-use Rattle.laws_link.proofs.Vocabulary.{arith, ◌≡◌, Bool, true, false, List, [], ◌∷◌, Option, sym, eq-eqb, cond, not, ◌&&◌, ◌++◌, ◌⊎◌, inl, State, LinkTimer, T200, T203, Terms, Link, begun, depending_leads, Order, Timer, runs, timer_at, orders_for, is_same, obeyed, IsTimed, IsTimedIn, StaysInStep, ComesInStep, Event, expired, course, expired_in, told}
+use Rattle.laws_link.proofs.Vocabulary.{arith, ◌≡◌, Bool, true, false, List, [], ◌∷◌, Option, eq-eqb, cond, not, ◌&&◌, inl, State, LinkTimer, T200, T203, Terms, Link, begun, depending_leads, Order, Timer, runs, timer_at, orders_for, is_same, obeyed, IsTimed, IsTimedIn, StaysInStep, ComesInStep, Event, expired, course, expired_in, told}
 use Rattle.laws_link.proofs.InStep.{comes-step}
 
 -- What obeying an event's orders comes to: orders for one timer, before or after those for the other.

@@ -1,5 +1,5 @@
 -- Frames that are put one after the other wait as far as there is room, and the others are lost.
-use Rattle.laws_link.proofs.Vocabulary.{◌≡◌, ℕ, zero, suc, ◌+◌, ◌-◌, ◌≤◌, true, false, cond, List, [], ◌∷◌, ◌++◌, length, take, drop, refl, ap, sym, ◌∙◌, arith, append-nil, append_assoc, length-append, ⊎_elim, nat_lt, cases_lt, lt-ltb, le-ltb, ControlFrame}
+use Rattle.laws_link.proofs.Vocabulary.{◌≡◌, ℕ, zero, suc, ◌+◌, ◌-◌, ◌≤◌, true, false, cond, List, [], ◌∷◌, ◌++◌, length, take, drop, refl, ap, sym, ◌∙◌, arith, append-nil, append_assoc, length-append, nat_lt, cases_lt, lt-ltb, le-ltb, ControlFrame}
 use Rattle.laws_link.proofs.Columns.{queued, unplaced}
 
 module _ (most : ℕ) where

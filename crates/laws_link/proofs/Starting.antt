@@ -1,5 +1,5 @@
 -- An offer leaves the timers that run.
-use Rattle.laws_link.proofs.Vocabulary.{arith, ◌≡◌, cond, List, [], ◌∷◌, Option, Some, None, IfSome, Start, Stop, ControlFrame, LinkTimer, T200, T203, Terms, Link, course, after, given, given_of, Course, Sent, begun, runs, timer_at, orders_for, LeavesTimers, told_ways, offer, offer_among}
+use Rattle.laws_link.proofs.Vocabulary.{arith, ◌≡◌, [], Option, None, IfSome, LinkTimer, Terms, Link, course, after, given, given_of, Course, Sent, orders_for, LeavesTimers, told_ways, offer}
 
 -- no order where no timer was started, and the same runs
 pub none-ordered : (t : Terms) (running : Option LinkTimer) → orders_for t running None running ≡ []

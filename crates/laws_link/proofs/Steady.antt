@@ -1,5 +1,5 @@
 -- What each event changes of V(S) and of own busy, and which events tell a loss.
-use Rattle.laws_link.proofs.Vocabulary.{arith, ◌≡◌, ℕ, ◌+◌, Bool, true, false, cond, ◌||◌, List, Option, None, Some, is_some, refl, ap, sym, ◌∙◌, subst, true≢false, ◌⊎◌, inl, inr, nat_lt, Seq, named, Control, Information, ReceiveReady, ReceiveNotReady, Reject, Sabme, Disc, Ui, Ua, Dm, Frmr, Xid, ErrorCode, Refusal, Parts, State, TeiAssigned, AwaitingEstablishment, AwaitingRelease, Established, TimerRecovery, LinkTimer, T200, T203, ControlFrame, Terms, Link, has_outstanding, Course, begun, Step, ◌then◌, Leads, is_release, tells_loss, empties, asked_from, AsksFrom, MovesSent, is_anew, MovesBusy, MayEndBy, MayLose, both_ways, Event, Received, Release, Request, cleared, expired, frame, offer, overlong, received, requested, undefined, wrong_size, by_number, clear_flags, discard, enter, error, establish_indication, peer_busy_is, re_establish, response, send, start, zero_numbers, frame_in_4, frame_in_5, frame_in_6, acknowledged_by_rej_in_7, frame_in_7, unsolicited, acknowledged_in_8, frame_in_8, offer_among, after, course, expired_in, expired_step, frame_in, frame_step, is_running, malformed_in, received_step, told}
+use Rattle.laws_link.proofs.Vocabulary.{arith, ◌≡◌, ℕ, ◌+◌, Bool, true, false, cond, ◌||◌, List, Option, None, Some, is_some, refl, ap, sym, ◌∙◌, subst, true≢false, ◌⊎◌, inl, inr, nat_lt, Seq, named, Control, Information, ReceiveReady, ReceiveNotReady, Reject, Sabme, Disc, Ui, Ua, Dm, Frmr, Xid, ErrorCode, Refusal, Parts, State, TeiAssigned, Established, TimerRecovery, LinkTimer, T200, T203, ControlFrame, Terms, Link, has_outstanding, Course, begun, Step, ◌then◌, Leads, is_release, tells_loss, empties, asked_from, AsksFrom, MovesSent, is_anew, MovesBusy, MayEndBy, MayLose, both_ways, Event, Received, Release, Request, expired, frame, offer, received, requested, by_number, clear_flags, discard, enter, error, establish_indication, peer_busy_is, re_establish, response, send, start, zero_numbers, frame_in_4, frame_in_5, frame_in_6, frame_in_7, acknowledged_in_8, frame_in_8, offer_among, after, course, expired_in, expired_step, frame_in, frame_step, malformed_in, received_step, told}
 use Rattle.model_link.specs.MultipleFrame
 use Rattle.model_link.specs.Requests
 use Rattle.laws_link.proofs.Ordinary.{Busy, Ordinary, begins, failed, words}

@@ -1,5 +1,5 @@
 -- A link that awaits something has its timer: the rows by state, and every event.
-use Rattle.laws_link.proofs.Vocabulary.{arith, ◌≡◌, ℕ, ◌+◌, Bool, true, false, cond, ◌&&◌, List, [], ◌∷◌, Option, Some, None, refl, subst, Control, Ua, Dm, ErrorCode, Refusal, State, TeiAssigned, AwaitingEstablishment, AwaitingRelease, Established, TimerRecovery, LinkTimer, T200, ControlFrame, Terms, Link, fresh, runs, Course, begun, changed, Leads, IsTimed, IsTimedIn, told_ways, Event, Request, cleared, expired, frame, offer, overlong, received, requested, undefined, wrong_size, pending_is, start, give_information, is_established, may_send_information, offer_among, with_one_sent, after, after_all, course, expired_in, frame_in, frame_step, is_running, malformed_in}
+use Rattle.laws_link.proofs.Vocabulary.{arith, ◌≡◌, ℕ, ◌+◌, Bool, true, false, cond, ◌&&◌, List, [], ◌∷◌, Option, Some, None, refl, Control, Ua, Dm, Refusal, State, TeiAssigned, AwaitingEstablishment, AwaitingRelease, Established, LinkTimer, T200, ControlFrame, Terms, Link, fresh, runs, Course, begun, changed, Leads, IsTimed, IsTimedIn, told_ways, Event, Request, frame, received, pending_is, start, give_information, is_established, offer_among, with_one_sent, after, after_all, course, expired_in, frame_in, frame_step}
 use Rattle.model_link.specs.Requests
 use Rattle.laws_link.proofs.Timing.{TimedBy, At, Ends, at_ends, failed_timed, ends, rows}
 

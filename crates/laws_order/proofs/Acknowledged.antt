@@ -1,7 +1,6 @@
 -- How many contents an observer has counted as acknowledged is V(A) of the link, while that is in state 7 or 8.
-use Rattle.laws_order.proofs.Vocabulary.{◌≡◌, ℕ, ◌+◌, ◌-◌, ◌%◌, ◌<◌, ◌≤◌, ◌==◌, ◌&&◌, ◌||◌, not, Bool, true, false, cond, List, [], ◌∷◌, ◌++◌, get_or, Option, Some, None, refl, sym, ap, ◌∙◌, subst, arith, eq-eqb, eqb-true, and_parts, append-nil, append_assoc, true≢false, all-left, nowhere, get_or-replicate, ◌⊎◌, inl, inr, fold, list_any, get_or-set_same, fold-append, Control, Parts, Service, place_of-is, State, AwaitingEstablishment, Terms, received, overlong, Link, is_multiple_frame, Config, IsInRange, Answer, refused, PoolFull, Line, fresh_line, link_of, place_in, terms, terms_in_range, line_at, has_lines, by_room, is_overlong, by_frame, state_after, event-follows, after, Goes, event-goes, off-fresh, fresh, at, Tally, no_tally, tallies, tally_of}
+use Rattle.laws_order.proofs.Vocabulary.{◌≡◌, ℕ, ◌+◌, ◌-◌, ◌%◌, ◌<◌, ◌≤◌, ◌==◌, ◌&&◌, ◌||◌, not, Bool, true, false, cond, List, [], ◌∷◌, ◌++◌, get_or, Option, Some, None, refl, sym, ap, ◌∙◌, subst, arith, eq-eqb, eqb-true, and_parts, append-nil, append_assoc, true≢false, all-left, nowhere, get_or-replicate, ◌⊎◌, inl, inr, fold, list_any, get_or-set_same, fold-append, Control, Parts, Service, place_of-is, State, AwaitingEstablishment, Terms, received, overlong, Link, is_multiple_frame, Config, IsInRange, Answer, refused, PoolFull, Line, fresh_line, link_of, place_in, terms, terms_in_range, line_at, has_lines, by_room, is_overlong, by_frame, state_after, event-follows, after, Goes, event-goes, off-fresh, fresh, at, Tally, no_tally, tallies, tally_of, LinkEvent, its, comes, here-at, IsSeenAs, seen-before, number-up, config-now, sound-now, moments-both, after_all-append, View, steps, views, view_of}
 use Rattle.model_link.specs.Deliveries.{restarts}
-use Rattle.model_link.specs.Events as link
 use Rattle.model_link.specs.Events.{frame}
 use Rattle.model_link.specs.Link.{state_number}
 use Rattle.model_link.specs.Sound.{IsSound}
@@ -25,13 +24,8 @@ use Rattle.laws_trace.proofs.LineAtEnd.{link-at-end}
 use Rattle.laws_trace.proofs.NewsRows.{sabme_of}
 use Rattle.laws_trace.proofs.NewsSeen.{one-begins, none-begins}
 use Rattle.laws_trace.proofs.ObservedFacts.{brings-is}
-use Rattle.laws_trace.proofs.Outgoing.{its, comes, here-at}
 use Rattle.laws_trace.proofs.Runs.{apart, nothing-seen}
-use Rattle.laws_trace.proofs.SeenAs.{IsSeenAs, seen-before, up-number}
-use Rattle.laws_trace.proofs.TimersAreTimely.{config-now, sound-now}
-use Rattle.laws_trace.proofs.Drained.{moments-both, after-both}
 use Rattle.laws_trace.specs.News.{brings, is_sabme}
-use Rattle.laws_trace.specs.Observer.{View, steps, views, view_of}
 use Rattle.laws_trace.specs.Trace.{is_up}
 use Rattle.laws_order.proofs.Down.{stays-down}
 
@@ -53,45 +47,26 @@ by-frame here command ct up = grind arith
 abbrev pub gone_on : Bool → Link → Link → ℕ
 gone_on anew k x = cond (up_in k.state && not anew) (k.a + steps (k.a % 128) (x.a % 128)) 0
 
-remains : (a n more : ℕ) → n ≡ a + more → more ≤ 127 → (128 + n % 128 - a % 128) % 128 ≡ more
-remains a n more is few = omega (arith, is, few)
-
 stepped : (a n more : ℕ) → n ≡ a + more → more ≤ 127 → n ≡ a + steps (a % 128) (n % 128)
-stepped a n more is few = is ∙ ap (λ m. a + m) (sym (remains a n more is few))
+stepped a n more is few = is ∙ ap (λ m. a + m) (sym (omega (arith, is, few)))
 
 module _ (t : Terms) (k : Link) where
-  abbrev Stays : link.Event → Type 0
+  abbrev Stays : LinkEvent → Type 0
   Stays e = up_in (after t e k).state ≡ true → restarts t e k ≡ (not (up_in k.state) || sabme_of e)
 
   too-long : (u : Bool) → up_in k.state ≡ u → up_in (cond (u && true) AwaitingEstablishment k.state) ≡ true → ⊥
   too-long u was up = grind arith
 
-  frame-begins : (f : Parts) → Stays (received (frame f))
-  frame-begins f up =
-      let x = event-follows t (received (frame f)) k in
-      x.numbers ∙ ap (λ to. states.numbers_begin (states.as_heard t (received (frame f))) k.state to) x.leaves.state
-      ∙ by-length (is_overlong t f.control f.info) (sym (ap is_multiple_frame x.leaves.state) ∙ up)
-    where
-      to : State
-      to = by_frame k.state f.address.command f.control
-
-      by-fault : (b : Bool) → Begins k.state f.control (cond b AwaitingEstablishment to)
-      by-fault b up = grind (arith, by-frame)
-
-      by-length : (long : Bool) → let e = received (cond long overlong (frame f)) in
-          up_in (state_after t e k) ≡ true → states.numbers_begin e k.state (state_after t e k) ≡ (not (up_in k.state) || is_sabme f.control)
-      by-length long up = grind (arith, too-long, by-fault, k)
-
-  other-begins : (e : link.Event) → (up_in k.state ≡ false → up_in (after t e k).state ≡ false) → (restarts t e k ≡ true → ⊥) → sabme_of e ≡ false → Stays e
+  other-begins : (e : LinkEvent) → (up_in k.state ≡ false → up_in (after t e k).state ≡ false) → (restarts t e k ≡ true → ⊥) → sabme_of e ≡ false → Stays e
   other-begins e down never none up = go (up_in k.state) refl (restarts t e k) refl
     where
       go : (u : Bool) → up_in k.state ≡ u → (b : Bool) → restarts t e k ≡ b → b ≡ (not u || sabme_of e)
       go u was b is = grind arith
 
-  begins : (e : link.Event) → Stays e
-  begins e up = grind (arith, frame-begins, event-follows, k, other-begins, stays-down, establishes)
+  begins : (e : LinkEvent) → Stays e
+  begins e up = grind (arith, by-frame, too-long, event-follows, k, other-begins, stays-down, establishes)
 
-  module _ (s : IsSound t k) (small : t.k ≤ 127) (e : link.Event) where
+  module _ (s : IsSound t k) (small : t.k ≤ 127) (e : LinkEvent) where
     abbrev next : Link
     next = after t e k
 
@@ -114,12 +89,8 @@ module _ (t : Terms) (k : Link) where
         go true was true anew = is true (ap (λ u. not u || sabme_of e) was ∙ anew)
         go true was false anew = on (empties t e k) (is false (ap (λ u. not u || sabme_of e) was ∙ anew))
 
--- a link that stays as it is
-still-goes : (k : Link) → up_in k.state ≡ true → k.a ≡ gone_on false k k
-still-goes k up = stepped k.a k.a 0 (omega arith) (omega arith) ∙ sym (ap (λ u. cond (u && true) (k.a + steps (k.a % 128) (k.a % 128)) 0) up)
-
 same-goes : (k x : Link) (anew : Bool) → x ≡ k → anew ≡ false → up_in x.state ≡ true → x.a ≡ gone_on anew k x
-same-goes k x anew is none up = grind (arith, still-goes)
+same-goes k x anew is none up = grind (arith, stepped)
 
 -- ---- a line, and a card
 
@@ -127,8 +98,7 @@ pub place-of : (service : Service) (tei : ℕ) (l : Line) → up_in (link_of ser
 place-of service tei l up = go (place_in l tei) refl
   where
     go : (o : Option ℕ) → place_in l tei ≡ o → (place : ℕ) × (place_in l tei ≡ Some place)
-    go None off = absurd (true≢false (sym up ∙ ap (λ (y : Link). up_in y.state) (off-fresh service tei l off)))
-    go (Some place) on = (place, on)
+    go o off = grind (arith, off-fresh)
 
 module _ (service : Service) (tei : ℕ) where
   abbrev GoesOn : Config → line_event.Event → Line → Line → Type 0
@@ -156,13 +126,10 @@ module _ (service : Service) (tei : ℕ) where
               same-goes k x (brings is_sabme c service tei e) same
               (sym (brings-is c service tei is_sabme e a) ∙ none-begins c service tei is_sabme l placed.0 placed.1 e h.aims a) up
       go (inr (inl h)) =
-          let t = terms c service tei in
           let sound = link-at-end c l ranged s service tei h.place h.placed in
           let small = (terms_in_range c ranged service tei (s.management.table.range h.place tei (place_of-is l.management.places tei h.place h.placed).1)).k_high in
           let anew = brings-is c service tei is_sabme e a in
-          subst (λ y. y.a ≡ gone_on (brings is_sabme c service tei e) k y) (sym h.is)
-          (event-goes-on t k sound small h.event (sym (ap (λ (y : Link). up_in y.state) h.is) ∙ up)
-          ∙ ap (λ b. gone_on b k (after t h.event k)) (sym (one-begins c service tei is_sabme e a h.event h.by) ∙ anew))
+          grind (arith, event-goes-on, one-begins)
       go (inr (inr h)) = absurd (true≢false (sym up ∙ ap (λ (y : Link). up_in y.state) h.is))
 
   card-goes : (card : Card) (number : ℕ) → card_sound.IsSound card → number < card.config.lines → (what : line_event.Event)
@@ -202,7 +169,7 @@ module _ (c : Config) (number : ℕ) (ranged : IsInRange c) (within : number < c
 
   line-then : (before : List Event) (e : Event) → its_link (before ++ e ∷ []) ≡ link_of service tei (line_at number (machine.after e (after_all (cards.fresh c) before)))
   unfolding after_all
-  line-then before e = ap (λ card. link_of service tei (line_at number card)) (after-both (cards.fresh c) before (e ∷ []))
+  line-then before e = ap (λ card. link_of service tei (line_at number card)) (after_all-append (cards.fresh c) before (e ∷ []))
 
   abbrev Has : List Event → Type 0
   Has events = up_in (its_link events).state ≡ true → counted events ≡ (its_link events).a
@@ -225,9 +192,7 @@ module _ (c : Config) (number : ℕ) (ranged : IsInRange c) (within : number < c
           up_in x.state ≡ true → x.a ≡ gone_on (brings is_sabme c service tei e.what) (its_link before) x) (sym (eqb-true e.line number own))
           (subst (λ (d : Config). GoesOn service tei d e.what (line_at number card) (line_at number (machine.after (at number e.what) card))) (config-now c before number ranged all within service tei)
           (card-goes service tei card number (sound-now c before number ranged all within service tei) (here-at c number ranged within service tei before all) e.what))
-      go false other =
-          same-goes (its_link before) (link_of service tei (line_at number (machine.after e card))) false
-          (ap (link_of service tei) (apart card e number (λ same. true≢false (sym (eq-eqb e.line number (sym same)) ∙ other)))) refl
+      go false other = grind (arith, same-goes, apart, eq-eqb)
 
   fresh-then : (before : List Event) → AreAtLines (cards.fresh c) before → (e : Event) → place_in (its c number ranged within service tei before) tei ≡ None → its_link (before ++ e ∷ []) ≡ fresh
   fresh-then before all e off = line-then before e ∙ go (e.line == number) refl
@@ -239,8 +204,7 @@ module _ (c : Config) (number : ℕ) (ranged : IsInRange c) (within : number < c
       go true own =
           subst (λ n. link_of service tei (line_at number (machine.after (at n e.what) card)) ≡ fresh) (sym (eqb-true e.line number own))
           (comes card number e.what (sound-now c before number ranged all within service tei) (here-at c number ranged within service tei before all) service tei off)
-      go false other =
-          ap (link_of service tei) (apart card e number (λ same. true≢false (sym (eq-eqb e.line number (sym same)) ∙ other))) ∙ off-fresh service tei (line_at number card) off
+      go false other = grind (arith, apart, eq-eqb, off-fresh)
 
   -- In one moment.
   has-then : (before : List Event) → AreAtLines (cards.fresh c) before → Has before → (e : Event) → AreAtLines (cards.fresh c) (before ++ e ∷ []) → Has (before ++ e ∷ [])
@@ -268,8 +232,8 @@ module _ (c : Config) (number : ℕ) (ranged : IsInRange c) (within : number < c
       numbers None off = absurd (true≢false (sym up ∙ ap (λ (y : Link). up_in y.state) (fresh-then before all e off)))
       numbers (Some p) on =
           ap (λ s. cond (is_up s && is_up now.link.state && not (anew_by e)) (counted before + steps was.link.acknowledged now.link.acknowledged) 0) seen-k.state_is
-          ∙ ap (λ u. cond (u && is_up now.link.state && not (anew_by e)) (counted before + steps was.link.acknowledged now.link.acknowledged) 0) (up-number k.state)
-          ∙ ap (λ v. cond (up_in k.state && v && not (anew_by e)) (counted before + steps was.link.acknowledged now.link.acknowledged) 0) (ap is_up seen-x.state_is ∙ up-number x.state ∙ up)
+          ∙ ap (λ u. cond (u && is_up now.link.state && not (anew_by e)) (counted before + steps was.link.acknowledged now.link.acknowledged) 0) (number-up k.state)
+          ∙ ap (λ v. cond (up_in k.state && v && not (anew_by e)) (counted before + steps was.link.acknowledged now.link.acknowledged) 0) (ap is_up seen-x.state_is ∙ number-up x.state ∙ up)
           ∙ by-state (up_in k.state) refl
         where
           seen-k : IsSeenAs k was.link

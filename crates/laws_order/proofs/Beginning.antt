@@ -1,14 +1,10 @@
 -- Two ends that are in step to whoever watches them face each other as links do.
-use Rattle.laws_order.proofs.Vocabulary.{is_some, has_tei, on-line, LineTold, ◌≡◌, ℕ, zero, suc, ◌+◌, ◌-◌, ◌<◌, ◌≤◌, ◌==◌, true, false, IsTrue, List, [], ◌∷◌, ◌++◌, map, length, take, drop, slice_get, Option, Some, None, refl, sym, ap, ◌∙◌, subst, arith, length-drop, true≢false, All-append, All-cons, All-nil, option_map, option_map_or, unwrap_or, Control, Service, Parts, ControlFrame, State, TeiAssigned, AwaitingRelease, Terms, T200, Link, is_multiple_frame, frame_of, state_number, Direction, frames_of, Carried, Means, Piece, Rising, Config, IsInRange, Line, link_in, link_of, place_in, terms, line_at, fresh_is_sound, frames_always_sound, Station, Wire, Act, requests, times_out, gives, takes, loses, turned, happens, Doing, station, assigned, calling, came, hears, expiry, request, next, Assign, Event, at, state_here, of_link_on, Past, Known, known, said_by, IsOfStep, AreOfStep, IsInStep, FaceInStep, kept_by}
-use Rattle.std.proofs.lemmas.List.{length-take}
+use Rattle.laws_order.proofs.Vocabulary.{is_some, has_tei, on-line, LineTold, ◌≡◌, ℕ, zero, suc, ◌+◌, ◌-◌, ◌<◌, ◌≤◌, ◌==◌, true, false, IsTrue, List, [], ◌∷◌, ◌++◌, map, length, take, drop, slice_get, Option, Some, None, refl, sym, ap, ◌∙◌, subst, arith, length-drop, true≢false, All-append, All-cons, All-nil, option_map, option_map_or, unwrap_or, Control, Service, Parts, ControlFrame, State, TeiAssigned, AwaitingRelease, Terms, T200, Link, is_multiple_frame, frame_of, state_number, Direction, frames_of, Carried, Means, Piece, Rising, Config, IsInRange, Line, link_in, link_of, place_in, terms, line_at, fresh_is_sound, frames_always_sound, Station, Wire, Act, requests, times_out, gives, takes, loses, turned, happens, Doing, station, assigned, calling, came, hears, expiry, request, next, Assign, Event, at, state_here, of_link_on, Past, Known, known, said_by, IsOfStep, AreOfStep, IsInStep, FaceInStep, kept_by, FramesEvent, its, here-at, view-is, kept-now, seen-before, number-up, timely-now, after_all-append, View, length-take, link_number, state_in, window, Establish}
 use Rattle.std.specs.Prelude.{min}
 use Rattle.std.proofs.lemmas.List.{drop-drop}
 use Rattle.model_link.specs.Link.{fresh as fresh_link}
-use Rattle.model_line.specs.Line.{link_number, state_in, window}
-use Rattle.model_line.specs.Request.{Establish}
 use Rattle.model_link.proofs.Direction.{line_of}
 use Rattle.model_card.specs.Card.{fresh}
-use Rattle.model_card.specs.Event as card
 use Rattle.model_card.specs.Machine as machine
 use Rattle.model_card.specs.Run.{after_all, IsAtLine}
 use Rattle.model_card.specs.Sound as card_sound
@@ -16,13 +12,8 @@ use Rattle.laws_link.specs.two.Needed.{needed_in}
 use Rattle.laws_line.specs.Timers.{HaveTheirTimers}
 use Rattle.laws_trace.proofs.DeliveriesKept.{run-stands}
 use Rattle.laws_trace.proofs.ObservedAcknowledged.{agrees-now}
-use Rattle.laws_trace.proofs.Outgoing.{its, here-at, view-is, kept-now}
 use Rattle.laws_trace.proofs.Plain.{all-wait}
-use Rattle.laws_trace.proofs.SeenAs.{seen-before, up-number}
-use Rattle.laws_trace.proofs.TimersAreTimely.{timely-now}
-use Rattle.laws_trace.proofs.Drained.{after-both}
 use Rattle.laws_trace.proofs.WaitingNow.{waiting-now}
-use Rattle.laws_trace.specs.Observer.{View}
 use Rattle.laws_trace.specs.Trace.{is_up}
 use Rattle.laws_wire.specs.Wire.{acting, at_near, at_far, doing, doing_all, with_first_of}
 use Rattle.laws_order.proofs.Acknowledged.{place-of, acknowledged-now}
@@ -31,23 +22,20 @@ use Rattle.laws_order.proofs.Pairs.{link_here, facing, Pair, IsWell, proper}
 -- ---- stations and their pasts
 
 pub past-well : (s : Station) → Past s → IsWell s
-past-well s p = record {
-  sound = subst card_sound.IsSound (sym p.is) (frames_always_sound (fresh s.card.config) p.events (fresh_is_sound s.card.config p.line.0) p.at_lines);
-  within = p.line.1;
-}
+past-well s p = assumption (subst card_sound.IsSound (sym p.is) (frames_always_sound (fresh s.card.config) p.events (fresh_is_sound s.card.config p.line.0) p.at_lines))
 
 -- from the start of a card, and one event more, of whatever line
 pub past-begun : (c : Config) (line : ℕ) → IsInRange c → line < c.lines → Past (station c line)
 unfolding after_all
 past-begun c line ranged within = record { events = []; at_lines = All-nil (IsAtLine (fresh c)); is = refl; line = (ranged, within) }
 
-pub past-event : (s : Station) (e : card.Event) (way granted : List (List ℕ)) (told : List LineTold) → Past s → e.line < s.card.config.lines
+pub past-event : (s : Station) (e : FramesEvent) (way granted : List (List ℕ)) (told : List LineTold) → Past s → e.line < s.card.config.lines
     → Past (record { card = machine.after e s.card; line = s.line; way = way; granted = granted; told = told })
 unfolding after_all
 past-event s e way granted told p here = record {
   events = p.events ++ e ∷ [];
   at_lines = All-append (IsAtLine (fresh s.card.config)) p.events (e ∷ []) p.at_lines (All-cons (IsAtLine (fresh s.card.config)) e [] here (All-nil (IsAtLine (fresh s.card.config))));
-  is = ap (machine.after e) p.is ∙ sym (after-both (fresh s.card.config) p.events (e ∷ []));
+  is = ap (machine.after e) p.is ∙ sym (after_all-append (fresh s.card.config) p.events (e ∷ []));
   line = p.line;
 }
 
@@ -67,10 +55,7 @@ past-first (octets ∷ rest) s p = past-happens s p (hears (came s.card.config.n
 
 pub past-acted : (act : Act) (w : Wire) → Pasts w → Pasts (acting act w)
 past-acted (requests r) w h = record { near = past-happens w.near h.near (request r); far = h.far }
-past-acted (times_out timer) w h = record { near = past-happens w.near h.near (expiry timer); far = h.far }
-past-acted gives w h = record { near = past-happens w.near h.near next; far = h.far }
-past-acted takes w h = record { near = past-first w.far.way w.near h.near; far = past-same w.far _ _ _ h.far }
-past-acted loses w h = record { near = past-same w.near _ _ _ h.near; far = h.far }
+past-acted act w h = grind (arith, past-happens, past-first, past-same)
 
 pub past-done : (d : Doing) (w : Wire) → Pasts w → Pasts (doing d w)
 past-done (at_near act) w h = past-acted act w h
@@ -117,9 +102,7 @@ module _ (service : Service) (tei : ℕ) where
       told : n.told ≡ l.r
       told =
           let seen = seen-before c p.events s.line p.line.0 p.at_lines p.line.1 service tei placed.0 placed.1 in
-          ap (λ (v : View). v.link.count) (view-is c s.line p.line.0 p.line.1 service tei p.events)
-          ∙ (agrees-now c p.events s.line p.line.0 p.at_lines p.line.1 service tei (ap is_up seen.state_is ∙ up-number l.state ∙ up)).count_is
-          ∙ sym ((run-stands c p.events s.line p.line.0 p.at_lines p.line.1 service tei).1 up)
+          grind (arith, view-is, agrees-now, number-up, run-stands)
 
       acknowledged : n.acknowledged ≡ l.a
       acknowledged = acknowledged-now c s.line p.line.0 p.line.1 service tei p.events p.at_lines up
@@ -141,27 +124,19 @@ module _ (service : Service) (tei : ℕ) where
     where
       go : (o : Option ℕ) → let l = line_at s.line s.card in
           option_map_or is_up (option_map (state_in l service) o) false ≡ is_multiple_frame (option_map_or (link_in l service) o fresh_link).state
-      go o = grind (arith, up-number)
-
-  six-is : (state : State) → (state_number state == 6) ≡ true → state ≡ AwaitingRelease
-  six-is state e = grind arith
-
-  four-is : (state : State) → (state_number state == 4) ≡ true → state ≡ TeiAssigned
-  four-is state e = grind arith
+      go o = grind (arith, number-up)
 
   pub six-here : (s : Station) → state_here service tei s ≡ Some 6 → (link_here service tei s).state ≡ AwaitingRelease
   six-here s = go (place_in (line_at s.line s.card) tei)
     where
       go : (o : Option ℕ) → let l = line_at s.line s.card in option_map (state_in l service) o ≡ Some 6 → (option_map_or (link_in l service) o fresh_link).state ≡ AwaitingRelease
-      go None e = absurd (true≢false (sym (ap (λ o. option_map_or (λ n. n == 6) o false) e)))
-      go (Some place) e = six-is (link_in (line_at s.line s.card) service place).state (ap (λ o. option_map_or (λ n. n == 6) o false) e)
+      go o e = grind arith
 
   pub four-here : (s : Station) → unwrap_or (state_here service tei s) 4 ≡ 4 → (link_here service tei s).state ≡ TeiAssigned
   four-here s = go (place_in (line_at s.line s.card) tei)
     where
       go : (o : Option ℕ) → let l = line_at s.line s.card in unwrap_or (option_map (state_in l service) o) 4 ≡ 4 → (option_map_or (link_in l service) o fresh_link).state ≡ TeiAssigned
-      go None e = refl
-      go (Some place) e = four-is (link_in (line_at s.line s.card) service place).state (ap (λ n. n == 4) e)
+      go o e = grind arith
 
   pub on-here : (s : Station) → is_some (state_here service tei s) ≡ true → has_tei tei (line_at s.line s.card) ≡ true
   on-here s = go (place_in (line_at s.line s.card) tei) refl
@@ -182,9 +157,7 @@ module _ (service : Service) (tei : ℕ) where
 
       go : (o : Option ℕ) → let l = option_map_or (link_in (line_at s.line s.card) service) o fresh_link in l.state ≡ AwaitingRelease → l.running ≡ Some T200
       go None is = absurd (true≢false (sym (ap (λ x. state_number x == 6) is)))
-      go (Some place) is =
-          let l = link_in (line_at s.line s.card) service place in
-          (timed.links (link_number place service)).running ∙ ap (λ x. needed_in x l) is
+      go (Some place) is = (timed.links (link_number place service)).running ∙ ap (λ x. needed_in x (link_in (line_at s.line s.card) service place)) is
 
 -- ---- what is in step is what two links that face each other have on the line
 
@@ -201,19 +174,13 @@ some-kept : (r a k : ℕ) (kept : List (List ℕ)) → r ≤ a + length (take k 
 some-kept r a k kept low = let size : length (take k kept) ≡ min k (length kept) = length-take k kept in (omega (arith, low, size), omega (arith, low, size))
 
 module _ (k : ℕ) (l : Link) (small : k ≤ 127) where
-  piece-of : (r m : ℕ) → m ≤ l.a + k → (octets : List ℕ) (control : Control) → IsOfStep k (known_of l) r octets control → Piece l.contents (l.a + k) m (l.a + k) octets control
-  piece-of r m high octets control h = grind (arith, get-dropped)
-
   carried-of : (low m : ℕ) → m ≤ l.a + k → (fs : List Parts) → AreOfStep k (known_of l) low fs → Carried l.contents (l.a + k) m fs
   carried-of low m high [] h = high
-  carried-of low m high (f ∷ fs) (r, up, x, h) = (l.a + k, high, piece-of r m high f.info f.control x, carried-of r (l.a + k) (omega arith) fs h)
-
-means-of : (k : ℕ) (n : Known) (r : ℕ) (octets : List ℕ) (control : Control) → IsOfStep k n r octets control → Means r control
-means-of k n r octets control h = grind arith
+  carried-of low m high (f ∷ fs) (r, up, x, h) = (l.a + k, high, (grind (arith, get-dropped)), carried-of r (l.a + k) (omega arith) fs h)
 
 rising-of : (k : ℕ) (n : Known) (low : ℕ) (fs : List Parts) → AreOfStep k n low fs → Rising low n.told fs
 rising-of k n low [] h = h
-rising-of k n low (f ∷ fs) (r, up, x, h) = (r, up, means-of k n r f.info f.control x, rising-of k n r fs h)
+rising-of k n low (f ∷ fs) (r, up, x, h) = (r, up, (grind arith), rising-of k n r fs h)
 
 frames-mapped : (t : Terms) (ws : List ControlFrame) → frames_of t ws ≡ map (frame_of t) ws
 frames-mapped t [] = refl
@@ -227,9 +194,6 @@ module _ (service : Service) (tei : ℕ) where
   abbrev pub had : Station → Station → List (List ℕ)
   had s u = take (link_here service tei u).r (link_here service tei s).contents
 
-  up-of : (s : Station) (n m : Known) → IsInStep service tei s n m → IsTrue (is_multiple_frame (link_here service tei s).state)
-  up-of s n m b = sym (up-here service tei s) ∙ b.up
-
   line-is : (s : Station) (ds : List (List ℕ)) → said_by service tei s (link_known s) ≡ line_of (facing service tei s ds)
   line-is s ds = ap (λ fs. of_link_on service tei s.card.config.side s.way ++ fs) (sym (frames-mapped (terms s.card.config service tei) (link_here service tei s).waiting))
 
@@ -239,46 +203,35 @@ module _ (service : Service) (tei : ℕ) where
       let l = link_here service tei s in
       let r = (link_here service tei u).r in
       let k = window s.card.config service in
-      let its = proper service tei s well (up-of s (link_known s) (link_known u) b) in
+      let its = proper service tei s well (sym (up-here service tei s) ∙ b.up) in
       let both = some-kept r l.a k (drop l.a l.contents) b.kept in
       let all = both.0 in
       let most = both.1 in
       let few : length (drop l.a l.contents) ≡ length l.contents - l.a = length-drop l.a l.contents in
       let low : l.a ≤ l.s = its.sound.ordered in
       let high : l.s ≤ length l.contents = its.sound.accepted in
-      record {
-        carried =
-            subst (Carried l.contents (l.a + k) r) (line-is s ds)
-            (carried-of k l its.ranges.k_high (link_here service tei u).a r most (said_by service tei s (link_known s)) b.said);
-        rising =
-            subst (Rising l.a r) (line-is u (had s u))
-            (rising-of (window u.card.config service) (link_known u) l.a (said_by service tei u (link_known u)) d.said);
-        delivered = refl;
-        accepted = omega (arith, all, few, low, high);
-      }
+      grind (arith, line-is, carried-of, link_here, rising-of)
 
   -- what is known of two ends is what their links have
   pub from-links : (w : Wire) (p : Past w.near) (q : Past w.far) → IsTrue (is_multiple_frame (link_here service tei w.near).state)
       → IsTrue (is_multiple_frame (link_here service tei w.far).state) → (P : Known → Known → Type 0) → P (link_known w.near) (link_known w.far)
       → P (known service tei w.near p) (known service tei w.far q)
-  from-links w p q up others P h =
-      subst (λ n. P n (known service tei w.far q)) (sym (known-is service tei w.near p up)) (subst (P (link_known w.near)) (sym (known-is service tei w.far q others)) h)
+  from-links w p q up others P h = grind (arith, known-is)
 
   to-links : (w : Wire) (p : Past w.near) (q : Past w.far) → IsTrue (is_multiple_frame (link_here service tei w.near).state)
       → IsTrue (is_multiple_frame (link_here service tei w.far).state) → (P : Known → Known → Type 0) → P (known service tei w.near p) (known service tei w.far q)
       → P (link_known w.near) (link_known w.far)
-  to-links w p q up others P h =
-      subst (λ n. P n (link_known w.far)) (known-is service tei w.near p up) (subst (P (known service tei w.near p)) (known-is service tei w.far q others) h)
+  to-links w p q up others P h = grind (arith, known-is)
 
   pub step-known : (w : Wire) (p : Past w.near) (q : Past w.far) → FaceInStep service tei w (link_known w.near) (link_known w.far)
       → FaceInStep service tei w (known service tei w.near p) (known service tei w.far q)
-  step-known w p q h = from-links w p q (up-of w.near _ _ h.0) (up-of w.far _ _ h.1) (FaceInStep service tei w) h
+  step-known w p q h = from-links w p q (sym (up-here service tei w.near) ∙ h.0.up) (sym (up-here service tei w.far) ∙ h.1.up) (FaceInStep service tei w) h
 
   pub begins-pair : (w : Wire) (p : Past w.near) (q : Past w.far) → FaceInStep service tei w (known service tei w.near p) (known service tei w.far q)
       → Pair service tei w (had w.far w.near) (had w.near w.far)
   begins-pair w p q known-step =
-      let up = up-of w.near _ _ known-step.0 in
-      let others-up = up-of w.far _ _ known-step.1 in
+      let up = (sym (up-here service tei w.near) ∙ known-step.0.up) in
+      let others-up = (sym (up-here service tei w.far) ∙ known-step.1.up) in
       let h = to-links w p q up others-up (FaceInStep service tei w) known-step in
       let near = past-well w.near p in
       let far = past-well w.far q in
@@ -288,16 +241,7 @@ module _ (service : Service) (tei : ℕ) where
         near = near;
         far = far;
         sides = h.2;
-        joined = record {
-          near_ranges = its.ranges;
-          far_ranges = others.ranges;
-          near_sound = its.sound;
-          far_sound = others.sound;
-          near_up = up;
-          far_up = others-up;
-          there = begins-one w.near w.far near h.0 h.1 (had w.far w.near);
-          back = begins-one w.far w.near far h.1 h.0 (had w.near w.far);
-        };
+        joined = (grind (arith, begins-one w.near w.far near h.0 h.1 (had w.far w.near), begins-one w.far w.near far h.1 h.0 (had w.near w.far)));
       }
 
   -- and what is kept of it

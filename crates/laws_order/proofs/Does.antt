@@ -1,13 +1,10 @@
 -- What an event of a line is to the link of a service with a TEI that is in state 7 or 8.
-use Rattle.laws_order.proofs.Vocabulary.{arith, ◌≡◌, ℕ, ◌==◌, ◌&&◌, ◌||◌, not, Bool, true, false, cond, IsTrue, List, [], ◌∷◌, ◌++◌, Option, Ok, refl, sym, ap, ◌∙◌, subst, eq-eqb, true≢false, ◌⊎◌, inl, inr, All, fold, is_some, option_to_list, unwrap_or, list_any, option_or, option_map_or, All-head, All-tail, Ui, Note, Service, Parts, reading, sapi_of, information_of, State, Terms, Link, is_multiple_frame, address_at, Config, hears, expiry, request, next, Answer, heard_side, Line, link_in, link_of, terms, aim_of, accepted, is_up_in, notes_of, contents_in, up_by_note, link_is_up, is_up_of, of_link, is_granted, IsBy, timer_of, link-grants, not-refused, same-sapi, sapi-is, known-up, is_for, frame_in, is_own, seen, is_ui, unless, granted-data, data-noted, no-data, frames_given, is_at_link, HasOne, IsForeign, HasNone, event-goes, read-again, frames_by, fresh, Event, is_of_link, of_link_in, data_noted, data_granted, ends_by_note, ends_by, of_link_on}
+use Rattle.laws_order.proofs.Vocabulary.{arith, ◌≡◌, ℕ, ◌==◌, ◌&&◌, ◌||◌, not, Bool, true, false, cond, IsTrue, List, [], ◌∷◌, ◌++◌, Option, Ok, refl, sym, ap, ◌∙◌, subst, eq-eqb, true≢false, ◌⊎◌, inl, inr, All, fold, is_some, option_to_list, unwrap_or, list_any, option_or, option_map_or, All-head, All-tail, Ui, Note, Service, Parts, reading, sapi_of, information_of, State, Terms, Link, is_multiple_frame, address_at, Config, hears, expiry, request, next, Answer, heard_side, Line, link_in, link_of, terms, aim_of, accepted, is_up_in, notes_of, contents_in, up_by_note, link_is_up, is_up_of, of_link, is_granted, IsBy, timer_of, link-grants, not-refused, same-sapi, sapi-is, known-up, is_for, frame_in, is_own, seen, is_ui, unless, granted-data, data-noted, no-data, frames_given, is_at_link, HasOne, IsForeign, HasNone, event-goes, read-again, frames_by, fresh, Event, is_of_link, of_link_in, data_noted, data_granted, ends_by_note, ends_by, of_link_on, stream_frame, link_frame, LinkEvent, Release, cleared, requested, overlong, undefined, wrong_size, offer, expired, received, NoteEstablishIndication, NoteData, NoteReleaseIndication, NoteRemoved, NoteEstablishConfirm, NoteError, NoteXid, NoteAssigned, NoteReleaseConfirm, NoteDoubled, NoteUnit, or-true, event-follows}
 use Rattle.laws_trace.proofs.DataAsked.{elsewhere}
-use Rattle.model_bits.specs.Stream as stream
-use Rattle.lapd_frame.specs.declared.notes.Note.TheVariants as notes
-use Rattle.model_link.specs.Events as link
 use Rattle.model_link.specs.Machine as links
 use Rattle.model_line.specs.Machine as lines
 use Rattle.model_line.specs.Sound as line_sound
-use Rattle.laws_order.proofs.LinkEnds.{or-true, Ended, own, Leaves, IsNoRelease, event-leaves, Fallen, undefined-falls, wrong-size-falls, overlong-falls, release-falls, unit-data-stays}
+use Rattle.laws_order.proofs.LinkEnds.{Ended, own, Leaves, IsNoRelease, event-leaves, Fallen, undefined-falls, wrong-size-falls, overlong-falls, unit-data-stays}
 use Rattle.laws_order.proofs.Shown.{fits, same-frames, noted-is, asked_in, granted-is, ends-is, request-ends}
 
 -- Where the notes of a link that was up say that it is down, one of them ends it.
@@ -26,49 +23,43 @@ module _ (service : Service) (tei : ℕ) where
 
   falls : (ns : List Note) → Falls true ns
   falls [] h up = absurd (true≢false h)
-  falls (notes.EstablishIndication of by ∷ ns) h up = up-on (is_own service tei of by) ns (falls ns) h
-  falls (notes.EstablishConfirm of by ∷ ns) h up = up-on (is_own service tei of by) ns (falls ns) h
-  falls (notes.ReleaseIndication of by ∷ ns) h up = down-on (is_own service tei of by) ns (falls ns) h
-  falls (notes.ReleaseConfirm of by ∷ ns) h up = down-on (is_own service tei of by) ns (falls ns) h
-  falls (notes.Data of by ∷ ns) h up = falls ns h refl
-  falls (notes.Unit of by ∷ ns) h up = falls ns h refl
-  falls (notes.Error of by why ∷ ns) h up = behind (ends_by_note service tei (notes.Error of by why)) ns (falls ns h refl)
-  falls (notes.Assigned by ∷ ns) h up = falls ns h refl
-  falls (notes.Removed by ∷ ns) h up = falls ns h refl
-  falls (notes.Doubled by ∷ ns) h up = falls ns h refl
-  falls (notes.Xid of by ∷ ns) h up = falls ns h refl
+  falls (NoteEstablishIndication of by ∷ ns) h up = up-on (is_own service tei of by) ns (falls ns) h
+  falls (NoteEstablishConfirm of by ∷ ns) h up = up-on (is_own service tei of by) ns (falls ns) h
+  falls (NoteReleaseIndication of by ∷ ns) h up = down-on (is_own service tei of by) ns (falls ns) h
+  falls (NoteReleaseConfirm of by ∷ ns) h up = down-on (is_own service tei of by) ns (falls ns) h
+  falls (NoteData of by ∷ ns) h up = falls ns h refl
+  falls (NoteUnit of by ∷ ns) h up = falls ns h refl
+  falls (NoteError of by why ∷ ns) h up = behind (ends_by_note service tei (NoteError of by why)) ns (falls ns h refl)
+  falls (NoteAssigned by ∷ ns) h up = falls ns h refl
+  falls (NoteRemoved by ∷ ns) h up = falls ns h refl
+  falls (NoteDoubled by ∷ ns) h up = falls ns h refl
+  falls (NoteXid of by ∷ ns) h up = falls ns h refl
 
   -- a link in state 7 or 8 is up, and one that begins is not
   state-up : (state : State) (k : Link) → is_multiple_frame state ≡ true → is_up_in state k ≡ true
   state-up state k up = grind arith
-
-  was-up : (l : Line) (o : Option ℕ) → is_multiple_frame (option_map_or (link_in l service) o fresh).state ≡ true → option_map_or (link_is_up service l) o false ≡ true
-  was-up l o up = grind (arith, state-up)
 
   is-down : (l : Line) (o : Option ℕ) → option_map_or (link_in l service) o fresh ≡ fresh → option_map_or (link_is_up service l) o false ≡ false
   is-down l o new = grind arith
 
   pub fresh-ends : (l l' : Line) (ns : List Note) → is_multiple_frame (link_of service tei l).state ≡ true → link_of service tei l' ≡ fresh
       → fold (up_by_note service tei) (is_up_of service tei l) ns ≡ is_up_of service tei l' → list_any (ends_by_note service tei) ns ≡ true
-  fresh-ends l l' ns up new known = grind (arith, falls, was-up, is-down)
+  fresh-ends l l' ns up new known = grind (arith, falls, state-up, is-down)
 
 module _ (c : Config) (service : Service) (tei : ℕ) where
   abbrev pub Own : Terms
   Own = terms c service tei
 
   -- Frames of other links and of TEI management, and unit data, are none of the link.
-  unit-none : (b : Bool) (f : Parts) → cond {A = List Parts} (b && false) (f ∷ []) [] ≡ []
-  unit-none b f = grind arith
-
   foreign : (frame : List ℕ) → IsForeign c service tei frame → of_link_in service tei (reading c.side frame) ≡ []
   foreign frame (inl x) =
       ap (λ o. of_link_in service tei (reading c.side o)) x.1
       ∙ read-again c.side (λ r. of_link_in service tei r ≡ []) (record { sapi = 63; command = true; tei = 127 }) (Ui false)
-      (λ info. unit-none (63 == sapi_of service && 127 == tei) _) (λ fault. refl) (information_of x.0)
+      (λ info. grind arith) (λ fault. refl) (information_of x.0)
   foreign frame (inr (inl x)) =
       ap (λ o. of_link_in service tei (reading c.side o)) x.1
       ∙ read-again c.side (λ r. of_link_in service tei r ≡ []) (record { sapi = sapi_of x.0.service; command = true; tei = x.0.tei }) (Ui false)
-      (λ info. unit-none (sapi_of x.0.service == sapi_of service && x.0.tei == tei) _) (λ fault. refl) x.0.contents
+      (λ info. grind arith) (λ fault. refl) x.0.contents
   foreign frame (inr (inr x)) =
       let t = x.0 in
       let g = x.1 in
@@ -85,16 +76,16 @@ module _ (c : Config) (service : Service) (tei : ℕ) where
       ∙ all-foreign xs (All-tail (IsForeign c service tei) x xs h)
 
   -- Which event of the line an event of the link is.
-  abbrev pub IsKind : Event → link.Event → Type 0
-  IsKind e (link.received (link.frame f)) =
-      (octets : List ℕ) × (e ≡ hears (stream.frame octets)) × (reading (heard_side c) octets ≡ Ok f) × (is_of_link service tei f ≡ true)
-  IsKind e (link.expired timer) = e ≡ expiry (timer_of service tei timer)
-  IsKind e (link.requested asked full) = e ≡ request (of_link service tei asked)
-  IsKind e link.offer = e ≡ next
+  abbrev pub IsKind : Event → LinkEvent → Type 0
+  IsKind e (received (link_frame f)) =
+      (octets : List ℕ) × (e ≡ hears (stream_frame octets)) × (reading (heard_side c) octets ≡ Ok f) × (is_of_link service tei f ≡ true)
+  IsKind e (expired timer) = e ≡ expiry (timer_of service tei timer)
+  IsKind e (requested asked full) = e ≡ request (of_link service tei asked)
+  IsKind e offer = e ≡ next
   IsKind e other = ⊥
 
   pub record Has (k k' : Link) (e : Event) (a : Answer) : Type 0 where
-    pub event : link.Event
+    pub event : LinkEvent
     pub kind : IsKind e event
     pub is : k' ≡ links.after Own event k
     pub up : IsTrue (is_multiple_frame k'.state)
@@ -117,33 +108,26 @@ module _ (c : Config) (service : Service) (tei : ℕ) where
   Does k k' e a = IsOver k' e a ⊎ LeavesIt k k' e a ⊎ Has k k' e a
 
   -- What event of the link it is: one that the grammar does not have, a release, unit data, or another.
-  data Comes (e : Event) (a : Answer) (ev : link.Event) : Type 0 where
-    is_malformed : (ev ≡ link.received link.undefined) ⊎ (ev ≡ link.received link.wrong_size) ⊎ (ev ≡ link.received link.overlong) → Comes e a ev
-    is_release : (full : Bool) → ev ≡ link.requested link.Release full → e ≡ request (of_link service tei link.Release) → is_granted a ≡ true → Comes e a ev
-    is_unit : (f : Parts) → ev ≡ link.received (link.frame f) → is_ui f.control ≡ true → (octets : List ℕ) → e ≡ hears (stream.frame octets) → Comes e a ev
+  data Comes (e : Event) (a : Answer) (ev : LinkEvent) : Type 0 where
+    is_malformed : (ev ≡ received undefined) ⊎ (ev ≡ received wrong_size) ⊎ (ev ≡ received overlong) → Comes e a ev
+    is_release : (full : Bool) → ev ≡ requested Release full → e ≡ request (of_link service tei Release) → is_granted a ≡ true → Comes e a ev
+    is_unit : (f : Parts) → ev ≡ received (link_frame f) → is_ui f.control ≡ true → (octets : List ℕ) → e ≡ hears (stream_frame octets) → Comes e a ev
     is_plain : IsKind e ev → IsNoRelease Own ev → Comes e a ev
 
-  comes-as : (e : Event) (a : Answer) (ev : link.Event) → IsBy c e a service tei ev → Comes e a ev
-  comes-as e a (link.received (link.frame f)) by = go (is_ui f.control) refl
+  comes-as : (e : Event) (a : Answer) (ev : LinkEvent) → IsBy c e a service tei ev → Comes e a ev
+  comes-as e a (received (link_frame f)) by = go (is_ui f.control) refl
     where
-      go : (b : Bool) → is_ui f.control ≡ b → Comes e a (link.received (link.frame f))
+      go : (b : Bool) → is_ui f.control ≡ b → Comes e a (received (link_frame f))
       go true is = is_unit f refl is by.octets by.by
-      go false is =
-          let for-it : is_for service tei f.address ≡ true =
-          ap (λ b. b && f.address.tei == tei) (eq-eqb f.address.sapi (sapi_of service) (sapi-is f.address.sapi service by.sapi)) ∙ eq-eqb f.address.tei tei by.tei_is in
-          is_plain (by.octets, by.by, by.read, ap (λ b. b && not (is_ui f.control)) for-it ∙ ap not is) tt
-  comes-as e a (link.received link.undefined) by = is_malformed (inl refl)
-  comes-as e a (link.received link.wrong_size) by = is_malformed (inr (inl refl))
-  comes-as e a (link.received link.overlong) by = is_malformed (inr (inr refl))
-  comes-as e a (link.expired timer) by = is_plain by tt
-  comes-as e a (link.requested link.Release full) by = is_release full refl by.0 by.1
-  comes-as e a link.offer by = is_plain by tt
-  comes-as e a link.cleared by = absurd by
+      go false is = grind (arith, eq-eqb, sapi-is)
+  comes-as e a (received undefined) by = is_malformed (inl refl)
+  comes-as e a (received wrong_size) by = is_malformed (inr (inl refl))
+  comes-as e a (received overlong) by = is_malformed (inr (inr refl))
+  comes-as e a (expired timer) by = is_plain by tt
+  comes-as e a (requested Release full) by = is_release full refl by.0 by.1
+  comes-as e a offer by = is_plain by tt
+  comes-as e a cleared by = absurd by
   comes-as e a other by = is_plain by.0 tt
-
-  -- what is delivered is told
-  by-delivered : (d u o : Option (List ℕ)) → o ≡ option_or d u → cond (is_some d) (option_to_list o) [] ≡ option_to_list d
-  by-delivered d u o e = grind (arith, option_to_list)
 
   module _ (ranged : line_sound.IsInRange c) (l : Line) (s : line_sound.IsSound c l) (e : Event) (up : IsTrue (is_multiple_frame (link_of service tei l).state)) where
     abbrev a : Answer
@@ -183,24 +167,24 @@ module _ (c : Config) (service : Service) (tei : ℕ) where
       noted-one : data_noted service tei (seen e a) ≡ option_to_list (links.told Own x.event k).delivered
       noted-one =
           noted-is service tei e a (fits c e l) ∙ ap (λ b. cond b (option_to_list (contents_in a)) []) (data-noted c ranged l s e service tei k.r (λ up. refl) x)
-          ∙ by-delivered (links.told Own x.event k).delivered (links.told Own x.event k).unit (contents_in a) x.contents
+          ∙ (grind (arith, option_to_list))
 
       ends-one : Ended Own (links.told Own x.event k).notes → list_any (ends_by service tei) (seen e a) ≡ true
       ends-one h = ends-is service tei e a (fits c e l) (ap (list_any (ends_by_note service tei)) x.notes ∙ h)
 
-      state-one : (ev : link.Event) → x.event ≡ ev → k'.state ≡ (links.after Own ev k).state
+      state-one : (ev : LinkEvent) → x.event ≡ ev → k'.state ≡ (links.after Own ev k).state
       state-one ev is = ap (λ (y : Link). y.state) (x.is ∙ ap (λ ev. links.after Own ev k) is)
 
-      fallen-one : (ev : link.Event) → x.event ≡ ev → Fallen Own ev k → Does k k' e a
+      fallen-one : (ev : LinkEvent) → x.event ≡ ev → Fallen Own ev k → Does k k' e a
       fallen-one ev is h = grind (arith, ends-one, Ended, state-one)
 
-      granted-one : (ev : link.Event) → IsBy c e a service tei ev → IsKind e ev → asked_in service tei e a ≡ accepted Own ev k
+      granted-one : (ev : LinkEvent) → IsBy c e a service tei ev → IsKind e ev → asked_in service tei e a ≡ accepted Own ev k
       granted-one ev by kind = grind (arith, asked_in, granted-data, not-refused, link-grants)
 
-      malformed-one : (x.event ≡ link.received link.undefined) ⊎ (x.event ≡ link.received link.wrong_size) ⊎ (x.event ≡ link.received link.overlong) → Does k k' e a
-      malformed-one (inl is) = fallen-one (link.received link.undefined) is (undefined-falls Own k up)
-      malformed-one (inr (inl is)) = fallen-one (link.received link.wrong_size) is (wrong-size-falls Own k up)
-      malformed-one (inr (inr is)) = fallen-one (link.received link.overlong) is (overlong-falls Own k up)
+      malformed-one : (x.event ≡ received undefined) ⊎ (x.event ≡ received wrong_size) ⊎ (x.event ≡ received overlong) → Does k k' e a
+      malformed-one (inl is) = fallen-one (received undefined) is (undefined-falls Own k up)
+      malformed-one (inr (inl is)) = fallen-one (received wrong_size) is (wrong-size-falls Own k up)
+      malformed-one (inr (inr is)) = fallen-one (received overlong) is (overlong-falls Own k up)
 
       plain-one : IsKind e x.event → Leaves Own (links.told Own x.event k).notes (links.after Own x.event k).state → Does k k' e a
       plain-one kind leaves = go (is_multiple_frame (links.after Own x.event k).state) refl leaves
@@ -208,30 +192,18 @@ module _ (c : Config) (service : Service) (tei : ℕ) where
           go : (b : Bool) → is_multiple_frame (links.after Own x.event k).state ≡ b → Leaves Own (links.told Own x.event k).notes (links.after Own x.event k).state → Does k k' e a
           go false down (inl h) = fallen-one x.event refl (h, down)
           go false down (inr still) = absurd (true≢false (sym still ∙ down))
-          go true still h = inr (inr (record {
-            event = x.event;
-            kind = kind;
-            is = x.is;
-            up = ap is_multiple_frame (state-one x.event refl) ∙ still;
-            noted = noted-one;
-            granted = granted-is service tei e a ∙ granted-one x.event x.by kind;
-            frames = same-frames a ∙ x.begins;
-            ends = ends-one;
-          }))
+          go true still h = grind (arith, state-one, noted-one, granted-is, granted-one, same-frames, ends-one)
 
-      unit-one : (f : Parts) → x.event ≡ link.received (link.frame f) → is_ui f.control ≡ true → (octets : List ℕ) → e ≡ hears (stream.frame octets) → Does k k' e a
-      unit-one f is ui octets heard = grind (arith, unit-data-stays, noted-one, option_to_list, granted-is, asked_in, same-frames, frames_given)
-
-      release-one : (full : Bool) → x.event ≡ link.requested link.Release full → e ≡ request (of_link service tei link.Release) → is_granted a ≡ true → Does k k' e a
+      release-one : (full : Bool) → x.event ≡ requested Release full → e ≡ request (of_link service tei Release) → is_granted a ≡ true → Does k k' e a
       release-one full asked is g = inl (
-        subst (λ e'. list_any (ends_by service tei) (seen e' a) ≡ true) (sym is) (request-ends service tei (of_link service tei link.Release) a g (own Own)),
-        ap is_multiple_frame (state-one (link.requested link.Release full) asked) ∙ release-falls Own k up full,
+        subst (λ e'. list_any (ends_by service tei) (seen e' a) ≡ true) (sym is) (request-ends service tei (of_link service tei Release) a g (own Own)),
+        ap is_multiple_frame (state-one (requested Release full) asked) ∙ (grind (arith, event-follows)),
       )
 
       one-does : Comes e a x.event → Does k k' e a
       one-does (is_malformed is) = malformed-one is
       one-does (is_release full is asked g) = release-one full is asked g
-      one-does (is_unit f is ui octets heard) = unit-one f is ui octets heard
+      one-does (is_unit f is ui octets heard) = grind (arith, unit-data-stays, noted-one, option_to_list, granted-is, asked_in, same-frames, frames_given)
       one-does (is_plain kind may) = plain-one kind (event-leaves Own k up x.event may)
 
     pub line-does : Does k k' e a

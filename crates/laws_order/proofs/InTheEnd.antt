@@ -1,5 +1,5 @@
 -- A release is told in the end: to the end that releases, whose RC counts the expiries of T200, and to the other before that.
-use Rattle.laws_order.proofs.Vocabulary.{◌≡◌, ℕ, ◌≤◌, Bool, true, false, List, [], ◌∷◌, ◌++◌, refl, sym, ap, ◌∙◌, arith, append-nil, true≢false, ◌⊎◌, inl, inr, All, list_any, All-nil, All-cons, All-head, All-tail, Service, other_side, AwaitingRelease, Link, is_multiple_frame, came, hears, expiry, request, next, Line, has_tei, terms, deactivates, Seen, Station, Wire, requests, times_out, gives, takes, turned, Event, line_of, Deed, acts, disturbed, befalling, Happening, by_near, by_far, IsPossible, IsPossibleAt, happening, happening_all, events_here, seen_by, seen_at_near, seen_near, seen_far, t200s, IsToldAtLast, ReleasesAreTold, StaysThere, IsNotDeactivated, BothAreTold, ends_by, StaysEstablished, news, IsToldOfRelease}
+use Rattle.laws_order.proofs.Vocabulary.{◌≡◌, ℕ, ◌≤◌, Bool, true, false, List, [], ◌∷◌, ◌++◌, refl, sym, ap, ◌∙◌, arith, append-nil, true≢false, ◌⊎◌, inl, inr, All, list_any, All-nil, All-cons, All-head, All-tail, Service, other_side, AwaitingRelease, Link, is_multiple_frame, came, hears, expiry, request, next, Line, has_tei, terms, deactivates, Seen, Station, Wire, requests, times_out, gives, takes, turned, Event, line_of, Deed, acts, disturbed, befalling, Happening, by_near, by_far, IsPossible, IsPossibleAt, happening, happening_all, events_here, seen_by, seen_at_near, seen_near, seen_far, t200s, IsToldAtLast, ReleasesAreTold, StaysThere, IsNotDeactivated, BothAreTold, ends_by, StaysEstablished, news, IsToldOfRelease, flat_map-append, news_in}
 use Rattle.laws_order.proofs.Beginning.{past-well, six-here, six-runs, on-here, begins-pair}
 use Rattle.laws_order.proofs.Down.{Speaks}
 use Rattle.laws_order.proofs.Leading.{NotHeard, near-led, not-heard}
@@ -8,7 +8,7 @@ use Rattle.laws_order.proofs.OneLasts.{far-goes}
 use Rattle.laws_order.proofs.Ordered.{turned-pair, pair-lasts, both-stay, other-link}
 use Rattle.laws_order.proofs.Pairs.{link_here, Pair, Led, Falls, IsWell}
 use Rattle.laws_order.proofs.Putting.{Each}
-use Rattle.laws_order.proofs.Released.{Occurs, then-well, news-append, step-six, StepSix, events_at, occurs, later, releases-end}
+use Rattle.laws_order.proofs.Released.{Occurs, then-well, step-six, StepSix, events_at, occurs, later, releases-end}
 use Rattle.laws_order.proofs.ReleasedAt.{Confirm, GivenUp, Confirmless}
 use Rattle.laws_order.proofs.Saying.{on_line}
 use Rattle.laws_order.proofs.ReleaseCounted.{Bounded, run-counts}
@@ -70,11 +70,8 @@ module _ (service : Service) (tei : ℕ) where
       let stay = both-stay service tei (seen_by deed (turned w)) (seen_far hs w') stays in
       reaches hs w' (later service tei (by_far deed) hs w all) stay.1 (far-reaches deed w (All-head (IsOpen w) (by_far deed) hs all) stay.0 h)
 
-  down-six : (w : Wire) → (Here w).state ≡ AwaitingRelease → IsDown w
-  down-six w is = ap is_multiple_frame is
-
   over-six : (w : Wire) → (Here w).state ≡ AwaitingRelease → Reached w → Over w
-  over-six w is (inl (dn, dm, h)) = absurd (true≢false (sym h.joined.near_up ∙ down-six w is))
+  over-six w is (inl (dn, dm, h)) = absurd (true≢false (sym h.joined.near_up ∙ (ap is_multiple_frame is)))
   over-six w is (inr x) = x.0
 
   -- nothing that happens at the near end confirms its release
@@ -119,10 +116,7 @@ module _ (service : Service) (tei : ℕ) where
       → StaysEstablished service tei (seen_far (h ∷ []) w) × StaysEstablished service tei (seen_far hs (happening h w))
   unfolding seen_far
   far-split (by_near deed) hs w stays = (refl, stays)
-  far-split (by_far deed) hs w stays =
-      let t = seen_by deed (turned w) in
-      let x = both-stay service tei t (seen_far hs (turned (befalling deed (turned w)))) stays in
-      (ap (list_any (ends_by service tei)) (append-nil t) ∙ x.0, x.1)
+  far-split (by_far deed) hs w stays = grind (arith, both-stay, append-nil)
 
   never : (hs : List Happening) (w : Wire) → IsWell w.near → (Here w).state ≡ AwaitingRelease → Over w → All (IsOpen w) hs → StaysThere service tei hs w → All (IsNotDeactivated service tei) hs
       → StaysEstablished service tei (seen_far hs w) → news service tei (seen_near hs w) ≡ Confirm service tei → ⊥
@@ -146,12 +140,12 @@ module _ (service : Service) (tei : ℕ) where
       stay = far-split h hs w stays
 
       split : news service tei t ++ news service tei (seen_near hs w') ≡ Confirm service tei
-      split = sym (news-append service tei t (seen_near hs w')) ∙ told
+      split = sym (flat_map-append (news_in service tei) t (seen_near hs w')) ∙ told
 
       go : Occurs service tei w w' t es → (IsWell w'.near → (Here w').state ≡ AwaitingRelease → Over w' → news service tei (seen_near hs w') ≡ Confirm service tei → ⊥)
           → StepSix service tei w w' t es → ⊥
       go o behind (inl (six, x)) =
-          behind (then-well service tei w w' t es well o) six (then-over h w (All-head (IsOpen w) h hs all) stay.0 over (down-six w' six))
+          behind (then-well service tei w w' t es well o) six (then-over h w (All-head (IsOpen w) h hs all) stay.0 over (ap is_multiple_frame six))
           (ap (λ ns. ns ++ news service tei (seen_near hs w')) (sym x.0) ∙ split)
       go o behind (inr (to, inl (x, may))) =
           may (all-confirmless w (line_of w'.near) (there-first hs w' there.1) h (All-head (IsOpen w) h hs all) (All-head (IsNotDeactivated service tei) h hs active) over)
@@ -181,9 +175,8 @@ both-are-told service tei w p q before behind rest possible lasts is possible' k
     go : (b : Bool) → list_any (ends_by service tei) (seen_far behind v) ≡ b → b ≡ true
     go true e = refl
     go false e =
-        let reached = reaches service tei before w possible lasts (inl (_, _, begins-pair service tei w p q rest)) in
         let six = six-here service tei v.near is in
-        let over = over-six service tei v six reached in
+        let over = over-six service tei v six (reaches service tei before w possible lasts (inl (_, _, begins-pair service tei w p q rest))) in
         absurd (never service tei behind v (well over) six over possible' keeps.0 keeps.1 e told)
       where
         well : Over service tei v → IsWell v.near

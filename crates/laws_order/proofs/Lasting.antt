@@ -31,12 +31,9 @@ speaks-answered P control h = grind arith
 pub speaks-unheeded : (control : Control) → Speaks control → Unheeded control
 speaks-unheeded control h = grind arith
 
-means-speaks : (m : ℕ) (control : Control) → Means m control → Speaks control
-means-speaks m control h = grind arith
-
 pub rising-speaks : (a r : ℕ) (fs : List Parts) → Rising a r fs → Each Speaks fs
 rising-speaks a r [] h = tt
-rising-speaks a r (f ∷ fs) (m, up, means, h) = (means-speaks m f.control means, rising-speaks m r fs h)
+rising-speaks a r (f ∷ fs) (m, up, means, h) = ((grind arith), rising-speaks m r fs h)
 
 -- What is on the line to the far end, of which V(R) is r: I-frames as they were sent, reports, SABME and DISC.
 abbrev pub Brings : List (List ℕ) → ℕ → ℕ → ℕ → List ℕ → Control → Type 0
@@ -53,19 +50,13 @@ Brought contents high r [] = Unit {0}
 Brought contents high r (f ∷ fs) = (top : ℕ) × (r ≤ top) × Brings contents high r top f.info f.control × Brought contents high top fs
 
 module _ (contents : List (List ℕ)) (high : ℕ) where
-  piece-brings : (r top : ℕ) (octets : List ℕ) (control : Control) → Piece contents high r top octets control → Brings contents high r top octets control
-  piece-brings r top octets control h = grind arith
-
   pub carried-brought : (r : ℕ) (fs : List Parts) → Carried contents high r fs → Brought contents high r fs
   carried-brought r [] h = tt
-  carried-brought r (f ∷ fs) (top, up, piece, h) = (top, up, piece-brings r top f.info f.control piece, carried-brought top fs h)
-
-  brings-lower : (r r' top : ℕ) (octets : List ℕ) (control : Control) → r' ≤ r → Brings contents high r top octets control → Brings contents high r' top octets control
-  brings-lower r r' top octets control le h = grind arith
+  carried-brought r (f ∷ fs) (top, up, piece, h) = (top, up, (grind arith), carried-brought top fs h)
 
   pub brought-lower : (r r' : ℕ) (fs : List Parts) → r' ≤ r → Brought contents high r fs → Brought contents high r' fs
   brought-lower r r' [] le h = tt
-  brought-lower r r' (f ∷ fs) le (top, up, piece, h) = (top, omega (arith, le, up), brings-lower r r' top f.info f.control le piece, h)
+  brought-lower r r' (f ∷ fs) le (top, up, piece, h) = (top, omega (arith, le, up), (grind arith), h)
 
   pub brought-tail : (r : ℕ) (f : Parts) (fs : List Parts) → Brought contents high r (f ∷ fs) → Brought contents high r fs
   brought-tail r f fs (top, up, piece, h) = brought-lower top r fs up h
@@ -74,20 +65,14 @@ module _ (contents : List (List ℕ)) (high : ℕ) where
   brought-front r [] gs h = tt
   brought-front r (f ∷ fs) gs (top, up, piece, h) = (top, up, piece, brought-front top fs gs h)
 
-  calls-brings : (r top : ℕ) (octets : List ℕ) (control : Control) → Calls control → Brings contents high r top octets control
-  calls-brings r top octets control h = grind arith
-
   pub brought-more : (r : ℕ) (fs gs : List Parts) → Brought contents high r fs → Each Calls gs → Brought contents high r (fs ++ gs)
   brought-more r [] [] h k = tt
-  brought-more r [] (g ∷ gs) h k = (r, omega arith, calls-brings r r g.info g.control k.0, brought-more r [] gs tt k.1)
+  brought-more r [] (g ∷ gs) h k = (r, omega arith, (grind arith), brought-more r [] gs tt k.1)
   brought-more r (f ∷ fs) gs (top, up, piece, h) k = (top, up, piece, brought-more top fs gs h k)
-
-  brings-plain : (r top : ℕ) (octets : List ℕ) (control : Control) → Brings contents high r top octets control → is_ui control ≡ false
-  brings-plain r top octets control h = grind arith
 
   pub brought-plain : (r : ℕ) (fs : List Parts) → Brought contents high r fs → Each (λ control. is_ui control ≡ false) fs
   brought-plain r [] h = tt
-  brought-plain r (f ∷ fs) (top, up, piece, h) = (brings-plain r top f.info f.control piece, brought-plain top fs h)
+  brought-plain r (f ∷ fs) (top, up, piece, h) = ((grind arith), brought-plain top fs h)
 
 -- the contents up to a number, and the next one
 take-next : (xs : List (List ℕ)) (i : ℕ) (x : List ℕ) → slice_get xs i ≡ Some x → take i xs ++ x ∷ [] ≡ take (suc i) xs
@@ -102,9 +87,6 @@ pub record Takes (contents : List (List ℕ)) (top r r' : ℕ) (d : Option (List
   pub accepted : r' ≤ length contents
   pub delivered : take r contents ++ option_to_list d ≡ take r' contents
 
-pub kept-so : (contents : List (List ℕ)) (r r' top : ℕ) (d : Option (List ℕ)) → r ≤ top → r ≤ length contents → r' ≡ r → d ≡ None → Takes contents top r r' d
-kept-so contents r r' top d up accepted still none = grind (arith, option_to_list, append-nil)
-
 numbered : (contents : List (List ℕ)) (a k r top : ℕ) (octets : List ℕ) (control : Control) → k ≤ 127 → a ≤ r → Brings contents (a + k) r top octets control
     → HasNumber r control → (slice_get contents r ≡ Some octets) × (r + 1 ≤ top)
 numbered contents a k r top octets (Information ns nr p) small low h is = carries-next contents (a + k) r top a k ns octets refl small low h is
@@ -112,15 +94,9 @@ numbered contents a k r top octets other small low h is = absurd is
 
 pub takes-so : (contents : List (List ℕ)) (a k r r' top : ℕ) (octets : List ℕ) (control : Control) (d : Option (List ℕ)) → k ≤ 127 → a ≤ r → r ≤ top
     → r ≤ length contents → Brings contents (a + k) r top octets control → Advance control octets r r' d → Takes contents top r r' d
-takes-so contents a k r r' top octets control d small low up accepted brings (inl (still, none)) = kept-so contents r r' top d up accepted still none
+takes-so contents a k r r' top octets control d small low up accepted brings (inl (still, none)) = grind (arith, option_to_list, append-nil)
 takes-so contents a k r r' top octets control d small low up accepted brings (inr (one, some, is)) =
     let known = numbered contents a k r top octets control small low brings is in
     let inside : r < length contents = slice_get_within contents r octets known.0 in
-    let most : r + 1 ≤ top = known.1 in
     let after : suc r ≡ r' = omega (arith, one) in
-    record {
-      up = omega (arith, one);
-      to = omega (arith, one, most);
-      accepted = omega (arith, one, inside);
-      delivered = ap (λ o. take r contents ++ option_to_list o) some ∙ take-next contents r octets known.0 ∙ ap (λ i. take i contents) after;
-    }
+    grind (arith, option_to_list, take-next)

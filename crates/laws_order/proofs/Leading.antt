@@ -1,13 +1,10 @@
 -- Two cards whose links face each other: where anything that happens at one of them leads.
-use Rattle.laws_order.proofs.Vocabulary.{arith, ◌≡◌, ℕ, Bool, true, false, cond, List, [], ◌∷◌, ◌++◌, drop, Result, Ok, Err, refl, sym, ap, ◌∙◌, subst, append-nil, ◌⊎◌, inl, inr, get_or-set_other, ReadFault, Service, Parts, other_side, reading, Link, End, Joined, joined-turned, done-at, came, Config, hears, expiry, request, next, heard_side, link_of, line_at, after_is_sound, by_room, Seen, seen, Station, Wire, requests, times_out, gives, takes, loses, answered, happens, with_first_lost, Event, is_of_link, of_link_in, of_link_at, Deed, acts, disturbed, elsewhere, IsNotOf, IsElsewhere, IsPossibleAt, elsewhere_on, befalling, seen_by, data_noted, data_granted, of_link_on}
+use Rattle.laws_order.proofs.Vocabulary.{arith, ◌≡◌, ℕ, Bool, true, false, cond, List, [], ◌∷◌, ◌++◌, drop, Result, Ok, Err, refl, sym, ap, ◌∙◌, subst, append-nil, ◌⊎◌, inl, inr, get_or-set_other, ReadFault, Service, Parts, other_side, reading, Link, End, Joined, joined-turned, done-at, came, Config, hears, expiry, request, next, heard_side, link_of, line_at, after_is_sound, by_room, Seen, seen, Station, Wire, requests, times_out, gives, takes, loses, answered, happens, with_first_lost, Event, is_of_link, of_link_in, of_link_at, Deed, acts, disturbed, elsewhere, IsNotOf, IsElsewhere, IsPossibleAt, elsewhere_on, befalling, seen_by, data_noted, data_granted, of_link_on, stream_frame, StreamEvent, FramesEvent, link_frame, LinkEvent, requested, offer, expired, received, nat_lt, at}
 use Rattle.laws_wire.specs.Wire.{comes}
-use Rattle.model_bits.specs.Stream as stream
-use Rattle.model_link.specs.Events as link
 use Rattle.model_link.specs.TwoEnds as two
-use Rattle.model_card.specs.Event as card
 use Rattle.model_card.specs.Machine.{after}
 use Rattle.laws_order.proofs.Does.{Has, Does, IsKind}
-use Rattle.laws_order.proofs.Pairs.{frame-same, link_here, whole-is, facing, Pair, Led, Falls, happens-well, station-does, leaves-still, leaves-granted, linked, granted-by, up-by, expired-still, asked-still, offer-still}
+use Rattle.laws_order.proofs.Pairs.{frame-same, link_here, facing, Pair, Led, Falls, station-does, leaves-still, leaves-granted, linked, granted-by, up-by, expired-still, asked-still, offer-still}
 
 module _ (service : Service) (tei : ℕ) where
   -- The same is seen, and the same end stands there.
@@ -16,7 +13,7 @@ module _ (service : Service) (tei : ℕ) where
 
   -- An event that is no frame of the link.
   abbrev pub NotHeard : Config → Event → Type 0
-  NotHeard c e = (octets : List ℕ) → e ≡ hears (stream.frame octets) → of_link_at service tei (heard_side c) octets ≡ []
+  NotHeard c e = (octets : List ℕ) → e ≡ hears (stream_frame octets) → of_link_at service tei (heard_side c) octets ≡ []
 
   module _ (w : Wire) (dn dm : List (List ℕ)) (h : Pair service tei w dn dm) (e : Event) where
     abbrev s : Station
@@ -34,21 +31,21 @@ module _ (service : Service) (tei : ℕ) where
     led : Joined (facing service tei (happens e s) (dn ++ data_noted service tei t)) m
         × ((link_here service tei (happens e s)).contents ≡ (link_here service tei s).contents ++ data_granted service tei t) → Led service tei w w' dn dm t
     led x = record {
-      pair = record { near = happens-well s h.near e; far = h.far; sides = h.sides; joined = x.0 };
+      pair = record { near = (record { sound = after_is_sound s.card (at s.line e) h.near.sound h.near.within; within = h.near.within }); far = h.far; sides = h.sides; joined = x.0 };
       granted = x.1;
       other = refl;
     }
 
     by-kind : (x : Has s.card.config service tei (link_here service tei s) (link_here service tei (happens e s)) e (answered e s))
-        → NotHeard s.card.config e → (ev : link.Event) → x.event ≡ ev → IsKind s.card.config service tei e ev → Led service tei w w' dn dm t
-    by-kind x none (link.received (link.frame f)) is kind =
+        → NotHeard s.card.config e → (ev : LinkEvent) → x.event ≡ ev → IsKind s.card.config service tei e ev → Led service tei w w' dn dm t
+    by-kind x none (received (link_frame f)) is kind =
         let read : of_link_at service tei (heard_side s.card.config) kind.0 ≡ f ∷ [] =
         ap (of_link_in service tei) kind.2 ∙ ap (λ b. cond {A = List Parts} b (f ∷ []) []) kind.3 in
         let wrong : [] ≡ f ∷ [] = sym (none kind.0 kind.1) ∙ read in
         absurd (cc wrong)
-    by-kind x none (link.expired timer) is kind = led (expired-still service tei s h.near h.joined.near_up e x dn m h.joined timer is)
-    by-kind x none (link.requested asked full) is kind = led (asked-still service tei s h.near h.joined.near_up e x dn m h.joined asked full is)
-    by-kind x none link.offer is kind = led (offer-still service tei s h.near h.joined.near_up e x dn m h.joined is)
+    by-kind x none (expired timer) is kind = led (expired-still service tei s h.near h.joined.near_up e x dn m h.joined timer is)
+    by-kind x none (requested asked full) is kind = led (asked-still service tei s h.near h.joined.near_up e x dn m h.joined asked full is)
+    by-kind x none offer is kind = led (offer-still service tei s h.near h.joined.near_up e x dn m h.joined is)
     by-kind x none other is kind = absurd kind
 
     pub event-led : NotHeard s.card.config e → Falls service tei w' t ⊎ Led service tei w w' dn dm t
@@ -123,7 +120,7 @@ module _ (service : Service) (tei : ℕ) where
           × ((link_here service tei (comes octets near)).contents ≡ (link_here service tei near).contents ++ data_granted service tei shown) → Led service tei before later dn dm shown
       arrives x = record {
         pair = record {
-          near = happens-well near h.near heard;
+          near = (record { sound = after_is_sound near.card (at near.line heard) h.near.sound h.near.within; within = h.near.within });
           far = record { sound = h.far.sound; within = h.far.within };
           sides = h.sides;
           joined = x.0;
@@ -134,9 +131,9 @@ module _ (service : Service) (tei : ℕ) where
 
       -- one of the link
       taken-so : (x : Has near.card.config service tei (link_here service tei near) (link_here service tei (comes octets near)) heard (answered heard near)) (f : Parts)
-          → x.event ≡ link.received (link.frame f) → of_link_at service tei far.card.config.side octets ≡ f ∷ [] → Led service tei before later dn dm shown
+          → x.event ≡ received (link_frame f) → of_link_at service tei far.card.config.side octets ≡ f ∷ [] → Led service tei before later dn dm shown
       taken-so x f is one =
-          let ev = link.received (link.frame f) in
+          let ev = received (link_frame f) in
           let others = of_link_on service tei far.card.config.side rest in
           let first : End = record now { way = f ∷ others } in
           let same : there ≡ first = λ i. record now { way = (ap (λ xs. xs ++ others) one) i } in
@@ -152,17 +149,14 @@ module _ (service : Service) (tei : ℕ) where
           )
 
       by-it : (x : Has near.card.config service tei (link_here service tei near) (link_here service tei (comes octets near)) heard (answered heard near))
-          → (ev : link.Event) → x.event ≡ ev → IsKind near.card.config service tei heard ev → Led service tei before later dn dm shown
-      by-it x (link.received (link.frame f)) is kind =
-          let whole : came near.card.config.n201 octets ≡ stream.frame kind.0 = cc kind.1 in
-          let same : kind.0 ≡ octets = whole-is near.card.config.n201 octets kind.0 whole in
+          → (ev : LinkEvent) → x.event ≡ ev → IsKind near.card.config service tei heard ev → Led service tei before later dn dm shown
+      by-it x (received (link_frame f)) is kind =
+          let whole : came near.card.config.n201 octets ≡ stream_frame kind.0 = cc kind.1 in
+          let same : kind.0 ≡ octets = grind (arith, nat_lt) in
           let read-so : reading far.card.config.side octets ≡ Ok f =
           ap (λ side. reading side octets) h.sides ∙ ap (reading (other_side near.card.config.side)) (sym same) ∙ kind.2 in
           taken-so x f is (ap (of_link_in service tei) read-so ∙ ap (λ b. cond {A = List Parts} b (f ∷ []) []) kind.3)
-      by-it x (link.expired timer) is kind = cc kind
-      by-it x (link.requested asked full) is kind = cc kind
-      by-it x link.offer is kind = cc kind
-      by-it x other is kind = absurd kind
+      by-it x ev is kind = grind arith
 
       pub frame-led : Falls service tei later shown ⊎ Led service tei before later dn dm shown
       frame-led =
@@ -187,16 +181,7 @@ module _ (service : Service) (tei : ℕ) where
       let n = facing service tei (record near { way = octets ∷ rest }) dn in
       let m = facing service tei far dm in
       let j = joined-turned m (facing service tei (record near { way = rest }) dn) (gone m near dn octets rest (joined-turned n m h.joined)) in
-      record {
-        pair = record {
-          near = record { sound = h.near.sound; within = h.near.within };
-          far = h.far;
-          sides = h.sides;
-          joined = subst (λ ds. Joined (facing service tei (record near { way = rest }) ds) m) (sym (append-nil dn)) j;
-        };
-        granted = sym (append-nil (link_here service tei near).contents);
-        other = refl;
-      }
+      grind (arith, facing, append-nil, link_here)
 
   takes-led : (near far : Station) (way : List (List ℕ)) (dn dm : List (List ℕ)) → let w : Wire = record { near = near; far = record far { way = way } } in
       Pair service tei w dn dm → let t = seen_by (acts takes) w in Falls service tei (befalling (acts takes) w) t ⊎ Led service tei w (befalling (acts takes) w) dn dm t
@@ -208,29 +193,28 @@ module _ (service : Service) (tei : ℕ) where
       seen-so w (befalling (acts takes) w) dn dm t (t ++ []) (sym (append-nil t)) (frame-led near far octets rest dn dm h)
 
   -- another line
-  pub other-line : (s : Station) (e : card.Event) → IsElsewhere s e → line_at s.line (after e s.card) ≡ line_at s.line s.card
+  pub other-line : (s : Station) (e : FramesEvent) → IsElsewhere s e → line_at s.line (after e s.card) ≡ line_at s.line s.card
   other-line s e is = grind (arith, by_room, get_or-set_other)
 
-  elsewhere-led : (w : Wire) (dn dm : List (List ℕ)) (e : card.Event) → IsElsewhere w.near e → Pair service tei w dn dm
+  elsewhere-led : (w : Wire) (dn dm : List (List ℕ)) (e : FramesEvent) → IsElsewhere w.near e → Pair service tei w dn dm
       → Led service tei w (record w { near = elsewhere_on e w.near }) dn dm []
   elsewhere-led w dn dm e is h =
       let s' = elsewhere_on e w.near in
       let same : link_here service tei s' ≡ link_here service tei w.near = ap (link_of service tei) (other-line w.near e is) in
-      let m = facing service tei w.far dm in
       let end : facing service tei s' (dn ++ []) ≡ facing service tei w.near dn = λ i. record (facing service tei w.near dn) { link = same i; delivered = (append-nil dn) i } in
       record {
         pair = record {
           near = record { sound = after_is_sound w.near.card e h.near.sound is.0; within = h.near.within };
           far = h.far;
           sides = h.sides;
-          joined = subst (λ n. Joined n m) (sym end) h.joined;
+          joined = subst (λ n. Joined n (facing service tei w.far dm)) (sym end) h.joined;
         };
         granted = ap (λ (y : Link). y.contents) same ∙ sym (append-nil (link_here service tei w.near).contents);
         other = refl;
       }
 
   -- Whatever happens at the near end.
-  pub not-heard : (c : Config) (what : stream.Event) → IsNotOf service tei c what → NotHeard c (hears what)
+  pub not-heard : (c : Config) (what : StreamEvent) → IsNotOf service tei c what → NotHeard c (hears what)
   not-heard c what is octets e = grind arith
 
   pub near-led : (deed : Deed) (w : Wire) (dn dm : List (List ℕ)) → IsPossibleAt service tei w.near deed → Pair service tei w dn dm

@@ -1,12 +1,8 @@
 -- An event of a link in state 7 or 8 leaves it there, or a note ends the establishment or renews it.
-use Rattle.laws_order.proofs.Vocabulary.{arith, ◌≡◌, ℕ, ◌==◌, ◌&&◌, ◌||◌, not, Bool, true, false, cond, IsTrue, List, [], ◌∷◌, ◌++◌, Some, None, refl, sym, ap, ◌∙◌, subst, eq-eqb, ◌⊎◌, inl, inr, nat_lt, list_any, list_any-append, Control, Information, ReceiveReady, ReceiveNotReady, Reject, Sabme, Disc, Ui, Dm, Frmr, ErrorCode, Note, Parts, Seq, State, AwaitingEstablishment, Established, TimerRecovery, LinkTimer, Terms, Link, is_multiple_frame, Received, received, undefined, wrong_size, overlong, requested, Release, Course, as_heard, is_invalid, receipt_of, is_faulty, by_frame, by_received, by_expiry, by_request, state_after, is_anew, error, establish_indication, numbered_as, final_as, told_by, told_by_frame, told_malformed, told_expired, told_cleared, event-follows, service-same, is_own, is_ui, after, told, begun, ends_by_note}
+use Rattle.laws_order.proofs.Vocabulary.{arith, ◌≡◌, ℕ, ◌==◌, ◌&&◌, ◌||◌, not, Bool, true, false, cond, IsTrue, List, [], ◌∷◌, ◌++◌, Some, None, refl, sym, ap, ◌∙◌, subst, eq-eqb, ◌⊎◌, inl, inr, nat_lt, list_any, list_any-append, Control, Information, ReceiveReady, ReceiveNotReady, Reject, Sabme, Disc, Ui, Dm, Frmr, ErrorCode, Note, Parts, Seq, State, AwaitingEstablishment, Established, TimerRecovery, LinkTimer, Terms, Link, is_multiple_frame, Received, received, undefined, wrong_size, overlong, requested, Release, Course, as_heard, is_invalid, receipt_of, is_faulty, by_frame, by_received, by_expiry, by_request, state_after, is_anew, error, establish_indication, numbered_as, final_as, told_by, told_by_frame, told_malformed, told_expired, told_cleared, event-follows, service-same, is_own, is_ui, after, told, begun, ends_by_note, NoteError, NoteData, NoteReleaseIndication, or-true}
 use Rattle.lapd_frame.specs.declared.notes.ErrorCode.TheVariants as code
-use Rattle.lapd_frame.specs.declared.notes.Note.TheVariants as notes
 use Rattle.model_link.specs.Events.{Event, frame, Request}
 use Rattle.model_link.specs.Machine
-
-pub or-true : (b : Bool) → (b || true) ≡ true
-or-true b = grind arith
 
 module _ (t : Terms) where
   abbrev pub Ended : List Note → Type 0
@@ -19,7 +15,7 @@ module _ (t : Terms) where
   one-ends n is = ap (λ b. b || false) is
 
   error-ends : (why : ErrorCode) → is_anew why ≡ true → Ended (error t why)
-  error-ends why anew = one-ends (notes.Error t.service t.tei why) (ap (λ b. b && is_anew why) own ∙ anew)
+  error-ends why anew = one-ends (NoteError t.service t.tei why) (ap (λ b. b && is_anew why) own ∙ anew)
 
   behind : (xs ys : List Note) → Ended ys → Ended (xs ++ ys)
   behind xs ys h = grind (arith, list_any-append, or-true)
@@ -41,12 +37,6 @@ module _ (t : Terms) where
         let now = cond (is_multiple_frame here && is_invalid l (receipt_of control)) AwaitingEstablishment (by_frame here command control) in
         Leaves (told_by_frame here t command octets control taken l now) now
 
-    abbrev data_told : List Note
-    data_told = cond taken (notes.Data t.service t.tei ∷ []) []
-
-    abbrev indicated : List Note
-    indicated = cond (l.s == l.a) [] (establish_indication t)
-
     in-7 : (command : Bool) (control : Control) → By Established command control
     in-7 command control = grind (arith, numbered, before, error-ends, one-ends, own)
 
@@ -54,29 +44,11 @@ module _ (t : Terms) where
     information-up : (command : Bool) (ns nr : Seq) (p : Bool) → IsTrue (is_multiple_frame (by_frame TimerRecovery command (Information ns nr p)))
     information-up command ns nr p = grind arith
 
-    ready-up : (command pf : Bool) (nr : Seq) → IsTrue (is_multiple_frame (by_frame TimerRecovery command (ReceiveReady nr pf)))
-    ready-up command pf nr = grind arith
-
     busy-up : (command pf : Bool) (nr : Seq) → IsTrue (is_multiple_frame (by_frame TimerRecovery command (ReceiveNotReady nr pf)))
     busy-up command pf nr = grind arith
 
-    reject-up : (command pf : Bool) (nr : Seq) → IsTrue (is_multiple_frame (by_frame TimerRecovery command (Reject nr pf)))
-    reject-up command pf nr = grind arith
-
     in-8 : (command : Bool) (control : Control) → By TimerRecovery command control
-    in-8 command (Information ns nr p) = numbered data_told (by_frame TimerRecovery command (Information ns nr p)) (is_invalid l (Some nr)) (information-up command ns nr p)
-    in-8 command (ReceiveReady nr pf) =
-        numbered (final_as t true (not command && pf)) (by_frame TimerRecovery command (ReceiveReady nr pf)) (is_invalid l (Some nr)) (ready-up command pf nr)
-    in-8 command (ReceiveNotReady nr pf) =
-        numbered (final_as t true (not command && pf)) (by_frame TimerRecovery command (ReceiveNotReady nr pf)) (is_invalid l (Some nr)) (busy-up command pf nr)
-    in-8 command (Reject nr pf) =
-        numbered (final_as t true (not command && pf)) (by_frame TimerRecovery command (Reject nr pf)) (is_invalid l (Some nr)) (reject-up command pf nr)
-    in-8 command (Sabme p) = inl (before (error t code.F) indicated (error-ends code.F refl))
-    in-8 command (Disc p) = inl (one-ends (notes.ReleaseIndication t.service t.tei) own)
-    in-8 command (Dm true) = inl (error-ends code.B refl)
-    in-8 command (Dm false) = inl (error-ends code.E refl)
-    in-8 command (Frmr f) = inl (error-ends code.K refl)
-    in-8 b other = inr refl
+    in-8 command control = grind (arith, numbered, information-up, busy-up, before, error-ends, one-ends, own)
 
     in-state : (here : State) → IsTrue (is_multiple_frame here) → (command : Bool) (control : Control) → By here command control
     in-state here up command control = grind (arith, in-7, in-8)
@@ -152,9 +124,6 @@ module _ (t : Terms) where
     pub disc-ends : (f : Parts) (p : Bool) → Ended (told t (received (frame (record f { control = Disc p }))) l).notes
     disc-ends f p = grind (arith, event-follows, by-disc)
 
-    pub release-falls : (full : Bool) → is_multiple_frame (after t (requested Release full) l).state ≡ false
-    release-falls full = grind (arith, event-follows)
-
   -- UI leaves a link as it was, and delivers no contents of an I-frame.
   module _ (l : Link) where
     abbrev pub Same : Course → Type 0
@@ -163,11 +132,5 @@ module _ (t : Terms) where
     either : (b : Bool) (u v : Course) → Same u → Same v → Same (cond b u v)
     either b u v x y = grind arith
 
-    ui-stays : (here : State) (b : Bool) (octets : List ℕ) (p : Bool) → Same (Machine.frame_in here t b octets (Ui p) (begun l))
-    ui-stays here b octets p = grind (arith, either, nat_lt)
-
-    ui-only : (here : State) (b : Bool) (octets : List ℕ) (control : Control) → is_ui control ≡ true → Same (Machine.frame_in here t b octets control (begun l))
-    ui-only here b octets control is = grind (arith, ui-stays)
-
     pub unit-data-stays : (f : Parts) → is_ui f.control ≡ true → Same (Machine.course t (received (frame f)) l)
-    unit-data-stays f is = ui-only l.state f.address.command f.info f.control is
+    unit-data-stays f is = grind (arith, either, nat_lt)

@@ -1,7 +1,6 @@
 -- What each event tells of a link in state 6, and in state 4.
-use Rattle.laws_order.proofs.Vocabulary.{arith, ◌≡◌, ℕ, Bool, true, false, cond, List, [], ◌∷◌, refl, ◌⊎◌, filter, nat_lt, list_any, Control, Ua, Dm, Note, State, TeiAssigned, AwaitingRelease, LinkTimer, Terms, received, Release, requested, cleared, Link, as_heard, by_frame, by_expiry, by_request, state_after, told_in_4, told_in_6, unasked, told_by, told_expired, told_requested, event-follows, is_data_of, own-is, after, told, is_news, begins_by_note}
+use Rattle.laws_order.proofs.Vocabulary.{arith, ◌≡◌, ℕ, Bool, true, false, cond, List, [], ◌∷◌, refl, ◌⊎◌, filter, nat_lt, list_any, Control, Ua, Dm, Note, State, TeiAssigned, AwaitingRelease, LinkTimer, Terms, received, Release, requested, cleared, Link, as_heard, by_frame, by_expiry, by_request, state_after, told_in_4, told_in_6, unasked, told_by, told_expired, told_requested, event-follows, is_data_of, own-is, after, told, is_news, begins_by_note, NoteError, NoteXid, NoteUnit, NoteReleaseConfirm}
 use Rattle.lapd_frame.specs.declared.notes.ErrorCode.TheVariants as code
-use Rattle.lapd_frame.specs.declared.notes.Note.TheVariants as notes
 use Rattle.model_link.specs.Events.{Event, frame, Request, Establish}
 
 -- What confirms a release: UA and DM with F=1, and that the link is as one that begins.
@@ -25,10 +24,10 @@ module _ (t : Terms) where
     pub no_data : list_any (is_data_of t.service t.tei) ns ≡ false
 
   abbrev pub confirm : List Note
-  confirm = notes.ReleaseConfirm t.service t.tei ∷ []
+  confirm = NoteReleaseConfirm t.service t.tei ∷ []
 
   abbrev pub given_up : List Note
-  given_up = notes.Error t.service t.tei code.H ∷ confirm
+  given_up = NoteError t.service t.tei code.H ∷ confirm
 
   -- In state 6 a link stays there and tells nothing, or it comes to state 4, which it tells; where it tells no error, by its cause.
   abbrev pub In6 : Type 0 → List Note → State → Type 0
@@ -49,29 +48,14 @@ module _ (t : Terms) where
   gives-up : Tells given_up given_up
   gives-up = record { news = rw (own-is t.service t.tei) refl; no_data = refl }
 
-  unasked-silent : (f : Bool) → Tells (unasked t f) []
-  unasked-silent f = grind (arith, own-is)
-
-  unit-silent : (b : Bool) → Tells (cond b [] (notes.Unit t.service t.tei ∷ [])) []
-  unit-silent b = grind (arith, silent)
-
-  xid-silent : Tells (notes.Xid t.service t.tei ∷ []) []
-  xid-silent = record { news = refl; no_data = refl }
-
   frame-6 : (command : Bool) (octets : List ℕ) (control : Control) → In6 (Confirms control) (told_in_6 t octets control) (by_frame AwaitingRelease command control)
-  frame-6 command octets control = grind (arith, confirms, unasked-silent, unit-silent, nat_lt, xid-silent, silent)
+  frame-6 command octets control = grind (arith, confirms, own-is, silent, nat_lt)
 
   frame-4 : (command : Bool) (octets : List ℕ) (control : Control) → Begins (told_in_4 t octets control) ⊎ In4 (told_in_4 t octets control) (by_frame TeiAssigned command control)
-  frame-4 command octets control = grind (arith, own-is, unasked-silent, unit-silent, nat_lt, xid-silent, silent)
-
-  expired-6 : (timer : LinkTimer) (again ran : Bool) → let to = cond ran (by_expiry AwaitingRelease timer again) AwaitingRelease in In6 ⊥ (told_expired AwaitingRelease t to) to
-  expired-6 timer again ran = grind (arith, silent, gives-up)
+  frame-4 command octets control = grind (arith, own-is, silent, nat_lt)
 
   asked-6 : (request : Request) → In6 ⊥ (told_requested AwaitingRelease t request) (by_request AwaitingRelease request)
   asked-6 request = grind (arith, silent)
-
-  expired-4 : (timer : LinkTimer) (again ran : Bool) → let to = cond ran (by_expiry TeiAssigned timer again) TeiAssigned in In4 (told_expired TeiAssigned t to) to
-  expired-4 timer again ran = grind (arith, silent)
 
   abbrev pub AsksNothing : Event → Type 0
   AsksNothing (requested Establish full) = ⊥
@@ -95,18 +79,9 @@ module _ (t : Terms) where
       abbrev Told : State → List Note
       Told to = told_by t (as_heard t e) x to
 
-      abbrev To : State
-      To = state_after t (as_heard t e) x
-
     -- of a link of which the state is known
-    known-6 : (x : Link) → x.state ≡ AwaitingRelease → (e : Event) → In6 (ConfirmsAt e) (Told x e (To x e)) (To x e)
-    known-6 x is e = grind (arith, silent, frame-6, expired-6, asked-6, confirms)
-
-    known-4 : (x : Link) → x.state ≡ TeiAssigned → (e : Event) → AsksNothing e → Begins (Told x e (To x e)) ⊎ In4 (Told x e (To x e)) (To x e)
-    known-4 x is e none = grind (arith, silent, frame-4, expired-4, asked-4)
-
     pub in-6 : l.state ≡ AwaitingRelease → (e : Event) → In6 (ConfirmsAt e) (Now e) (after t e l).state
-    in-6 is e = grind (arith, tells, leads, known-6)
+    in-6 is e = grind (arith, tells, leads, silent, frame-6, gives-up, asked-6, confirms)
 
     pub in-4 : l.state ≡ TeiAssigned → (e : Event) → AsksNothing e → Begins (Now e) ⊎ In4 (Now e) (after t e l).state
-    in-4 is e none = grind (arith, tells, leads, known-4)
+    in-4 is e none = grind (arith, tells, leads, silent, frame-4, asked-4)

@@ -1,11 +1,9 @@
 -- The far end lasts in its establishment, and that of the near end is over: what happens at the near end.
-use Rattle.laws_order.proofs.Vocabulary.{arith, ◌≡◌, ℕ, ◌+◌, ◌≤◌, false, IsTrue, List, [], ◌∷◌, ◌++◌, length, take, sym, ap, ◌∙◌, subst, true≢false, ◌⊎◌, inl, inr, Control, Service, Parts, other_side, reading, State, Link, is_multiple_frame, frames_of, came, Config, hears, expiry, request, next, heard_side, link_of, terms, after_is_sound, Station, Wire, requests, times_out, gives, takes, loses, happens, Event, of_link_at, Deed, acts, disturbed, elsewhere, IsElsewhere, IsPossibleAt, elsewhere_on, befalling, of_link_on}
-use Rattle.model_bits.specs.Stream as stream
-use Rattle.model_card.specs.Event as card
+use Rattle.laws_order.proofs.Vocabulary.{arith, ◌≡◌, ℕ, ◌+◌, ◌≤◌, false, IsTrue, List, [], ◌∷◌, ◌++◌, length, take, sym, ap, ◌∙◌, subst, true≢false, ◌⊎◌, inl, inr, Control, Service, Parts, other_side, reading, State, Link, is_multiple_frame, frames_of, came, Config, hears, expiry, request, next, heard_side, link_of, terms, after_is_sound, Station, Wire, requests, times_out, gives, takes, loses, happens, Event, of_link_at, Deed, acts, disturbed, elsewhere, IsElsewhere, IsPossibleAt, elsewhere_on, befalling, of_link_on, stream_frame, FramesEvent, nat_lt, at}
 use Rattle.laws_order.proofs.Down.{Speaks}
 use Rattle.laws_order.proofs.Lasting.{Calls, calls-report, calls-plain, speaks-answered, speaks-unheeded, Brought, brought-tail, brought-front, brought-more, brought-plain}
 use Rattle.laws_order.proofs.Leading.{Read, read, none_of_it, one_of_it, NotHeard, not-heard, other-line}
-use Rattle.laws_order.proofs.Pairs.{link_here, whole-is, IsWell, happens-well, way_here}
+use Rattle.laws_order.proofs.Pairs.{link_here, IsWell, way_here}
 use Rattle.laws_order.proofs.Putting.{Each, Awaited, each-back}
 use Rattle.laws_order.proofs.Saying.{Grown, NotUi, HeardIs, on_line, station-down, station-goes}
 
@@ -33,11 +31,11 @@ module _ (service : Service) (tei : ℕ) where
 
   -- A frame of the link that is heard as a frame comes is the one that comes.
   pub comes-so : (s u : Station) → u.card.config.side ≡ other_side s.card.config.side → (octets octets' : List ℕ) (f : Parts)
-      → hears (came s.card.config.n201 octets) ≡ hears (stream.frame octets') → of_link_at service tei (heard_side s.card.config) octets' ≡ f ∷ []
+      → hears (came s.card.config.n201 octets) ≡ hears (stream_frame octets') → of_link_at service tei (heard_side s.card.config) octets' ≡ f ∷ []
       → of_link_at service tei u.card.config.side octets ≡ f ∷ []
   comes-so s u sides octets octets' f is its =
-      let whole : came s.card.config.n201 octets ≡ stream.frame octets' = cc is in
-      let same : octets' ≡ octets = whole-is s.card.config.n201 octets octets' whole in
+      let whole : came s.card.config.n201 octets ≡ stream_frame octets' = cc is in
+      let same : octets' ≡ octets = grind (arith, nat_lt) in
       ap (λ side. of_link_at service tei side octets) sides ∙ ap (of_link_at service tei (other_side s.card.config.side)) (sym same) ∙ its
 
   pub none-heard : (c : Config) (Q : Control → Type 0) (e : Event) → NotHeard service tei c e → HeardIs c service tei Q e
@@ -50,10 +48,7 @@ module _ (service : Service) (tei : ℕ) where
   first-speaks near far sides octets rest speech = go (first-is far octets rest)
     where
       go : IsFirst far octets rest → Each Speaks (line_of (record far { way = rest })) × HeardIs near.card.config service tei Speaks (hears (came near.card.config.n201 octets))
-      go (other_first none same) = (
-        subst (Each Speaks) same speech,
-        λ octets' f is its. let wrong : [] ≡ f ∷ [] = sym none ∙ comes-so near far sides octets octets' f is its in absurd (cc wrong),
-      )
+      go (other_first none same) = grind (arith, comes-so)
       go (its_first g one more) =
           let all : Each Speaks (g ∷ line_of (record far { way = rest })) = subst (Each Speaks) more speech in (
             all.1,
@@ -85,7 +80,7 @@ module _ (service : Service) (tei : ℕ) where
     by-event w dm h e way speech heard = (
       λ down. station-down service tei w.near h.near e down (λ octets f is its. speaks-unheeded f.control (heard octets f is its)),
       λ down. record {
-        near = happens-well w.near h.near e;
+        near = (record { sound = after_is_sound w.near.card (at w.near.line e) h.near.sound h.near.within; within = h.near.within });
         far = record { sound = h.far.sound; within = h.far.within };
         sides = h.sides;
         up = h.up;
@@ -107,8 +102,7 @@ module _ (service : Service) (tei : ℕ) where
 
         then : Grown Calls (line_of w.near) (line_of (happens e w.near)) ⊎ (line_of (happens e w.near) ≡ way_here service tei w.near)
             → Brought contents (a + k) r (line_of (happens e w.near))
-        then (inl g) = subst (Brought contents (a + k) r) (sym g.is) (brought-more contents (a + k) r (line_of w.near) g.news h.line g.are)
-        then (inr cut) = subst (Brought contents (a + k) r) (sym cut) (brought-front contents (a + k) r (way_here service tei w.near) waits h.line)
+        then o = grind (arith, brought-more, brought-front, way_here)
 
     near-takes : (near far : Station) (way : List (List ℕ)) (dm : List (List ℕ)) → let w : Wire = record { near = near; far = record far { way = way } } in
         Lasts w dm → GoesOn w (befalling (acts takes) w) dm
@@ -132,18 +126,16 @@ module _ (service : Service) (tei : ℕ) where
         go (other_first none same) = less (subst (Brought contents (a + k) r) same h.line)
         go (its_first f one more) = less (brought-tail contents (a + k) r f (line_of (record near { way = rest })) (subst (Brought contents (a + k) r) more h.line))
 
-    near-elsewhere : (w : Wire) (dm : List (List ℕ)) (e : card.Event) → IsElsewhere w.near e → Lasts w dm → GoesOn w (record w { near = elsewhere_on e w.near }) dm
+    near-elsewhere : (w : Wire) (dm : List (List ℕ)) (e : FramesEvent) → IsElsewhere w.near e → Lasts w dm → GoesOn w (record w { near = elsewhere_on e w.near }) dm
     near-elsewhere w dm e is h =
-        let s' = elsewhere_on e w.near in
-        let same : link_here service tei s' ≡ link_here service tei w.near = ap (link_of service tei) (other-line service tei w.near e is) in (
+        let same : link_here service tei (elsewhere_on e w.near) ≡ link_here service tei w.near = ap (link_of service tei) (other-line service tei w.near e is) in (
           λ down. ap (λ (y : Link). is_multiple_frame y.state) same ∙ down,
           λ down. record {
             near = record { sound = after_is_sound w.near.card e h.near.sound is.0; within = h.near.within };
             far = h.far;
             sides = h.sides;
             up = h.up;
-            line = subst (λ (y : Link). Brought contents (a + k) (link_here service tei w.far).r
-                (way_here service tei w.near ++ frames_of (terms w.near.card.config service tei) y.waiting)) (sym same) h.line;
+            line = grind (arith, link_here, way_here, frames_of);
             low = h.low;
             speech = h.speech;
             delivered = h.delivered;

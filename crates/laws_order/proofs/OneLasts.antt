@@ -1,16 +1,13 @@
 -- The far end lasts in its establishment, and that of the near end is over: what happens at the far end.
-use Rattle.laws_order.proofs.Vocabulary.{◌≡◌, ℕ, ◌+◌, ◌≤◌, cond, IsTrue, List, [], ◌∷◌, ◌++◌, length, take, Option, None, refl, sym, ap, ◌∙◌, subst, append-nil, true≢false, inl, inr, arith, option_to_list, Seq, seq, is_seq, Control, Information, ReceiveReady, ReceiveNotReady, Reject, Sabme, Disc, Service, Parts, other_side, State, Terms, Link, is_multiple_frame, frames_of, Means, frame-taken, came, hears, expiry, request, next, link_of, terms, after_is_sound, Seen, seen, offer-tells_nothing, frames_given, Station, Wire, requests, times_out, gives, takes, loses, answered, happens, frames_by, turned, twice-other, flat_map-append, Event, of_link_in, of_link_at, Deed, acts, disturbed, elsewhere, IsElsewhere, IsPossibleAt, elsewhere_on, befalling, seen_by, data_noted, StaysEstablished, of_link_on}
-use Rattle.model_link.specs.Events as link
-use Rattle.model_link.specs.Machine as links
-use Rattle.model_card.specs.Event as card
+use Rattle.laws_order.proofs.Vocabulary.{◌≡◌, ℕ, ◌+◌, ◌≤◌, cond, IsTrue, List, [], ◌∷◌, ◌++◌, length, take, Option, None, refl, sym, ap, ◌∙◌, subst, append-nil, true≢false, inl, inr, arith, option_to_list, Seq, seq, is_seq, Control, Information, ReceiveReady, ReceiveNotReady, Reject, Sabme, Disc, Service, Parts, other_side, State, Terms, Link, is_multiple_frame, frames_of, Means, frame-taken, came, hears, expiry, request, next, link_of, terms, after_is_sound, Seen, seen, offer-tells_nothing, frames_given, Station, Wire, requests, times_out, gives, takes, loses, answered, happens, frames_by, turned, twice-other, flat_map-append, Event, of_link_in, of_link_at, Deed, acts, disturbed, elsewhere, IsElsewhere, IsPossibleAt, elsewhere_on, befalling, seen_by, data_noted, StaysEstablished, of_link_on, FramesEvent, link_frame, LinkEvent, cleared, requested, offer, expired, received, after, course, told, at, event-delivers, none-delivered}
 use Rattle.laws_wire.proofs.Joint.{timer-delivers}
 use Rattle.laws_order.proofs.Does.{Has, LeavesIt, Does, IsKind}
 use Rattle.laws_order.proofs.Down.{Speaks}
-use Rattle.laws_order.proofs.Lasting.{speaks-report, speaks-plain, speaks-answered, Brings, Brought, brought-lower, brought-tail, Takes, kept-so, takes-so}
+use Rattle.laws_order.proofs.Lasting.{speaks-report, speaks-plain, speaks-answered, Brings, Brought, brought-lower, brought-tail, Takes, takes-so}
 use Rattle.laws_order.proofs.Leading.{NotHeard, not-heard, other-line}
 use Rattle.laws_order.proofs.LinkEnds.{Ended, sabme-ends, disc-ends}
 use Rattle.laws_order.proofs.NearOver.{Lasts, IsFirst, other_first, its_first, first-is, comes-so}
-use Rattle.laws_order.proofs.Pairs.{request-grows, request-delivers, timer-same, offer-same, link_here, happens-well, proper, way_here, station-does}
+use Rattle.laws_order.proofs.Pairs.{request-grows, timer-same, offer-same, link_here, proper, way_here, station-does}
 use Rattle.laws_order.proofs.Putting.{Each, AnsweredAt, Awaited, each-back, each-append}
 use Rattle.laws_order.proofs.Saying.{NotUi, each-as, event-grows, on_line}
 
@@ -60,7 +57,7 @@ module _ (service : Service) (tei : ℕ) where
             → Last w' (dm ++ data_noted service tei t)
         then-lasts d x up speech noted = record {
           near = record { sound = h.near.sound; within = h.near.within };
-          far = happens-well far h.far e;
+          far = (record { sound = after_is_sound far.card (at far.line e) h.far.sound h.far.within; within = h.far.within });
           sides = h.sides;
           up = up;
           line = brought-lower contents (a + k) x.top l'.r (line_of (record near { way = way })) x.took.to x.rest;
@@ -74,7 +71,7 @@ module _ (service : Service) (tei : ℕ) where
         way-then = flat_map-append (of_link_at service tei far.card.config.side) far.way (frames_by (answered e far))
 
         still : Brought contents (a + k) l.r (line_of (record near { way = way })) → l'.r ≡ l.r → After None
-        still line same = record { top = l.r; took = kept-so contents l.r l'.r l.r None (omega arith) h.accepted same refl; rest = line }
+        still line same = record { top = l.r; took = grind (arith, option_to_list, append-nil); rest = line }
 
         left : Brought contents (a + k) l.r (line_of (record near { way = way })) → LeavesIt far.card.config service tei l l' e (answered e far) → Last w' (dm ++ data_noted service tei t)
         left line x =
@@ -83,36 +80,35 @@ module _ (service : Service) (tei : ℕ) where
             ∙ ap (λ (y : Link). way_here service tei far ++ frames_of Own y.waiting) x.is)) h.speech) x.noted
 
         module _ (x : Has far.card.config service tei l l' e (answered e far)) where
-          speech-then : (ev : link.Event) → x.event ≡ ev → (ev ≡ link.cleared → ⊥) → AnsweredAt Speaks ev → Each Speaks (line_of (happens e far))
+          speech-then : (ev : LinkEvent) → x.event ≡ ev → (ev ≡ cleared → ⊥) → AnsweredAt Speaks ev → Each Speaks (line_of (happens e far))
           speech-then ev is other answer =
               let p = proper service tei far h.far h.up in
               let waits = frames_of Own l.waiting in
               let g = event-grows far.card.config service tei Speaks speaks-report speaks-plain (way_here service tei far) l l' (frames_by (answered e far)) ev other
-              (x.is ∙ ap (λ ev. links.after Own ev l) is) (x.frames ∙ ap (λ ev. frames_given far.card.config Own ev l) is) p.ranges p.sound answer
+              (x.is ∙ ap (λ ev. after Own ev l) is) (x.frames ∙ ap (λ ev. frames_given far.card.config Own ev l) is) p.ranges p.sound answer
               (none-awaited l'.state x.up) (λ up ns nr p. tt)
               (each-as Speaks NotUi speaks-plain waits (each-back Speaks (way_here service tei far) waits h.speech)) in
               subst (λ w. Each Speaks (w ++ frames_of Own l'.waiting)) (sym way-then)
               (subst (Each Speaks) (sym g.is) (each-append Speaks (line_of far) g.news h.speech g.are))
 
-          noted-then : (ev : link.Event) → x.event ≡ ev → (d : Option (List ℕ)) → (links.course Own ev l).delivered ≡ d → data_noted service tei t ≡ option_to_list d
-          noted-then ev is d delivers = x.noted ∙ ap (λ ev. option_to_list (links.told Own ev l).delivered) is ∙ ap option_to_list delivers
+          noted-then : (ev : LinkEvent) → x.event ≡ ev → (d : Option (List ℕ)) → (course Own ev l).delivered ≡ d → data_noted service tei t ≡ option_to_list d
+          noted-then ev is d delivers = x.noted ∙ ap (λ ev. option_to_list (told Own ev l).delivered) is ∙ ap option_to_list delivers
 
-          up-then : (ev : link.Event) → x.event ≡ ev → IsTrue (is_multiple_frame (links.after Own ev l).state)
-          up-then ev is = subst (λ (y : Link). IsTrue (is_multiple_frame y.state)) (x.is ∙ ap (λ ev. links.after Own ev l) is) x.up
+          up-then : (ev : LinkEvent) → x.event ≡ ev → IsTrue (is_multiple_frame (after Own ev l).state)
+          up-then ev is = subst (λ (y : Link). IsTrue (is_multiple_frame y.state)) (x.is ∙ ap (λ ev. after Own ev l) is) x.up
 
-          received-then : (ev : link.Event) → x.event ≡ ev → (r : ℕ) → (links.after Own ev l).r ≡ r → l'.r ≡ r
-          received-then ev is r h = ap (λ (y : Link). y.r) (x.is ∙ ap (λ ev. links.after Own ev l) is) ∙ h
+          received-then : (ev : LinkEvent) → x.event ≡ ev → (r : ℕ) → (after Own ev l).r ≡ r → l'.r ≡ r
+          received-then ev is r h = ap (λ (y : Link). y.r) (x.is ∙ ap (λ ev. after Own ev l) is) ∙ h
 
           -- an I-frame or a supervisory frame
-          taken-so : (f : Parts) (m : ℕ) → Means m f.control → Speaks f.control → x.event ≡ link.received (link.frame f)
+          taken-so : (f : Parts) (m : ℕ) → Means m f.control → Speaks f.control → x.event ≡ received (link_frame f)
               → (top : ℕ) → l.r ≤ top → Brings contents (a + k) l.r top f.info f.control → Brought contents (a + k) top (line_of (record near { way = way }))
               → Last w' (dm ++ data_noted service tei t)
           taken-so f m means speaks is top up brings rest =
-              let ev = link.received (link.frame f) in
+              let ev = received (link_frame f) in
               let this = frame-taken Own l h.up f.address.command f.info m f.control means in
               let goes = up-then ev is in
-              let stay = (this.took.by.stay goes).2 in
-              let same = received-then ev is this.r stay.received in
+              let same = received-then ev is this.r ((this.took.by.stay goes).2).received in
               then-lasts this.delivered (record {
                 top = top;
                 took = subst (λ r. Takes contents top l.r r this.delivered) (sym same)
@@ -120,13 +116,10 @@ module _ (service : Service) (tei : ℕ) where
                 rest = rest;
               }) x.up (speech-then ev is (λ e. cc e) (speaks-answered Speaks f.control speaks)) (noted-then ev is this.delivered (this.took.delivered goes))
 
-          ended : (f : Parts) → x.event ≡ link.received (link.frame f) → Ended Own (links.told Own (link.received (link.frame f)) l).notes → Last w' (dm ++ data_noted service tei t)
-          ended f is h = absurd (true≢false (sym (x.ends (subst (λ ev. Ended Own (links.told Own ev l).notes) (sym is) h)) ∙ stays))
+          ended : (f : Parts) → x.event ≡ received (link_frame f) → Ended Own (told Own (received (link_frame f)) l).notes → Last w' (dm ++ data_noted service tei t)
+          ended f is h = absurd (true≢false (sym (x.ends (subst (λ ev. Ended Own (told Own ev l).notes) (sym is) h)) ∙ stays))
 
-          abbrev with_control : Parts → Control → link.Event
-          with_control f control = link.received (link.frame (record f { control = control }))
-
-          by-control : (f : Parts) (control : Control) → f.control ≡ control → x.event ≡ link.received (link.frame f) → (top : ℕ) → l.r ≤ top
+          by-control : (f : Parts) (control : Control) → f.control ≡ control → x.event ≡ received (link_frame f) → (top : ℕ) → l.r ≤ top
               → Brings contents (a + k) l.r top f.info control → Brought contents (a + k) top (line_of (record near { way = way })) → Last w' (dm ++ data_noted service tei t)
           by-control f (Information ns nr p) same is top up brings rest =
               taken-so f nr.value (subst (Means nr.value) (sym same) (its-value nr)) (subst Speaks (sym same) tt) is top up (subst (Brings contents (a + k) l.r top f.info) (sym same) brings) rest
@@ -136,32 +129,30 @@ module _ (service : Service) (tei : ℕ) where
               taken-so f nr.value (subst (Means nr.value) (sym same) (its-value nr)) (subst Speaks (sym same) tt) is top up (subst (Brings contents (a + k) l.r top f.info) (sym same) brings) rest
           by-control f (Reject nr pf) same is top up brings rest =
               taken-so f nr.value (subst (Means nr.value) (sym same) (its-value nr)) (subst Speaks (sym same) tt) is top up (subst (Brings contents (a + k) l.r top f.info) (sym same) brings) rest
-          by-control f (Sabme p) same is top up brings rest = ended (record f { control = Sabme p }) (is ∙ ap (with_control f) same) (sabme-ends Own l h.up f p)
-          by-control f (Disc p) same is top up brings rest = ended (record f { control = Disc p }) (is ∙ ap (with_control f) same) (disc-ends Own l h.up f p)
-          by-control f other same is top up brings rest = absurd brings
+          by-control f control same is top up brings rest = grind (arith, ended, sabme-ends, disc-ends)
 
           -- a frame of the link that it hears is the first on the line
           abbrev First : Type 0
-          First = (f : Parts) → IsKind far.card.config service tei e (link.received (link.frame f))
+          First = (f : Parts) → IsKind far.card.config service tei e (received (link_frame f))
               → (top : ℕ) × (l.r ≤ top) × Brings contents (a + k) l.r top f.info f.control × Brought contents (a + k) top (line_of (record near { way = way }))
 
-          by-kind : First → Brought contents (a + k) l.r (line_of (record near { way = way })) → (ev : link.Event) → x.event ≡ ev → IsKind far.card.config service tei e ev
+          by-kind : First → Brought contents (a + k) l.r (line_of (record near { way = way })) → (ev : LinkEvent) → x.event ≡ ev → IsKind far.card.config service tei e ev
               → Last w' (dm ++ data_noted service tei t)
-          by-kind first line (link.received (link.frame f)) is kind = let y = first f kind in by-control f f.control refl is y.0 y.1 y.2 y.3
-          by-kind first line (link.expired timer) is kind =
-              let ev = link.expired timer in
+          by-kind first line (received (link_frame f)) is kind = let y = first f kind in by-control f f.control refl is y.0 y.1 y.2 y.3
+          by-kind first line (expired timer) is kind =
+              let ev = expired timer in
               then-lasts None (still line (received-then ev is l.r (timer-same Own l h.up timer (up-then ev is)).1)) x.up (speech-then ev is (λ e. cc e) tt) (noted-then ev is None (timer-delivers Own l timer))
-          by-kind first line (link.requested asked full) is kind =
-              let ev = link.requested asked full in
+          by-kind first line (requested asked full) is kind =
+              let ev = requested asked full in
               then-lasts None (still line (received-then ev is l.r (request-grows Own l h.up asked full (up-then ev is)).1)) x.up (speech-then ev is (λ e. cc e) tt)
-              (noted-then ev is None (request-delivers Own l asked full))
-          by-kind first line link.offer is kind =
+              (noted-then ev is None (none-delivered Own l (course Own (requested asked full) l) (event-delivers Own l (requested asked full))))
+          by-kind first line offer is kind =
               let p = proper service tei far h.far h.up in
-              then-lasts None (still line (received-then link.offer is l.r (offer-same Own l p.ranges p.sound).1)) x.up (speech-then link.offer is (λ e. cc e) tt)
-              (noted-then link.offer is None (offer-tells_nothing Own l).1)
+              then-lasts None (still line (received-then offer is l.r (offer-same Own l p.ranges p.sound).1)) x.up (speech-then offer is (λ e. cc e) tt)
+              (noted-then offer is None (offer-tells_nothing Own l).1)
           by-kind first line other is kind = absurd kind
 
-        by-far : ((f : Parts) → IsKind far.card.config service tei e (link.received (link.frame f))
+        by-far : ((f : Parts) → IsKind far.card.config service tei e (received (link_frame f))
             → (top : ℕ) × (l.r ≤ top) × Brings contents (a + k) l.r top f.info f.control × Brought contents (a + k) top (line_of (record near { way = way })))
             → Brought contents (a + k) l.r (line_of (record near { way = way })) → Last w' (dm ++ data_noted service tei t)
         by-far first line = go (station-does service tei far h.far h.up e)
@@ -205,7 +196,7 @@ module _ (service : Service) (tei : ℕ) where
         sides : near.card.config.side ≡ other_side far.card.config.side
         sides = sym (ap other_side h.sides ∙ twice-other near.card.config.side)
 
-        reads : (f : Parts) → IsKind far.card.config service tei e (link.received (link.frame f)) → of_link_at service tei near.card.config.side octets ≡ f ∷ []
+        reads : (f : Parts) → IsKind far.card.config service tei e (received (link_frame f)) → of_link_at service tei near.card.config.side octets ≡ f ∷ []
         reads f kind = comes-so service tei far near sides octets kind.0 f kind.1 (ap (of_link_in service tei) kind.2 ∙ ap (λ b. cond {A = List Parts} b (f ∷ []) []) kind.3)
 
         go : StaysEstablished service tei (seen e (answered e far)) → IsFirst service tei near octets rest
@@ -222,25 +213,9 @@ module _ (service : Service) (tei : ℕ) where
     far-loses : (near far : Station) (way : List (List ℕ)) (dm : List (List ℕ)) → Last (record { near = near; far = record far { way = way } }) dm
         → Last (turned (befalling (acts loses) (record { near = record far { way = way }; far = near }))) dm
     far-loses near far [] dm h = h
-    far-loses near far (octets ∷ rest) dm h = go (first-is service tei far octets rest)
-      where
-        less : Each Speaks (line_of (record far { way = rest })) → Last (record { near = near; far = record far { way = rest } }) dm
-        less speech = record {
-          far = record { sound = h.far.sound; within = h.far.within };
-          near = h.near;
-          sides = h.sides;
-          up = h.up;
-          line = h.line;
-          low = h.low;
-          speech = speech;
-          delivered = h.delivered;
-          accepted = h.accepted;
-        }
+    far-loses near far (octets ∷ rest) dm h = grind (arith, first-is, other_first, its_first)
 
-        go : IsFirst service tei far octets rest → Last (record { near = near; far = record far { way = rest } }) dm
-        go o = grind (arith, other_first, less, Each, Speaks, its_first)
-
-    far-elsewhere : (w : Wire) (dm : List (List ℕ)) (e : card.Event) → IsElsewhere w.far e → Last w dm → Last (record w { far = elsewhere_on e w.far }) dm
+    far-elsewhere : (w : Wire) (dm : List (List ℕ)) (e : FramesEvent) → IsElsewhere w.far e → Last w dm → Last (record w { far = elsewhere_on e w.far }) dm
     far-elsewhere w dm e is h =
         let same : link_here service tei (elsewhere_on e w.far) ≡ link_here service tei w.far = ap (link_of service tei) (other-line service tei w.far e is) in
         let far : Link → Type 0 = λ y. IsTrue (is_multiple_frame y.state) × Brought contents (a + k) y.r (line_of w.near) × (a ≤ y.r)

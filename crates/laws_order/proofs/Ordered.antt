@@ -17,11 +17,8 @@ pub record StaysAt (s s' : Station) : Type 0 where
 same-place : (s : Station) → StaysAt s s
 same-place s = record { config = refl; line = refl }
 
-first-place : (way : List (List ℕ)) (s : Station) → StaysAt s (with_first_of way s)
-first-place way s = grind (arith, same-place)
-
 pub near-place : (deed : Deed) (w : Wire) → StaysAt w.near (befalling deed w).near
-near-place deed w = grind (arith, first-place)
+near-place deed w = grind (arith, same-place)
 
 pub far-place : (deed : Deed) (w : Wire) → StaysAt w.far (befalling deed w).far
 far-place deed w = grind (arith, same-place)
@@ -31,14 +28,11 @@ both-parts (suc n) (x ∷ xs) = ap (λ ys. x ∷ ys) (both-parts n xs)
 both-parts other any = refl
 
 module _ (service : Service) (tei : ℕ) where
-  possible-at : (s s' : Station) → StaysAt s s' → (deed : Deed) → IsPossibleAt service tei s deed → IsPossibleAt service tei s' deed
-  possible-at s s' at deed is = grind arith
-
   abbrev pub IsOpen : Wire → Happening → Type 0
   IsOpen w h = IsPossible service tei w h
 
   pub still-possible : (w w' : Wire) → StaysAt w.near w'.near → StaysAt w.far w'.far → (h : Happening) → IsOpen w h → IsOpen w' h
-  still-possible w w' near far h is = grind (arith, possible-at)
+  still-possible w w' near far h is = grind arith
 
   pub all-possible : (w w' : Wire) → StaysAt w.near w'.near → StaysAt w.far w'.far → (hs : List Happening) → All (IsOpen w) hs → All (IsOpen w') hs
   all-possible w w' near far [] all = All-nil (IsOpen w')
@@ -66,14 +60,11 @@ module _ (service : Service) (tei : ℕ) where
   pub noted-append : (t u : List Seen) → data_noted service tei (t ++ u) ≡ data_noted service tei t ++ data_noted service tei u
   noted-append t u = flat_map-append (noted_in service tei) t u
 
-  granted-append : (t u : List Seen) → data_granted service tei (t ++ u) ≡ data_granted service tei t ++ data_granted service tei u
-  granted-append t u = flat_map-append (granted_in service tei) t u
-
   -- from what is seen later, with what is seen first
   front-before : (d : List (List ℕ)) (t t' : List Seen) (cs cs' : List (List ℕ)) (u u' : List Seen) → cs' ≡ cs ++ data_granted service tei u
       → IsFront ((d ++ data_noted service tei t) ++ data_noted service tei t') (cs' ++ data_granted service tei u')
       → IsFront (d ++ data_noted service tei (t ++ t')) (cs ++ data_granted service tei (u ++ u'))
-  front-before d t t' cs cs' u u' e h = grind (arith, granted-append, append_assoc, noted-append)
+  front-before d t t' cs cs' u u' e h = grind (arith, flat_map-append, append_assoc, noted-append)
 
   pub both-stay : (t u : List Seen) → StaysEstablished service tei (t ++ u) → StaysEstablished service tei t × StaysEstablished service tei u
   both-stay t u h = or_parts (list_any (ends_by service tei) t) (list_any (ends_by service tei) u) (sym (list_any-append (ends_by service tei) t u) ∙ h)
@@ -189,12 +180,7 @@ module _ (service : Service) (tei : ℕ) where
       let front = had service tei s u in
       let kept = drop (link_here service tei u).r (contents_at s) in
       let whole : contents_at s ≡ front ++ kept = both-parts (link_here service tei u).r (contents_at s) in
-      record {
-        rest = h.rest;
-        whole_is =
-            same-rest front (kept ++ gs) (ds ++ h.rest)
-            (sym (append_assoc front kept gs) ∙ ap (λ cs. cs ++ gs) (sym whole) ∙ h.whole_is ∙ append_assoc front ds h.rest);
-      }
+      grind (arith, same-rest, append_assoc)
 
   told-far : (hs : List Happening) (w : Wire) (p : Past w.near) (q : Past w.far) → FaceInStep service tei w (known service tei w.near p) (known service tei w.far q)
       → All (IsOpen w) hs → StaysEstablished service tei (seen_far hs w)
@@ -236,9 +222,6 @@ module _ (service : Service) (tei : ℕ) where
   possible-swapped w (h ∷ hs) all =
       All-cons (IsOpen (turned w)) (swapped h) (all_swapped hs) (one-swapped w h (All-head (IsOpen w) h hs all)) (possible-swapped w hs (All-tail (IsOpen w) h hs all))
 
-  step-turned : (w : Wire) (n m : Known) → FaceInStep service tei w n m → FaceInStep service tei (turned w) m n
-  step-turned w n m h = (h.1, h.0, sym (ap other_side h.2 ∙ twice-other w.near.card.config.side))
-
   told-near : (hs : List Happening) (w : Wire) (p : Past w.near) (q : Past w.far) → FaceInStep service tei w (known service tei w.near p) (known service tei w.far q)
       → All (IsOpen w) hs → StaysEstablished service tei (seen_near hs w)
       → IsFront (data_noted service tei (seen_near hs w)) (kept_by (known service tei w.far q) (known service tei w.near p) ++ data_granted service tei (seen_far hs w))
@@ -246,7 +229,7 @@ module _ (service : Service) (tei : ℕ) where
       let kept = kept_by (known service tei w.far q) (known service tei w.near p) in
       subst (λ t. IsFront (data_noted service tei t) (kept ++ data_granted service tei (seen_far hs w))) (sym (near-is hs w))
       (subst (λ t. IsFront (data_noted service tei (seen_far (all_swapped hs) (turned w))) (kept ++ data_granted service tei t)) (sym (far-is hs w))
-      (told-far (all_swapped hs) (turned w) q p (step-turned w (known service tei w.near p) (known service tei w.far q) h) (possible-swapped w hs all) (subst (StaysEstablished service tei) (near-is hs w) near)))
+      (told-far (all_swapped hs) (turned w) q p ((h.1, h.0, sym (ap other_side h.2 ∙ twice-other w.near.card.config.side))) (possible-swapped w hs all) (subst (StaysEstablished service tei) (near-is hs w) near)))
 
 pub delivered-in-order : DeliveredInOrder
 delivered-in-order service tei w p q hs h all = (told-near service tei hs w p q h all, told-far service tei hs w p q h all)

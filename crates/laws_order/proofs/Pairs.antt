@@ -1,8 +1,5 @@
 -- Two cards whose links face each other: what each thing that happens makes of the two ends.
-use Rattle.laws_order.proofs.Vocabulary.{◌≡◌, ℕ, ◌<◌, ◌==◌, ◌&&◌, not, Bool, true, false, cond, IsTrue, List, [], ◌∷◌, ◌++◌, map, get_or, set, Option, Some, None, IfSome, refl, sym, ap, ◌∙◌, subst, arith, append-nil, eq-eqb, true≢false, inl, inr, All, option_to_list, unwrap_or, nat_lt, list_any, option_map_or, get_or-set_same, All-nil, All-cons, All-head, Control, PoolFull, Service, Parts, other_side, sapi_of, reading-again, place_of-is, Terms, LinkTimer, Link, is_multiple_frame, frame_of, Given, End, with_link, with_sent, frame_given, frames_of, given_is_frame, Joined, done-at, Means, Rising, came, Config, Line, fresh_line, link_in, link_of, place_in, terms, sound_in, terms_in_range, line_at, after_is_sound, has_lines, by_room, accepted, Seen, seen, is_ui, offer-tells_nothing, frames_given, Station, Wire, answered, happens, frames_by, flat_map-append, fresh, Event, at, is_of_link, of_link_in, of_link_at, data_noted, data_granted, ends_by, of_link_on, line_of, is_some, Refusal, State, Release, SetBusy, ClearBusy, received, expired, requested, offer, course, Course, event-delivers, Up, still, set_busy_up, clear_busy_up, at-first, offer-gave, frame-taken, none-delivered, after, begun, contents_of}
-use Rattle.model_bits.specs.Stream as stream
-use Rattle.model_link.specs.Events as link
-use Rattle.model_link.specs.Machine as links
+use Rattle.laws_order.proofs.Vocabulary.{◌≡◌, ℕ, ◌<◌, ◌==◌, ◌&&◌, not, Bool, true, false, cond, IsTrue, List, [], ◌∷◌, ◌++◌, map, get_or, set, Option, Some, None, IfSome, refl, sym, ap, ◌∙◌, subst, arith, append-nil, eq-eqb, true≢false, inl, inr, All, option_to_list, unwrap_or, nat_lt, list_any, option_map_or, get_or-set_same, All-nil, All-cons, All-head, Control, PoolFull, Service, Parts, other_side, sapi_of, reading-again, place_of-is, Terms, LinkTimer, Link, is_multiple_frame, frame_of, Given, End, with_link, with_sent, frame_given, frames_of, given_is_frame, Joined, done-at, Means, Rising, came, Config, Line, fresh_line, link_in, link_of, place_in, terms, sound_in, terms_in_range, line_at, after_is_sound, has_lines, by_room, accepted, Seen, seen, is_ui, offer-tells_nothing, frames_given, Station, Wire, answered, happens, frames_by, flat_map-append, fresh, Event, at, is_of_link, of_link_in, of_link_at, data_noted, data_granted, ends_by, of_link_on, line_of, is_some, Refusal, State, Release, SetBusy, ClearBusy, received, expired, requested, offer, course, Course, event-delivers, Up, still, set_busy_up, clear_busy_up, at-first, offer-gave, frame-taken, none-delivered, after, begun, contents_of, stream_frame, LinkEvent, LinkRequest, told, link_given}
 use Rattle.model_link.specs.Sound as link_sound
 use Rattle.model_link.specs.TwoEnds as two
 use Rattle.model_line.specs.Machine as lines
@@ -45,9 +42,6 @@ module _ (t : Terms) (l : Link) where
       → ((after t (requested request full) l).contents ≡ l.contents ++ accepted t (requested request full) l) × ((after t (requested request full) l).r ≡ l.r)
   request-grows was request full up = asked was request (Requests.refusal t l full request) up
 
-  pub request-delivers : (request : Request) (full : Bool) → (course t (requested request full) l).delivered ≡ None
-  request-delivers request full = none-delivered t l (course t (requested request full) l) (event-delivers t l (requested request full))
-
   -- a timer
   pub timer-same : IsTrue (is_multiple_frame l.state) → (timer : LinkTimer) → IsTrue (is_multiple_frame (after t (expired timer) l).state)
       → ((after t (expired timer) l).contents ≡ l.contents) × ((after t (expired timer) l).r ≡ l.r)
@@ -60,28 +54,19 @@ module _ (t : Terms) (l : Link) where
   -- a frame of a link that faces it
   pub frame-same : IsTrue (is_multiple_frame l.state) → (f : Parts) (m : ℕ) → Means m f.control → IsTrue (is_multiple_frame (after t (received (frame f)) l).state)
       → (after t (received (frame f)) l).contents ≡ l.contents
-  frame-same was f m means up =
-      let this = frame-taken t l was f.address.command f.info m f.control means in
-      let stay = (this.took.by.stay up).2 in stay.same
+  frame-same was f m means up = let stay = ((frame-taken t l was f.address.command f.info m f.control means).took.by.stay up).2 in stay.same
 
 -- The link at an end.
 abbrev pub link_here : Service → ℕ → Station → Link
 link_here service tei s = link_of service tei (line_of s)
 
--- The frame that comes is the one that was given, where it comes whole.
-pub whole-is : (n201 : ℕ) (octets heard : List ℕ) → came n201 octets ≡ stream.frame heard → heard ≡ octets
-whole-is n201 octets heard e = grind (arith, nat_lt)
-
 -- What goes between two links that face each other is no unit data.
 abbrev pub IsPlain : Parts → Type 0
 IsPlain f = is_ui f.control ≡ false
 
-means-plain : (m : ℕ) (control : Control) → Means m control → is_ui control ≡ false
-means-plain m control h = grind arith
-
 amid : (xs ys zs : List Parts) (a r : ℕ) → Rising a r ((xs ++ ys) ++ zs) → All IsPlain ys
 amid [] [] zs a r h = All-nil IsPlain
-amid [] (y ∷ ys) zs a r (m, up, means, h) = All-cons IsPlain y ys (means-plain m y.control means) (amid [] ys zs m r h)
+amid [] (y ∷ ys) zs a r (m, up, means, h) = All-cons IsPlain y ys (grind arith) (amid [] ys zs m r h)
 amid (x ∷ xs) ys zs a r (m, up, means, h) = amid xs ys zs m r h
 
 -- The frame that an offer gives is one of the link.
@@ -91,10 +76,9 @@ module _ (c : Config) (service : Service) (tei : ℕ) where
   given-again None whole plain = refl
   given-again (Some g) whole plain =
       let f : Parts = record (frame_of (terms c service tei) g.frame) { info = unwrap_or g.contents [] } in
-      let not-ui = All-head IsPlain f [] plain in
       let its : is_of_link service tei f ≡ true =
       ap (λ b. (b && tei == tei) && not (is_ui f.control)) (eq-eqb (sapi_of service) (sapi_of service) refl)
-      ∙ ap (λ b. b && not (is_ui f.control)) (eq-eqb tei tei refl) ∙ ap not not-ui in
+      ∙ ap (λ b. b && not (is_ui f.control)) (eq-eqb tei tei refl) ∙ ap not (All-head IsPlain f [] plain) in
       append-nil (of_link_at service tei c.side (taken.frame_of c (terms c service tei) g))
       ∙ ap (of_link_in service tei) (reading-again c.side f (taken.frame_of c (terms c service tei) g) (record { is_frame = whole.whole; octets_are = refl }))
       ∙ ap (λ b. cond {A = List Parts} b (f ∷ []) []) its
@@ -102,9 +86,6 @@ module _ (c : Config) (service : Service) (tei : ℕ) where
 pub record IsWell (s : Station) : Type 0 where
   pub sound : card_sound.IsSound s.card
   pub within : s.line < s.card.config.lines
-
-pub happens-well : (s : Station) → IsWell s → (e : Event) → IsWell (happens e s)
-happens-well s h e = record { sound = after_is_sound s.card (at s.line e) h.sound h.within; within = h.within }
 
 -- A link in state 7 or 8 at a sound line is one of a TEI that is there, so it is sound.
 module _ (service : Service) (tei : ℕ) (s : Station) (well : IsWell s) where
@@ -115,9 +96,6 @@ module _ (service : Service) (tei : ℕ) (s : Station) (well : IsWell s) where
     pub ranges : link_sound.IsInRange its
     pub sound : link_sound.IsSound its (link_here service tei s)
 
-  line-well : line_sound.IsSound s.card.config (line_at s.line s.card)
-  line-well = line_sound_at s.card s.line (has_lines s.card well.sound) well.within
-
   pub proper : IsTrue (is_multiple_frame (link_here service tei s).state) → IsProper
   proper up = go (place_in (line_at s.line s.card) tei) refl up
     where
@@ -127,10 +105,10 @@ module _ (service : Service) (tei : ℕ) (s : Station) (well : IsWell s) where
       go (Some place) e up =
           let at = (place_of-is (line_at s.line s.card).management.places tei place e).1 in
           record {
-            ranges = terms_in_range s.card.config well.sound.config service tei (line-well.management.table.range place tei at);
+            ranges = terms_in_range s.card.config well.sound.config service tei ((line_sound_at s.card s.line (has_lines s.card well.sound) well.within).management.table.range place tei at);
             sound =
                 subst (link_sound.IsSound its) (sym (ap (λ o. option_map_or (link_in (line_at s.line s.card) service) o fresh) e))
-                (sound_in s.card.config well.sound.config (line_at s.line s.card) line-well service tei place at);
+                (sound_in s.card.config well.sound.config (line_at s.line s.card) (line_sound_at s.card s.line (has_lines s.card well.sound) well.within) service tei place at);
           }
 
 module _ (service : Service) (tei : ℕ) where
@@ -207,48 +185,47 @@ module _ (service : Service) (tei : ℕ) where
 
     -- it is an event of the link
     module _ (x : Has c service tei k (link_here service tei (happens e s)) e (answered e s)) where
-      up-then : IsTrue (is_multiple_frame (links.after Own x.event k).state)
+      up-then : IsTrue (is_multiple_frame (after Own x.event k).state)
       up-then = subst (λ (y : Link). IsTrue (is_multiple_frame y.state)) x.is x.up
 
       -- that gives no frame
-      pub linked : (dn : List (List ℕ)) (m : End) (ev : link.Event) → x.event ≡ ev → frames_given c Own ev k ≡ [] → Joined (with_link ev (facing s dn)) m → Still dn m
+      pub linked : (dn : List (List ℕ)) (m : End) (ev : LinkEvent) → x.event ≡ ev → frames_given c Own ev k ≡ [] → Joined (with_link ev (facing s dn)) m → Still dn m
       linked dn m ev is none h = grind (arith, same-end, option_to_list, way-then, frames_given, append-nil)
 
-      pub granted-by : (ev : link.Event) → x.event ≡ ev → (links.after Own ev k).contents ≡ k.contents ++ accepted Own ev k → Granted
+      pub granted-by : (ev : LinkEvent) → x.event ≡ ev → (after Own ev k).contents ≡ k.contents ++ accepted Own ev k → Granted
       granted-by ev is h = grind arith
 
-      pub up-by : (ev : link.Event) → x.event ≡ ev → IsTrue (is_multiple_frame (links.after Own ev k).state)
-      up-by ev is = subst (λ ev. IsTrue (is_multiple_frame (links.after Own ev k).state)) is up-then
+      pub up-by : (ev : LinkEvent) → x.event ≡ ev → IsTrue (is_multiple_frame (after Own ev k).state)
+      up-by ev is = subst (λ ev. IsTrue (is_multiple_frame (after Own ev k).state)) is up-then
 
-      pub expired-still : (dn : List (List ℕ)) (m : End) → Joined (facing s dn) m → (timer : LinkTimer) → x.event ≡ link.expired timer → Still dn m × Granted
+      pub expired-still : (dn : List (List ℕ)) (m : End) → Joined (facing s dn) m → (timer : LinkTimer) → x.event ≡ expired timer → Still dn m × Granted
       expired-still dn m h timer is =
-          let ev = link.expired timer in
+          let ev = expired timer in
           let up' = up-by ev is in (
             linked dn m ev is refl (done-at (two.at_near (two.expires timer)) (record { near = facing s dn; far = m }) (up', h.far_up) h),
             granted-by ev is ((timer-same Own k up timer up').0 ∙ sym (append-nil k.contents)),
           )
 
-      pub asked-still : (dn : List (List ℕ)) (m : End) → Joined (facing s dn) m → (asked : link.Request) (full : Bool) → x.event ≡ link.requested asked full → Still dn m × Granted
+      pub asked-still : (dn : List (List ℕ)) (m : End) → Joined (facing s dn) m → (asked : LinkRequest) (full : Bool) → x.event ≡ requested asked full → Still dn m × Granted
       asked-still dn m h asked full is =
-          let ev = link.requested asked full in
+          let ev = requested asked full in
           let up' = up-by ev is in (
             linked dn m ev is refl (done-at (two.at_near (two.asks asked full)) (record { near = facing s dn; far = m }) (up', h.far_up) h),
             granted-by ev is (request-grows Own k up asked full up').0,
           )
 
-      pub offer-still : (dn : List (List ℕ)) (m : End) → Joined (facing s dn) m → x.event ≡ link.offer → Still dn m × Granted
+      pub offer-still : (dn : List (List ℕ)) (m : End) → Joined (facing s dn) m → x.event ≡ offer → Still dn m × Granted
       offer-still dn m h is =
-          let ev = link.offer in
-          let up' = up-by ev is in
-          let given = links.given Own k in
-          let sent : Joined (with_sent (facing s dn)) m = done-at (two.at_near two.sends) (record { near = facing s dn; far = m }) (up', h.far_up) h in
+          let ev = offer in
+          let given = link_given Own k in
+          let sent : Joined (with_sent (facing s dn)) m = done-at (two.at_near two.sends) (record { near = facing s dn; far = m }) ((up-by ev is), h.far_up) h in
           let plain : All IsPlain (frame_given Own given) =
-          amid (way_here s) (frame_given Own given) (frames_of Own (links.after Own ev k).waiting) m.link.a (links.after Own ev k).r sent.back.rising in
+          amid (way_here s) (frame_given Own given) (frames_of Own (after Own ev k).waiting) m.link.a (after Own ev k).r sent.back.rising in
           let again = given-again c service tei given (given_is_frame Own h.near_ranges k h.near_sound) plain in (
             subst (λ n. Joined n m)
-                (sym (same-end dn (links.after Own ev k) (way_here s ++ frame_given Own given) dn
-                (x.is ∙ ap (λ ev. links.after Own ev k) is)
+                (sym (same-end dn (after Own ev k) (way_here s ++ frame_given Own given) dn
+                (x.is ∙ ap (λ ev. after Own ev k) is)
                 (way-then ∙ ap (λ fs. way_here s ++ of_link_on service tei c.side fs) (x.frames ∙ ap (λ ev. frames_given c Own ev k) is) ∙ ap (λ fs. way_here s ++ fs) again)
-                (ap (λ ds. dn ++ ds) (x.noted ∙ ap (λ ev. option_to_list (links.told Own ev k).delivered) is ∙ ap option_to_list (offer-tells_nothing Own k).1) ∙ append-nil dn))) sent,
+                (ap (λ ds. dn ++ ds) (x.noted ∙ ap (λ ev. option_to_list (told Own ev k).delivered) is ∙ ap option_to_list (offer-tells_nothing Own k).1) ∙ append-nil dn))) sent,
             granted-by ev is ((offer-same Own k h.near_ranges h.near_sound).0 ∙ sym (append-nil k.contents)),
           )

@@ -1,7 +1,6 @@
 -- The premises of the law are met by the worked run.
-use Rattle.laws_order.proofs.Vocabulary.{◌≡◌, ℕ, ◌<◌, true, List, [], ◌∷◌, ◌++◌, refl, sym, ap, ◌∙◌, arith, All, list_any, leb-true, All-nil, All-cons, User, Network, Service, Call, Packet, other_side, reading, header_of, control_of, unnumbered_of, supervisory_of, distance_of, named, seq, Assign, request, IsFront, calling, Wire, requests, at, acts, IsElsewhere, Happening, by_near, by_far, IsPossible, happening_all, seen_near, seen_far, t200s, IsToldAtLast, IsNotDeactivated, data_noted, data_granted, ends_by, known, IsInStep, FaceInStep, kept_by, StaysEstablished, IsToldOfRelease, news}
+use Rattle.laws_order.proofs.Vocabulary.{◌≡◌, ℕ, ◌<◌, true, List, [], ◌∷◌, ◌++◌, refl, sym, ap, ◌∙◌, arith, All, list_any, leb-true, All-nil, All-cons, User, Network, Service, Call, Packet, other_side, reading, header_of, control_of, unnumbered_of, supervisory_of, distance_of, named, seq, Assign, request, IsFront, calling, Wire, requests, at, acts, IsElsewhere, Happening, by_near, by_far, IsPossible, happening_all, seen_near, seen_far, t200s, IsToldAtLast, IsNotDeactivated, data_noted, data_granted, ends_by, known, IsInStep, FaceInStep, kept_by, StaysEstablished, IsToldOfRelease, news, tei_refusal, tei_course}
 use Rattle.laws_wire.specs.Wire.{acting, at_far, doing, doing_all}
-use Rattle.lapd_tei.specs.Events as teis
 use Rattle.model_line.specs.Machine as lines
 use Rattle.model_line.specs.Request.{SetBusy}
 use Rattle.laws_order.specs.Worked.{network, user, faces, calls_both, others_speak, both_send, is_busy, goes_again, busy_run, call_far as far_stays, owes, sends_one, sends_more, more_far_stays, busy_waits, clears, cleared_stays, enquires, asks_state, recovers, recovered_stays, early, loses_first, early_stays}
@@ -36,11 +35,11 @@ told-in-order : (w : Wire) (h : Pasts w) (hs : List Happening) → Looks Call w 
 told-in-order w h hs x all stays = (delivered-in-order Call 0 w h.near h.far hs (looks-so Call w h x) all).1 stays
 
 call-looks : Looks Call faces
-unfolding lines.after lines.answer lines.takes_slot reading header_of control_of unnumbered_of supervisory_of teis.course teis.refusal seq distance_of named doing_all
+unfolding lines.after lines.answer lines.takes_slot reading header_of control_of unnumbered_of supervisory_of tei_course tei_refusal seq distance_of named doing_all
 call-looks = grind (arith, leb-true)
 
 packet-looks : Looks Packet faces
-unfolding lines.after lines.answer lines.takes_slot reading header_of control_of unnumbered_of supervisory_of teis.course teis.refusal seq distance_of named doing_all
+unfolding lines.after lines.answer lines.takes_slot reading header_of control_of unnumbered_of supervisory_of tei_course tei_refusal seq distance_of named doing_all
 packet-looks = grind (arith, leb-true)
 
 packet-in-step : FaceInStep Packet 0 faces (known Packet 0 faces.near pasts.near) (known Packet 0 faces.far pasts.far)
@@ -58,11 +57,11 @@ all-of w [] h = All-nil (IsOpen w)
 all-of w (x ∷ hs) h = All-cons (IsOpen w) x hs h.0 (all-of w hs h.1)
 
 at-the-other-line : IsElsewhere faces.far (at 1 (request (Assign 5)))
-unfolding lines.after lines.answer lines.takes_slot reading header_of control_of unnumbered_of supervisory_of teis.course teis.refusal seq distance_of named doing_all
+unfolding lines.after lines.answer lines.takes_slot reading header_of control_of unnumbered_of supervisory_of tei_course tei_refusal seq distance_of named doing_all
 at-the-other-line = (leb-true 2 2 refl, λ same. let e : ◌≡◌ {A = ℕ} 1 0 = same in absurd (omega (arith, e)))
 
 others-are : ArePossible faces others_speak
-unfolding lines.after lines.answer lines.takes_slot reading header_of control_of unnumbered_of supervisory_of teis.course teis.refusal seq distance_of named doing_all
+unfolding lines.after lines.answer lines.takes_slot reading header_of control_of unnumbered_of supervisory_of tei_course tei_refusal seq distance_of named doing_all
 others-are = (refl, (refl, (refl, tt)))
 
 both : (w : Wire) (hs ks : List Happening) → ArePossible w hs → ArePossible w ks → ArePossible w (hs ++ ks)
@@ -101,7 +100,7 @@ acts-possible w other only = absurd only
 
 -- and in the midst of data: where something is received that is not acknowledged, and the N(R) on the other way is from before
 owing-looks : Looks Call owes
-unfolding lines.after lines.answer lines.takes_slot reading header_of control_of unnumbered_of supervisory_of teis.course teis.refusal seq distance_of named doing_all happening_all
+unfolding lines.after lines.answer lines.takes_slot reading header_of control_of unnumbered_of supervisory_of tei_course tei_refusal seq distance_of named doing_all happening_all
 owing-looks = grind (arith, leb-true)
 
 more-in-order : FarInOrder owes (all-happened sends_one tt faces pasts) sends_more
@@ -112,7 +111,7 @@ abbrev own_busy : List Happening
 own_busy = by_far (acts (requests (SetBusy Call 0))) ∷ []
 
 busy-looks : Looks Call busy_waits
-unfolding lines.after lines.answer lines.takes_slot reading header_of control_of unnumbered_of supervisory_of teis.course teis.refusal seq distance_of named doing_all happening_all
+unfolding lines.after lines.answer lines.takes_slot reading header_of control_of unnumbered_of supervisory_of tei_course tei_refusal seq distance_of named doing_all happening_all
 busy-looks = grind (arith, leb-true)
 
 cleared-in-order : FarInOrder busy_waits (all-happened own_busy tt faces pasts) clears
@@ -120,7 +119,7 @@ cleared-in-order = told-in-order busy_waits (all-happened own_busy tt faces past
 
 -- and where one end recovers, in state 8
 asking-looks : Looks Call enquires
-unfolding lines.after lines.answer lines.takes_slot reading header_of control_of unnumbered_of supervisory_of teis.course teis.refusal seq distance_of named doing_all happening_all
+unfolding lines.after lines.answer lines.takes_slot reading header_of control_of unnumbered_of supervisory_of tei_course tei_refusal seq distance_of named doing_all happening_all
 asking-looks = grind (arith, leb-true)
 
 asked-in-order : FarInOrder enquires (all-happened asks_state tt faces pasts) recovers
@@ -128,7 +127,7 @@ asked-in-order = told-in-order enquires (all-happened asks_state tt faces pasts)
 
 -- and where I-frames are on their way behind UA
 early-looks : Looks Call early
-unfolding lines.after lines.answer lines.takes_slot reading header_of control_of unnumbered_of supervisory_of teis.course teis.refusal seq distance_of named doing_all happening_all
+unfolding lines.after lines.answer lines.takes_slot reading header_of control_of unnumbered_of supervisory_of tei_course tei_refusal seq distance_of named doing_all happening_all
 early-looks = grind (arith, leb-true)
 
 early-pasts : Pasts early
@@ -162,7 +161,7 @@ all-active [] h = All-nil (IsNotDeactivated Call 0)
 all-active (x ∷ hs) h = All-cons (IsNotDeactivated Call 0) x hs h.0 (all-active hs h.1)
 
 first-lasts : StaysEstablished Call 0 (seen_far releases faces)
-unfolding lines.after lines.answer lines.takes_slot reading header_of control_of unnumbered_of supervisory_of teis.course teis.refusal seq distance_of named doing_all happening_all seen_far
+unfolding lines.after lines.answer lines.takes_slot reading header_of control_of unnumbered_of supervisory_of tei_course tei_refusal seq distance_of named doing_all happening_all seen_far
 first-lasts = refl
 
 both-told : list_any (ends_by Call 0) (seen_far comes released) ≡ true

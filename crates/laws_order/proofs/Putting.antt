@@ -73,29 +73,17 @@ module _ (P : Control → Type 0) where
     to-supervisory : (b : Bool) → EachWaits P (cond b (record { command = false; control = receipt_as l.own_busy l.r true } ∷ []) [])
     to-supervisory b = either b _ _ (receipt l.own_busy l.r true, tt) tt
 
-    answers-up : (command : Bool) (control : Control) → EachWaits P (answers_up command control l)
-    answers-up command control = grind (arith, to-information, to-supervisory)
-
     by-sabme : (here : State) (p : Bool) → P (Ua p) × P (Dm p) → P (to_sabme here p)
     by-sabme here p h = grind arith
 
     by-disc : (here : State) (p : Bool) → P (Ua p) × P (Dm p) → P (to_disc here p)
     by-disc here p h = grind arith
 
-    when-up : (command : Bool) (control : Control) → EachWaits P (cond (is_multiple_frame l.state) (answers_up command control l) [])
-    when-up command control = either (is_multiple_frame l.state) _ _ (answers-up command control) tt
-
-    answers-to : (command : Bool) (control : Control) → Answered P control → EachWaits P (answers_to command control l)
-    answers-to command control h = grind (arith, by-sabme, by-disc, when-up)
-
     its-answers : (e : Event) → AnsweredAt P e → EachWaits P (answers e l)
-    its-answers e h = grind (arith, answers-to, either, receipt)
-
-    its-command : (to : State) → Awaited P to → EachWaits P (command_in to l)
-    its-command to h = grind (arith, receipt)
+    its-answers e h = grind (arith, by-sabme, by-disc, either, to-information, to-supervisory, receipt)
 
     is-put : (e : Event) (to : State) → AnsweredAt P e → Awaited P to → EachWaits P (put e l to)
-    is-put e to h a = waits-append (answers e l) (commands e l to) (its-answers e h) (either (moves l.state to || is_time e l) (command_in to l) [] (its-command to a) tt)
+    is-put e to h a = waits-append (answers e l) (commands e l to) (its-answers e h) (either (moves l.state to || is_time e l) (command_in to l) [] (grind (arith, receipt)) tt)
 
     -- What waits behind what waited.
     module _ (t : Terms) where
@@ -133,8 +121,7 @@ module _ (P : Control → Type 0) where
         pub are : Each P news
 
       by-two : (b : Bool) (u v : Course) → (b ≡ true → Gives u) → Gives v → Gives (cond b u v)
-      by-two true u v x y = x refl
-      by-two false u v x y = y
+      by-two b u v x y = grind arith
 
       one : (c : Course) (f : Parts) → P f.control → l.waiting ≡ [] → c.link.waiting ≡ l.waiting → frame_given t (given_of t l c c.sent) ≡ f ∷ [] → Gives c
       one c f is e waits gives = record {
@@ -160,11 +147,7 @@ module _ (P : Control → Type 0) where
           let is = says (is-up l.state (not l.peer_busy) (nat_lt (outstanding l) t.k) (nat_lt l.s (length l.contents)) may) (seq l.s) (seq l.r) false in
           by-two (Offers.is_awaiting_acknowledgement (Offers.with_one_sent l)) _ _ (λ b. one _ information is e refl refl) (one _ information is e refl refl))
           (by-two l.pending _ _ (λ b. one _ (frame_of t (Words.response (ReceiveReady (seq l.r) false))) (reports.ready (seq l.r) false) e refl refl) none)
-      among says (f ∷ fs) e = record {
-        news = [];
-        line = λ way. append_assoc way (frame_of t f ∷ []) (frames_of t fs) ∙ ap (λ ws. way ++ frames_of t ws) (sym e) ∙ sym (append-nil (way ++ frames_of t l.waiting));
-        are = tt;
-      }
+      among says (f ∷ fs) e = grind (arith, append_assoc, frames_of, append-nil)
 
       pub offers : (IsTrue (is_multiple_frame l.state) → (ns nr : Seq) (p : Bool) → P (Information ns nr p)) → Gives (course t offer l)
       offers says = among says l.waiting refl

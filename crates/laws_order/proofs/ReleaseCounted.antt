@@ -1,13 +1,10 @@
 -- An end that releases its link counts in RC the expiries of T200, until it is told.
-use Rattle.laws_order.proofs.Vocabulary.{◌≡◌, ℕ, ◌+◌, ◌≤◌, Bool, true, false, cond, List, [], ◌∷◌, ◌++◌, get_or, set, Option, Some, None, refl, sym, ap, ◌∙◌, subst, arith, ◌⊎◌, inl, inr, All, filter, length, nat_lt, ltb-true, get_or-set_same, All-head, Note, Service, TeiAssigned, AwaitingRelease, Terms, LinkTimer, T200, T203, Link, runs, Config, hears, Line, fresh_line, link_of, place_in, terms, line_at, wants_room, has_lines, by_room, as_heard, is_clearing, is_time, event-follows, timed-after, IsBy, Seen, none-ticks, own-is, Goes, event-goes, expired_of, off-fresh, nothing_yet, Station, Wire, happens, fresh, Event, at, line_of, Happening, IsPossible, happening, seen_at_near, seen_near, is_t200, t200_by, t200s, news}
-use Rattle.model_bits.specs.Stream as stream
-use Rattle.model_link.specs.Events as link
-use Rattle.model_link.specs.Machine as links
+use Rattle.laws_order.proofs.Vocabulary.{◌≡◌, ℕ, ◌+◌, ◌≤◌, Bool, true, false, cond, List, [], ◌∷◌, ◌++◌, get_or, set, Option, Some, None, refl, sym, ap, ◌∙◌, subst, arith, ◌⊎◌, inl, inr, All, filter, length, nat_lt, ltb-true, get_or-set_same, All-head, Note, Service, TeiAssigned, AwaitingRelease, Terms, LinkTimer, T200, T203, Link, runs, Config, hears, Line, fresh_line, link_of, place_in, terms, line_at, wants_room, has_lines, by_room, as_heard, is_clearing, is_time, event-follows, timed-after, IsBy, Seen, none-ticks, own-is, Goes, event-goes, expired_of, off-fresh, nothing_yet, Station, Wire, happens, fresh, Event, at, line_of, Happening, IsPossible, happening, seen_at_near, seen_near, is_t200, t200_by, t200s, news, stream_overlong, stream_frame, LinkEvent, expired, after, flat_map-append, news_in}
 use Rattle.model_line.specs.Machine as lines
 use Rattle.model_line.specs.Sound as line_sound
 use Rattle.model_card.proofs.Steps.{line_sound as sound_line}
 use Rattle.laws_order.proofs.Pairs.{link_here, IsWell}
-use Rattle.laws_order.proofs.Released.{Occurs, nothing_there, one_there, then-well, news-append, step-six, StepSix, events_at, occurs, later}
+use Rattle.laws_order.proofs.Released.{Occurs, nothing_there, one_there, then-well, step-six, StepSix, events_at, occurs, later}
 
 -- A link in state 6 that stays there runs T200, and RC counts its expiries, up to N200.
 pub record Counted (t : Terms) (l l' : Link) (n : ℕ) : Type 0 where
@@ -18,31 +15,19 @@ pub record Counted (t : Terms) (l l' : Link) (n : ℕ) : Type 0 where
 uncounted : (t : Terms) (l l' : Link) (n : ℕ) → l.running ≡ Some T200 → l' ≡ l → n ≡ 0 → Counted t l l' n
 uncounted t l l' n runs same none = grind arith
 
-abbrev times : link.Event → ℕ
-times (link.expired T200) = 1
+abbrev times : LinkEvent → ℕ
+times (expired T200) = 1
 times other = 0
 
 module _ (t : Terms) (l : Link) (is : l.state ≡ AwaitingRelease) (runs-on : l.running ≡ Some T200) where
-  abbrev l' : link.Event → Link
-  l' e = links.after t e l
-
-  keeps-running : (e : link.Event) → (l' e).state ≡ AwaitingRelease → (l' e).running ≡ Some T200
-  keeps-running e stays = grind (arith, timed-after, t)
+  abbrev l' : LinkEvent → Link
+  l' e = after t e l
 
   abbrev left : Bool → ℕ
   left time = cond time (l.repeats + 1) l.repeats
 
-  repeats-so : (e : link.Event) → (l' e).state ≡ AwaitingRelease → is_clearing (as_heard t e) ≡ false → (l' e).repeats ≡ left (is_time (as_heard t e) l)
-  repeats-so e stays heard = grind (arith, event-follows, t)
-
-  unexpired : (e : link.Event) → (l' e).state ≡ AwaitingRelease → is_clearing (as_heard t e) ≡ false → is_time (as_heard t e) l ≡ false → times e ≡ 0 → Counted t l (l' e) (times e)
-  unexpired e stays heard time none = grind (arith, keeps-running, repeats-so)
-
-  expires : (again : Bool) → nat_lt l.repeats t.n200 ≡ again → (l' (link.expired T200)).state ≡ AwaitingRelease → Counted t l (l' (link.expired T200)) 1
-  expires again few stays = grind (arith, keeps-running, repeats-so, nat_lt, event-follows, t, ltb-true)
-
-  link-counts : (e : link.Event) → (l' e).state ≡ AwaitingRelease → Counted t l (l' e) (times e)
-  link-counts e stays = grind (arith, unexpired, expires, nat_lt, event-follows, t)
+  expires : (again : Bool) → nat_lt l.repeats t.n200 ≡ again → (l' (expired T200)).state ≡ AwaitingRelease → Counted t l (l' (expired T200)) 1
+  expires again few stays = grind (arith, timed-after, event-follows, nat_lt, t, ltb-true)
 
 module _ (service : Service) (tei : ℕ) where
   abbrev count_of : Event → ℕ
@@ -76,10 +61,10 @@ module _ (service : Service) (tei : ℕ) where
     abbrev k' : Link
     k' = link_of service tei (lines.after c e l)
 
-    faulty : (octets : List ℕ) (A B : Type 0) → ((e ≡ hears (stream.frame octets)) × A) ⊎ ((e ≡ hears (stream.overlong octets)) × B) → count_of e ≡ 0
+    faulty : (octets : List ℕ) (A B : Type 0) → ((e ≡ hears (stream_frame octets)) × A) ⊎ ((e ≡ hears (stream_overlong octets)) × B) → count_of e ≡ 0
     faulty octets A B o = grind arith
 
-    count-is : (ev : link.Event) → IsBy c e (lines.answer c e l) service tei ev → count_of e ≡ times ev
+    count-is : (ev : LinkEvent) → IsBy c e (lines.answer c e l) service tei ev → count_of e ≡ times ev
     count-is ev by = grind (arith, own-is, faulty)
 
     line-counts : k.state ≡ AwaitingRelease → k.running ≡ Some T200 → k'.state ≡ AwaitingRelease → Counted Own k k' (count_of e)
@@ -95,9 +80,7 @@ module _ (service : Service) (tei : ℕ) where
             by-place None off h = not-fresh k is (off-fresh service tei l off) (Counted Own k k' (count_of e))
             by-place (Some place) on (inl same) = uncounted Own k k' (count_of e) runs-on same (none-counted e (none-ticks c service tei nothing_yet l place on e x.aims))
             by-place (Some place) on (inr new) = not-fresh k' stays new (Counted Own k k' (count_of e))
-        go (inr (inl x)) =
-            subst (Counted Own k k') (sym (count-is x.event x.by))
-            (subst (λ y. Counted Own k y (times x.event)) (sym x.is) (link-counts Own k is runs-on x.event (sym (ap (λ (y : Link). y.state) x.is) ∙ stays)))
+        go (inr (inl x)) = grind (arith, count-is, timed-after, event-follows, expires, nat_lt)
         go (inr (inr x)) = not-fresh k' stays x.is (Counted Own k k' (count_of e))
 
   -- At a station.
@@ -137,17 +120,13 @@ module _ (service : Service) (tei : ℕ) where
 
   step-counts : (w w' : Wire) (t : List Seen) (es : List Event) → IsWell w.near → (Here w).state ≡ AwaitingRelease → (Here w).running ≡ Some T200 → Occurs service tei w w' t es
       → (Here w').state ≡ AwaitingRelease → Counted (Own_ w) (Here w) (Here w') (length (filter (is_t200 service tei) es)) × (w'.near.card.config ≡ w.near.card.config)
-  step-counts w w' t es well is runs-on (nothing_there same none nil) stays =
-      (uncounted (Own_ w) (Here w) (Here w') _ runs-on same.1 (ap (λ es. length (filter (is_t200 service tei) es)) nil), same.2)
+  step-counts w w' t es well is runs-on (nothing_there same none nil) stays = grind (arith, uncounted)
   step-counts w w' t es well is runs-on (one_there e it shown one) stays = (
     subst (λ es. Counted (Own_ w) (Here w) (Here w') (length (filter (is_t200 service tei) es))) (sym one)
         (subst (λ s. Counted (Own_ w) (Here w) (link_here service tei s) (count_of e)) (sym it)
         (station-counts w.near well e is runs-on (sym (ap (λ (s : Station). (link_here service tei s).state) it) ∙ stays))),
     ap (λ (s : Station). s.card.config) it,
   )
-
-  t200-at : (h : Happening) (w : Wire) → t200_by service tei h w ≡ length (filter (is_t200 service tei) (events_at service tei h w))
-  t200-at h w = grind arith
 
   abbrev pub Bounded : ℕ → ℕ → ℕ → Type 0
   Bounded n r most = (n ≡ 0) ⊎ (n + r ≤ most)
@@ -179,7 +158,7 @@ module _ (service : Service) (tei : ℕ) where
       es = events_at service tei h w
 
       split : news service tei t ++ news service tei (seen_near hs w') ≡ []
-      split = sym (news-append service tei t (seen_near hs w')) ∙ none
+      split = sym (flat_map-append (news_in service tei) t (seen_near hs w')) ∙ none
 
       go : Occurs service tei w w' t es
           → (IsWell w'.near → (Here w').state ≡ AwaitingRelease → (Here w').running ≡ Some T200 → news service tei (seen_near hs w') ≡ []
@@ -188,7 +167,7 @@ module _ (service : Service) (tei : ℕ) where
       go o behind (inl (stays, x)) =
           let c = step-counts w w' t es well is runs-on o stays in
           let n = length (filter (is_t200 service tei) es) in
-          subst (λ n. Bounded (n + t200s service tei hs w') (Here w).repeats (Own_ w).n200) (sym (t200-at h w))
+          subst (λ n. Bounded (n + t200s service tei hs w') (Here w).repeats (Own_ w).n200) (sym (grind arith))
           (add n (t200s service tei hs w') (Here w).repeats (Here w').repeats (Own_ w).n200 (Own_ w').n200 c.0.repeats (ap (λ (c : Config). (terms c service tei).n200) c.1) c.0.below
           (behind (then-well service tei w w' t es well o) stays c.0.running (ap (λ ns. ns ++ news service tei (seen_near hs w')) (sym x.0) ∙ split)))
       go o behind (inr (to, inl (x, may))) = absurd (untold _ [] _ x.0 _ split)

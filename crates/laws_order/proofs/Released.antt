@@ -1,9 +1,9 @@
 -- What an end is told of its link in state 6, and in state 4, whatever happens at it and at the other end.
-use Rattle.laws_order.proofs.Vocabulary.{arith, ◌≡◌, ℕ, List, [], ◌∷◌, ◌++◌, refl, sym, ap, ◌∙◌, subst, append-nil, ◌⊎◌, inl, inr, All, list_any, All-head, All-tail, list_any-append, Note, Service, State, TeiAssigned, AwaitingRelease, Link, came, hears, expiry, request, next, link_of, after_is_sound, Seen, seen, Station, Wire, requests, times_out, gives, takes, loses, answered, happens, turned, flat_map-append, Event, line_of, Deed, acts, disturbed, elsewhere, befalling, Happening, by_near, by_far, IsPossible, happening, IsPossibleAt, events_here, seen_by, seen_at_near, seen_near, data_noted, news_in, news, begins_by, BeginsNothing, IsToldOfRelease, ReleasesEnd, ReleasedIsOver, or_parts}
+use Rattle.laws_order.proofs.Vocabulary.{arith, ◌≡◌, ℕ, List, [], ◌∷◌, ◌++◌, refl, sym, ap, ◌∙◌, subst, append-nil, ◌⊎◌, inl, inr, All, list_any, All-head, All-tail, list_any-append, Note, Service, State, TeiAssigned, AwaitingRelease, Link, came, hears, expiry, request, next, link_of, after_is_sound, Seen, seen, Station, Wire, requests, times_out, gives, takes, loses, answered, happens, turned, flat_map-append, Event, line_of, Deed, acts, disturbed, elsewhere, befalling, Happening, by_near, by_far, IsPossible, happening, IsPossibleAt, events_here, seen_by, seen_at_near, seen_near, data_noted, news_in, news, begins_by, BeginsNothing, IsToldOfRelease, ReleasesEnd, ReleasedIsOver, or_parts, at}
 use Rattle.laws_order.proofs.Beginning.{past-well, six-here, four-here}
 use Rattle.laws_order.proofs.Leading.{other-line}
 use Rattle.laws_order.proofs.Ordered.{noted-append, near-place, far-place, all-possible}
-use Rattle.laws_order.proofs.Pairs.{link_here, IsWell, happens-well}
+use Rattle.laws_order.proofs.Pairs.{link_here, IsWell}
 use Rattle.laws_order.proofs.ReleasedAt.{Confirm, GivenUp, Confirmless, SixAt, station-six, station-four}
 
 module _ (service : Service) (tei : ℕ) where
@@ -30,26 +30,17 @@ module _ (service : Service) (tei : ℕ) where
   near-occurs (acts takes) w well is = takes-occurs w.near w.far w.far.way well
   near-occurs (acts loses) w well is = nothing_there (record { sound = well.sound; within = well.within }, refl, refl) refl refl
   near-occurs (disturbed what) w well is = one-event _ _ (hears what) refl
-  near-occurs (elsewhere e) w well is =
-      nothing_there (record { sound = after_is_sound w.near.card e well.sound is.0; within = well.within }, ap (link_of service tei) (other-line service tei w.near e is), refl) refl refl
+  near-occurs (elsewhere e) w well is = grind (arith, after_is_sound, other-line)
 
   far-occurs : (deed : Deed) (w : Wire) → IsWell w.far → Occurs (turned w) (turned (befalling deed w)) [] []
   far-occurs (acts (requests r)) w well = nothing_there (well, refl, refl) refl refl
-  far-occurs (acts (times_out timer)) w well = nothing_there (well, refl, refl) refl refl
-  far-occurs (acts gives) w well = nothing_there (well, refl, refl) refl refl
-  far-occurs (acts takes) w well = nothing_there (record { sound = well.sound; within = well.within }, refl, refl) refl refl
-  far-occurs (acts loses) w well = nothing_there (well, refl, refl) refl refl
-  far-occurs (disturbed what) w well = nothing_there (well, refl, refl) refl refl
-  far-occurs (elsewhere e) w well = nothing_there (well, refl, refl) refl refl
+  far-occurs deed w well = grind arith
 
   pub then-well : (w w' : Wire) (t : List Seen) (es : List Event) → IsWell w.near → Occurs w w' t es → IsWell w'.near
   then-well w w' t es well (nothing_there same none nil) = same.0
-  then-well w w' t es well (one_there e is shown one) = subst IsWell (sym is) (happens-well w.near well e)
+  then-well w w' t es well (one_there e is shown one) = subst IsWell (sym is) (record { sound = after_is_sound w.near.card (at w.near.line e) well.sound well.within; within = well.within })
 
   -- Whole runs.
-  pub news-append : (t u : List Seen) → news service tei (t ++ u) ≡ news service tei t ++ news service tei u
-  news-append t u = flat_map-append (news_in service tei) t u
-
   pub both-quiet : (t u : List Seen) → BeginsNothing service tei (t ++ u) → BeginsNothing service tei t × BeginsNothing service tei u
   both-quiet t u h = or_parts (list_any (begins_by service tei) t) (list_any (begins_by service tei) u) (sym (list_any-append (begins_by service tei) t u) ∙ h)
 
@@ -58,22 +49,16 @@ module _ (service : Service) (tei : ℕ) where
 
   pub joins : (t u : List Seen) (ns ms : List Note) → Is t ns → Is u ms → Is (t ++ u) (ns ++ ms)
   joins t u ns ms x y = (
-    news-append t u ∙ ap (λ a. a ++ news service tei u) x.0 ∙ ap (λ b. ns ++ b) y.0,
+    (flat_map-append (news_in service tei) t u) ∙ ap (λ a. a ++ news service tei u) x.0 ∙ ap (λ b. ns ++ b) y.0,
     noted-append service tei t u ∙ ap (λ a. a ++ data_noted service tei u) x.1 ∙ y.1,
   )
 
-  none-is : (t : List Seen) → t ≡ [] → Is t []
-  none-is t e = (ap (news service tei) e, ap (data_noted service tei) e)
-
-  one-is : (t : List Seen) (ns : List Note) (u : List Seen) → t ≡ u → Is u ns → Is t ns
-  one-is t ns u e x = (ap (news service tei) e ∙ x.0, ap (data_noted service tei) e ∙ x.1)
-
   step-four : (w w' : Wire) (t : List Seen) (es : List Event) → IsWell w.near → (link_here service tei w.near).state ≡ TeiAssigned → BeginsNothing service tei t
       → Occurs w w' t es → ((link_here service tei w'.near).state ≡ TeiAssigned) × Is t []
-  step-four w w' t es well is quiet (nothing_there same none nil) = (ap (λ (y : Link). y.state) same.1 ∙ is, none-is t none)
+  step-four w w' t es well is quiet (nothing_there same none nil) = (ap (λ (y : Link). y.state) same.1 ∙ is, ((ap (news service tei) none, ap (data_noted service tei) none)))
   step-four w w' t es well is quiet (one_there e it shown one) =
       let x = station-four service tei w.near well e (subst (BeginsNothing service tei) shown quiet) is in
-      (ap (λ (s : Station). (link_here service tei s).state) it ∙ x.0, one-is t [] (seen e (answered e w.near)) shown x.1)
+      (ap (λ (s : Station). (link_here service tei s).state) it ∙ x.0, ((ap (news service tei) shown ∙ x.1.0, ap (data_noted service tei) shown ∙ x.1.1)))
 
   -- where a release is confirmed, one of its events may confirm it
   abbrev pub MayConfirm : Wire → Wire → List Event → Type 0
@@ -85,7 +70,7 @@ module _ (service : Service) (tei : ℕ) where
       ⊎ (((link_here service tei w'.near).state ≡ TeiAssigned) × ((Is t (Confirm service tei) × MayConfirm w w' es) ⊎ Is t (GivenUp service tei)))
 
   pub step-six : (w w' : Wire) (t : List Seen) (es : List Event) → IsWell w.near → (link_here service tei w.near).state ≡ AwaitingRelease → Occurs w w' t es → StepSix w w' t es
-  step-six w w' t es well is (nothing_there same none nil) = inl (ap (λ (y : Link). y.state) same.1 ∙ is, none-is t none)
+  step-six w w' t es well is (nothing_there same none nil) = inl (ap (λ (y : Link). y.state) same.1 ∙ is, ((ap (news service tei) none, ap (data_noted service tei) none)))
   step-six w w' t es well is (one_there e it shown one) = go (station-six service tei w.near well e is)
     where
       to-state : (to : State) → (link_here service tei (happens e w.near)).state ≡ to → (link_here service tei w'.near).state ≡ to
@@ -98,7 +83,7 @@ module _ (service : Service) (tei : ℕ) where
           never (subst (λ s. Confirmless service tei w.near.card.config e (line_of s)) it (All-head (λ e. Confirmless service tei w.near.card.config e (line_of w'.near)) e [] mine))
 
       go : SixAt service tei w.near well e (line_of (happens e w.near)) (answered e w.near) → StepSix w w' t es
-      go o = grind (arith, to-state, one-is, Confirm, none-of, GivenUp)
+      go o = grind (arith, to-state, Confirm, none-of, GivenUp)
 
   abbrev IsOpen : Wire → Happening → Type 0
   IsOpen w h = IsPossible service tei w h
@@ -133,15 +118,12 @@ module _ (service : Service) (tei : ℕ) where
   not-yet : (t : List Seen) → Is t [] → Released t
   not-yet t x = (inl x.0, x.1)
 
-  confirmed-so : (t : List Seen) → Is t (Confirm service tei) → Released t
-  confirmed-so t x = (inr (inl x.0), x.1)
-
   given-up-so : (t : List Seen) → Is t (GivenUp service tei) → Released t
   given-up-so t x = (inr (inr x.0), x.1)
 
   behind-none : (t u : List Seen) → Is t [] → Released u → Released (t ++ u)
   behind-none t u x y = (
-    subst (IsToldOfRelease service tei) (sym (news-append t u ∙ ap (λ a. a ++ news service tei u) x.0)) y.0,
+    subst (IsToldOfRelease service tei) (sym ((flat_map-append (news_in service tei) t u) ∙ ap (λ a. a ++ news service tei u) x.0)) y.0,
     noted-append service tei t u ∙ ap (λ a. a ++ data_noted service tei u) x.1 ∙ y.1,
   )
 
@@ -162,7 +144,7 @@ module _ (service : Service) (tei : ℕ) where
       go : (w' : Wire) (t u : List Seen) → ((link_here service tei w'.near).state ≡ AwaitingRelease → Released u) → ((link_here service tei w'.near).state ≡ TeiAssigned → Is u [])
           → StepSix w w' t (events_at h w) → Released (t ++ u)
       go w' t u six four (inl (is, x)) = behind-none t u x (six is)
-      go w' t u six four (inr (is, inl x)) = confirmed-so (t ++ u) (joins t u (Confirm service tei) [] x.0 (four is))
+      go w' t u six four (inr (is, inl x)) = ((inr (inl (joins t u (Confirm service tei) [] x.0 (four is)).0), (joins t u (Confirm service tei) [] x.0 (four is)).1))
       go w' t u six four (inr (is, inr x)) = given-up-so (t ++ u) (joins t u (GivenUp service tei) [] x (four is))
 
 pub releases-end : ReleasesEnd

@@ -1,8 +1,5 @@
 -- What one event at an end tells of its link in state 6, and in state 4.
-use Rattle.laws_order.proofs.Vocabulary.{◌≡◌, ℕ, Bool, true, false, cond, List, [], ◌∷◌, get_or, set, Option, Some, None, refl, sym, ap, ◌∙◌, subst, arith, append-nil, true≢false, ◌⊎◌, inl, inr, filter, option_to_list, list_any, get_or-set_same, Control, H, Note, Refusal, PoolFull, Service, TeiAssigned, AwaitingRelease, Terms, Link, state_number, Config, request, Answer, refused, Line, fresh_line, has_tei, link_of, place_in, terms, line_at, has_lines, by_room, notes_of, contents_in, deactivates, is_granted, IsBy, is-off, seen, is_ui, unless, no-data, on-line, own-is, leaving-due, none-filtered, others-silent, due, HasOne, HasNone, IsGivenUp, event-goes, off-fresh, Station, answered, happens, fresh, Request, at, line_of, data_noted, is_news, news, begins_by_note, begins_by_request, begins_by, BeginsNothing}
-use Rattle.lapd_frame.specs.declared.notes.Note.TheVariants as notes
-use Rattle.model_link.specs.Events as link
-use Rattle.model_link.specs.Machine as links
+use Rattle.laws_order.proofs.Vocabulary.{◌≡◌, ℕ, Bool, true, false, cond, List, [], ◌∷◌, get_or, set, Option, Some, None, refl, sym, ap, ◌∙◌, subst, arith, append-nil, true≢false, ◌⊎◌, inl, inr, filter, option_to_list, list_any, get_or-set_same, Control, H, Note, Refusal, PoolFull, Service, TeiAssigned, AwaitingRelease, Terms, Link, state_number, Config, request, Answer, refused, Line, fresh_line, has_tei, link_of, place_in, terms, line_at, has_lines, by_room, notes_of, contents_in, deactivates, is_granted, IsBy, is-off, seen, is_ui, unless, no-data, on-line, own-is, leaving-due, none-filtered, others-silent, due, HasOne, HasNone, IsGivenUp, event-goes, off-fresh, Station, answered, happens, fresh, Request, at, line_of, data_noted, is_news, news, begins_by_note, begins_by_request, begins_by, BeginsNothing, link_frame, received, LinkEvent, cleared, after, told, NoteError, NoteReleaseConfirm, or-true}
 use Rattle.model_line.specs.Event.{Event}
 use Rattle.model_line.specs.Machine as lines
 use Rattle.model_line.specs.Sound as line_sound
@@ -10,7 +7,6 @@ use Rattle.model_card.proofs.Steps.{line_sound as sound_line}
 use Rattle.laws_trace.specs.News as trace
 use Rattle.laws_order.proofs.Down.{Speaks}
 use Rattle.laws_order.proofs.LinkReleased.{Tells, In6, In4, Begins, AsksNothing, Confirms, ConfirmsAt, in-6, in-4}
-use Rattle.laws_order.proofs.LinkEnds.{or-true}
 use Rattle.laws_order.proofs.Pairs.{link_here, IsWell}
 use Rattle.laws_order.proofs.Saying.{HeardIs, by-ui}
 use Rattle.laws_order.proofs.Shown.{Fits, fits, noted_by, noted-is, none-noted}
@@ -47,10 +43,10 @@ module _ (service : Service) (tei : ℕ) where
     pub no_data : noted_by service tei a ≡ []
 
   abbrev pub Confirm : List Note
-  Confirm = notes.ReleaseConfirm service tei ∷ []
+  Confirm = NoteReleaseConfirm service tei ∷ []
 
   abbrev pub GivenUp : List Note
-  GivenUp = notes.Error service tei H ∷ Confirm
+  GivenUp = NoteError service tei H ∷ Confirm
 
   abbrev pub Six : Type 0 → Link → Answer → Type 0
   Six cause k a = ((k.state ≡ AwaitingRelease) × Says a []) ⊎ ((k.state ≡ TeiAssigned) × ((Says a Confirm × cause) ⊎ Says a GivenUp))
@@ -65,14 +61,8 @@ module _ (service : Service) (tei : ℕ) where
   Four k a = (k.state ≡ TeiAssigned) × Says a []
 
   -- What is seen of an answer.
-  news-is : (e : Event) (a : Answer) → Fits e a → news service tei (seen e a) ≡ News (notes_of a)
-  news-is e a f = grind (arith, append-nil)
-
   none-news : (e : Event) (why : Refusal) → news service tei (seen e (refused why)) ≡ []
   none-news e why = grind arith
-
-  asked-begins : (r : Request) (a : Answer) → is_granted a ≡ true → begins_by_request service tei r ≡ true → list_any (begins_by service tei) (seen (request r) a) ≡ true
-  asked-begins r a g h = grind arith
 
   noted-begins : (e : Event) (a : Answer) → Fits e a → list_any (begins_by_note service tei) (notes_of a) ≡ true → list_any (begins_by service tei) (seen e a) ≡ true
   noted-begins e a f h = grind (arith, or-true)
@@ -114,12 +104,9 @@ module _ (service : Service) (tei : ℕ) where
       new-state : k' ≡ fresh → k'.state ≡ TeiAssigned
       new-state is = ap (λ (y : Link). y.state) is
 
-      either-new : k ≡ fresh → (k' ≡ k) ⊎ (k' ≡ fresh) → k'.state ≡ TeiAssigned
-      either-new was o = grind (arith, new-state)
-
       off-says : place_in l tei ≡ None → Four k' a
       off-says off = (
-        either-new (off-fresh service tei l off) x.is,
+        (grind (arith, new-state)),
         by-trace [] (none-filtered service tei (notes_of a) (others-silent service tei c e l s x.aims (inl (is-off l.management.places tei off)))),
       )
 
@@ -156,56 +143,49 @@ module _ (service : Service) (tei : ℕ) where
           go None off p q = off-says off
           go (Some place) on (Some there) still =
               (ap (λ (y : Link). y.state) (x.stays (on-line l tei place on) (on-line l' tei there still)) ∙ is, on-says there still)
-          go (Some place) on None off = (
-            new-state (off-fresh service tei l' off),
-            subst (Says a) (ap (λ here. News (due service tei [] false false false false false (state_number here) 4)) is) (left-says place on off),
-          )
+          go (Some place) on None off = grind (arith, new-state, off-fresh, left-says)
 
     -- an event of it
     module _ (x : HasOne c service tei e l l' a) where
-      state-is : k'.state ≡ (links.after Own x.event k).state
+      state-is : k'.state ≡ (after Own x.event k).state
       state-is = ap (λ (y : Link). y.state) x.is
 
-      unconfirmed : (ev : link.Event) → IsBy c e a service tei ev → ConfirmsAt ev → Cause
-      unconfirmed (link.received (link.frame f)) by h = λ none. by-ui c service tei ranged l s e Speaks Unconfirming ui-unconfirming speaks-unconfirming none.heard f by h
-      unconfirmed link.cleared by h = absurd by
+      unconfirmed : (ev : LinkEvent) → IsBy c e a service tei ev → ConfirmsAt ev → Cause
+      unconfirmed (received (link_frame f)) by h = λ none. by-ui c service tei ranged l s e Speaks Unconfirming ui-unconfirming speaks-unconfirming none.heard f by h
+      unconfirmed cleared by h = absurd by
       unconfirmed other by h = absurd h
 
       one-six : k.state ≡ AwaitingRelease → Six Cause k' a
       one-six is = go (in-6 Own k is x.event)
         where
-          go : In6 Own (ConfirmsAt x.event) (links.told Own x.event k).notes (links.after Own x.event k).state → Six Cause k' a
+          go : In6 Own (ConfirmsAt x.event) (told Own x.event k).notes (after Own x.event k).state → Six Cause k' a
           go (inl y) = inl (state-is ∙ y.0, by-notes _ [] x.notes y.1)
           go (inr (to, inl y)) = inr (state-is ∙ to, inl (by-notes _ Confirm x.notes y.0, unconfirmed x.event x.by y.1))
           go (inr (to, inr y)) = inr (state-is ∙ to, inr (by-notes _ GivenUp x.notes y))
 
-      asks-nothing : Quietly → (ev : link.Event) → IsBy c e a service tei ev → AsksNothing Own ev
-      asks-nothing quiet ev by = grind (arith, own-is, asked-begins)
+      asks-nothing : Quietly → (ev : LinkEvent) → IsBy c e a service tei ev → AsksNothing Own ev
+      asks-nothing quiet ev by = grind (arith, own-is)
 
       one-four : Quietly → k.state ≡ TeiAssigned → Four k' a
       one-four quiet is = go (in-4 Own k is x.event (asks-nothing quiet x.event x.by))
         where
-          go : Begins Own (links.told Own x.event k).notes ⊎ In4 Own (links.told Own x.event k).notes (links.after Own x.event k).state → Four k' a
+          go : Begins Own (told Own x.event k).notes ⊎ In4 Own (told Own x.event k).notes (after Own x.event k).state → Four k' a
           go (inl begun) = absurd (true≢false (sym (noted-begins e a (fits c e l) (ap (list_any (begins_by_note service tei)) x.notes ∙ begun)) ∙ quiet))
           go (inr y) = (state-is ∙ y.0, by-notes _ [] x.notes y.1)
 
     -- its deactivation
     module _ (x : IsGivenUp c service tei e l l' a) where
-      ended-state : k'.state ≡ TeiAssigned
-      ended-state = ap (λ (y : Link). y.state) x.is
-
       deactivated : deactivates service tei e ≡ true
       deactivated = ap (deactivates service tei) x.by.0 ∙ own-is service tei
 
       ended-six : k.state ≡ AwaitingRelease → Six Cause k' a
-      ended-six is = grind (arith, in-6, In6, ConfirmsAt, ended-state, by-notes, deactivated)
+      ended-six is = grind (arith, in-6, In6, ConfirmsAt, by-notes, deactivated)
 
       ended-four : Quietly → k.state ≡ TeiAssigned → Four k' a
-      ended-four quiet is = go (in-4 Own k is link.cleared tt)
+      ended-four quiet is = go (in-4 Own k is cleared tt)
         where
-          go : Begins Own (links.told Own link.cleared k).notes ⊎ In4 Own (links.told Own link.cleared k).notes (links.after Own link.cleared k).state → Four k' a
-          go (inl begun) = absurd (true≢false (sym (noted-begins e a (fits c e l) (ap (list_any (begins_by_note service tei)) x.notes ∙ begun)) ∙ quiet))
-          go (inr y) = (ended-state, by-notes _ [] x.notes y.1)
+          go : Begins Own (told Own cleared k).notes ⊎ In4 Own (told Own cleared k).notes (after Own cleared k).state → Four k' a
+          go o = grind (arith, noted-begins, by-notes)
 
     pub line-six : k.state ≡ AwaitingRelease → Six Cause k' a
     line-six is = elim (event-goes c e l service tei s) [ inl x ↦ none-six x is | inr (inl x) ↦ one-six x is | inr (inr x) ↦ ended-six x is ]
@@ -237,7 +217,7 @@ module _ (service : Service) (tei : ℕ) where
         ((to ≡ AwaitingRelease) × Shows a []) ⊎ ((to ≡ TeiAssigned) × ((Shows a Confirm × (Confirmless conf e l → ⊥)) ⊎ Shows a GivenUp))
 
     shows : (a : Answer) → Fits e a → (ns : List Note) → Says a ns → Shows a ns
-    shows a f ns x = (news-is e a f ∙ x.news, noted-is service tei e a f ∙ x.no_data)
+    shows a f ns x = ((grind (arith, append-nil)) ∙ x.news, noted-is service tei e a f ∙ x.no_data)
 
     six-shows : (l : Line) (a : Answer) → Fits e a → Six (Confirmless conf e l → ⊥) (link_of service tei l) a → SixAt l a
     six-shows l a f o = grind (arith, shows)

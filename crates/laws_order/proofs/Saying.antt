@@ -1,9 +1,6 @@
 -- The line from a station: the frames of the link that are on their way, and then those that wait; and what an event adds to it, in any
 -- state of the link.
-use Rattle.laws_order.proofs.Vocabulary.{◌≡◌, ℕ, ◌==◌, ◌&&◌, not, Bool, true, false, cond, IsTrue, List, [], ◌∷◌, ◌++◌, get_or, set, refl, sym, ap, ◌∙◌, subst, arith, append-nil, append_assoc, eq-eqb, ◌⊎◌, inl, inr, All, option_map_or, get_or-set_same, All-nil, All-cons, Seq, Control, Information, Service, Parts, sapi_of, place_of-is, Terms, Link, is_multiple_frame, frame_given, frames_of, frames-append, given_is_frame, Config, hears, Answer, heard_side, Line, fresh_line, link_in, link_of, terms, sound_in, terms_in_range, line_at, has_lines, by_room, event-follows, IsBy, sapi-is, is_for, is_ui, frames_given, Goes, event-goes, Station, answered, happens, frames_by, flat_map-append, fresh, Event, at, is_of_link, of_link_in, of_link_at, of_link_on}
-use Rattle.model_bits.specs.Stream as stream
-use Rattle.model_link.specs.Events as link
-use Rattle.model_link.specs.Machine as links
+use Rattle.laws_order.proofs.Vocabulary.{◌≡◌, ℕ, ◌==◌, ◌&&◌, not, Bool, true, false, cond, IsTrue, List, [], ◌∷◌, ◌++◌, get_or, set, refl, sym, ap, ◌∙◌, subst, arith, append-nil, append_assoc, eq-eqb, ◌⊎◌, inl, inr, All, option_map_or, get_or-set_same, All-nil, All-cons, Seq, Control, Information, Service, Parts, sapi_of, place_of-is, Terms, Link, is_multiple_frame, frame_given, frames_of, frames-append, given_is_frame, Config, hears, Answer, heard_side, Line, fresh_line, link_in, link_of, terms, sound_in, terms_in_range, line_at, has_lines, by_room, event-follows, IsBy, sapi-is, is_for, is_ui, frames_given, Goes, event-goes, Station, answered, happens, frames_by, flat_map-append, fresh, Event, at, is_of_link, of_link_in, of_link_at, of_link_on, stream_frame, link_frame, LinkEvent, cleared, offer, received, after, link_given}
 use Rattle.model_link.specs.Sound as link_sound
 use Rattle.model_line.specs.Machine as lines
 use Rattle.model_line.specs.Sound as line_sound
@@ -37,8 +34,8 @@ ui-answered P control is = grind arith
 ui-unheeded : (control : Control) → is_ui control ≡ true → Unheeded control
 ui-unheeded control is = grind arith
 
-offer-stays : (t : Terms) (k : Link) → (links.after t link.offer k).state ≡ k.state
-offer-stays t k = (event-follows t link.offer k).leaves.state
+offer-stays : (t : Terms) (k : Link) → (after t offer k).state ≡ k.state
+offer-stays t k = (event-follows t offer k).leaves.state
 
 module _ (c : Config) (service : Service) (tei : ℕ) where
   abbrev Own : Terms
@@ -52,7 +49,7 @@ module _ (c : Config) (service : Service) (tei : ℕ) where
 
   -- Of each frame of the link that an event of the line brings.
   abbrev pub HeardIs : (Control → Type 0) → Event → Type 0
-  HeardIs Q e = (octets : List ℕ) (f : Parts) → e ≡ hears (stream.frame octets) → of_link_at service tei (heard_side c) octets ≡ f ∷ [] → Q f.control
+  HeardIs Q e = (octets : List ℕ) (f : Parts) → e ≡ hears (stream_frame octets) → of_link_at service tei (heard_side c) octets ≡ f ∷ [] → Q f.control
 
   -- One event of the link.
   module _ (P : Control → Type 0) (reports : Reporting P) (plain : (control : Control) → P control → NotUi control) where
@@ -60,40 +57,30 @@ module _ (c : Config) (service : Service) (tei : ℕ) where
       abbrev Grows : Type 0
       Grows = Grown P (line_on way k) (line_on (way ++ Ours frames) k')
 
-      put-grows : (ev : link.Event) → k' ≡ links.after Own ev k → frames ≡ [] → IsPut P reports k Own ev → AnsweredAt P ev → Awaited P k'.state → Grows
+      put-grows : (ev : LinkEvent) → k' ≡ after Own ev k → frames ≡ [] → IsPut P reports k Own ev → AnsweredAt P ev → Awaited P k'.state → Grows
       put-grows ev is none put answer await =
           let g = waits-more P reports k Own ev put answer (subst (λ (y : Link). Awaited P y.state) is await) in
-          let waits : k'.waiting ≡ k.waiting ++ g.news = ap (λ (y : Link). y.waiting) is ∙ g.more in
-          record {
-            news = frames_of Own g.news;
-            is = ap (λ fs. (way ++ Ours fs) ++ frames_of Own k'.waiting) none ∙ ap (λ w. w ++ frames_of Own k'.waiting) (append-nil way)
-                ∙ ap (λ ws. way ++ frames_of Own ws) waits ∙ ap (λ fs. way ++ fs) (frames-append Own k.waiting g.news)
-                ∙ sym (append_assoc way (frames_of Own k.waiting) (frames_of Own g.news));
-            are = each-frames P Own g.news g.are;
-          }
+          grind (arith, frames_of, append-nil, frames-append, append_assoc, each-frames)
 
-      offer-grows : link_sound.IsInRange Own → link_sound.IsSound Own k → k' ≡ links.after Own link.offer k → frames ≡ frames_given c Own link.offer k
+      offer-grows : link_sound.IsInRange Own → link_sound.IsSound Own k → k' ≡ after Own offer k → frames ≡ frames_given c Own offer k
           → (IsTrue (is_multiple_frame k.state) → (ns nr : Seq) (p : Bool) → P (Information ns nr p)) → Each NotUi (frames_of Own k.waiting) → Grows
       offer-grows ranges sound is given says waits =
           let g = offers P reports k Own says in
-          let y = links.after Own link.offer k in
-          let news = frame_given Own (links.given Own k) in
-          let all = each-front NotUi news (frames_of Own y.waiting)
+          let news = frame_given Own (link_given Own k) in
+          let all = each-front NotUi news (frames_of Own (after Own offer k).waiting)
           (subst (Each NotUi) (sym (g.line [])) (each-append NotUi (frames_of Own k.waiting) g.news waits (each-as P NotUi plain g.news g.are))) in
-          let again = given-again c service tei (links.given Own k) (given_is_frame Own ranges k sound) (plain-all news all) in
+          let again = given-again c service tei (link_given Own k) (given_is_frame Own ranges k sound) (plain-all news all) in
           record {
             news = g.news;
-            is = ap (λ fs. (way ++ Ours fs) ++ frames_of Own k'.waiting) given ∙ ap (λ fs. (way ++ fs) ++ frames_of Own k'.waiting) again
-                ∙ ap (λ (z : Link). (way ++ news) ++ frames_of Own z.waiting) is ∙ g.line way;
+            is = grind (arith, frames_of);
             are = g.are;
           }
 
-      pub event-grows : (ev : link.Event) → (ev ≡ link.cleared → ⊥) → k' ≡ links.after Own ev k → frames ≡ frames_given c Own ev k
+      pub event-grows : (ev : LinkEvent) → (ev ≡ cleared → ⊥) → k' ≡ after Own ev k → frames ≡ frames_given c Own ev k
           → link_sound.IsInRange Own → link_sound.IsSound Own k → AnsweredAt P ev → Awaited P k'.state
           → (IsTrue (is_multiple_frame k'.state) → (ns nr : Seq) (p : Bool) → P (Information ns nr p)) → Each NotUi (frames_of Own k.waiting) → Grows
-      event-grows link.offer other is given ranges sound answer await says waits =
-          offer-grows ranges sound is given (λ up. says (ap is_multiple_frame (ap (λ (y : Link). y.state) is ∙ offer-stays Own k) ∙ up)) waits
-      event-grows link.cleared other is given ranges sound answer await says waits = absurd (other refl)
+      event-grows offer other is given ranges sound answer await says waits = grind (arith, offer-grows, sound, offer-stays)
+      event-grows cleared other is given ranges sound answer await says waits = absurd (other refl)
       event-grows any other is given ranges sound answer await says waits = put-grows any is given tt answer await
 
   -- Any event of the line.
@@ -108,7 +95,7 @@ module _ (c : Config) (service : Service) (tei : ℕ) where
     k' = link_of service tei (lines.after c e l)
 
     pub by-ui : (Q R : Control → Type 0) → ((control : Control) → is_ui control ≡ true → R control) → ((control : Control) → Q control → R control) → HeardIs Q e
-        → (f : Parts) → IsBy c e a service tei (link.received (link.frame f)) → R f.control
+        → (f : Parts) → IsBy c e a service tei (received (link_frame f)) → R f.control
     by-ui Q R ui so heard f by = go (is_ui f.control) refl
       where
         go : (b : Bool) → is_ui f.control ≡ b → R f.control
@@ -122,8 +109,8 @@ module _ (c : Config) (service : Service) (tei : ℕ) where
     itself : (Q : Control → Type 0) (control : Control) → Q control → Q control
     itself Q control h = h
 
-    unheeded : HeardIs Unheeded e → (ev : link.Event) → IsBy c e a service tei ev → UnheededAt ev
-    unheeded heard (link.received (link.frame f)) by = by-ui Unheeded Unheeded ui-unheeded (itself Unheeded) heard f by
+    unheeded : HeardIs Unheeded e → (ev : LinkEvent) → IsBy c e a service tei ev → UnheededAt ev
+    unheeded heard (received (link_frame f)) by = by-ui Unheeded Unheeded ui-unheeded (itself Unheeded) heard f by
     unheeded heard other by = tt
 
     is-down : is_multiple_frame k.state ≡ false → HeardIs Unheeded e → Goes c service tei e l (lines.after c e l) a → is_multiple_frame k'.state ≡ false
@@ -136,18 +123,12 @@ module _ (c : Config) (service : Service) (tei : ℕ) where
       abbrev Goes-on : Type 0
       Goes-on = Grown P (line_on way k) (line_on (way ++ Ours (frames_by a)) k') ⊎ (line_on (way ++ Ours (frames_by a)) k' ≡ way)
 
-      answers : HeardIs (Answered P) e → (ev : link.Event) → IsBy c e a service tei ev → AnsweredAt P ev
-      answers heard (link.received (link.frame f)) by = by-ui (Answered P) (Answered P) (ui-answered P) (itself (Answered P)) heard f by
+      answers : HeardIs (Answered P) e → (ev : LinkEvent) → IsBy c e a service tei ev → AnsweredAt P ev
+      answers heard (received (link_frame f)) by = by-ui (Answered P) (Answered P) (ui-answered P) (itself (Answered P)) heard f by
       answers heard other by = tt
 
-      none-cleared : (ev : link.Event) → IsBy c e a service tei ev → ev ≡ link.cleared → ⊥
+      none-cleared : (ev : LinkEvent) → IsBy c e a service tei ev → ev ≡ cleared → ⊥
       none-cleared ev by is = subst (IsBy c e a service tei) is by
-
-      new-goes : Ours (frames_by a) ≡ [] → k' ≡ fresh → line_on (way ++ Ours (frames_by a)) k' ≡ way
-      new-goes none new = grind (arith, frames_of, append-nil)
-
-      same-goes : Ours (frames_by a) ≡ [] → k' ≡ k → Goes-on
-      same-goes none same = grind (arith, frames_of, append-nil)
 
       pub line-goes : HeardIs (Answered P) e → Awaited P k'.state → (IsTrue (is_multiple_frame k'.state) → (ns nr : Seq) (p : Bool) → P (Information ns nr p))
           → Each NotUi (frames_of Own k.waiting) → Goes-on
@@ -160,13 +141,13 @@ module _ (c : Config) (service : Service) (tei : ℕ) where
               none = ap Ours (same-frames a) ∙ all-foreign c service tei _ x.begins
 
               either : (k' ≡ k) ⊎ (k' ≡ fresh) → Goes-on
-              either o = grind (arith, same-goes, none, new-goes)
+              either o = grind (arith, frames_of, append-nil, none)
           go (inr (inl x)) =
               let at = (place_of-is l.management.places tei x.place x.placed).1 in
               let sound = subst (link_sound.IsSound Own) (sym (ap (λ o. option_map_or (link_in l service) o fresh) x.placed)) (sound_in c ranged l s service tei x.place at) in
               inl (event-grows P reports plain way k k' (frames_by a) x.event (none-cleared x.event x.by) x.is (same-frames a ∙ x.begins)
               (terms_in_range c ranged service tei (s.management.table.range x.place tei at)) sound (answers heard x.event x.by) await says waits)
-          go (inr (inr x)) = inr (new-goes (ap Ours (same-frames a ∙ x.begins)) x.is)
+          go (inr (inr x)) = inr (grind (arith, frames_of, append-nil))
 
 module _ (service : Service) (tei : ℕ) where
   abbrev pub on_line : Station → List Parts
@@ -204,10 +185,6 @@ module _ (service : Service) (tei : ℕ) where
           let line = (way_here service tei s ++ of_link_on service tei c.side (frames_by a)) ++ frames_of (terms c service tei) x.waiting in
           Grown P (on_line s) line ⊎ (line ≡ way_here service tei s)
 
-      -- nothing happens where the pool is full
-      full-goes : (way : List Parts) (k : Link) → Grown P (way ++ frames_of (terms c service tei) k.waiting) ((way ++ []) ++ frames_of (terms c service tei) k.waiting)
-      full-goes way k = grind (arith, frames_of, append-nil)
-
       pub station-goes : HeardIs c service tei (Answered P) e → Awaited P (link_here service tei (happens e s)).state
           → (IsTrue (is_multiple_frame (link_here service tei (happens e s)).state) → (ns nr : Seq) (p : Bool) → P (Information ns nr p))
           → Each NotUi (frames_of (terms c service tei) (link_here service tei s).waiting) → Speaking-on
@@ -215,7 +192,7 @@ module _ (service : Service) (tei : ℕ) where
           subst (λ w. let line = w ++ frames_of (terms c service tei) (link_here service tei (happens e s)).waiting in Grown P (on_line s) line ⊎ (line ≡ way_here service tei s)) (sym way-then)
           (by_room (λ ls a. let x = link_of service tei (get_or ls s.line (fresh_line c)) in
           Awaited P x.state → (IsTrue (is_multiple_frame x.state) → (ns nr : Seq) (p : Bool) → P (Information ns nr p)) → At x a) (at s.line e) s.card
-          (λ full await says. inl (full-goes (way_here service tei s) (link_here service tei s)))
+          (λ full await says. inl (grind (arith, frames_of, append-nil)))
           (λ room. subst (λ x. Awaited P (link_of service tei x).state → (IsTrue (is_multiple_frame (link_of service tei x).state) → (ns nr : Seq) (p : Bool) → P (Information ns nr p))
           → At (link_of service tei x) (lines.answer c e l)) (sym now)
           (λ await says. line-goes c service tei well.sound.config l sound e P reports plain (way_here service tei s) heard await says waits)) await says)

@@ -1,8 +1,7 @@
 -- What is seen of an event with its answer, of the link of a service with a TEI.
-use Rattle.laws_order.proofs.Vocabulary.{arith, ◌≡◌, ℕ, Bool, true, cond, List, [], append-nil, option_to_list, list_any, Refusal, Service, Config, request, next, Answer, refused, Line, notes_of, contents_in, is_data_of, is_granted, data_asked, frame_in, seen, frames_by, Request, data_noted, data_granted, ends_by_note, ends_by_request, ends_by}
+use Rattle.laws_order.proofs.Vocabulary.{arith, ◌≡◌, ℕ, Bool, true, cond, List, [], append-nil, option_to_list, list_any, Refusal, Service, Config, request, next, Answer, refused, Line, notes_of, contents_in, is_data_of, is_granted, data_asked, frame_in, seen, frames_by, Request, data_noted, data_granted, ends_by_note, ends_by_request, ends_by, or-true}
 use Rattle.model_line.specs.Event.{Event, told}
 use Rattle.model_line.specs.Machine as lines
-use Rattle.laws_order.proofs.LinkEnds.{or-true}
 
 -- A call for the next frame, and nothing else, is answered with one.
 abbrev pub Fits : Event → Answer → Type 0

@@ -1,7 +1,7 @@
 -- The words of std, of the crates below and of the statements of this crate with which its proofs speak, from where they are defined.
 pub use Rattle.std.proofs.Common.{Bool, Err, IfSome, IsTrue, List, None, Ok, Option, Result, Some, [], ap, append-nil, append_assoc, arith, cond, drop, eq-eqb, eqb-true, false, get_or, inl, inr, is_some, length, length-append, length-drop, map, nat_eq, nat_lt, not, option_and_then, option_map, option_to_list, refl, reverse, set, slice_index, subst, suc, sym, take, true, true≢false, zero, ℕ, ◌%◌, ◌&&◌, ◌*◌, ◌++◌, ◌+◌, ◌-◌, ◌<◌, ◌==◌, ◌||◌, ◌∙◌, ◌∷◌, ◌≡◌, ◌≤◌, ◌⊎◌}
 pub use Rattle.std.proofs.lemmas.Bool.{and_left, and_parts, le-ltb, leb-true, ltb-false, ltb-true, ne_eqb, or_from, or_parts}
-pub use Rattle.std.proofs.lemmas.List.{append_cancel_left, get_or-replicate, get_or-set_other, get_or-set_same, length-map, length-take-le, map-append}
+pub use Rattle.std.proofs.lemmas.List.{append_cancel_left, get_or-replicate, get_or-set_other, get_or-set_same, length-map, length-take-le, map-append, length-take}
 pub use Rattle.std.proofs.lemmas.List.Elements.{All-append, All-cons, All-head, All-nil, All-tail}
 pub use Rattle.std.proofs.lemmas.List.Folds.{list_any-append}
 pub use Rattle.std.proofs.lemmas.List.Sums.{fold-append}
@@ -20,6 +20,7 @@ pub use Rattle.lapd_frame.specs.declared.faults.ReadFault.{ReadFault}
 pub use Rattle.lapd_frame.specs.declared.notes.ErrorCode.{ErrorCode}
 pub use Rattle.lapd_frame.specs.declared.notes.ErrorCode.TheVariants.{H}
 pub use Rattle.lapd_frame.specs.declared.notes.Note.{Note}
+pub use Rattle.lapd_frame.specs.declared.notes.Note.TheVariants.{Assigned as NoteAssigned, Data as NoteData, Doubled as NoteDoubled, Error as NoteError, EstablishConfirm as NoteEstablishConfirm, EstablishIndication as NoteEstablishIndication, ReleaseConfirm as NoteReleaseConfirm, ReleaseIndication as NoteReleaseIndication, Removed as NoteRemoved, Unit as NoteUnit, Xid as NoteXid}
 pub use Rattle.lapd_frame.specs.declared.refusals.Refusal.{Refusal}
 pub use Rattle.lapd_frame.specs.declared.refusals.Refusal.TheVariants.{PoolFull}
 pub use Rattle.lapd_frame.specs.declared.services.Service.{Service}
@@ -29,6 +30,7 @@ unfoldable pub use Rattle.lapd_seq.specs.Circle.{distance_of, named}
 unfoldable pub use Rattle.lapd_seq.specs.Numbers.{seq}
 pub use Rattle.lapd_seq.specs.declared.numbers.Seq.{Seq}
 pub use Rattle.lapd_tei.proofs.Tables.{place_of-is}
+unfoldable pub use Rattle.lapd_tei.specs.Events.{course as tei_course, refusal as tei_refusal}
 pub use Rattle.lapd_tei.specs.Messages.{information_of}
 pub use Rattle.laws_line.proofs.Asked.{link-grants}
 pub use Rattle.laws_line.proofs.Granting.{not-refused}
@@ -64,29 +66,38 @@ pub use Rattle.laws_trace.proofs.NewsWatched.{due}
 pub use Rattle.laws_trace.proofs.OctetsBegin.{frames-are-octets}
 pub use Rattle.laws_trace.proofs.OfferTells.{offer-tells_nothing}
 pub use Rattle.laws_trace.proofs.OneLink.{Goes, HasNone, HasOne, IsForeign, IsGivenUp, event-goes, frames_given, is_at_link}
+pub use Rattle.laws_trace.proofs.Outgoing.{comes, here-at, its, kept-now, view-is}
 pub use Rattle.laws_trace.proofs.ReadAgain.{read-again}
+pub use Rattle.laws_trace.proofs.Facts.{number-up}
+pub use Rattle.laws_trace.proofs.SeenAs.{IsSeenAs, seen-before}
 pub use Rattle.laws_trace.proofs.States.{expired_of}
+pub use Rattle.laws_trace.proofs.TimersAreTimely.{config-now, sound-now, timely-now}
 pub use Rattle.laws_trace.proofs.TimersOfEvent.{off-fresh}
 pub use Rattle.laws_trace.proofs.TimersWatched.{nothing_yet}
+pub use Rattle.laws_trace.proofs.Drained.{moments-both}
 pub use Rattle.laws_trace.specs.FramesAreRead.{GivesOctets, HasOctets, contents_given}
 pub use Rattle.laws_trace.specs.LinkFrames.{is_for}
+pub use Rattle.laws_trace.specs.Observer.{View, steps, view_of, views}
 pub use Rattle.laws_trace.specs.Trace.{IsFront, Seen, data_asked, frame_in, frames_begun, is_own, seen, seen_told, trace, trace_of}
 pub use Rattle.laws_trace.specs.Units.{is_ui}
+pub use Rattle.laws_wire.proofs.Fair.{or-true}
 pub use Rattle.laws_wire.proofs.Answered.{asks-way, gives-taken, takes-way}
 pub use Rattle.laws_wire.proofs.Delivering.{calls-face}
 pub use Rattle.laws_wire.proofs.RestedRounds.{doing-append}
-pub use Rattle.laws_wire.proofs.Run.{calls-come-through}
+pub use Rattle.laws_wire.proofs.Run.{calls-come-through, or-both}
 pub use Rattle.laws_wire.proofs.Spelled.{twice-other}
-pub use Rattle.laws_wire.specs.Call.{CanCall, IsCall, IsCallOf, assigned, calling, confirmed, data_told, station, told_first}
+pub use Rattle.laws_wire.specs.Call.{CanCall, IsCall, IsCallOf, assigned, calling, confirmed, data_told, station, told_first, ComesThrough as CallComesThrough}
+unfoldable pub use Rattle.laws_wire.specs.Call.{both_call as call_both_call}
 pub use Rattle.laws_wire.specs.Facing.{Face, Speaks, line_of}
-pub use Rattle.laws_wire.specs.Wire.{Act, Doing, IsStill, Station, Wire, answered, frames_by, gives, happens, is_any, loses, requests, takes, times_out, turned, with_first_lost}
+pub use Rattle.laws_wire.specs.Wire.{Act, Doing, IsStill, Station, Wire, answered, frames_by, gives, happens, is_any, loses, requests, takes, times_out, turned, with_first_lost, acting as wire_acting, at_far as wire_at_far, at_near as wire_at_near, doing as wire_doing, is_turn as wire_is_turn, is_turn_of as wire_is_turn_of, with_first_of as wire_with_first_of}
+unfoldable pub use Rattle.laws_wire.specs.Wire.{doing_all as wire_doing_all, turns as wire_turns}
 pub use Rattle.laws_wire.specs.Worked.{network, user}
 pub use Rattle.model_bits.specs.Bits.{bits}
 unfoldable pub use Rattle.model_bits.specs.Bits.{low_bits}
 pub use Rattle.model_bits.specs.Check.{is_good}
 pub use Rattle.model_bits.specs.Framer.{item_octets}
-pub use Rattle.model_bits.specs.Sent.{Item, idle}
-pub use Rattle.model_bits.specs.Stream.{closed_by_flag, ends_abort, ends_flag, gap_event, given_up, has_abort, heard_at, heard_in, heard_until, is_short, judged, room_for, since_flag, text_event}
+pub use Rattle.model_bits.specs.Sent.{Item, idle, frame}
+pub use Rattle.model_bits.specs.Stream.{closed_by_flag, ends_abort, ends_flag, gap_event, given_up, has_abort, heard_at, heard_in, heard_until, is_short, judged, room_for, since_flag, text_event, Event as StreamEvent, frame as stream_frame, overlong as stream_overlong}
 pub use Rattle.model_bits.specs.Stuffing.{octets_sent}
 pub use Rattle.model_bits.specs.StuffingLaws.{AreOctets}
 pub use Rattle.model_bits.specs.declared.heard.Cause.TheVariants.{Abort, Fcs, Short}
@@ -103,13 +114,14 @@ pub use Rattle.model_card.proofs.OfPorts.Pulls.{pulls_are_takes}
 pub use Rattle.model_card.proofs.OfPorts.Sound.{always_sound, fresh_octets_sound, port_sound}
 pub use Rattle.model_card.proofs.OfPorts.Steps.{config_stays, moments-append}
 pub use Rattle.model_card.proofs.OfPorts.TextGoesOn.{left_with_octet}
+pub use Rattle.model_card.proofs.Runs.{after_all-append}
 pub use Rattle.model_card.proofs.Steps.{by_room, has_lines}
 pub use Rattle.model_card.specs.Card.{Card, line_at}
-pub use Rattle.model_card.specs.Machine.{wants_room}
+pub use Rattle.model_card.specs.Machine.{wants_room, answer as card_answer}
 pub use Rattle.model_card.specs.ports.Card.{OctetCard, answer_to, card_after, port_at, said}
 pub use Rattle.model_card.specs.ports.Codec.{IsTextOf, frames_among, octet_pulled}
 pub use Rattle.model_card.specs.ports.GoingOut.{GoOut}
-pub use Rattle.model_card.specs.ports.Port.{Port, answer_of, fresh_port, gained, given_in, is_due, item_of, left_of, next_octet, with_item, with_octet}
+pub use Rattle.model_card.specs.ports.Port.{Port, answer_of, fresh_port, gained, given_in, is_due, item_of, left_of, next_octet, with_item, with_octet, Event as PortEvent, after as port_after, expiry as port_expiry, meant as port_meant, octet as port_octet, pull as port_pull, request as port_request, told as port_told}
 pub use Rattle.model_card.specs.ports.Pulls.{longest_text}
 pub use Rattle.model_card.specs.ports.Run.{AreAtLines, IsAtLine}
 pub use Rattle.model_card.specs.ports.Sound.{IsSoundPort}
@@ -120,10 +132,10 @@ pub use Rattle.model_line.specs.Came.{came, is_too_short}
 pub use Rattle.model_line.specs.Effect.{Effect}
 pub use Rattle.model_line.specs.Event.{Answer, Event, LineTold, NextFrame, expiry, gave, hears, next, nothing, refused, request}
 pub use Rattle.model_line.specs.Heard.{heard_side}
-pub use Rattle.model_line.specs.Line.{Line, fresh_line, has_tei, link_in, link_of, place_in, terms}
+pub use Rattle.model_line.specs.Line.{Line, fresh_line, has_tei, link_in, link_of, place_in, terms, link_number, state_in, window}
 pub use Rattle.model_line.specs.Machine.{aim_of}
 pub use Rattle.model_line.specs.Refusal.{refusal}
-pub use Rattle.model_line.specs.Request.{Assign, Request}
+pub use Rattle.model_line.specs.Request.{Assign, Request, Data, Establish}
 pub use Rattle.model_line.specs.Taken.{next_of, taken}
 pub use Rattle.model_line.specs.declared.config.Config.{Config}
 pub use Rattle.model_link.proofs.Delivering.{event-delivers}
@@ -135,9 +147,9 @@ pub use Rattle.model_link.proofs.Joined.{Joined, done-at, joined-turned}
 pub use Rattle.model_link.proofs.Lines.{Carried, Carries, Means, Piece, Rising, rising-low}
 pub use Rattle.model_link.proofs.Sending.{offer-gave}
 pub use Rattle.model_link.proofs.Taking.{Advance, HasNumber, frame-taken, none-delivered}
-pub use Rattle.model_link.specs.Events.{ClearBusy, Received, Release, SetBusy, cleared, expired, offer, overlong, received, requested, undefined, wrong_size}
+pub use Rattle.model_link.specs.Events.{ClearBusy, Received, Release, SetBusy, cleared, expired, offer, overlong, received, requested, undefined, wrong_size, Event as LinkEvent, Request as LinkRequest, frame as link_frame}
 pub use Rattle.model_link.specs.Link.{Link, address_at, frame_of, fresh, is_multiple_frame, may_repeat, outstanding, state_number}
-pub use Rattle.model_link.specs.Machine.{after, course, given_of, told}
+pub use Rattle.model_link.specs.Machine.{after, course, given_of, told, given as link_given}
 pub use Rattle.model_link.specs.Steps.{Course, begun}
 pub use Rattle.model_link.specs.Told.{Given, runs}
 pub use Rattle.model_link.specs.TwoEnds.{End, frame_given, with_link, with_sent}
@@ -155,12 +167,13 @@ pub use Rattle.laws_order.specs.Order.{AreOfStep, DeliveredInOrder, FaceInStep, 
 pub use Rattle.laws_order.specs.Release.{BeginsNothing, IsToldOfRelease, ReleasedIsOver, ReleasesEnd, begins_by, begins_by_note, begins_by_request, is_news, is_unasked, news, news_in}
 pub use Rattle.laws_order.specs.circuit.Beats.{AllIsToldInBeats, IsToldAll, beat, enough_beats, granted_of, longest}
 unfoldable pub use Rattle.laws_order.specs.circuit.Beats.{beats}
-pub use Rattle.laws_order.specs.circuit.Circuit.{Circuit, OctetAct, OctetDoing, Termination, asks, at_far, at_near, port_of}
+pub use Rattle.laws_order.specs.circuit.Circuit.{Circuit, OctetAct, OctetDoing, Termination, asks, at_far, at_near, port_of, doing}
 unfoldable pub use Rattle.laws_order.specs.circuit.Circuit.{doing_all}
 pub use Rattle.laws_order.specs.circuit.Mixed.{DeliveredBetweenKinds, Mixed}
+pub use Rattle.laws_order.specs.circuit.Resting.{AreSilent, CallsComeToRest, FaceAtRest}
 pub use Rattle.laws_order.specs.circuit.Through.{HasAllGone, IsAsked, IsTalk, IsTalkOf}
 unfoldable pub use Rattle.laws_order.specs.circuit.Through.{both_call}
 pub use Rattle.laws_order.specs.circuit.WorkedCall.{begins, establishes, goes_on, sends}
-pub use Rattle.model_card.specs.Event.{at}
+pub use Rattle.model_card.specs.Event.{at, Event as FramesEvent}
 pub use Rattle.model_line.specs.Sound.{IsInRange}
 pub use Rattle.std.proofs.lemmas.List.Concat.{flat_map-append}

@@ -1,5 +1,5 @@
 -- When the numbers of a link begin, by what is heard and noted.
-use Rattle.laws_trace.proofs.Vocabulary.{arith, ◌≡◌, Bool, true, false, cond, sym, ap, ◌∙◌, subst, Parts, Sabme, Ua, State, LinkTimer, Terms, restarts, received, Link, is_multiple_frame, Leaves, as_heard, by_frame, by_expiry, by_request, state_after, numbers_begin, told_by, event-follows, Control, LinkEvent as Event, frame, LinkRequest as Request, link_after as after, link_told as told}
+use Rattle.laws_trace.proofs.Vocabulary.{arith, ◌≡◌, Bool, true, false, cond, Parts, Sabme, Ua, State, LinkTimer, Terms, restarts, received, Link, is_multiple_frame, by_frame, by_expiry, by_request, state_after, numbers_begin, told_by, event-follows, Control, LinkEvent as Event, frame, LinkRequest as Request, link_after as after, link_told as told}
 use Rattle.laws_trace.proofs.Counting.{begins_by}
 
 -- A link in a state is itself.

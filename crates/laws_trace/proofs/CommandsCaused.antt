@@ -1,5 +1,5 @@
 -- What puts an enquiry: nothing but the expiry of a timer leads a link to state 8.
-use Rattle.laws_trace.proofs.Vocabulary.{arith, ◌≡◌, ◌&&◌, ◌||◌, Bool, true, false, cond, Service, same_service, State, TeiAssigned, AwaitingEstablishment, AwaitingRelease, Established, TimerRecovery, Terms, Link, is_multiple_frame, Received, received, requested, offer, cleared, moves, by_frame, by_request, state_after, Control, LinkEvent as Event, LinkRequest as Request}
+use Rattle.laws_trace.proofs.Vocabulary.{arith, ◌≡◌, ◌&&◌, ◌||◌, Bool, true, false, cond, State, TeiAssigned, AwaitingEstablishment, AwaitingRelease, Established, TimerRecovery, Terms, Link, is_multiple_frame, Received, received, requested, offer, cleared, moves, by_frame, by_request, state_after, Control, LinkEvent as Event, LinkRequest as Request}
 
 -- State 8 puts an enquiry where the link comes to it.
 abbrev pub enquires : State → Bool

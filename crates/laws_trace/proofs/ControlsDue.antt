@@ -1,5 +1,5 @@
 -- What an event of a link makes due are control frames.
-use Rattle.laws_trace.proofs.Vocabulary.{arith, ◌≡◌, ℕ, ◌==◌, ◌||◌, Bool, true, false, cond, List, [], ◌∷◌, ◌++◌, Some, refl, ap, ◌∙◌, flat_map, All, nat_lt, length, All-nil, All-cons, All-append, All-head, All-tail, State, ControlFrame, received, requested, state_number, moves, as_response, Control, LinkEvent as Event, frame}
+use Rattle.laws_trace.proofs.Vocabulary.{arith, ◌≡◌, ℕ, ◌==◌, ◌||◌, Bool, cond, List, [], ◌∷◌, ◌++◌, Some, refl, ap, ◌∙◌, flat_map, All, nat_lt, length, All-nil, All-cons, All-append, All-head, All-tail, State, ControlFrame, received, requested, state_number, moves, Control, LinkEvent as Event, frame}
 use Rattle.laws_trace.proofs.ControlsWatched.{control_in, receipt, polled, to_information, while_up, answer_to, changed, command_of}
 use Rattle.laws_trace.proofs.DeliveriesWatched.{Standing}
 use Rattle.laws_trace.proofs.MovesOfLink.{ticks}

@@ -1,5 +1,5 @@
 -- What an event of a link puts is what it makes due.
-use Rattle.laws_trace.proofs.Vocabulary.{◌≡◌, ℕ, ◌+◌, ◌-◌, ◌≤◌, ◌==◌, ◌&&◌, ◌||◌, Bool, true, false, cond, List, [], ◌∷◌, ◌++◌, length, take, drop, zero, suc, Some, refl, sym, ap, ◌∙◌, subst, arith, not, nat_lt, flat_map-append, All-take, Information, ReceiveReady, ReceiveNotReady, Reject, Sabme, Disc, Ua, Dm, Parts, seq, HasItsTimer, needed_in, State, ControlFrame, Terms, LinkTimer, restarts, undefined, wrong_size, overlong, received, expired, requested, offer, cleared, Received, Link, is_multiple_frame, state_number, establishes, busy_asked, takes_contents, as_heard, moves, by_expiry, state_after, is_overlong, receipt_as, as_response, as_command, is_next, to_supervisory, to_sabme, to_disc, answers, command_in, commands, put, behind, waiting_left, event-follows, Seq, length-drop, Control, T200, LinkEvent as Event, frame, LinkRequest as Request, LinkEstablish as Establish, LinkRelease as Release, LinkData as Data, LinkSetBusy as SetBusy, LinkClearBusy as ClearBusy, room, link_after as after, link_told as told, false_from_ne_true}
+use Rattle.laws_trace.proofs.Vocabulary.{◌≡◌, ℕ, ◌+◌, ◌-◌, ◌≤◌, ◌==◌, ◌||◌, Bool, true, false, cond, List, [], ◌∷◌, ◌++◌, length, take, drop, zero, suc, Some, refl, sym, ap, ◌∙◌, subst, arith, nat_lt, flat_map-append, All-take, Information, Ua, Dm, Parts, HasItsTimer, needed_in, State, ControlFrame, Terms, LinkTimer, restarts, overlong, received, expired, requested, Link, is_multiple_frame, state_number, busy_asked, takes_contents, as_heard, moves, state_after, receipt_as, as_command, is_next, to_sabme, to_disc, answers, commands, put, behind, waiting_left, event-follows, Seq, length-drop, Control, T200, LinkEvent as Event, frame, LinkRequest as Request, room, link_after as after, link_told as told, false_from_ne_true}
 use Rattle.laws_link.specs.Waiting as waiting
 use Rattle.laws_trace.proofs.ControlsWatched.{control_in, receipt, polled, to_information, while_up, answer_to, changed, command_of}
 use Rattle.laws_trace.proofs.DeliveriesWatched.{Standing}

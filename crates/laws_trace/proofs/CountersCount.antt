@@ -1,9 +1,7 @@
 -- Counters count what is seen: the law.
-use Rattle.laws_trace.proofs.Vocabulary.{◌≡◌, ℕ, ◌==◌, Bool, true, false, cond, List, [], ◌∷◌, ◌++◌, map, Option, Some, None, option_map_or, refl, sym, ap, ◌∙◌, append-nil, filter, filter-append, flat_map, flat_map-append, length, get_or, Note, Cause, Frames, Octets, Polls, Messages, Kind, More, heard_shown, note_shown, drop_shown, lost_shown, Side, Config, shown, answer_shown, Answer, refused, gave, Line, Refusal, Card, after, moments, by_room, arith, told, CardEvent as Event, card_answer as answer, Seen, seen, seen_told, trace, StreamEvent}
-use Rattle.lapd_count.specs.Kinds.{kind_of}
-use Rattle.lapd_count.specs.Shown.{begun_shown, is_poll, message_shown, octets_shown}
+use Rattle.laws_trace.proofs.Vocabulary.{◌≡◌, ℕ, ◌==◌, Bool, true, cond, List, [], ◌∷◌, ◌++◌, map, Some, refl, sym, ap, ◌∙◌, append-nil, filter, filter-append, flat_map, flat_map-append, Note, More, heard_shown, note_shown, Side, Config, shown, answer_shown, Answer, refused, gave, Line, Card, after, moments, by_room, arith, told, CardEvent as Event, card_answer as answer, Seen, seen, seen_told, trace, StreamEvent}
+use Rattle.lapd_count.specs.Shown.{octets_shown}
 use Rattle.lapd_count.specs.declared.counter.Way.{Way}
-use Rattle.lapd_count.specs.declared.messages.Message.{Message}
 use Rattle.model_card.specs.Counted.{all_shown}
 use Rattle.model_line.specs.Event as line_event
 use Rattle.model_line.specs.Machine as lines

@@ -1,5 +1,5 @@
 -- Small facts that several files cite: of tests, of lists, of names and of states.
-use Rattle.laws_trace.proofs.Vocabulary.{◌≡◌, ℕ, ◌<◌, ◌==◌, ◌&&◌, ◌||◌, not, Bool, true, false, cond, List, [], Option, Some, IfSome, sym, subst, arith, eq-eqb, true≢false, Service, sapi_of, same_service, management_sapi, State, state_number, is_multiple_frame, moves, ControlFrame, is_up}
+use Rattle.laws_trace.proofs.Vocabulary.{◌≡◌, ℕ, ◌==◌, ◌&&◌, ◌||◌, not, Bool, true, false, cond, List, [], Option, Some, IfSome, sym, subst, arith, eq-eqb, true≢false, Service, same_service, State, state_number, is_multiple_frame, moves, ControlFrame, is_up}
 
 -- A test that fails does not hold.
 pub never : {A : Type 0} → false ≡ true → A
@@ -21,10 +21,6 @@ either-none b = grind arith
 
 pub as-busy : (b : Bool) (frames : List ControlFrame) → cond (cond b (not b) b) frames [] ≡ []
 as-busy b frames = grind arith
-
--- The SAPI of a service is a small one, and not that of TEI management.
-pub small-sapi : (service : Service) → sapi_of service < 64
-small-sapi service = grind arith
 
 pub its-own : (service : Service) (tei : ℕ) → (same_service service service && tei == tei) ≡ true
 its-own service tei = grind (arith, eq-eqb)

@@ -1,5 +1,5 @@
 -- What an event of a link leaves of the contents that it keeps, and how far V(A) goes on.
-use Rattle.laws_trace.proofs.Vocabulary.{◌≡◌, ℕ, ◌+◌, ◌-◌, ◌%◌, ◌≤◌, Bool, true, false, cond, not, List, [], ◌∷◌, ◌++◌, ◌&&◌, ◌||◌, ◌==◌, drop, Option, Some, is_some, refl, sym, ap, ◌∙◌, subst, arith, eq-eqb, true≢false, All, list_any, option_map_or, All-head, All-tail, none-some, Sabme, Ua, Note, Service, Parts, same_service, Seq, named, State, AwaitingEstablishment, Terms, restarts, MayEstablish, received, Link, is_multiple_frame, queue_of, state_number, frame_in, accepted, acknowledged_by, beyond, number_of, ends, empties, is_loss, tells_loss, as_heard, by_frame, is_faulty, is_invalid, is_overlong, receipt_of, state_after, event-follows, event-done, establishes, is_loss_of, service-same, Control, LinkEvent as Event, frame, link_after as after, link_told as told, IsOwn, LinkIsSound as IsSound, begun, acknowledged, is_sabme, steps, is_up, cond_both}
+use Rattle.laws_trace.proofs.Vocabulary.{◌≡◌, ℕ, ◌+◌, ◌-◌, ◌%◌, ◌≤◌, Bool, true, false, cond, not, List, [], ◌∷◌, ◌++◌, ◌&&◌, ◌||◌, ◌==◌, drop, Some, is_some, refl, sym, ap, ◌∙◌, arith, eq-eqb, All, list_any, All-head, All-tail, none-some, Note, Service, Parts, same_service, Seq, Terms, restarts, received, Link, is_multiple_frame, queue_of, state_number, accepted, acknowledged_by, ends, empties, is_loss, as_heard, is_overlong, receipt_of, event-follows, event-done, is_loss_of, service-same, Control, LinkEvent as Event, frame, link_after as after, IsOwn, LinkIsSound as IsSound, acknowledged, is_sabme, steps, is_up, cond_both}
 use Rattle.laws_trace.proofs.DataOfLink.{acknowledged-went}
 use Rattle.laws_trace.proofs.NewsRows.{sabme_of}
 use Rattle.laws_trace.proofs.Facts.{number-up}

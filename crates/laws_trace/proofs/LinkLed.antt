@@ -1,5 +1,5 @@
 -- Which state a link moves to: one event of a line, by what is seen of it.
-use Rattle.laws_trace.proofs.Vocabulary.{arith, ◌≡◌, ℕ, ◌==◌, ◌&&◌, Bool, true, false, cond, List, [], ◌∷◌, ◌++◌, length, map, Option, Some, None, Result, Ok, Err, refl, sym, ap, ◌∙◌, eq-eqb, true≢false, ◌⊎◌, fold, is_some, nat_lt, option_map_or, Unserved, Address, ReadFault, Undefined, WrongSize, ErrorCode, L, N, Refusal, Service, Timer, Parts, sapi_of, service_of, same_service, place_of-is, is_on-at, LinkTimer, Config, Aim, Effect, at_link, hears, expiry, request, next, Answer, aim_of_expiry, at_timer, Line, has_tei, place_in, terms, aim_of, unless_refused_told, of_request, addressed, aim_of_heard, aim_of_reading, drop_for, message_of, Deactivate, aim_of_request, at_requested, at_deactivated, at_side, IsMalformed, IsTooLong, is_granted, IsBy, BringsMalformed, timer_of, IsDeactivated, addressed-is, sapi-is, service-same, both-true, eqb-true, T200, T203, Event, answer, refusal, Request, Establish, Release, option_and_then, result_ok, result_err, is_for, fault_of, trace_frame_in as frame_in, is_own, seen, seen_told, seen_granted, is_up, and-false, and-true, of_link, Seen, trace_begun as begun, heard, not-refused, stream_frame, StreamEvent, stream_overlong, T201, TimerT203, TimerT200}
+use Rattle.laws_trace.proofs.Vocabulary.{arith, ◌≡◌, ℕ, ◌==◌, ◌&&◌, Bool, true, false, cond, List, [], ◌∷◌, length, map, Option, Some, None, Result, Ok, refl, sym, ap, ◌∙◌, eq-eqb, true≢false, fold, is_some, nat_lt, option_map_or, Address, ReadFault, ErrorCode, L, Service, Timer, Parts, sapi_of, service_of, same_service, place_of-is, is_on-at, LinkTimer, Config, Aim, at_link, expiry, Answer, aim_of_expiry, at_timer, Line, has_tei, place_in, terms, aim_of, addressed, aim_of_heard, aim_of_reading, message_of, Deactivate, aim_of_request, at_requested, at_deactivated, at_side, IsBy, BringsMalformed, timer_of, IsDeactivated, addressed-is, sapi-is, service-same, both-true, eqb-true, T200, T203, Event, answer, Request, Establish, Release, option_and_then, result_ok, result_err, is_for, fault_of, is_own, seen, seen_told, is_up, and-false, and-true, Seen, trace_begun as begun, heard, not-refused, StreamEvent, T201, TimerT203, TimerT200}
 use Rattle.model_link.specs.Events as link
 use Rattle.laws_trace.proofs.MovesWatched.{by_frame, by_parts, by_request, by_seen, by_expiry, led}
 use Rattle.laws_trace.proofs.States.{expired_of, one_more}

@@ -1,6 +1,5 @@
 -- Which state a link moves to: the law.
 use Rattle.laws_trace.proofs.Vocabulary.{◌≡◌, ℕ, ◌+◌, ◌<◌, ◌≤◌, ◌==◌, not, Bool, true, false, cond, List, [], get_or, set, Option, Some, None, refl, sym, ap, ◌∙◌, subst, arith, eq-eqb, true≢false, inl, inr, IfSome, option_map_or, and_parts, get_or-set_same, get_or-replicate, PoolFull, Service, State, Terms, Link, state_number, Config, Answer, refused, Line, fresh_line, link_of, link_in, place_in, state_of, terms, IsInRange, Card, line_at, is_full, has_lines, by_room, line_sound, AllHaveTheirTimers, IsBy, HaveTheirTimers, nowhere, moves, eqb-true, fresh_link, IsSound, fresh, CardEvent as Event, after, card_answer as answer, IsAtLine, AreAtLines, seen, LinkEvent, cleared}
-use Rattle.model_link.specs.Machine as links
 use Rattle.model_line.specs.Event as line_event
 use Rattle.model_line.specs.Machine as lines
 use Rattle.model_card.specs.Sound as card_sound

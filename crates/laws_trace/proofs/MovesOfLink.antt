@@ -1,5 +1,5 @@
 -- Which state an event of a link leads to, and how often its command was repeated: by what an observer knows, row by row.
-use Rattle.laws_trace.proofs.Vocabulary.{◌≡◌, ℕ, ◌+◌, ◌-◌, ◌%◌, ◌≤◌, ◌==◌, not, Bool, false, cond, List, length, Option, Some, None, refl, ap, ◌∙◌, arith, nat_le, nat_lt, is_some, leb-true, leb-false, Address, Information, ReceiveReady, ReceiveNotReady, Parts, Seq, named, distance_of, seq, HasItsTimer, needed_in, State, TeiAssigned, AwaitingEstablishment, Established, TimerRecovery, Terms, LinkTimer, Received, undefined, wrong_size, overlong, received, expired, requested, offer, cleared, Link, state_number, runs, awaits_answer, repeats_left, as_heard, state_after, moves, is_time, event-follows, ltb-true, ltb-false, Control, T200, LinkEvent as Event, LinkRequest as Request, frame, LinkEstablish as Establish, LinkRelease as Release, is_up, steps, link_after as after}
+use Rattle.laws_trace.proofs.Vocabulary.{◌≡◌, ℕ, ◌+◌, ◌-◌, ◌%◌, ◌≤◌, ◌==◌, not, Bool, false, cond, List, length, Option, Some, None, ap, ◌∙◌, arith, nat_le, nat_lt, is_some, leb-true, leb-false, Address, Information, ReceiveReady, ReceiveNotReady, Parts, Seq, named, distance_of, seq, HasItsTimer, needed_in, State, TeiAssigned, AwaitingEstablishment, Established, TimerRecovery, Terms, LinkTimer, Received, overlong, received, expired, requested, offer, cleared, Link, state_number, runs, awaits_answer, as_heard, state_after, moves, is_time, event-follows, ltb-true, ltb-false, Control, LinkEvent as Event, LinkRequest as Request, frame, LinkEstablish as Establish, LinkRelease as Release, is_up, steps, link_after as after}
 use Rattle.laws_link.specs.States as states
 use Rattle.laws_trace.proofs.MovesWatched.{is_invalid, by_frame, by_expiry}
 use Rattle.laws_trace.proofs.States.{one_more}

@@ -1,5 +1,5 @@
 -- What layer 3 is told of the establishment and release of a link: one event of its line.
-use Rattle.laws_trace.proofs.Vocabulary.{arith, ◌≡◌, ℕ, ◌==◌, ◌&&◌, Bool, false, cond, List, [], Option, Some, None, refl, sym, ap, ◌∙◌, subst, true≢false, inl, inr, filter, list_any, none-some, ErrorCode, Service, State, AwaitingEstablishment, Terms, Link, state_number, Config, Answer, Line, has_tei, link_of, place_in, state_of, terms, notes_of, is-off, moves, unwrap_or, Control, fresh_link, IsSound, is_news, is_sabme, is_xid, releases, wrong, seen, cleared, link_after as after, Event, and-false, line_after, answer, event-follows}
+use Rattle.laws_trace.proofs.Vocabulary.{arith, ◌≡◌, ℕ, ◌==◌, ◌&&◌, Bool, false, cond, List, [], Option, Some, None, refl, sym, ap, ◌∙◌, subst, true≢false, inl, inr, filter, list_any, none-some, ErrorCode, Service, State, Terms, Link, state_number, Config, Answer, Line, has_tei, link_of, place_in, state_of, terms, notes_of, is-off, moves, unwrap_or, Control, fresh_link, IsSound, is_news, is_sabme, is_xid, releases, wrong, seen, cleared, link_after as after, Event, and-false, line_after, answer, event-follows}
 use Rattle.laws_trace.proofs.NewsWatched.{establishes, due}
 use Rattle.laws_trace.proofs.TimersWatched.{brings, control_in}
 use Rattle.laws_trace.proofs.States.{is_state, differ}
@@ -8,7 +8,7 @@ use Rattle.laws_trace.proofs.LinkLed.{on-line, own-is}
 use Rattle.laws_trace.proofs.LinksMove.{differs, no-event}
 use Rattle.laws_trace.proofs.NewsOfLeaving.{leaving-due, none-released, one-stays}
 use Rattle.laws_trace.proofs.NewsOfOthers.{none-filtered, others-silent}
-use Rattle.laws_trace.proofs.NewsRows.{errors_of, sabme_of, xid_of, released_of}
+use Rattle.laws_trace.proofs.NewsRows.{sabme_of, xid_of, released_of}
 use Rattle.laws_trace.proofs.NewsOfLink.{event-news, Asks, event-asking}
 use Rattle.laws_trace.proofs.OwedOfEvent.{IsOwed}
 use Rattle.laws_trace.proofs.OneLink.{HasOne, HasNone, Goes, event-goes, IsGivenUp}

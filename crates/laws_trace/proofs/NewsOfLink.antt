@@ -1,5 +1,5 @@
 -- What a link tells of establishments and releases: each event of it; and who asked for the establishment that it awaits.
-use Rattle.laws_trace.proofs.Vocabulary.{arith, ◌≡◌, ◌==◌, ◌&&◌, not, Bool, false, cond, List, [], refl, sym, ◌∙◌, subst, filter, Parts, State, AwaitingEstablishment, Terms, LinkTimer, Received, undefined, wrong_size, overlong, received, expired, requested, offer, cleared, Link, state_number, may_repeat, runs, notes-own, asked_left, asks_establishment, as_heard, state_after, moves, by_expiry, told_by, told_expired, event-follows, Note, LinkEvent as Event, LinkRequest as Request, frame, is_news, given_up, link_told, link_after}
+use Rattle.laws_trace.proofs.Vocabulary.{arith, ◌≡◌, ◌==◌, ◌&&◌, not, Bool, false, cond, List, sym, ◌∙◌, subst, filter, Parts, State, AwaitingEstablishment, Terms, LinkTimer, Received, received, requested, cleared, Link, state_number, runs, notes-own, asks_establishment, as_heard, state_after, moves, by_expiry, told_by, told_expired, event-follows, Note, LinkEvent as Event, LinkRequest as Request, frame, is_news, given_up, link_told, link_after}
 use Rattle.laws_trace.proofs.NewsWatched.{due}
 use Rattle.laws_trace.proofs.NewsRows.{all-news, errors_of, xid_of, sabme_of, released_of, Fits, Told, nothing-fits, by-control}
 

@@ -5,7 +5,7 @@ use Rattle.laws_trace.proofs.TimersWatched.{nothing_yet, control_in, brings}
 use Rattle.laws_trace.proofs.Deliveries.{frame_by, brings-frame, brings-none, heard-by}
 use Rattle.laws_trace.proofs.DeliveriesRun.{event-aims}
 use Rattle.laws_trace.proofs.LinkLed.{own-is, elsewhere}
-use Rattle.laws_trace.proofs.NewsRows.{heard_of, released_of}
+use Rattle.laws_trace.proofs.NewsRows.{heard_of}
 use Rattle.laws_trace.proofs.OneLink.{is_at_link}
 use Rattle.laws_trace.proofs.TimersOfLine.{seen-brings}
 

@@ -1,5 +1,5 @@
 -- No UI waits on a link: what a link gives is no unit data.
-use Rattle.laws_trace.proofs.Vocabulary.{arith, ◌≡◌, ℕ, ◌&&◌, ◌||◌, Bool, true, false, cond, List, [], ◌∷◌, take, All, All-nil, All-cons, All-append, All-take, All-drop, State, ControlFrame, Terms, Link, offer, cleared, moves, receipt_as, to_information, to_supervisory, to_sabme, to_disc, answers_up, answers, command_in, is_time, commands, put, behind, waiting_left, Control, LinkEvent as Event, room, is_ui}
+use Rattle.laws_trace.proofs.Vocabulary.{arith, ◌≡◌, ℕ, ◌&&◌, ◌||◌, Bool, true, false, cond, List, [], ◌∷◌, take, All, All-nil, All-cons, All-append, All-take, All-drop, State, ControlFrame, Terms, Link, offer, cleared, moves, receipt_as, to_information, to_supervisory, answers_up, answers, command_in, is_time, commands, put, waiting_left, Control, LinkEvent as Event, room, is_ui}
 
 abbrev pub IsPlain : ControlFrame → Type 0
 IsPlain f = is_ui f.control ≡ false

@@ -1,5 +1,5 @@
 -- What an observer knows of a link is what follows its parts: over runs.
-use Rattle.laws_trace.proofs.Vocabulary.{◌≡◌, ℕ, ◌+◌, ◌==◌, ◌&&◌, ◌||◌, not, Bool, cond, Option, Some, None, is_some, sym, ap, subst, arith, eq-eqb, fold, IfSome, option_map_or, Service, State, LinkTimer, state_number, Config, Answer, eqb-true, Observed, in_state, by_event, seen, Event, cond_both}
+use Rattle.laws_trace.proofs.Vocabulary.{◌≡◌, ℕ, ◌+◌, ◌==◌, ◌&&◌, ◌||◌, not, Bool, cond, Option, Some, None, is_some, sym, ap, subst, arith, eq-eqb, fold, IfSome, option_map_or, Service, State, state_number, Config, Answer, eqb-true, Observed, in_state, by_event, seen, Event, cond_both}
 use Rattle.laws_trace.proofs.States as states
 use Rattle.laws_trace.proofs.TimersWatched.{Known, learned}
 use Rattle.laws_trace.proofs.States.{is_state, differ}

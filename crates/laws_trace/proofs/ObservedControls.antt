@@ -1,5 +1,5 @@
 -- The control frames of a link that are due by what the observer knows are those that are due by how the link stands.
-use Rattle.laws_trace.proofs.Vocabulary.{arith, ◌≡◌, ℕ, ◌==◌, ◌&&◌, not, Bool, true, false, cond, length, List, [], ◌++◌, Option, Some, None, is_some, refl, sym, ap, ◌∙◌, true≢false, nat_lt, Result, Ok, Err, option_map_or, seq, Information, ReceiveReady, ReceiveNotReady, Reject, Sabme, Disc, ReadFault, Service, Timer, Parts, reading, Config, request, Answer, heard_side, as_response, is_granted, Control, Request, SetBusy, ClearBusy, result_ok, brought, frame_of, its_frame, is_for, Managed, due, Observed, in_state, awaits, enquires, observer_by_expiry as by_expiry, observer_by_request as by_request, by_event, sends, is_own, is_up, heard, seen_told, seen_granted, TimerT200 as T200, T201, TimerT203 as T203, cond_both, stream_frame, StreamEvent}
+use Rattle.laws_trace.proofs.Vocabulary.{arith, ◌≡◌, ℕ, ◌&&◌, not, Bool, true, false, cond, length, List, [], ◌++◌, Option, Some, None, is_some, refl, ap, nat_lt, Result, Ok, Err, option_map_or, seq, Reject, ReadFault, Service, Timer, Parts, reading, Config, request, Answer, heard_side, as_response, is_granted, Control, Request, SetBusy, ClearBusy, result_ok, brought, frame_of, its_frame, is_for, Managed, due, Observed, observer_by_expiry as by_expiry, observer_by_request as by_request, by_event, sends, is_up, heard, seen_told, seen_granted, TimerT200 as T200, T201, TimerT203 as T203, cond_both, stream_frame, StreamEvent}
 use Rattle.model_line.specs.Event as line_event
 use Rattle.laws_trace.specs.ControlFrames as now_due
 use Rattle.laws_trace.proofs.ControlsSeen.{answers_seen, asked-answers}

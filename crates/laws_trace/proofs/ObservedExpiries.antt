@@ -1,5 +1,5 @@
 -- How often T200 of a link expired, to an observer: it rises by an expiry of it alone.
-use Rattle.laws_trace.proofs.Vocabulary.{◌≡◌, ℕ, ◌==◌, ◌&&◌, ◌||◌, not, Bool, true, false, cond, Option, Some, None, refl, sym, ap, ◌∙◌, subst, arith, is_some, nat_lt, le-ltb, option_map_or, Information, ReceiveReady, ReceiveNotReady, Reject, Ui, Ua, Dm, Service, Parts, reading, Seq, Config, hears, expiry, request, next, Answer, refused, gave, Deactivate, is_granted, eqb-true, lt-ltb, result_ok, Control, Xid, Event, told, Request, Establish, Release, SetBusy, ClearBusy, its_frame, Observed, in_state, awaits, anew, receipt, while_up, while_down, observer_by_frame as by_frame, observer_by_request as by_request, by_t200, enquires, enters, sends, by_event, is_own, is_up, or-true, TimerT200 as T200, T201, TimerT203 as T203}
+use Rattle.laws_trace.proofs.Vocabulary.{◌≡◌, ℕ, ◌==◌, ◌&&◌, ◌||◌, not, Bool, true, false, cond, Option, refl, ap, ◌∙◌, arith, is_some, nat_lt, le-ltb, option_map_or, Service, Parts, Seq, Config, expiry, Answer, Deactivate, eqb-true, lt-ltb, Control, Event, Request, Establish, Release, SetBusy, ClearBusy, Observed, in_state, awaits, receipt, while_up, while_down, observer_by_frame as by_frame, observer_by_request as by_request, by_t200, enquires, enters, sends, by_event, is_own, is_up, or-true, TimerT200 as T200}
 
 abbrev pub IsNoMore : Observed → Observed → Type 0
 IsNoMore o q = nat_lt o.expiries q.expiries ≡ false

@@ -1,5 +1,5 @@
 -- What an observer knows of a link, by whether its TEI is on the line, and what follows for the words of the laws.
-use Rattle.laws_trace.proofs.Vocabulary.{arith, ◌≡◌, ℕ, ◌==◌, ◌&&◌, ◌⊎◌, not, Bool, false, cond, Option, Some, None, is_some, ◌∙◌, nat_le, list_any, option_map_or, Service, Parts, State, state_number, Config, Line, state_of, unwrap_or, Control, its_frame, Observed, View, in_state, is_outstanding, awaits, seen, Answer, Event, brings}
+use Rattle.laws_trace.proofs.Vocabulary.{arith, ◌≡◌, ℕ, ◌==◌, ◌&&◌, ◌⊎◌, not, Bool, false, cond, Option, Some, None, is_some, nat_le, list_any, Service, State, state_number, Config, Line, state_of, unwrap_or, Control, Observed, View, in_state, is_outstanding, seen, Answer, Event, brings}
 use Rattle.laws_trace.proofs.Deliveries.{frame_by}
 use Rattle.laws_trace.proofs.LinksMove.{same-way}
 use Rattle.laws_trace.proofs.NewsWatched.{owing}

@@ -1,5 +1,5 @@
 -- How an event moves what an observer knows of a link: the state, the numbers, what layer 3 asked and how often T200 expired.
-use Rattle.laws_trace.proofs.Vocabulary.{arith, ◌≡◌, ℕ, ◌+◌, ◌==◌, ◌&&◌, ◌||◌, not, Bool, true, false, cond, length, Option, Some, None, Result, Ok, Err, ReadFault, refl, sym, subst, is_some, nat_lt, option_map_or, Information, ReceiveReady, ReceiveNotReady, Reject, Ui, Ua, Dm, Frmr, Service, Timer, Parts, reading, Seq, State, TeiAssigned, AwaitingEstablishment, AwaitingRelease, Established, TimerRecovery, LinkTimer, state_number, Config, hears, expiry, request, next, Answer, LineTold, gave, Deactivate, Control, Xid, T200, T203, Event, told, Request, Establish, Release, SetBusy, ClearBusy, result_ok, frame_of, its_frame, is_for, malformed, Observed, in_state, awaits, anew, while_up, while_down, observer_by_frame as by_frame, by_t200, observer_by_expiry as by_expiry, enquires, sends, by_event, observer_takes as takes, is_own, is_up, seen, TimerT200}
+use Rattle.laws_trace.proofs.Vocabulary.{arith, ◌≡◌, ℕ, ◌+◌, ◌==◌, ◌&&◌, ◌||◌, Bool, true, false, cond, length, Option, Some, None, is_some, nat_lt, option_map_or, Service, Timer, Parts, State, TeiAssigned, AwaitingEstablishment, AwaitingRelease, Established, TimerRecovery, LinkTimer, state_number, Config, expiry, request, Answer, LineTold, Control, T200, Event, told, Request, its_frame, Observed, in_state, anew, while_up, while_down, observer_by_frame as by_frame, by_t200, observer_by_expiry as by_expiry, enquires, by_event, is_own, is_up, seen, TimerT200}
 use Rattle.laws_trace.proofs.TimersWatched.{Sent, sent_by, sent_in, Known, nothing_yet}
 use Rattle.laws_trace.proofs.States as states
 use Rattle.laws_trace.proofs.MovesWatched as moves

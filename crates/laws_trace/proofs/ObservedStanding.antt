@@ -1,6 +1,6 @@
 -- How an event of a line moves what an observer knows of this side of a link: how many contents were told, whether layer 3
 -- is busy, and whether an I-frame is rejected.
-use Rattle.laws_trace.proofs.Vocabulary.{arith, ◌≡◌, ℕ, ◌+◌, ◌==◌, ◌&&◌, ◌||◌, not, Bool, true, false, cond, Option, Some, refl, is_some, option_map_or, Information, ReceiveReady, ReceiveNotReady, Reject, Sabme, Ua, Dm, Service, Timer, Parts, reading, State, TeiAssigned, AwaitingEstablishment, AwaitingRelease, Established, TimerRecovery, state_number, Config, hears, expiry, request, next, Answer, LineTold, gave, Control, Event, told, Request, brings_next, result_ok, brought, frame_of, its_frame, malformed, Observed, in_state, awaits, anew, observer_takes as takes, observer_is_next as is_next, observer_is_invalid as is_invalid, while_up, while_down, observer_by_frame as by_frame, by_t200, observer_by_expiry as by_expiry, enquires, sends, by_event, is_up, Disc, Frmr}
+use Rattle.laws_trace.proofs.Vocabulary.{arith, ◌≡◌, ℕ, ◌+◌, ◌==◌, ◌&&◌, ◌||◌, not, Bool, true, false, cond, Option, is_some, option_map_or, Sabme, Ua, Service, Timer, Parts, State, TeiAssigned, AwaitingEstablishment, AwaitingRelease, Established, TimerRecovery, state_number, Config, Answer, Control, Event, brings_next, brought, Observed, in_state, awaits, anew, while_up, while_down, observer_by_frame as by_frame, by_t200, observer_by_expiry as by_expiry, enquires, by_event, is_up}
 use Rattle.laws_trace.specs.Deliveries.{is_taken}
 use Rattle.laws_trace.proofs.ObservedShape.{When}
 use Rattle.laws_trace.proofs.Standing.{asked_busy}

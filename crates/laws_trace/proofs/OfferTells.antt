@@ -1,5 +1,5 @@
 -- An offer of a link tells layer 3 nothing.
-use Rattle.laws_trace.proofs.Vocabulary.{arith, ◌≡◌, Bool, cond, List, [], None, ControlFrame, Terms, Link, Course, begun as course_begun, offer, course, offer_among}
+use Rattle.laws_trace.proofs.Vocabulary.{arith, ◌≡◌, List, [], None, ControlFrame, Terms, Link, Course, begun as course_begun, offer, course, offer_among}
 
 module _ (t : Terms) (x : Link) where
   abbrev pub TellsNothing : Course → Type 0

@@ -1,5 +1,5 @@
 -- The orders of a link, among those of an answer.
-use Rattle.laws_trace.proofs.Vocabulary.{arith, ◌≡◌, ℕ, ◌==◌, ◌&&◌, Bool, true, false, cond, not, List, [], ◌∷◌, Option, None, refl, filter, filter-append, Service, Order, Start, Stop, Timer, same_service, Follows, Terms, LinkTimer, Link, is_same, obeyed, runs, timer_at, orders_for, timer_of, obeyed-append, is_timer, stop_of, Check, obey, is_timer_of, is_order_of, LinkEvent as Event, course, link_told as told, cond_both}
+use Rattle.laws_trace.proofs.Vocabulary.{arith, ◌≡◌, ℕ, ◌==◌, ◌&&◌, Bool, true, false, cond, not, List, [], ◌∷◌, Option, refl, filter, filter-append, Service, Order, Start, Stop, Timer, same_service, Follows, Terms, LinkTimer, Link, obeyed, runs, timer_at, orders_for, timer_of, obeyed-append, stop_of, Check, obey, is_timer_of, is_order_of, LinkEvent as Event, course, link_told as told, cond_both}
 use Rattle.laws_trace.proofs.Facts.{its-own}
 
 -- Its orders among others, or none.
@@ -19,10 +19,6 @@ other-ordered t e x service tei other = let c = course t e x in of-event t servi
 
 pub own-ordered : (t : Terms) (before started after : Option LinkTimer) → its_orders t.service t.tei (orders_for t before started after) ≡ orders_for t before started after
 own-ordered t before started after = of-event t t.service t.tei true (its-own t.service t.tei) before started after
-
--- A timer that goes on running, or rests, has none.
-pub none-ordered : (t : Terms) (o : Option LinkTimer) → orders_for t o None o ≡ []
-none-ordered t o = grind arith
 
 -- As the line is down none of a link is ordered with the check,
 pub stop-orders-none : (service : Service) (tei : ℕ) (o : Option Check) → its_orders service tei (stop_of o) ≡ []

@@ -1,5 +1,5 @@
 -- Whose frames a card hears, and whose it sends: the law.
-use Rattle.laws_trace.proofs.Vocabulary.{arith, ◌≡◌, ℕ, ◌==◌, Bool, true, cond, List, slice_index, Option, Result, Ok, Err, ap, ◌∙◌, subst, IfOk, Address, Side, Network, User, ReadFault, Undefined, Short, Parts, cr_bit, other_side, checked, header_of, completed, reading, heard_side, Control}
+use Rattle.laws_trace.proofs.Vocabulary.{arith, ◌≡◌, ℕ, ◌==◌, Bool, true, cond, List, slice_index, Option, Result, Ok, Err, ap, ◌∙◌, subst, IfOk, Address, Side, Network, User, ReadFault, Undefined, Parts, cr_bit, other_side, checked, header_of, completed, reading, heard_side, Control}
 use Rattle.laws_trace.specs.OtherSide.{bit_in, TheOtherSideIsHeard}
 
 -- A frame that is read is a command by its C/R bit.

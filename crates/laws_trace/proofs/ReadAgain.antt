@@ -1,6 +1,6 @@
 -- What holds of a frame with an address and a control field, and of every fault, holds of what is read of its spelling, whether
 -- the grammar has it or not.
-use Rattle.laws_trace.proofs.Vocabulary.{arith, ℕ, Bool, cond, List, slice_index, Result, Ok, Err, Some, Address, Side, ReadFault, BadExtension, Undefined, WrongSize, Short, Parts, spelling, checked, header_of, completed, reading, address-again, control-again, Control}
+use Rattle.laws_trace.proofs.Vocabulary.{arith, ℕ, Bool, cond, List, slice_index, Result, Ok, Err, Some, Address, Side, ReadFault, BadExtension, Undefined, Short, Parts, spelling, checked, header_of, completed, reading, address-again, control-again, Control}
 
 module _ (side : Side) (P : Result Parts ReadFault → Type 0) (a : Address) (c : Control) (ok : (info : List ℕ) → P (Ok (record { address = a; control = c; info = info })))
     (err : (fault : ReadFault) → P (Err fault)) where

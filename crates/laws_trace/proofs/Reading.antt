@@ -1,6 +1,5 @@
 -- Which frames that a line begins are unit data.
-use Rattle.laws_trace.proofs.Vocabulary.{◌≡◌, ℕ, ◌≤◌, ◌==◌, ◌&&◌, Bool, true, false, List, refl, ap, ◌∙◌, Result, arith, not, Address, Side, Ui, ReadFault, Service, Parts, spelling, sapi_of, reading-again, Config, UnitData, management_sapi, unit_frame, option_map_or, Control, result_ok, is_ui, is_unit}
-use Rattle.laws_trace.proofs.Facts.{small-sapi}
+use Rattle.laws_trace.proofs.Vocabulary.{◌≡◌, ℕ, ◌≤◌, ◌==◌, ◌&&◌, Bool, true, false, List, refl, ap, ◌∙◌, Result, arith, not, Address, Side, Ui, ReadFault, Service, Parts, spelling, sapi_of, reading-again, Config, UnitData, management_sapi, unit_frame, option_map_or, Control, result_ok, is_ui, is_unit, sapi-small}
 use Rattle.laws_trace.proofs.ReadAgain.{read-again}
 
 abbrev pub carries_unit : Result Parts ReadFault → Bool
@@ -19,7 +18,7 @@ pub unit-is : (c : Config) (u : UnitData) → u.tei ≤ 127 → is_unit c.side (
 unit-is c u small =
     let parts : Parts = record { address = record { sapi = sapi_of u.service; command = true; tei = u.tei }; control = Ui false; info = u.contents } in
     ap carries_unit (reading-again c.side parts (unit_frame c u) (record {
-      is_frame = record { sapi = small-sapi u.service; tei = omega (arith, small); kind = refl; size = refl };
+      is_frame = record { sapi = sapi-small u.service; tei = omega (arith, small); kind = refl; size = refl };
       octets_are = refl;
     }))
     ∙ by-service u.service

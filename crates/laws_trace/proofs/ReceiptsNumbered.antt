@@ -1,5 +1,5 @@
 -- V(R) of a link behind an event, and when an acknowledgement is owed.
-use Rattle.laws_trace.proofs.Vocabulary.{◌≡◌, ℕ, ◌%◌, ◌==◌, ◌&&◌, Bool, true, false, cond, List, length, Some, None, sym, ap, ◌∙◌, arith, is_some, nat_le, nat_lt, leb-true, leb-false, Information, Parts, Seq, seq, ControlFrame, State, Terms, Arrived, eligible, received, Link, is_multiple_frame, delivery, takes_contents, owed_in, owed_behind, pending_left, as_heard, state_after, event-follows, ltb-true, ltb-false, Control, LinkEvent as Event, frame, link_after as after}
+use Rattle.laws_trace.proofs.Vocabulary.{◌≡◌, ℕ, ◌%◌, ◌==◌, ◌&&◌, Bool, true, false, cond, length, Some, None, arith, is_some, nat_le, nat_lt, leb-true, leb-false, Information, Parts, Seq, seq, State, Terms, Arrived, eligible, received, Link, is_multiple_frame, delivery, takes_contents, owed_in, as_heard, event-follows, ltb-true, ltb-false, Control, LinkEvent as Event, frame, link_after as after}
 
 -- Contents that are next are delivered.
 next-one : (b : Bool) (r : ℕ) (i : Arrived) → is_some (delivery r (cond b (Some i) None)) ≡ (b && (i.ns.value == r % 128))

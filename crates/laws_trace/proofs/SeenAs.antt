@@ -1,5 +1,5 @@
 -- What an observer knows of a link of a TEI on the line: its state, and in states 7 and 8 V(A).
-use Rattle.laws_trace.proofs.Vocabulary.{arith, ◌≡◌, ℕ, ◌%◌, ◌<◌, ◌==◌, Bool, true, false, List, Some, fold, Service, State, Link, is_multiple_frame, state_number, Config, Line, has_tei, link_of, place_in, IsInRange, line_at, at, moments, fresh, CardEvent as Event, after, after_all, AreAtLines, managing_is_on as is_on, Observed, View, view_of, moment_of, view_behind, is_up}
+use Rattle.laws_trace.proofs.Vocabulary.{arith, ◌≡◌, ℕ, ◌%◌, ◌<◌, ◌==◌, Bool, true, false, List, Some, fold, Service, State, Link, is_multiple_frame, state_number, Config, Line, has_tei, link_of, place_in, IsInRange, line_at, at, moments, fresh, CardEvent as Event, after, after_all, AreAtLines, managing_is_on as is_on, Observed, View, view_of, moment_of, view_behind}
 use Rattle.model_line.specs.Event as line_event
 use Rattle.laws_trace.proofs.MovesWatched.{repeated}
 use Rattle.laws_trace.proofs.NewsWatched as news

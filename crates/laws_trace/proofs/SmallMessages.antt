@@ -1,5 +1,5 @@
 -- The Ri of each message of TEI management that waits on a line has two octets.
-use Rattle.laws_trace.proofs.Vocabulary.{ℕ, ◌+◌, ◌*◌, ◌/◌, ◌%◌, ◌<◌, ◌≤◌, ◌==◌, ◌&&◌, Bool, cond, List, [], ◌∷◌, ◌++◌, nat_le, Option, arith, All, All-nil, All-cons, All-head, All-tail, All-append, AreOctets, Management, Message, IdentityAssigned, IdentityDenied, heard_of_type, heard_in, no_room, Check, TeiCourse as Course, lose_one, withdraw, cond_both, tei_after, tei_message, TeiEvent, tei_course}
+use Rattle.laws_trace.proofs.Vocabulary.{ℕ, ◌+◌, ◌*◌, ◌/◌, ◌%◌, ◌<◌, ◌≤◌, ◌==◌, ◌&&◌, Bool, cond, List, [], ◌∷◌, ◌++◌, nat_le, Option, arith, All, All-nil, All-cons, All-head, All-tail, All-append, AreOctets, Management, Message, IdentityAssigned, IdentityDenied, heard_of_type, heard_in, no_room, TeiCourse as Course, lose_one, cond_both, tei_after, tei_message, TeiEvent, tei_course}
 use Rattle.lapd_tei.specs.Rows as rows
 use Rattle.lapd_tei.specs.Words.{with_message}
 

@@ -1,5 +1,5 @@
 -- The messages of TEI management that wait stay small: what it hears are octets.
-use Rattle.laws_trace.proofs.Vocabulary.{arith, ◌≡◌, ℕ, ◌<◌, false, List, [], ◌∷◌, ◌++◌, length, drop, Option, IfSome, refl, subst, Result, Ok, Err, All, option_map_or, All-drop, All-head, AreOctets, Unserved, Address, ReadFault, Undefined, WrongSize, Long, Refusal, Service, Timer, Parts, reading, reading-found, Change, Config, Aim, at_management, of_change, of_aim, LineTold, hears, expiry, request, next, Answer, aim_of_expiry, Line, unless_refused, drop_for, at_place, addressed, message_of, aim_of_reading, aim_of_long, aim_of_heard, heard_side, Taken, taken, line_of, aim_of_request, side_aims, IsOne, taken-one, Control, head_of, Event, line_after as after, refusal, Request, IsSound, HasOctets, GivesOctets, seen, by-down, heard, seen_told, Received, StreamEvent}
+use Rattle.laws_trace.proofs.Vocabulary.{arith, ◌≡◌, ℕ, ◌<◌, List, [], ◌∷◌, ◌++◌, length, drop, Option, IfSome, refl, subst, Ok, All, option_map_or, All-drop, All-head, AreOctets, Address, Timer, Parts, reading, reading-found, Config, Aim, at_management, of_aim, hears, Answer, aim_of_expiry, Line, addressed, aim_of_heard, heard_side, Taken, taken, line_of, side_aims, IsOne, taken-one, head_of, Event, line_after as after, IsSound, HasOctets, GivesOctets, seen, by-down, heard, seen_told, Received, StreamEvent}
 use Rattle.laws_trace.proofs.SmallMessages.{IsSmall, IsOfOctets, after-small}
 
 -- What TEI management hears are octets.

@@ -1,11 +1,11 @@
 -- How a link stands, to whoever watches it: over runs.
-use Rattle.laws_trace.proofs.Vocabulary.{arith, ◌≡◌, ℕ, ◌==◌, ◌&&◌, ◌||◌, Bool, true, false, cond, List, Option, Some, None, refl, sym, ap, ◌∙◌, subst, eq-eqb, inl, inr, true≢false, fold, not, is_some, list_any, option_map_or, and_parts, Service, Parts, same_service, Terms, restarts, Link, is_multiple_frame, Config, request, Answer, Line, place_in, link_in, link_of, terms, aim_of, unless_refused, at_requested, IsInRange, notes_of, is_data_of, is_granted, IsBy, not-refused, eqb-true, fresh_link as fresh, Event, told, line_after as after, answer, Request, SetBusy, ClearBusy, IsSound, is_own, Seen, seen, is_for, service-same, link_told}
+use Rattle.laws_trace.proofs.Vocabulary.{arith, ◌≡◌, ℕ, ◌==◌, ◌&&◌, ◌||◌, Bool, true, false, cond, List, Option, Some, None, refl, sym, ap, ◌∙◌, subst, eq-eqb, inl, inr, true≢false, fold, not, is_some, list_any, and_parts, Service, Parts, same_service, Terms, restarts, Link, is_multiple_frame, Config, request, Answer, Line, place_in, link_of, terms, aim_of, unless_refused, at_requested, IsInRange, notes_of, is_data_of, is_granted, IsBy, not-refused, eqb-true, fresh_link as fresh, Event, told, line_after as after, answer, Request, SetBusy, ClearBusy, IsSound, is_own, Seen, seen, is_for, service-same, link_told}
 use Rattle.laws_link.specs.Flags as flags
 use Rattle.model_link.specs.Events as link
 use Rattle.laws_trace.proofs.DeliveriesWatched.{Standing, busy_asked, is_information, brings_information, stand}
 use Rattle.laws_trace.proofs.Counting.{begins_by, begins, counted}
 use Rattle.laws_trace.proofs.Deliveries.{frame_by, brings-frame, brings-none, one-begins, heard-by}
-use Rattle.laws_trace.proofs.DeliveriesRun.{IsCount, event-aims, data-noted, event-told, no-data, ended-notes}
+use Rattle.laws_trace.proofs.DeliveriesRun.{IsCount, event-aims, data-noted, no-data, ended-notes}
 use Rattle.laws_trace.proofs.OneLink.{HasOne, HasNone, Goes, is_at_link, event-goes}
 use Rattle.laws_trace.proofs.StandingOfLink.{quiet, calm, IsStanding, brings, busy_behind, rejected_behind, link-stands, delivers-free}
 use Rattle.laws_trace.proofs.Facts.{never}

@@ -1,8 +1,5 @@
 -- What the steps of the tables do to what timers depend on: the state, V(A), V(S), whether the terminal is busy, and the timer.
-use Rattle.laws_trace.proofs.Vocabulary.{arith, ◌≡◌, ℕ, ◌==◌, Bool, true, false, cond, List, [], Option, Some, None, refl, ap, ◌∙◌, nat_lt, length, Ua, Seq, named, State, TeiAssigned, AwaitingEstablishment, Established, Terms, LinkTimer, Link, is_asked, has_outstanding, ◌then◌, depending_on, by_bit, T200, T203, Course, Step, nothing, link_answer as answer, by_number, discard, enter, establish_confirm, establish_indication, start, zero_numbers, Particulars, information_in_7_8, is_final, sabme_in_7_8, supervisory}
-use Rattle.model_link.specs.Established as seven
-use Rattle.model_link.specs.TimerRecovery as eight
-use Rattle.model_link.specs.AwaitingEstablishment as five
+use Rattle.laws_trace.proofs.Vocabulary.{arith, ◌≡◌, ℕ, ◌==◌, Bool, false, cond, Option, Some, None, refl, ap, ◌∙◌, nat_lt, Seq, named, State, TeiAssigned, AwaitingEstablishment, Established, Terms, LinkTimer, Link, ◌then◌, depending_on, by_bit, T200, T203, Course, Step, nothing, link_answer as answer, by_number, sabme_in_7_8}
 
 pub record Timing : Type 0 where
   pub state : State

@@ -1,5 +1,5 @@
 -- What is known of a link, and when its timers are started anew: any event of a link but an offer.
-use Rattle.laws_trace.proofs.Vocabulary.{◌≡◌, ℕ, ◌≤◌, ◌+◌, ◌==◌, ◌||◌, not, Bool, true, false, cond, List, Option, Some, None, refl, sym, ap, ◌∙◌, subst, arith, if◌then◌else◌, HasItsTimer, IsCalmIn, needed_in, State, TeiAssigned, AwaitingEstablishment, AwaitingRelease, Established, TimerRecovery, Terms, LinkTimer, received, expired, requested, offer, cleared, undefined, wrong_size, overlong, Link, is_own_busy, course, ◌then◌, runs, is_timer, eqb-true, Control, T200, T203, LinkEvent as Event, frame, LinkIsSound as IsSound, Step, begun, nothing, L, N, O, LinkClearBusy as ClearBusy, LinkData as Data, LinkEstablish as Establish, LinkRelease as Release, LinkRequest as Request, LinkSetBusy as SetBusy, expired_step, clear_busy_in_7_8, set_busy_in_7_8, request_step}
+use Rattle.laws_trace.proofs.Vocabulary.{◌≡◌, ℕ, ◌≤◌, ◌+◌, Bool, true, false, List, Option, Some, None, refl, sym, subst, arith, if◌then◌else◌, HasItsTimer, needed_in, State, TeiAssigned, AwaitingEstablishment, Established, TimerRecovery, Terms, LinkTimer, received, expired, offer, cleared, Link, is_own_busy, course, ◌then◌, runs, is_timer, eqb-true, Control, T200, T203, LinkEvent as Event, frame, LinkIsSound as IsSound, Step, begun, nothing, LinkData as Data, LinkRequest as Request, expired_step, clear_busy_in_7_8, set_busy_in_7_8, request_step}
 use Rattle.laws_trace.proofs.TimersWatched.{Known}
 use Rattle.laws_trace.proofs.TimerActs.{timing, Acts, itself, whichever}
 use Rattle.laws_trace.proofs.TimerClaims.{IsKnown, Agrees, Good, asked-4, ended, failed-8, released-7, released-8, same-4, same-5, same-6, same-7, same-8, stopped}

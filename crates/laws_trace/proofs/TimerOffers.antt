@@ -1,5 +1,5 @@
 -- What is known of a link, and its timers, over an offer; and what its orders start.
-use Rattle.laws_trace.proofs.Vocabulary.{◌≡◌, ℕ, ◌+◌, ◌%◌, ◌&&◌, ◌||◌, Bool, true, false, cond, List, [], ◌∷◌, Option, Some, None, refl, arith, All, option_map_or, All-head, seq, ControlFrame, State, Terms, LinkTimer, Link, is_established, IsWaitingFrame, Given, runs, unwrap_or, T200, LinkIsSound as IsSound, Course, begun, offer, course, given, link_given_of as given_of, first_unsent, give_waiting, may_send_information, next_information, offer_among, send_acknowledgement, send_information, start}
+use Rattle.laws_trace.proofs.Vocabulary.{◌≡◌, ℕ, ◌+◌, ◌%◌, ◌&&◌, ◌||◌, Bool, true, false, cond, List, [], ◌∷◌, Option, Some, None, refl, arith, All, option_map_or, All-head, seq, ControlFrame, State, Terms, LinkTimer, Link, is_established, IsWaitingFrame, Given, runs, unwrap_or, LinkIsSound as IsSound, Course, begun, offer, course, given, link_given_of as given_of, give_waiting, offer_among}
 use Rattle.laws_trace.proofs.TimersWatched.{Sent, sent_by, Known, nothing_yet, sends}
 use Rattle.laws_trace.proofs.States.{is_state}
 use Rattle.laws_trace.proofs.DataGoesOut.{none-sent}

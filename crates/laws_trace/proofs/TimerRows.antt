@@ -1,7 +1,6 @@
 -- What is known of a link, and when its timers are started anew: each row of the tables, except for offers.
-use Rattle.laws_trace.proofs.Vocabulary.{arith, ◌≡◌, ℕ, ◌≤◌, ◌+◌, Bool, true, false, List, Option, Some, None, refl, sym, subst, nat_lt, length, option_map_or, Information, ReceiveReady, ReceiveNotReady, Reject, Sabme, Disc, Ui, Ua, Dm, Frmr, ErrorCode, State, TeiAssigned, AwaitingEstablishment, AwaitingRelease, Established, TimerRecovery, Terms, LinkTimer, Link, Control, Xid, T200, T203, Step, begun, nothing, A, C, D, frame_in, malformed_in, is_final, ua_in_7_8, acknowledge, error, unit_data}
+use Rattle.laws_trace.proofs.Vocabulary.{arith, ◌≡◌, ℕ, ◌≤◌, ◌+◌, Bool, true, false, List, Option, Some, None, refl, sym, subst, nat_lt, length, option_map_or, Information, ReceiveReady, ReceiveNotReady, Reject, Sabme, Ua, ErrorCode, State, TeiAssigned, AwaitingEstablishment, AwaitingRelease, Established, TimerRecovery, Terms, LinkTimer, Link, Control, T200, T203, Step, begun, nothing, A, frame_in, malformed_in, is_final, error, unit_data}
 use Rattle.model_link.specs.Established as seven
-use Rattle.model_link.specs.TimerRecovery as eight
 use Rattle.laws_trace.proofs.TimersWatched.{Known, nothing_yet, listens, renews}
 use Rattle.laws_trace.proofs.TimerActs.{Timing, timing, Acts, itself, either-bit, acknowledged, acknowledges, begins, fails, informed, informs, recovers, sabme-acts, starts, supervises, with_busy, both, by-number, answers, by-bit, whichever}
 use Rattle.laws_trace.proofs.TimerClaims.{IsKnown, Good}

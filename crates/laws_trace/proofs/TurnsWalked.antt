@@ -1,5 +1,5 @@
 -- How the turn goes round the links of a line while whatever happens there: one keeps its place, and another has something to send.
-use Rattle.laws_trace.proofs.Vocabulary.{◌≡◌, ◌≢◌, ℕ, ◌+◌, ◌<◌, ◌≤◌, ◌==◌, ◌⊎◌, ⊎_elim, Bool, true, false, cond, List, [], ◌∷◌, ◌++◌, get_or, map, Option, Some, None, option_map, refl, sym, ap, ◌∙◌, subst, inl, inr, arith, eq-eqb, true≢false, All, filter, and_parts, flat_map-append, get_or-set_same, map-append, filter-append, Address, sapi_of, Config, request, next, Answer, gave, Line, fresh_line, link_count, service_at, place_at, tei_at, Taken, taken, next_of, way_round, in_turn, IsSilentAt, IsOfLink, IsOwed, IsIdle, contents_of, comes-first, served, turn-stays, Card, line_at, is_full, by_room, eqb-true, unwrap_or, information_of, CardEvent as Event, after, card_answer as answer, IsAtLine, CardIsSound as IsSound, trace_frame_in as frame_in, Seen, seen, frames_begun, IsAmong}
+use Rattle.laws_trace.proofs.Vocabulary.{◌≡◌, ◌≢◌, ℕ, ◌+◌, ◌<◌, ◌≤◌, ◌==◌, ◌⊎◌, ⊎_elim, Bool, true, false, cond, List, [], ◌∷◌, ◌++◌, get_or, map, Option, Some, None, option_map, refl, sym, ap, ◌∙◌, subst, inl, inr, arith, eq-eqb, true≢false, All, filter, and_parts, flat_map-append, get_or-set_same, map-append, filter-append, Address, sapi_of, Config, request, next, Answer, gave, Line, fresh_line, link_count, service_at, place_at, tei_at, Taken, taken, next_of, way_round, in_turn, IsSilentAt, IsOfLink, IsOwed, IsIdle, contents_of, comes-first, served, turn-stays, Card, line_at, is_full, by_room, eqb-true, unwrap_or, information_of, CardEvent as Event, after, card_answer as answer, IsAtLine, CardIsSound as IsSound, trace_frame_in as frame_in, Seen, seen, frames_begun, IsAmong, sapi-small}
 use Rattle.model_line.specs.Event as line_event
 use Rattle.model_line.specs.Machine as lines
 use Rattle.model_line.specs.Sound as line
@@ -8,7 +8,6 @@ use Rattle.laws_trace.proofs.Turns.{link-frame, ui-frame, name-is}
 use Rattle.laws_trace.proofs.Units.{NoneWaits, plain-order, first-of, none-told, none-requested, given-frames}
 use Rattle.laws_trace.proofs.LinkNames.{LinkName, named_in, is_of_a_link, links_begun, named as name_of, same-number}
 use Rattle.laws_trace.proofs.NamedFrames.{names}
-use Rattle.laws_trace.proofs.Facts.{small-sapi}
 use Rattle.laws_line.proofs.Following.{some-same}
 
 -- A link that would begin a frame has something to send.
@@ -130,7 +129,7 @@ module _ (c : Config) (one tei other its : ℕ) where
     by-next (Some t) (inr (inl x)) names walk =
         let a : Address = record { sapi = sapi_of x.unit.service; command = true; tei = x.unit.tei } in
         let small = first-of c l.units x.unit x.oldest h.sound.units in
-        no-name t.frame names (ap (is_of_a_link c.side) x.spelled ∙ ui-frame c.side a x.unit.contents (small-sapi x.unit.service) (omega (arith, small)) refl) (still l new names (ap (λ (l : Line). l.turn) x.line) walk)
+        no-name t.frame names (ap (is_of_a_link c.side) x.spelled ∙ ui-frame c.side a x.unit.contents (sapi-small x.unit.service) (omega (arith, small)) refl) (still l new names (ap (λ (l : Line). l.turn) x.line) walk)
     by-next (Some t) (inr (inr x)) names walk = of-link t.frame x names walk
 
     none-begins : (e : line_event.Event) (a : Answer) (names : List LinkName) → frames_begun (seen e a) ≡ [] → (lines.after c e l).turn ≡ l.turn

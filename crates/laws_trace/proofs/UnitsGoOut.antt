@@ -1,5 +1,5 @@
 -- Unit data goes out: the laws.
-use Rattle.laws_trace.proofs.Vocabulary.{◌≡◌, ℕ, ◌<◌, ◌≤◌, List, [], ◌++◌, map, sym, ap, ◌∙◌, subst, get_or-replicate, Config, Line, fresh_line, unit_frame, most_frames, line_at, fresh_is_sound, AreTakesAt, takes_at, refl, arith, true, false, ◌||◌, Option, Some, None, option_map, list_any, inl, inr, sapi_of, next, next_of, gave, Taken, taken, IsIdle, IsOwed, contents_of, served, at, config-stays, Bool, filter, Parts, fresh, CardEvent as Event, after_all, AreAtLines, trace_frame_in as frame_in, trace_of, IsFront, Always, reads, is_ui, is_unit, units_of, UnitsGoOut, AllUnitsGoOut, information_of, IsInRange, IsSound, card_answer as answer}
+use Rattle.laws_trace.proofs.Vocabulary.{◌≡◌, ℕ, ◌<◌, ◌≤◌, List, [], ◌++◌, map, sym, ap, ◌∙◌, subst, get_or-replicate, Config, Line, fresh_line, unit_frame, most_frames, line_at, fresh_is_sound, AreTakesAt, takes_at, refl, arith, true, false, ◌||◌, Option, Some, None, option_map, list_any, inl, inr, sapi_of, next, next_of, gave, Taken, taken, IsIdle, IsOwed, contents_of, served, at, config-stays, Bool, filter, Parts, fresh, CardEvent as Event, after_all, AreAtLines, trace_frame_in as frame_in, trace_of, IsFront, Always, reads, is_ui, is_unit, units_of, UnitsGoOut, AllUnitsGoOut, information_of, IsInRange, IsSound, card_answer as answer, sapi-small}
 use Rattle.laws_trace.proofs.Runs.{run-shows}
 use Rattle.laws_trace.proofs.LineAtEnd.{line-at-end}
 use Rattle.laws_trace.proofs.Turns.{ui-frame}
@@ -7,7 +7,6 @@ use Rattle.laws_trace.proofs.LinkNames.{is_of_a_link}
 use Rattle.model_line.specs.Machine as lines
 use Rattle.laws_trace.proofs.Drained.{drained}
 use Rattle.laws_trace.proofs.Units.{NoneWaits, first-of, fresh-none, Goes, Passes, rests, joins, steps, next-passes-on, left-is-waiting, begun-first}
-use Rattle.laws_trace.proofs.Facts.{small-sapi}
 
 -- What waits at the end.
 abbrev pub left-waiting : Config → List Event → ℕ → List (List ℕ)
@@ -34,7 +33,7 @@ units-gone c l s = go (taken c l) (served c l s)
         let small = first-of c l.units x.unit x.oldest s.units in
         ui t.frame
         (ap (is_of_a_link c.side) x.spelled
-        ∙ ui-frame c.side (record { sapi = sapi_of x.unit.service; command = true; tei = x.unit.tei }) x.unit.contents (small-sapi x.unit.service) (omega (arith, small)) refl) none
+        ∙ ui-frame c.side (record { sapi = sapi_of x.unit.service; command = true; tei = x.unit.tei }) x.unit.contents (sapi-small x.unit.service) (omega (arith, small)) refl) none
     go (Some t) (inr (inr x)) none = x.its_turn.no_unit
 
 module _ (c : Config) (events : List Event) (number : ℕ) (ranged : IsInRange c) (all : AreAtLines (fresh c) events) (within : number < c.lines) where

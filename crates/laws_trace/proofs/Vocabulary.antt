@@ -105,6 +105,7 @@ pub use Rattle.laws_line.specs.card.Among.{IsTakenAmong}
 pub use Rattle.model_card.specs.Takes.{AreTakesAt, takes_at}
 pub use Rattle.laws_line.specs.card.PromisesOfTakes.{IsWaiting}
 pub use Rattle.laws_line.specs.card.Timers.{AllHaveTheirTimers, one_more, runs_at_callers}
+pub use Rattle.laws_link.proofs.Starting.{none-ordered}
 pub use Rattle.laws_link.proofs.Counted.{kept-after}
 pub use Rattle.laws_link.proofs.Follows.{event-follows}
 pub use Rattle.laws_link.proofs.InOrder.{given-in-order}
@@ -204,6 +205,7 @@ pub use Rattle.model_line.specs.Taken.{Taken, first_taken, frame_of as line_fram
 pub use Rattle.model_line.specs.declared.config.Config.{Config}
 pub use Rattle.model_line.specs.declared.config.Field.{Field}
 pub use Rattle.model_line.specs.declared.config.Field.TheVariants.{K, K16, Lines, N200, N201, Queue, Slots, Terminals, UnitQueue}
+pub use Rattle.model_link.proofs.Waits.{sapi-small}
 pub use Rattle.model_link.proofs.Delivering.{delivery, event-delivers}
 pub use Rattle.model_link.proofs.Giving.{given_is_frame}
 pub use Rattle.model_link.proofs.Numbering.{delivered-at_once}

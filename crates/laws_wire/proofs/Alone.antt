@@ -1,5 +1,5 @@
 -- Where all frames that are left at a station are those of one link, nothing else waits there.
-use Rattle.laws_wire.proofs.Vocabulary.{◌≡◌, ◌≢◌, ℕ, zero, suc, ◌+◌, ◌<◌, ◌≤◌, List, [], ◌∷◌, length, Option, Some, None, option_map, refl, sym, ap, ◌∙◌, arith, ⊎_elim, cases_eq, option_map_or, place_of-is, Service, fresh, given, none-waits, number_within, service_at-number, next, gave, Line, link_number, link_count, link_at, link_in, place_in, terms_at, Taken, next_of, taken, nothing-to_send, Station, answered, own_link}
+use Rattle.laws_wire.proofs.Vocabulary.{◌≡◌, ◌≢◌, ℕ, zero, suc, ◌+◌, ◌<◌, ◌≤◌, [], length, Option, Some, None, option_map, sym, ap, ◌∙◌, arith, ⊎_elim, cases_eq, option_map_or, place_of-is, Service, fresh, given, none-waits, number_within, service_at-number, next, gave, Line, link_number, link_count, link_at, link_in, place_in, terms_at, Taken, next_of, taken, nothing-to_send, Station, answered, own_link}
 use Rattle.std.proofs.lemmas.List.Sums.{sum_by-cons}
 use Rattle.std.specs.List.{range_with_len, sum_by}
 use Rattle.laws_line.proofs.Exact.{exactly-none, to-nothing, empty}

@@ -1,5 +1,5 @@
 -- Two ends in state 7: layer 3 of one asks to send more contents, and the request is granted.
-use Rattle.laws_wire.proofs.Vocabulary.{◌≡◌, ℕ, zero, suc, ◌+◌, ◌-◌, ◌*◌, ◌<◌, ◌≤◌, Bool, false, List, [], ◌∷◌, ◌++◌, length, take, None, refl, sym, ap, subst, ◌∙◌, inl, inr, append-nil, arith, length-append, slice_get, All-nil, All-cons, All-append, Parts, Terms, Link, requested, End, with_link, sound-after, load, weight_at, Informs, Lane, lane-order, Steady, unwrap_or, refusal, IsSound, Direction}
+use Rattle.laws_wire.proofs.Vocabulary.{◌≡◌, ℕ, zero, suc, ◌+◌, ◌<◌, ◌≤◌, Bool, false, List, [], ◌∷◌, ◌++◌, length, take, None, refl, sym, ap, subst, ◌∙◌, inl, inr, append-nil, arith, length-append, slice_get, All-nil, All-cons, All-append, Parts, Terms, Link, requested, End, with_link, sound-after, weight_at, Informs, Lane, lane-order, Steady, unwrap_or, refusal, IsSound, Direction}
 use Rattle.model_link.specs.Events.{Data}
 
 -- contents at a place below what was there stay

@@ -1,6 +1,6 @@
 -- What is awaited at a station is awaited at the end for which it stands: there a T200 that is long enough is timely, N200 is used up as
 -- its expiry tells, and it runs as its expiry is answered.
-use Rattle.laws_wire.proofs.Vocabulary.{◌≡◌, ℕ, zero, suc, ◌<◌, Bool, true, false, cond, not, ◌||◌, IsTrue, List, [], ◌∷◌, ◌++◌, length, map, Option, None, Some, option_map, refl, sym, ap, subst, ◌∙◌, true≢false, All, flat_map, list_any, option_map_or, nat_lt, ltb-true, lt-ltb, All-nil, All-cons, All-append, All-head, All-tail, Seq, Control, Information, ReceiveReady, Service, Parts, spelling, State, TeiAssigned, Established, ControlFrame, LinkTimer, Terms, Link, fresh, frame_of, state_number, is_multiple_frame, course, begun, given_of, is_running, runs, Course, T200, End, frame_given, with_sent, Config, next, link_in, state_in, state_of, terms, awaits_answer, is_enquiry, is_answer, supervisory_bit, HasNo, Station, answered, happens, told_by, expiry, is_error, TellNoError, bit_of, is_poll, is_final, giving, NoneGoes, IsNoneOpen, awaits_in, awaits_reply, IsLongEnough, MayRepeat, is_any_order, runs_t200, All-drop, Answer, BadTei, NoLink, Refusal, Rests, arith, frames_by, front_rest, gave, gives_one, is_on-at, le-ltb, link_of, list_any_none, place_of-is, queue_of, seq, told, told_of_link, of_aim, at_timer, place_in, unwrap_or, ◌-◌, ◌≤◌, expired, timer_T200, line_answer, line_takes_slot, all-right}
+use Rattle.laws_wire.proofs.Vocabulary.{◌≡◌, ℕ, zero, suc, ◌<◌, Bool, true, false, cond, not, ◌||◌, IsTrue, List, [], ◌∷◌, ◌++◌, length, map, Option, None, Some, option_map, refl, sym, ap, subst, ◌∙◌, true≢false, All, flat_map, list_any, option_map_or, nat_lt, ltb-true, All-nil, All-cons, All-append, All-head, All-tail, Seq, Control, Information, ReceiveReady, Service, Parts, spelling, TeiAssigned, Established, ControlFrame, LinkTimer, Terms, Link, fresh, frame_of, state_number, is_multiple_frame, course, begun, given_of, is_running, Course, T200, End, frame_given, with_sent, Config, next, link_in, state_in, state_of, terms, awaits_answer, is_enquiry, is_answer, supervisory_bit, HasNo, Station, answered, happens, told_by, expiry, is_error, TellNoError, bit_of, is_poll, is_final, giving, NoneGoes, IsNoneOpen, awaits_in, awaits_reply, IsLongEnough, MayRepeat, is_any_order, runs_t200, Answer, BadTei, NoLink, Refusal, Rests, arith, frames_by, gives_one, is_on-at, le-ltb, link_of, list_any_none, place_of-is, queue_of, told, told_of_link, of_aim, at_timer, place_in, ◌-◌, ◌≤◌, expired, timer_T200, line_answer, line_takes_slot, all-right}
 use Rattle.model_link.specs.Machine as links
 use Rattle.model_link.specs.Offers as offers
 use Rattle.model_link.specs.Room.{room_of}

@@ -1,5 +1,5 @@
 -- An establishment between two links, before both are up: SABME waits and goes, then UA; behind it I-frames may be on their way.
-use Rattle.laws_wire.proofs.Vocabulary.{◌≡◌, ℕ, ◌≤◌, true, false, cond, List, [], ◌∷◌, ◌++◌, length, None, Some, refl, sym, ap, subst, ◌∙◌, arith, nat_lt, lt-ltb, All-nil, Sabme, Ua, Parts, T203, ControlFrame, Terms, Link, fresh, frame_of, received, requested, offer, course, IsInRange, begun, End, with_sent, command, response, sound-after, sound-fresh, Steady, Pair, T200, after, refusal, IsSound, confirmed, indicated}
+use Rattle.laws_wire.proofs.Vocabulary.{◌≡◌, ℕ, ◌≤◌, true, false, cond, List, [], ◌∷◌, ◌++◌, length, None, Some, refl, sym, ap, subst, ◌∙◌, arith, nat_lt, lt-ltb, All-nil, Sabme, Ua, Parts, T203, ControlFrame, Terms, Link, fresh, frame_of, received, requested, offer, course, IsInRange, begun, End, with_sent, command, response, sound-after, sound-fresh, Steady, Pair, T200, after, refusal, IsSound, indicated}
 use Rattle.model_link.specs.declared.states.State.TheVariants as state
 use Rattle.model_link.specs.Events.{frame, Establish, Data}
 use Rattle.laws_wire.proofs.Speaking.{said_by}

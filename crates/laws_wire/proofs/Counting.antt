@@ -1,5 +1,5 @@
 -- RC is never above the number of expiries of T200 since a link was last in state 7, so no error is told while this is below N200.
-use Rattle.laws_wire.proofs.Vocabulary.{◌≡◌, ℕ, ◌+◌, ◌<◌, ◌≤◌, Bool, true, false, cond, not, ◌==◌, List, [], ◌∷◌, ◌++◌, map, refl, sym, ap, subst, ◌∙◌, inl, inr, true≢false, eqb-true, arith, All, All-nil, All-head, All-tail, All-weaker, Service, Parts, spelling, State, TeiAssigned, AwaitingEstablishment, AwaitingRelease, Established, TimerRecovery, Terms, T203, Link, state_number, IsInRange, End, Config, Line, place_in, at_requested, aim_of_request, request, terms, awaits_answer, repeats_left, as_heard, is_clearing, is_time, event-follows, T200, after, Request, Data, SetBusy, ClearBusy, Station, Wire, happens, with_first_of, Act, requests, times_out, gives, takes, loses, Doing, at_near, at_far, acting, turned, doing, doing_all, calling, IsRoughTalkOf, IsRoughTalk, IsFullTalkOf, IsFullTalk, own_link, IsTimelyOf, IsTimely, StayTimely, StayPatient, Counts, is_7, is_in_7, counted, counting, uncounted, IsCountedOf, IsCounted, StayCounted, IsSparedIn, StaySpared, ExpiriesAreCounted, LossyExpiriesAreCounted, frame, requested, offer, expired, LinkSetBusy, received, LinkClearBusy, LinkData, LinkRequest, timer_T200, timer_T203, IsAsked, IsPatient, Called, uncalled, seeing, seen}
+use Rattle.laws_wire.proofs.Vocabulary.{◌≡◌, ℕ, ◌+◌, ◌<◌, ◌≤◌, Bool, true, false, cond, not, ◌==◌, List, [], ◌∷◌, ◌++◌, map, refl, sym, ap, subst, ◌∙◌, inl, inr, true≢false, eqb-true, arith, All, All-nil, All-head, All-tail, All-weaker, Service, Parts, spelling, State, TeiAssigned, AwaitingEstablishment, AwaitingRelease, Established, TimerRecovery, Terms, T203, Link, state_number, IsInRange, End, Config, Line, place_in, at_requested, aim_of_request, request, terms, awaits_answer, repeats_left, as_heard, is_clearing, is_time, event-follows, T200, after, Request, Data, SetBusy, ClearBusy, Station, Wire, happens, with_first_of, Act, requests, times_out, gives, takes, Doing, at_near, at_far, acting, turned, doing, doing_all, calling, IsRoughTalk, IsFullTalkOf, IsFullTalk, own_link, IsTimelyOf, StayTimely, StayPatient, Counts, is_7, is_in_7, counted, counting, uncounted, IsCountedOf, IsCounted, StayCounted, StaySpared, ExpiriesAreCounted, LossyExpiriesAreCounted, frame, requested, offer, expired, LinkSetBusy, received, LinkClearBusy, LinkData, LinkRequest, timer_T200, timer_T203, IsPatient, Called, uncalled, seeing, seen}
 use Rattle.laws_link.specs.States.{moves}
 use Rattle.model_link.specs.Events.{Event}
 use Rattle.laws_wire.proofs.Awaited.{link-is, state-is, awaits-is, may-here}

@@ -1,5 +1,5 @@
 -- Two cards that face each other deliver what layer 3 hands over.
-use Rattle.laws_wire.proofs.Vocabulary.{◌≡◌, ℕ, ◌+◌, ◌*◌, ◌≤◌, ◌||◌, Bool, false, cond, List, [], ◌++◌, length, map, take, drop, Option, Some, option_map, refl, sym, ap, subst, ◌∙◌, append-nil, append_assoc, length-append, map-append, take-append-drop, arith, All, All-nil, Service, Link, Established, other_side, End, Ends, Config, LineTold, link_in, state_in, place_in, terms, has_lines, line_sound, AreTurns, weight_at, IsReady, IsTaken, Pair, all-turns, Station, Wire, Doing, doing_all, turns, IsStill, IsBeginningOf, IsTold, calling, IsTalk, data_told, Face, Speaks, own_link, granted_of, or_parts, two_ends_doing_all, append_cancel_left}
+use Rattle.laws_wire.proofs.Vocabulary.{◌≡◌, ℕ, ◌+◌, ◌*◌, ◌≤◌, Bool, cond, List, [], ◌++◌, length, map, take, drop, Option, Some, option_map, refl, sym, ap, subst, ◌∙◌, append-nil, append_assoc, length-append, map-append, take-append-drop, arith, All, All-nil, Service, Link, Established, other_side, End, Ends, Config, LineTold, link_in, state_in, place_in, terms, has_lines, line_sound, AreTurns, weight_at, IsReady, IsTaken, Pair, all-turns, Station, Wire, Doing, doing_all, turns, IsStill, IsBeginningOf, IsTold, calling, IsTalk, data_told, Face, Speaks, own_link, granted_of, or_parts, two_ends_doing_all, append_cancel_left}
 use Rattle.std.proofs.Math.Seq.{drop-append_seam}
 use Rattle.model_line.specs.Line.{Line}
 use Rattle.model_line.specs.Sound.{IsSound}

@@ -1,5 +1,5 @@
 -- Two ends that are up, and whose T200 is timely: they stay so, and no frame that one takes makes it tell an error.
-use Rattle.laws_wire.proofs.Vocabulary.{arith, ◌≡◌, ℕ, ◌≤◌, Bool, true, false, cond, not, ◌&&◌, IsTrue, List, [], ◌∷◌, ◌++◌, refl, sym, ap, subst, ◌∙◌, ◌⊎◌, inl, inr, true≢false, list_any, Seq, Control, Information, ReceiveReady, ReceiveNotReady, Reject, Note, Parts, State, TeiAssigned, AwaitingEstablishment, AwaitingRelease, Established, TimerRecovery, LinkTimer, Terms, Link, is_multiple_frame, received, expired, requested, offer, course, End, Ends, asks, expires, sends, receives, with_link, with_sent, IsUp, frames_of, Joined, joined-turned, done-at, Rising, frame-taken, busy_asked, flag_left, takes_contents, as_heard, is_overlong, state_after, numbered_as, final_as, told_up, told_by_frame, told_expired, event-follows, CanRepeat, IsMildAct, IsTimelyAct, is_recovering, Flow, flow-low, no-answer, line, NoAlien, is-no-alien, Sane, sane-doing, Flows, acted-flows, done-up, same-after, Kind, answer, alien, kind_of, kind_of_ready, kind_of_reject, after, is_error, NoteData}
+use Rattle.laws_wire.proofs.Vocabulary.{arith, ◌≡◌, ℕ, Bool, true, false, cond, not, ◌&&◌, IsTrue, List, [], ◌∷◌, ◌++◌, refl, sym, ap, subst, ◌∙◌, ◌⊎◌, true≢false, list_any, Seq, Control, Information, Note, Parts, State, TeiAssigned, Established, TimerRecovery, LinkTimer, Terms, Link, is_multiple_frame, received, expired, requested, offer, course, End, Ends, asks, expires, sends, receives, with_link, with_sent, IsUp, frames_of, Joined, joined-turned, done-at, Rising, frame-taken, busy_asked, flag_left, takes_contents, as_heard, is_overlong, state_after, numbered_as, told_up, told_by_frame, told_expired, event-follows, CanRepeat, IsMildAct, IsTimelyAct, is_recovering, Flow, no-answer, line, NoAlien, is-no-alien, Sane, sane-doing, Flows, acted-flows, done-up, same-after, Kind, answer, alien, kind_of, kind_of_reject, after, is_error, NoteData}
 use Rattle.model_link.specs.TwoEnds.{Act, loses, at_near, with_first_of, with_first_lost, acting}
 use Rattle.laws_link.specs.Telling.{told_by}
 use Rattle.laws_link.specs.two.Timely.{IsTimely}

@@ -1,13 +1,13 @@
 -- A station in a call in which frames are lost and timers expire: what its layer 3 was granted is what its link accepted, and
 -- layer 3 heard what its link delivered.
-use Rattle.laws_wire.proofs.Vocabulary.{◌≡◌, ℕ, Bool, true, false, cond, not, ◌&&◌, ◌==◌, suc, List, [], ◌∷◌, ◌++◌, length, map, Option, None, is_some, refl, sym, ap, subst, ◌∙◌, ◌⊎◌, inl, inr, append-nil, append_assoc, eqb-true, arith, option_to_list, flat_map, list_any, option_or, and_parts, false≢true, map-append, list_any-append, list_any_none, Note, Service, Timer, Parts, spelling, LinkTimer, End, with_link, with_sent, Config, LineTold, expiry, request, next, at_timer, aim_of_expiry, Line, place_in, flat_map-append, Course, nothing, Data, Station, happens, with_first_lost, comes, data_told, for_layer_3, heard_in, is_error, HasNoError, two_ends_with_first_lost, course, NoteData, refusal}
+use Rattle.laws_wire.proofs.Vocabulary.{◌≡◌, ℕ, Bool, true, false, ◌==◌, suc, List, [], ◌∷◌, ◌++◌, length, map, None, is_some, refl, sym, ap, subst, ◌∙◌, ◌⊎◌, inl, inr, append-nil, append_assoc, eqb-true, arith, option_to_list, flat_map, list_any, and_parts, false≢true, map-append, list_any-append, list_any_none, Note, Service, Timer, Parts, spelling, LinkTimer, End, with_link, with_sent, Config, LineTold, expiry, request, next, at_timer, aim_of_expiry, Line, place_in, flat_map-append, Course, Data, Station, happens, with_first_lost, comes, data_told, for_layer_3, heard_in, is_error, HasNoError, two_ends_with_first_lost, course, NoteData, refusal}
 use Rattle.model_link.specs.Events as link
 use Rattle.laws_wire.proofs.Answered.{gives-told, same-granted, takes-granted}
 use Rattle.laws_wire.proofs.Asking.{with_more}
 use Rattle.laws_wire.proofs.Fair.{HasError, or-true}
 use Rattle.laws_wire.proofs.Speaking.{heard_by, said_by}
 use Rattle.laws_wire.proofs.Standing.{IsCarried, Stands, expires-stands, expires-said}
-use Rattle.laws_wire.proofs.Talking.{Face, unheard, Holds, holds-given, holds-lost, holds-asked, More, Took, takes as takes_frame}
+use Rattle.laws_wire.proofs.Talking.{Face, unheard, Holds, holds-given, holds-lost, holds-asked, More, takes as takes_frame}
 
 -- ---- what layer 3 hears of an event
 

@@ -1,5 +1,5 @@
 -- A link that is released, and the one that is told of it: what each event makes of them.
-use Rattle.laws_wire.proofs.Vocabulary.{arith, ◌≡◌, ℕ, ◌+◌, ◌<◌, Bool, true, false, cond, List, [], ◌∷◌, ◌++◌, take, None, Some, sym, ap, ◌∙◌, nat_lt, lt-ltb, Disc, Ua, Dm, Parts, TeiAssigned, AwaitingRelease, Established, ControlFrame, Terms, received, expired, requested, Link, frame_of, course, begun, ◌then◌, command, response, T200, after, Course, release_indicated, code_H}
+use Rattle.laws_wire.proofs.Vocabulary.{arith, ◌≡◌, ℕ, ◌+◌, ◌<◌, Bool, true, false, cond, List, [], ◌∷◌, take, None, Some, sym, ap, ◌∙◌, nat_lt, lt-ltb, Disc, Ua, Parts, TeiAssigned, AwaitingRelease, Established, ControlFrame, Terms, received, expired, requested, Link, frame_of, course, begun, ◌then◌, command, response, T200, after, Course, release_indicated, code_H}
 use Rattle.model_link.specs.Events.{frame, Release}
 use Rattle.model_link.specs.Words
 use Rattle.laws_wire.proofs.Speaking.{said_by}

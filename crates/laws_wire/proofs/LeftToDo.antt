@@ -1,5 +1,5 @@
 -- How many turns and losses there are at most where both ends are up, by what waits, what is on its way, and what is still to be told.
-use Rattle.laws_wire.proofs.Vocabulary.{◌≡◌, ℕ, suc, ◌+◌, ◌-◌, ◌*◌, ◌≤◌, Bool, true, false, ◌&&◌, IsTrue, List, [], ◌∷◌, ◌++◌, length, map, take, sym, ap, subst, ◌∙◌, arith, true≢false, length-map, length-take-le, Service, Parts, spelling, Control, Information, ReceiveReady, ReceiveNotReady, Reject, State, Established, TimerRecovery, ControlFrame, Link, unsent, is_multiple_frame, End, Config, LineTold, carried-high, Station, Wire, confirmed, indicated, data_told, all_told, heard_in, most_frames, frames_left, notes_left, most_left}
+use Rattle.laws_wire.proofs.Vocabulary.{◌≡◌, ℕ, suc, ◌+◌, ◌-◌, ◌*◌, ◌≤◌, Bool, IsTrue, List, [], ◌∷◌, ◌++◌, length, map, take, sym, ap, subst, ◌∙◌, arith, true≢false, length-map, length-take-le, Service, Parts, Control, Information, State, Established, TimerRecovery, ControlFrame, Link, is_multiple_frame, End, Config, LineTold, carried-high, Station, Wire, confirmed, indicated, data_told, all_told, heard_in, most_frames, frames_left, notes_left, most_left}
 use Rattle.laws_wire.proofs.Acting.{sound}
 use Rattle.laws_wire.proofs.Awaited.{link-is}
 use Rattle.laws_wire.proofs.Held.{Held}

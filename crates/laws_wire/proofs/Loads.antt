@@ -2,7 +2,6 @@
 -- a REJ that may still be sent, and in state 8 what the answer may bring back.
 use Rattle.laws_wire.proofs.Vocabulary.{◌≡◌, ℕ, ◌+◌, ◌*◌, ◌≤◌, Bool, true, false, cond, ◌&&◌, List, [], ◌∷◌, ◌++◌, length, refl, arith, nat_lt, and_parts, ltb-true, Control, Information, ReceiveReady, ReceiveNotReady, Reject, Sabme, Parts, State, TimerRecovery, ControlFrame, Terms, Link, unsent, offer, course, given_of, begun, frame_given, Course}
 use Rattle.model_link.specs.Offers
-use Rattle.model_link.specs.Words
 
 -- what a frame brings about, beyond itself
 abbrev pub answer_to : Bool → ℕ

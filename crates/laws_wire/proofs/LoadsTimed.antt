@@ -1,8 +1,7 @@
 -- A timer that expires lets a link send w turns more, and an enquiry and its answer; or an error is told.
-use Rattle.laws_wire.proofs.Vocabulary.{◌≡◌, ℕ, ◌+◌, ◌<◌, ◌≤◌, Bool, true, cond, refl, ap, ◌∙◌, ◌⊎◌, inr, lt-ltb, arith, Sabme, Disc, State, AwaitingEstablishment, AwaitingRelease, Established, TimerRecovery, LinkTimer, Terms, Link, may_repeat, expired, course, begun, ◌then◌, awaits_answer, T200, Course}
+use Rattle.laws_wire.proofs.Vocabulary.{◌≡◌, ℕ, ◌+◌, ◌<◌, ◌≤◌, Bool, true, cond, refl, ap, ◌∙◌, ◌⊎◌, inr, lt-ltb, arith, Sabme, State, AwaitingEstablishment, AwaitingRelease, Established, TimerRecovery, LinkTimer, Terms, Link, may_repeat, expired, course, begun, ◌then◌, awaits_answer, T200, Course}
 use Rattle.model_link.specs.Machine
 use Rattle.model_link.specs.Words
-use Rattle.model_link.specs.Established
 use Rattle.laws_wire.proofs.Fair.{HasError}
 use Rattle.laws_wire.proofs.Loads.{load, back, one-waits}
 

@@ -1,5 +1,5 @@
 -- What layer 3 was granted and told before changes nothing of what happens.
-use Rattle.laws_wire.proofs.Vocabulary.{arith, ◌≡◌, ℕ, List, [], ◌∷◌, ◌++◌, refl, ap, ◌∙◌, append_assoc, LineTold, Event, Station, Wire, happens, Act, Doing, at_near, at_far, acting, turned, doing, is_turn}
+use Rattle.laws_wire.proofs.Vocabulary.{arith, ◌≡◌, ℕ, List, [], ◌∷◌, ◌++◌, refl, ap, ◌∙◌, append_assoc, LineTold, Station, Wire, Doing, at_near, at_far, turned, doing}
 unfoldable use Rattle.laws_wire.specs.Wire.{doing_all, turns}
 
 abbrev pub logged : List (List ℕ) → List LineTold → Station → Station

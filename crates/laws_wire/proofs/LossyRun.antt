@@ -1,8 +1,8 @@
 -- A whole call in which frames are lost and timers expire: what layer 3 of each was told, as long as no error was.
-use Rattle.laws_wire.proofs.Vocabulary.{arith, ◌≡◌, ℕ, List, [], ◌∷◌, ◌++◌, map, take, refl, sym, ap, ◌∙◌, inl, inr, append-nil, All, flat_map, All-nil, All-cons, All-head, All-tail, Service, other_side, fresh, IsInRange, End, Config, LineTold, terms, terms_in_range, Station, Wire, with_first_of, Act, requests, takes, loses, Doing, at_near, at_far, acting, turned, doing, doing_all, calling, CanCall, confirmed, indicated, data_told, IsBeginningOf, for_layer_3, heard_in, HasNoError, IsRoughTalk, CallsAreToldInOrder, list_any-append}
+use Rattle.laws_wire.proofs.Vocabulary.{arith, ◌≡◌, ℕ, List, [], ◌∷◌, ◌++◌, map, take, refl, sym, ap, ◌∙◌, inl, inr, append-nil, All, flat_map, All-nil, All-cons, All-head, All-tail, Service, other_side, fresh, IsInRange, End, Config, LineTold, terms, terms_in_range, Station, Wire, Act, takes, loses, Doing, at_near, at_far, acting, doing, doing_all, calling, CanCall, confirmed, indicated, data_told, IsBeginningOf, for_layer_3, heard_in, HasNoError, IsRoughTalk, CallsAreToldInOrder, list_any-append}
 use Rattle.laws_wire.proofs.Beginning.{calls, answers}
 use Rattle.laws_wire.proofs.Calling.{asked, sabme, end}
-use Rattle.laws_wire.proofs.Held.{Held, Erred, not-erred}
+use Rattle.laws_wire.proofs.Held.{Held, not-erred}
 use Rattle.laws_wire.proofs.LossyHalf.{half-near, half-far}
 use Rattle.laws_wire.proofs.LossyPhases.{IsRinging, Goes, HasErred, Went}
 use Rattle.laws_wire.proofs.LossyRinging.{ringing-near, ringing-far}

@@ -1,5 +1,5 @@
 -- What changes nothing at a station: a call for a frame where none waits, taking a frame where none is on its way, and data that is refused.
-use Rattle.laws_wire.proofs.Vocabulary.{◌≡◌, ℕ, ◌+◌, ◌≤◌, false, List, [], ◌∷◌, length, map, drop, None, refl, sym, ap, subst, ◌∙◌, ◌⊎◌, inl, inr, arith, All, All-head, Service, Parts, spelling, given, End, frame_given, Config, Request, request, next, refusal, Data, Station, Wire, happens, frames_by, with_first_of, with_first_lost, requests, gives, takes, acting, turned, answered, IsTalkOf, LinkData, two_ends_with_first_lost}
+use Rattle.laws_wire.proofs.Vocabulary.{◌≡◌, ℕ, ◌≤◌, false, List, [], ◌∷◌, map, drop, None, sym, ap, subst, ◌∙◌, ◌⊎◌, inl, inr, arith, All, All-head, Service, Parts, spelling, given, End, frame_given, Config, Request, request, next, refusal, Data, Station, Wire, happens, frames_by, with_first_of, requests, gives, takes, acting, turned, answered, IsTalkOf, LinkData, two_ends_with_first_lost}
 use Rattle.laws_wire.proofs.Answered.{gives-granted}
 use Rattle.laws_wire.proofs.Standing.{IsCarried, Stands, gives-frames}
 use Rattle.laws_wire.proofs.Talking.{Past, Holds, holds-given, holds-lost, More, holds-asked}

@@ -1,5 +1,5 @@
 -- What an end that was never busy answers, puts and gives: which N(R) it has, and what is owed.
-use Rattle.laws_wire.proofs.Vocabulary.{arith, ◌≡◌, ℕ, ◌+◌, Bool, true, false, cond, ◌&&◌, IsTrue, List, [], ◌∷◌, ◌++◌, length, refl, sym, ap, ◌∙◌, append_assoc, append-nil, ◌⊎◌, inl, inr, true≢false, nat_lt, slice_get, Seq, seq, Information, ReceiveReady, ReceiveNotReady, Reject, Parts, State, Established, TimerRecovery, LinkTimer, T203, ControlFrame, Terms, Link, is_multiple_frame, frame_of, expired, offer, Step, begun, frame_given, frames_of, frames-append, Means, c-7, c-8, enquiry, kind_of, unwrap_or, T200, Course, code_I}
+use Rattle.laws_wire.proofs.Vocabulary.{arith, ◌≡◌, ℕ, ◌+◌, Bool, true, false, cond, ◌&&◌, IsTrue, List, [], ◌∷◌, ◌++◌, refl, sym, ap, ◌∙◌, append_assoc, append-nil, ◌⊎◌, inl, inr, true≢false, nat_lt, slice_get, Seq, seq, Information, ReceiveReady, Reject, Parts, State, Established, TimerRecovery, LinkTimer, T203, ControlFrame, Terms, Link, is_multiple_frame, frame_of, expired, offer, Step, begun, frame_given, frames_of, frames-append, Means, c-7, c-8, enquiry, kind_of, unwrap_or, T200, Course, code_I}
 use Rattle.model_link.specs.Words
 use Rattle.model_link.specs.MultipleFrame
 use Rattle.model_link.specs.Established

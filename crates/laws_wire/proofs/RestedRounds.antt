@@ -1,5 +1,5 @@
 -- Rounds in which no error is told lead to where no turn is left.
-use Rattle.laws_wire.proofs.Vocabulary.{◌≡◌, ℕ, zero, suc, ◌+◌, ◌*◌, ◌<◌, ◌≤◌, Bool, false, cond, List, [], ◌∷◌, ◌++◌, length, option_map, refl, sym, ap, subst, ◌∙◌, arith, All, All-nil, All-append, Service, Config, terms, Station, Wire, with_first_of, is_any, Doing, at_near, at_far, acting, turned, doing, doing_all, IsStill, calling, CanCall, granted_of, IsRoughTalk, round, rounds, HasNoErrors, moves, expiries, most_frames, RoundsComeToRest}
+use Rattle.laws_wire.proofs.Vocabulary.{◌≡◌, ℕ, zero, suc, ◌+◌, ◌*◌, ◌<◌, ◌≤◌, Bool, false, cond, List, [], ◌∷◌, ◌++◌, length, option_map, refl, sym, ap, subst, ◌∙◌, arith, All, All-nil, All-append, Service, Config, terms, Wire, Doing, at_near, at_far, acting, turned, doing, doing_all, IsStill, calling, CanCall, granted_of, IsRoughTalk, round, rounds, HasNoErrors, moves, expiries, most_frames, RoundsComeToRest}
 use Rattle.laws_wire.specs.Wire as wire
 use Rattle.laws_wire.proofs.Answered.{gives-taken, gives-granted, takes-granted}
 use Rattle.laws_wire.proofs.RestedRun.{moves-come-to-an-end}

@@ -1,13 +1,13 @@
 -- A whole call in which frames are lost and timers expire: its moves are at most what there was to do, and what was asked for since.
-use Rattle.laws_wire.proofs.Vocabulary.{◌≡◌, ℕ, ◌+◌, ◌*◌, ◌≤◌, true, cond, List, [], ◌∷◌, ◌++◌, length, refl, sym, ap, subst, ◌∙◌, ◌⊎◌, inl, inr, arith, All, All-head, All-tail, Service, Parts, ControlFrame, Terms, fresh, course, IsInRange, End, frames_of, Config, LineTold, terms, after, Station, Wire, Doing, at_near, at_far, turned, doing, doing_all, calling, confirmed, indicated, granted_of, HasNoError, IsRoughTalk, is_move, moves, expiries_in, expiries, most_frames, MovesComeToAnEnd}
+use Rattle.laws_wire.proofs.Vocabulary.{◌≡◌, ℕ, ◌+◌, ◌*◌, ◌≤◌, true, cond, List, [], ◌∷◌, ◌++◌, length, refl, sym, ap, subst, ◌∙◌, ◌⊎◌, inl, inr, arith, All, All-head, All-tail, Service, Parts, ControlFrame, Terms, fresh, course, IsInRange, End, frames_of, Config, LineTold, terms, after, Station, Wire, Doing, at_near, at_far, turned, doing, doing_all, calling, confirmed, indicated, granted_of, HasNoError, IsRoughTalk, is_move, moves, expiries_in, expiries, MovesComeToAnEnd}
 use Rattle.model_link.specs.Events as link
-use Rattle.laws_wire.proofs.Acting.{First, Before, which, UpAt, ranges, sound}
+use Rattle.laws_wire.proofs.Acting.{which, UpAt, ranges, sound}
 use Rattle.laws_wire.proofs.Calling.{asked, sabme, ua, end, caller, takes-sabme}
 use Rattle.laws_wire.proofs.Fair.{HasError, frame-fair, sabme-error}
 use Rattle.laws_wire.proofs.Held.{Held, not-erred}
-use Rattle.laws_wire.proofs.Joint.{Joint, IsMeant, first-means, hears-on}
+use Rattle.laws_wire.proofs.Joint.{IsMeant, first-means, hears-on}
 use Rattle.laws_wire.proofs.LoadsHeard.{frame-hears}
-use Rattle.laws_wire.proofs.LossyPhases.{IsRinging, IsHalf, IsUp, UaOrNone, Goes, HasErred, Went}
+use Rattle.laws_wire.proofs.LossyPhases.{IsRinging, IsUp, Goes, HasErred, Went}
 use Rattle.laws_wire.proofs.LossyRun.{goes, errs, setting, rings}
 use Rattle.laws_wire.proofs.Rested.{TakesWell, then-acts}
 use Rattle.laws_wire.proofs.Ringing.{ringing, IsSabme, AreSabmes, ignores}

@@ -1,5 +1,5 @@
 -- There is room for each enquiry and each answer of two ends of which neither was ever busy, where three control frames may wait.
-use Rattle.laws_wire.proofs.Vocabulary.{◌≡◌, ℕ, ◌+◌, ◌≤◌, Bool, true, false, List, [], ◌∷◌, ◌++◌, length, refl, arith, All, lt-ltb, All-head, All-tail, Control, Parts, ControlFrame, Terms, End, has_room, frames_of, is_enquiry, HasNo, line, Kind, kind_of, kinds_of, kinds-append, tally, one_enquiry, one_answer, one_rejection}
+use Rattle.laws_wire.proofs.Vocabulary.{◌≡◌, ℕ, ◌+◌, ◌≤◌, true, false, List, [], ◌∷◌, ◌++◌, length, refl, arith, All, lt-ltb, All-head, All-tail, Parts, ControlFrame, Terms, End, has_room, frames_of, is_enquiry, HasNo, line, Kind, kind_of, kinds_of, kinds-append, tally, one_enquiry, one_answer, one_rejection}
 use Rattle.laws_wire.proofs.Firm.{Firm}
 use Rattle.laws_wire.proofs.Tame.{WaitsSo}
 use Rattle.laws_link.proofs.OfTwo.StayingUp.{not-enquiry}

@@ -1,8 +1,6 @@
 -- What layer 3 is told by an event of a link.
-use Rattle.laws_wire.proofs.Vocabulary.{◌≡◌, ℕ, ◌+◌, ◌≤◌, true, false, cond, ◌==◌, List, [], ◌∷◌, ◌++◌, length, map, Some, refl, sym, ap, subst, ◌∙◌, inl, inr, eq-eqb, append_assoc, arith, All, slice_get, option_to_list, if◌then◌else◌, option_or, le-ltb, map-append, seq, named, Service, Parts, Terms, Link, received, course, begun, End, unserved_cause, LineTold, plain, information_frame, named-number, fits-at, acked, Informs, Notes, Lane, lane-low, lane-order, Steady, is-steady, unwrap_or, frame, Course, Direction, tells_nothing, data_told}
-use Rattle.lapd_frame.specs.declared.notes.ErrorCode.TheVariants as code
+use Rattle.laws_wire.proofs.Vocabulary.{◌≡◌, ℕ, ◌+◌, ◌≤◌, true, false, ◌==◌, List, [], ◌∷◌, length, map, Some, sym, ap, subst, eq-eqb, arith, All, slice_get, option_to_list, if◌then◌else◌, option_or, le-ltb, seq, named, Parts, Terms, Link, received, course, begun, End, unserved_cause, LineTold, plain, information_frame, named-number, fits-at, acked, Informs, Lane, lane-low, lane-order, Steady, is-steady, unwrap_or, frame, Course, Direction, tells_nothing, data_told}
 use Rattle.model_link.specs.Established
-use Rattle.model_link.specs.Machine.{told}
 use Rattle.model_link.specs.MultipleFrame
 use Rattle.model_link.specs.Words
 

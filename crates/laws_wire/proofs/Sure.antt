@@ -1,8 +1,7 @@
 -- What an end sends arrives for sure once it has asked, where nothing more is lost: it awaits the answer, or nothing that it sent is
 -- missing. What it does itself leaves that so.
-use Rattle.laws_wire.proofs.Vocabulary.{◌≡◌, ℕ, ◌+◌, ◌≤◌, Bool, true, false, IsTrue, List, [], ◌∷◌, ◌++◌, Some, refl, sym, ap, subst, ◌∙◌, ◌⊎◌, inl, inr, true≢false, arith, Control, Parts, Seq, seq, named, State, Established, TimerRecovery, LinkTimer, received, expired, offer, Link, is_multiple_frame, course, is_running, given_of, End, with_link, with_sent, frame_given, has_room, frames_of, named-means, Means, Rising, rising-low, offer-gave, named-within, frame-taken, named-is_seq, is_recovering, Takes, Heard, Flow, most, answer-says, no-answer, offer-goes, Gives, named-number, heard, line, Longer, line-longer, NoAlien, is-no-alien, Kind, numbered, enquiry, answer, report, rejection, alien, kind_of, kinds_of, kinds-append, tally, tally-push, one_enquiry, one_answer, Calm, T200, frame, after, Course, line_of}
+use Rattle.laws_wire.proofs.Vocabulary.{◌≡◌, ℕ, ◌+◌, ◌≤◌, true, false, IsTrue, List, [], ◌∷◌, ◌++◌, Some, refl, sym, ap, subst, ◌∙◌, ◌⊎◌, inl, inr, true≢false, arith, Parts, Seq, seq, named, State, Established, TimerRecovery, LinkTimer, received, expired, Link, is_multiple_frame, is_running, End, with_link, with_sent, has_room, frames_of, named-means, Means, Rising, rising-low, named-within, frame-taken, named-is_seq, is_recovering, Heard, Flow, most, answer-says, no-answer, offer-goes, named-number, heard, line, Longer, line-longer, NoAlien, is-no-alien, Kind, numbered, enquiry, answer, report, rejection, alien, kind_of, kinds_of, kinds-append, tally, tally-push, one_enquiry, one_answer, Calm, T200, frame, after, line_of}
 use Rattle.laws_link.specs.two.Timely.{IsTimely}
-use Rattle.laws_wire.proofs.Asking.{with_more}
 use Rattle.laws_wire.proofs.Dense.{Dense, dense-push, dense-next, calm-dense, dense-beyond, Reaches, reaches-low, reaches-flat, Owed}
 use Rattle.laws_wire.proofs.Firm.{Firm}
 use Rattle.laws_wire.proofs.Replying.{Enquired, line-push, expires-so, asks-so}

@@ -1,12 +1,11 @@
 -- What the other end does leaves what an end sends as sure as it was, where nothing more is lost.
-use Rattle.laws_wire.proofs.Vocabulary.{◌≡◌, ℕ, ◌+◌, ◌≤◌, Bool, true, false, cond, IsTrue, List, [], ◌∷◌, refl, sym, ap, subst, ◌∙◌, inl, inr, eq-eqb, arith, Control, ReceiveReady, ReceiveNotReady, Parts, Seq, seq, LinkTimer, Terms, received, expired, Link, is_multiple_frame, frame_of, frame_step, begun, End, with_link, with_sent, has_room, ready_to_receive, response, frames_of, Rising, is_recovering, Takes, Heard, most, offer-goes, heard, line, Longer, line-longer, NoAlien, Kind, numbered, enquiry, answer, report, rejection, alien, kind_of, kinds_of, kinds-append, tally, tally-push, one_enquiry, one_answer, frame, after, line_of}
+use Rattle.laws_wire.proofs.Vocabulary.{◌≡◌, ℕ, ◌+◌, ◌≤◌, Bool, true, IsTrue, List, [], ◌∷◌, refl, sym, ap, subst, ◌∙◌, inl, inr, eq-eqb, arith, Control, Parts, Seq, seq, LinkTimer, Terms, received, expired, Link, is_multiple_frame, frame_of, frame_step, begun, End, with_link, has_room, ready_to_receive, response, frames_of, Rising, is_recovering, Takes, Heard, most, heard, line, Longer, line-longer, NoAlien, Kind, numbered, enquiry, answer, report, rejection, alien, kind_of, kinds_of, kinds-append, tally, tally-push, one_enquiry, one_answer, frame, after, line_of}
 use Rattle.laws_link.specs.two.Timely.{IsTimely}
-use Rattle.laws_wire.proofs.Asking.{with_more}
 use Rattle.laws_wire.proofs.Dense.{Dense, Owed, Replies, reaches-push}
 use Rattle.laws_wire.proofs.Firm.{Firm}
-use Rattle.laws_wire.proofs.Replying.{line-push, expires-so, offer-says, Same, ready-same, reject-same, Answers, enquiry-answered, Next, next-taken}
+use Rattle.laws_wire.proofs.Replying.{line-push, expires-so, ready-same, reject-same, Answers, enquiry-answered, next-taken}
 use Rattle.laws_wire.proofs.Roomy.{kinds, roomy}
-use Rattle.laws_wire.proofs.Sure.{Asking, Steady, Sure, longer-tally, room-for, none-open, back, known}
+use Rattle.laws_wire.proofs.Sure.{Asking, Sure, longer-tally, room-for, none-open, back, known}
 use Rattle.laws_wire.proofs.Tame.{IsFree}
 use Rattle.laws_link.proofs.OfTwo.Flowing.{one-at-most}
 

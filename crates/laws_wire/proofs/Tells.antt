@@ -1,5 +1,5 @@
 -- A station, the end for which it stands, and what its layer 3 heard.
-use Rattle.laws_wire.proofs.Vocabulary.{arith, ◌≡◌, ℕ, List, [], ◌∷◌, ◌++◌, map, refl, sym, ap, subst, ◌∙◌, All, flat_map, All-head, Service, Timer, Parts, spelling, LinkTimer, course, End, with_link, with_sent, Config, LineTold, expiry, next, HasNothingToSend, nothing-to_send, flat_map-append, Station, happens, comes, with_first_lost, for_layer_3, heard_in}
+use Rattle.laws_wire.proofs.Vocabulary.{arith, ◌≡◌, ℕ, List, [], ◌∷◌, ◌++◌, map, refl, sym, ap, subst, ◌∙◌, All, flat_map, All-head, Service, Timer, Parts, spelling, LinkTimer, course, End, with_link, with_sent, Config, LineTold, expiry, next, HasNothingToSend, nothing-to_send, flat_map-append, Station, happens, comes, for_layer_3, heard_in}
 use Rattle.model_link.specs.Events as link
 use Rattle.laws_wire.proofs.Answered.{gives-told}
 use Rattle.laws_wire.proofs.LossyPhases.{Aims}

@@ -1,5 +1,5 @@
 -- A call in which T200 is timely: SABME waits, is on its way, or was lost; then UA waits, and is on its way; then both ends are up.
-use Rattle.laws_wire.proofs.Vocabulary.{arith, ◌≡◌, ℕ, List, [], ◌∷◌, refl, ◌⊎◌, Service, Parts, ControlFrame, Terms, T203, fresh, End, Config, LineTold, expiry, terms, Station, Wire, happens, confirmed, indicated, IsLongEnough, timer_T203}
+use Rattle.laws_wire.proofs.Vocabulary.{◌≡◌, ℕ, List, [], ◌∷◌, refl, ◌⊎◌, Service, Parts, ControlFrame, Terms, T203, fresh, End, Config, LineTold, expiry, terms, Station, Wire, happens, confirmed, indicated, IsLongEnough, timer_T203}
 use Rattle.laws_wire.proofs.Awaited.{NoneOpen, long-there}
 use Rattle.laws_wire.proofs.Calling.{sabme, end, with_ua_waiting, with_ua_first}
 use Rattle.laws_wire.proofs.Firm.{Firm}

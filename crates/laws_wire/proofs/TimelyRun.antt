@@ -1,6 +1,5 @@
 -- A whole call in which timers are timely: both ends stay up, and what was lost arrives.
-use Rattle.laws_wire.proofs.Vocabulary.{◌≡◌, ℕ, suc, ◌+◌, ◌<◌, Bool, true, false, ◌==◌, List, [], ◌∷◌, ◌++◌, length, map, is_some, refl, sym, ap, subst, ◌∙◌, inl, inr, eqb-true, arith, All, flat_map, list_any, and_parts, or_parts, All-nil, All-cons, All-head, All-tail, list_any-append, Note, Service, Timer, Parts, ControlFrame, fresh, IsInRange, Ends, Config, LineTold, terms, all-arrived, T200, Station, Wire, Act, gives, takes, times_out, Doing, at_near, at_far, acting, turned, doing, doing_all, IsStill, calling, confirmed, indicated, data_told, for_layer_3, heard_in, is_error, HasNoError, IsRoughTalkOf, IsRoughTalk, is_poll, is_final, IsTimelyOf, IsSpared, IsTimely, StayTimely, both_expire, round, rounds, HasNoErrors, BothMayRepeat, HasMissing, HasArrived, with_t200_expired, WhatIsLostArrives, is_ua, frames_by, timer_T200, read_as}
-use Rattle.laws_link.specs.two.Rounds as two_links
+use Rattle.laws_wire.proofs.Vocabulary.{◌≡◌, ℕ, suc, ◌+◌, ◌<◌, Bool, true, false, ◌==◌, List, [], ◌∷◌, length, map, is_some, refl, sym, ap, ◌∙◌, inl, inr, eqb-true, arith, All, flat_map, list_any, and_parts, or_parts, All-nil, All-cons, All-head, All-tail, list_any-append, Note, Service, Timer, Parts, ControlFrame, fresh, IsInRange, Ends, Config, LineTold, terms, all-arrived, T200, Station, Wire, Act, gives, takes, times_out, Doing, at_near, at_far, acting, turned, doing, doing_all, IsStill, calling, confirmed, indicated, data_told, for_layer_3, heard_in, is_error, HasNoError, IsRoughTalkOf, IsRoughTalk, is_poll, is_final, IsTimelyOf, IsSpared, IsTimely, StayTimely, both_expire, round, rounds, HasNoErrors, BothMayRepeat, HasMissing, HasArrived, with_t200_expired, WhatIsLostArrives, is_ua, frames_by, timer_T200, read_as}
 use Rattle.laws_wire.proofs.Awaited.{NoneOpen, open-here}
 use Rattle.laws_wire.proofs.Calling.{end, called}
 use Rattle.laws_wire.proofs.LossyRun.{Setting, setting}
@@ -13,7 +12,7 @@ use Rattle.laws_wire.proofs.TimelyAnswered.{gives-ua, confirms, waits-still, wai
 use Rattle.laws_wire.proofs.TimelyPhases.{Rings, UaWaits, UaGoes, Goes}
 use Rattle.laws_wire.proofs.TimelyRinging as ringing
 use Rattle.laws_wire.proofs.TimelyRinging.{down-expires, down-acts, repeats-sabme, few-repeats, silent-near, gives-sabme, not-still, asking-near, called-still, called-near, called-far}
-use Rattle.laws_wire.proofs.TimelyUp.{hushed, none-of, none-open, BothUp, AreUp, turned-are, up-acts, rounds-up}
+use Rattle.laws_wire.proofs.TimelyUp.{hushed, none-of, none-open, BothUp, turned-are, up-acts, rounds-up}
 
 -- ---- what layer 3 heard has the errors that were told
 
@@ -166,12 +165,12 @@ module _ (service : Service) (tei : ℕ) (c d : Config) (p q : ℕ) (face : Face
 
   -- where no turn is left before both are up SABME was lost
   pub arrives : (w : Wire) → On w → (u : ℕ) → IsStill w → HasMissing service tei u w → BothMayRepeat service tei w → Arrives u w
-  arrives w (inl h) u still few may = lost-arrives w h may u
-  arrives w (inr (inl h)) u still few may = absurd (not-still service tei c d p q face back rt ru w h still)
-  arrives w (inr (inr (inl h))) u still few may = absurd (called-still service tei c d p q face back rt ru w h still)
-  arrives w (inr (inr (inr (inl h)))) u still few may = absurd (waits-still service tei c d p q face back rt ru w h.m h.is still)
-  arrives w (inr (inr (inr (inr (inl h))))) u still few may = absurd (comes-still service tei c d p q face back rt ru w h.m h.is still)
-  arrives w (inr (inr (inr (inr (inr h))))) u still few may = up-arrives service tei c d p q face back w h.n h.m h.up still may u few
+  arrives w (inl h) u still missing may = lost-arrives w h may u
+  arrives w (inr (inl h)) u still missing may = absurd (not-still service tei c d p q face back rt ru w h still)
+  arrives w (inr (inr (inl h))) u still missing may = absurd (called-still service tei c d p q face back rt ru w h still)
+  arrives w (inr (inr (inr (inl h)))) u still missing may = absurd (waits-still service tei c d p q face back rt ru w h.m h.is still)
+  arrives w (inr (inr (inr (inr (inl h))))) u still missing may = absurd (comes-still service tei c d p q face back rt ru w h.m h.is still)
+  arrives w (inr (inr (inr (inr (inr h))))) u still missing may = up-arrives service tei c d p q face back w h.n h.m h.up still may u missing
 
   -- and there T200 of both ends is timely
   pub goes-on : (w : Wire) → On w → IsStill w → BothMayRepeat service tei w → StayTimely (both_expire service tei) w

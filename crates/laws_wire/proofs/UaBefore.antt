@@ -1,6 +1,6 @@
 -- Two cards on one wire, one of which was granted more before: nothing else is other.
-use Rattle.laws_wire.proofs.Vocabulary.{◌≡◌, ℕ, suc, ◌==◌, Bool, false, cond, List, [], ◌∷◌, ◌++◌, length, refl, append-nil, append_assoc, eqb-true, arith, LineTold, Service, End, Config, next, zero, subst, All, flat_map, Control, Parts, NoneGoes, giving, Event, is_poll, is_final, IsTimelyOf, timer_T200, read_as}
-use Rattle.laws_wire.specs.Wire.{Station, Wire, answered, happens, unless_refused, contents_in, Act, requests, times_out, gives, takes, loses, acting, turned}
+use Rattle.laws_wire.proofs.Vocabulary.{◌≡◌, ℕ, suc, ◌==◌, Bool, false, cond, List, [], ◌∷◌, ◌++◌, length, refl, append-nil, eqb-true, arith, LineTold, Service, End, Config, next, zero, subst, All, flat_map, Control, Parts, NoneGoes, giving, is_poll, is_final, IsTimelyOf, timer_T200, read_as}
+use Rattle.laws_wire.specs.Wire.{Station, Wire, answered, happens, unless_refused, contents_in, Act, times_out}
 use Rattle.laws_wire.proofs.Standing.{Stands}
 
 -- These were granted before.

@@ -1,6 +1,5 @@
 -- The station of the end that is called, whose link is up: what requests, timers and calls for the next frame do there.
-use Rattle.laws_wire.proofs.Vocabulary.{◌≡◌, ℕ, ◌==◌, Bool, true, false, not, ◌||◌, IsTrue, List, [], ◌∷◌, ◌++◌, None, refl, sym, ap, subst, ◌∙◌, ◌⊎◌, inl, inr, arith, Service, Timer, TimerRecovery, LinkTimer, T203, ControlFrame, Terms, Link, Course, begun, after, is_multiple_frame, has_outstanding, given, is_running, awaits_answer, no-reports, End, with_link, frame_given, Config, LineTold, expiry, request, Line, place_in, Request, at_requested, aim_of_request, IsMildRequest, CanRepeat, HasNo, Sane, T200, Data, SetBusy, ClearBusy, Station, Wire, happens, times_out, contents_of, IsOfLink, is_poll, IsTimelyOf, requested, LinkEvent, offer, LinkSetBusy, expired, LinkClearBusy, LinkData, LinkRequest, timer_T200, timer_T203, course, IsAsked, gives_information, timer-stays, request-stays, is_recovering}
-use Rattle.model_link.specs.Offers
+use Rattle.laws_wire.proofs.Vocabulary.{◌≡◌, ℕ, ◌==◌, Bool, true, false, not, ◌||◌, IsTrue, List, [], ◌∷◌, ◌++◌, None, refl, sym, ap, subst, ◌∙◌, ◌⊎◌, inl, inr, arith, Service, Timer, TimerRecovery, LinkTimer, T203, Terms, Link, Course, after, is_multiple_frame, has_outstanding, given, is_running, awaits_answer, no-reports, End, with_link, frame_given, Config, LineTold, expiry, request, Line, place_in, Request, at_requested, aim_of_request, IsMildRequest, CanRepeat, HasNo, Sane, T200, Data, SetBusy, ClearBusy, Station, Wire, happens, times_out, contents_of, IsOfLink, is_poll, IsTimelyOf, requested, LinkEvent, offer, LinkSetBusy, expired, LinkClearBusy, LinkData, LinkRequest, timer_T200, timer_T203, course, IsAsked, gives_information, timer-stays, request-stays, is_recovering}
 use Rattle.laws_wire.proofs.Acting.{ranges, sound}
 use Rattle.laws_wire.proofs.Asking.{asked-form}
 use Rattle.laws_wire.proofs.Awaited.{awaits-is, may-there, none-there, gives-reads}

@@ -1,5 +1,5 @@
 -- What is known of the links of a call in which UA may be lost: each runs the timer that it needs, and is busy only as it was asked.
-use Rattle.laws_wire.proofs.Vocabulary.{arith, ◌≡◌, ℕ, ◌*◌, ◌≤◌, Bool, true, false, cond, not, ◌&&◌, ◌||◌, IsTrue, List, [], ◌∷◌, ◌++◌, map, refl, sym, ap, subst, ◌∙◌, ◌⊎◌, inl, inr, true≢false, All, All-head, All-tail, Service, Timer, Parts, spelling, LinkTimer, Terms, Link, is_multiple_frame, after, IsInRange, End, with_link, Config, expiry, request, terms, next, Line, place_in, Request, Data, SetBusy, ClearBusy, at_requested, aim_of_request, sound-after, Station, Wire, happens, comes, with_first_of, Act, requests, times_out, gives, takes, loses, acting, turned, Doing, at_near, at_far, doing, doing_all, link_of, is_granted, answered, IsAsked, IsFullTalkOf, IsFullTalk, StayPatient, or_parts, frame, requested, LinkEvent, offer, expired, LinkSetBusy, received, LinkClearBusy, LinkData, LinkRequest, Called, seeing, HasItsTimer, timely-after}
+use Rattle.laws_wire.proofs.Vocabulary.{arith, ◌≡◌, ℕ, ◌*◌, ◌≤◌, Bool, true, false, cond, not, ◌&&◌, ◌||◌, IsTrue, List, [], ◌∷◌, ◌++◌, map, refl, sym, ap, subst, ◌∙◌, ◌⊎◌, inl, inr, true≢false, All, All-head, All-tail, Service, Timer, Parts, spelling, LinkTimer, is_multiple_frame, after, IsInRange, End, with_link, Config, expiry, request, terms, next, Line, place_in, Request, Data, SetBusy, ClearBusy, at_requested, aim_of_request, sound-after, Station, Wire, happens, comes, with_first_of, Act, requests, times_out, gives, takes, loses, acting, turned, Doing, at_near, at_far, doing, doing_all, link_of, is_granted, answered, IsAsked, IsFullTalkOf, IsFullTalk, StayPatient, or_parts, frame, requested, LinkEvent, offer, expired, LinkSetBusy, received, LinkClearBusy, LinkData, LinkRequest, Called, seeing, HasItsTimer, timely-after}
 use Rattle.laws_link.specs.Flags.{busy_asked}
 use Rattle.laws_link.specs.States.{as_heard}
 use Rattle.laws_link.proofs.EachRow.{each-row}
@@ -121,7 +121,7 @@ module _ (service : Service) (tei : ℕ) where
     pub near-known : (act : Act) → IsFullTalkOf service tei act → Known (busy_by act w.near b) (acting act w).near
     near-known (requests r) is = known-asked c p w.near n near b known up r is
     near-known (times_out timer) is = for-timer service tei (λ timer. Known b (happens (expiry timer) w.near)) (known-expires c p w.near n near b known) timer is
-    near-known gives is = known-gives c p w.near n near b known
+    near-known gives x = known-gives c p w.near n near b known
     near-known takes is = taken m.way refl
     near-known loses is = record { timed = known.timed; free = known.free }
 

@@ -1,5 +1,5 @@
 -- A whole call in which UA may be lost: what is told, and that all has come where no turn is left and T200 runs at neither end.
-use Rattle.laws_wire.proofs.Vocabulary.{◌≡◌, ℕ, ◌==◌, Bool, true, false, cond, ◌&&◌, ◌||◌, List, [], ◌∷◌, ◌++◌, length, map, refl, sym, ap, subst, ◌∙◌, ◌⊎◌, inl, inr, append-nil, append_assoc, true≢false, arith, All, All-head, All-tail, Service, Parts, ControlFrame, spelling, fresh, IsInRange, End, frames_of, Config, LineTold, T203, expiry, request, terms, T200, Station, Wire, happens, with_first_lost, Act, requests, times_out, gives, takes, loses, acting, turned, Doing, at_near, at_far, doing, doing_all, is_any, confirmed, indicated, data_told, heard_in, is_final, IsTimelyOf, eqb-true, timer_T200, timer_T203, IsFullTalkOf, IsFullTalk, IsPatient, StayPatient, Called, error_f, renewed, told_of_sabme, with_sabme, takes_sabme, gives_information, seeing, seen}
+use Rattle.laws_wire.proofs.Vocabulary.{◌≡◌, ℕ, ◌==◌, Bool, true, false, cond, ◌&&◌, ◌||◌, List, [], ◌∷◌, ◌++◌, length, map, refl, sym, ap, subst, ◌∙◌, ◌⊎◌, inl, inr, append-nil, append_assoc, arith, All, All-head, All-tail, Service, Parts, ControlFrame, spelling, fresh, IsInRange, End, frames_of, Config, LineTold, T203, expiry, request, terms, T200, Station, Wire, happens, Act, requests, times_out, gives, takes, loses, acting, turned, Doing, at_near, at_far, doing, doing_all, is_any, confirmed, indicated, heard_in, is_final, IsTimelyOf, eqb-true, timer_T200, timer_T203, IsFullTalkOf, IsFullTalk, IsPatient, StayPatient, Called, error_f, renewed, told_of_sabme, with_sabme, takes_sabme, gives_information, seeing, seen}
 use Rattle.laws_wire.proofs.Awaited.{awaits-is, none-there}
 use Rattle.laws_wire.proofs.Calling.{end, answering, sabme, ua}
 use Rattle.laws_wire.proofs.Held.{Held, held-lost, held-expired}

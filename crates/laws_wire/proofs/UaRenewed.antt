@@ -9,7 +9,7 @@ use Rattle.laws_wire.proofs.Speaking.{said_by}
 use Rattle.laws_wire.proofs.Standing.{IsCarried, Stands}
 use Rattle.laws_wire.proofs.Talking.{Face}
 use Rattle.laws_wire.proofs.UaBefore.{with_before, regranted, split}
-use Rattle.laws_wire.proofs.UaCalled.{sane-after, again, Renews, renews}
+use Rattle.laws_wire.proofs.UaCalled.{sane-after, again, renews}
 use Rattle.laws_wire.proofs.UaPhases.{IsAway, IsWaiting}
 
 module _ (service : Service) (tei : ℕ) (c d : Config) (p q : ℕ) (face : Face c d) (back : Face d c) (rt : IsInRange (terms c service tei)) (ru : IsInRange (terms d service tei)) where

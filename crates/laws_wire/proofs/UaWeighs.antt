@@ -1,5 +1,5 @@
 -- Each step of a call in which UA may be lost makes what is left to do less; so its moves are bounded.
-use Rattle.laws_wire.proofs.Vocabulary.{◌≡◌, ℕ, ◌+◌, ◌-◌, ◌*◌, ◌≤◌, Bool, true, false, cond, not, IsTrue, List, [], ◌∷◌, ◌++◌, length, refl, sym, ap, subst, ◌∙◌, ◌⊎◌, inl, inr, eqb-true, arith, Service, Parts, spelling, ControlFrame, Terms, Link, fresh, has_outstanding, has_room, is_multiple_frame, frames_of, after, Means, IsInRange, End, with_link, Config, LineTold, terms, Rising, Station, Wire, comes, with_first_lost, Act, takes, acting, turned, Doing, at_near, at_far, doing, IsFullTalkOf, IsTimelyOf, is_move, is_move_of, expiries_in, two_ends_with_first_of, two_ends_with_first_lost, receives, Called, reports_in}
+use Rattle.laws_wire.proofs.Vocabulary.{◌≡◌, ℕ, ◌+◌, ◌-◌, ◌*◌, ◌≤◌, Bool, false, cond, not, IsTrue, List, [], ◌∷◌, ◌++◌, length, refl, sym, ap, subst, ◌∙◌, ◌⊎◌, inl, inr, eqb-true, arith, Service, Parts, spelling, ControlFrame, Terms, Link, fresh, has_outstanding, has_room, is_multiple_frame, frames_of, after, Means, IsInRange, End, with_link, Config, LineTold, terms, Rising, Station, Wire, comes, with_first_lost, Act, takes, acting, turned, Doing, at_near, at_far, doing, IsFullTalkOf, IsTimelyOf, is_move, is_move_of, expiries_in, two_ends_with_first_of, two_ends_with_first_lost, receives, Called, reports_in}
 use Rattle.model_link.specs.Events as link
 use Rattle.laws_wire.proofs.Answered.{takes-granted}
 use Rattle.laws_wire.proofs.Calling.{end, its_ua, sabme, ua, takes-sabme}
@@ -11,11 +11,11 @@ use Rattle.laws_wire.proofs.Loose.{Loose, loose-turned, loose-after}
 use Rattle.laws_wire.proofs.LossyPhases.{first-way}
 use Rattle.laws_wire.proofs.Rested.{TakesWell, takes-nothing, takes-well}
 use Rattle.laws_wire.proofs.Ringing.{ringing, its_sabme, ignores}
-use Rattle.laws_wire.proofs.Standing.{IsCarried, Stands}
+use Rattle.laws_wire.proofs.Standing.{Stands}
 use Rattle.laws_wire.proofs.Talking.{Face}
 use Rattle.laws_wire.proofs.UaCalled.{again, renews}
 use Rattle.laws_wire.proofs.UaLost.{behind}
-use Rattle.laws_wire.proofs.UaLostRun.{Away, Waiting, Coming, Rs, Down, Up, IsCalled, Phase}
+use Rattle.laws_wire.proofs.UaLostRun.{Away, Waiting, Coming, Rs, Down, IsCalled, Phase}
 use Rattle.laws_wire.proofs.Weighing.{undelivered, weigh_of}
 
 module _ (service : Service) (tei : ℕ) (c d : Config) (p q : ℕ) (face : Face c d) (back : Face d c) (rt : IsInRange (terms c service tei)) (ru : IsInRange (terms d service tei)) (v : ℕ)

@@ -1,5 +1,5 @@
 -- Two stations whose links are up: each turn lowers their weight, and each request that is granted raises it by four.
-use Rattle.laws_wire.proofs.Vocabulary.{◌≡◌, ℕ, ◌+◌, ◌*◌, ◌≤◌, false, List, [], ◌∷◌, ◌++◌, length, map, drop, Option, Some, None, refl, sym, ap, subst, ◌∙◌, ◌⊎◌, inl, inr, append-nil, length-append, arith, All, if◌then◌else◌, All-head, All-tail, Service, Parts, spelling, Terms, Link, given, Given, End, Ends, with_link, with_sent, frame_given, Config, Request, request, next, weight_at, HasNothingToSend, takes-first, Pair, nothing-given, nothing-to_send, silent-stays, refusal, Data, Station, Wire, happens, frames_by, with_first_of, with_first_lost, Act, requests, gives, takes, Doing, at_near, at_far, acting, turned, doing, doing_all, is_any, is_turn_of, is_turn, turns, answered, comes, IsTalkOf, IsTalk, received, LinkData, frame, two_ends_with_first_of, two_ends_with_first_lost}
+use Rattle.laws_wire.proofs.Vocabulary.{◌≡◌, ℕ, ◌+◌, ◌*◌, ◌≤◌, false, List, [], ◌∷◌, ◌++◌, length, map, drop, Option, Some, None, refl, sym, ap, subst, ◌∙◌, ◌⊎◌, inl, inr, append-nil, length-append, arith, All, if◌then◌else◌, All-head, All-tail, Service, Parts, spelling, Terms, Link, given, Given, End, Ends, with_link, with_sent, frame_given, Config, Request, request, next, weight_at, HasNothingToSend, takes-first, Pair, nothing-given, nothing-to_send, silent-stays, refusal, Data, Station, Wire, happens, frames_by, with_first_of, Act, requests, gives, takes, Doing, at_near, at_far, acting, turned, doing, doing_all, is_any, is_turn_of, is_turn, turns, answered, comes, IsTalkOf, IsTalk, received, LinkData, frame, two_ends_with_first_of, two_ends_with_first_lost}
 use Rattle.laws_link.proofs.OfTwo.AnyOrder as any_order
 use Rattle.laws_wire.proofs.Answered.{gives-granted, takes-granted}
 use Rattle.laws_wire.proofs.Asking.{with_more, asked-form, asks-more, Asked}

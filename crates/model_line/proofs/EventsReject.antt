@@ -1,5 +1,5 @@
 -- Each event that brings an REJ with a valid N(R) is heard as a frame of four octets.
-use Rattle.model_line.proofs.Vocabulary.{◌≡◌, false, refl, arith, Timer, Config, Event, rejects_aimed, aim_of_expiry, IsRejectHeard, Line, unless_refused, refusal, Request, aim_of_request}
+use Rattle.model_line.proofs.Vocabulary.{◌≡◌, false, refl, arith, Timer, Config, Event, rejects_aimed, aim_of_expiry, IsRejectHeard, Line}
 use Rattle.model_line.proofs.ProperAims.{expiry_aims, request_aims}
 use Rattle.model_line.proofs.RejectsHeard.{heard_rejects}
 

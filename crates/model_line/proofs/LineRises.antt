@@ -1,5 +1,5 @@
 -- What is heard, and what it costs.
-use Rattle.model_line.proofs.Vocabulary.{ℕ, ◌+◌, ◌*◌, ◌≤◌, max, arith, Service, Config, hears, hears_frame, one, rejects, rejects_aimed, Line, window, aim_of_heard, Aim, at_link, IsInRange, LinkReceived, link_received, StreamEvent}
+use Rattle.model_line.proofs.Vocabulary.{ℕ, ◌+◌, ◌*◌, ◌≤◌, max, arith, Service, Config, hears, hears_frame, one, rejects, rejects_aimed, Line, window, aim_of_heard, Aim, IsInRange, StreamEvent}
 use Rattle.model_line.proofs.AimsRise.{sends}
 use Rattle.model_line.proofs.ProperAims.{heard_aims}
 use Rattle.model_line.proofs.Sums.{price_at}

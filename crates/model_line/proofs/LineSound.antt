@@ -1,5 +1,5 @@
 -- A line is sound as it begins, and each event keeps it so.
-use Rattle.model_line.proofs.Vocabulary.{replicate, get_or, None, subst, sym, length-replicate, get_or-replicate, All-nil, arith, fresh, sound-empty, Config, Event, Line, link_count, place_at, fresh_line, after, taken, line_of, option_map_or, IsInRange, IsSoundAt, IsSound, IsUnitData, aim_of}
+use Rattle.model_line.proofs.Vocabulary.{None, length-replicate, get_or-replicate, All-nil, arith, fresh, sound-empty, Config, Event, Line, link_count, fresh_line, after, taken, line_of, option_map_or, IsInRange, IsSound, IsUnitData, aim_of}
 use Rattle.model_line.proofs.AimsSound.{aim_sound}
 use Rattle.model_line.proofs.Numbers.{place_within}
 use Rattle.model_line.proofs.EventWalk.{by_part}

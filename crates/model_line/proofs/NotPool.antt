@@ -1,6 +1,5 @@
 -- A line by itself never finds the pool full: the pool is the card's.
-use Rattle.model_line.proofs.Vocabulary.{arith, ◌≡◌, ℕ, Bool, false, ◌&&◌, List, [], ◌∷◌, Option, Some, None, refl, list_any, ◌||◌, cond, Refusal, Config, Event, is_pool, is_pool_full, Line, answer, unless_refused_told, Effect, Row, first_that_holds, Request}
-use Rattle.model_line.specs.Refusal.{rows}
+use Rattle.model_line.proofs.Vocabulary.{arith, ◌≡◌, ℕ, Bool, false, ◌&&◌, List, [], ◌∷◌, Option, Some, None, refl, list_any, ◌||◌, cond, Refusal, Config, Event, is_pool, is_pool_full, Line, answer, Row, first_that_holds}
 
 -- The refusal is for another reason.
 abbrev IsOther : Option Refusal → Type 0

@@ -1,5 +1,5 @@
 -- What a line gives is not too short for a frame.
-use Rattle.model_line.proofs.Vocabulary.{◌≡◌, ℕ, ◌+◌, ◌%◌, ◌≤◌, ◌⊎◌, Bool, true, false, cond, List, [], ◌∷◌, ◌++◌, length, slice_index, IfSome, arith, Side, Address, Control, spelling, service_at, Config, Line, Taken, taken, terms, IsSound}
+use Rattle.model_line.proofs.Vocabulary.{◌≡◌, ℕ, ◌%◌, ◌≤◌, ◌⊎◌, Bool, true, false, cond, List, [], ◌∷◌, ◌++◌, length, slice_index, IfSome, arith, Side, Address, Control, spelling, service_at, Config, Line, Taken, taken, terms, IsSound}
 use Rattle.lapd_frame.specs.Grammar.{one_of}
 use Rattle.lapd_frame.specs.Services.{sapi_of}
 use Rattle.lapd_frame.specs.declared.controls.Control.TheVariants.{Ui}

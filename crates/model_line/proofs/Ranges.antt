@@ -1,5 +1,5 @@
 -- What the ranges of a configuration say.
-use Rattle.model_line.proofs.Vocabulary.{◌≡◌, ℕ, ◌≤◌, Bool, true, not, cond, Option, Some, None, max, arith, and_parts, leb-true, Service, Config, Field, is_within, window, terms, IsInRange}
+use Rattle.model_line.proofs.Vocabulary.{◌≡◌, ℕ, ◌≤◌, Bool, true, not, cond, Option, Some, None, max, arith, and_parts, leb-true, Service, Config, Field, is_within, terms, IsInRange}
 use Rattle.model_link.specs.Sound as links
 
 passed : (b : Bool) (f : Field) (o : Option Field) → cond (not b) (Some f) o ≡ None → (b ≡ true) × (o ≡ None)

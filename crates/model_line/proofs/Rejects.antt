@@ -1,5 +1,5 @@
 -- An REJ is a frame of four octets, and frames take their octets of the stream.
-use Rattle.model_line.proofs.Vocabulary.{◌≡◌, ℕ, ◌%◌, Bool, List, [], ◌∷◌, slice_index, Option, Some, None, Result, Ok, Err, cond, arith, ne_eqb, Address, Side, Control, ReadFault, Parts, reading, header_of, control_of, unnumbered_of, completed, sized, checked, reject_number}
+use Rattle.model_line.proofs.Vocabulary.{◌≡◌, ℕ, ◌%◌, Bool, List, [], ◌∷◌, slice_index, Option, Some, None, Result, Ok, Err, cond, arith, ne_eqb, Address, Side, Control, ReadFault, Parts, reading, header_of, control_of, unnumbered_of, completed, sized, reject_number}
 use Rattle.std.proofs.lemmas.Bool.{eqb-true}
 
 -- what is read is no REJ

@@ -1,7 +1,7 @@
 -- Each REJ with a valid N(R) is a frame of four octets that is heard.
 use Rattle.model_line.proofs.Vocabulary.{◌≡◌, ℕ, ◌≤◌, Bool, false, List, [], ◌∷◌, length, nat_le, Result, refl, ap, arith, le-leb, ReadFault, Parts, reading, Link, Config, one, is_long_frame, rejects_aimed, Line, aim_of_reading, heard_side, aim_of_heard, link_received, rises_rejects}
 use Rattle.model_bits.specs.Stream.{Event}
-use Rattle.model_line.proofs.ProperAims.{AreFor, reading_aims}
+use Rattle.model_line.proofs.ProperAims.{reading_aims}
 use Rattle.model_line.proofs.Rejects.{NoReject, three_no_reject}
 
 module _ (c : Config) (l : Line) where

@@ -1,7 +1,6 @@
 -- What a frame is on each side of a line.
-use Rattle.model_line.proofs.Vocabulary.{◌≡◌, ℕ, ◌≤◌, nat_lt, arith, false, Option, Some, eqb-true, leb-true, ltb-false, Unserved, Side, User, Network, Control, Service, Parts, service_of, Config, LineTold, Aim, at_none, at_link, at_management, at_units, at_no_link, group_told, told_of_ui, told_of_group, told_at, managed_at, at_side, last_unit_tei, IsToGroup, TeiEvent}
+use Rattle.model_line.proofs.Vocabulary.{◌≡◌, ℕ, ◌≤◌, nat_lt, arith, false, Option, eqb-true, leb-true, ltb-false, Unserved, Side, User, Network, Service, Parts, service_of, Config, LineTold, Aim, at_none, at_link, at_management, at_units, at_no_link, group_told, told_of_group, at_side, last_unit_tei, IsToGroup}
 use Rattle.model_line.specs.Event.{dropped}
-use Rattle.model_line.specs.Sides.{group_tei}
 
 -- What holds of an aim where it is served: of one at TEI management, on the network's side.
 abbrev pub WhereServed : Config → (Aim → Type 0) → Aim → Type 0

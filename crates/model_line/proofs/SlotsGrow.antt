@@ -1,7 +1,7 @@
 -- By how many slots a line's contents grow.
-use Rattle.model_line.proofs.Vocabulary.{◌≡◌, ℕ, ◌+◌, ◌≤◌, Bool, length, is_some, IfSome, refl, cond, arith, length-drop, Service, Link, queue_of, queue-after, Config, Event, one, Line, fresh_line, link_count, service_at, place_at, link_at, terms, after, takes_slot, Taken, taken, line_of, option_map_or, IsInRange, IsSound, slots_of, LinkEvent, offer, link_after, rises_grows, aim_of}
+use Rattle.model_line.proofs.Vocabulary.{◌≡◌, ℕ, ◌+◌, ◌≤◌, Bool, length, is_some, IfSome, refl, cond, arith, length-drop, Service, Link, queue_of, queue-after, Config, Event, one, Line, fresh_line, link_count, service_at, place_at, link_at, terms, after, takes_slot, Taken, taken, IsInRange, IsSound, slots_of, LinkEvent, offer, link_after, rises_grows, aim_of}
 use Rattle.model_line.proofs.EventWalk.{by_part}
-use Rattle.model_line.proofs.ProperAims.{brings_data, event_aims, event_proper}
+use Rattle.model_line.proofs.ProperAims.{event_aims, event_proper}
 use Rattle.model_line.proofs.TakenWalk.{taken_walk, next_walk}
 use Rattle.model_line.proofs.Sums.{Rise, price_at, aim_rises, one_changed, all_begin}
 

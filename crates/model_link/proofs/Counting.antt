@@ -1,6 +1,5 @@
 -- What is delivered, and V(R): each word but three leaves them.
-use Rattle.model_link.proofs.Vocabulary.{arith, ◌≡◌, ℕ, Bool, true, false, List, Option, None, ◌⊎◌, inl, inr, refl, Seq, Terms, Course, Step, by_number}
-use Rattle.model_link.proofs.Leads.{Leads, number_leads}
+use Rattle.model_link.proofs.Vocabulary.{arith, ◌≡◌, ℕ, Bool, true, false, List, Option, None, ◌⊎◌, inl, inr, refl, Terms, Course}
 use Rattle.model_link.proofs.Kept.{Kept}
 
 -- A claim on V(R), on what is delivered, and on whether the numbers began anew.

@@ -1,7 +1,7 @@
 -- One direction between two ends: what the sender's contents become on the line and at the receiver.
-use Rattle.model_link.proofs.Vocabulary.{length-append, ◌≡◌, ℕ, ◌+◌, ◌%◌, ◌<◌, ◌≤◌, List, [], ◌∷◌, ◌++◌, length, take, Some, refl, sym, drop, ap, subst, ◌∙◌, append_assoc, append-nil, arith, slice_get, take-append-le, Seq, seq, seq-value, Control, Parts, ControlFrame, Terms, Link, frame_of, End}
-use Rattle.model_link.proofs.Lines.{Carries, Piece, Carried, Means, Rising, carried-more, carried-lower, carried-push, rising-lower, rising-push}
-use Rattle.model_link.proofs.Facing.{IsReport, AreReports, Reports}
+use Rattle.model_link.proofs.Vocabulary.{length-append, ◌≡◌, ℕ, ◌+◌, ◌%◌, ◌<◌, ◌≤◌, List, [], ◌∷◌, ◌++◌, length, take, Some, refl, sym, drop, ap, subst, append_assoc, append-nil, arith, slice_get, take-append-le, Seq, seq, seq-value, Parts, ControlFrame, Terms, Link, frame_of, End}
+use Rattle.model_link.proofs.Lines.{Carries, Carried, Rising, carried-more, carried-lower, carried-push, rising-lower, rising-push}
+use Rattle.model_link.proofs.Facing.{AreReports, Reports}
 
 -- The frames that wait, as they will go.
 abbrev pub frames_of : Terms → List ControlFrame → List Parts

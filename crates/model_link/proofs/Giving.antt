@@ -1,5 +1,5 @@
 -- What an offer gives is a frame.
-use Rattle.model_link.proofs.Vocabulary.{◌≡◌, ℕ, zero, suc, ◌≤◌, Bool, false, cond, List, [], ◌∷◌, length, Option, None, refl, subst, arith, All, IfSome, slice_get, All-head, All-tail, seq, ReceiveReady, ControlFrame, Terms, Link, Sent, Course, begun, IsInRange, IsSound, IsWaitingFrame, IsGiven, offer, response, first_unsent, is_awaiting_acknowledgement, may_send_information, next_information, offer_among, with_one_sent, course, given, given_of}
+use Rattle.model_link.proofs.Vocabulary.{◌≡◌, ℕ, zero, suc, ◌≤◌, Bool, false, cond, List, [], ◌∷◌, length, Option, None, refl, subst, arith, All, IfSome, slice_get, All-head, All-tail, seq, ReceiveReady, ControlFrame, Terms, Link, Sent, Course, begun, IsInRange, IsSound, IsWaitingFrame, IsGiven, offer, response, first_unsent, next_information, offer_among, course, given, given_of}
 use Rattle.model_link.proofs.Waits.{frame_without_information, may_wait}
 
 -- a control frame goes alone

@@ -1,5 +1,5 @@
 -- One direction between two ends, where an end receives the first frame of the other's way.
-use Rattle.model_link.proofs.Vocabulary.{◌≡◌, ℕ, zero, suc, ◌+◌, ◌<◌, ◌≤◌, List, [], ◌∷◌, ◌++◌, length, take, Option, Some, refl, sym, ap, subst, ◌∙◌, inl, inr, append-nil, arith, slice_get, option_to_list, slice_get_within, seq, named, Control, Information, Parts, Link, IsInRange, IsSound, End}
+use Rattle.model_link.proofs.Vocabulary.{◌≡◌, ℕ, zero, suc, ◌+◌, ◌<◌, ◌≤◌, List, [], ◌∷◌, ◌++◌, length, take, Option, Some, refl, ap, subst, ◌∙◌, inl, inr, append-nil, arith, slice_get, option_to_list, slice_get_within, seq, named, Control, Information, Parts, Link, IsInRange, IsSound, End}
 use Rattle.model_link.proofs.SoundRows.{named-within}
 use Rattle.model_link.proofs.Lines.{Piece, Carried, Means, Rising, carried-higher, carried-lower, carried-high, rising-higher, rising-low}
 use Rattle.model_link.proofs.Facing.{Number, Stay, Reports}

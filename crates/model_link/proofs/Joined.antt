@@ -1,5 +1,5 @@
 -- Two ends: what holds in both directions, as long as both links stay in states 7 and 8.
-use Rattle.model_link.proofs.Vocabulary.{◌≡◌, ℕ, ◌+◌, Bool, true, false, cond, IsTrue, List, [], ◌∷◌, ◌++◌, drop, Option, None, Some, refl, sym, ap, subst, ◌∙◌, append-nil, true≢false, arith, option_to_list, Refusal, Parts, State, Established, TimerRecovery, LinkTimer, T200, T203, Terms, Link, is_multiple_frame, frame, Request, Event, received, expired, requested, offer, Course, begun, IsInRange, IsSound, End, Ends, Act, asks, expires, sends, receives, loses, Doing, at_near, at_far, with_link, with_sent, with_first_lost, with_first_of, acting, turned, doing, doing_all, Begins, IsUp, StayUp, Agree, granted, refusal, release_in, after, course, expired_in, is_running, told}
+use Rattle.model_link.proofs.Vocabulary.{◌≡◌, ℕ, Bool, cond, IsTrue, List, [], ◌∷◌, ◌++◌, drop, Option, None, Some, refl, sym, ap, subst, ◌∙◌, append-nil, arith, option_to_list, Refusal, Parts, State, Established, LinkTimer, Terms, Link, is_multiple_frame, frame, Request, Event, received, expired, requested, offer, Course, begun, IsInRange, IsSound, End, Ends, Act, asks, expires, Doing, at_near, at_far, with_link, with_sent, with_first_lost, with_first_of, acting, doing, doing_all, Begins, IsUp, StayUp, Agree, granted, refusal, release_in, after, course, expired_in, is_running, told}
 use Rattle.model_link.proofs.SoundEvents.{sound-after}
 use Rattle.model_link.proofs.Delivering.{event-delivers}
 use Rattle.model_link.proofs.Lines.{Carried, Rising, rising-low}

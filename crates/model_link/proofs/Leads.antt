@@ -1,5 +1,5 @@
 -- Where a step leads: from what held before it to what holds after it.
-use Rattle.model_link.proofs.Vocabulary.{arith, ◌≡◌, Bool, true, false, cond, Link, Course, Step, ◌then◌, nothing, depending_on, by_bit, ℕ, Option, None, Some, Seq, named, Terms, by_number, error, re_establish, ErrorCode}
+use Rattle.model_link.proofs.Vocabulary.{arith, ◌≡◌, Bool, true, false, cond, Link, Course, Step, ◌then◌, nothing, depending_on, by_bit, ℕ, Seq, Terms, by_number, error, re_establish, ErrorCode}
 
 pub record Leads (P : Course → Type 0) (f : Step) (Q : Course → Type 0) : Type 0 where
   pub leads : (c : Course) → P c → Q (f c)

@@ -1,6 +1,6 @@
 -- The notes that an event tells are of its own link.
 pub use Rattle.model_link.specs.Notes.{IsOwn}
-use Rattle.model_link.proofs.Vocabulary.{arith, ◌≡◌, ℕ, Bool, false, cond, List, All, All-nil, All-push, Terms, Link, Course, begun, after, course, Data, Event, offer, requested}
+use Rattle.model_link.proofs.Vocabulary.{arith, ◌≡◌, ℕ, Bool, false, List, All, All-nil, All-push, Terms, Link, Course, begun, after, course, Data, Event, offer, requested}
 use Rattle.model_link.proofs.Kept.{Kept}
 use Rattle.model_link.proofs.Rows.{every_event}
 

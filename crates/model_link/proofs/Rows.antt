@@ -1,11 +1,11 @@
 -- What a row does, said once: a claim that every word of the tables leads on is led on by every event.
-use Rattle.model_link.proofs.Vocabulary.{arith, ◌≡◌, ℕ, Bool, true, false, cond, List, [], ◌∷◌, Option, Some, None, inr, refl, Control, ErrorCode, Refusal, WrongState, State, TeiAssigned, AwaitingEstablishment, AwaitingRelease, Established, TimerRecovery, LinkTimer, T200, T203, ControlFrame, Terms, is_own_busy, Course, ◌then◌, nothing, ClearBusy, Data, Establish, Event, Release, Request, SetBusy, cleared, expired, frame, offer, overlong, received, requested, undefined, wrong_size, begin_anew, own_busy_is, report_ready, clear_busy_in_7_8, set_busy_in_7_8, granted, is_down, refusal, release_in, is_awaiting_acknowledgement, is_pending, may_send_information, offer_among, send_acknowledgement, send_information, command, Disc}
+use Rattle.model_link.proofs.Vocabulary.{arith, ◌≡◌, ℕ, Bool, true, false, cond, List, [], ◌∷◌, Option, Some, None, inr, refl, Control, ErrorCode, Refusal, State, TeiAssigned, AwaitingEstablishment, AwaitingRelease, Established, TimerRecovery, LinkTimer, T200, T203, ControlFrame, Terms, is_own_busy, Course, ◌then◌, nothing, ClearBusy, Data, Establish, Event, Release, Request, SetBusy, cleared, expired, frame, offer, overlong, received, requested, undefined, wrong_size, own_busy_is, report_ready, clear_busy_in_7_8, set_busy_in_7_8, granted, refusal, release_in, is_awaiting_acknowledgement, is_pending, may_send_information, offer_among, send_acknowledgement, send_information, command, Disc}
 use Rattle.model_link.specs.Link.{may_repeat}
 use Rattle.model_link.specs.Machine
 use Rattle.model_link.proofs.Leads.{Leads, depending_leads, tested_leads, Passed, from_more}
 use Rattle.model_link.proofs.Waits.{sabme_waits, may_wait}
 use Rattle.model_link.proofs.Kept.{Purse, no_more, two, Fits, FitsEvent, Kept, any_event}
-use Rattle.model_link.proofs.Careful.{Claim, At, anything, is_at_rest, idle, paid, QueuesFor, Queues, Careful, plainly, any_contents}
+use Rattle.model_link.proofs.Careful.{Claim, At, anything, idle, paid, QueuesFor, Queues, Careful, plainly, any_contents}
 use Rattle.model_link.proofs.FrameRows.{one, ◌▹◌, error, release_indication, release_confirm, send, settled, flags, repeats, repeated, start, no_timer, discard, ready, untold, ends, stays, enter_4, enter_5, enter_6, enter_8, knowing, begun_by, unserved, failed, frame_by}
 
 -- what is not refused is served

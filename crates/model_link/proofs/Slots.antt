@@ -1,5 +1,5 @@
 -- By how much an event lets the queue grow.
-use Rattle.model_link.proofs.Vocabulary.{ℕ, ◌+◌, ◌-◌, ◌≤◌, cond, List, [], ◌∷◌, ◌++◌, length, drop, Option, Some, None, is_some, arith, length-append, length-drop, Refusal, Terms, Link, queue_of, data_in_7_8, grows, IsSound, Course, begun, Data, Event, requested, refusal}
+use Rattle.model_link.proofs.Vocabulary.{ℕ, ◌+◌, ◌≤◌, cond, List, [], ◌∷◌, ◌++◌, length, drop, Option, Some, None, is_some, arith, length-append, length-drop, Refusal, Terms, Link, queue_of, data_in_7_8, grows, IsSound, Course, begun, Data, Event, requested, refusal}
 use Rattle.model_link.specs.Machine
 use Rattle.model_link.proofs.SoundEvents.{queue-stays}
 

@@ -1,9 +1,9 @@
 -- Every event leads from a sound link to a sound link.
-use Rattle.model_link.proofs.Vocabulary.{◌≡◌, ℕ, ◌-◌, ◌≤◌, List, [], ◌∷◌, length, drop, refl, arith, length-drop, State, Terms, Link, fresh, queue_of, IsInRange, IsSettledIn, IsSound, Course, begun, Event, after, after_all, course}
+use Rattle.model_link.proofs.Vocabulary.{◌≡◌, ℕ, ◌-◌, ◌≤◌, List, [], ◌∷◌, length, drop, refl, arith, length-drop, Terms, Link, fresh, queue_of, IsInRange, IsSound, Course, begun, Event, after, after_all, course}
 use Rattle.model_link.proofs.Kept.{any_event}
 use Rattle.model_link.proofs.Careful.{Queues, any_contents}
 use Rattle.model_link.proofs.Rows.{event_by}
-use Rattle.model_link.proofs.SoundRows.{settled, Stands, stand, begins}
+use Rattle.model_link.proofs.SoundRows.{Stands, stand, begins}
 
 -- A sound link stands, with any number of contents that its queue has; and the other way round.
 pub sound-stands : (t : Terms) (q : ℕ) (l : Link) → length (queue_of l) ≤ q → IsSound t l → Stands t q (begun l)

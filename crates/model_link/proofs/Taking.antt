@@ -1,5 +1,5 @@
 -- What a frame of the other end does to a link that stays in states 7 and 8.
-use Rattle.model_link.proofs.Vocabulary.{arith, ◌≡◌, ℕ, ◌+◌, Bool, true, false, cond, IsTrue, List, Option, None, Some, refl, sym, ◌∙◌, ◌⊎◌, inl, eqb-true, true≢false, Seq, seq, named, seq-value, is_seq, seq-distance, Control, Information, State, Established, TimerRecovery, Terms, Link, is_multiple_frame, Course, begun, acknowledge, is_next, acknowledged_by_information_in_7, frame_in, frame_step}
+use Rattle.model_link.proofs.Vocabulary.{arith, ◌≡◌, ℕ, ◌+◌, Bool, true, cond, IsTrue, List, Option, None, Some, refl, sym, ◌∙◌, ◌⊎◌, inl, eqb-true, true≢false, Seq, seq, named, seq-value, is_seq, seq-distance, Control, Information, State, Established, TimerRecovery, Terms, Link, is_multiple_frame, Course, begun, acknowledge, is_next, acknowledged_by_information_in_7, frame_in, frame_step}
 use Rattle.model_link.proofs.Counting.{On, done, undelivered, words}
 use Rattle.model_link.proofs.Leads.{depending_leads}
 use Rattle.model_link.proofs.Rows.{frame_row}

@@ -1,5 +1,5 @@
 -- The frames that a link sends are frames of the exchange, of at most four octets.
-use Rattle.model_link.proofs.Vocabulary.{◌≡◌, ◌<◌, ◌≤◌, Bool, false, cond, IsTrue, length, refl, arith, Seq, seq, Network, ReceiveReady, ReceiveNotReady, Reject, Sabme, Disc, Ua, Dm, Service, IsFrame, allows, takes, row, spelling, sapi_of, Terms, ControlFrame, Link, frame_of, IsWaitingFrame, is_information, command, response, ready_to_receive}
+use Rattle.model_link.proofs.Vocabulary.{◌≡◌, ◌<◌, ◌≤◌, Bool, false, IsTrue, length, refl, arith, Network, Sabme, Ua, Service, IsFrame, allows, takes, row, spelling, sapi_of, Terms, ControlFrame, Link, frame_of, IsWaitingFrame, is_information, command, response, ready_to_receive}
 
 pub sapi-small : (service : Service) → sapi_of service < 64
 sapi-small service = grind arith

@@ -1,5 +1,5 @@
 -- What layer 3 knows by notes: over runs of a card.
-use Rattle.laws_line.proofs.Vocabulary.{arith, ◌≡◌, List, refl, sym, ap, subst, get_or-replicate, Config, Link, fresh_line, link_count, link_at, Card, AreAtLines, fresh as fresh_link, is_up_of, taken_for_up, CardEvent as Event, CardIsSound as IsSound, NotesTell, IsNew, BeginsAnew}
+use Rattle.laws_line.proofs.Vocabulary.{arith, List, refl, sym, subst, get_or-replicate, Config, fresh_line, Card, AreAtLines, is_up_of, taken_for_up, CardEvent as Event, CardIsSound as IsSound, NotesTell, IsNew, BeginsAnew}
 use Rattle.laws_line.proofs.Knowing.{known-up, begins-down}
 use Rattle.laws_line.proofs.KnowingTeis.{begins-off}
 use Rattle.laws_line.proofs.TimersFollow.{begins-with-none}

@@ -1,5 +1,5 @@
 -- What the grammar spells: the head of a frame is octets, and a frame is not too short.
-use Rattle.laws_line.proofs.Vocabulary.{ℕ, ◌<◌, ◌≤◌, Bool, [], ◌∷◌, arith, All-nil, All-cons, Address, Side, Control, AreOctets, cr_bit, second_octet, row, head_of, Seq}
+use Rattle.laws_line.proofs.Vocabulary.{ℕ, ◌<◌, Bool, [], ◌∷◌, arith, All-nil, All-cons, Address, Side, Control, AreOctets, second_octet, row, head_of, Seq}
 pub use Rattle.model_line.proofs.NotShort.{IsNotShort, not_short as not-short}
 
 one : (x : ℕ) → x < 256 → AreOctets (x ∷ [])

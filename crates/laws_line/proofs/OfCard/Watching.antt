@@ -1,5 +1,5 @@
 -- What is watched at a line from moment to moment, and keeps in step with the line, does so over whole runs.
-use Rattle.laws_line.proofs.Vocabulary.{◌≡◌, ℕ, ◌==◌, Bool, true, cond, List, [], ◌∷◌, get_or, refl, sym, ap, ◌∙◌, arith, eq-eqb, fold, and_parts, get_or-set_same, All-head, All-tail, PoolFull, Config, Answer, refused, Line, fresh_line, Request, Card, line_at, is_full, Moment, moments, after_all, IsAtLine, AreAtLines, after_is_sound, has_lines, by_room, line_sound, eqb-true, CardEvent as Event, card_after as after, card_answer as answer, CardIsSound as IsSound}
+use Rattle.laws_line.proofs.Vocabulary.{◌≡◌, ℕ, ◌==◌, true, cond, List, [], ◌∷◌, get_or, refl, sym, ap, ◌∙◌, arith, eq-eqb, fold, and_parts, get_or-set_same, All-head, All-tail, PoolFull, Config, Answer, refused, Line, fresh_line, Request, Card, line_at, is_full, Moment, moments, after_all, IsAtLine, AreAtLines, after_is_sound, has_lines, by_room, line_sound, eqb-true, CardEvent as Event, card_after as after, card_answer as answer, CardIsSound as IsSound}
 use Rattle.model_line.specs.Event as line_event
 use Rattle.model_line.specs.Machine as lines
 use Rattle.model_line.specs.Sound as line

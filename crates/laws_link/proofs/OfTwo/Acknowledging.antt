@@ -1,5 +1,5 @@
 -- What a valid N(R) does in state 7: V(A) becomes the number that it names. Which timer then runs is left open.
-use Rattle.laws_link.proofs.Vocabulary.{◌≡◌, ℕ, ◌≤◌, Bool, true, false, cond, ◌==◌, Option, Some, refl, sym, subst, arith, nat_lt, ltb-false, Seq, named, LinkTimer, T200, T203, Terms, Course, ◌then◌, acknowledge, by_number, start, acknowledged_by_information_in_7, acknowledged_in_7}
+use Rattle.laws_link.proofs.Vocabulary.{◌≡◌, ℕ, ◌≤◌, Bool, false, cond, ◌==◌, Option, Some, refl, sym, subst, arith, nat_lt, ltb-false, Seq, named, LinkTimer, T200, T203, Terms, Course, ◌then◌, acknowledge, by_number, start, acknowledged_by_information_in_7, acknowledged_in_7}
 use Rattle.laws_link.proofs.OfTwo.Shapes.{effect}
 
 pub record Acknowledges (x : ℕ) (c c' : Course) : Type 0 where

@@ -1,5 +1,5 @@
 -- Runs of turns in any order, and where they end.
-use Rattle.laws_link.proofs.Vocabulary.{◌≡◌, ℕ, suc, ◌+◌, ◌≤◌, false, List, [], ◌∷◌, length, take, refl, ap, subst, ◌∙◌, arith, nat_lt, take-length, End, Ends, Act, sends, receives, Doing, at_near, at_far, acting, turned, doing, doing_all, HasNothingToSend, IsReady, IsTaken, HasArrived, IsTurnOf, IsTurn, AreTurns, IsStill, weight_at, weight, may_send_information}
+use Rattle.laws_link.proofs.Vocabulary.{◌≡◌, ℕ, suc, ◌+◌, ◌≤◌, false, List, [], ◌∷◌, length, refl, subst, ◌∙◌, arith, nat_lt, take-length, End, Ends, Act, sends, Doing, acting, doing, doing_all, HasNothingToSend, IsReady, IsTaken, HasArrived, IsTurnOf, IsTurn, AreTurns, IsStill, weight, may_send_information}
 use Rattle.laws_link.proofs.OfTwo.Plain.{plain}
 use Rattle.laws_link.proofs.OfTwo.Arriving.{nothing-unsent}
 use Rattle.laws_link.proofs.OfTwo.AnyOrder.{Lane, Steady, Direction, is-steady, gives, takes-first}

@@ -1,5 +1,5 @@
 -- Half a round after another, until all contents have arrived.
-use Rattle.laws_link.proofs.Vocabulary.{◌≡◌, ℕ, zero, suc, ◌+◌, ◌-◌, ◌≤◌, Bool, true, false, ◌&&◌, List, length, take, refl, sym, ap, subst, ◌∙◌, ◌⊎◌, inl, inr, true≢false, arith, nat_lt, lt-ltb, le-ltb, ltb-false, and_right, take-length, End, Ends, IsReady, IsTaken, HasUnsent, HasArrived, rounds, may_send_information}
+use Rattle.laws_link.proofs.Vocabulary.{◌≡◌, ℕ, zero, suc, ◌+◌, ◌-◌, ◌≤◌, Bool, true, false, List, length, refl, sym, subst, ◌∙◌, ◌⊎◌, inl, inr, arith, nat_lt, lt-ltb, le-ltb, ltb-false, and_right, take-length, End, Ends, IsReady, IsTaken, HasUnsent, HasArrived, rounds, may_send_information}
 use Rattle.laws_link.proofs.OfTwo.Plain.{plain}
 use Rattle.laws_link.proofs.OfTwo.Halves.{One, Nothing, giver_of, taker_of, moves, ready-giver, ready-taker, takes, taken}
 

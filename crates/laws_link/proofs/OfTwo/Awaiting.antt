@@ -1,5 +1,5 @@
 -- In state 7 T200 runs only where something is awaited: each row, and each event.
-use Rattle.laws_link.proofs.Vocabulary.{◌≡◌, ◌≢◌, ◌⊎◌, inl, ℕ, ◌+◌, ◌≤◌, ◌&&◌, nat_lt, Bool, true, false, List, Option, None, Some, refl, sym, ap, ◌∙◌, arith, true≢false, eq-eqb, ltb-false, Seq, named, Control, Information, ReceiveReady, ReceiveNotReady, Reject, Sabme, Disc, Ui, Ua, Dm, Frmr, Xid, ErrorCode, Refusal, State, TeiAssigned, AwaitingEstablishment, AwaitingRelease, Established, TimerRecovery, LinkTimer, T200, T203, ControlFrame, Terms, Link, frame, undefined, wrong_size, overlong, Request, Event, received, expired, requested, offer, cleared, Course, Step, begun, ◌then◌, nothing, runs, frame_in_4, frame_in_5, frame_in_6, Leads, then_leads, bit_leads, named-within, both_ways, acknowledge, answer, by_number, error, peer_busy_is, re_establish, unit_data, answered, contents_in_7_8, failed, is_final, supervisory, ua_in_7_8, acknowledged_by_information_in_7, acknowledged_by_rej_in_7, acknowledged_by_rnr_in_7, acknowledged_in_7, frame_in_7, unsolicited, acknowledged_in_8, frame_in_8, particulars_in_8, solicited, granted, refusal, release_in, is_established, offer_among, course, expired_in, frame_in, is_running, malformed_in}
+use Rattle.laws_link.proofs.Vocabulary.{◌≡◌, ◌≢◌, ◌⊎◌, inl, ℕ, ◌+◌, ◌≤◌, ◌&&◌, nat_lt, Bool, true, false, List, Option, None, Some, refl, sym, ap, ◌∙◌, arith, true≢false, eq-eqb, ltb-false, Seq, Control, Information, ReceiveReady, ReceiveNotReady, Reject, ErrorCode, Refusal, State, TeiAssigned, AwaitingEstablishment, AwaitingRelease, Established, TimerRecovery, LinkTimer, T200, T203, ControlFrame, Terms, Link, frame, Request, Event, received, Course, Step, begun, ◌then◌, nothing, runs, frame_in_4, frame_in_5, frame_in_6, Leads, then_leads, bit_leads, named-within, both_ways, answer, by_number, error, peer_busy_is, answered, contents_in_7_8, failed, is_final, ua_in_7_8, acknowledged_by_information_in_7, acknowledged_by_rej_in_7, acknowledged_by_rnr_in_7, acknowledged_in_7, frame_in_7, unsolicited, acknowledged_in_8, frame_in_8, granted, release_in, is_established, offer_among, course, expired_in, frame_in, malformed_in}
 use Rattle.laws_link.proofs.OfTwo.Heeding.{On, at_state, words}
 
 -- the terminal is taken for busy, or an I-frame is outstanding

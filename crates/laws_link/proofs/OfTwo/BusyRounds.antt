@@ -1,10 +1,8 @@
 -- Turn after turn of an end that is busy itself and of the other, until all contents of the busy end have arrived.
-use Rattle.laws_link.proofs.Vocabulary.{◌≡◌, ℕ, zero, suc, ◌+◌, ◌<◌, ◌≤◌, Bool, true, false, List, [], ◌∷◌, ◌++◌, length, take, Option, sym, ap, subst, ◌∙◌, ◌⊎◌, inl, inr, arith, All, nat_lt, slice_get, unwrap_or, lt-ltb, le-ltb, ltb-false, and_right, take-length, Parts, LinkTimer, frame, received, offer, IsInRange, IsSound, End, Ends, with_sent, with_first_of, sound-after, IsTaken, HasUnsent, HasArrived, rounds, IsBusyItself, IsOpenItself, IsDropped, GetsThrough, may_send_information}
-use Rattle.laws_link.proofs.OfTwo.Plain.{plain}
+use Rattle.laws_link.proofs.Vocabulary.{◌≡◌, ℕ, zero, suc, ◌+◌, ◌≤◌, Bool, false, List, [], ◌∷◌, ◌++◌, length, take, sym, ap, subst, ◌∙◌, ◌⊎◌, inl, inr, arith, All, nat_lt, slice_get, unwrap_or, lt-ltb, le-ltb, ltb-false, and_right, take-length, offer, End, Ends, sound-after, IsTaken, HasUnsent, HasArrived, rounds, IsBusyItself, IsOpenItself, IsDropped, GetsThrough}
 use Rattle.laws_link.proofs.OfTwo.Halves.{take-one, One, Nothing, giver_of, taker_of}
 use Rattle.laws_link.proofs.OfTwo.Arriving.{near_moves, far_moves, no-more, one-more}
-use Rattle.laws_link.proofs.OfTwo.Shapes.{in_7_with}
-use Rattle.laws_link.proofs.OfTwo.BusyMoves.{BusyMoved, OpenMoved, busy-moves, open-moves}
+use Rattle.laws_link.proofs.OfTwo.BusyMoves.{BusyMoved, busy-moves, open-moves}
 use Rattle.laws_link.proofs.OfTwo.Recovering.{sound-taker}
 
 -- The busy end n and the other, m: what holds of them between two turns, with the busy end's numbers as they were at first.

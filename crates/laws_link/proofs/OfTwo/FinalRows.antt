@@ -1,5 +1,5 @@
 -- No event but a poll makes a response with F=1 wait, and a poll makes at most one.
-use Rattle.laws_link.proofs.Vocabulary.{◌≡◌, ℕ, ◌+◌, ◌≤◌, Bool, true, false, cond, List, [], ◌∷◌, Option, None, Some, arith, sum_by-cons, Seq, Control, Information, Sabme, Disc, Ui, Ua, Dm, Frmr, Xid, ErrorCode, Refusal, State, TeiAssigned, AwaitingEstablishment, AwaitingRelease, Established, TimerRecovery, LinkTimer, T200, T203, ControlFrame, Terms, Link, frame, Request, Establish, Release, Data, SetBusy, ClearBusy, Event, received, expired, requested, offer, cleared, Course, Step, begun, frame_in_4, establish_in_4, frame_in_5, frame_in_6, Leads, then_leads, nothing_leads, bit_leads, finals, is_poll, polls, is_final_response, both_ways, acknowledge, begin_anew, clear_busy_in_7_8, contents_in_7_8, information_in_7_8, set_busy_in_7_8, acknowledged_by_information_in_7, frame_in_7, frame_in_8, granted, refusal, release_in, is_awaiting_acknowledgement, may_send_information, offer_among, with_one_sent, after, course, expired_in, frame_in, frame_step, is_running, malformed_in, told_of_clearing}
+use Rattle.laws_link.proofs.Vocabulary.{◌≡◌, ℕ, ◌+◌, ◌≤◌, Bool, true, false, cond, List, [], ◌∷◌, Option, None, Some, arith, sum_by-cons, Seq, Control, Information, Sabme, Ui, Ua, Dm, Frmr, Xid, ErrorCode, Refusal, State, TeiAssigned, Established, TimerRecovery, LinkTimer, T200, T203, ControlFrame, Terms, Link, frame, Request, Establish, Release, Data, SetBusy, ClearBusy, Event, received, expired, requested, offer, cleared, Course, Step, begun, frame_in_4, establish_in_4, frame_in_5, frame_in_6, Leads, then_leads, nothing_leads, bit_leads, finals, is_poll, polls, is_final_response, both_ways, acknowledge, clear_busy_in_7_8, contents_in_7_8, information_in_7_8, set_busy_in_7_8, acknowledged_by_information_in_7, frame_in_7, frame_in_8, granted, refusal, release_in, offer_among, after, expired_in, frame_in, frame_step, is_running, malformed_in}
 use Rattle.laws_link.proofs.OfTwo.Finals.{Few, few_stays, rows, answers, weaker, ua_few, dm_few, failed_few, number_few}
 
 module _ (t : Terms) (n : ℕ) where

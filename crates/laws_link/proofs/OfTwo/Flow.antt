@@ -1,6 +1,6 @@
 -- One direction between two links whose T200 is timely: the sender's V(S), the receiver's V(R), and what is between them.
 use Rattle.laws_link.proofs.Vocabulary.{◌≡◌, ℕ, ◌+◌, ◌<◌, ◌≤◌, Bool, true, false, List, [], ◌∷◌, ◌++◌, refl, arith, seq}
-use Rattle.laws_link.proofs.OfTwo.Trains.{Kind, numbered, enquiry, answer, rejection, tally, one_enquiry, one_answer, one_rejection, tally-push, Every, every-push, Behind, behind-push, behind-first, Calm, Comes, Rise, rise-lower, rise-low, rise-push, calm-rise, Beyond, Late, rise-late, late-low, late-push, rise-next, late-next}
+use Rattle.laws_link.proofs.OfTwo.Trains.{Kind, numbered, enquiry, answer, rejection, tally, one_enquiry, one_answer, one_rejection, tally-push, Every, every-push, Behind, behind-push, behind-first, Calm, Comes, Rise, rise-lower, rise-low, rise-push, Beyond, Late, rise-late, late-low, late-push}
 
 -- What is on the line to a receiver that has sent no REJ, and to one that has.
 abbrev pub Order : Bool → ℕ → ℕ → List Kind → Type 0

@@ -1,5 +1,5 @@
 -- The first I-frame out of sequence is answered by REJ, and a delivery ends the wait for what REJ asked for.
-use Rattle.laws_link.proofs.Vocabulary.{◌≡◌, ℕ, ◌+◌, ◌≤◌, Bool, true, false, cond, IsTrue, List, [], ◌∷◌, ◌++◌, length, Option, None, Some, refl, sym, ap, subst, ◌⊎◌, inl, true≢false, arith, nat_lt, lt-ltb, le-ltb, none-some, Seq, seq, Address, Control, Information, Reject, State, Established, TimerRecovery, LinkTimer, ControlFrame, Terms, Link, is_multiple_frame, Arrived, information_of, eligible, eligible_of, Course, begun, Step, ◌then◌, by_bit, Leads, keeping_then, nothing_leads, depending_leads, delivered-at_once, IsValidAt, i_frame, IsFirstGap, leaves, ErrorCode, both_ways, Event, frame, received, acknowledge, by_number, error, re_establish, reject, rejecting_is, response, start, acknowledged_by_information_in_7, after, course, frame_in, frame_step, told}
+use Rattle.laws_link.proofs.Vocabulary.{◌≡◌, ℕ, ◌+◌, ◌≤◌, Bool, true, false, cond, IsTrue, List, [], ◌∷◌, ◌++◌, length, Option, None, Some, refl, sym, ap, subst, ◌⊎◌, true≢false, arith, lt-ltb, le-ltb, none-some, Seq, seq, Address, Information, Reject, State, Established, TimerRecovery, ControlFrame, Terms, Link, is_multiple_frame, Course, begun, Step, ◌then◌, by_bit, Leads, delivered-at_once, IsValidAt, i_frame, IsFirstGap, leaves, ErrorCode, both_ways, Event, frame, received, acknowledge, by_number, error, re_establish, reject, rejecting_is, response, acknowledged_by_information_in_7, after, frame_in, told}
 use Rattle.model_link.specs.MultipleFrame
 use Rattle.laws_link.proofs.OfTwo.Answering.{Waits, information_7_waits}
 

@@ -2,7 +2,7 @@
 use Rattle.laws_link.proofs.Vocabulary.{arith, ◌≡◌, ℕ, ◌+◌, ◌≤◌, Bool, true, false, List, [], ◌∷◌, ◌++◌, Some, refl, sym, ap, subst, ◌∙◌, append_assoc, ◌⊎◌, inl, inr, Seq, seq, Parts, ControlFrame, Terms, Link, frames_of, frames-append}
 use Rattle.laws_link.proofs.OfTwo.Halves.{named-number}
 use Rattle.laws_link.proofs.OfTwo.Trains.{Kind, numbered, enquiry, answer, report, rejection, alien, kinds_of, kinds-append, one_enquiry, one_answer, one_rejection, Calm, every-push, behind-push, tally}
-use Rattle.laws_link.proofs.OfTwo.Flow.{Order, RejectsAt, AnswersAt, Flow, flow-low, there-calm, there-tail, few-more}
+use Rattle.laws_link.proofs.OfTwo.Flow.{RejectsAt, AnswersAt, Flow, flow-low, there-calm, there-tail, few-more}
 use Rattle.laws_link.proofs.OfTwo.Flowing.{hears-enquiry, hears-other-lost, hears-other, hears-next, answer-says, hears-answer, no-answer, hears-rejection}
 use Rattle.laws_link.proofs.OfTwo.Effects.{is_recovering, Grown, Kept, Back, Went, Takes, Informed, Heard}
 

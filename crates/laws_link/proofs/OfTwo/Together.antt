@@ -1,5 +1,5 @@
 -- Two links stay up while neither's V(S) is below the other's V(R).
-use Rattle.laws_link.proofs.Vocabulary.{◌≡◌, ℕ, zero, suc, ◌+◌, ◌≤◌, IsTrue, List, [], ◌∷◌, ◌++◌, length, Some, sym, subst, arith, All, slice_get, All-head, All-tail, seq, named, Control, Information, Parts, Terms, is_multiple_frame, frame, received, End, Ends, Act, Doing, at_near, at_far, with_link, with_first_of, acting, doing, Begins, IsUp, StayUp, Piece, Carried, Rising, rising-low, frames_of, Joined, joined-turned, joined-first, done-at, IsAhead, IsMild, IsMildAct, StayAhead}
+use Rattle.laws_link.proofs.Vocabulary.{◌≡◌, ℕ, zero, suc, ◌+◌, ◌≤◌, IsTrue, List, [], ◌∷◌, ◌++◌, length, Some, subst, arith, All, slice_get, All-head, All-tail, seq, named, Control, Information, Parts, Terms, is_multiple_frame, frame, received, End, Ends, Doing, at_near, at_far, with_link, with_first_of, doing, Begins, IsUp, StayUp, Piece, Rising, rising-low, frames_of, Joined, joined-turned, joined-first, done-at, IsAhead, IsMild, StayAhead}
 use Rattle.laws_link.proofs.OfTwo.Halves.{named-number}
 use Rattle.laws_link.proofs.OfTwo.Staying.{Fits, frame-stays, request-stays, timer-stays, offer-stays}
 

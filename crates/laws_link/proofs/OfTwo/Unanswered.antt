@@ -1,5 +1,5 @@
 -- An answer that finds no room is told as lost.
-use Rattle.laws_link.proofs.Vocabulary.{◌≡◌, ℕ, ◌+◌, ◌≤◌, Bool, true, false, cond, IsTrue, List, length, is_some, sym, subst, arith, nat_lt, le-ltb, Seq, Control, Sabme, Disc, Parts, State, Terms, Link, is_multiple_frame, frame, received, Course, begun, Step, ◌then◌, Leads, keeping_then, nothing_leads, depending_leads, bit_leads, IsPollWith, IsValidAt, asked_of, leaves, both_ways, number_leads, answer, by_number, has_room, peer_busy_is, re_establish, without_flags, frame_in, frame_step, told}
+use Rattle.laws_link.proofs.Vocabulary.{◌≡◌, ℕ, ◌+◌, ◌≤◌, Bool, true, false, cond, IsTrue, List, length, is_some, sym, subst, arith, nat_lt, le-ltb, Seq, Control, Parts, Terms, Link, is_multiple_frame, frame, received, Course, begun, Step, ◌then◌, Leads, keeping_then, nothing_leads, depending_leads, bit_leads, IsPollWith, IsValidAt, asked_of, leaves, both_ways, number_leads, answer, by_number, has_room, peer_busy_is, re_establish, without_flags, frame_step, told}
 use Rattle.model_link.specs.MultipleFrame
 use Rattle.laws_link.proofs.OfTwo.Answering.{Polled, polled-in}
 

@@ -1,5 +1,5 @@
 -- What an offer gives, and what is left behind it.
-use Rattle.laws_link.proofs.Vocabulary.{◌≡◌, ℕ, zero, suc, ◌+◌, ◌≤◌, Bool, cond, List, [], ◌∷◌, ◌++◌, length, Option, None, refl, sym, ap, subst, ◌⊎◌, inl, inr, arith, nat_lt, ltb-true, and_parts, ControlFrame, Terms, Link, Sent, Course, begun, offer, after, given, given_of, HasNothingToSend, after_offers, GoesWhole, turns, is_awaiting_acknowledgement, may_send_information, offer_among, offer_step, with_one_sent}
+use Rattle.laws_link.proofs.Vocabulary.{◌≡◌, ℕ, zero, suc, ◌+◌, ◌≤◌, Bool, cond, List, [], ◌∷◌, ◌++◌, length, None, refl, sym, ap, subst, ◌⊎◌, inl, inr, arith, nat_lt, ltb-true, and_parts, ControlFrame, Terms, Link, Course, begun, offer, after, given, given_of, HasNothingToSend, after_offers, GoesWhole, turns, is_awaiting_acknowledgement, may_send_information, offer_among, offer_step, with_one_sent}
 
 gives-one : (b : Bool) (u v : Course) → (u.sent ≡ None → ⊥) → (v.sent ≡ None → ⊥) → (cond b u v).sent ≡ None → ⊥
 gives-one b u v x y e = grind arith

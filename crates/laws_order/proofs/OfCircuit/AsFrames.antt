@@ -1,12 +1,10 @@
 -- What happens at an end of a circuit, as the card of frames inside has it.
-use Rattle.laws_order.proofs.Vocabulary.{arith, ◌≡◌, ℕ, Bool, cond, List, [], Option, None, Some, option_map, append-nil, Refusal, PoolFull, Effect, answer_of, Station, Request}
+use Rattle.laws_order.proofs.Vocabulary.{arith, ◌≡◌, ℕ, Bool, cond, List, [], Option, None, Some, option_map, append-nil, Refusal, PoolFull, Effect, answer_of, Station, Request, port_pull, port_request, PortEvent, port_octet, port_meant, card_answer}
 use Rattle.model_line.specs.Event as line
 use Rattle.model_line.specs.Machine as lines
 unfoldable use Rattle.model_line.specs.Machine.{answer as line_answer, takes_slot}
 use Rattle.model_card.specs.Event as frames
-use Rattle.model_card.specs.Machine as machine
 unfoldable use Rattle.model_card.specs.ports.Card.{after, answer, meant}
-use Rattle.model_card.specs.ports.Port as port
 use Rattle.laws_line.specs.Share as share
 use Rattle.laws_wire.specs.Wire as wire
 use Rattle.laws_order.specs.circuit.Circuit.{Termination, port_of, happens, answered, told_by, unless_refused}
@@ -17,8 +15,8 @@ abbrev pub as_station : List (List ℕ) → Termination → Station
 as_station way s = record { card = s.card.card; line = s.line; way = way; granted = s.granted; told = s.told }
 
 -- What an event means there, and what comes of that.
-abbrev pub meaning : port.Event → Termination → Option line.Event
-meaning what s = port.meant s.card.card.config.n201 what (port_of s)
+abbrev pub meaning : PortEvent → Termination → Option line.Event
+meaning what s = port_meant s.card.card.config.n201 what (port_of s)
 
 abbrev pub if_meant : Option line.Event → Station → Station
 if_meant None x = x
@@ -29,15 +27,12 @@ abbrev IsAs : Termination → Station → Type 0
 IsAs s x = as_station x.way s ≡ x
 
 -- what is told and granted by an answer
-same-told : (a : line.Answer) → told_by (answer_of a) ≡ wire.told_by a
-same-told a = grind arith
-
 none-granted : (a : line.Answer) → unless_refused (answer_of a) [] ≡ wire.unless_refused a []
 none-granted a = grind arith
 
-pub heard-as : (value : ℕ) (s : Termination) (way : List (List ℕ)) → as_station way (happens (port.octet value) s) ≡ if_meant (meaning (port.octet value) s) (as_station way s)
+pub heard-as : (value : ℕ) (s : Termination) (way : List (List ℕ)) → as_station way (happens (port_octet value) s) ≡ if_meant (meaning (port_octet value) s) (as_station way s)
 unfolding after answer meant line_answer takes_slot
-heard-as value s way = grind (arith, option_map, append-nil, none-granted, same-told)
+heard-as value s way = grind (arith, option_map, append-nil, none-granted)
 
 -- A request is told or refused, and gives no frame.
 abbrev IsReply : line.Answer → Type 0
@@ -48,19 +43,19 @@ IsReply a =
 replies : (full : Bool) (why : Option Refusal) (t : Effect) → IsReply (cond full (line.refused PoolFull) (lines.unless_refused_told why t))
 replies full why t = grind arith
 
-replied : (s : Termination) (r : Request) → IsReply (machine.answer (frames.at s.line (line.request r)) s.card.card)
+replied : (s : Termination) (r : Request) → IsReply (card_answer (frames.at s.line (line.request r)) s.card.card)
 unfolding line_answer
 replied s r = grind (arith, replies)
 
-pub asked-as : (r : Request) (s : Termination) (way : List (List ℕ)) → as_station way (happens (port.request r) s) ≡ wire.happens (line.request r) (as_station way s)
+pub asked-as : (r : Request) (s : Termination) (way : List (List ℕ)) → as_station way (happens (port_request r) s) ≡ wire.happens (line.request r) (as_station way s)
 unfolding after answer meant
-asked-as r s way = grind (arith, replied, append-nil, same-told)
+asked-as r s way = grind (arith, replied, append-nil)
 
 -- it is granted or refused there as well
-pub granted-as : (r : Request) (s : Termination) (way : List (List ℕ)) → is_granted (answered (port.request r) s) ≡ share.is_granted (wire.answered (line.request r) (as_station way s))
+pub granted-as : (r : Request) (s : Termination) (way : List (List ℕ)) → is_granted (answered (port_request r) s) ≡ share.is_granted (wire.answered (line.request r) (as_station way s))
 unfolding answer meant
 granted-as r s way = (replied s r).2
 
-pub pulled-as : (s : Termination) (way : List (List ℕ)) → IsAs (happens port.pull s) (if_meant (meaning port.pull s) (as_station way s))
+pub pulled-as : (s : Termination) (way : List (List ℕ)) → IsAs (happens port_pull s) (if_meant (meaning port_pull s) (as_station way s))
 unfolding after answer meant line_answer takes_slot
 pulled-as s way = grind (arith, option_map, append-nil)

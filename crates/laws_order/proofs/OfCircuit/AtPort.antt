@@ -1,10 +1,7 @@
 -- An end, as its octets are pulled, and as octets are heard there that end nothing.
-use Rattle.laws_order.proofs.Vocabulary.{◌≡◌, ℕ, ◌+◌, Bool, true, false, cond, [], ◌∷◌, ◌++◌, length, Option, None, Some, option_map, ap, ◌∙◌, arith, length-drop, Config, Card, answer_to, IsTextOf, Port, given_in, is_due, item_of, left_of, gained, with_item, with_octet, ready_where, left_with_octet, Station}
+use Rattle.laws_order.proofs.Vocabulary.{◌≡◌, ℕ, ◌+◌, Bool, true, false, cond, [], ◌∷◌, ◌++◌, length, Option, None, Some, option_map, ap, ◌∙◌, arith, length-drop, Config, Card, answer_to, IsTextOf, Port, given_in, is_due, item_of, left_of, gained, with_item, with_octet, ready_where, left_with_octet, Station, at, port_pull, port_octet, card_answer}
 use Rattle.model_line.specs.Event as line
-use Rattle.model_card.specs.Event as frames
-use Rattle.model_card.specs.Machine as machine
 unfoldable use Rattle.model_card.specs.ports.Card.{meant}
-use Rattle.model_card.specs.ports.Port as port
 use Rattle.laws_order.specs.circuit.Circuit.{Termination, port_of, happens}
 use Rattle.laws_order.proofs.OfCircuit.AsFrames.{as_station, if_meant, heard-as, pulled-as}
 use Rattle.laws_order.proofs.OfCircuit.Projected.{Fits, port-after}
@@ -12,13 +9,13 @@ use Rattle.laws_order.proofs.OfCircuit.Ran.{Ran, config, sound-port, within-port
 
 -- What a call for the next frame is answered with.
 abbrev pub next_of_card : ℕ → Card → line.Answer
-next_of_card number card = machine.answer (frames.at number line.next) card
+next_of_card number card = card_answer (at number line.next) card
 
 -- ---- a pull
 
 -- the port and the card after a pull, where an item is due or not
 abbrev said_if : Bool → Termination → Option line.Answer
-said_if due s = option_map (answer_to s.card.card) (option_map (frames.at s.line) (cond due (Some line.next) None))
+said_if due s = option_map (answer_to s.card.card) (option_map (at s.line) (cond due (Some line.next) None))
 
 abbrev pulled_port : Bool → Termination → Port
 pulled_port due s = with_octet (with_item (said_if due s) (port_of s))
@@ -26,16 +23,16 @@ pulled_port due s = with_octet (with_item (said_if due s) (port_of s))
 abbrev pulled_card : Bool → Termination → Card
 pulled_card due s = (if_meant (cond due (Some line.next) None) (as_station [] s)).card
 
-card-pulled : (s : Termination) → (happens port.pull s).card.card ≡ pulled_card (is_due (port_of s)) s
+card-pulled : (s : Termination) → (happens port_pull s).card.card ≡ pulled_card (is_due (port_of s)) s
 card-pulled s = ap (λ (x : Station). x.card) (pulled-as s [])
 
 module _ (n201 : ℕ) (c : Config) (fits : Fits n201 c) (s : Termination) (ran : Ran c s) where
   abbrev after_pull : Termination
-  after_pull = happens port.pull s
+  after_pull = happens port_pull s
 
   port-pulled : port_of after_pull ≡ pulled_port (is_due (port_of s)) s
   unfolding meant
-  port-pulled = port-after s port.pull (within-ports c fits.ranged s ran)
+  port-pulled = port-after s port_pull (within-ports c fits.ranged s ran)
 
   text-is : IsTextOf (port_of s)
   text-is = (sound-port c fits.ranged s ran).text
@@ -48,12 +45,7 @@ module _ (n201 : ℕ) (c : Config) (fits : Fits n201 c) (s : Termination) (ran :
       let same = port-pulled ∙ ap (λ due. pulled_port due s) none in
       let left = ap length (left_with_octet (port_of s) ready) in
       let fewer = length-drop 8 (left_of (port_of s)) in
-      let enough = ready.enough in
-      let less : length (left_of (with_octet (port_of s))) + 8 ≡ length (left_of (port_of s)) = omega (arith, left, fewer, enough) in (
-        card-pulled s ∙ ap (λ due. pulled_card due s) none,
-        ap (λ (p : Port). p.items) same,
-        ap (λ p. length (left_of p) + 8) same ∙ less,
-      )
+      grind (arith, card-pulled)
 
   -- where one is due, something is put behind what was there: the frame that waits, or a flag
   pub pull-put : is_due (port_of s) ≡ true → (port_of after_pull).items ≡ (port_of s).items ++ item_of (given_in (next_of_card s.line s.card.card)) ∷ []
@@ -76,7 +68,7 @@ module _ (n201 : ℕ) (c : Config) (fits : Fits n201 c) (s : Termination) (ran :
 
 module _ (n201 : ℕ) (c : Config) (fits : Fits n201 c) (s : Termination) (ran : Ran c s) (value : ℕ) (none : gained n201 (port_of s).received value ≡ None) where
   abbrev after_octet : Termination
-  after_octet = happens (port.octet value) s
+  after_octet = happens (port_octet value) s
 
   pub card-heard : after_octet.card.card ≡ s.card.card
   card-heard =
@@ -85,4 +77,4 @@ module _ (n201 : ℕ) (c : Config) (fits : Fits n201 c) (s : Termination) (ran :
       (heard-as value s [] ∙ ap (λ o. if_meant (option_map line.hears o) (as_station [] s)) (ap (λ n. gained n (port_of s).received value) size ∙ none))
 
   pub port-heard : port_of after_octet ≡ record (port_of s) { received = (port_of s).received ++ value ∷ [] }
-  port-heard = port-after s (port.octet value) (within-ports c fits.ranged s ran)
+  port-heard = port-after s (port_octet value) (within-ports c fits.ranged s ran)

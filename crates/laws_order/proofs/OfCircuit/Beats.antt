@@ -1,10 +1,7 @@
 -- So many beats are enough.
-use Rattle.laws_order.proofs.Vocabulary.{IsToldAll, ◌≡◌, ℕ, zero, suc, ◌+◌, ◌*◌, ◌-◌, ◌≤◌, ◌<◌, Bool, false, ◌||◌, List, [], ◌∷◌, ◌++◌, length, map, refl, sym, ap, ◌∙◌, subst, arith, append-nil, append_assoc, All, if◌then◌else◌, append_cancel_left, All-append, All-head, All-tail, Service, Config, LineTold, Assign, CanCall, confirmed, told_first, data_told, Wire, IsStill, asks-way, doing-append, beats, enough_beats, granted_of, AllIsToldInBeats}
-use Rattle.model_line.specs.Request.{Establish}
+use Rattle.laws_order.proofs.Vocabulary.{IsToldAll, ◌≡◌, ℕ, zero, suc, ◌+◌, ◌*◌, ◌-◌, ◌≤◌, ◌<◌, Bool, false, ◌||◌, List, [], ◌∷◌, ◌++◌, length, map, refl, sym, ap, ◌∙◌, subst, arith, append-nil, append_assoc, All, if◌then◌else◌, append_cancel_left, All-append, All-head, All-tail, Service, Config, LineTold, Assign, CanCall, confirmed, told_first, data_told, Wire, IsStill, asks-way, doing-append, beats, enough_beats, granted_of, AllIsToldInBeats, wire_turns, wire_doing_all, Establish, Circuit, OctetDoing, doing, or-both}
 use Rattle.laws_wire.specs.Call as call
-use Rattle.laws_wire.specs.Wire as wire
 unfoldable use Rattle.laws_wire.specs.Wire.{doing_all as frames_done}
-use Rattle.laws_order.specs.circuit.Circuit.{Circuit, OctetDoing, doing}
 unfoldable use Rattle.laws_order.specs.circuit.Circuit.{doing_all}
 use Rattle.laws_order.specs.circuit.Through.{calling, IsTalk, calls_back, all_told}
 unfoldable use Rattle.laws_order.specs.circuit.Through.{both_call}
@@ -17,21 +14,16 @@ use Rattle.laws_order.proofs.OfCircuit.Takings.{IsMute, all-talk}
 use Rattle.laws_order.proofs.OfCircuit.Takings.{takings, takings-append, on_ways, all-paid}
 use Rattle.laws_order.proofs.OfCircuit.Through as through
 use Rattle.laws_order.proofs.OfCircuit.Through.{or-none}
-use Rattle.laws_wire.proofs.Run.{or-both}
 
 module _ (n201 way : ℕ) (service : Service) (tei : ℕ) (c d : Config) (fits : Fits n201 c) (fits_far : Fits n201 d) where
   abbrev pub size_of : ℕ
   size_of = block n201 way
 
   abbrev led : ℕ → Circuit → Wire → Wire
-  led n w f = wire.doing_all (doings_meant (many n) w) f
+  led n w f = wire_doing_all (doings_meant (many n) w) f
 
   abbrev taken : ℕ → Circuit → Wire → ℕ
   taken n w f = takings (doings_meant (many n) w) f
-
-  -- one run of beats after another
-  led-append : (m n : ℕ) (w : Circuit) (f : Wire) → led (m + n) w f ≡ led n (doing_all (many m) w) (led m w f)
-  led-append m n w f = grind (arith, doings_meant, many-append, meant-append, many, doing-append)
 
   -- ---- in one of more blocks than there are frames taken none is, so no turn is left where it begins
 
@@ -77,7 +69,7 @@ module _ (n201 way : ℕ) (service : Service) (tei : ℕ) (c d : Config) (fits :
           record {
             after = size_of + x.after;
             before = (let b = x.before in omega (arith, b, one-more));
-            still = subst IsStill (sym (led-append size_of x.after w f0 ∙ ap (led x.after w') on.same)) x.still;
+            still = subst IsStill (sym ((grind (arith, doings_meant, many-append, meant-append, many, doing-append)) ∙ ap (led x.after w') on.same)) x.still;
           }
 
 -- ---- what was told stays told
@@ -86,8 +78,7 @@ front-is-all : (all told now more rest : List LineTold) → told ≡ all → now
 front-is-all all told now more rest same grown beginning =
     let long : all ++ (more ++ rest) ≡ all ++ [] =
     sym (append_assoc all more rest) ∙ ap (λ l. (l ++ more) ++ rest) (sym same) ∙ ap (λ l. l ++ rest) (sym grown) ∙ beginning ∙ sym (append-nil all) in
-    let none = no-front more rest (append_cancel_left all (more ++ rest) [] long) in
-    grown ∙ ap (λ l. told ++ l) none ∙ append-nil told ∙ same
+    grown ∙ ap (λ l. told ++ l) (no-front more rest (append_cancel_left all (more ++ rest) [] long)) ∙ append-nil told ∙ same
   where
     no-front : (xs ys : List LineTold) → xs ++ ys ≡ [] → xs ≡ []
     no-front [] ys e = refl
@@ -155,7 +146,7 @@ module _ (service : Service) (c d : Config) (line other tei way n : ℕ) (ds : L
       let e = through.done service c d line other tei (ds ++ many m) can (talks-on m) in
       as_wire e.there' e.back' (doing_all (ds ++ many m) begun)
 
-  on-wire : (m : ℕ) → call.ComesThrough service tei (wire.turns (doings_meant (ds ++ many m) begun) (call.calling service tei c line d other)) both (wire_at m)
+  on-wire : (m : ℕ) → call.ComesThrough service tei (wire_turns (doings_meant (ds ++ many m) begun) (call.calling service tei c line d other)) both (wire_at m)
   on-wire m = grind (arith, doings_meant, many, same-both, through.on-wire, talks-on)
 
   abbrev start : Wire
@@ -163,9 +154,7 @@ module _ (service : Service) (c d : Config) (line other tei way n : ℕ) (ds : L
 
   none-yet : on_ways start ≡ 0
   none-yet =
-      let near = ap length (asks-way (Establish service tei) (call.assigned c line tei) ∙ asks-way (Assign tei) (call.station c line)) in
-      let far = ap length (asks-way (Assign tei) (call.station d other)) in
-      omega (arith, near, far)
+      omega (arith, (ap length (asks-way (Establish service tei) (call.assigned c line tei) ∙ asks-way (Assign tei) (call.station c line))), (ap length (asks-way (Assign tei) (call.station d other))))
 
   halved : (both : Bool) (t k a b g : ℕ) → 2 * t + a ≤ k + b → k ≤ (if both then 8 else 4) + 4 * g → b ≡ 0 → t ≤ (if both then 4 else 2) + 2 * g
   halved both t k a b g paid few none = grind arith
@@ -173,29 +162,28 @@ module _ (service : Service) (c d : Config) (line other tei way n : ℕ) (ds : L
   few-takings : (m : ℕ) → takings (doings_meant (many m) w) f ≤ most
   few-takings m =
       let whole = doings_meant (ds ++ many m) begun in
-      let turns : wire.turns whole start ≤ (if both then 8 else 4) + 4 * granted_of (doing_all (ds ++ many m) begun) = (on-wire m).turns in
+      let turns : wire_turns whole start ≤ (if both then 8 else 4) + 4 * granted_of (doing_all (ds ++ many m) begun) = (on-wire m).turns in
       let paid = all-paid service tei whole (through.done service c d line other tei (ds ++ many m) can (talks-on m)).talk start in
       let all =
-      halved both (takings whole start) (wire.turns whole start) (on_ways (wire.doing_all whole start)) (on_ways start) (granted_of w) paid
-      (subst (λ g. wire.turns whole start ≤ (if both then 8 else 4) + 4 * g) (same-granted m) turns) none-yet in
-      let begins = through.led service c d line other tei ds can talk in
+      halved both (takings whole start) (wire_turns whole start) (on_ways (wire_doing_all whole start)) (on_ways start) (granted_of w) paid
+      (subst (λ g. wire_turns whole start ≤ (if both then 8 else 4) + 4 * g) (same-granted m) turns) none-yet in
       let sum : takings whole start ≡ takings (doings_meant ds begun) start + takings (doings_meant (many m) w) f =
       ap (λ l. takings l start) (meant-append ds (many m) begun) ∙ takings-append (doings_meant ds begun) (doings_meant (many m) w) start
-      ∙ ap (λ f. takings (doings_meant ds begun) start + takings (doings_meant (many m) w) f) begins in
+      ∙ ap (λ f. takings (doings_meant ds begun) start + takings (doings_meant (many m) w) f) (through.led service c d line other tei ds can talk) in
       omega (arith, all, sum)
 
   -- where no turn is left after so many beats, all was told
-  still-at : (m : ℕ) → IsStill (wire.doing_all (doings_meant (many m) w) f) → IsStill (wire_at m)
+  still-at : (m : ℕ) → IsStill (wire_doing_all (doings_meant (many m) w) f) → IsStill (wire_at m)
   still-at m still =
       let same =
-      sym (through.led service c d line other tei (ds ++ many m) can (talks-on m)) ∙ ap (λ l. wire.doing_all l start) (meant-append ds (many m) begun)
-      ∙ doing-append (doings_meant ds begun) (doings_meant (many m) w) start ∙ ap (wire.doing_all (doings_meant (many m) w)) (through.led service c d line other tei ds can talk) in
+      sym (through.led service c d line other tei (ds ++ many m) can (talks-on m)) ∙ ap (λ l. wire_doing_all l start) (meant-append ds (many m) begun)
+      ∙ doing-append (doings_meant ds begun) (doings_meant (many m) w) start ∙ ap (wire_doing_all (doings_meant (many m) w)) (through.led service c d line other tei ds can talk) in
       subst IsStill (sym same) still
 
   abbrev now : ℕ → Circuit
   now m = doing_all (many m) w
 
-  pub told-then : (m : ℕ) → IsStill (wire.doing_all (doings_meant (many m) w) f) → ((now m).near.told ≡ all_told service tei (confirmed service tei) w.far) × ((now m).far.told ≡ all_told service tei first w.near)
+  pub told-then : (m : ℕ) → IsStill (wire_doing_all (doings_meant (many m) w) f) → ((now m).near.told ≡ all_told service tei (confirmed service tei) w.far) × ((now m).far.told ≡ all_told service tei first w.near)
   told-then m still =
       let told = on-wire m in
       let there = still-at m still in
@@ -221,7 +209,7 @@ module _ (service : Service) (c d : Config) (line other tei way n : ℕ) (ds : L
       )
 
   -- and it stays told
-  then-told : (j m : ℕ) → IsStill (wire.doing_all (doings_meant (many j) w) f) → IsToldAll service tei both (now (j + m))
+  then-told : (j m : ℕ) → IsStill (wire_doing_all (doings_meant (many j) w) f) → IsToldAll service tei both (now (j + m))
   then-told j m still =
       let at-j = told-then j still in
       let x = many-add m (now j) in
@@ -250,8 +238,7 @@ module _ (service : Service) (c d : Config) (line other tei way n : ℕ) (ds : L
       let few-taken = few-takings (k * one) in
       let x =
       finds size way service tei c d fits fits_far k w there0 back0 (through.done service c d line other tei ds can talk).follows (record { near = few; far = few_far }) (omega (arith, few-taken)) in
-      let before = x.before in
-      let y = apart x.after n (omega (arith, before, as-many, enough)) in
+      let y = apart x.after n (omega (arith, x.before, as-many, enough)) in
       subst (IsToldAll service tei both) (ap (λ n. doing_all (many n) w) y.1 ∙ many-beats n w) (then-told x.after y.0 x.still)
 
 pub all-is-told-in-beats : AllIsToldInBeats

@@ -1,8 +1,7 @@
 -- Where no frame comes in so many beats, no turn was left before them.
-use Rattle.laws_order.proofs.Vocabulary.{◌≡◌, ℕ, ◌+◌, ◌*◌, ◌≤◌, ◌<◌, ◌⊎◌, inl, inr, Bool, true, false, List, [], ◌∷◌, ◌++◌, length, Option, None, Some, option_map, refl, sym, ap, ◌∙◌, subst, arith, append-nil, length-append, Service, heard_in, Item, Config, NextFrame, gave, taken, next_of, line_at, frames_among, left_of, longest_text, Wire, IsStill, gives-taken, longest, Termination, port_of, Circuit, doing_all}
-use Rattle.laws_wire.specs.Wire as wire
+use Rattle.laws_order.proofs.Vocabulary.{◌≡◌, ℕ, ◌+◌, ◌*◌, ◌≤◌, ◌<◌, ◌⊎◌, inl, inr, Bool, true, false, List, [], ◌∷◌, ◌++◌, length, Option, None, Some, option_map, refl, sym, ap, ◌∙◌, subst, arith, append-nil, length-append, Service, heard_in, Item, Config, NextFrame, gave, taken, next_of, line_at, frames_among, left_of, longest_text, Wire, IsStill, gives-taken, longest, Termination, port_of, Circuit, doing_all, wire_doing_all, stream_frame, length-map}
 use Rattle.laws_order.proofs.OfCircuit.AsFrames.{as_station}
-use Rattle.laws_order.proofs.OfCircuit.Coming.{Kept, from-near, from-far, frames_of, Puts, putting, GoesOn, going, all-out, Hears, hearing, length-framed, IsBehind}
+use Rattle.laws_order.proofs.OfCircuit.Coming.{Kept, from-near, from-far, frames_of, Puts, putting, GoesOn, going, all-out, Hears, hearing, IsBehind}
 use Rattle.laws_order.proofs.OfCircuit.AtPort.{next_of_card}
 use Rattle.laws_order.proofs.OfCircuit.Takings.{one_pull, all-talk, count_near, count_far}
 use Rattle.laws_order.proofs.OfCircuit.OneWay.{Carries, framed, heard-beyond}
@@ -64,7 +63,7 @@ module _ (n201 way : ℕ) where
 
   -- the takings of one run of beats after another
   pub takings-many : (m n : ℕ) (w : Circuit) (f : Wire)
-      → takings (doings_meant (many (m + n)) w) f ≡ takings (doings_meant (many m) w) f + takings (doings_meant (many n) (doing_all (many m) w)) (wire.doing_all (doings_meant (many m) w) f)
+      → takings (doings_meant (many (m + n)) w) f ≡ takings (doings_meant (many m) w) f + takings (doings_meant (many n) (doing_all (many m) w)) (wire_doing_all (doings_meant (many m) w) f)
   takings-many m n w f = grind (arith, takings, doings_meant, many-append, meant-append, many, takings-append)
 
   module _ (service : Service) (tei : ℕ) (c d : Config) (fits : Fits n201 c) (fits_far : Fits n201 d) where
@@ -84,10 +83,7 @@ module _ (n201 way : ℕ) where
 
     from : (b : Bool) (R : Termination → Termination → ℕ → ℕ → Type 0) → Kept n201 R → (n : ℕ) (w : Circuit) (there back : List (List ℕ)) → Follows n201 c d w there back
         → takings (doings_meant (many n) w) (as_wire there back w) ≡ 0 → R (sender b w) (receiver b w) 0 0 → R (sender b (doing_all (many n) w)) (receiver b (doing_all (many n) w)) n n
-    from false R kept n w there back h none p =
-        let x = from-near n201 R kept service tei c d fits fits_far (many n) (many-mute n) w there back h none p in
-        let w' = doing_all (many n) w in
-        subst (λ a. R w'.near w'.far a n) (from-none _ n (pulls-near n)) (subst (λ b. R w'.near w'.far (0 + count_near one_pull (many n)) b) (from-none _ n (hearings-far n)) x)
+    from false R kept n w there back h none p = grind (arith, from-near, many, many-mute, from-none, pulls-near, count_near, one_pull, hearings-far)
     from true R kept n w there back h none p =
         let x = from-far n201 R kept service tei c d fits fits_far (many n) (many-mute n) w there back h none p in
         let w' = doing_all (many n) w in
@@ -120,17 +116,16 @@ module _ (n201 way : ℕ) where
         let items = (port_of (sender b w)).items in
         let parts = takings-many L way w f0 in
         let one : takings (doings_meant (many L) w) f0 ≡ 0 = omega (arith, parts, none) in
-        let rest : takings (doings_meant (many way) w1) (wire.doing_all (doings_meant (many L) w) f0) ≡ 0 = omega (arith, parts, none) in
+        let rest : takings (doings_meant (many way) w1) (wire_doing_all (doings_meant (many L) w) f0) ≡ 0 = omega (arith, parts, none) in
         let first = all-done n201 service tei c d fits fits_far (many L) (all-talk service tei (many L) (many-mute L)) w there back h in
         let later = subst (λ f. takings (doings_meant (many way) w1) f ≡ 0) first.same rest in
         let few = few-bits b w there back h in
         let x1 = from b (λ s r a b. GoesOn n201 items most s a × (heard_in n201 (port_of r).received ≡ events)) (going n201 items most events) L w there back h one (inr (refl, omega (arith, few)), refl) in
         let s1 = sender b w1 in
-        let its = its_config b c d in
         let ran1 = its-ran b w1 first.there' first.back' first.follows in
         let carries1 = its-carries b w1 first.there' first.back' first.follows in
         let behind = behind-then items (port_of s1).items (length (left_of (port_of s1))) x1.0 in
-        let out = all-out n201 its (its-fits b) s1 ran1 (port_of (receiver b w1)).received (its_frames b first.there' first.back') carries1 items most behind in
+        let out = all-out n201 (its_config b c d) (its-fits b) s1 ran1 (port_of (receiver b w1)).received (its_frames b first.there' first.back') carries1 items most behind in
         let given = (port_of s1).given in
         let sum1 = ap length carries1.given ∙ length-append (port_of (receiver b w1)).received s1.way in
         let short1 = its-way b w1 (still-short L w short) in
@@ -139,8 +134,7 @@ module _ (n201 way : ℕ) where
         from b (Hears n201 given way events) (hearing n201 given way events) way w1 first.there' first.back' first.follows later (([], sym (append-nil given)), inl (omega (arith, sum1, short1)), x1.1) in
         let received = (port_of (receiver b w2)).received in
         let all = all-come way (length given) (length received) way (omega arith) x2.1 in
-        let carries2 = its-carries b w2 second.there' second.back' second.follows in
-        let front = front-of given x2.0.0 received (sender b w2).way (sym x2.0.1 ∙ carries2.given) all in
+        let front = front-of given x2.0.0 received (sender b w2).way (sym x2.0.1 ∙ (its-carries b w2 second.there' second.back' second.follows).given) all in
         let beyond = heard-beyond n201 given front.rest in
         no-more (length (frames_among items)) (length events) (length (heard_in n201 received)) (length (heard_in n201 given)) (length beyond.0)
         (ap (λ l. length (heard_in n201 l)) front.is ∙ ap length beyond.1 ∙ length-append (heard_in n201 given) beyond.0) out (ap length (sym x2.2)) more
@@ -149,11 +143,10 @@ module _ (n201 way : ℕ) where
     carried-so : (b : Bool) (w : Circuit) (there back : List (List ℕ)) → Follows n201 c d w there back
         → length (frames_of n201 (sender b w)) ≡ length (heard_in n201 (port_of (receiver b w)).received) + length (its_frames b there back)
     carried-so b w there back h =
-        let carries = its-carries b w there back h in
         let heard = heard_in n201 (port_of (receiver b w)).received in
         let frames = its_frames b there back in
-        let sum = sym (length-framed n201 (frames_of n201 (sender b w))) ∙ ap length carries.are ∙ length-append heard (framed frames) in
-        let last = length-framed n201 frames in
+        let sum = sym (length-map (frames_of n201 (sender b w)) (λ octets. stream_frame octets)) ∙ ap length (its-carries b w there back h).are ∙ length-append heard (framed frames) in
+        let last = (length-map frames (λ octets. stream_frame octets)) in
         omega (arith, sum, last)
 
     -- ---- so nothing was left
@@ -167,9 +160,7 @@ module _ (n201 way : ℕ) where
             let n = longest n201 + way in
             let turn : longest n201 + n ≡ n + longest n201 = omega arith in
             let parts = ap (λ k. takings (doings_meant (many k) w) (as_wire there back w)) turn ∙ takings-many n (longest n201) w (as_wire there back w) in
-            let sum = carried-so b w there back h in
-            let some = ap length e in
-            absurd (comes b w there back h short (omega (arith, sum, some)) (omega (arith, parts, none)))
+            absurd (comes b w there back h short (omega (arith, (carried-so b w there back h), (ap length e))) (omega (arith, parts, none)))
 
     none-waits : (b : Bool) (w : Circuit) (there back : List (List ℕ)) → Follows n201 c d w there back → IsShort w → takings (doings_meant (many block) w) (as_wire there back w) ≡ 0 → (f : NextFrame)
         → next_of_card (sender b w).line (sender b w).card.card ≡ gave (Some f) → ⊥
@@ -181,14 +172,12 @@ module _ (n201 way : ℕ) where
         let events = heard_in n201 (port_of (receiver b w)).received in
         let parts = takings-many L (L + way) w f0 in
         let one : takings (doings_meant (many L) w) f0 ≡ 0 = omega (arith, parts, none) in
-        let rest : takings (doings_meant (many (L + way)) w1) (wire.doing_all (doings_meant (many L) w) f0) ≡ 0 = omega (arith, parts, none) in
+        let rest : takings (doings_meant (many (L + way)) w1) (wire_doing_all (doings_meant (many L) w) f0) ≡ 0 = omega (arith, parts, none) in
         let first = all-done n201 service tei c d fits fits_far (many L) (all-talk service tei (many L) (many-mute L)) w there back h in
         let later = subst (λ f. takings (doings_meant (many (L + way)) w1) f ≡ 0) first.same rest in
-        let few = few-bits b w there back h in
-        let sum = carried-so b w there back h in
         let x1 =
         from b (λ s r a b. Puts n201 f most (length events) s a × (heard_in n201 (port_of r).received ≡ events)) (putting n201 f most (length events) events) L w there back h one
-        (inr (waits, omega (arith, few), omega (arith, sum)), refl) in
+        (inr (waits, omega (arith, (few-bits b w there back h)), omega (arith, (carried-so b w there back h))), refl) in
         let s1 = sender b w1 in
         let more = more-then (next_of_card s1.line s1.card.card ≡ gave (Some f)) (length events) (length (frames_of n201 s1)) (length (left_of (port_of s1))) (length events) x1.0 in
         comes b w1 first.there' first.back' first.follows (still-short L w short) (subst (λ es. length es < length (frames_of n201 s1)) (sym x1.1) more) later

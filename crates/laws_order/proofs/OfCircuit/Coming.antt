@@ -1,8 +1,5 @@
 -- A frame that an end has to give, or that is on its way, comes in so many beats, whatever else is given meanwhile.
-use Rattle.laws_order.proofs.Vocabulary.{◌≡◌, ℕ, ◌+◌, ◌*◌, ◌≤◌, ◌<◌, ◌⊎◌, inl, inr, Bool, true, false, cond, List, [], ◌∷◌, ◌++◌, length, drop, Option, None, Some, is_some, option_map, option_to_list, refl, sym, ap, ◌∙◌, subst, arith, append-nil, append_assoc, length-append, All, length-map, All-head, All-tail, Service, Item, idle, heard_in, Config, NextFrame, gave, frames_among, Port, gained, given_in, is_due, item_of, left_of, IsSoundPort, heard_with, Wire, is_any}
-use Rattle.model_bits.specs.Sent.{frame}
-use Rattle.model_bits.specs.Stream as stream
-use Rattle.model_card.specs.ports.Port as port
+use Rattle.laws_order.proofs.Vocabulary.{◌≡◌, ℕ, ◌+◌, ◌*◌, ◌≤◌, ◌<◌, ◌⊎◌, inl, inr, Bool, true, false, cond, List, [], ◌∷◌, ◌++◌, length, drop, Option, None, Some, is_some, option_map, option_to_list, refl, sym, ap, ◌∙◌, subst, arith, append-nil, append_assoc, length-append, All, length-map, All-head, All-tail, Service, Item, idle, heard_in, Config, NextFrame, gave, frames_among, Port, gained, given_in, is_due, item_of, left_of, IsSoundPort, heard_with, Wire, is_any, stream_frame, StreamEvent, port_pull, port_octet, frame}
 use Rattle.laws_wire.specs.Wire as wire
 use Rattle.laws_order.specs.circuit.Circuit.{Termination, port_of, happens, with_first_of, Circuit, OctetAct, asks, pulls, hears, OctetDoing, at_near, at_far, acting, turned, doing}
 unfoldable use Rattle.laws_order.specs.circuit.Circuit.{doing_all}
@@ -40,7 +37,7 @@ module _ (n201 : ℕ) where
       go (gained n201 (port_of w.near).received value) refl
       (subst (λ n. IsDeaf (cond (is_some (gained n (port_of w.near).received value)) (Some wire.takes) None) (as_wire there back w)) size deaf)
     where
-      go : (o : Option stream.Event) → gained n201 (port_of w.near).received value ≡ o → IsDeaf (cond (is_some o) (Some wire.takes) None) (as_wire there back w) → o ≡ None
+      go : (o : Option StreamEvent) → gained n201 (port_of w.near).received value ≡ o → IsDeaf (cond (is_some o) (Some wire.takes) None) (as_wire there back w) → o ≡ None
       go None e deaf = refl
       go (Some event) e deaf =
           let x =
@@ -76,8 +73,7 @@ module _ (n201 : ℕ) where
     all-kept : (service : Service) (tei : ℕ) (c d : Config) (fits : Fits n201 c) (fits_far : Fits n201 d) (ds : List OctetDoing) → All IsMute ds → (w : Circuit) (there back : List (List ℕ))
         → Follows n201 c d w there back → takings (doings_meant ds w) (as_wire there back w) ≡ 0 → (a b : ℕ) → P w a b → P (doing_all ds w) (a + count_near one ds) (b + count_far two ds)
     unfolding doing_all doings_meant
-    all-kept service tei c d fits fits_far [] all w there back h none a b p =
-        subst (λ m. P w m (b + 0)) (let e : a ≡ a + 0 = omega arith in e) (subst (λ m. P w a m) (let e : b ≡ b + 0 = omega arith in e) p)
+    all-kept service tei c d fits fits_far [] all w there back h none a b p = grind arith
     all-kept service tei c d fits fits_far (x ∷ ds) all w there back h none a b p =
         let first = option_to_list (doing_meant x w) in
         let others = doings_meant ds (doing x w) in
@@ -87,10 +83,9 @@ module _ (n201 : ℕ) where
         let now : takings first f ≡ 0 = omega (arith, both, none) in
         let later : takings others (wire.doing_all first f) ≡ 0 = omega (arith, both, none) in
         let go = one-done n201 service tei c d fits fits_far x (mute-talk service tei x mute) w there back h in
-        let q = one-kept c d fits fits_far w there back h x mute now a b p in
         let rest =
         all-kept service tei c d fits fits_far ds (All-tail IsMute x ds all) (doing x w) go.there' go.back' go.follows (subst (λ f. takings others f ≡ 0) go.same later)
-        (a + count_near one (x ∷ [])) (b + count_far two (x ∷ [])) q in
+        (a + count_near one (x ∷ [])) (b + count_far two (x ∷ [])) (one-kept c d fits fits_far w there back h x mute now a b p) in
         let near : a + count_near one (x ∷ []) + count_near one ds ≡ a + count_near one (x ∷ ds) = (let e = near-one x ds in omega (arith, e)) in
         let far : b + count_far two (x ∷ []) + count_far two ds ≡ b + count_far two (x ∷ ds) = (let e = far-one x ds in omega (arith, e)) in
         subst (λ m. P (doing_all ds (doing x w)) (a + count_near one (x ∷ ds)) m) far
@@ -99,19 +94,17 @@ module _ (n201 : ℕ) where
   -- ---- from one end to the other: a sender's pulls and a receiver's hearings are counted
 
   pub record Kept (R : Termination → Termination → ℕ → ℕ → Type 0) : Type 0 where
-    pub on_pull : (c : Config) (fits : Fits n201 c) (s r : Termination) → Ran c s → (a b : ℕ) → R s r a b → R (happens port.pull s) r (a + 1) b
-    pub on_octet : (c : Config) (fits : Fits n201 c) (s r : Termination) → Ran c s → (value : ℕ) → gained n201 (port_of s).received value ≡ None → (a b : ℕ) → R s r a b → R (happens (port.octet value) s) r a b
+    pub on_pull : (c : Config) (fits : Fits n201 c) (s r : Termination) → Ran c s → (a b : ℕ) → R s r a b → R (happens port_pull s) r (a + 1) b
+    pub on_octet : (c : Config) (fits : Fits n201 c) (s r : Termination) → Ran c s → (value : ℕ) → gained n201 (port_of s).received value ≡ None → (a b : ℕ) → R s r a b → R (happens (port_octet value) s) r a b
     pub on_way : (s r : Termination) (way : List ℕ) (a b : ℕ) → R s r a b → R (record s { way = way }) r a b
-    pub there_pull : (c : Config) (fits : Fits n201 c) (s r : Termination) → Ran c r → (a b : ℕ) → R s r a b → R s (happens port.pull r) a b
-    pub there_octet : (c : Config) (fits : Fits n201 c) (s r : Termination) → Ran c r → (value : ℕ) → gained n201 (port_of r).received value ≡ None → (a b : ℕ) → R s r a b → R s (happens (port.octet value) r) a (b + 1)
+    pub there_pull : (c : Config) (fits : Fits n201 c) (s r : Termination) → Ran c r → (a b : ℕ) → R s r a b → R s (happens port_pull r) a b
+    pub there_octet : (c : Config) (fits : Fits n201 c) (s r : Termination) → Ran c r → (value : ℕ) → gained n201 (port_of r).received value ≡ None → (a b : ℕ) → R s r a b → R s (happens (port_octet value) r) a (b + 1)
     pub there_none : (s r : Termination) (frames : List (List ℕ)) → Carries n201 (port_of s) s.way (port_of r).received frames → s.way ≡ [] → (a b : ℕ) → R s r a b → R s r a (b + 1)
     pub there_way : (s r : Termination) (way : List ℕ) (a b : ℕ) → R s r a b → R s (record r { way = way }) a b
 
   module _ (R : Termination → Termination → ℕ → ℕ → Type 0) (kept : Kept R) where
     sender : (c d : Config) (fits : Fits n201 c) (fits_far : Fits n201 d) (w : Circuit) (there back : List (List ℕ)) (h : Follows n201 c d w there back) (act : OctetAct) → IsMuteOf act
         → IsDeaf (act_meant act w) (as_wire there back w) → (a b : ℕ) → R w.near w.far a b → R (acting act w).near (acting act w).far (a + one_pull act) b
-    sender c d fits fits_far w there back h (asks r) mute deaf a b p = absurd mute
-    sender c d fits fits_far w there back h pulls mute deaf a b p = kept.on_pull c fits w.near w.far h.near a b p
     sender c d fits fits_far w there back h hears mute deaf a b p = go w.far.way refl deaf
       where
         same : a ≡ a + 0
@@ -120,22 +113,20 @@ module _ (n201 : ℕ) where
         go : (way : List ℕ) → w.far.way ≡ way → IsDeaf (hearing_means way w.near) (as_wire there back w) → R (with_first_of way w.near) (record w.far { way = drop 1 way }) (a + 0) b
         go [] is deaf = subst (λ m. R w.near (record w.far { way = [] }) m b) same (kept.there_way w.near w.far [] a b p)
         go (value ∷ more) is deaf =
-            let none = deaf-heard c d fits fits_far w there back h value more is deaf in
-            subst (λ m. R (happens (port.octet value) w.near) (record w.far { way = more }) m b) same
-            (kept.there_way (happens (port.octet value) w.near) w.far more a b (kept.on_octet c fits w.near w.far h.near value none a b p))
+            subst (λ m. R (happens (port_octet value) w.near) (record w.far { way = more }) m b) same
+            (kept.there_way (happens (port_octet value) w.near) w.far more a b (kept.on_octet c fits w.near w.far h.near value (deaf-heard c d fits fits_far w there back h value more is deaf) a b p))
+    sender c d o fits_far w there back h act mute deaf a b p = grind arith
 
     receiver : (c d : Config) (fits : Fits n201 c) (fits_far : Fits n201 d) (w : Circuit) (there back : List (List ℕ)) (h : Follows n201 c d w there back) (act : OctetAct) → IsMuteOf act
         → IsDeaf (act_meant act w) (as_wire there back w) → (a b : ℕ) → R w.far w.near a b → R (acting act w).far (acting act w).near a (b + one_hearing act)
-    receiver c d fits fits_far w there back h (asks r) mute deaf a b p = absurd mute
-    receiver c d fits fits_far w there back h pulls mute deaf a b p =
-        subst (λ m. R w.far (happens port.pull w.near) a m) (let e : b ≡ b + 0 = omega arith in e) (kept.there_pull c fits w.far w.near h.near a b p)
     receiver c d fits fits_far w there back h hears mute deaf a b p = go w.far.way refl deaf
       where
         go : (way : List ℕ) → w.far.way ≡ way → IsDeaf (hearing_means way w.near) (as_wire there back w) → R (record w.far { way = drop 1 way }) (with_first_of way w.near) a (b + 1)
         go [] is deaf = kept.on_way w.far w.near [] a (b + 1) (kept.there_none w.far w.near back h.comes is a b p)
         go (value ∷ more) is deaf =
             let none = deaf-heard c d fits fits_far w there back h value more is deaf in
-            kept.on_way w.far (happens (port.octet value) w.near) more a (b + 1) (kept.there_octet c fits w.far w.near h.near value none a b p)
+            kept.on_way w.far (happens (port_octet value) w.near) more a (b + 1) (kept.there_octet c fits w.far w.near h.near value none a b p)
+    receiver c d o fits_far w there back h act mute deaf a b p = grind arith
 
     -- from the near end, and from the far one
     pub from-near : (service : Service) (tei : ℕ) (c d : Config) (fits : Fits n201 c) (fits_far : Fits n201 d) (ds : List OctetDoing) → All IsMute ds → (w : Circuit) (there back : List (List ℕ))
@@ -156,9 +147,9 @@ module _ (n201 : ℕ) where
 
   -- ---- a sender's part, so long as the receiver hears no frame
 
-  module _ (events : List stream.Event) (Q : Termination → ℕ → Type 0)
-      (pull : (c : Config) (fits : Fits n201 c) (s : Termination) → Ran c s → (a : ℕ) → Q s a → Q (happens port.pull s) (a + 1))
-      (hear : (c : Config) (fits : Fits n201 c) (s : Termination) → Ran c s → (value : ℕ) → gained n201 (port_of s).received value ≡ None → (a : ℕ) → Q s a → Q (happens (port.octet value) s) a)
+  module _ (events : List StreamEvent) (Q : Termination → ℕ → Type 0)
+      (pull : (c : Config) (fits : Fits n201 c) (s : Termination) → Ran c s → (a : ℕ) → Q s a → Q (happens port_pull s) (a + 1))
+      (hear : (c : Config) (fits : Fits n201 c) (s : Termination) → Ran c s → (value : ℕ) → gained n201 (port_of s).received value ≡ None → (a : ℕ) → Q s a → Q (happens (port_octet value) s) a)
       (way : (s : Termination) (way : List ℕ) (a : ℕ) → Q s a → Q (record s { way = way }) a) where
     abbrev pub Both : Termination → Termination → ℕ → ℕ → Type 0
     Both s r a b = Q s a × (heard_in n201 (port_of r).received ≡ events)
@@ -175,7 +166,7 @@ module _ (n201 : ℕ) where
     }
       where
         heard-so : (c : Config) (fits : Fits n201 c) (r : Termination) → Ran c r → (value : ℕ) → gained n201 (port_of r).received value ≡ None → heard_in n201 (port_of r).received ≡ events
-            → heard_in n201 (port_of (happens (port.octet value) r)).received ≡ events
+            → heard_in n201 (port_of (happens (port_octet value) r)).received ≡ events
         heard-so c fits r ran value none same = grind (arith, port-heard, heard_with, option_to_list, append-nil)
 
   -- ---- the frame that it has to give is put on the line
@@ -191,19 +182,17 @@ module _ (n201 : ℕ) where
     abbrev pub Puts : Termination → ℕ → Type 0
     Puts s a = (n < length (frames_of s)) ⊎ ((next_of_card s.line s.card.card ≡ gave (Some f)) × (length (left_of (port_of s)) + 8 * a ≤ most) × (n ≤ length (frames_of s)))
 
-    puts-pulled : (c : Config) (fits : Fits n201 c) (s : Termination) → Ran c s → (a : ℕ) → Puts s a → Puts (happens port.pull s) (a + 1)
+    puts-pulled : (c : Config) (fits : Fits n201 c) (s : Termination) → Ran c s → (a : ℕ) → Puts s a → Puts (happens port_pull s) (a + 1)
     puts-pulled c fits s ran a p = go (is_due (port_of s)) refl p
       where
         s' : Termination
-        s' = happens port.pull s
+        s' = happens port_pull s
 
         go : (due : Bool) → is_due (port_of s) ≡ due → Puts s a → Puts s' (a + 1)
         go false e (inl more) = let same = ap (λ is. length (frames_among is)) (pull-between n201 c fits s ran e).1 in inl (omega (arith, more, same))
         go false e (inr (waits, few, low)) =
             let x = pull-between n201 c fits s ran e in
-            let same = ap (λ is. length (frames_among is)) x.1 in
-            let less = x.2 in
-            inr (ap (next_of_card s.line) x.0 ∙ waits, omega (arith, few, less), omega (arith, low, same))
+            inr (ap (next_of_card s.line) x.0 ∙ waits, omega (arith, few, x.2), omega (arith, low, (ap (λ is. length (frames_among is)) x.1)))
         go true e (inl more) =
             let i = item_of (given_in (next_of_card s.line s.card.card)) in
             let same = ap (λ is. length (frames_among is)) (pull-put n201 c fits s ran e) ∙ more-frames (port_of s).items i in inl (omega (arith, more, same))
@@ -211,13 +200,13 @@ module _ (n201 : ℕ) where
             let same = ap (λ is. length (frames_among is)) (pull-put n201 c fits s ran e ∙ ap (λ a. (port_of s).items ++ item_of (given_in a) ∷ []) waits) ∙ more-frames (port_of s).items (frame f.octets) in
             inl (omega (arith, low, same))
 
-    puts-heard : (c : Config) (fits : Fits n201 c) (s : Termination) → Ran c s → (value : ℕ) → gained n201 (port_of s).received value ≡ None → (a : ℕ) → Puts s a → Puts (happens (port.octet value) s) a
+    puts-heard : (c : Config) (fits : Fits n201 c) (s : Termination) → Ran c s → (value : ℕ) → gained n201 (port_of s).received value ≡ None → (a : ℕ) → Puts s a → Puts (happens (port_octet value) s) a
     puts-heard c fits s ran value none a p = grind (arith, port-heard, next_of_card, card-heard)
 
     puts-way : (s : Termination) (way : List ℕ) (a : ℕ) → Puts s a → Puts (record s { way = way }) a
     puts-way s way a p = p
 
-    pub putting : (events : List stream.Event) → Kept (λ s r a b. Puts s a × (heard_in n201 (port_of r).received ≡ events))
+    pub putting : (events : List StreamEvent) → Kept (λ s r a b. Puts s a × (heard_in n201 (port_of r).received ≡ events))
     putting events = sending events Puts puts-pulled puts-heard puts-way
 
   -- ---- something is put on the line behind what is there
@@ -231,11 +220,11 @@ module _ (n201 : ℕ) where
     abbrev pub GoesOn : Termination → ℕ → Type 0
     GoesOn s a = IsBehind (port_of s).items ⊎ (((port_of s).items ≡ items) × (length (left_of (port_of s)) + 8 * a ≤ most))
 
-    goes-pulled : (c : Config) (fits : Fits n201 c) (s : Termination) → Ran c s → (a : ℕ) → GoesOn s a → GoesOn (happens port.pull s) (a + 1)
+    goes-pulled : (c : Config) (fits : Fits n201 c) (s : Termination) → Ran c s → (a : ℕ) → GoesOn s a → GoesOn (happens port_pull s) (a + 1)
     goes-pulled c fits s ran a p = go (is_due (port_of s)) refl p
       where
         s' : Termination
-        s' = happens port.pull s
+        s' = happens port_pull s
 
         go : (due : Bool) → is_due (port_of s) ≡ due → GoesOn s a → GoesOn s' (a + 1)
         go false e (inl behind) = inl (record { item = behind.item; more = behind.more; is = (pull-between n201 c fits s ran e).1 ∙ behind.is })
@@ -250,13 +239,13 @@ module _ (n201 : ℕ) where
         go true e (inr (same, few)) =
             let i = item_of (given_in (next_of_card s.line s.card.card)) in inl (record { item = i; more = []; is = pull-put n201 c fits s ran e ∙ ap (λ is. is ++ i ∷ []) same })
 
-    goes-heard : (c : Config) (fits : Fits n201 c) (s : Termination) → Ran c s → (value : ℕ) → gained n201 (port_of s).received value ≡ None → (a : ℕ) → GoesOn s a → GoesOn (happens (port.octet value) s) a
+    goes-heard : (c : Config) (fits : Fits n201 c) (s : Termination) → Ran c s → (value : ℕ) → gained n201 (port_of s).received value ≡ None → (a : ℕ) → GoesOn s a → GoesOn (happens (port_octet value) s) a
     goes-heard c fits s ran value none a p = grind (arith, port-heard)
 
     goes-way : (s : Termination) (way : List ℕ) (a : ℕ) → GoesOn s a → GoesOn (record s { way = way }) a
     goes-way s way a p = p
 
-    pub going : (events : List stream.Event) → Kept (λ s r a b. GoesOn s a × (heard_in n201 (port_of r).received ≡ events))
+    pub going : (events : List StreamEvent) → Kept (λ s r a b. GoesOn s a × (heard_in n201 (port_of r).received ≡ events))
     going events = sending events GoesOn goes-pulled goes-heard goes-way
 
   -- then all frames that were there have been given, to the last bit
@@ -264,9 +253,6 @@ module _ (n201 : ℕ) where
   all-idle idle [] e = ([], refl)
   all-idle idle (j ∷ more) e = let x = all-idle j more e in (idle ∷ x.0, ap (λ is. idle ∷ is) x.1)
   all-idle (frame octets) more e = absurd (cc e)
-
-  pub length-framed : (fs : List (List ℕ)) → length (framed fs) ≡ length fs
-  length-framed fs = length-map fs (λ octets. stream.frame octets)
 
   module _ (c : Config) (fits : Fits n201 c) (s : Termination) (ran : Ran c s) (received : List ℕ) (frames : List (List ℕ)) (carries : Carries n201 (port_of s) s.way received frames) where
     its-sound : IsSoundPort n201 (port_of s)
@@ -290,23 +276,18 @@ module _ (n201 : ℕ) where
             let heard =
             all-given n201 (port_of s) s.way received frames carries its-sound (on-line c fits.ranged s ran) (items ++ x.0)
             (behind.is ∙ ap (λ is. items ++ is) x.1 ∙ sym (append_assoc items x.0 (idle ∷ []))) in
-            let long = sym (length-framed (frames_of s)) ∙ ap length heard in
-            omega (arith, long, sum)
+            omega (arith, (sym (length-map (frames_of s) (λ octets. stream_frame octets)) ∙ ap length heard), sum)
         go (f ∷ fs) some =
             let x = out n201 (port_of s) s.way received frames carries its-sound (on-line c fits.ranged s ran) in
             let one = x.one in
             let few = ap length some in
-            let long = sym (length-framed (frames_of s)) ∙ ap length x.heard ∙ length-append (heard_in n201 (port_of s).given) (framed x.on_its_way) in
-            let last = length-framed x.on_its_way in
+            let long = sym (length-map (frames_of s) (λ octets. stream_frame octets)) ∙ ap length x.heard ∙ length-append (heard_in n201 (port_of s).given) (framed x.on_its_way) in
+            let last = (length-map x.on_its_way (λ octets. stream_frame octets)) in
             omega (arith, one, few, long, last, sum)
 
   -- ---- what was given is heard
 
-  come-on : (way first received heard : ℕ) → (first + heard ≤ received + way) ⊎ (first ≤ received) → (first + (heard + 1) ≤ (received + 1) + way) ⊎ (first ≤ received + 1)
-  come-on way first received heard (inl few) = inl (omega (arith, few))
-  come-on way first received heard (inr all) = inr (omega (arith, all))
-
-  module _ (first : List ℕ) (way : ℕ) (events : List stream.Event) where
+  module _ (first : List ℕ) (way : ℕ) (events : List StreamEvent) where
     abbrev pub Hears : Termination → Termination → ℕ → ℕ → Type 0
     Hears s r a b =
         ((more : List ℕ) × ((port_of s).given ≡ first ++ more)) × ((length first + b ≤ length (port_of r).received + way) ⊎ (length first ≤ length (port_of r).received))
@@ -327,12 +308,11 @@ module _ (n201 : ℕ) where
         Come b received = (length first + b ≤ length received + way) ⊎ (length first ≤ length received)
 
         heard-so : (c : Config) (fits : Fits n201 c) (r : Termination) → Ran c r → (value : ℕ) → gained n201 (port_of r).received value ≡ None → (b : ℕ) → Come b (port_of r).received
-            → heard_in n201 (port_of r).received ≡ events → Come (b + 1) (port_of (happens (port.octet value) r)).received × (heard_in n201 (port_of (happens (port.octet value) r)).received ≡ events)
-        heard-so c fits r ran value none b come same = grind (arith, port-heard, Come, length-append, come-on, heard_with, option_to_list, append-nil)
+            → heard_in n201 (port_of r).received ≡ events → Come (b + 1) (port_of (happens (port_octet value) r)).received × (heard_in n201 (port_of (happens (port_octet value) r)).received ≡ events)
+        heard-so c fits r ran value none b come same = grind (arith, port-heard, Come, length-append, heard_with, option_to_list, append-nil)
 
         all-there : (s r : Termination) (frames : List (List ℕ)) → Carries n201 (port_of s) s.way (port_of r).received frames → s.way ≡ [] → (more : List ℕ) → (port_of s).given ≡ first ++ more
             → length first ≤ length (port_of r).received
         all-there s r frames carries empty more given =
-            let long = ap length (sym given ∙ carries.given ∙ ap (λ left. (port_of r).received ++ left) empty ∙ append-nil (port_of r).received) in
             let sum = length-append first more in
-            omega (arith, long, sum)
+            omega (arith, (ap length (sym given ∙ carries.given ∙ ap (λ left. (port_of r).received ++ left) empty ∙ append-nil (port_of r).received)), sum)

@@ -1,11 +1,9 @@
 -- What happens on a circuit on which octets are damaged is, at the cards of frames inside, what happens on a wire of frames.
-use Rattle.laws_order.proofs.Vocabulary.{arith, ◌≡◌, ℕ, Bool, cond, List, [], ◌∷◌, ◌++◌, drop, Option, None, Some, option_map, option_to_list, refl, sym, ap, ◌∙◌, subst, append-nil, All, flat_map, option_map_or, All-nil, All-cons, All-head, Service, LineTold, Card, port_at, answer_to, card_after, gained, is_due, Seen, Station, Wire, frames_by, Past, known, FaceInStep, IsToldInOrder, kept_by}
-use Rattle.model_bits.specs.Stream as stream
+use Rattle.laws_order.proofs.Vocabulary.{arith, ◌≡◌, ℕ, Bool, cond, List, [], ◌∷◌, ◌++◌, drop, Option, None, Some, option_map, option_to_list, refl, sym, ap, ◌∙◌, subst, append-nil, All, flat_map, option_map_or, All-nil, All-cons, All-head, Service, LineTold, Card, port_at, answer_to, card_after, gained, is_due, Seen, Station, Wire, frames_by, Past, known, FaceInStep, IsToldInOrder, kept_by, stream_frame, StreamEvent, Port, port_pull, PortEvent, port_octet, port_meant}
 use Rattle.model_line.specs.Event as line
 use Rattle.model_card.specs.Event as frames
 unfoldable use Rattle.model_card.specs.ports.Card.{after, meant}
 use Rattle.model_card.specs.ports.Event.{Event}
-use Rattle.model_card.specs.ports.Port as port
 use Rattle.laws_wire.specs.Wire as wire
 use Rattle.laws_order.specs.Happenings as order
 unfoldable use Rattle.laws_order.specs.Happenings.{seen_near as frames_near, seen_far as frames_far}
@@ -44,16 +42,12 @@ abbrev pub Comes : ℕ → Option line.Event → Type 0
 Comes n201 (Some (line.hears e)) = HasCome n201 e
 Comes n201 other = Unit {0}
 
-heard-comes : (n201 : ℕ) (o : Option stream.Event) → All (HasCome n201) (option_to_list o) → Comes n201 (option_map line.hears o)
-heard-comes n201 None all = tt
-heard-comes n201 (Some e) all = All-head (HasCome n201) e [] all
+heard-comes : (n201 : ℕ) (o : Option StreamEvent) → All (HasCome n201) (option_to_list o) → Comes n201 (option_map line.hears o)
+heard-comes n201 o all = grind arith
 
-due-comes : (n201 : ℕ) (due : Bool) → Comes n201 (cond due (Some line.next) None)
-due-comes n201 due = grind arith
-
-pub meaning-comes : (n201 : ℕ) (what : port.Event) (p : port.Port) → Comes n201 (port.meant n201 what p)
-meaning-comes n201 (port.octet value) p = heard-comes n201 (gained n201 p.received value) (gained-whole n201 p.received value)
-meaning-comes n201 port.pull p = due-comes n201 (is_due p)
+pub meaning-comes : (n201 : ℕ) (what : PortEvent) (p : Port) → Comes n201 (port_meant n201 what p)
+meaning-comes n201 (port_octet value) p = heard-comes n201 (gained n201 p.received value) (gained-whole n201 p.received value)
+meaning-comes n201 port_pull p = grind arith
 meaning-comes n201 other p = tt
 
 -- What one deed of an end is on the wire of frames, where this is the other end.
@@ -121,8 +115,8 @@ module _ (service : Service) (tei : ℕ) (s : Socket) (y : Station) (g : List (L
 
   -- a frame of the other end has come
   come : (o : Option line.Event) → Comes card.config.n201 o → IsFirst o y.way → Led o (Some (order.acts wire.takes)) (drop 1 y.way)
-  come (Some (line.hears (stream.frame octets))) whole first =
-      let e = line.hears (stream.frame octets) in
+  come (Some (line.hears (stream_frame octets))) whole first =
+      let e = line.hears (stream_frame octets) in
       let way : y.way ≡ octets ∷ first.0 = first.1 in
       record {
         granted = then_granted e;
@@ -138,7 +132,7 @@ module _ (service : Service) (tei : ℕ) (s : Socket) (y : Station) (g : List (L
       }
   come other whole first = absurd first
 
-  by-event : (what : port.Event) → IsPossibleAt service tei (happens what) s y.way → Done service tei s (with_deed (happens what) s) y y.way g t (seen_by (happens what) s)
+  by-event : (what : PortEvent) → IsPossibleAt service tei (happens what) s y.way → Done service tei s (with_deed (happens what) s) y y.way g t (seen_by (happens what) s)
   unfolding after meant
   by-event what other =
       let o = meaning what s in
@@ -148,12 +142,12 @@ module _ (service : Service) (tei : ℕ) (s : Socket) (y : Station) (g : List (L
   by-frame : (value : ℕ) → IsPossibleAt service tei (completes value) s y.way → Done service tei s (with_deed (completes value) s) y (drop 1 y.way) g t (seen_by (completes value) s)
   unfolding after meant
   by-frame value first =
-      let one = come (meaning (port.octet value) s) (meaning-comes card.config.n201 (port.octet value) (port_at s.line s.card)) first in
+      let one = come (meaning (port_octet value) s) (meaning-comes card.config.n201 (port_octet value) (port_at s.line s.card)) first in
       record { deed = Some (order.acts wire.takes); granted = one.granted; told = one.told; same = one.same; shown = one.shown; can = tt }
 
   by-other : (e : Event) → IsPossibleAt service tei (elsewhere e) s y.way → Done service tei s (with_deed (elsewhere e) s) y y.way g t []
   unfolding after meant
-  by-other e is = go (port.meant card.config.n201 e.what (port_at e.line s.card))
+  by-other e is = go (port_meant card.config.n201 e.what (port_at e.line s.card))
     where
       go : (o : Option line.Event) → let m = card_then (option_map (frames.at e.line) o) in
           Done service tei s (record { card = record { card = m; ports = (after e s.card).ports }; line = s.line; way = s.way }) y y.way g t []
@@ -205,14 +199,11 @@ pub record Stay (first v : Wire) : Type 0 where
 pub stays : (v : Wire) → Stay v v
 stays v = record { near = record { config = refl; line = refl }; far = record { config = refl; line = refl } }
 
-then-at : (a b c : Station) → StaysAt a b → StaysAt b c → StaysAt a c
-then-at a b c x y = record { config = y.config ∙ x.config; line = y.line ∙ x.line }
-
 back-at : (a b : Station) → StaysAt a b → StaysAt b a
 back-at a b x = record { config = sym x.config; line = sym x.line }
 
 stays-on : (first v : Wire) → Stay first v → (h : order.Happening) → Stay first (order.happening h v)
-stays-on first v x h = grind (arith, then-at, near-place, far-place)
+stays-on first v x h = grind (arith, near-place, far-place)
 
 module _ (service : Service) (tei : ℕ) (first : Wire) where
   pub none-ran : (v : Wire) → Ran service tei first v [] []
@@ -225,14 +216,7 @@ module _ (service : Service) (tei : ℕ) (first : Wire) where
   one-ran v v' near far near' far' stay x others = go x.step x.same x.can x.near_is x.far_is
     where
       go : (o : Option order.Happening) → if_happens o v ≡ v' → CanHappen service tei v o → if_near o v ≡ near → if_far o v ≡ far → Ran service tei first v (near ++ near') (far ++ far')
-      go None same can near-is far-is =
-          let rest = others (subst (Stay first) same stay) in
-          record {
-            run = rest.run;
-            can = rest.can;
-            near_is = ap (order.seen_near rest.run) same ∙ rest.near_is ∙ ap (λ xs. xs ++ near') near-is;
-            far_is = ap (order.seen_far rest.run) same ∙ rest.far_is ∙ ap (λ xs. xs ++ far') far-is;
-          }
+      go None same can near-is far-is = grind arith
       go (Some h) same can near-is far-is =
           let rest = others (subst (Stay first) same (stays-on first v stay h)) in
           record {

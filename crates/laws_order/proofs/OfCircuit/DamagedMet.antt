@@ -1,11 +1,7 @@
 -- The premises of the law on damaged octets are met by the worked run.
-use Rattle.laws_order.proofs.Vocabulary.{arith, ◌≡◌, ℕ, ◌&&◌, ◌==◌, Bool, true, false, List, [], ◌∷◌, ◌++◌, Option, Some, eqb-true, refl, ap, and_parts, Call, Parts, reading, header_of, control_of, unnumbered_of, supervisory_of, distance_of, named, seq, low_bits, Config, heard_side, IsFront, user, network, Station, of_link_at, data_noted, data_granted, None, port_of, known, kept_by, Circuit, doing_all, Mixed, establishes}
-use Rattle.lapd_tei.specs.Events as teis
-use Rattle.model_bits.specs.Stream as stream
-use Rattle.model_line.specs.Event as line
+use Rattle.laws_order.proofs.Vocabulary.{arith, ◌≡◌, ℕ, ◌&&◌, ◌==◌, Bool, true, false, List, [], ◌∷◌, ◌++◌, Option, Some, eqb-true, refl, ap, and_parts, Call, Parts, reading, header_of, control_of, unnumbered_of, supervisory_of, distance_of, named, seq, low_bits, Config, heard_side, IsFront, user, network, Station, of_link_at, data_noted, data_granted, None, port_of, known, kept_by, Circuit, doing_all, Mixed, establishes, stream_frame, next, gave, Event, hears, port_octet, card_answer, tei_refusal, tei_course, FaceAtRest}
 use Rattle.model_line.specs.Machine as lines
 use Rattle.model_card.specs.ports.Card as ports
-use Rattle.model_card.specs.ports.Port as port
 use Rattle.laws_order.specs.Happenings as order
 use Rattle.laws_order.specs.circuit.Damaged.{Socket, Noisy, Deed, happens, completes, elsewhere, loses, meaning, IsOther, IsFirst, IsPossibleAt, Happening, by_near, by_far, happening, as_station, as_wire, seen_near, seen_far}
 unfoldable use Rattle.laws_order.specs.circuit.Damaged.{ArePossible}
@@ -19,8 +15,6 @@ use Rattle.laws_order.proofs.OfCircuit.Mixed.{delivered-between-kinds}
 use Rattle.laws_order.proofs.OfCircuit.PremisesMet.{can, by-mutes, is_flag, ends-in-flag}
 use Rattle.laws_order.proofs.OfCircuit.Resting.{calls-come-to-rest}
 use Rattle.model_card.specs.Event as frames
-use Rattle.model_card.specs.Machine as machine
-use Rattle.laws_order.specs.circuit.Resting.{FaceAtRest}
 
 -- ---- what happens is possible, as is computed
 
@@ -42,21 +36,21 @@ abbrev is_none : List Parts → Bool
 is_none [] = true
 is_none (f ∷ fs) = false
 
-abbrev is_other : Config → Option line.Event → Bool
-is_other c (Some (line.hears (stream.frame octets))) = is_none (of_link_at Call 0 (heard_side c) octets)
+abbrev is_other : Config → Option Event → Bool
+is_other c (Some (hears (stream_frame octets))) = is_none (of_link_at Call 0 (heard_side c) octets)
 is_other c other = true
 
 abbrev is_head : List ℕ → List (List ℕ) → Bool
 is_head octets [] = false
 is_head octets (f ∷ fs) = same_octets f octets
 
-abbrev is_first : Option line.Event → List (List ℕ) → Bool
-is_first (Some (line.hears (stream.frame octets))) way = is_head octets way
+abbrev is_first : Option Event → List (List ℕ) → Bool
+is_first (Some (hears (stream_frame octets))) way = is_head octets way
 is_first other way = false
 
 abbrev pub is_possible_at : Deed → Socket → List (List ℕ) → Bool
 is_possible_at (happens what) s way = is_other s.card.card.config (meaning what s)
-is_possible_at (completes value) s way = is_first (meaning (port.octet value) s) way
+is_possible_at (completes value) s way = is_first (meaning (port_octet value) s) way
 is_possible_at (elsewhere e) s way = false
 is_possible_at loses s way = true
 
@@ -71,14 +65,14 @@ are_possible (h ∷ hs) w = is_possible h w && are_possible hs (happening h w)
 none-so : (fs : List Parts) → is_none fs ≡ true → fs ≡ []
 none-so fs e = grind arith
 
-other-so : (c : Config) (o : Option line.Event) → is_other c o ≡ true → IsOther Call 0 c o
+other-so : (c : Config) (o : Option Event) → is_other c o ≡ true → IsOther Call 0 c o
 other-so c o e = grind (arith, none-so)
 
 head-so : (octets : List ℕ) (way : List (List ℕ)) → is_head octets way ≡ true → (rest : List (List ℕ)) × (way ≡ octets ∷ rest)
 head-so octets [] e = absurd (cc e)
 head-so octets (f ∷ fs) e = (fs, ap (λ x. x ∷ fs) (same-octets f octets e))
 
-first-so : (o : Option line.Event) (way : List (List ℕ)) → is_first o way ≡ true → IsFirst o way
+first-so : (o : Option Event) (way : List (List ℕ)) → is_first o way ≡ true → IsFirst o way
 first-so o way e = grind (arith, head-so)
 
 pub at-so : (deed : Deed) (s : Socket) (way : List (List ℕ)) → is_possible_at deed s way ≡ true → IsPossibleAt Call 0 deed s way
@@ -93,7 +87,7 @@ all-so (by_far deed ∷ hs) w e =
     let both = and_parts (is_possible_at deed w.far w.near.way) (are_possible hs (happening (by_far deed) w)) e in (at-so deed w.far w.near.way both.0, all-so hs (happening (by_far deed) w) both.1)
 
 computed : are_possible goes_again begins ≡ true
-unfolding lines.after lines.answer lines.takes_slot reading header_of control_of unnumbered_of supervisory_of teis.course teis.refusal seq distance_of named low_bits ports.after ports.answer ports.meant doing_all are_possible
+unfolding lines.after lines.answer lines.takes_slot reading header_of control_of unnumbered_of supervisory_of tei_course tei_refusal seq distance_of named low_bits ports.after ports.answer ports.meant doing_all are_possible
 computed = refl
 
 -- ---- the two ends are at rest
@@ -102,27 +96,27 @@ abbrev established : Circuit
 established = doing_all establishes call.begins
 
 near-flag : is_flag false (port_of established.near).items ≡ true
-unfolding lines.after lines.answer lines.takes_slot reading header_of control_of unnumbered_of supervisory_of teis.course teis.refusal seq distance_of named low_bits ports.after ports.answer ports.meant doing_all
+unfolding lines.after lines.answer lines.takes_slot reading header_of control_of unnumbered_of supervisory_of tei_course tei_refusal seq distance_of named low_bits ports.after ports.answer ports.meant doing_all
 near-flag = refl
 
 far-flag : is_flag false (port_of established.far).items ≡ true
-unfolding lines.after lines.answer lines.takes_slot reading header_of control_of unnumbered_of supervisory_of teis.course teis.refusal seq distance_of named low_bits ports.after ports.answer ports.meant doing_all
+unfolding lines.after lines.answer lines.takes_slot reading header_of control_of unnumbered_of supervisory_of tei_course tei_refusal seq distance_of named low_bits ports.after ports.answer ports.meant doing_all
 far-flag = refl
 
-near-none : machine.answer (frames.at established.near.line line.next) established.near.card.card ≡ line.gave None
-unfolding lines.after lines.answer lines.takes_slot reading header_of control_of unnumbered_of supervisory_of teis.course teis.refusal seq distance_of named low_bits ports.after ports.answer ports.meant doing_all
+near-none : card_answer (frames.at established.near.line next) established.near.card.card ≡ gave None
+unfolding lines.after lines.answer lines.takes_slot reading header_of control_of unnumbered_of supervisory_of tei_course tei_refusal seq distance_of named low_bits ports.after ports.answer ports.meant doing_all
 near-none = refl
 
-far-none : machine.answer (frames.at established.far.line line.next) established.far.card.card ≡ line.gave None
-unfolding lines.after lines.answer lines.takes_slot reading header_of control_of unnumbered_of supervisory_of teis.course teis.refusal seq distance_of named low_bits ports.after ports.answer ports.meant doing_all
+far-none : card_answer (frames.at established.far.line next) established.far.card.card ≡ gave None
+unfolding lines.after lines.answer lines.takes_slot reading header_of control_of unnumbered_of supervisory_of tei_course tei_refusal seq distance_of named low_bits ports.after ports.answer ports.meant doing_all
 far-none = refl
 
 near-heard : established.near.way ≡ []
-unfolding lines.after lines.answer lines.takes_slot reading header_of control_of unnumbered_of supervisory_of teis.course teis.refusal seq distance_of named low_bits ports.after ports.answer ports.meant doing_all
+unfolding lines.after lines.answer lines.takes_slot reading header_of control_of unnumbered_of supervisory_of tei_course tei_refusal seq distance_of named low_bits ports.after ports.answer ports.meant doing_all
 near-heard = refl
 
 far-heard : established.far.way ≡ []
-unfolding lines.after lines.answer lines.takes_slot reading header_of control_of unnumbered_of supervisory_of teis.course teis.refusal seq distance_of named low_bits ports.after ports.answer ports.meant doing_all
+unfolding lines.after lines.answer lines.takes_slot reading header_of control_of unnumbered_of supervisory_of tei_course tei_refusal seq distance_of named low_bits ports.after ports.answer ports.meant doing_all
 far-heard = refl
 
 pub rest : FaceAtRest Call 0 (as_wire begins)
@@ -166,7 +160,7 @@ mixed-so (mixed.by_octets deed ∷ hs) w e =
     (at-so deed w.far w.near.way both.0, mixed-so hs (mixed.happening (mixed.by_octets deed) w) both.1)
 
 mixed-computed : are_mixed worked.goes_again worked.begins ≡ true
-unfolding lines.after lines.answer lines.takes_slot reading header_of control_of unnumbered_of supervisory_of teis.course teis.refusal seq distance_of named low_bits ports.after ports.answer ports.meant doing_all are_mixed
+unfolding lines.after lines.answer lines.takes_slot reading header_of control_of unnumbered_of supervisory_of tei_course tei_refusal seq distance_of named low_bits ports.after ports.answer ports.meant doing_all are_mixed
 mixed-computed = refl
 
 pub mixed-in-order : IsFront (data_noted Call 0 (mixed.seen_far worked.goes_again worked.begins)) (kept ++ data_granted Call 0 (mixed.seen_near worked.goes_again worked.begins))

@@ -1,37 +1,24 @@
 -- A frame that is heard whole in octets is neither too short nor overlong, so where it comes as a frame it is heard as itself.
-use Rattle.laws_order.proofs.Vocabulary.{◌≡◌, ℕ, ◌+◌, ◌-◌, ◌≤◌, Bool, true, false, true≢false, cond, nat_eq, nat_lt, List, [], ◌∷◌, ◌++◌, length, take, reverse, Option, Some, None, option_and_then, option_to_list, subst, arith, All, and_left, le-ltb, ltb-false, ne_eqb, or_from, length-take-le, All-nil, All-append, All-tail, bits, ends_flag, since_flag, is_short, judged, text_event, closed_by_flag, given_up, heard_at, heard_until, heard_in, room_for, came, is_too_short, gained, heard_with}
-use Rattle.model_bits.specs.Stream as stream
+use Rattle.laws_order.proofs.Vocabulary.{◌≡◌, ℕ, ◌+◌, ◌-◌, ◌≤◌, Bool, true, false, true≢false, cond, nat_eq, nat_lt, List, [], ◌∷◌, ◌++◌, length, take, reverse, Option, Some, None, option_and_then, option_to_list, subst, arith, All, and_left, le-ltb, ltb-false, ne_eqb, or_from, length-take-le, All-nil, All-append, All-tail, bits, ends_flag, since_flag, is_short, judged, text_event, closed_by_flag, given_up, heard_at, heard_until, heard_in, room_for, came, is_too_short, gained, heard_with, stream_frame, StreamEvent}
 
 module _ (n201 : ℕ) where
-  abbrev pub HasCome : stream.Event → Type 0
-  HasCome (stream.frame octets) = came n201 octets ≡ stream.frame octets
+  abbrev pub HasCome : StreamEvent → Type 0
+  HasCome (stream_frame octets) = came n201 octets ≡ stream_frame octets
   HasCome other = Unit {0}
 
   -- ---- between two flags
-
-  four-enough : (octets : List ℕ) → 4 ≤ length octets → is_too_short octets ≡ false
-  four-enough octets h = grind (arith, nat_eq, or_from, nat_lt, le-ltb, and_left, ne_eqb)
 
   -- without the check
   abbrev cut : List ℕ → List ℕ
   cut octets = take (length octets - 2) octets
 
-  length-cut : (octets : List ℕ) → length (cut octets) ≡ length octets - 2
-  length-cut octets = length-take-le (length octets - 2) octets (omega arith)
-
   long-enough : (octets : List ℕ) → is_short octets ≡ false → is_too_short (cut octets) ≡ false
   long-enough (a ∷ b ∷ c ∷ d ∷ e ∷ []) h = h
-  long-enough (a ∷ b ∷ c ∷ d ∷ e ∷ f ∷ more) h =
-      let octets = a ∷ b ∷ c ∷ d ∷ e ∷ f ∷ more in
-      let size : length (cut octets) ≡ length octets - 2 = length-cut octets in
-      four-enough (cut octets) (omega (arith, size))
+  long-enough (a ∷ b ∷ c ∷ d ∷ e ∷ f ∷ more) h = grind (arith, length-take-le, nat_eq, or_from, nat_lt, le-ltb, and_left, ne_eqb)
   long-enough short h = absurd (true≢false h)
 
   short-enough : (octets : List ℕ) → nat_lt (room_for n201) (length octets) ≡ false → nat_lt (n201 + 4) (length (cut octets)) ≡ false
-  short-enough octets h = grind (arith, ltb-false, length-cut, le-ltb)
-
-  judged-whole : (octets : List ℕ) → HasCome (judged (room_for n201) octets)
-  judged-whole octets = grind (arith, nat_lt, long-enough, short-enough)
+  short-enough octets h = grind (arith, ltb-false, length-take-le, le-ltb)
 
   -- ---- in a stream
 
@@ -39,26 +26,20 @@ module _ (n201 : ℕ) where
   room = room_for n201
 
   text-whole : (o : Option (List ℕ)) → HasCome (text_event room o)
-  text-whole o = grind (arith, judged-whole)
-
-  closed-whole : (g : List Bool) → All HasCome (option_to_list (closed_by_flag room g))
-  closed-whole g = grind (arith, nat_lt, option_to_list, text-whole)
-
-  given-up-whole : (g : List Bool) → All HasCome (option_to_list (given_up g))
-  given-up-whole g = grind (arith, nat_lt, option_to_list)
+  text-whole o = grind (arith, nat_lt, long-enough, short-enough)
 
   bit-whole : (b flag : Bool) (o : Option (List Bool)) → All HasCome (option_to_list (cond flag (option_and_then (closed_by_flag room) o) (option_and_then (λ g. given_up (b ∷ g)) o)))
   bit-whole b true None = All-nil HasCome
-  bit-whole b true (Some g) = closed-whole g
+  bit-whole b true (Some g) = grind (arith, nat_lt, option_to_list, text-whole)
   bit-whole b false None = All-nil HasCome
-  bit-whole b false (Some g) = given-up-whole (b ∷ g)
+  bit-whole b false (Some g) = grind (arith, nat_lt, option_to_list)
 
   until-whole : (past : List Bool) → All HasCome (heard_until room past)
   until-whole [] = All-nil HasCome
   until-whole (b ∷ past) =
       All-append HasCome (heard_until room past) (option_to_list (heard_at room (b ∷ past))) (until-whole past) (bit-whole b (ends_flag (b ∷ past)) (since_flag past))
 
-  behind : (es fs : List stream.Event) → All HasCome (es ++ fs) → All HasCome fs
+  behind : (es fs : List StreamEvent) → All HasCome (es ++ fs) → All HasCome fs
   behind [] fs all = all
   behind (e ∷ es) fs all = behind es fs (All-tail HasCome e (es ++ fs) all)
 

@@ -6,13 +6,6 @@ use Rattle.laws_order.specs.circuit.Mixed as mixed
 unfoldable use Rattle.laws_order.specs.circuit.Mixed.{ArePossible as mixed_possible, seen_near as mixed_near, seen_far as mixed_far}
 use Rattle.laws_order.proofs.OfCircuit.Damaged.{station, one-done, One, Ran, Stay, stays, none-ran, one-ran, far-one, delivered-as}
 
-frames-same : (deed : order.Deed) (w : Mixed) (h : List (List ℕ)) (u : List LineTold) → let w' = mixed.happening (mixed.by_frames deed) w in
-    order.befalling deed (record { near = w.near; far = station h u w.far }) ≡ record { near = w'.near; far = station h u w'.far }
-frames-same deed w h u = grind arith
-
-frames-seen : (deed : order.Deed) (w : Mixed) (h : List (List ℕ)) (u : List LineTold) → order.seen_by deed (record { near = w.near; far = station h u w.far }) ≡ order.seen_by deed (mixed.as_wire w)
-frames-seen deed w h u = grind arith
-
 all-mixed : (service : Service) (tei : ℕ) (first : Wire) (hs : List mixed.Happening) (w : Mixed) (h : List (List ℕ)) (u : List LineTold)
     → Stay first (record { near = w.near; far = station h u w.far }) → mixed.ArePossible service tei hs w
     → Ran service tei first (record { near = w.near; far = station h u w.far }) (mixed.seen_near hs w) (mixed.seen_far hs w)
@@ -22,7 +15,7 @@ all-mixed service tei first (mixed.by_frames deed ∷ hs) w h u stay can =
     let w' = mixed.happening (mixed.by_frames deed) w in
     let seen = order.seen_by deed (mixed.as_wire w) in
     let x : One service tei (record { near = w.near; far = station h u w.far }) (record { near = w'.near; far = station h u w'.far }) seen [] =
-    record { step = Some (order.by_near deed); same = frames-same deed w h u; can = can.0; near_is = frames-seen deed w h u; far_is = refl } in
+    record { step = Some (order.by_near deed); same = grind arith; can = can.0; near_is = grind arith; far_is = refl } in
     one-ran service tei first (record { near = w.near; far = station h u w.far }) (record { near = w'.near; far = station h u w'.far }) seen [] (mixed.seen_near hs w') (mixed.seen_far hs w') stay x
     (λ stay'. all-mixed service tei first hs w' h u stay' can.1)
 all-mixed service tei first (mixed.by_octets deed ∷ hs) w h u stay can =

@@ -1,15 +1,10 @@
 -- What is done between a card of frames and one for octets is, at the card of frames inside, done on a wire of frames.
-use Rattle.laws_order.proofs.Vocabulary.{arith, ◌≡◌, ℕ, Bool, true, false, cond, List, [], ◌∷◌, ◌++◌, drop, flat_map, Option, None, Some, option_map, option_to_list, refl, sym, ap, ◌∙◌, subst, append-nil, All, All-nil, All-cons, All-head, All-tail, All-append, Service, Config, answer_to, is_due, Station, Wire, CanCall, calling, calls-come-through, twice-other, doing-append, IsCall}
-use Rattle.model_bits.specs.Stream as stream
+use Rattle.laws_order.proofs.Vocabulary.{arith, ◌≡◌, ℕ, Bool, true, false, cond, List, [], ◌∷◌, ◌++◌, drop, flat_map, Option, None, Some, option_map, option_to_list, refl, sym, ap, ◌∙◌, subst, append-nil, All, All-nil, All-cons, All-head, All-tail, All-append, Service, Config, answer_to, is_due, Station, Wire, CanCall, calling, calls-come-through, twice-other, doing-append, IsCall, stream_frame, port_octet, call_both_call, CallComesThrough, assigned, Establish, Assign, Termination, port_of}
 use Rattle.model_line.specs.Event as line
-use Rattle.model_line.specs.Request.{Establish, Assign}
 use Rattle.model_card.specs.Event as frame_events
 unfoldable use Rattle.model_card.specs.ports.Card.{meant}
-use Rattle.model_card.specs.ports.Port as port
-use Rattle.laws_wire.specs.Call as call
 use Rattle.laws_wire.specs.Wire as frames
 unfoldable use Rattle.laws_wire.specs.Wire.{doing_all as frames_done}
-use Rattle.laws_order.specs.circuit.Circuit.{Termination, port_of}
 use Rattle.laws_order.specs.circuit.Through as octets
 use Rattle.laws_order.specs.circuit.MixedCall.{Pair, as_wire, begun_by_frames, begun_by_octets, IsThrough, CallsComeThroughBetweenKinds, Doing, by_frames, asks, pulls, hears, brings, IsWhole, left_by, doing, IsTalk, CallsAreOfFrames}
 unfoldable use Rattle.laws_order.specs.circuit.MixedCall.{doing_all, AreTalk}
@@ -32,9 +27,6 @@ module _ (service : Service) (tei : ℕ) where
   one-led v v' e is same = record { es = e ∷ []; talk = All-cons (IsCall service tei) e [] is (All-nil (IsCall service tei)); led = same }
 
   -- ---- at the card of frames
-
-  frames-led : (act : frames.Act) (w : Pair) → frames.acting act (as_wire w) ≡ as_wire (doing (by_frames act) w)
-  frames-led act w = grind arith
 
   -- ---- at the card for octets
 
@@ -63,27 +55,25 @@ module _ (service : Service) (tei : ℕ) where
   heard_with w o = ends (record w.near { way = left_by o w.near.way }) (if_meant o (as_station w.back w.far))
 
   heard-led : (value : ℕ) (w : Pair) → IsWhole (brings value w.far) w.near.way → Led (as_wire w) (as_wire (doing (hears value) w))
-  heard-led value w whole = go (brings value w.far) refl whole (meaning-comes w.far.card.card.config.n201 (port.octet value) (port_of w.far))
+  heard-led value w whole = go (brings value w.far) refl whole (meaning-comes w.far.card.card.config.n201 (port_octet value) (port_of w.far))
     where
       there : (o : Option line.Event) → brings value w.far ≡ o → as_wire (doing (hears value) w) ≡ heard_with w o
       there o e = ap (λ x. ends (record w.near { way = left_by (brings value w.far) w.near.way }) x) (heard-as value w.far w.back) ∙ ap (heard_with w) e
 
       go : (o : Option line.Event) → brings value w.far ≡ o → IsWhole o w.near.way → Comes w.far.card.card.config.n201 (brings value w.far) → Led (as_wire w) (as_wire (doing (hears value) w))
       go None e whole comes = none-led (as_wire w) (as_wire (doing (hears value) w)) (sym (there None e))
-      go (Some (line.hears (stream.frame octets))) e whole comes =
-          let f = line.hears (stream.frame octets) in
+      go (Some (line.hears (stream_frame octets))) e whole comes =
           let n = w.far.card.card.config.n201 in
-          let same = subst (Comes n) e comes in
           let x = as_station w.back w.far in
           one-led (as_wire w) (as_wire (doing (hears value) w)) (frames.at_far frames.takes) tt
           (ap (λ fs. ends (record w.near { way = drop 1 w.near.way }) (frames.with_first_of fs x)) whole.1
-          ∙ ap (λ h. ends (record w.near { way = drop 1 w.near.way }) (frames.happens (line.hears h) x)) same ∙ sym (there (Some f) e))
+          ∙ ap (λ h. ends (record w.near { way = drop 1 w.near.way }) (frames.happens (line.hears h) x)) (subst (Comes n) e comes) ∙ sym (there (Some (line.hears (stream_frame octets))) e))
       go other e whole comes = absurd whole
 
   -- ---- one thing, and all
 
   step : (d : Doing) (w : Pair) → IsTalk service tei d w → Led (as_wire w) (as_wire (doing d w))
-  step (by_frames act) w is = one-led (as_wire w) (as_wire (doing (by_frames act) w)) (frames.at_near act) is (frames-led act w)
+  step (by_frames act) w is = one-led (as_wire w) (as_wire (doing (by_frames act) w)) (frames.at_near act) is (grind arith)
   step (asks r) w is = one-led (as_wire w) (as_wire (doing (asks r) w)) (frames.at_far (frames.requests r)) is (ap (λ x. ends w.near x) (sym (asked-as r w.far w.back)))
   step pulls w is = pulled-led w
   step (hears value) w is = heard-led value w is
@@ -105,7 +95,7 @@ calls-are-of-frames service tei w ds talk = let x = all-led service tei ds w tal
 
 -- ---- a call
 
-assigned-as : (d : Config) (other tei : ℕ) → as_station [] (octets.assigned d other tei) ≡ call.assigned d other tei
+assigned-as : (d : Config) (other tei : ℕ) → as_station [] (octets.assigned d other tei) ≡ assigned d other tei
 assigned-as d other tei = asked-as (Assign tei) (octets.termination d other) []
 
 abbrev ends_of : Station → Station → Wire
@@ -120,13 +110,10 @@ abbrev all_swapped : List frames.Doing → List frames.Doing
 all_swapped [] = []
 all_swapped (e ∷ es) = swapped e ∷ all_swapped es
 
-one-turned : (e : frames.Doing) (v : Wire) → frames.doing (swapped e) (frames.turned v) ≡ frames.turned (frames.doing e v)
-one-turned e v = grind arith
-
 all-turned : (es : List frames.Doing) (v : Wire) → frames.doing_all (all_swapped es) (frames.turned v) ≡ frames.turned (frames.doing_all es v)
 unfolding frames_done
 all-turned [] v = refl
-all-turned (e ∷ es) v = ap (frames.doing_all (all_swapped es)) (one-turned e v) ∙ all-turned es (frames.doing e v)
+all-turned (e ∷ es) v = ap (frames.doing_all (all_swapped es)) (grind arith) ∙ all-turned es (frames.doing e v)
 
 one-talk : (service : Service) (tei : ℕ) (e : frames.Doing) → IsCall service tei e → IsCall service tei (swapped e)
 one-talk service tei e is = grind arith
@@ -136,9 +123,6 @@ all-talk service tei [] all = All-nil (IsCall service tei)
 all-talk service tei (e ∷ es) all =
     All-cons (IsCall service tei) (swapped e) (all_swapped es) (one-talk service tei e (All-head (IsCall service tei) e es all)) (all-talk service tei es (All-tail (IsCall service tei) e es all))
 
-other-call : (c d : Config) (line other tei : ℕ) → CanCall c line d other tei → CanCall d other c line tei
-other-call c d line other tei can = grind (arith, twice-other)
-
 through : (service : Service) (c d : Config) (line other tei : ℕ) → CanCall c line d other tei → (es : List frames.Doing) → All (IsCall service tei) es → (last : Wire)
     → frames.doing_all es (calling service tei c line d other) ≡ last → IsThrough service tei (calling service tei c line d other) last
 through service c d line other tei can es talk last led =
@@ -146,7 +130,7 @@ through service c d line other tei can es talk last led =
       es,
       talk,
       led,
-      subst (call.ComesThrough service tei (frames.turns es begun) (call.both_call es begun)) led (calls-come-through service c d line other tei es can talk),
+      subst (CallComesThrough service tei (frames.turns es begun) (call_both_call es begun)) led (calls-come-through service c d line other tei es can talk),
     )
 
 pub calls-come-through-between-kinds : CallsComeThroughBetweenKinds
@@ -165,5 +149,5 @@ calls-come-through-between-kinds service c d number other tei ds can = (by-frame
         let x = calls-are-of-frames service tei w ds talk in
         let begins : frames.turned (as_wire w) ≡ calling service tei d other c number =
         ap (λ (s : Station). ends_of s w.near) (asked-as (Establish service tei) (octets.assigned d other tei) [] ∙ ap (frames.happens (line.request (Establish service tei))) (assigned-as d other tei)) in
-        through service d c other number tei (other-call c d number other tei can) (all_swapped x.0) (all-talk service tei x.0 x.1) (frames.turned (as_wire (doing_all ds w)))
+        through service d c other number tei (grind (arith, twice-other)) (all_swapped x.0) (all-talk service tei x.0 x.1) (frames.turned (as_wire (doing_all ds w)))
         (ap (frames.doing_all (all_swapped x.0)) (sym begins) ∙ all-turned x.0 (as_wire w) ∙ ap frames.turned x.2)

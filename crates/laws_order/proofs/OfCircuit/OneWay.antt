@@ -1,14 +1,12 @@
 -- One direction of a circuit: the octets that an end gave, those of them that the other has heard, and the frames on their way.
-use Rattle.laws_order.proofs.Vocabulary.{arith, ◌≡◌, ℕ, ◌+◌, ◌≤◌, List, [], ◌∷◌, ◌++◌, map, None, Some, option_to_list, refl, sym, ap, ◌∙◌, subst, append-nil, append_assoc, All, append_cancel_left, map-append, All-append, All-cons, All-head, All-nil, All-tail, item_octets, Item, idle, heard_in, AreOctets, came, frames_among, GoOut, Port, gained, left_of, IsSoundPort, sent, same_text, frames_sent, cut_sent, heard_whole, all_exact, heard_with, IsLongItem, IsOnItsWay, go_out, all_out, all-right}
-use Rattle.model_bits.specs.Sent.{frame}
+use Rattle.laws_order.proofs.Vocabulary.{arith, ◌≡◌, ℕ, ◌+◌, ◌≤◌, List, [], ◌∷◌, ◌++◌, map, None, Some, option_to_list, refl, sym, ap, ◌∙◌, subst, append-nil, append_assoc, All, append_cancel_left, map-append, All-append, All-cons, All-head, All-nil, All-tail, item_octets, Item, idle, heard_in, AreOctets, came, frames_among, GoOut, Port, gained, left_of, IsSoundPort, sent, same_text, frames_sent, cut_sent, heard_whole, all_exact, heard_with, IsLongItem, IsOnItsWay, go_out, all_out, all-right, stream_frame, StreamEvent, frame}
 use Rattle.laws_wire.proofs.Spelled.{came-whole}
-use Rattle.model_bits.specs.Stream as stream
 pub use Rattle.model_card.proofs.OfPorts.PortGoesOn.{frames_among-append}
 
 -- ---- a frame comes as it is
 
 abbrev IsWhole : ℕ → List ℕ → Type 0
-IsWhole n201 octets = came n201 octets ≡ stream.frame octets
+IsWhole n201 octets = came n201 octets ≡ stream_frame octets
 
 all-whole : (n201 : ℕ) (items : List Item) → All IsLongItem items → All (λ item. item_octets item ≤ n201 + 4) items → All (IsWhole n201) (frames_among items)
 all-whole n201 [] long short = All-nil (IsWhole n201)
@@ -20,21 +18,21 @@ all-whole n201 (frame octets ∷ items) long short =
     (all-whole n201 items (All-tail IsLongItem (frame octets) items long) (All-tail (λ item. item_octets item ≤ n201 + 4) (frame octets) items short))
 
 -- the same of what is heard
-abbrev pub framed : List (List ℕ) → List stream.Event
-framed frames = map (λ octets. stream.frame octets) frames
+abbrev pub framed : List (List ℕ) → List StreamEvent
+framed frames = map (λ octets. stream_frame octets) frames
 
-abbrev IsWholeEvent : ℕ → stream.Event → Type 0
-IsWholeEvent n201 (stream.frame octets) = IsWhole n201 octets
+abbrev IsWholeEvent : ℕ → StreamEvent → Type 0
+IsWholeEvent n201 (stream_frame octets) = IsWhole n201 octets
 IsWholeEvent n201 other = Unit {0}
 
 whole-framed : (n201 : ℕ) (frames : List (List ℕ)) → All (IsWhole n201) frames → All (IsWholeEvent n201) (framed frames)
 whole-framed n201 [] h = All-nil (IsWholeEvent n201)
 whole-framed n201 (f ∷ fs) h =
-    All-cons (IsWholeEvent n201) (stream.frame f) (framed fs) (All-head (IsWhole n201) f fs h) (whole-framed n201 fs (All-tail (IsWhole n201) f fs h))
+    All-cons (IsWholeEvent n201) (stream_frame f) (framed fs) (All-head (IsWhole n201) f fs h) (whole-framed n201 fs (All-tail (IsWhole n201) f fs h))
 
 -- ---- what is heard goes on
 
-pub heard-beyond : (n201 : ℕ) (a b : List ℕ) → (rest : List stream.Event) × (heard_in n201 (a ++ b) ≡ heard_in n201 a ++ rest)
+pub heard-beyond : (n201 : ℕ) (a b : List ℕ) → (rest : List StreamEvent) × (heard_in n201 (a ++ b) ≡ heard_in n201 a ++ rest)
 heard-beyond n201 a [] = ([], ap (heard_in n201) (append-nil a) ∙ sym (append-nil (heard_in n201 a)))
 heard-beyond n201 a (v ∷ b) =
     let now = option_to_list (gained n201 a v) in
@@ -63,8 +61,8 @@ module _ (n201 : ℕ) (p : Port) (way received : List ℕ) (frames : List (List 
       record {
         given = h.given;
         are =
-            ap framed all ∙ map-append stream.frame (frames_among p.items) new ∙ ap (λ l. l ++ framed new) h.are
-            ∙ append_assoc (heard_in n201 received) (framed frames) (framed new) ∙ ap (λ l. heard_in n201 received ++ l) (sym (map-append stream.frame frames new));
+            ap framed all ∙ map-append stream_frame (frames_among p.items) new ∙ ap (λ l. l ++ framed new) h.are
+            ∙ append_assoc (heard_in n201 received) (framed frames) (framed new) ∙ ap (λ l. heard_in n201 received ++ l) (sym (map-append stream_frame frames new));
         octets = subst (All AreOctets) (sym all) (All-append AreOctets (frames_among p.items) new h.octets octets);
       }
 
@@ -92,20 +90,20 @@ module _ (n201 : ℕ) (p : Port) (way received : List ℕ) (frames : List (List 
         (map sent front) (ap (map sent) is ∙ map-append sent front (idle ∷ [])) (cut_sent p.items p.given on.cut))
 
     -- the first octet on the way is heard, and ends a frame: the first on the way
-    pub record OneHeard (value : ℕ) (more : List ℕ) (e : stream.Event) : Type 0 where
+    pub record OneHeard (value : ℕ) (more : List ℕ) (e : StreamEvent) : Type 0 where
       pub first : List ℕ
       pub rest : List (List ℕ)
       pub frames_are : frames ≡ first ∷ rest
-      pub event : e ≡ stream.frame first
-      pub whole : came n201 first ≡ stream.frame first
+      pub event : e ≡ stream_frame first
+      pub whole : came n201 first ≡ stream_frame first
       pub carries : Carries n201 p more (received ++ value ∷ []) rest
 
-    first-is : (fs : List (List ℕ)) (e : stream.Event) (behind : List stream.Event) → e ∷ behind ≡ framed fs
-        → (first : List ℕ) × (rest : List (List ℕ)) × (fs ≡ first ∷ rest) × (e ≡ stream.frame first)
+    first-is : (fs : List (List ℕ)) (e : StreamEvent) (behind : List StreamEvent) → e ∷ behind ≡ framed fs
+        → (first : List ℕ) × (rest : List (List ℕ)) × (fs ≡ first ∷ rest) × (e ≡ stream_frame first)
     first-is [] e behind is = absurd (cc is)
     first-is (f ∷ fs) e behind is = (f, fs, refl, cc is)
 
-    pub one-heard : (value : ℕ) (more : List ℕ) (e : stream.Event) → way ≡ value ∷ more → gained n201 received value ≡ Some e → OneHeard value more e
+    pub one-heard : (value : ℕ) (more : List ℕ) (e : StreamEvent) → way ≡ value ∷ more → gained n201 received value ≡ Some e → OneHeard value more e
     one-heard value more e is some =
         let heard = heard_in n201 received in
         let now = received ++ value ∷ [] in
@@ -120,7 +118,7 @@ module _ (n201 : ℕ) (p : Port) (way received : List ℕ) (frames : List (List 
         let first = x.0 in
         let rest = x.1 in
         let are : frames ≡ first ∷ rest = x.2 in
-        let same : e ≡ stream.frame first = x.3 in
+        let same : e ≡ stream_frame first = x.3 in
         let all-heard : framed (frames_among p.items) ≡ heard ++ framed (first ∷ rest) = h.are ∙ ap (λ fs. heard ++ framed fs) are in
         record {
           first = first;
@@ -128,12 +126,8 @@ module _ (n201 : ℕ) (p : Port) (way received : List ℕ) (frames : List (List 
           frames_are = are;
           event = same;
           whole =
-              All-head (IsWholeEvent n201) (stream.frame first) (framed rest)
+              All-head (IsWholeEvent n201) (stream_frame first) (framed rest)
               (all-right (IsWholeEvent n201) heard (framed (first ∷ rest))
               (subst (All (IsWholeEvent n201)) all-heard (whole-framed n201 (frames_among p.items) (all-whole n201 p.items on.long sound.sizes))));
-          carries = record {
-            given = given;
-            are = all-heard ∙ sym (append_assoc heard (stream.frame first ∷ []) (framed rest)) ∙ ap (λ l. l ++ framed rest) (sym (with-it ∙ ap (λ e. heard ++ e ∷ []) same));
-            octets = h.octets;
-          };
+          carries = grind (arith, append_assoc);
         }

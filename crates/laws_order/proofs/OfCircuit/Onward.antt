@@ -1,9 +1,8 @@
 -- Beats as a list: what they leave, and what they add to what was told.
-use Rattle.laws_order.proofs.Vocabulary.{◌≡◌, ℕ, zero, suc, ◌+◌, List, [], ◌∷◌, ◌++◌, length, drop, Option, option_to_list, refl, sym, ap, ◌∙◌, arith, append-nil, append_assoc, length-append, All, option_map_or, All-cons, All-nil, LineTold, said, answer_of, next_octet, with_item, beat}
+use Rattle.laws_order.proofs.Vocabulary.{◌≡◌, ℕ, zero, suc, ◌+◌, List, [], ◌∷◌, ◌++◌, length, drop, Option, option_to_list, refl, sym, ap, ◌∙◌, arith, append-nil, append_assoc, length-append, All, option_map_or, All-cons, All-nil, LineTold, said, answer_of, next_octet, with_item, beat, port_pull, port_octet, port_told}
 use Rattle.model_line.specs.Event as line
 unfoldable use Rattle.model_card.specs.ports.Card.{answer}
 use Rattle.model_card.specs.ports.Event.{at}
-use Rattle.model_card.specs.ports.Port as port
 unfoldable use Rattle.laws_order.specs.circuit.Beats.{beats}
 use Rattle.laws_order.specs.circuit.Circuit.{Termination, port_of, happens, unless_refused, with_first_of, Circuit, pulls, hears, OctetDoing, at_near, at_far, doing}
 unfoldable use Rattle.laws_order.specs.circuit.Circuit.{doing_all}
@@ -75,9 +74,9 @@ hearings-far (suc n) = let rest = hearings-far n in omega (arith, rest)
 first-way : (way : List ℕ) (s : Termination) → (with_first_of way s).way ≡ s.way
 first-way way s = grind (arith, heard-way)
 
-pulled-way : (s : Termination) → (value : ℕ) × ((happens port.pull s).way ≡ s.way ++ value ∷ [])
+pulled-way : (s : Termination) → (value : ℕ) × ((happens port_pull s).way ≡ s.way ++ value ∷ [])
 unfolding answer
-pulled-way s = (next_octet (with_item (said (at s.line port.pull) s.card) (port_of s)), refl)
+pulled-way s = (next_octet (with_item (said (at s.line port_pull) s.card) (port_of s)), refl)
 
 one-off : (way : List ℕ) (value : ℕ) → length (drop 1 (way ++ value ∷ [])) ≡ length way
 one-off [] value = refl
@@ -90,16 +89,12 @@ pub record StayAsLong (w w' : Circuit) : Type 0 where
 beat-stays : (w : Circuit) → StayAsLong w (doing_all beat w)
 unfolding doing_all
 beat-stays w =
-    let near = happens port.pull w.near in
-    let far = happens port.pull w.far in
+    let far = happens port_pull w.far in
     let x = pulled-way w.near in
     let y = pulled-way w.far in
-    let near-heard = with_first_of far.way near in
+    let near-heard = with_first_of far.way (happens port_pull w.near) in
     let far-left : Termination = record far { way = drop 1 far.way } in
-    record {
-      near = ap (λ (l : List ℕ). length (drop 1 l)) (first-way far.way near ∙ x.1) ∙ one-off w.near.way x.0;
-      far = ap length (first-way near-heard.way far-left) ∙ ap (λ (l : List ℕ). length (drop 1 l)) y.1 ∙ one-off w.far.way y.0;
-    }
+    grind (arith, first-way, one-off)
 
 pub many-stay : (n : ℕ) (w : Circuit) → StayAsLong w (doing_all (many n) w)
 unfolding many doing_all
@@ -116,25 +111,22 @@ pub record Adds (s t : Termination) : Type 0 where
   pub more : List LineTold
   pub told : t.told ≡ s.told ++ more
 
-adds-nothing : (s : Termination) → Adds s s
-adds-nothing s = record { granted = refl; more = []; told = sym (append-nil s.told) }
-
 then-adds : (s t u : Termination) → Adds s t → Adds t u → Adds s u
 then-adds s t u h k = grind (arith, append_assoc)
 
-none-granted : (o : Option line.Answer) → unless_refused (option_map_or answer_of o (port.told line.nothing)) [] ≡ []
+none-granted : (o : Option line.Answer) → unless_refused (option_map_or answer_of o (port_told line.nothing)) [] ≡ []
 none-granted o = grind arith
 
-pull-adds : (s : Termination) → Adds s (happens port.pull s)
+pull-adds : (s : Termination) → Adds s (happens port_pull s)
 unfolding answer
 pull-adds s = record { granted = append-nil s.granted; more = []; told = refl }
 
-octet-adds : (value : ℕ) (s : Termination) → Adds s (happens (port.octet value) s)
+octet-adds : (value : ℕ) (s : Termination) → Adds s (happens (port_octet value) s)
 unfolding answer
 octet-adds value s = grind (arith, none-granted, append-nil)
 
 first-adds : (way : List ℕ) (s : Termination) → Adds s (with_first_of way s)
-first-adds [] s = adds-nothing s
+first-adds [] s = (record { granted = refl; more = []; told = sym (append-nil s.told) })
 first-adds (value ∷ more) s = octet-adds value s
 
 on-way : (s t : Termination) (way : List ℕ) → Adds s t → Adds s (record t { way = way })
@@ -150,8 +142,8 @@ pub record BothAdd (w w' : Circuit) : Type 0 where
 beat-adds : (w : Circuit) → BothAdd w (doing_all beat w)
 unfolding doing_all
 beat-adds w =
-    let near = happens port.pull w.near in
-    let far = happens port.pull w.far in
+    let near = happens port_pull w.near in
+    let far = happens port_pull w.far in
     let near-heard = with_first_of far.way near in
     let far-left : Termination = record far { way = drop 1 far.way } in
     record {
@@ -161,7 +153,7 @@ beat-adds w =
 
 pub many-add : (n : ℕ) (w : Circuit) → BothAdd w (doing_all (many n) w)
 unfolding many doing_all
-many-add zero w = record { near = adds-nothing w.near; far = adds-nothing w.far }
+many-add zero w = record { near = (record { granted = refl; more = []; told = sym (append-nil w.near.told) }); far = (record { granted = refl; more = []; told = sym (append-nil w.far.told) }) }
 many-add (suc n) w =
     let w' = doing_all beat w in
     let one = beat-adds w in

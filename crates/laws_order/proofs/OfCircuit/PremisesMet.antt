@@ -1,13 +1,7 @@
 -- The premises of the laws are met by the worked call: all has gone behind it, so layer 3 of each was told all.
-use Rattle.laws_order.proofs.Vocabulary.{◌≡◌, Bool, true, false, List, [], ◌∷◌, ◌++◌, ◌&&◌, ◌<◌, None, refl, ap, arith, All, and_parts, All-append, All-cons, All-nil, Call, reading, header_of, control_of, unnumbered_of, supervisory_of, distance_of, named, seq, low_bits, Item, idle, AreOctets, next, gave, CanCall, user, network, IsCall, calling, Circuit, OctetAct, asks, OctetDoing, at_near, at_far, doing_all, port_of, IsTalkOf, IsTalk, both_call, HasAllGone, IsToldAll, begins, establishes, goes_on, sends}
-use Rattle.lapd_tei.specs.Events as teis
-use Rattle.model_bits.specs.Sent.{frame}
+use Rattle.laws_order.proofs.Vocabulary.{◌≡◌, Bool, true, false, List, [], ◌∷◌, ◌++◌, ◌&&◌, ◌<◌, None, refl, ap, arith, All, and_parts, All-append, All-cons, All-nil, Call, reading, header_of, control_of, unnumbered_of, supervisory_of, distance_of, named, seq, low_bits, Item, idle, AreOctets, next, gave, CanCall, user, network, IsCall, calling, Circuit, OctetAct, asks, OctetDoing, at_near, at_far, doing_all, port_of, IsTalkOf, IsTalk, both_call, HasAllGone, IsToldAll, begins, establishes, goes_on, sends, at, Doing, wire_doing_all, card_answer, tei_refusal, tei_course, Data, frame}
 use Rattle.model_line.specs.Machine as lines
-use Rattle.model_line.specs.Request.{Data}
-use Rattle.model_card.specs.Event as frames
-use Rattle.model_card.specs.Machine as machine
 use Rattle.model_card.specs.ports.Card as ports
-use Rattle.laws_wire.specs.Wire as wire
 use Rattle.laws_order.specs.circuit.MixedCall as mixed
 use Rattle.laws_order.specs.circuit.MixedCall.{IsThrough}
 use Rattle.laws_order.specs.circuit.WorkedMixed.{call_begins, talks, are_talk}
@@ -41,27 +35,27 @@ ends-in-flag (idle ∷ frame octets ∷ items) e = behind idle (frame octets ∷
 ends-in-flag (frame octets ∷ items) e = behind (frame octets) items (ends-in-flag items e)
 
 near-flag : is_flag false (port_of after_it.near).items ≡ true
-unfolding lines.after lines.answer lines.takes_slot reading header_of control_of unnumbered_of supervisory_of teis.course teis.refusal seq distance_of named low_bits ports.after ports.answer ports.meant doing_all
+unfolding lines.after lines.answer lines.takes_slot reading header_of control_of unnumbered_of supervisory_of tei_course tei_refusal seq distance_of named low_bits ports.after ports.answer ports.meant doing_all
 near-flag = refl
 
 far-flag : is_flag false (port_of after_it.far).items ≡ true
-unfolding lines.after lines.answer lines.takes_slot reading header_of control_of unnumbered_of supervisory_of teis.course teis.refusal seq distance_of named low_bits ports.after ports.answer ports.meant doing_all
+unfolding lines.after lines.answer lines.takes_slot reading header_of control_of unnumbered_of supervisory_of tei_course tei_refusal seq distance_of named low_bits ports.after ports.answer ports.meant doing_all
 far-flag = refl
 
-near-none : machine.answer (frames.at after_it.near.line next) after_it.near.card.card ≡ gave None
-unfolding lines.after lines.answer lines.takes_slot reading header_of control_of unnumbered_of supervisory_of teis.course teis.refusal seq distance_of named low_bits ports.after ports.answer ports.meant doing_all
+near-none : card_answer (at after_it.near.line next) after_it.near.card.card ≡ gave None
+unfolding lines.after lines.answer lines.takes_slot reading header_of control_of unnumbered_of supervisory_of tei_course tei_refusal seq distance_of named low_bits ports.after ports.answer ports.meant doing_all
 near-none = refl
 
-far-none : machine.answer (frames.at after_it.far.line next) after_it.far.card.card ≡ gave None
-unfolding lines.after lines.answer lines.takes_slot reading header_of control_of unnumbered_of supervisory_of teis.course teis.refusal seq distance_of named low_bits ports.after ports.answer ports.meant doing_all
+far-none : card_answer (at after_it.far.line next) after_it.far.card.card ≡ gave None
+unfolding lines.after lines.answer lines.takes_slot reading header_of control_of unnumbered_of supervisory_of tei_course tei_refusal seq distance_of named low_bits ports.after ports.answer ports.meant doing_all
 far-none = refl
 
 near-heard : after_it.near.way ≡ []
-unfolding lines.after lines.answer lines.takes_slot reading header_of control_of unnumbered_of supervisory_of teis.course teis.refusal seq distance_of named low_bits ports.after ports.answer ports.meant doing_all
+unfolding lines.after lines.answer lines.takes_slot reading header_of control_of unnumbered_of supervisory_of tei_course tei_refusal seq distance_of named low_bits ports.after ports.answer ports.meant doing_all
 near-heard = refl
 
 far-heard : after_it.far.way ≡ []
-unfolding lines.after lines.answer lines.takes_slot reading header_of control_of unnumbered_of supervisory_of teis.course teis.refusal seq distance_of named low_bits ports.after ports.answer ports.meant doing_all
+unfolding lines.after lines.answer lines.takes_slot reading header_of control_of unnumbered_of supervisory_of tei_course tei_refusal seq distance_of named low_bits ports.after ports.answer ports.meant doing_all
 far-heard = refl
 
 pub gone : HasAllGone after_it
@@ -104,7 +98,7 @@ pub told : IsToldAll Call 0 (both_call sends begins) after_it
 told = let x = calls-come-through-in-octets Call user network 0 0 0 sends can talk in record { near = x.near.1 gone; far = x.far.1 gone }
 
 -- and so by the call between a card of frames and one for octets
-mixed-call : (es : List wire.Doing) × All (IsCall Call 0) es × (wire.doing_all es (mixed.as_wire call_begins) ≡ mixed.as_wire (mixed.doing_all talks call_begins))
+mixed-call : (es : List Doing) × All (IsCall Call 0) es × (wire_doing_all es (mixed.as_wire call_begins) ≡ mixed.as_wire (mixed.doing_all talks call_begins))
 mixed-call = calls-are-of-frames Call 0 call_begins talks are_talk
 
 mixed-through : IsThrough Call 0 (calling Call 0 user 0 network 0) (mixed.as_wire (mixed.doing_all talks call_begins))

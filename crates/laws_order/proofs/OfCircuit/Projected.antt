@@ -1,22 +1,18 @@
 -- What is done on a circuit of octets is, at the cards of frames inside, done on a wire of frames.
-use Rattle.laws_order.proofs.Vocabulary.{arith, ◌≡◌, ℕ, ◌<◌, Bool, true, false, cond, List, [], ◌∷◌, ◌++◌, length, drop, Option, None, Some, is_some, option_map, option_to_list, refl, sym, ap, ◌∙◌, subst, append-nil, All, option_map_or, get_or-set_same, All-append, All-head, All-nil, All-tail, Service, AreOctets, Config, came, NextFrame, said, answer_to, frames_among, octet_pulled, Port, fresh_port, answer_of, gained, given_in, is_due, item_of, next_octet, with_item, with_octet, IsSoundPort, contents_given, Station, Wire, doing-append, Request, IsInRange, IsTalkOf, IsTalk, IsAsked}
-use Rattle.model_bits.specs.Stream as stream
+use Rattle.laws_order.proofs.Vocabulary.{arith, ◌≡◌, ℕ, ◌<◌, Bool, true, false, cond, List, [], ◌∷◌, ◌++◌, length, drop, Option, None, Some, is_some, option_map, option_to_list, refl, sym, ap, ◌∙◌, subst, append-nil, All, option_map_or, get_or-set_same, All-append, All-head, All-nil, All-tail, Service, AreOctets, Config, came, NextFrame, said, answer_to, frames_among, octet_pulled, Port, fresh_port, answer_of, gained, given_in, is_due, item_of, next_octet, with_item, with_octet, IsSoundPort, contents_given, Station, Wire, doing-append, Request, IsInRange, IsTalkOf, IsTalk, IsAsked, StreamEvent, port_pull, port_request, PortEvent, port_octet, port_after, port_told, card_answer, IsCall, IsCallOf}
 use Rattle.model_line.specs.Event as line
 unfoldable use Rattle.model_line.specs.Machine.{answer as line_answer, takes_slot}
 use Rattle.model_line.specs.Request as asked
 use Rattle.model_card.specs.Event as frames
-use Rattle.model_card.specs.Machine as machine
 unfoldable use Rattle.model_card.specs.ports.Card.{after, answer, meant}
 use Rattle.model_card.specs.ports.Event.{at}
-use Rattle.model_card.specs.ports.Port as port
-use Rattle.laws_wire.specs.Call as call
 use Rattle.laws_wire.specs.Wire as wire
 unfoldable use Rattle.laws_wire.specs.Wire.{doing_all as frames_done}
 use Rattle.laws_order.specs.circuit.Circuit.{Termination, port_of, happens, with_first_of, Circuit, OctetAct, asks, pulls, hears, OctetDoing, at_near, at_far, acting, turned, doing}
 unfoldable use Rattle.laws_order.specs.circuit.Circuit.{doing_all}
 use Rattle.laws_order.proofs.OfCircuit.AsFrames.{as_station, meaning, if_meant, heard-as, asked-as, pulled-as}
 use Rattle.laws_order.proofs.OfCircuit.OneWay.{Carries, one-given, one-put, none-heard, one-heard}
-use Rattle.laws_order.proofs.OfCircuit.Ran.{Ran, goes-on, on-way, config, within-ports, sound-port, on-line, gives-octets}
+use Rattle.laws_order.proofs.OfCircuit.Ran.{Ran, goes-on, config, within-ports, sound-port, on-line, gives-octets}
 
 -- ---- what is meant
 
@@ -48,23 +44,20 @@ if_acted (Some act) f = wire.acting act f
 
 -- ---- a port after an event
 
-pub port-after : (s : Termination) (what : port.Event) → s.line < length s.card.ports → port_of (happens what s) ≡ port.after what (said (at s.line what) s.card) (port_of s)
+pub port-after : (s : Termination) (what : PortEvent) → s.line < length s.card.ports → port_of (happens what s) ≡ port_after what (said (at s.line what) s.card) (port_of s)
 unfolding after
-port-after s what within = get_or-set_same s.card.ports s.line (port.after what (said (at s.line what) s.card) (port_of s)) fresh_port within
+port-after s what within = get_or-set_same s.card.ports s.line (port_after what (said (at s.line what) s.card) (port_of s)) fresh_port within
 
-none-pulled : (o : Option line.Answer) → octet_pulled (option_map_or answer_of o (port.told line.nothing)) ≡ []
-none-pulled o = grind arith
+same-way : (way : List ℕ) (o : Option line.Answer) → way ++ octet_pulled (option_map_or answer_of o (port_told line.nothing)) ≡ way
+same-way way o = ap (λ l. way ++ l) (grind arith) ∙ append-nil way
 
-same-way : (way : List ℕ) (o : Option line.Answer) → way ++ octet_pulled (option_map_or answer_of o (port.told line.nothing)) ≡ way
-same-way way o = ap (λ l. way ++ l) (none-pulled o) ∙ append-nil way
-
-pub asked-way : (r : Request) (s : Termination) → (happens (port.request r) s).way ≡ s.way
+pub asked-way : (r : Request) (s : Termination) → (happens (port_request r) s).way ≡ s.way
 unfolding answer
-asked-way r s = same-way s.way (said (at s.line (port.request r)) s.card)
+asked-way r s = same-way s.way (said (at s.line (port_request r)) s.card)
 
-pub heard-way : (value : ℕ) (s : Termination) → (happens (port.octet value) s).way ≡ s.way
+pub heard-way : (value : ℕ) (s : Termination) → (happens (port_octet value) s).way ≡ s.way
 unfolding answer
-heard-way value s = same-way s.way (said (at s.line (port.octet value)) s.card)
+heard-way value s = same-way s.way (said (at s.line (port_octet value)) s.card)
 
 same-received : (o : Option line.Answer) (p : Port) → (with_octet (with_item o p)).received ≡ p.received
 same-received o p = grind arith
@@ -76,31 +69,11 @@ asked-octets service tei (asked.Data s t contents) is = is.2
 asked-octets service tei (asked.Establish s t) is = All-nil (λ octet. octet < 256)
 asked-octets service tei other is = absurd is
 
-asked-there : (service : Service) (tei : ℕ) (r : Request) → IsAsked service tei r → call.IsCallOf service tei (wire.requests r)
-asked-there service tei (asked.Data s t contents) is = (is.0, is.1)
-asked-there service tei (asked.Establish s t) is = is
-asked-there service tei other is = absurd is
-
-abbrev AreTalks : Service → ℕ → List wire.Act → Type 0
-AreTalks service tei acts = All (call.IsCallOf service tei) acts
-
-acts-talk : (service : Service) (tei : ℕ) (act : OctetAct) (w : Circuit) → IsTalkOf service tei act → AreTalks service tei (option_to_list (act_meant act w))
-acts-talk service tei act w is = grind (arith, asked-there, option_to_list, is_some)
-
-near-of : (service : Service) (tei : ℕ) (o : Option wire.Act) → AreTalks service tei (option_to_list o) → All (call.IsCall service tei) (option_to_list (option_map wire.at_near o))
-near-of service tei o h = grind arith
-
-far-of : (service : Service) (tei : ℕ) (o : Option wire.Act) → AreTalks service tei (option_to_list o) → All (call.IsCall service tei) (option_to_list (option_map wire.at_far o))
-far-of service tei o h = grind arith
-
 -- ---- one way, where ports stay in part
 
 module _ (n201 : ℕ) where
   moved : (p q : Port) (way way' received received' : List ℕ) (frames : List (List ℕ)) → p ≡ q → way ≡ way' → received ≡ received' → Carries n201 q way' received' frames → Carries n201 p way received frames
   moved p q way way' received received' frames same way-same received-same h = grind (arith, Carries)
-
-  with-received : (p : Port) (way received now : List ℕ) (frames : List (List ℕ)) → Carries n201 p way received frames → Carries n201 (record p { received = now }) way received frames
-  with-received p way received now frames h = record { given = h.given; are = h.are; octets = h.octets }
 
   -- what a call for the next frame puts on the line
   frame-put : (g : Option NextFrame) → frames_among (item_of g ∷ []) ≡ wire.frames_by (line.gave g)
@@ -152,13 +125,13 @@ module _ (n201 : ℕ) where
 
     asked-one : (r : Request) → AreOctets (contents_given r) → Acted (Some (wire.requests r)) (acting (asks r) w)
     asked-one r octets =
-        let s = happens (port.request r) near in
-        let same = port-after near (port.request r) inside in
+        let s = happens (port_request r) near in
+        let same = port-after near (port_request r) inside in
         record {
           there' = there;
           back' = back;
           follows = record {
-            near = goes-on c near (port.request r) octets h.near;
+            near = goes-on c near (port_request r) octets h.near;
             far = h.far;
             goes = moved (port_of s) (port_of near) s.way near.way (port_of far).received (port_of far).received there same (asked-way r near) refl h.goes;
             comes = moved (port_of far) (port_of far) far.way far.way (port_of s).received (port_of near).received back refl refl (ap (λ (p : Port). p.received) same) h.comes;
@@ -176,7 +149,7 @@ module _ (n201 : ℕ) where
         Carries n201 (with_octet q) (near.way ++ next_octet q ∷ []) (port_of far).received (if_meant o (as_station there near)).way
     unfolding line_answer takes_slot
     pulled-goes true =
-        let g = given_in (machine.answer (frames.at near.line line.next) near.card.card) in
+        let g = given_in (card_answer (frames.at near.line line.next) near.card.card) in
         let q : Port = record (port_of near) { items = (port_of near).items ++ item_of g ∷ [] } in
         subst (λ frames. Carries n201 (with_octet q) (near.way ++ next_octet q ∷ []) (port_of far).received (there ++ frames)) (frame-put g)
         (one-given n201 q near.way (port_of far).received (there ++ frames_among (item_of g ∷ []))
@@ -188,19 +161,19 @@ module _ (n201 : ℕ) where
     pulled-one : Acted (act_meant pulls w) (acting pulls w)
     unfolding answer meant
     pulled-one =
-        let s = happens port.pull near in
-        let x = if_meant (meaning port.pull near) (as_station there near) in
-        let after-it = port-after near port.pull inside in
+        let s = happens port_pull near in
+        let x = if_meant (meaning port_pull near) (as_station there near) in
+        let after-it = port-after near port_pull inside in
         record {
           there' = x.way;
           back' = back;
           follows = record {
-            near = goes-on c near port.pull tt h.near;
+            near = goes-on c near port_pull tt h.near;
             far = h.far;
             goes = subst (λ p. Carries n201 p s.way (port_of far).received x.way) (sym after-it) (pulled-goes (is_due (port_of near)));
             comes =
                 moved (port_of far) (port_of far) far.way far.way (port_of s).received (port_of near).received back refl refl
-                (ap (λ (p : Port). p.received) after-it ∙ same-received (said (at near.line port.pull) near.card) (port_of near)) h.comes;
+                (ap (λ (p : Port). p.received) after-it ∙ same-received (said (at near.line port_pull) near.card) (port_of near)) h.comes;
           };
           same = pulled-meant (is_due (port_of near)) ∙ ap with-near (sym (pulled-as near there));
         }
@@ -211,49 +184,45 @@ module _ (n201 : ℕ) where
     hearing way = record { near = with_first_of way near; far = record far { way = drop 1 way } }
 
     heard-none : far.way ≡ [] → Acted None (hearing [])
-    heard-none empty = record {
-      there' = there;
-      back' = back;
-      follows = record {
-        near = h.near;
-        far = on-way d far [] h.far;
-        goes = h.goes;
-        comes = subst (λ way. Carries n201 (port_of far) way (port_of near).received back) empty h.comes;
-      };
-      same = refl;
-    }
+    heard-none empty =
+        record {
+          there' = there;
+          back' = back;
+          follows = grind arith;
+          same = refl;
+        }
 
-    heard-one : (value : ℕ) (more : List ℕ) (o : Option stream.Event) → far.way ≡ value ∷ more → gained n201 (port_of near).received value ≡ o
+    heard-one : (value : ℕ) (more : List ℕ) (o : Option StreamEvent) → far.way ≡ value ∷ more → gained n201 (port_of near).received value ≡ o
         → Acted (cond (is_some o) (Some wire.takes) None) (hearing (value ∷ more))
     heard-one value more o is what = go o what
       where
         s : Termination
-        s = happens (port.octet value) near
+        s = happens (port_octet value) near
 
         after-it : port_of s ≡ record (port_of near) { received = (port_of near).received ++ value ∷ [] }
-        after-it = port-after near (port.octet value) inside
+        after-it = port-after near (port_octet value) inside
 
         ran : Ran c s
-        ran = goes-on c near (port.octet value) tt h.near
+        ran = goes-on c near (port_octet value) tt h.near
 
-        as-heard : (o : Option stream.Event) → gained n201 (port_of near).received value ≡ o → as_station there s ≡ if_meant (option_map line.hears o) (as_station there near)
+        as-heard : (o : Option StreamEvent) → gained n201 (port_of near).received value ≡ o → as_station there s ≡ if_meant (option_map line.hears o) (as_station there near)
         as-heard o e = grind (arith, heard-as, if_meant, option_map, as_station, n201-is)
 
         goes : Carries n201 (port_of s) s.way (port_of far).received there
         goes =
             moved (port_of s) (record (port_of near) { received = (port_of near).received ++ value ∷ [] }) s.way near.way (port_of far).received (port_of far).received there after-it (heard-way value near) refl
-            (with-received (port_of near) near.way (port_of far).received ((port_of near).received ++ value ∷ []) there h.goes)
+            (record { given = h.goes.given; are = h.goes.are; octets = h.goes.octets })
 
         comes : (frames : List (List ℕ)) → Carries n201 (port_of far) more ((port_of near).received ++ value ∷ []) frames → Carries n201 (port_of far) more (port_of s).received frames
         comes frames x = subst (λ received. Carries n201 (port_of far) more received frames) (sym (ap (λ (p : Port). p.received) after-it)) x
 
-        go : (o : Option stream.Event) → gained n201 (port_of near).received value ≡ o → Acted (cond (is_some o) (Some wire.takes) None) (hearing (value ∷ more))
+        go : (o : Option StreamEvent) → gained n201 (port_of near).received value ≡ o → Acted (cond (is_some o) (Some wire.takes) None) (hearing (value ∷ more))
         go None e = record {
           there' = there;
           back' = back;
           follows = record {
             near = ran;
-            far = on-way d far more h.far;
+            far = (record { within = h.far.within; events = h.far.events; at_lines = h.far.at_lines; is = h.far.is; exact = h.far.exact });
             goes = goes;
             comes = comes back (none-heard n201 (port_of far) far.way (port_of near).received back h.comes value more is e);
           };
@@ -263,24 +232,20 @@ module _ (n201 : ℕ) where
             let x =
             one-heard n201 (port_of far) far.way (port_of near).received back h.comes (subst (λ n. IsSoundPort n (port_of far)) fits_far.size (sound-port d fits_far.ranged far h.far))
             (on-line d fits_far.ranged far h.far) value more event is e in
-            let lost = λ (fs : List (List ℕ)). as_station (drop 1 fs) far in
             record {
               there' = there;
               back' = x.rest;
-              follows = record { near = ran; far = on-way d far more h.far; goes = goes; comes = comes x.rest x.carries };
+              follows = record { near = ran; far = (record { within = h.far.within; events = h.far.events; at_lines = h.far.at_lines; is = h.far.is; exact = h.far.exact }); goes = goes; comes = comes x.rest x.carries };
               same =
-                  ap (λ fs. with_ends (wire.with_first_of fs (as_station there near)) (lost fs)) x.frames_are
+                  ap (λ fs. with_ends (wire.with_first_of fs (as_station there near)) ((λ (fs : List (List ℕ)). as_station (drop 1 fs) far) fs)) x.frames_are
                   ∙ ap (λ e. with_ends (wire.happens (line.hears e) (as_station there near)) (as_station x.rest far)) (ap (λ n. came n x.first) n201-is ∙ x.whole ∙ sym x.event)
                   ∙ ap (λ s. with_ends s (as_station x.rest far)) (sym (as-heard (Some event) e));
             }
 
-    heard-first : (way : List ℕ) → far.way ≡ way → Acted (hearing_means way near) (hearing way)
-    heard-first way is = grind (arith, heard-none, is_some, n201-is, heard-one)
-
     pub one-act : (service : Service) (tei : ℕ) (act : OctetAct) → IsTalkOf service tei act → Acted (act_meant act w) (acting act w)
     one-act service tei (asks r) is = asked-one r (asked-octets service tei r is)
     one-act service tei pulls is = pulled-one
-    one-act service tei hears is = heard-first far.way refl
+    one-act service tei hears is = grind (arith, heard-none, is_some, n201-is, heard-one)
 
   -- ---- all that is done
 
@@ -290,7 +255,7 @@ module _ (n201 : ℕ) where
       pub back' : List (List ℕ)
       pub follows : Follows c d w' there' back'
       pub same : wire.doing_all ds (as_wire there back w) ≡ as_wire there' back' w'
-      pub talk : All (call.IsCall service tei) ds
+      pub talk : All (IsCall service tei) ds
 
     by-near : (o : Option wire.Act) (f : Wire) → wire.doing_all (option_to_list (option_map wire.at_near o)) f ≡ if_acted o f
     unfolding frames_done
@@ -303,7 +268,7 @@ module _ (n201 : ℕ) where
     pub one-done : (x : OctetDoing) → IsTalk service tei x → (w : Circuit) (there back : List (List ℕ)) → Follows c d w there back → Done (option_to_list (doing_meant x w)) w there back (doing x w)
     one-done (at_near act) is w there back h =
         let one = one-act c d fits fits_far w there back h service tei act is in
-        record { there' = one.there'; back' = one.back'; follows = one.follows; same = by-near (act_meant act w) (as_wire there back w) ∙ one.same; talk = near-of service tei (act_meant act w) (acts-talk service tei act w is) }
+        record { there' = one.there'; back' = one.back'; follows = one.follows; same = by-near (act_meant act w) (as_wire there back w) ∙ one.same; talk = grind arith }
     one-done (at_far act) is w there back h =
         let one = one-act d c fits_far fits (turned w) back there (other-way c d w there back h) service tei act is in
         record {
@@ -311,12 +276,12 @@ module _ (n201 : ℕ) where
           back' = one.there';
           follows = other-way d c (acting act (turned w)) one.there' one.back' one.follows;
           same = by-far (act_meant act (turned w)) (as_wire there back w) ∙ ap wire.turned one.same;
-          talk = far-of service tei (act_meant act (turned w)) (acts-talk service tei act (turned w) is);
+          talk = grind arith;
         }
 
     pub all-done : (ds : List OctetDoing) → All (IsTalk service tei) ds → (w : Circuit) (there back : List (List ℕ)) → Follows c d w there back → Done (doings_meant ds w) w there back (doing_all ds w)
     unfolding doing_all doings_meant frames_done
-    all-done [] all w there back h = record { there' = there; back' = back; follows = h; same = refl; talk = All-nil (call.IsCall service tei) }
+    all-done [] all w there back h = record { there' = there; back' = back; follows = h; same = refl; talk = All-nil (IsCall service tei) }
     all-done (x ∷ ds) all w there back h =
         let one = one-done x (All-head (IsTalk service tei) x ds all) w there back h in
         let rest = all-done ds (All-tail (IsTalk service tei) x ds all) (doing x w) one.there' one.back' one.follows in
@@ -327,5 +292,5 @@ module _ (n201 : ℕ) where
           back' = rest.back';
           follows = rest.follows;
           same = doing-append first others (as_wire there back w) ∙ ap (wire.doing_all others) one.same ∙ rest.same;
-          talk = All-append (call.IsCall service tei) first others one.talk rest.talk;
+          talk = All-append (IsCall service tei) first others one.talk rest.talk;
         }

@@ -1,21 +1,18 @@
 -- What a run keeps at one end of a circuit.
-use Rattle.laws_order.proofs.Vocabulary.{◌≡◌, ℕ, ◌<◌, ◌≤◌, ◌==◌, Bool, cond, List, [], ◌∷◌, ◌++◌, length, append_assoc, Option, None, Some, option_map, option_to_list, refl, sym, ap, ◌∙◌, subst, arith, append-nil, eq-eqb, All, All-append, All-cons, All-head, All-nil, AreOctets, Config, NextFrame, OctetCard, port_at, gained, is_due, left_of, longest_text, IsAtLine, AreAtLines, IsSoundPort, meant_at_lines, refined_card, on_its_way, heard_frames_are_octets, IsOnItsWay, pulls_are_takes, port_sound, config_stays, moments-append, all-right, contents_given, HasOctets, GivesOctets, seen, seen_told, trace, trace_of, frames_begun, frames-are-octets, IsInRange}
+use Rattle.laws_order.proofs.Vocabulary.{◌≡◌, ℕ, ◌<◌, ◌≤◌, ◌==◌, Bool, cond, List, [], ◌∷◌, ◌++◌, length, append_assoc, Option, None, Some, option_map, option_to_list, refl, sym, ap, ◌∙◌, subst, arith, append-nil, eq-eqb, All, All-append, All-cons, All-head, All-nil, AreOctets, Config, NextFrame, OctetCard, port_at, gained, is_due, left_of, longest_text, IsAtLine, AreAtLines, IsSoundPort, meant_at_lines, refined_card, on_its_way, heard_frames_are_octets, IsOnItsWay, pulls_are_takes, port_sound, config_stays, moments-append, all-right, contents_given, HasOctets, GivesOctets, seen, seen_told, trace, trace_of, frames_begun, frames-are-octets, IsInRange, StreamEvent, port_pull, port_request, PortEvent, port_octet, port_meant, port_expiry, card_answer}
 use Rattle.model_card.specs.ports.Reached.{IsReached}
 use Rattle.model_card.proofs.OfPorts.Reaching.{reached_after_all, reached_fresh, reached_sound}
 use Rattle.std.proofs.lemmas.Grind.{flat_map-append}
-use Rattle.model_bits.specs.Stream as stream
 use Rattle.model_line.specs.Event as line
 use Rattle.model_line.specs.Request as asked
 use Rattle.model_card.specs.Card as cards
 use Rattle.model_card.specs.Event as frames
-use Rattle.model_card.specs.Machine as machine
 use Rattle.model_card.specs.Run as runs
 unfoldable use Rattle.model_card.specs.Run.{moments as frame_moments}
 use Rattle.model_card.specs.ports.Card.{fresh}
 unfoldable use Rattle.model_card.specs.ports.Card.{after, meant}
 use Rattle.model_card.specs.ports.Event.{Event, at}
 use Rattle.model_card.specs.ports.HeardOctets as ports
-use Rattle.model_card.specs.ports.Port as port
 unfoldable use Rattle.model_card.specs.ports.Run.{after_all, meant_all}
 use Rattle.model_card.specs.ports.Sound.{IsSound}
 use Rattle.laws_trace.specs.Trace as traces
@@ -42,8 +39,8 @@ trace-more c fs gs number = grind (arith, moments-append, flat_map-append)
 -- ---- what is seen are octets
 
 -- What layer 3 asks to send are octets; and what a line hears, too.
-abbrev pub AsksOctets : port.Event → Type 0
-AsksOctets (port.request r) = AreOctets (contents_given r)
+abbrev pub AsksOctets : PortEvent → Type 0
+AsksOctets (port_request r) = AreOctets (contents_given r)
 AsksOctets other = Unit {0}
 
 abbrev IsExact : line.Event → Type 0
@@ -51,37 +48,23 @@ IsExact (line.hears e) = HasOctets e
 IsExact (line.request r) = AreOctets (contents_given r)
 IsExact other = Unit {0}
 
-same-octets : (e : stream.Event) → ports.HasOctets e → HasOctets e
+same-octets : (e : StreamEvent) → ports.HasOctets e → HasOctets e
 same-octets e h = grind arith
 
-heard-exact : (number : ℕ) (o : Option stream.Event) → All (λ (e : frames.Event). ports.HearsOctets e.what) (option_to_list (option_map (frames.at number) (option_map line.hears o)) ++ [])
+heard-exact : (number : ℕ) (o : Option StreamEvent) → All (λ (e : frames.Event). ports.HearsOctets e.what) (option_to_list (option_map (frames.at number) (option_map line.hears o)) ++ [])
     → All IsExact (option_to_list (option_map line.hears o))
 heard-exact number None h = All-nil IsExact
 heard-exact number (Some e) h =
     All-cons IsExact (line.hears e) [] (same-octets e (All-head (λ (e : frames.Event). ports.HearsOctets e.what) (frames.at number (line.hears e)) [] h)) (All-nil IsExact)
 
-next-exact : (due : Bool) → All IsExact (option_to_list (cond due (Some line.next) None))
-next-exact due = grind arith
-
-meaning-exact : (m : OctetCard) (number : ℕ) (what : port.Event) → AsksOctets what → All IsExact (option_to_list (port.meant m.card.config.n201 what (port_at number m)))
+meaning-exact : (m : OctetCard) (number : ℕ) (what : PortEvent) → AsksOctets what → All IsExact (option_to_list (port_meant m.card.config.n201 what (port_at number m)))
 unfolding meant meant_all
-meaning-exact m number (port.octet value) h =
-    heard-exact number (gained m.card.config.n201 (port_at number m).received value) (heard_frames_are_octets m (at number (port.octet value) ∷ []))
-meaning-exact m number (port.expiry timer) h = All-cons IsExact (line.expiry timer) [] tt (All-nil IsExact)
-meaning-exact m number (port.request r) h = All-cons IsExact (line.request r) [] h (All-nil IsExact)
-meaning-exact m number port.pull h = next-exact (is_due (port_at number m))
-
-told-exact : (a : line.Answer) → All GivesOctets (seen_told a)
-told-exact a = grind arith
-
-granted-exact : (r : asked.Request) (a : line.Answer) → AreOctets (contents_given r) → All GivesOctets (traces.seen_granted r a)
-granted-exact r a h = grind arith
-
-begun-exact : (a : line.Answer) → All GivesOctets (seen line.next a)
-begun-exact a = grind arith
+meaning-exact m number (port_octet value) h =
+    heard-exact number (gained m.card.config.n201 (port_at number m).received value) (heard_frames_are_octets m (at number (port_octet value) ∷ []))
+meaning-exact m number what h = grind arith
 
 seen-exact : (f : line.Event) (a : line.Answer) → IsExact f → All GivesOctets (seen f a)
-seen-exact f a h = grind (arith, told-exact, granted-exact, begun-exact)
+seen-exact f a h = grind arith
 
 moment-exact : (card : cards.Card) (number : ℕ) (o : Option line.Event) → All IsExact (option_to_list o)
     → All GivesOctets (trace number (runs.moments card (option_to_list (option_map (frames.at number) o))))
@@ -89,7 +72,7 @@ unfolding frame_moments
 moment-exact card number None h = All-nil GivesOctets
 moment-exact card number (Some f) h = go (number == number)
   where
-    go : (b : Bool) → All GivesOctets (cond b (seen f (machine.answer (frames.at number f) card)) [] ++ [])
+    go : (b : Bool) → All GivesOctets (cond b (seen f (card_answer (frames.at number f) card)) [] ++ [])
     go b = grind (arith, append-nil, seen-exact)
 
 -- ---- an end that came about by events at lines of a card that had just begun, and octets alone were asked to be sent there
@@ -101,7 +84,7 @@ pub record Ran (c : Config) (s : Termination) : Type 0 where
   pub is : s.card ≡ after_all (fresh c) events
   pub exact : All GivesOctets (trace_of c (meant_all (fresh c) events) s.line)
 
-pub goes-on : (c : Config) (s : Termination) (what : port.Event) → AsksOctets what → Ran c s → Ran c (happens what s)
+pub goes-on : (c : Config) (s : Termination) (what : PortEvent) → AsksOctets what → Ran c s → Ran c (happens what s)
 unfolding meant
 goes-on c s what asks h =
     let m = after_all (fresh c) h.events in
@@ -110,7 +93,7 @@ goes-on c s what asks h =
     let card : m.card ≡ runs.after_all (cards.fresh c) fs = refined_card (fresh c) h.events in
     let new : All GivesOctets (trace s.line (runs.moments (runs.after_all (cards.fresh c) fs) (option_to_list (meant e m)))) =
     subst (λ x. All GivesOctets (trace s.line (runs.moments x (option_to_list (meant e m))))) card
-    (moment-exact m.card s.line (port.meant m.card.config.n201 what (port_at s.line m)) (meaning-exact m s.line what asks)) in
+    (moment-exact m.card s.line (port_meant m.card.config.n201 what (port_at s.line m)) (meaning-exact m s.line what asks)) in
     record {
       within = h.within;
       events = h.events ++ e ∷ [];
@@ -121,10 +104,6 @@ goes-on c s what asks h =
           (subst (All GivesOctets) (sym (trace-more c fs (option_to_list (meant e m)) s.line))
           (All-append GivesOctets (trace_of c fs s.line) (trace s.line (runs.moments (runs.after_all (cards.fresh c) fs) (option_to_list (meant e m)))) h.exact new));
     }
-
--- an octet that has gone or is heard on its way changes nothing
-pub on-way : (c : Config) (s : Termination) (way : List ℕ) → Ran c s → Ran c (record s { way = way })
-on-way c s way h = record { within = h.within; events = h.events; at_lines = h.at_lines; is = h.is; exact = h.exact }
 
 module _ (c : Config) (ranged : IsInRange c) (s : Termination) (h : Ran c s) where
   pub config : s.card.card.config ≡ c
@@ -149,7 +128,7 @@ module _ (c : Config) (ranged : IsInRange c) (s : Termination) (h : Ran c s) whe
   few-left = subst (λ (m : OctetCard). length (left_of (port_at s.line m)) ≤ longest_text c.n201) (sym h.is) (pulls_are_takes.left c h.events s.line ranged h.at_lines h.within)
 
   -- the next frame consists of octets
-  pub gives-octets : (f : NextFrame) → machine.answer (frames.at s.line line.next) s.card.card ≡ line.gave (Some f) → AreOctets f.octets
+  pub gives-octets : (f : NextFrame) → card_answer (frames.at s.line line.next) s.card.card ≡ line.gave (Some f) → AreOctets f.octets
   unfolding frame_moments
   gives-octets f gives =
       let number = s.line in
@@ -170,6 +149,6 @@ module _ (c : Config) (ranged : IsInRange c) (s : Termination) (h : Ran c s) whe
       (all-right AreOctets (frames_begun (trace_of c fs number)) (frames_begun (trace number (runs.moments (runs.after_all (cards.fresh c) fs) (call ∷ []))))
       (subst (All AreOctets) (ap frames_begun (trace-more c fs (call ∷ []) number)
       ∙ flat_map-append traces.frame_begun (trace_of c fs number) (trace number (runs.moments (runs.after_all (cards.fresh c) fs) (call ∷ [])))) all)) in
-      let seen-then : All AreOctets (frames_begun (seen line.next (machine.answer call s.card.card) ++ [])) =
-      subst (λ b. All AreOctets (frames_begun (cond b (seen line.next (machine.answer call s.card.card)) [] ++ []))) (eq-eqb number number refl) last in
+      let seen-then : All AreOctets (frames_begun (seen line.next (card_answer call s.card.card) ++ [])) =
+      subst (λ b. All AreOctets (frames_begun (cond b (seen line.next (card_answer call s.card.card)) [] ++ []))) (eq-eqb number number refl) last in
       All-head AreOctets f.octets [] (subst (λ a. All AreOctets (frames_begun (seen line.next a ++ []))) gives seen-then)

@@ -1,7 +1,5 @@
 -- Two cards that face each other as a call leaves them are at rest.
-use Rattle.laws_order.proofs.Vocabulary.{◌≡◌, ◌∙◌, ℕ, List, [], map, sym, ap, subst, arith, All, Service, frame_of, is_multiple_frame, Config, terms, CanCall, Face, Speaks, Station, IsStill, calls-face, Wire, length, drop, length-drop, ◌-◌, said_by, AreOfStep, IsInStep, FaceInStep, Circuit, OctetDoing, IsTalk, HasAllGone}
-use Rattle.model_line.specs.Line.{window}
-use Rattle.laws_order.specs.circuit.Resting.{AreSilent, FaceAtRest, CallsComeToRest}
+use Rattle.laws_order.proofs.Vocabulary.{◌≡◌, ◌∙◌, ℕ, List, [], map, sym, ap, subst, arith, All, Service, frame_of, is_multiple_frame, Config, terms, CanCall, Face, Speaks, Station, IsStill, calls-face, Wire, length, drop, length-drop, ◌-◌, said_by, AreOfStep, IsInStep, FaceInStep, Circuit, OctetDoing, IsTalk, HasAllGone, window, AreSilent, FaceAtRest, CallsComeToRest}
 use Rattle.laws_order.proofs.Beginning.{within-window, Pasts, past-same, past-all, past-calling, link_known, up-here, from-links}
 use Rattle.laws_order.proofs.Pairs.{link_here}
 use Rattle.laws_wire.proofs.Delivering.{is-established, is-sound, is-quiet}
@@ -17,13 +15,12 @@ rests : (service : Service) (tei : ℕ) (s u : Station) → Speaks service tei s
 rests service tei s u h k none =
     let l = link_here service tei s in
     let its = is-sound service tei s u h in
-    let others = is-sound service tei u s k in
     let all : (link_here service tei u).r ≡ l.s = h.received in
     let got : l.r ≡ (link_here service tei u).s = k.received in
     let few : length (drop l.a l.contents) ≡ length l.contents - l.a = length-drop l.a l.contents in
     record {
       up = up-here service tei (rested s) ∙ ap is_multiple_frame (is-established service tei s u h);
-      said = subst (AreOfStep (window s.card.config service) (link_known service tei s) (link_here service tei u).a) (sym none) (omega (arith, got, others.ordered));
+      said = subst (AreOfStep (window s.card.config service) (link_known service tei s) (link_here service tei u).a) (sym none) (omega (arith, got, (is-sound service tei u s k).ordered));
       kept =
           within-window (link_here service tei u).r l.a (window s.card.config service) (drop l.a l.contents) (omega (arith, all, few, its.ordered, its.accepted))
           (omega (arith, all, its.within));
@@ -49,14 +46,11 @@ module _ (service : Service) (c d : Config) (line other tei : ℕ) (ds : List Oc
       subst Pasts (through.led service c d line other tei ds can talk)
       (past-all (doings_meant ds (through.begun service c d line other tei ds can talk)) _ (past-calling service tei c line d other can.near.0 can.near.1 can.far.0 can.far.1))
 
-  none-said : (s : Station) → (link_here service tei s).waiting ≡ [] → said_by service tei (rested s) (link_known service tei (rested s)) ≡ []
-  none-said s waiting = ap (map (frame_of (terms s.card.config service tei))) waiting
-
   at-rest : Face service tei there → FaceAtRest service tei (record { near = rested there.near; far = rested there.far })
   at-rest h =
       let w : Wire = record { near = rested there.near; far = rested there.far } in
-      let near = none-said there.near (is-quiet service tei there.near there.far h.0) in
-      let far = none-said there.far (is-quiet service tei there.far there.near h.1) in
+      let near = (ap (map (frame_of (terms there.near.card.config service tei))) (is-quiet service tei there.near there.far h.0)) in
+      let far = (ap (map (frame_of (terms there.far.card.config service tei))) (is-quiet service tei there.far there.near h.1)) in
       let p = past-same there.near [] [] [] pasts.near in
       let q = past-same there.far [] [] [] pasts.far in
       let up = ap is_multiple_frame (is-established service tei there.near there.far h.0) in

@@ -1,27 +1,25 @@
 -- How often a frame is taken: at most half as often as there are turns, since each was given first.
-use Rattle.laws_order.proofs.Vocabulary.{◌≡◌, ℕ, ◌+◌, ◌*◌, ◌≤◌, Bool, false, List, [], ◌∷◌, ◌++◌, length, drop, arith, length-append, All, if◌then◌else◌, All-head, All-tail, Service, Answer, Station, Wire, Act, Doing, frames_by, is_any, asks-way, takes-way, All-cons, All-nil, IsTalkOf, IsTalk}
-use Rattle.laws_wire.specs.Call as call
-use Rattle.laws_wire.specs.Wire as wire
+use Rattle.laws_order.proofs.Vocabulary.{◌≡◌, ℕ, ◌+◌, ◌*◌, ◌≤◌, Bool, false, List, [], ◌∷◌, ◌++◌, length, drop, arith, length-append, All, if◌then◌else◌, All-head, All-tail, Service, Answer, Station, Wire, Act, Doing, frames_by, is_any, asks-way, takes-way, All-cons, All-nil, IsTalkOf, IsTalk, wire_with_first_of, wire_acting, wire_at_near, wire_is_turn, turned, wire_doing, wire_is_turn_of, wire_doing_all, wire_turns, wire_at_far, takes, IsCall, IsCallOf}
 unfoldable use Rattle.laws_wire.specs.Wire.{doing_all, turns}
 use Rattle.laws_order.specs.circuit.Circuit.{OctetAct, asks, pulls, hears, OctetDoing, at_near, at_far}
 
 abbrev pub is_taking_of : Act → Wire → Bool
-is_taking_of wire.takes f = is_any f.far.way
+is_taking_of takes f = is_any f.far.way
 is_taking_of other f = false
 
 abbrev pub is_taking : Doing → Wire → Bool
-is_taking (wire.at_near act) f = is_taking_of act f
-is_taking (wire.at_far act) f = is_taking_of act (wire.turned f)
+is_taking (wire_at_near act) f = is_taking_of act f
+is_taking (wire_at_far act) f = is_taking_of act (turned f)
 
 unfoldable pub takings : List Doing → Wire → ℕ
 takings [] f = 0
-takings (d ∷ ds) f = (if is_taking d f then 1 else 0) + takings ds (wire.doing d f)
+takings (d ∷ ds) f = (if is_taking d f then 1 else 0) + takings ds (wire_doing d f)
 
-pub takings-append : (ds es : List Doing) (f : Wire) → takings (ds ++ es) f ≡ takings ds f + takings es (wire.doing_all ds f)
+pub takings-append : (ds es : List Doing) (f : Wire) → takings (ds ++ es) f ≡ takings ds f + takings es (wire_doing_all ds f)
 unfolding takings doing_all
 takings-append [] es f = omega arith
 takings-append (d ∷ ds) es f =
-    let rest : takings (ds ++ es) (wire.doing d f) ≡ takings ds (wire.doing d f) + takings es (wire.doing_all ds (wire.doing d f)) = takings-append ds es (wire.doing d f) in
+    let rest : takings (ds ++ es) (wire_doing d f) ≡ takings ds (wire_doing d f) + takings es (wire_doing_all ds (wire_doing d f)) = takings-append ds es (wire_doing d f) in
     omega (arith, rest)
 
 -- ---- each frame that is taken was given
@@ -32,36 +30,30 @@ on_ways f = length f.near.way + length f.far.way
 record Paid (taking turn : Bool) (before after : ℕ) : Type 0 where
   paid : 2 * (if taking then 1 else 0) + after ≤ (if turn then 1 else 0) + before
 
-one-frame : (a : Answer) → length (frames_by a) ≤ (if is_any (frames_by a) then 1 else 0)
-one-frame a = grind arith
-
-first-way : (way : List (List ℕ)) (s : Station) → (wire.with_first_of way s).way ≡ s.way
+first-way : (way : List (List ℕ)) (s : Station) → (wire_with_first_of way s).way ≡ s.way
 first-way way s = grind (arith, takes-way)
 
 one-less : (way : List (List ℕ)) → 2 * (if is_any way then 1 else 0) + length (drop 1 way) ≤ (if is_any way then 1 else 0) + length way
 one-less way = grind arith
 
 module _ (service : Service) (tei : ℕ) where
-  act-paid : (act : Act) → call.IsCallOf service tei act → (f : Wire) → Paid (is_taking_of act f) (wire.is_turn_of act f) (on_ways f) (on_ways (wire.acting act f))
-  act-paid act is f = grind (arith, asks-way, length-append, one-frame, first-way, one-less)
-
   swapped : (t k x y x' y' : ℕ) → 2 * t + (y' + x') ≤ k + (y + x) → 2 * t + (x' + y') ≤ k + (x + y)
   swapped t k x y x' y' h = omega (arith, h)
 
-  one-paid : (d : Doing) → call.IsCall service tei d → (f : Wire) → Paid (is_taking d f) (wire.is_turn d f) (on_ways f) (on_ways (wire.doing d f))
-  one-paid d is f = grind (arith, act-paid, swapped)
+  one-paid : (d : Doing) → IsCall service tei d → (f : Wire) → Paid (is_taking d f) (wire_is_turn d f) (on_ways f) (on_ways (wire_doing d f))
+  one-paid d is f = grind (arith, asks-way, length-append, first-way, one-less, swapped)
 
   joined : (t t' k k' a b c : ℕ) → 2 * t + b ≤ k + a → 2 * t' + c ≤ k' + b → 2 * (t + t') + c ≤ (k + k') + a
   joined t t' k k' a b c h h' = omega (arith, h, h')
 
-  pub all-paid : (ds : List Doing) → All (call.IsCall service tei) ds → (f : Wire) → 2 * takings ds f + on_ways (wire.doing_all ds f) ≤ wire.turns ds f + on_ways f
+  pub all-paid : (ds : List Doing) → All (IsCall service tei) ds → (f : Wire) → 2 * takings ds f + on_ways (wire_doing_all ds f) ≤ wire_turns ds f + on_ways f
   unfolding takings doing_all turns
   all-paid [] all f = omega arith
   all-paid (d ∷ ds) all f =
-      let g = wire.doing d f in
-      let one = one-paid d (All-head (call.IsCall service tei) d ds all) f in
-      joined (if is_taking d f then 1 else 0) (takings ds g) (if wire.is_turn d f then 1 else 0) (wire.turns ds g) (on_ways f) (on_ways g) (on_ways (wire.doing_all ds g)) one.paid
-      (all-paid ds (All-tail (call.IsCall service tei) d ds all) g)
+      let g = wire_doing d f in
+      let one = one-paid d (All-head (IsCall service tei) d ds all) f in
+      joined (if is_taking d f then 1 else 0) (takings ds g) (if wire_is_turn d f then 1 else 0) (wire_turns ds g) (on_ways f) (on_ways g) (on_ways (wire_doing_all ds g)) one.paid
+      (all-paid ds (All-tail (IsCall service tei) d ds all) g)
 
 -- Pulls and hearings alone: how often each is done at either end, and that they are what is done in a call.
 
@@ -92,11 +84,8 @@ count_far one [] = 0
 count_far one (at_near act ∷ ds) = count_far one ds
 count_far one (at_far act ∷ ds) = one act + count_far one ds
 
-mute-talk-of : (service : Service) (tei : ℕ) (act : OctetAct) → IsMuteOf act → IsTalkOf service tei act
-mute-talk-of service tei act h = grind arith
-
 pub mute-talk : (service : Service) (tei : ℕ) (x : OctetDoing) → IsMute x → IsTalk service tei x
-mute-talk service tei x h = grind (arith, mute-talk-of)
+mute-talk service tei x h = grind arith
 
 pub all-talk : (service : Service) (tei : ℕ) (ds : List OctetDoing) → All IsMute ds → All (IsTalk service tei) ds
 all-talk service tei [] all = All-nil (IsTalk service tei)

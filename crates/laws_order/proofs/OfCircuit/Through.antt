@@ -1,10 +1,7 @@
 -- A call by octets is a call of frames.
-use Rattle.laws_order.proofs.Vocabulary.{arith, ◌≡◌, ℕ, ◌<◌, List, [], ◌∷◌, ◌++◌, refl, sym, ap, ◌∙◌, subst, append-nil, All, append_cancel_left, All-nil, Service, Item, idle, heard_in, AreOctets, Config, Assign, frames_among, Port, fresh_port, IsAtLine, IsSoundPort, fresh_at, GivesOctets, CanCall, Wire, IsStill, calls-come-through, IsInRange, Bool, false, ◌||◌, cond, Option, None, Some, is_some, option_map, option_to_list, All-head, All-tail, is_due, Request}
-use Rattle.model_line.specs.Event as line_event
-use Rattle.model_line.specs.Request.{Request, Establish}
+use Rattle.laws_order.proofs.Vocabulary.{arith, ◌≡◌, ℕ, ◌<◌, List, [], ◌∷◌, ◌++◌, refl, sym, ap, ◌∙◌, subst, append-nil, All, append_cancel_left, All-nil, Service, Item, idle, heard_in, AreOctets, Config, Assign, frames_among, Port, fresh_port, IsAtLine, IsSoundPort, fresh_at, GivesOctets, CanCall, Wire, IsStill, calls-come-through, IsInRange, Bool, false, ◌||◌, cond, Option, None, Some, is_some, option_map, option_to_list, All-head, All-tail, is_due, Request, request, port_request, Establish, or-both}
 unfoldable use Rattle.model_card.specs.Run.{moments as frame_moments}
 use Rattle.model_card.specs.ports.Card.{fresh}
-use Rattle.model_card.specs.ports.Port as port
 unfoldable use Rattle.model_card.specs.ports.Run.{after_all, meant_all}
 use Rattle.laws_wire.specs.Call as call
 use Rattle.laws_wire.specs.Wire as wire
@@ -23,12 +20,11 @@ unfoldable use Rattle.laws_order.specs.circuit.Through.{both_call}
 use Rattle.laws_order.proofs.OfCircuit.AsFrames.{granted-as}
 use Rattle.laws_order.proofs.OfCircuit.Projected.{as_wire, hearing_means, act_meant, doing_meant, Fits, Follows, one-done}
 unfoldable use Rattle.laws_order.proofs.OfCircuit.Projected.{doings_meant}
-use Rattle.laws_wire.proofs.Run.{or-both}
 
 pub or-none : (b : Bool) → (b || false) ≡ b
 or-none b = grind arith
 
-none-far : (r : Request) (w : Circuit) (f : Wire) → is_granted (answered (port.request r) w.far) ≡ share.is_granted (wire.answered (line_event.request r) f.far) → call.calls_back (wire.at_far (wire.requests r)) f ≡ calls_back (at_far (asks r)) w
+none-far : (r : Request) (w : Circuit) (f : Wire) → is_granted (answered (port_request r) w.far) ≡ share.is_granted (wire.answered (request r) f.far) → call.calls_back (wire.at_far (wire.requests r)) f ≡ calls_back (at_far (asks r)) w
 none-far r w f same = grind arith
 
 one-near : (o : Option wire.Act) (f : Wire) → call.both_call (option_to_list (option_map wire.at_near o)) f ≡ false
@@ -78,14 +74,11 @@ unfolding after_all meant_all frame_moments
 ran-fresh c number within = record { within = within; events = []; at_lines = All-nil (IsAtLine (fresh c)); is = refl; exact = All-nil GivesOctets }
 
 ran-assigned : (c : Config) (number tei : ℕ) → number < c.lines → Ran c (assigned c number tei)
-ran-assigned c number tei within = goes-on c (termination c number) (port.request (Assign tei)) (All-nil (λ octet. octet < 256)) (ran-fresh c number within)
+ran-assigned c number tei within = goes-on c (termination c number) (port_request (Assign tei)) (All-nil (λ octet. octet < 256)) (ran-fresh c number within)
 
-ran-asked : (service : Service) (c : Config) (number tei : ℕ) → number < c.lines → Ran c (happens (port.request (Establish service tei)) (assigned c number tei))
+ran-asked : (service : Service) (c : Config) (number tei : ℕ) → number < c.lines → Ran c (happens (port_request (Establish service tei)) (assigned c number tei))
 ran-asked service c number tei within =
-    goes-on c (assigned c number tei) (port.request (Establish service tei)) (All-nil (λ octet. octet < 256)) (ran-assigned c number tei within)
-
-carries-none : (n201 : ℕ) → Carries n201 fresh_port [] [] []
-carries-none n201 = record { given = refl; are = refl; octets = All-nil AreOctets }
+    goes-on c (assigned c number tei) (port_request (Establish service tei)) (All-nil (λ octet. octet < 256)) (ran-assigned c number tei within)
 
 -- the port of an end at which only requests were made
 record IsUnused (s : Termination) : Type 0 where
@@ -93,19 +86,16 @@ record IsUnused (s : Termination) : Type 0 where
   way : s.way ≡ []
 
 module _ (c : Config) (ranged : IsInRange c) where
-  still-unused : (s : Termination) (r : Request) → Ran c s → IsUnused s → IsUnused (happens (port.request r) s)
-  still-unused s r ran h = record { port = port-after s (port.request r) (within-ports c ranged s ran) ∙ h.port; way = asked-way r s ∙ h.way }
+  still-unused : (s : Termination) (r : Request) → Ran c s → IsUnused s → IsUnused (happens (port_request r) s)
+  still-unused s r ran h = record { port = port-after s (port_request r) (within-ports c ranged s ran) ∙ h.port; way = asked-way r s ∙ h.way }
 
   unused-assigned : (number tei : ℕ) → number < c.lines → IsUnused (assigned c number tei)
   unused-assigned number tei within =
       still-unused (termination c number) (Assign tei) (ran-fresh c number within) (record { port = fresh_at c number within; way = refl })
 
-  unused-asked : (service : Service) (number tei : ℕ) → number < c.lines → IsUnused (happens (port.request (Establish service tei)) (assigned c number tei))
+  unused-asked : (service : Service) (number tei : ℕ) → number < c.lines → IsUnused (happens (port_request (Establish service tei)) (assigned c number tei))
   unused-asked service number tei within =
       still-unused (assigned c number tei) (Establish service tei) (ran-assigned c number tei within) (unused-assigned number tei within)
-
-carries-unused : (n201 : ℕ) (s r : Termination) → IsUnused s → IsUnused r → Carries n201 (port_of s) s.way (port_of r).received []
-carries-unused n201 s r h k = grind (arith, Carries, carries-none)
 
 -- ---- where all has gone no frame is on its way
 
@@ -122,9 +112,6 @@ module _ (n201 : ℕ) (c : Config) (fits : Fits n201 c) (s : Termination) (ran :
   pub flag-ends : (front : List Item) → (port_of s).items ≡ front ++ idle ∷ [] → framed (frames_among (port_of s).items) ≡ heard_in n201 (port_of s).given
   flag-ends front is =
       all-given n201 (port_of s) s.way received frames h (subst (λ n. IsSoundPort n (port_of s)) fits.size (sound-port c fits.ranged s ran)) (on-line c fits.ranged s ran) front is
-
-  gone-way : HasGone s → frames ≡ []
-  gone-way gone = grind (arith, append-nil, all-heard, flag-ends)
 
 -- ---- a call
 
@@ -145,7 +132,7 @@ module _ (service : Service) (c d : Config) (line other tei : ℕ) (ds : List Oc
   last = doing_all ds begun
 
   follows : Follows size c d begun [] []
-  follows = grind (arith, unused-asked, unused-assigned, ran-asked, ran-assigned, carries-unused)
+  follows = grind (arith, unused-asked, unused-assigned, ran-asked, ran-assigned)
 
   pub done : Done size service tei c d fits fits-far (doings_meant ds begun) begun [] [] last
   done = all-done size service tei c d fits fits-far ds talk begun [] [] follows
@@ -156,7 +143,7 @@ module _ (service : Service) (c d : Config) (line other tei : ℕ) (ds : List Oc
   begins : as_wire [] [] begun ≡ wire_begun
   begins =
       let near =
-      asked-as (Establish service tei) (assigned c line tei) [] ∙ ap (wire.happens (line_event.request (Establish service tei))) (asked-as (Assign tei) (termination c line) []) in
+      asked-as (Establish service tei) (assigned c line tei) [] ∙ ap (wire.happens (request (Establish service tei))) (asked-as (Assign tei) (termination c line) []) in
       let far = asked-as (Assign tei) (termination d other) [] in
       λ i. record { near = near i; far = far i }
 
@@ -178,8 +165,8 @@ module _ (service : Service) (c d : Config) (line other tei : ℕ) (ds : List Oc
       record {
         near = gone.0.none;
         far = gone.1.none;
-        near_way = gone-way size c fits last.near f.near (port_of last.far).received done.there' f.goes gone.0;
-        far_way = gone-way size d fits-far last.far f.far (port_of last.near).received done.back' f.comes gone.1;
+        near_way = grind (arith, append-nil, all-heard, flag-ends);
+        far_way = grind (arith, append-nil, all-heard, flag-ends);
       }
 
   comes-through : ComesThrough service tei (both_call ds begun) last

@@ -1,5 +1,5 @@
 -- As octets a frame that the grammar has is one that it has, with the same address and control field.
-use Rattle.laws_trace.proofs.Vocabulary.{◌≡◌, ℕ, ◌%◌, ◌<◌, cond, List, [], ◌∷◌, ◌++◌, map, refl, sym, ap, ◌∙◌, arith, All, filter, map-append, All-head, All-tail, Address, Side, Parts, Spells, spelling, reading-again, Config, head, as_octets, Control, head_of, IsSpelled, is_unit}
+use Rattle.laws_trace.proofs.Vocabulary.{◌≡◌, ℕ, ◌%◌, ◌<◌, cond, List, [], ◌∷◌, ◌++◌, map, refl, sym, ap, ◌∙◌, arith, All, filter, map-append, All-head, All-tail, Address, Side, Parts, spelling, reading-again, Config, head, as_octets, Control, head_of, IsSpelled, is_unit}
 use Rattle.model_card.proofs.OfPorts.AsOctets.{as_many, exact}
 use Rattle.laws_trace.proofs.Reading.{carries_unit}
 

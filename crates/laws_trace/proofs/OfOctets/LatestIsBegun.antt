@@ -1,8 +1,7 @@
 -- A card of octets tells the frame that a pull of a line began last: the law.
-use Rattle.laws_trace.proofs.Vocabulary.{◌≡◌, ℕ, ◌<◌, List, [], ◌∷◌, ◌++◌, length, refl, ap, ◌∙◌, arith, fold, length-replicate, latest_frame, or_later, Item, idle, frames_among, OfEachLine, Port, fresh_port, run_goes_on, fresh_at, ports_fresh as fresh}
-use Rattle.model_bits.specs.Heads.{head_of}
+use Rattle.laws_trace.proofs.Vocabulary.{◌≡◌, ℕ, ◌<◌, List, [], ◌∷◌, length, refl, arith, fold, length-replicate, or_later, Item, idle, frames_among, OfEachLine, fresh_port, run_goes_on, fresh_at, ports_fresh as fresh}
 use Rattle.model_bits.specs.Sent.{frame}
-use Rattle.laws_trace.specs.octets.LatestIsBegun.{later_of, last_among, LatestIsBegun}
+use Rattle.laws_trace.specs.octets.LatestIsBegun.{later_of, LatestIsBegun}
 
 -- idle flags apart
 of_frames : (latest : List ℕ) (items : List Item) → fold or_later latest items ≡ fold later_of latest (frames_among items)

@@ -1,9 +1,7 @@
 -- Unit data between times at which a line is down: what begins are fronts of what is granted, one behind the other.
-use Rattle.laws_trace.proofs.Vocabulary.{arith, ◌≡◌, ℕ, Bool, true, false, cond, List, [], ◌∷◌, ◌++◌, map, refl, sym, ap, ◌∙◌, subst, append_assoc, append-nil, filter-append, flat_map-append, map-append, fold, Config, as_octets, Seen, IsFront, is_down, is_unit, Asked, with_request, AreFronts}
-use Rattle.laws_trace.specs.Trace as traces
-use Rattle.laws_trace.specs.Units.{unit_asked}
+use Rattle.laws_trace.proofs.Vocabulary.{arith, ◌≡◌, ℕ, List, [], ◌∷◌, ◌++◌, map, refl, sym, ap, ◌∙◌, subst, append_assoc, append-nil, filter-append, flat_map-append, map-append, fold, Config, as_octets, Seen, IsFront, Asked, with_request, AreFronts}
 use Rattle.laws_trace.proofs.OfOctets.Seen.{requests_seen}
-use Rattle.laws_trace.proofs.Units.{units_begun, Begun, Step, Goes}
+use Rattle.laws_trace.proofs.Units.{units_begun, Step, Goes}
 
 pub more_fronts : (xs ys : List (List ℕ)) (wholes : List (List (List ℕ))) (whole : List (List ℕ)) → AreFronts xs wholes → IsFront ys whole → AreFronts (xs ++ ys) (wholes ++ whole ∷ [])
 more_fronts xs ys [] whole none is = subst (λ xs. AreFronts (xs ++ ys) (whole ∷ [])) (sym none) ((ys, [], sym (append-nil ys), is, refl))

@@ -6,6 +6,7 @@ ghost use Rattle.lapd_link_steps.specs.Does.{Does};
 
 use crate::entity::Entity;
 use crate::report::{ALL, BareReport};
+use lapd_frame::Note;
 use lapd_seq::{Seq, Window};
 use model_link::{State, Terms};
 
@@ -17,11 +18,9 @@ impl Entity {
         ensures does { (info : List ℕ) → Does terms.now info (released_by_state terms.now) self.old told.old self.new told.new }
     {
         match self.state {
-            State::TeiAssigned => told.release_confirm(terms),
-            State::AwaitingEstablishment => {}
-            State::AwaitingRelease => {}
-            State::Established => self.release_in_7_8(terms, told),
-            State::TimerRecovery => self.release_in_7_8(terms, told),
+            State::TeiAssigned => told.note(Note::ReleaseConfirm(terms.service, terms.tei)),
+            State::AwaitingEstablishment | State::AwaitingRelease => {}
+            State::Established | State::TimerRecovery => self.release_in_7_8(terms, told),
         }
     }
 
@@ -43,10 +42,10 @@ impl Entity {
     {
         match self.state {
             State::TeiAssigned => {}
-            State::AwaitingEstablishment => told.release_indication(terms),
-            State::AwaitingRelease => told.release_confirm(terms),
-            State::Established => told.release_indication(terms),
-            State::TimerRecovery => told.release_indication(terms),
+            State::AwaitingRelease => told.note(Note::ReleaseConfirm(terms.service, terms.tei)),
+            State::AwaitingEstablishment | State::Established | State::TimerRecovery => {
+                told.note(Note::ReleaseIndication(terms.service, terms.tei));
+            }
         }
     }
 

@@ -78,7 +78,7 @@ impl Entity {
     {
         let ready = self.ready_to_receive(true);
         self.command(terms, told, ready);
-        self.pending_is(false);
+        self.pending = false;
     }
 
     // Answers a command with P.
@@ -90,7 +90,7 @@ impl Entity {
     {
         let ready = self.ready_to_receive(true);
         self.response(terms, told, ready);
-        self.pending_is(false);
+        self.pending = false;
     }
 
     // Reports, unasked, whether own busy is on.
@@ -101,7 +101,7 @@ impl Entity {
     {
         let ready = self.ready_to_receive(false);
         self.response(terms, told, ready);
-        self.pending_is(false);
+        self.pending = false;
     }
 
     // Asks for the I-frames from V(R) on again.
@@ -111,7 +111,7 @@ impl Entity {
         ensures does { (info : List ℕ) → Does terms.now info (word.reject terms.now pf) self.old told.old self.new told.new }
     {
         self.response(terms, told, Control::Reject { nr: self.vr, pf });
-        self.pending_is(false);
+        self.pending = false;
     }
 
     // Begins the establishment again.
@@ -122,9 +122,9 @@ impl Entity {
     {
         self.clear_flags();
         self.command(terms, told, Control::Sabme { pf: true });
-        self.repeats_are_0();
+        self.repeats = 0;
         self.start_timer(told, LinkTimer::T200);
-        self.asked_is(false);
-        self.enter(State::AwaitingEstablishment);
+        self.asked = false;
+        self.state = State::AwaitingEstablishment;
     }
 }

@@ -1,12 +1,12 @@
 -- Hand-written answers for `Entity::re_establish`.
-use Rattle.lapd_link_steps.proofs.Steps.{◌▹◌}
+use Rattle.lapd_link_steps.proofs.Steps.{◌▹◌, asked_set, repeats_set, state_set}
 use Rattle.lapd_link_steps.proofs.entity.Entity.re_establish.Goals as goal
 
 pub returns-clause-does : goal.returns-clause-does
 returns-clause-does c = λ info.
     c.clear_flags.ensures _ _ _
     ▹ c.command.ensures.does info
-    ▹ c.repeats_are_0.ensures _ _ _
+    ▹ repeats_set
     ▹ c.start_timer.ensures.does _ info
-    ▹ c.asked_is.ensures _ _ _
-    ▹ c.enter.ensures _ _ _
+    ▹ asked_set
+    ▹ state_set

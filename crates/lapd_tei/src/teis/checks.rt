@@ -28,7 +28,12 @@ impl Teis {
         ensures short { IsShort result }
     {
         let lost = self.queue.send(Message::IdentityCheckRequest { tei });
-        self.check = Some(Check::begun(tei));
+        self.check = Some(Check {
+            tei,
+            period: Period::First,
+            first: 0,
+            second: 0,
+        });
         TeiOutcome {
             orders: ShortList::one(Order::Start(Timer::T201)),
             lost,

@@ -1,11 +1,13 @@
 -- Parts of rows that are a method each.
 use Rattle.std.specs.Prelude.{ℕ, Bool, true, false}
 use Rattle.lapd_seq.specs.declared.numbers.Seq.{Seq}
+use Rattle.lapd_frame.specs.declared.controls.Control.TheVariants.{Sabme}
 use Rattle.lapd_frame.specs.declared.notes.ErrorCode.{ErrorCode}
+use Rattle.model_link.specs.declared.states.State.TheVariants.{AwaitingEstablishment}
 use Rattle.model_link.specs.declared.terms.Terms.{Terms}
 use Rattle.model_link.specs.Link.{is_asked, has_outstanding}
 use Rattle.model_link.specs.Steps.{Step, ◌then◌, nothing, depending_on}
-use Rattle.model_link.specs.Words.{establish_indication, establish_confirm, discard, start, by_number}
+use Rattle.model_link.specs.Words.{asked_is, clear_flags, command, enter, pending_is, ready_to_receive, repeats_are, response, send, establish_indication, establish_confirm, discard, start, by_number}
 use Rattle.model_link.specs.Machine.{malformed_in, told_of_clearing}
 use Rattle.model_link.specs.MultipleFrame.{Particulars, answered, is_final}
 use Rattle.model_link.specs.Established.{either_way, particulars_in_7}
@@ -15,6 +17,16 @@ use Rattle.model_link.specs.Offers.{is_awaiting_acknowledgement}
 use Rattle.model_link.specs.declared.timers.LinkTimer.TheVariants.{T200}
 use Rattle.lapd_link_steps.specs.declared.states.multiple_frame.Bearer.{Bearer}
 use Rattle.lapd_link_steps.specs.declared.states.multiple_frame.Bearer.TheVariants.{Information, Rr, Rnr, Rej}
+
+-- The establishment begins, as layer 3 asked or after an error.
+abbrev pub establishing : Terms → Bool → Step
+establishing t asked =
+    clear_flags then send t (command (Sabme true)) then repeats_are 0 then start T200 then asked_is asked
+    then enter AwaitingEstablishment
+
+-- RR or RNR tells whether own busy is on, as the answer to a command or unasked.
+abbrev pub ready_reported : Terms → Bool → Step
+ready_reported t pf c = (send t (response (ready_to_receive pf c.link)) then pending_is false) c
 
 -- Where contents are outstanding, all are lost, and layer 3 is told (Q.921 clauses 5.5.1.2 and 5.7).
 abbrev pub renewed : Terms → Step

@@ -1,7 +1,7 @@
 //! What layer 3 asks for, and the end of a TEI.
 
 ghost use Rattle.std.specs.Prelude.{ℕ, List};
-ghost use Rattle.lapd_link_steps.specs.{cleared_step, begin_anew, Terms, IsFresh, HasRoom, Tells, released_by_state, told_of_clearing_by_state};
+ghost use Rattle.lapd_link_steps.specs.{cleared_step, IsFresh, HasRoom, Tells, released_by_state, told_of_clearing_by_state};
 ghost use Rattle.lapd_link_steps.specs.Does.{Does};
 
 use crate::entity::Entity;
@@ -31,7 +31,9 @@ impl Entity {
         ensures does { (info : List ℕ) → Does terms.now info (cleared_step terms.now) self.old told.old self.new told.new }
     {
         self.tell_clearing(terms, told);
-        self.begin_anew(told);
+        self.begin();
+        told.started = None;
+        told.released = ALL;
     }
 
     fn tell_clearing(&self, terms: &Terms, told: &mut BareReport)
@@ -47,15 +49,6 @@ impl Entity {
                 told.note(Note::ReleaseIndication(terms.service, terms.tei));
             }
         }
-    }
-
-    fn begin_anew(&mut self, told: &mut BareReport)
-        ensures tells { Tells 0 0 told.old told.new }
-        ensures does { (terms : Terms) (info : List ℕ) → Does terms info begin_anew self.old told.old self.new told.new }
-    {
-        self.begin();
-        told.started = None;
-        told.released = ALL;
     }
 
     /// The entity is as one that begins, with its ring empty.

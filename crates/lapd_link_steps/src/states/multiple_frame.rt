@@ -154,7 +154,7 @@ impl Entity {
             return;
         }
         self.own_busy = true;
-        self.report_ready(terms, told);
+        self.report_ready(terms, told, false);
     }
 
     /// Layer 3 can take contents again, in states 7 and 8.
@@ -167,7 +167,7 @@ impl Entity {
             return;
         }
         self.own_busy = false;
-        self.report_ready(terms, told);
+        self.report_ready(terms, told, false);
     }
 
     // The terminal establishes the link again.
@@ -222,7 +222,7 @@ impl Entity {
         ensures does { (info : List ℕ) → Does terms.now info (row.failed terms.now code) self.old told.old self.new told.new }
     {
         told.error(terms, code);
-        self.re_establish(terms, told);
+        self.establish(terms, told, false);
     }
 
     // The contents of an I-frame: those next in sequence are delivered.
@@ -241,7 +241,7 @@ impl Entity {
         self.rejecting = false;
         told.deliver(terms);
         if pf {
-            self.answer(terms, told);
+            self.report_ready(terms, told, true);
         } else {
             self.pending = true;
         }
@@ -256,7 +256,7 @@ impl Entity {
         ensures does { (info : List ℕ) → Does terms.now info (row.dropped terms.now pf) self.old told.old self.new told.new }
     {
         if pf {
-            self.answer(terms, told);
+            self.report_ready(terms, told, true);
         }
     }
 

@@ -56,11 +56,6 @@ impl Entity {
         ensures tells { Tells 0 1 told.old told.new }
         ensures does { (info : List ℕ) → Does terms.now info (row.establish_in_4 terms.now) self.old told.old self.new told.new }
     {
-        self.clear_flags();
-        self.command(terms, told, Control::Sabme { pf: true });
-        self.repeats = 0;
-        self.start_timer(told, LinkTimer::T200);
-        self.asked = true;
-        self.state = State::AwaitingEstablishment;
+        self.establish(terms, told, true);
     }
 }

@@ -3,6 +3,7 @@
 ghost use Rattle.std.specs.Prelude.{◌≡◌, ℕ, List};
 ghost use Rattle.lapd_seq.specs.Numbers.{seq};
 ghost use Rattle.model_link.specs.Words as word;
+ghost use Rattle.lapd_link_steps.specs.Parts.{establishing, ready_reported};
 ghost use Rattle.lapd_link_steps.specs.Past.{Past, link_of};
 ghost use Rattle.lapd_link_steps.specs.Does.{Does, HasRoom, Tells};
 
@@ -81,25 +82,14 @@ impl Entity {
         self.pending = false;
     }
 
-    // Answers a command with P.
+    // Says, as the answer to a command with P (`pf`) or unasked, whether own busy is on.
     #[inline(always)]
-    pub(crate) fn answer(&mut self, terms: &Terms, told: &mut BareReport)
+    pub(crate) fn report_ready(&mut self, terms: &Terms, told: &mut BareReport, pf: bool)
         requires { HasRoom 0 1 told.old }
         ensures tells { Tells 0 1 told.old told.new }
-        ensures does { (info : List ℕ) → Does terms.now info (word.answer terms.now) self.old told.old self.new told.new }
+        ensures does { (info : List ℕ) → Does terms.now info (ready_reported terms.now pf) self.old told.old self.new told.new }
     {
-        let ready = self.ready_to_receive(true);
-        self.response(terms, told, ready);
-        self.pending = false;
-    }
-
-    // Reports, unasked, whether own busy is on.
-    pub(crate) fn report_ready(&mut self, terms: &Terms, told: &mut BareReport)
-        requires { HasRoom 0 1 told.old }
-        ensures tells { Tells 0 1 told.old told.new }
-        ensures does { (info : List ℕ) → Does terms.now info (word.report_ready terms.now) self.old told.old self.new told.new }
-    {
-        let ready = self.ready_to_receive(false);
+        let ready = self.ready_to_receive(pf);
         self.response(terms, told, ready);
         self.pending = false;
     }
@@ -114,17 +104,17 @@ impl Entity {
         self.pending = false;
     }
 
-    // Begins the establishment again.
-    pub(crate) fn re_establish(&mut self, terms: &Terms, told: &mut BareReport)
+    // Begins the establishment, which layer 3 asked for, or after an error.
+    pub(crate) fn establish(&mut self, terms: &Terms, told: &mut BareReport, asked: bool)
         requires { HasRoom 0 1 told.old }
         ensures tells { Tells 0 1 told.old told.new }
-        ensures does { (info : List ℕ) → Does terms.now info (word.re_establish terms.now) self.old told.old self.new told.new }
+        ensures does { (info : List ℕ) → Does terms.now info (establishing terms.now asked) self.old told.old self.new told.new }
     {
         self.clear_flags();
         self.command(terms, told, Control::Sabme { pf: true });
         self.repeats = 0;
         self.start_timer(told, LinkTimer::T200);
-        self.asked = false;
+        self.asked = asked;
         self.state = State::AwaitingEstablishment;
     }
 }

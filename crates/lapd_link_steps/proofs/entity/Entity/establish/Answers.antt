@@ -1,6 +1,6 @@
--- Hand-written answers for `Entity::re_establish`.
+-- Hand-written answers for `Entity::establish`.
 use Rattle.lapd_link_steps.proofs.Steps.{◌▹◌, asked_set, repeats_set, state_set}
-use Rattle.lapd_link_steps.proofs.entity.Entity.re_establish.Goals as goal
+use Rattle.lapd_link_steps.proofs.entity.Entity.establish.Goals as goal
 
 pub returns-clause-does : goal.returns-clause-does
 returns-clause-does c = λ info.

@@ -3,7 +3,7 @@ use Rattle.laws_trace.proofs.Vocabulary.{◌≡◌, ℕ, ◌==◌, Bool, true, f
 use Rattle.lapd_count.specs.Kinds.{kind_of}
 use Rattle.lapd_count.specs.Shown.{begun_shown, is_poll, message_shown, octets_shown}
 use Rattle.lapd_count.specs.declared.counter.Way.{Way}
-use Rattle.lapd_count.specs.declared.messages.Message.{Message}
+use Rattle.lapd_count.specs.declared.messages.MessageType.{MessageType}
 use Rattle.model_bits.specs.Stream as stream
 use Rattle.model_card.specs.Counted.{all_shown}
 use Rattle.model_line.specs.Event as line_event
@@ -57,7 +57,7 @@ none-dropped o = grind arith
 polls-kept : (w : Way) (b : Bool) → IsKept (cond b ((Polls w, 1) ∷ []) [])
 polls-kept w b = grind arith
 
-type-kept : (w : Way) (o : Option Message) → IsKept (option_map_or (λ m. (Messages w m, 1) ∷ []) o [])
+type-kept : (w : Way) (o : Option MessageType) → IsKept (option_map_or (λ m. (Messages w m, 1) ∷ []) o [])
 type-kept w o = grind arith
 
 message-kept : (w : Way) (octets : List ℕ) → IsKept (message_shown w octets)

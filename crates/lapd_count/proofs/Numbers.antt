@@ -1,11 +1,11 @@
 -- A counter is a number.
-use Rattle.lapd_count.proofs.Vocabulary.{◌≡◌, ℕ, ◌+◌, ◌≤◌, ◌<◌, ◌==◌, Bool, true, false, cond, [], ◌∷◌, length, length-set, get_or, set, min, refl, sym, ap, subst, ◌∙◌, arith, eqb-true, eqb-false, get_or-set_same, get_or-set_other, sum_by-cons, Cause, ErrorCode, Counter, Message, Counters, Kind, count, most, place, value_in, with_more, amount_of, amount_in, CountersAreNumbers}
+use Rattle.lapd_count.proofs.Vocabulary.{◌≡◌, ℕ, ◌+◌, ◌≤◌, ◌<◌, ◌==◌, Bool, true, false, cond, [], ◌∷◌, length, length-set, get_or, set, min, refl, sym, ap, subst, ◌∙◌, arith, eqb-true, eqb-false, get_or-set_same, get_or-set_other, sum_by-cons, Cause, ErrorCode, Counter, MessageType, Counters, Kind, count, most, place, value_in, with_more, amount_of, amount_in, CountersAreNumbers}
 use denote.Enum.Declared.{tag_of}
 use Rattle.model_bits.specs.contracts.heard.Cause.{the_type as the_cause}
 use Rattle.lapd_frame.specs.contracts.notes.ErrorCode.{the_type as the_code}
 use Rattle.lapd_count.specs.contracts.counter.Way.{the_type as the_way}
 use Rattle.lapd_count.specs.contracts.kinds.Kind.{the_type as the_kind}
-use Rattle.lapd_count.specs.contracts.messages.Message.{the_type as the_message}
+use Rattle.lapd_count.specs.contracts.messages.MessageType.{the_type as the_message}
 use Rattle.lapd_count.specs.declared.counter.Way.{Way}
 
 kind_within : (k : Kind) → tag_of the_kind k < 12
@@ -20,7 +20,7 @@ cause_within c = grind arith
 error_within : (e : ErrorCode) → tag_of the_code e < 14
 error_within e = grind arith
 
-message_within : (m : Message) → tag_of the_message m < 7
+message_within : (m : MessageType) → tag_of the_message m < 7
 message_within m = grind arith
 
 -- each has a place

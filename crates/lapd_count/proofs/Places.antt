@@ -2,7 +2,7 @@
 use Rattle.lapd_count.proofs.Vocabulary.{◌≡◌, List, [], ◌∷◌, get_or, refl, sym, ap, ◌∙◌, Abort, Ragged, Short, Fcs, Extension, Sapi, Tei, Unserved, Counter, Frames, Octets, Polls, Overlong, Dropped, Errors, EstablishIndications, EstablishConfirms, ReleaseIndications, ReleaseConfirms, Data, Units, Xids, Assigned, Removed, Doubled, Lost, Messages, Heard, Begun, place, PlacesAreNames}
 use Rattle.lapd_frame.specs.declared.notes.ErrorCode.TheVariants as code
 use Rattle.lapd_count.specs.declared.kinds.Kind.TheVariants as kind
-use Rattle.lapd_count.specs.declared.messages.Message.TheVariants as message
+use Rattle.lapd_count.specs.declared.messages.MessageType.TheVariants as message
 
 -- all of them, each at its place
 abbrev names : List Counter

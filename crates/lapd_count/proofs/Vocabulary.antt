@@ -16,7 +16,7 @@ pub use Rattle.lapd_count.specs.declared.counters.Counters.{Counters}
 pub use Rattle.lapd_count.specs.declared.kinds.Kind.{Kind}
 pub use Rattle.lapd_count.specs.declared.kinds.Kind.TheVariants.{Information}
 pub use Rattle.lapd_count.specs.declared.kinds.TheConstants.{KINDS}
-pub use Rattle.lapd_count.specs.declared.messages.Message.{Message}
+pub use Rattle.lapd_count.specs.declared.messages.MessageType.{MessageType}
 pub use Rattle.lapd_frame.specs.declared.notes.ErrorCode.{ErrorCode}
 pub use Rattle.model_bits.specs.declared.heard.Cause.{Cause}
 pub use Rattle.model_bits.specs.declared.heard.Cause.TheVariants.{Abort, Extension, Fcs, Ragged, Sapi, Short, Tei, Unserved}

@@ -6,7 +6,7 @@ use Rattle.lapd_frame.specs.contracts.notes.ErrorCode.{the_type as the_code}
 use Rattle.lapd_count.specs.contracts.counter.Counter.{the_type}
 use Rattle.lapd_count.specs.contracts.counter.Way.{the_type as the_way}
 use Rattle.lapd_count.specs.contracts.kinds.Kind.{the_type as the_kind}
-use Rattle.lapd_count.specs.contracts.messages.Message.{the_type as the_message}
+use Rattle.lapd_count.specs.contracts.messages.MessageType.{the_type as the_message}
 use Rattle.lapd_count.specs.declared.counter.Counter.{Counter}
 use Rattle.lapd_count.specs.declared.counter.Counter.TheVariants.{Frames, Octets, Polls, Overlong, Dropped, Errors, Messages}
 use Rattle.lapd_count.specs.declared.counters.Counters.{Counters}

@@ -1,15 +1,15 @@
 -- The messages of TEI management, as what is counted of a line names them (Q.921 clause 5.3.1).
 use Rattle.std.specs.Prelude.{ℕ, ◌/◌, ◌==◌, ◌&&◌, ◌||◌, Bool, List, [], ◌∷◌, get_or, Option, Some, None}
-use Rattle.lapd_count.specs.declared.messages.Message.{Message}
-use Rattle.lapd_count.specs.declared.messages.Message.TheVariants.{IdentityRequest, IdentityAssigned, IdentityDenied, IdentityCheckRequest, IdentityCheckResponse, IdentityRemove, IdentityVerify}
+use Rattle.lapd_count.specs.declared.messages.MessageType.{MessageType}
+use Rattle.lapd_count.specs.declared.messages.MessageType.TheVariants.{IdentityRequest, IdentityAssigned, IdentityDenied, IdentityCheckRequest, IdentityCheckResponse, IdentityRemove, IdentityVerify}
 
 -- In the order of their types, which are 1 to 7 (table 8).
-abbrev pub messages : List (Option Message)
+abbrev pub messages : List (Option MessageType)
 messages =
     None ∷ Some IdentityRequest ∷ Some IdentityAssigned ∷ Some IdentityDenied ∷ Some IdentityCheckRequest ∷ Some IdentityCheckResponse
     ∷ Some IdentityRemove ∷ Some IdentityVerify ∷ []
 
-abbrev pub message_of : ℕ → Option Message
+abbrev pub message_of : ℕ → Option MessageType
 message_of type = get_or messages type None
 
 -- A frame that has a message: a UI frame (P/F 0 or 1) of SAPI 63 and TEI 127, whose information begins with the entity

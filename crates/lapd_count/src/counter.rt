@@ -1,13 +1,10 @@
 //! What is counted.
 
 ghost use Rattle.std.specs.Prelude.{◌≡◌, ◌<◌};
-ghost use denote.Enum.Declared.{tag_of};
-ghost use Rattle.model_bits.specs.contracts.heard.Cause.{the_type as the_cause};
-ghost use Rattle.lapd_frame.specs.contracts.notes.ErrorCode.{the_type as the_code};
 ghost use Rattle.lapd_count.specs.Counters.{place};
 
 use crate::kinds::Kind;
-use crate::messages::Message;
+use crate::messages::MessageType;
 use lapd_frame::ErrorCode;
 use model_bits::Cause;
 
@@ -60,7 +57,7 @@ pub enum Counter {
     /// Control frames and messages of TEI management that found no room to wait.
     Lost,
     /// Messages of TEI management, of this name: good UI frames with SAPI 63 and TEI 127 that have one (Q.921 clause 5.3.1).
-    Messages(Way, Message),
+    Messages(Way, MessageType),
 }
 
 impl Counter {
@@ -72,15 +69,15 @@ impl Counter {
         ensures bound { result < 76 }
     {
         match self {
-            Counter::Frames(Way::Heard, kind) => kind.place(),
-            Counter::Frames(Way::Begun, kind) => 12 + kind.place(),
+            Counter::Frames(Way::Heard, kind) => kind as usize,
+            Counter::Frames(Way::Begun, kind) => 12 + kind as usize,
             Counter::Octets(Way::Heard) => 24,
             Counter::Octets(Way::Begun) => 25,
             Counter::Polls(Way::Heard) => 26,
             Counter::Polls(Way::Begun) => 27,
             Counter::Overlong => 28,
-            Counter::Dropped(cause) => 29 + cause_place(cause),
-            Counter::Errors(code) => 37 + error_place(code),
+            Counter::Dropped(cause) => 29 + (cause as usize - 1),
+            Counter::Errors(code) => 37 + code as usize,
             Counter::EstablishIndications => 51,
             Counter::EstablishConfirms => 52,
             Counter::ReleaseIndications => 53,
@@ -92,22 +89,8 @@ impl Counter {
             Counter::Removed => 59,
             Counter::Doubled => 60,
             Counter::Lost => 61,
-            Counter::Messages(Way::Heard, message) => 62 + message.place(),
-            Counter::Messages(Way::Begun, message) => 69 + message.place(),
+            Counter::Messages(Way::Heard, message) => 62 + message as usize,
+            Counter::Messages(Way::Begun, message) => 69 + message as usize,
         }
     }
-}
-
-fn cause_place(cause: Cause) -> usize
-    ensures value { result ≡ tag_of the_cause cause }
-    ensures bound { result < 8 }
-{
-    cause as usize - 1
-}
-
-fn error_place(code: ErrorCode) -> usize
-    ensures value { result ≡ tag_of the_code code }
-    ensures bound { result < 14 }
-{
-    code as usize
 }

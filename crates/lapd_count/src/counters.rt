@@ -1,7 +1,7 @@
 //! The counters of a line.
 
 ghost use Rattle.std.specs.Option.{option_map_or};
-ghost use Rattle.std.specs.Prelude.{◌≡◌, ◌<◌, ◌∷◌, ◌++◌, [], get_or, map, set};
+ghost use Rattle.std.specs.Prelude.{◌≡◌, ◌<◌, ◌∷◌, ◌++◌, [], map, set};
 ghost use Rattle.lapd_count.specs.declared.counter.Way.TheVariants.{Begun};
 ghost use Rattle.model_bits.specs.Heard.{heard_of};
 ghost use Rattle.lapd_count.specs.Counters.{value_in, with_more, with_all, none_counted};
@@ -10,8 +10,8 @@ ghost use Rattle.lapd_count.specs.Shown.{frame_shown, is_poll, head_shown, heard
 
 use crate::counter::{Counter, Way};
 use crate::kinds::Kind;
-use crate::messages::Message;
-use lapd_frame::{Note, Side};
+use crate::messages::MessageType;
+use lapd_frame::{Note, Side, octet_at};
 use model_bits::{Cause, Head, Heard};
 
 /// How many counters there are.
@@ -116,7 +116,7 @@ impl Counters {
     fn message(&mut self, way: Way, kind: u8)
         ensures { self.new ≡ with_all self.old (type_shown way kind) }
     {
-        if let Some(message) = Message::of(kind) {
+        if let Some(message) = MessageType::of(kind) {
             self.add(Counter::Messages(way, message), 1);
         }
     }
@@ -206,11 +206,7 @@ fn counter_of(note: &Note) -> Counter
 fn is_poll(sender: Side, first: u8, kind: Kind, second: u8) -> bool
     ensures { result ≡ is_poll sender first kind second }
 {
-    let bit = match sender {
-        Side::User => 0,
-        Side::Network => 1,
-    };
-    second % 2 == 1 && first / 2 % 2 == bit && kind.asks()
+    second % 2 == 1 && first / 2 % 2 == sender.command_bit() && kind.asks()
 }
 
 /// Whether a frame has a message of TEI management. Of most frames the first octet says that it has none.
@@ -222,15 +218,4 @@ fn has_message(octets: &[u8]) -> bool
         && octet_at(octets, 1) == 0xFF
         && (octet_at(octets, 2) == 0x03 || octet_at(octets, 2) == 0x13)
         && octet_at(octets, 3) == 15
-}
-
-/// The octet at a place; 0 where there is none.
-fn octet_at(octets: &[u8], place: usize) -> u8
-    ensures { result ≡ get_or octets.now place 0 }
-{
-    if place < octets.len() {
-        octets[place]
-    } else {
-        0
-    }
 }

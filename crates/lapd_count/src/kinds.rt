@@ -1,8 +1,6 @@
 //! The kinds of frames.
 
-ghost use Rattle.std.specs.Prelude.{◌≡◌, ◌<◌};
-ghost use denote.Enum.Declared.{tag_of};
-ghost use Rattle.lapd_count.specs.contracts.kinds.Kind.{the_type};
+ghost use Rattle.std.specs.Prelude.{◌≡◌};
 ghost use Rattle.lapd_count.specs.Kinds.{kind_of, asks};
 
 use Kind::{
@@ -68,13 +66,5 @@ impl Kind {
         ensures { result ≡ asks self }
     {
         matches!(self, I | RR | RNR | REJ)
-    }
-
-    /// Its place among the kinds.
-    pub(crate) fn place(self) -> usize
-        ensures value { result ≡ tag_of the_type self }
-        ensures bound { result < 12 }
-    {
-        self as usize
     }
 }

@@ -21,4 +21,4 @@ pub use counter::{Counter, Way};
 pub use counters::Counters;
 pub use kinds::Kind;
 pub use laws::{controls_have_kinds, counters_are_numbers, places_are_names};
-pub use messages::Message;
+pub use messages::MessageType;

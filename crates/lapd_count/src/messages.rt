@@ -1,14 +1,12 @@
 //! The messages of TEI management.
 
-ghost use Rattle.std.specs.Prelude.{◌≡◌, ◌<◌};
-ghost use denote.Enum.Declared.{tag_of};
-ghost use Rattle.lapd_count.specs.contracts.messages.Message.{the_type};
+ghost use Rattle.std.specs.Prelude.{◌≡◌};
 ghost use Rattle.lapd_count.specs.Messages.{message_of};
 
 /// A message of TEI management, as its type says (Q.921 clause 5.3.1, table 8). It is counted whether or not the message is
 /// otherwise well formed, and whether or not it is served.
 #[derive(Clone, Copy, PartialEq, Eq, Debug)]
-pub enum Message {
+pub enum MessageType {
     /// A terminal asks for a TEI (clause 5.3.2).
     IdentityRequest,
     /// The network gives one (clause 5.3.2).
@@ -25,28 +23,20 @@ pub enum Message {
     IdentityVerify,
 }
 
-impl Message {
+impl MessageType {
     /// The message of a type; none where no message has it.
-    pub(crate) fn of(kind: u8) -> Option<Message>
+    pub(crate) fn of(kind: u8) -> Option<MessageType>
         ensures { result ≡ message_of kind }
     {
         match kind {
-            1 => Some(Message::IdentityRequest),
-            2 => Some(Message::IdentityAssigned),
-            3 => Some(Message::IdentityDenied),
-            4 => Some(Message::IdentityCheckRequest),
-            5 => Some(Message::IdentityCheckResponse),
-            6 => Some(Message::IdentityRemove),
-            7 => Some(Message::IdentityVerify),
+            1 => Some(MessageType::IdentityRequest),
+            2 => Some(MessageType::IdentityAssigned),
+            3 => Some(MessageType::IdentityDenied),
+            4 => Some(MessageType::IdentityCheckRequest),
+            5 => Some(MessageType::IdentityCheckResponse),
+            6 => Some(MessageType::IdentityRemove),
+            7 => Some(MessageType::IdentityVerify),
             _ => None,
         }
-    }
-
-    /// Its place among the messages.
-    pub(crate) fn place(self) -> usize
-        ensures value { result ≡ tag_of the_type self }
-        ensures bound { result < 7 }
-    {
-        self as usize
     }
 }

@@ -36,8 +36,8 @@ impl Side {
         }
     }
 
-    // The C/R bit of this side's commands; its responses have the other.
-    fn command_bit(self) -> u8
+    /// The C/R bit of this side's commands (Q.921 clause 3.3.2); its responses have the other.
+    pub fn command_bit(self) -> u8
         ensures value { result ≡ cr_bit self true }
         ensures bound { result < 2 }
     {

@@ -6,7 +6,7 @@
 //! - `addresses`: `Side`, who sent a frame, and its `Address`.
 //! - `controls`: `Control`, what kind of frame it is, a variant for each row of table 5.
 //! - `frames`: `Frame`, the whole of it, with its information lent.
-//! - `faults`, `headers`, `reading`: `read`, from octets to a frame, or to the first `ReadFault`.
+//! - `faults`, `headers`, `reading`: `read`, from octets to a frame, or to the first `ReadFault`; `octet_at`.
 //! - `overlong`: `read_long`, what the first four octets tell of a frame that is too long to keep.
 //! - `writing`: `write`, from a frame to octets.
 //! - `laws`: `one_spelling`, what holds of the grammar itself.
@@ -42,7 +42,7 @@ pub use frames::Frame;
 pub use laws::one_spelling;
 pub use notes::{ErrorCode, Note};
 pub use overlong::{Long, read_long};
-pub use reading::read;
+pub use reading::{octet_at, read};
 pub use refusals::Refusal;
 pub use services::Service;
 pub use short_lists::ShortList;

@@ -1,6 +1,6 @@
 //! From octets to a frame.
 
-ghost use Rattle.std.specs.Prelude.{◌≡◌, ◌+◌, ◌↔◌, IfOk, IsOkAnd, drop, length};
+ghost use Rattle.std.specs.Prelude.{◌≡◌, ◌+◌, ◌↔◌, IfOk, IsOkAnd, drop, get_or, length};
 ghost use Rattle.lapd_frame.specs.{ReadFault, IsFault, Parts, parts_of, Spells, reading, outcome_of, start_of};
 
 use crate::addresses::{Address, Side};
@@ -41,7 +41,7 @@ fn parse(side: Side, octets: &[u8]) -> Result<Frame<'_>, ReadFault>
     if is_short(octets) {
         return Err(ReadFault::Short);
     }
-    let fourth = octets.get(3).copied().unwrap_or(0);
+    let fourth = octet_at(octets, 3);
     if octets[0] % 2 != 0 || octets[1] % 2 != 1 {
         return Err(ReadFault::BadExtension);
     }
@@ -58,4 +58,12 @@ fn parse(side: Side, octets: &[u8]) -> Result<Frame<'_>, ReadFault>
         control,
         info,
     })
+}
+
+/// The octet at a place of a frame; 0 where there is none.
+#[inline(always)]
+pub fn octet_at(octets: &[u8], place: usize) -> u8
+    ensures { result ≡ get_or octets.now place 0 }
+{
+    octets.get(place).copied().unwrap_or(0)
 }

@@ -1,6 +1,6 @@
 //! The port of a line: what stands between its octets and its frames.
 
-ghost use Rattle.std.specs.Prelude.{◌≡◌, ℕ, ◌+◌, ◌*◌, ◌<◌, ◌≤◌, ◌^◌, ◌∷◌, ◌++◌, [], length, get_or, IsTrue, Option, IfOk};
+ghost use Rattle.std.specs.Prelude.{◌≡◌, ℕ, ◌+◌, ◌*◌, ◌<◌, ◌≤◌, ◌^◌, ◌∷◌, ◌++◌, [], length, IsTrue, Option, IfOk};
 ghost use Rattle.lapd_line.specs.{without_octets, head_of, heard_of, Answer, head_begun, head_heard, gained, is_due, fresh_port, held_at, orders_taken, PortStands, IsSaid, latest_in, latest_frame, or_latest, with_frame};
 ghost use Rattle.model_card.specs.ports.Port as machine;
 
@@ -8,7 +8,7 @@ use crate::came::octets_of;
 use crate::fault::StartFault;
 use crate::pulled::Pulled;
 use lapd_bits::{Deframer, Ended, Framer};
-use lapd_frame::{Order, ShortList};
+use lapd_frame::{Order, ShortList, octet_at};
 use model_bits::{Head, Heard};
 use std::alloc::Global;
 
@@ -164,15 +164,4 @@ fn head_of(octets: &[u8]) -> Option<Head>
         ],
         length: octets.len() as u16,
     })
-}
-
-/// The octet at a place; 0 where there is none.
-fn octet_at(octets: &[u8], place: usize) -> u8
-    ensures { result ≡ get_or octets.now place 0 }
-{
-    if place < octets.len() {
-        octets[place]
-    } else {
-        0
-    }
 }

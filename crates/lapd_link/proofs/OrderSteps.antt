@@ -1,5 +1,5 @@
 -- Orders, by the timer that an event started.
-use Rattle.lapd_link.proofs.Vocabulary.{◌≡◌, Bool, true, false, Option, Some, None, refl}
+use Rattle.lapd_link.proofs.Vocabulary.{◌≡◌, true, false, Option, Some, None, refl}
 use Rattle.model_link.specs.declared.terms.Terms.{Terms}
 use Rattle.model_link.specs.declared.timers.LinkTimer.{LinkTimer}
 use Rattle.model_link.specs.declared.timers.LinkTimer.TheVariants.{T200, T203}

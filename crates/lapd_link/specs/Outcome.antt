@@ -1,5 +1,5 @@
 -- What a link answers, as the machine tells it.
-use Rattle.std.specs.Prelude.{◌≡◌, ℕ, ◌≤◌, List, [], length, Option, Some, None, option_map, if◌then◌else◌}
+use Rattle.std.specs.Prelude.{◌≡◌, ℕ, ◌≤◌, List, length, Option, Some, None, option_map, if◌then◌else◌}
 use Rattle.std.specs.Borrow.{Bor}
 use Rattle.lapd_store.specs.Store.{Store, contents_of}
 use Rattle.lapd_frame.specs.ShortLists.{listed}

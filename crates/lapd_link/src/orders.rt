@@ -18,13 +18,9 @@ pub(crate) fn orders(
 ) -> ShortList<Order>
     ensures { listed result ≡ orders_for terms.now before started after }
 {
-    let Some(timer) = started else {
-        return stop(terms, before, after);
-    };
-    if is_the(timer, after) {
-        start(terms, before, timer)
-    } else {
-        stop(terms, before, after)
+    match started {
+        Some(timer) if is_the(timer, after) => start(terms, before, timer),
+        _ => stop(terms, before, after),
     }
 }
 
@@ -34,21 +30,14 @@ fn start(terms: &Terms, before: Option<LinkTimer>, timer: LinkTimer) -> ShortLis
     ensures { listed result ≡ orders_for terms.now before (Some timer) (Some timer) }
 {
     let start = Order::Start(line_timer(terms, timer));
-    match timer {
-        LinkTimer::T200 => {
-            if is_the(LinkTimer::T203, before) {
-                ShortList::Two([start, Order::Stop(line_timer(terms, LinkTimer::T203))])
-            } else {
-                ShortList::One([start])
-            }
+    match (timer, before) {
+        (LinkTimer::T200, Some(LinkTimer::T203)) => {
+            ShortList::Two([start, Order::Stop(line_timer(terms, LinkTimer::T203))])
         }
-        LinkTimer::T203 => {
-            if is_the(LinkTimer::T200, before) {
-                ShortList::Two([Order::Stop(line_timer(terms, LinkTimer::T200)), start])
-            } else {
-                ShortList::One([start])
-            }
+        (LinkTimer::T203, Some(LinkTimer::T200)) => {
+            ShortList::Two([Order::Stop(line_timer(terms, LinkTimer::T200)), start])
         }
+        _ => ShortList::One([start]),
     }
 }
 
@@ -58,14 +47,10 @@ fn stop(terms: &Terms, before: Option<LinkTimer>, after: Option<LinkTimer>) -> S
     ensures { listed result ≡ orders_for terms.now before None after }
 {
     match before {
-        Some(timer) => {
-            if is_the(timer, after) {
-                ShortList::none()
-            } else {
-                ShortList::one(Order::Stop(line_timer(terms, timer)))
-            }
+        Some(timer) if !is_the(timer, after) => {
+            ShortList::one(Order::Stop(line_timer(terms, timer)))
         }
-        None => ShortList::none(),
+        _ => ShortList::none(),
     }
 }
 

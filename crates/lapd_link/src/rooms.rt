@@ -1,6 +1,6 @@
 //! How much room a link has.
 
-ghost use Rattle.std.specs.Prelude.{◌≡◌, ◌-◌, List, length};
+ghost use Rattle.std.specs.Prelude.{◌≡◌, ◌-◌, List};
 ghost use Rattle.lapd_link.specs.{used_slots, Owned, room_of, terms_of};
 ghost use Rattle.model_link.specs.Link as machine;
 
@@ -19,17 +19,9 @@ impl Link {
             → result ≡ room_of (terms_of self.now) (slots - used_slots (S.store shelf.now)) m }
     {
         Room {
-            queue: self.places(),
+            queue: usize::from(self.terms.queue).saturating_sub(self.queue.len()) as u8,
             pool: slots.saturating_sub(shelf.used()),
             va: self.entity.va().value,
         }
-    }
-
-    // The places of the queue that are left.
-    fn places(&self) -> u8
-        ensures { result ≡ (terms_of self.now).queue - length self.now.queue.slots }
-    {
-        let most = usize::from(self.terms.queue);
-        most.saturating_sub(self.queue.len()) as u8
     }
 }

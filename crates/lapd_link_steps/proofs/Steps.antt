@@ -1,7 +1,9 @@
 -- How steps are put together. The answer for a row is the chain of its words.
-use Rattle.lapd_link_steps.proofs.Vocabulary.{◌≡◌, ℕ, Bool, true, false, IsTrue, cond, List, Option, Some, None, MatchOption, refl, sym, ap, subst, arith, Seq, IsNamed, named, Stands, State, Terms, Link, Sent, Course, Step, ◌then◌, nothing, depending_on, by_bit, changed, acknowledge, by_number, pending_is, start, T200, failed, Entity, BareReport, Past, past_of, link_of, course_of, Fits, Agrees, Does, DoesBy}
+use Rattle.lapd_link_steps.proofs.Vocabulary.{◌≡◌, ℕ, Bool, true, false, IsTrue, cond, ◌+◌, ◌⊎◌, List, Option, Some, None, MatchOption, inl, inr, refl, sym, ap, subst, arith, ◌∙◌, Seq, IsNamed, named, Stands, State, Terms, Link, Sent, Course, Step, ◌then◌, nothing, depending_on, by_bit, changed, acknowledge, by_number, pending_is, start, T200, failed, Entity, BareReport, Past, past_of, link_of, course_of, Fits, Agrees, Does, DoesBy}
 use Rattle.lapd_frame.specs.declared.notes.ErrorCode.TheVariants as code
 use Rattle.model_link.specs.Offers as offers
+use Rattle.model_link.specs.Words as word
+use Rattle.lapd_seq.specs.declared.windows.Window.{Window}
 
 -- one step after the other
 infixr 10 ◌▹◌
@@ -16,6 +18,39 @@ pub ◌▹◌ : {terms : Terms} {info : List ℕ} {f g : Step} {e e' e'' : Entit
 -- no step
 pub does_nothing : {terms : Terms} {info : List ℕ} {e : Entity} {t : BareReport} → Does terms info nothing e t e t
 does_nothing = record { step = λ messages p fits. record { fits = fits; is = refl } }
+
+-- a flag, RC or the state is set
+still-fits : {terms : Terms} {messages : List (List ℕ)} {e e' : Entity} {t : BareReport} {p : Past} → e'.window ≡ e.window → e'.vr ≡ e.vr → e'.waiting ≡ e.waiting → Fits terms messages e t p → Fits terms messages e' t p
+still-fits {p = p} same still ring fits =
+    record { window = subst (λ w. Stands w p.a p.s) (sym same) fits.window; received = still ∙ fits.received; ring = ap (λ w. w.capacity) ring ∙ fits.ring; queue = fits.queue; few = fits.few }
+
+module _ {terms : Terms} {info : List ℕ} {e : Entity} {t : BareReport} where
+  pub peer_busy_set : {b : Bool} → Does terms info (word.peer_busy_is b) e t (record e { peer_busy = b }) t
+  peer_busy_set = record { step = λ messages p fits. record { fits = still-fits refl refl refl fits; is = refl } }
+
+  pub own_busy_set : {b : Bool} → Does terms info (word.own_busy_is b) e t (record e { own_busy = b }) t
+  own_busy_set = record { step = λ messages p fits. record { fits = still-fits refl refl refl fits; is = refl } }
+
+  pub rejecting_set : {b : Bool} → Does terms info (word.rejecting_is b) e t (record e { rejecting = b }) t
+  rejecting_set = record { step = λ messages p fits. record { fits = still-fits refl refl refl fits; is = refl } }
+
+  pub pending_set : {b : Bool} → Does terms info (word.pending_is b) e t (record e { pending = b }) t
+  pending_set = record { step = λ messages p fits. record { fits = still-fits refl refl refl fits; is = refl } }
+
+  pub asked_set : {b : Bool} → Does terms info (word.asked_is b) e t (record e { asked = b }) t
+  asked_set = record { step = λ messages p fits. record { fits = still-fits refl refl refl fits; is = refl } }
+
+  pub repeats_set : {n : ℕ} → Does terms info (word.repeats_are n) e t (record e { repeats = n }) t
+  repeats_set = record { step = λ messages p fits. record { fits = still-fits refl refl refl fits; is = refl } }
+
+  pub state_set : {state : State} → Does terms info (word.enter state) e t (record e { state = state }) t
+  state_set = record { step = λ messages p fits. record { fits = still-fits refl refl refl fits; is = refl } }
+
+  pub one_sent : {w : Window} → ((a s : ℕ) → Stands e.window a s → Stands w a (s + 1)) → Does terms info (changed offers.with_one_sent) e t (record e { window = w }) t
+  one_sent plain = record { step = λ messages p fits. record { fits = record { window = plain p.a p.s fits.window; received = fits.received; ring = fits.ring; queue = fits.queue; few = fits.few }; is = refl } }
+
+  pub repeats_more : Does terms info word.repeated e t (record e { repeats = e.repeats + 1 }) t
+  repeats_more = record { step = λ messages p fits. record { fits = still-fits refl refl refl fits; is = refl } }
 
 -- a step that comes to the same
 pub same_step : {terms : Terms} {info : List ℕ} {f g : Step} {e e' : Entity} {t t' : BareReport} → ((messages : List (List ℕ)) (p : Past) → Fits terms messages e t p → g (course_of info e t p) ≡ f (course_of info e t p)) → Does terms info g e t e' t' → Does terms info f e t e' t'
@@ -123,9 +158,16 @@ pub by_state : {terms : Terms} {info : List ℕ} (f : State → Step) {e e' : En
 by_state {info = info} f {e} {t = t} state is done =
     same_step (λ messages p fits. ap (λ (s : State). f s (course_of info e t p)) (sym is)) done
 
+pub by_either : {terms : Terms} {info : List ℕ} (f : State → Step) {e e' : Entity} {t t' : BareReport} {one : State} {Others : Type 0} → (e.state ≡ one) ⊎ Others → Does terms info (f one) e t e' t' → (Others → Does terms info (λ c. f c.link.state c) e t e' t') → Does terms info (λ c. f c.link.state c) e t e' t'
+by_either f {one = one} (inl is) first others = by_state f one is first
+by_either f (inr more) first others = others more
+
 -- what a step takes, known before
 pub with_known : {X : Type 0} {terms : Terms} {info : List ℕ} (f : X → Step) {e e' : Entity} {t t' : BareReport} (x y : X) → x ≡ y → Does terms info (f y) e t e' t' → Does terms info (f x) e t e' t'
 with_known {terms = terms} {info} f {e} {e'} {t} {t'} x y is done = subst (λ z. Does terms info (f z) e t e' t') (sym is) done
+
+pub by_known : {X : Type 0} {terms : Terms} {info : List ℕ} {nr : Seq} (f : X → ℕ → Step) {e e' : Entity} {t t' : BareReport} (x y : X) → x ≡ y → DoesBy terms info nr (f y) e t e' t' → DoesBy terms info nr (f x) e t e' t'
+by_known {terms = terms} {info} {nr} f {e} {e'} {t} {t'} x y is done = subst (λ z. DoesBy terms info nr (f z) e t e' t') (sym is) done
 
 -- what is sent is no part of what an entity holds
 pub gives : {terms : Terms} {info : List ℕ} {e : Entity} {t : BareReport} (sent : Course → Option Sent) → Does terms info (λ c. record c { sent = sent c }) e t e t

@@ -1,5 +1,5 @@
 -- The words with which the proofs of this crate speak, from where they are defined.
-pub use Rattle.std.proofs.Common.{Bool, IsTrue, List, MatchOption, None, Option, Some, [], ap, arith, cond, drop, eqb, false, get_or, inl, inr, length, min, not, refl, subst, suc, sym, take, true, true≢false, zero, zero-add, ℕ, ◌*◌, ◌+◌, ◌<◌, ◌∙◌, ◌∷◌, ◌≡◌, ◌≤◌, ◌||◌, is_some}
+pub use Rattle.std.proofs.Common.{Bool, IsTrue, List, MatchOption, None, Option, Some, [], ap, arith, cond, drop, eqb, false, get_or, inl, inr, length, min, not, refl, subst, suc, sym, take, true, true≢false, zero, zero-add, ℕ, ◌*◌, ◌+◌, ◌<◌, ◌∙◌, ◌∷◌, ◌≡◌, ◌≤◌, ◌⊎◌, ◌&&◌, ◌||◌, is_some}
 pub use Rattle.std.proofs.Math.Nat.{min-eq_left, min-eq_right}
 pub use Rattle.std.proofs.Math.Seq.{take-length}
 pub use Rattle.std.proofs.lemmas.Bool.{cases_lt, eqb-false, eqb-true, eq-eqb, le-ltb, lt-ltb}
@@ -19,7 +19,7 @@ pub use Rattle.lapd_frame.specs.declared.notes.Note.{Note}
 pub use Rattle.lapd_link_steps.specs.Does.{Agrees, Does, DoesBy}
 pub use Rattle.lapd_link_steps.specs.Done.{Gives, Rests, Took, past_at}
 pub use Rattle.lapd_link_steps.specs.Reports.{IsClear}
-pub use Rattle.lapd_link_steps.specs.Parts.{effect_of, particulars, renewed, supervised}
+pub use Rattle.lapd_link_steps.specs.Parts.{effect_of, particulars, renewed}
 pub use Rattle.lapd_link_steps.specs.Past.{Fits, Past, course_of, if_told, link_of, past_of}
 pub use Rattle.lapd_link_steps.specs.declared.entity.Entity.{Entity}
 pub use Rattle.lapd_link_steps.specs.declared.offers.Given.{Given}

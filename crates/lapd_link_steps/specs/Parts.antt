@@ -1,21 +1,32 @@
 -- Parts of rows that are a method each.
 use Rattle.std.specs.Prelude.{ℕ, Bool, true, false}
+use Rattle.lapd_seq.specs.declared.numbers.Seq.{Seq}
+use Rattle.lapd_frame.specs.declared.controls.Control.TheVariants.{Sabme}
 use Rattle.lapd_frame.specs.declared.notes.ErrorCode.{ErrorCode}
-use Rattle.model_link.specs.declared.states.State.TheVariants.{Established}
-use Rattle.model_link.specs.declared.timers.LinkTimer.{LinkTimer}
+use Rattle.model_link.specs.declared.states.State.TheVariants.{AwaitingEstablishment}
 use Rattle.model_link.specs.declared.terms.Terms.{Terms}
 use Rattle.model_link.specs.Link.{is_asked, has_outstanding}
 use Rattle.model_link.specs.Steps.{Step, ◌then◌, nothing, depending_on}
-use Rattle.model_link.specs.Words.{peer_busy_is, establish_indication, establish_confirm, discard, send_again_from, start, enter}
+use Rattle.model_link.specs.Words.{asked_is, clear_flags, command, enter, pending_is, ready_to_receive, repeats_are, response, send, establish_indication, establish_confirm, discard, start, by_number}
 use Rattle.model_link.specs.Machine.{malformed_in, told_of_clearing}
 use Rattle.model_link.specs.MultipleFrame.{Particulars, answered, is_final}
-use Rattle.model_link.specs.Established.{particulars_in_7}
+use Rattle.model_link.specs.Established.{either_way, particulars_in_7}
 use Rattle.model_link.specs.TimerRecovery.{particulars_in_8}
 use Rattle.model_link.specs.Requests.{release_in}
 use Rattle.model_link.specs.Offers.{is_awaiting_acknowledgement}
 use Rattle.model_link.specs.declared.timers.LinkTimer.TheVariants.{T200}
 use Rattle.lapd_link_steps.specs.declared.states.multiple_frame.Bearer.{Bearer}
 use Rattle.lapd_link_steps.specs.declared.states.multiple_frame.Bearer.TheVariants.{Information, Rr, Rnr, Rej}
+
+-- The establishment begins, as layer 3 asked or after an error.
+abbrev pub establishing : Terms → Bool → Step
+establishing t asked =
+    clear_flags then send t (command (Sabme true)) then repeats_are 0 then start T200 then asked_is asked
+    then enter AwaitingEstablishment
+
+-- RR or RNR tells whether own busy is on, as the answer to a command or unasked.
+abbrev pub ready_reported : Terms → Bool → Step
+ready_reported t pf c = (send t (response (ready_to_receive pf c.link)) then pending_is false) c
 
 -- Where contents are outstanding, all are lost, and layer 3 is told (Q.921 clauses 5.5.1.2 and 5.7).
 abbrev pub renewed : Terms → Step
@@ -24,10 +35,6 @@ renewed t = depending_on has_outstanding (discard then establish_indication t) n
 -- A UA with F=1 in state 5.
 abbrev pub told_of_establishment : Terms → Step
 told_of_establishment t = depending_on is_asked (establish_confirm t) (renewed t)
-
--- The enquiry was answered: what was not received is sent again (clause 5.6.7).
-abbrev pub sent_again : LinkTimer → ℕ → Step
-sent_again timer n = send_again_from n then start timer then enter Established
 
 -- Rows by the state that the link is in.
 abbrev pub malformed_by_state : Terms → ErrorCode → Step
@@ -50,17 +57,12 @@ particulars true t = particulars_in_8 t
 
 -- What an N(R) does, by the frame that brought it.
 abbrev pub effect_of : Particulars → Bearer → Bool → ℕ → Step
-effect_of own Information final = own.by_information
-effect_of own Rr final = own.by_rr final
-effect_of own Rnr final = own.by_rnr final
-effect_of own Rej final = own.by_rej final
+effect_of own Information = either_way own.by_information
+effect_of own Rr = own.by_rr
+effect_of own Rnr = own.by_rnr
+effect_of own Rej = own.by_rej
 
--- Whether a supervisory frame tells that the terminal can take no I-frames.
-abbrev pub tells_busy : Bearer → Bool
-tells_busy Rnr = true
-tells_busy other = false
-
--- A supervisory frame, before its N(R) has its effect.
-abbrev pub supervised : Particulars → Terms → Bearer → Bool → Bool → Step
-supervised own t by is_command pf =
-    peer_busy_is (tells_busy by) then answered t is_command pf then own.told_of (is_final is_command pf)
+-- A supervisory frame, but for whether the terminal is busy.
+abbrev pub supervisory : Particulars → Terms → Bearer → Bool → Seq → Bool → Step
+supervisory own t by is_command nr pf =
+    answered t is_command pf then own.told_of (is_final is_command pf) then by_number t nr (effect_of own by (is_final is_command pf))

@@ -42,11 +42,10 @@ impl Entity {
             Does terms.now info (malformed_by_state terms.now code) self.old told.old self.new told.new }
     {
         match self.state {
-            State::TeiAssigned => told.leave_unserved(),
-            State::AwaitingEstablishment => told.leave_unserved(),
-            State::AwaitingRelease => told.leave_unserved(),
-            State::Established => self.failed(terms, told, code),
-            State::TimerRecovery => self.failed(terms, told, code),
+            State::Established | State::TimerRecovery => self.failed(terms, told, code),
+            State::TeiAssigned | State::AwaitingEstablishment | State::AwaitingRelease => {
+                told.leave_unserved();
+            }
         }
     }
 }

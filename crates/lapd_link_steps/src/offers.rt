@@ -98,8 +98,8 @@ impl Entity {
         ensures numbered { is_some result.place ≡ true }
     {
         let given = self.next_information();
-        self.count_sent();
-        self.pending_is(false);
+        self.window.advance();
+        self.pending = false;
         self.await_acknowledgement(told);
         given
     }
@@ -121,13 +121,6 @@ impl Entity {
             frame,
             place: Some(usize::from(self.window.outstanding())),
         }
-    }
-
-    fn count_sent(&mut self)
-        requires { outstanding_of self.old.window < 127 }
-        ensures { Changes (changed offers.with_one_sent) self.old self.new }
-    {
-        self.window.advance();
     }
 
     // T200 is started unless it runs.

@@ -1,11 +1,12 @@
 //! What layer 3 asks for, and the end of a TEI.
 
 ghost use Rattle.std.specs.Prelude.{ℕ, List};
-ghost use Rattle.lapd_link_steps.specs.{cleared_step, begin_anew, Terms, IsFresh, HasRoom, Tells, released_by_state, told_of_clearing_by_state};
+ghost use Rattle.lapd_link_steps.specs.{cleared_step, IsFresh, HasRoom, Tells, released_by_state, told_of_clearing_by_state};
 ghost use Rattle.lapd_link_steps.specs.Does.{Does};
 
 use crate::entity::Entity;
 use crate::report::{ALL, BareReport};
+use lapd_frame::Note;
 use lapd_seq::{Seq, Window};
 use model_link::{State, Terms};
 
@@ -17,11 +18,9 @@ impl Entity {
         ensures does { (info : List ℕ) → Does terms.now info (released_by_state terms.now) self.old told.old self.new told.new }
     {
         match self.state {
-            State::TeiAssigned => told.release_confirm(terms),
-            State::AwaitingEstablishment => {}
-            State::AwaitingRelease => {}
-            State::Established => self.release_in_7_8(terms, told),
-            State::TimerRecovery => self.release_in_7_8(terms, told),
+            State::TeiAssigned => told.note(Note::ReleaseConfirm(terms.service, terms.tei)),
+            State::AwaitingEstablishment | State::AwaitingRelease => {}
+            State::Established | State::TimerRecovery => self.release_in_7_8(terms, told),
         }
     }
 
@@ -32,7 +31,9 @@ impl Entity {
         ensures does { (info : List ℕ) → Does terms.now info (cleared_step terms.now) self.old told.old self.new told.new }
     {
         self.tell_clearing(terms, told);
-        self.begin_anew(told);
+        self.begin();
+        told.started = None;
+        told.released = ALL;
     }
 
     fn tell_clearing(&self, terms: &Terms, told: &mut BareReport)
@@ -43,20 +44,11 @@ impl Entity {
     {
         match self.state {
             State::TeiAssigned => {}
-            State::AwaitingEstablishment => told.release_indication(terms),
-            State::AwaitingRelease => told.release_confirm(terms),
-            State::Established => told.release_indication(terms),
-            State::TimerRecovery => told.release_indication(terms),
+            State::AwaitingRelease => told.note(Note::ReleaseConfirm(terms.service, terms.tei)),
+            State::AwaitingEstablishment | State::Established | State::TimerRecovery => {
+                told.note(Note::ReleaseIndication(terms.service, terms.tei));
+            }
         }
-    }
-
-    fn begin_anew(&mut self, told: &mut BareReport)
-        ensures tells { Tells 0 0 told.old told.new }
-        ensures does { (terms : Terms) (info : List ℕ) → Does terms info begin_anew self.old told.old self.new told.new }
-    {
-        self.begin();
-        told.started = None;
-        told.released = ALL;
     }
 
     /// The entity is as one that begins, with its ring empty.

@@ -1,7 +1,7 @@
 //! The check of a TEI.
 
 ghost use Rattle.std.specs.Prelude.{◌≡◌, ◌≤◌};
-ghost use Rattle.lapd_tei.specs.{First, counted, responses, is_unanswered};
+ghost use Rattle.lapd_tei.specs.{counted, responses, is_unanswered};
 
 /// A check of a TEI that is under way (Q.921 clause 5.3.3.2).
 #[derive(Clone, Copy, PartialEq, Eq, Debug)]
@@ -26,18 +26,6 @@ pub enum Period {
 }
 
 impl Check {
-    // A check that begins.
-    pub(crate) fn begun(tei: u8) -> Check
-        ensures { result ≡ record { tei = tei; period = First; first = 0; second = 0 } }
-    {
-        Check {
-            tei,
-            period: Period::First,
-            first: 0,
-            second: 0,
-        }
-    }
-
     // The check with one response more in its period.
     pub(crate) fn counted(self) -> Check
         requires first { self.first ≤ 1 }

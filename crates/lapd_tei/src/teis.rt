@@ -7,7 +7,6 @@ ghost use Rattle.lapd_frame.specs.declared.addresses.Side.{Side as Spelt};
 mod checks;
 
 use crate::check::Check;
-use crate::fault::StartFault;
 use crate::heard::Heard;
 use crate::messages::Message;
 use crate::outcome::{Change, TeiOutcome};
@@ -15,7 +14,7 @@ use crate::queue::Queue;
 use crate::remembered::Memory;
 use crate::table::Table;
 use lapd_frame::{Note, Order, Refusal, ShortList, Side, Timer};
-use std::alloc::Global;
+use std::alloc::{AllocError, Global};
 use std::marker::Model;
 
 /// TEI management of one line (Q.921 clause 5.3), the network's side.
@@ -49,8 +48,8 @@ impl Teis {
     ///
     /// # Errors
     ///
-    /// `OutOfMemory` where there is no memory for the messages that wait.
-    pub fn start(alloc: Global, terminals: usize) -> Result<Teis, StartFault>
+    /// `AllocError` where there is no memory for the messages that wait.
+    pub fn start(alloc: Global, terminals: usize) -> Result<Teis, AllocError>
         requires { 1 ≤ terminals × terminals ≤ 8 }
         ensures { IfOk result (λ teis. teis ≡ empty terminals) }
     {
@@ -58,7 +57,7 @@ impl Teis {
             table: Table::empty(terminals),
             memory: Memory::new(),
             check: None,
-            queue: Queue::start(alloc).map_err(|_| StartFault::OutOfMemory)?,
+            queue: Queue::start(alloc)?,
         })
     }
 
@@ -236,11 +235,7 @@ impl Teis {
             self.queue.send(Message::IdentityAssigned { ri, tei });
             return TeiOutcome::nothing();
         }
-        let Some(place) = self.table.free_place() else {
-            self.queue.send(Message::IdentityDenied { ri });
-            return TeiOutcome::nothing();
-        };
-        let Some(tei) = self.table.free_tei() else {
+        let (Some(place), Some(tei)) = (self.table.free_place(), self.table.free_tei()) else {
             self.queue.send(Message::IdentityDenied { ri });
             return TeiOutcome::nothing();
         };

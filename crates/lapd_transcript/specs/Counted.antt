@@ -11,8 +11,8 @@ use Rattle.lapd_count.specs.declared.counter.Way.TheVariants.{Heard, Begun}
 use Rattle.lapd_count.specs.declared.counters.Counters.{Counters}
 use Rattle.lapd_count.specs.declared.kinds.Kind.{Kind}
 use Rattle.lapd_count.specs.declared.kinds.Kind.TheVariants as kind
-use Rattle.lapd_count.specs.declared.messages.Message.{Message}
-use Rattle.lapd_count.specs.declared.messages.Message.TheVariants as message
+use Rattle.lapd_count.specs.declared.messages.MessageType.{MessageType}
+use Rattle.lapd_count.specs.declared.messages.MessageType.TheVariants as message
 use Rattle.lapd_count.specs.Counters.{value_in}
 use Rattle.lapd_transcript.specs.declared.counters.CounterGroup.{CounterGroup}
 use Rattle.lapd_transcript.specs.declared.counters.CounterGroup.TheVariants as group
@@ -65,7 +65,7 @@ kind_name kind.Frmr = codes "frmr"
 kind_name kind.Xid = codes "xid"
 kind_name kind.Undefined = codes "undefined"
 
-abbrev pub message_name : Message → List ℕ
+abbrev pub message_name : MessageType → List ℕ
 message_name message.IdentityRequest = codes "request"
 message_name message.IdentityAssigned = codes "assigned"
 message_name message.IdentityDenied = codes "denied"

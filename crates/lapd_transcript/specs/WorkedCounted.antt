@@ -7,7 +7,7 @@ use Rattle.lapd_frame.specs.declared.notes.ErrorCode.TheVariants.{F}
 use Rattle.lapd_count.specs.declared.counter.Counter.TheVariants.{Frames, Octets, Dropped, Errors, Lost, Messages}
 use Rattle.lapd_count.specs.declared.counter.Way.TheVariants.{Heard, Begun}
 use Rattle.lapd_count.specs.declared.kinds.Kind.TheVariants.{Sabme}
-use Rattle.lapd_count.specs.declared.messages.Message.TheVariants.{IdentityDenied}
+use Rattle.lapd_count.specs.declared.messages.MessageType.TheVariants.{IdentityDenied}
 use Rattle.lapd_count.specs.Counters.{place, none_counted, with_all}
 use Rattle.lapd_transcript.specs.declared.counters.CounterGroup.TheVariants as group
 use Rattle.lapd_transcript.specs.Counted.{line_counters, message_counters, group_name, own_name, counters_text}

@@ -7,7 +7,7 @@ ghost use Rattle.lapd_transcript.specs.{Puts, on, is_zero, names_of, counters_te
 use crate::output::{Page, decimal};
 use crate::streams::{Put, Target};
 use lapd_count::Counter::Messages;
-use lapd_count::Message::{
+use lapd_count::MessageType::{
     IdentityAssigned, IdentityCheckRequest as CheckRequest, IdentityCheckResponse as CheckResponse,
     IdentityDenied, IdentityRemove, IdentityRequest, IdentityVerify,
 };

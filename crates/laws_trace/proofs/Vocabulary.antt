@@ -123,7 +123,7 @@ pub use Rattle.laws_link.specs.Offered.{Carries, IsOffered, i_frames, number_sen
 pub use Rattle.laws_link.specs.States.{as_heard, by_expiry, by_frame, by_received, by_request, comes_to, is_anew, is_clearing, is_faulty, is_invalid, is_overlong, leads_by_agreement, leads_by_sabme, moves, numbers_begin, receipt_of, state_after}
 pub use Rattle.laws_link.specs.Telling.{final_as, numbered_as, told_by, told_cleared, told_expired}
 pub use Rattle.laws_link.specs.Timed.{is_same, obey, obeyed}
-pub use Rattle.laws_link.specs.Waiting.{answers, answers_to, answers_up, as_command, as_response, behind, command_in, commands, is_next, is_taken, is_time, put, receipt_as, room, to_disc, to_information, to_sabme, to_supervisory, waiting_left}
+pub use Rattle.laws_link.specs.Waiting.{answers, answers_to, answers_up, as_command, as_response, behind, command_in, commands, takes_next, is_taken, is_time, put, receipt_as, room, to_disc, to_information, to_sabme, to_supervisory, waiting_left}
 pub use Rattle.laws_link.specs.two.Needed.{HasItsTimer, IsCalmIn, needed, needed_in}
 pub use Rattle.laws_trace.specs.ControlFrames.{put_in}
 pub use Rattle.laws_trace.specs.Deliveries.{Deliveries, brings_next, is_unit_for, is_unit_taken}
@@ -132,7 +132,7 @@ pub use Rattle.laws_trace.specs.FramesAreRead.{FramesAreOctets, FramesAreRead, G
 pub use Rattle.laws_trace.specs.LinkFrames.{brought, fault_of, faulty_long, frame_of, is_for, is_frame_of, its_frame, malformed, reads}
 pub use Rattle.laws_trace.specs.Managing.{manages, Checked, Managed, asked, by_event as managing_by_event, by_message, checks, due, gives, grants, is_on as managing_is_on, leaves, led, managed_after, may_check, none_on, nothing_due, over, owes, ran_out, responded}
 pub use Rattle.laws_trace.specs.News.{NewsIsTold, brings, given_up, is_news, is_sabme, is_xid, releases, wrong, wrong_frame, wrong_number}
-pub use Rattle.laws_trace.specs.Observer.{Observed, View, anew, at_first, awaits, by_event, by_expiry as observer_by_expiry, by_frame as observer_by_frame, by_heard, by_request as observer_by_request, by_t200, enquires, enters, in_state, is_invalid as observer_is_invalid, is_next as observer_is_next, is_outstanding, moment_of, numbered, receipt, sends, steps, takes as observer_takes, view_behind, view_of, views, while_down, while_up}
+pub use Rattle.laws_trace.specs.Observer.{Observed, View, anew, at_first, awaits, by_event, by_expiry as observer_by_expiry, by_frame as observer_by_frame, by_heard, by_request as observer_by_request, by_t200, enquires, enters, in_state, is_invalid as observer_is_invalid, takes_next, is_outstanding, moment_of, numbered, receipt, sends, steps, takes as observer_takes, view_behind, view_of, views, while_down, while_up}
 pub use Rattle.laws_trace.specs.Outgoing.{Outgoing, data_granted, is_empty, keeps, nothing_yet, outgoing_of, still_owes, watches, went_on, waits as outgoing_waits}
 pub use Rattle.laws_trace.specs.TeisAreManaged.{IsAsDue, TeisAreManaged, is_of_t201, is_of_teis}
 pub use Rattle.laws_trace.specs.TimersAreTimely.{TimersAreTimely, TimersRun, is_order_of, is_timer_of, renews}

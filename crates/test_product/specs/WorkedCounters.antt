@@ -10,7 +10,7 @@ use Rattle.lapd_frame.specs.Reading.{control_of, supervisory_of, unnumbered_of}
 use Rattle.lapd_count.specs.declared.counter.Counter.TheVariants.{Frames, Octets, Polls, Dropped, Errors, Lost, Messages}
 use Rattle.lapd_count.specs.declared.counter.Way.TheVariants.{Heard, Begun}
 use Rattle.lapd_count.specs.declared.kinds.Kind.TheVariants.{Information, ReceiveReady, Sabme, Ua, Ui}
-use Rattle.lapd_count.specs.declared.messages.Message.TheVariants.{IdentityRequest, IdentityDenied}
+use Rattle.lapd_count.specs.declared.messages.MessageType.TheVariants.{IdentityRequest, IdentityDenied}
 use Rattle.lapd_count.specs.Counters.{most, none_counted, value_in, with_all}
 use Rattle.lapd_count.specs.Shown.{heard_shown, octets_shown, begun_shown, told_shown}
 

@@ -7,7 +7,7 @@ ghost use Rattle.lapd_link_steps.specs.Does.{Does};
 
 use crate::entity::Entity;
 use crate::report::BareReport;
-use lapd_frame::{Control, ErrorCode};
+use lapd_frame::{Control, ErrorCode, Note};
 use model_link::{LinkTimer, State, Terms};
 
 impl Entity {
@@ -29,11 +29,11 @@ impl Entity {
             Control::Sabme { pf } => self.response(terms, told, Control::Ua { pf }),
             Control::Disc { pf } => self.response(terms, told, Control::Dm { pf }),
             Control::Ua { pf: true } => self.accepted_in_5(terms, told),
-            Control::Ua { pf: false } => told.error(terms, ErrorCode::D),
             Control::Dm { pf: true } => self.declined_in_5(terms, told),
             Control::Dm { pf: false } => told.leave_unserved(),
+            Control::Ua { pf: false } => told.error(terms, ErrorCode::D),
             Control::Ui { .. } => told.unit_data(terms, octets),
-            Control::Xid { .. } => told.xid(terms),
+            Control::Xid { .. } => told.note(Note::Xid(terms.service, terms.tei)),
             Control::Information { .. } => told.leave_unserved(),
             Control::ReceiveReady { .. } => told.leave_unserved(),
             Control::ReceiveNotReady { .. } => told.leave_unserved(),
@@ -51,7 +51,7 @@ impl Entity {
         self.tell_establishment(terms, told);
         self.zero_numbers(told);
         self.start_timer(told, LinkTimer::T203);
-        self.enter(State::Established);
+        self.state = State::Established;
     }
 
     // Layer 3 is told where it asked, or where contents are lost.
@@ -61,7 +61,7 @@ impl Entity {
         ensures does { (info : List ℕ) → Does terms.now info (told_of_establishment terms.now) self.old told.old self.new told.new }
     {
         if self.asked {
-            told.establish_confirm(terms);
+            told.note(Note::EstablishConfirm(terms.service, terms.tei));
         } else {
             self.discard_outstanding(terms, told);
         }
@@ -74,9 +74,9 @@ impl Entity {
         ensures does { (info : List ℕ) → Does terms.now info (row.frame_in_5 terms.now info (Dm true)) self.old told.old self.new told.new }
     {
         self.discard(told);
-        told.release_indication(terms);
+        told.note(Note::ReleaseIndication(terms.service, terms.tei));
         self.no_timer(told);
-        self.enter(State::TeiAssigned);
+        self.state = State::TeiAssigned;
     }
 
     pub(crate) fn t200_in_5(&mut self, terms: &Terms, told: &mut BareReport)
@@ -86,14 +86,14 @@ impl Entity {
     {
         if self.repeats < terms.n200 {
             self.command(terms, told, Control::Sabme { pf: true });
-            self.repeated();
+            self.repeats += 1;
             self.start_timer(told, LinkTimer::T200);
             return;
         }
         self.discard(told);
         told.error(terms, ErrorCode::G);
-        told.release_indication(terms);
+        told.note(Note::ReleaseIndication(terms.service, terms.tei));
         self.no_timer(told);
-        self.enter(State::TeiAssigned);
+        self.state = State::TeiAssigned;
     }
 }

@@ -7,7 +7,7 @@ ghost use Rattle.lapd_link_steps.specs.Does.{Does, HasRoom, Tells};
 
 use crate::entity::Entity;
 use crate::report::BareReport;
-use lapd_frame::{Control, ErrorCode};
+use lapd_frame::{Control, ErrorCode, Note};
 use model_link::{LinkTimer, State, Terms};
 
 impl Entity {
@@ -33,12 +33,8 @@ impl Entity {
             Control::Dm { pf: false } => told.leave_unserved(),
             Control::Ua { pf: false } => told.error(terms, ErrorCode::D),
             Control::Ui { .. } => told.unit_data(terms, octets),
-            Control::Xid { .. } => told.xid(terms),
-            Control::Information { .. } => told.leave_unserved(),
-            Control::ReceiveReady { .. } => told.leave_unserved(),
-            Control::ReceiveNotReady { .. } => told.leave_unserved(),
-            Control::Reject { .. } => told.leave_unserved(),
-            Control::Frmr { .. } => told.leave_unserved(),
+            Control::Xid { .. } => told.note(Note::Xid(terms.service, terms.tei)),
+            _ => told.leave_unserved(),
         }
     }
 
@@ -48,9 +44,9 @@ impl Entity {
         ensures tells { Tells 1 0 told.old told.new }
         ensures does { (info : List ℕ) → Does terms.now info (row.frame_in_6 terms.now info (Ua true)) self.old told.old self.new told.new }
     {
-        told.release_confirm(terms);
+        told.note(Note::ReleaseConfirm(terms.service, terms.tei));
         self.no_timer(told);
-        self.enter(State::TeiAssigned);
+        self.state = State::TeiAssigned;
     }
 
     pub(crate) fn t200_in_6(&mut self, terms: &Terms, told: &mut BareReport)
@@ -60,13 +56,13 @@ impl Entity {
     {
         if self.repeats < terms.n200 {
             self.command(terms, told, Control::Disc { pf: true });
-            self.repeated();
+            self.repeats += 1;
             self.start_timer(told, LinkTimer::T200);
             return;
         }
         told.error(terms, ErrorCode::H);
-        told.release_confirm(terms);
+        told.note(Note::ReleaseConfirm(terms.service, terms.tei));
         self.no_timer(told);
-        self.enter(State::TeiAssigned);
+        self.state = State::TeiAssigned;
     }
 }

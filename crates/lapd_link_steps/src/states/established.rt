@@ -22,23 +22,19 @@ impl Entity {
             DoesBy terms info nr (effect_of (row.particulars_in_7 terms) by final) self.old told.old self.new told.new }
     {
         match by {
-            Bearer::Information => self.acknowledged_by_information_in_7(told, nr),
+            Bearer::Information if self.peer_busy => self.acknowledge(told, nr),
+            Bearer::Information => self.acknowledged_by_rr_in_7(told, nr),
             Bearer::Rr => self.acknowledged_by_rr_in_7(told, nr),
-            Bearer::Rnr => self.acknowledged_by_rnr_in_7(told, nr),
-            Bearer::Rej => self.acknowledged_by_rej_in_7(told, nr),
+            Bearer::Rnr => {
+                self.acknowledge(told, nr);
+                self.start_timer(told, LinkTimer::T200);
+            }
+            Bearer::Rej => {
+                self.acknowledge(told, nr);
+                self.send_again_from(nr);
+                self.start_timer(told, LinkTimer::T203);
+            }
         }
-    }
-
-    fn acknowledged_by_information_in_7(&mut self, told: &mut BareReport, nr: Seq)
-        requires { IsValid (va_of self.old.window) nr (vs_of self.old.window) }
-        ensures tells { Tells 0 0 told.old told.new }
-        ensures does { (terms : Terms) (info : List ℕ) →
-            DoesBy terms info nr row.acknowledged_by_information_in_7 self.old told.old self.new told.new }
-    {
-        if self.peer_busy {
-            return self.acknowledge(told, nr);
-        }
-        self.acknowledged_by_rr_in_7(told, nr);
     }
 
     // RR, or an I-frame while the terminal is not busy.
@@ -60,36 +56,15 @@ impl Entity {
         self.start_timer(told, LinkTimer::T200);
     }
 
-    fn acknowledged_by_rnr_in_7(&mut self, told: &mut BareReport, nr: Seq)
-        requires { IsValid (va_of self.old.window) nr (vs_of self.old.window) }
-        ensures tells { Tells 0 0 told.old told.new }
-        ensures does { (terms : Terms) (info : List ℕ) →
-            DoesBy terms info nr row.acknowledged_by_rnr_in_7 self.old told.old self.new told.new }
-    {
-        self.acknowledge(told, nr);
-        self.start_timer(told, LinkTimer::T200);
-    }
-
-    fn acknowledged_by_rej_in_7(&mut self, told: &mut BareReport, nr: Seq)
-        requires { IsValid (va_of self.old.window) nr (vs_of self.old.window) }
-        ensures tells { Tells 0 0 told.old told.new }
-        ensures does { (terms : Terms) (info : List ℕ) →
-            DoesBy terms info nr row.acknowledged_by_rej_in_7 self.old told.old self.new told.new }
-    {
-        self.acknowledge(told, nr);
-        self.send_again_from(nr);
-        self.start_timer(told, LinkTimer::T203);
-    }
-
     pub(crate) fn timer_in_7(&mut self, terms: &Terms, told: &mut BareReport)
         requires { HasRoom 0 1 told.old }
         ensures tells { Tells 0 1 told.old told.new }
         ensures does { (info : List ℕ) → Does terms.now info (row.timer_in_7 terms.now) self.old told.old self.new told.new }
     {
-        self.repeats_are_0();
+        self.repeats = 0;
         self.enquire(terms, told);
         self.start_timer(told, LinkTimer::T200);
-        self.enter(State::TimerRecovery);
+        self.state = State::TimerRecovery;
     }
 }
 

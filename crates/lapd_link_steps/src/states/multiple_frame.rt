@@ -1,32 +1,15 @@
 //! What states 7 and 8 have in common: multiple-frame operation.
 
 ghost use Rattle.std.specs.Prelude.{◌≡◌, ℕ, List, length};
-ghost use Rattle.lapd_link_steps.specs.{by_number, Adds, HasRoom, Tells, particulars, effect_of, supervised, renewed, tells_busy};
+ghost use Rattle.lapd_link_steps.specs.{by_number, HasRoom, Tells, particulars, effect_of, supervisory, renewed};
 ghost use Rattle.model_link.specs.MultipleFrame as row;
 ghost use Rattle.lapd_link_steps.specs.Does.{Does};
 
 use crate::entity::Entity;
 use crate::report::BareReport;
-use lapd_frame::{Control, ErrorCode};
+use lapd_frame::{Control, ErrorCode, Note};
 use lapd_seq::Seq;
 use model_link::{LinkTimer, State, Terms};
-
-impl BareReport {
-    // UA, which no command asked for.
-    #[tactic(auto, using(crate::proofs::Steps::bit_yes, crate::proofs::Steps::bit_no))]
-    #[cold]
-    pub(crate) fn ua_in_7_8(&mut self, terms: &Terms, pf: bool)
-        requires { HasRoom 1 0 self.old }
-        ensures tells { Tells 1 0 self.old self.new }
-        ensures does { Adds (row.ua_in_7_8 terms.now pf) self.old self.new }
-    {
-        if pf {
-            self.error(terms, ErrorCode::C);
-        } else {
-            self.error(terms, ErrorCode::D);
-        }
-    }
-}
 
 // A frame that brings an N(R), which has its effect by it.
 #[derive(Clone, Copy)]
@@ -35,23 +18,6 @@ pub(crate) enum Bearer {
     Rr,
     Rnr,
     Rej,
-}
-
-impl Bearer {
-    // Whether it tells that the terminal can take no I-frames, of supervisory frames.
-    #[inline(always)]
-    fn tells_busy(self) -> bool
-        ensures { result ≡ tells_busy self }
-    {
-        matches!(self, Bearer::Rnr)
-    }
-}
-
-// Whether a supervisory frame is a response with F=1, which answers a command.
-fn is_final(command: bool, pf: bool) -> bool
-    ensures { result ≡ row.is_final command pf }
-{
-    !command && pf
 }
 
 impl Entity {
@@ -80,56 +46,50 @@ impl Entity {
                 self.number(terms, told, recovering, nr, Bearer::Information, false);
             }
             Control::ReceiveReady { nr, pf } => {
-                let by = Bearer::Rr;
-                let last = self.supervised(terms, told, recovering, by, command, pf);
-                self.number(terms, told, recovering, nr, by, last);
+                self.peer_busy = false;
+                self.supervisory(terms, told, recovering, Bearer::Rr, command, nr, pf);
             }
             Control::ReceiveNotReady { nr, pf } => {
-                let by = Bearer::Rnr;
-                let last = self.supervised(terms, told, recovering, by, command, pf);
-                self.number(terms, told, recovering, nr, by, last);
+                self.peer_busy = true;
+                self.supervisory(terms, told, recovering, Bearer::Rnr, command, nr, pf);
             }
             Control::Reject { nr, pf } => {
-                let by = Bearer::Rej;
-                let last = self.supervised(terms, told, recovering, by, command, pf);
-                self.number(terms, told, recovering, nr, by, last);
+                self.peer_busy = false;
+                self.supervisory(terms, told, recovering, Bearer::Rej, command, nr, pf);
             }
             Control::Sabme { pf } => self.sabme_in_7_8(terms, told, pf),
             Control::Disc { pf } => self.disc_in_7_8(terms, told, pf),
-            Control::Ua { pf } => told.ua_in_7_8(terms, pf),
+            Control::Ua { pf: true } => told.error(terms, ErrorCode::C),
+            Control::Ua { pf: false } => told.error(terms, ErrorCode::D),
             Control::Dm { pf: true } => self.dm_in_7_8(terms, told, recovering),
             Control::Dm { pf: false } => self.failed(terms, told, ErrorCode::E),
             Control::Frmr { .. } => self.failed(terms, told, ErrorCode::K),
             Control::Ui { .. } => told.unit_data(terms, octets),
-            Control::Xid { .. } => told.xid(terms),
+            Control::Xid { .. } => told.note(Note::Xid(terms.service, terms.tei)),
         }
     }
 
-    // A supervisory frame came, before its N(R) has its effect. Whether it is final.
+    // RR, RNR or REJ, but for whether the terminal is busy. One that is final is a response with F=1: it answers a command.
     #[inline(always)]
-    fn supervised(
+    fn supervisory(
         &mut self,
         terms: &Terms,
         told: &mut BareReport,
         recovering: bool,
         by: Bearer,
         command: bool,
+        nr: Seq,
         pf: bool,
-    ) -> bool
-        requires { HasRoom 1 1 told.old }
-        ensures tells { Tells 1 1 told.old told.new }
-        ensures last { result ≡ row.is_final command pf }
+    )
+        requires { HasRoom 2 2 told.old }
+        ensures tells { Tells 2 2 told.old told.new }
         ensures does { (info : List ℕ) →
-            Does terms.now info (supervised (particulars recovering terms.now) terms.now by command pf) self.old told.old self.new told.new }
+            Does terms.now info (supervisory (particulars recovering terms.now) terms.now by command nr pf) self.old told.old self.new told.new }
     {
-        let last = is_final(command, pf);
-        self.peer_busy_is(by.tells_busy());
-        self.answered(terms, told, command, pf);
-        if recovering {
-            return last;
-        }
-        told.unsolicited(terms, last);
-        last
+        let last = !command && pf;
+        self.answer_if(terms, told, command && pf);
+        told.unsolicited(terms, !recovering && last);
+        self.number(terms, told, recovering, nr, by, last);
     }
 
     // An N(R): it is not valid, or it has its effect.
@@ -177,11 +137,11 @@ impl Entity {
         ensures does { (info : List ℕ) → Does terms.now info (row.release_in_7_8 terms.now) self.old told.old self.new told.new }
     {
         self.discard(told);
-        self.pending_is(false);
+        self.pending = false;
         self.command(terms, told, Control::Disc { pf: true });
-        self.repeats_are_0();
+        self.repeats = 0;
         self.start_timer(told, LinkTimer::T200);
-        self.enter(State::AwaitingRelease);
+        self.state = State::AwaitingRelease;
     }
 
     /// Layer 3 can take no more contents, in states 7 and 8.
@@ -193,8 +153,8 @@ impl Entity {
         if self.own_busy {
             return;
         }
-        self.own_busy_is(true);
-        self.report_ready(terms, told);
+        self.own_busy = true;
+        self.report_ready(terms, told, false);
     }
 
     /// Layer 3 can take contents again, in states 7 and 8.
@@ -206,8 +166,8 @@ impl Entity {
         if !self.own_busy {
             return;
         }
-        self.own_busy_is(false);
-        self.report_ready(terms, told);
+        self.own_busy = false;
+        self.report_ready(terms, told, false);
     }
 
     // The terminal establishes the link again.
@@ -223,7 +183,7 @@ impl Entity {
         self.discard_outstanding(terms, told);
         self.zero_numbers(told);
         self.start_timer(told, LinkTimer::T203);
-        self.enter(State::Established);
+        self.state = State::Established;
     }
 
     // Where contents are outstanding, all are lost, and layer 3 is told.
@@ -236,7 +196,7 @@ impl Entity {
             return;
         }
         self.discard(told);
-        told.establish_indication(terms);
+        told.note(Note::EstablishIndication(terms.service, terms.tei));
     }
 
     // The terminal releases the link.
@@ -247,11 +207,11 @@ impl Entity {
         ensures does { (info : List ℕ) → Does terms.now info (row.disc_in_7_8 terms.now pf) self.old told.old self.new told.new }
     {
         self.discard(told);
-        self.pending_is(false);
+        self.pending = false;
         self.response(terms, told, Control::Ua { pf });
-        told.release_indication(terms);
+        told.note(Note::ReleaseIndication(terms.service, terms.tei));
         self.no_timer(told);
-        self.enter(State::TeiAssigned);
+        self.state = State::TeiAssigned;
     }
 
     // An error that is told, and after which the link is established again.
@@ -262,20 +222,7 @@ impl Entity {
         ensures does { (info : List ℕ) → Does terms.now info (row.failed terms.now code) self.old told.old self.new told.new }
     {
         told.error(terms, code);
-        self.re_establish(terms, told);
-    }
-
-    // A command with P=1 is answered.
-    #[inline(always)]
-    #[tactic(auto, using(crate::proofs::Steps::bit_yes, crate::proofs::Steps::bit_no))]
-    pub(crate) fn answered(&mut self, terms: &Terms, told: &mut BareReport, command: bool, pf: bool)
-        requires { HasRoom 0 1 told.old }
-        ensures tells { Tells 0 1 told.old told.new }
-        ensures does { (info : List ℕ) → Does terms.now info (row.answered terms.now command pf) self.old told.old self.new told.new }
-    {
-        if command && pf {
-            self.answer(terms, told);
-        }
+        self.establish(terms, told, false);
     }
 
     // The contents of an I-frame: those next in sequence are delivered.
@@ -291,16 +238,17 @@ impl Entity {
             return self.out_of_sequence(terms, told, pf);
         }
         self.count_received();
-        self.rejecting_is(false);
+        self.rejecting = false;
         told.deliver(terms);
         if pf {
-            self.answer(terms, told);
+            self.report_ready(terms, told, true);
         } else {
-            self.pending_is(true);
+            self.pending = true;
         }
     }
 
     // P=1 is answered.
+    #[inline(always)]
     #[tactic(auto, using(crate::proofs::Steps::bit_yes, crate::proofs::Steps::bit_no))]
     fn answer_if(&mut self, terms: &Terms, told: &mut BareReport, pf: bool)
         requires { HasRoom 0 1 told.old }
@@ -308,7 +256,7 @@ impl Entity {
         ensures does { (info : List ℕ) → Does terms.now info (row.dropped terms.now pf) self.old told.old self.new told.new }
     {
         if pf {
-            self.answer(terms, told);
+            self.report_ready(terms, told, true);
         }
     }
 
@@ -322,7 +270,7 @@ impl Entity {
         if self.rejecting {
             return self.answer_if(terms, told, pf);
         }
-        self.rejecting_is(true);
+        self.rejecting = true;
         self.reject(terms, told, pf);
     }
 }

@@ -7,7 +7,7 @@ ghost use Rattle.lapd_link_steps.specs.Does.{Does, HasRoom, Tells};
 
 use crate::entity::Entity;
 use crate::report::BareReport;
-use lapd_frame::{Control, ErrorCode};
+use lapd_frame::{Control, ErrorCode, Note};
 use model_link::{LinkTimer, State, Terms};
 
 impl Entity {
@@ -31,7 +31,7 @@ impl Entity {
             Control::Ua { pf: true } => told.error(terms, ErrorCode::C),
             Control::Ua { pf: false } => told.error(terms, ErrorCode::D),
             Control::Ui { .. } => told.unit_data(terms, octets),
-            Control::Xid { .. } => told.xid(terms),
+            Control::Xid { .. } => told.note(Note::Xid(terms.service, terms.tei)),
             _ => told.leave_unserved(),
         }
     }
@@ -46,8 +46,8 @@ impl Entity {
         self.clear_flags();
         self.zero_numbers(told);
         self.start_timer(told, LinkTimer::T203);
-        told.establish_indication(terms);
-        self.enter(State::Established);
+        told.note(Note::EstablishIndication(terms.service, terms.tei));
+        self.state = State::Established;
     }
 
     /// Layer 3 asks for the establishment, in state 4.
@@ -56,11 +56,6 @@ impl Entity {
         ensures tells { Tells 0 1 told.old told.new }
         ensures does { (info : List ℕ) → Does terms.now info (row.establish_in_4 terms.now) self.old told.old self.new told.new }
     {
-        self.clear_flags();
-        self.command(terms, told, Control::Sabme { pf: true });
-        self.repeats_are_0();
-        self.start_timer(told, LinkTimer::T200);
-        self.asked_is(true);
-        self.enter(State::AwaitingEstablishment);
+        self.establish(terms, told, true);
     }
 }

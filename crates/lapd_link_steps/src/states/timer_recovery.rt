@@ -1,7 +1,7 @@
 //! State 8, timer recovery: multiple-frame operation while this side asks how far the terminal has received.
 
 ghost use Rattle.std.specs.Prelude.{ℕ, List};
-ghost use Rattle.lapd_link_steps.specs.{IsValid, va_of, vs_of, Terms, DoesBy, HasRoom, Tells, effect_of, sent_again};
+ghost use Rattle.lapd_link_steps.specs.{IsValid, va_of, vs_of, Terms, DoesBy, HasRoom, Tells, effect_of};
 ghost use Rattle.model_link.specs.TimerRecovery as row;
 ghost use Rattle.lapd_link_steps.specs.Does.{Does};
 
@@ -28,13 +28,12 @@ impl Entity {
     {
         match by {
             Bearer::Information => self.acknowledge(told, nr),
-            Bearer::Rr => self.acknowledged_by_supervisory_in_8(told, nr, last, LinkTimer::T203),
             Bearer::Rnr => self.acknowledged_by_supervisory_in_8(told, nr, last, LinkTimer::T200),
-            Bearer::Rej => self.acknowledged_by_supervisory_in_8(told, nr, last, LinkTimer::T203),
+            _ => self.acknowledged_by_supervisory_in_8(told, nr, last, LinkTimer::T203),
         }
     }
 
-    // A final frame answers the enquiry.
+    // A final frame answers the enquiry: what was not received is sent again.
     fn acknowledged_by_supervisory_in_8(
         &mut self,
         told: &mut BareReport,
@@ -49,19 +48,10 @@ impl Entity {
     {
         self.acknowledge(told, nr);
         if last {
-            self.recovered(told, nr, timer);
+            self.send_again_from(nr);
+            self.start_timer(told, timer);
+            self.state = State::Established;
         }
-    }
-
-    // What was not received is sent again.
-    fn recovered(&mut self, told: &mut BareReport, nr: Seq, timer: LinkTimer)
-        requires { IsValid (va_of self.old.window) nr (vs_of self.old.window) }
-        ensures tells { Tells 0 0 told.old told.new }
-        ensures does { (terms : Terms) (info : List ℕ) → DoesBy terms info nr (sent_again timer) self.old told.old self.new told.new }
-    {
-        self.send_again_from(nr);
-        self.start_timer(told, timer);
-        self.enter(State::Established);
     }
 
     pub(crate) fn t200_in_8(&mut self, terms: &Terms, told: &mut BareReport)
@@ -71,7 +61,7 @@ impl Entity {
     {
         if self.repeats < terms.n200 {
             self.enquire(terms, told);
-            self.repeated();
+            self.repeats += 1;
             return self.start_timer(told, LinkTimer::T200);
         }
         self.failed(terms, told, ErrorCode::I);

@@ -3,6 +3,7 @@
 ghost use Rattle.std.specs.Prelude.{◌≡◌, ℕ, List};
 ghost use Rattle.lapd_seq.specs.Numbers.{seq};
 ghost use Rattle.model_link.specs.Words as word;
+ghost use Rattle.lapd_link_steps.specs.Parts.{establishing, ready_reported};
 ghost use Rattle.lapd_link_steps.specs.Past.{Past, link_of};
 ghost use Rattle.lapd_link_steps.specs.Does.{Does, HasRoom, Tells};
 
@@ -78,30 +79,19 @@ impl Entity {
     {
         let ready = self.ready_to_receive(true);
         self.command(terms, told, ready);
-        self.pending_is(false);
+        self.pending = false;
     }
 
-    // Answers a command with P.
+    // Says, as the answer to a command with P (`pf`) or unasked, whether own busy is on.
     #[inline(always)]
-    pub(crate) fn answer(&mut self, terms: &Terms, told: &mut BareReport)
+    pub(crate) fn report_ready(&mut self, terms: &Terms, told: &mut BareReport, pf: bool)
         requires { HasRoom 0 1 told.old }
         ensures tells { Tells 0 1 told.old told.new }
-        ensures does { (info : List ℕ) → Does terms.now info (word.answer terms.now) self.old told.old self.new told.new }
+        ensures does { (info : List ℕ) → Does terms.now info (ready_reported terms.now pf) self.old told.old self.new told.new }
     {
-        let ready = self.ready_to_receive(true);
+        let ready = self.ready_to_receive(pf);
         self.response(terms, told, ready);
-        self.pending_is(false);
-    }
-
-    // Reports, unasked, whether own busy is on.
-    pub(crate) fn report_ready(&mut self, terms: &Terms, told: &mut BareReport)
-        requires { HasRoom 0 1 told.old }
-        ensures tells { Tells 0 1 told.old told.new }
-        ensures does { (info : List ℕ) → Does terms.now info (word.report_ready terms.now) self.old told.old self.new told.new }
-    {
-        let ready = self.ready_to_receive(false);
-        self.response(terms, told, ready);
-        self.pending_is(false);
+        self.pending = false;
     }
 
     // Asks for the I-frames from V(R) on again.
@@ -111,20 +101,20 @@ impl Entity {
         ensures does { (info : List ℕ) → Does terms.now info (word.reject terms.now pf) self.old told.old self.new told.new }
     {
         self.response(terms, told, Control::Reject { nr: self.vr, pf });
-        self.pending_is(false);
+        self.pending = false;
     }
 
-    // Begins the establishment again.
-    pub(crate) fn re_establish(&mut self, terms: &Terms, told: &mut BareReport)
+    // Begins the establishment, which layer 3 asked for, or after an error.
+    pub(crate) fn establish(&mut self, terms: &Terms, told: &mut BareReport, asked: bool)
         requires { HasRoom 0 1 told.old }
         ensures tells { Tells 0 1 told.old told.new }
-        ensures does { (info : List ℕ) → Does terms.now info (word.re_establish terms.now) self.old told.old self.new told.new }
+        ensures does { (info : List ℕ) → Does terms.now info (establishing terms.now asked) self.old told.old self.new told.new }
     {
         self.clear_flags();
         self.command(terms, told, Control::Sabme { pf: true });
-        self.repeats_are_0();
+        self.repeats = 0;
         self.start_timer(told, LinkTimer::T200);
-        self.asked_is(false);
-        self.enter(State::AwaitingEstablishment);
+        self.asked = asked;
+        self.state = State::AwaitingEstablishment;
     }
 }

@@ -1,6 +1,5 @@
 //! The words of the tables, a method each.
 
-mod flags;
 mod frames;
 mod notes;
 mod numbers;

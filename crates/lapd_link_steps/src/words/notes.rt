@@ -18,38 +18,6 @@ impl BareReport {
         self.notes.push(note);
     }
 
-    pub(crate) fn establish_indication(&mut self, terms: &Terms)
-        requires { HasRoom 1 0 self.old }
-        ensures tells { Tells 1 0 self.old self.new }
-        ensures does { Adds (word.establish_indication terms.now) self.old self.new }
-    {
-        self.note(Note::EstablishIndication(terms.service, terms.tei));
-    }
-
-    pub(crate) fn establish_confirm(&mut self, terms: &Terms)
-        requires { HasRoom 1 0 self.old }
-        ensures tells { Tells 1 0 self.old self.new }
-        ensures does { Adds (word.establish_confirm terms.now) self.old self.new }
-    {
-        self.note(Note::EstablishConfirm(terms.service, terms.tei));
-    }
-
-    pub(crate) fn release_indication(&mut self, terms: &Terms)
-        requires { HasRoom 1 0 self.old }
-        ensures tells { Tells 1 0 self.old self.new }
-        ensures does { Adds (word.release_indication terms.now) self.old self.new }
-    {
-        self.note(Note::ReleaseIndication(terms.service, terms.tei));
-    }
-
-    pub(crate) fn release_confirm(&mut self, terms: &Terms)
-        requires { HasRoom 1 0 self.old }
-        ensures tells { Tells 1 0 self.old self.new }
-        ensures does { Adds (word.release_confirm terms.now) self.old self.new }
-    {
-        self.note(Note::ReleaseConfirm(terms.service, terms.tei));
-    }
-
     pub(crate) fn error(&mut self, terms: &Terms, code: ErrorCode)
         requires { HasRoom 1 0 self.old }
         ensures tells { Tells 1 0 self.old self.new }
@@ -97,14 +65,5 @@ impl BareReport {
             return self.leave_unserved();
         }
         self.deliver_unit(terms);
-    }
-
-    // XID in any state: it is told, and not answered.
-    pub(crate) fn xid(&mut self, terms: &Terms)
-        requires { HasRoom 1 0 self.old }
-        ensures tells { Tells 1 0 self.old self.new }
-        ensures does { Adds (word.xid terms.now) self.old self.new }
-    {
-        self.note(Note::Xid(terms.service, terms.tei));
     }
 }

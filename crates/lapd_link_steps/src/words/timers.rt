@@ -1,9 +1,9 @@
-//! Timers, of which one at most runs.
+//! Timers, of which one at most runs, and flags.
 
 ghost use Rattle.std.specs.Prelude.{ℕ, List};
 ghost use Rattle.model_link.specs.declared.terms.Terms.{Terms};
 ghost use Rattle.model_link.specs.Words as word;
-ghost use Rattle.lapd_link_steps.specs.Does.{Does, Tells};
+ghost use Rattle.lapd_link_steps.specs.Does.{Does, Changes, Tells};
 
 use crate::entity::Entity;
 use crate::report::BareReport;
@@ -26,5 +26,14 @@ impl Entity {
     {
         self.running = None;
         told.started = None;
+    }
+
+    pub(crate) fn clear_flags(&mut self)
+        ensures { Changes word.clear_flags self.old self.new }
+    {
+        self.peer_busy = false;
+        self.own_busy = false;
+        self.rejecting = false;
+        self.pending = false;
     }
 }

@@ -28,7 +28,13 @@ impl Teis {
         ensures short { IsShort result }
     {
         let lost = self.queue.send(Message::IdentityCheckRequest { tei });
-        self.check = Some(Check::begun(tei));
+        let check = Check {
+            tei,
+            period: Period::First,
+            first: 0,
+            second: 0,
+        };
+        self.check = Some(check);
         TeiOutcome {
             orders: ShortList::one(Order::Start(Timer::T201)),
             lost,

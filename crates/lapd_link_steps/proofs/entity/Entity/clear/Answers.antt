@@ -1,6 +1,23 @@
 -- Hand-written answers for `Entity::clear`.
+use Rattle.lapd_link_steps.proofs.Vocabulary.{[], None, ap, ◌∙◌, Does, Link, begin_anew, course_of}
+use Rattle.lapd_link_steps.proofs.Queue.{discarded}
 use Rattle.lapd_link_steps.proofs.Steps.{◌▹◌}
 use Rattle.lapd_link_steps.proofs.entity.Entity.clear.Goals as goal
 
 pub returns-clause-does : goal.returns-clause-does
-returns-clause-does c = λ info. c.tell_clearing.ensures.does info ▹ c.begin_anew.ensures.does _ info
+returns-clause-does c = λ info.
+    let anew : Does c.args.terms.now info begin_anew c.args.self.now c.tell_clearing.new.told c.begin.new.self (record c.tell_clearing.new.told { started = None; released = 127; in_range = _ }) = record {
+      step = λ messages p fits.
+          record {
+            fits =
+                record {
+                  window = c.begin.ensures.window;
+                  received = c.begin.ensures.received;
+                  ring = c.begin.ensures.ring ∙ fits.ring;
+                  queue = discarded messages [] 0 fits.few;
+                  few = fits.few;
+                };
+            is = ap (λ (l : Link). record (begin_anew (course_of info c.args.self.now c.tell_clearing.new.told p)) { link = l }) c.begin.ensures.link;
+          };
+    } in
+    c.tell_clearing.ensures.does info ▹ anew

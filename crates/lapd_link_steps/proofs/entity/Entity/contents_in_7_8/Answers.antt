@@ -3,7 +3,7 @@ use Rattle.lapd_link_steps.proofs.Vocabulary.{sym, ap, ◌∙◌, eq-eqb, true, 
 use Rattle.lapd_link_steps.proofs.Tests.{ne-eqb}
 use Rattle.model_link.specs.MultipleFrame as row
 use Rattle.model_link.specs.Words as word
-use Rattle.lapd_link_steps.proofs.Steps.{◌▹◌, bit_yes, bit_no, where_yes, where_no}
+use Rattle.lapd_link_steps.proofs.Steps.{◌▹◌, bit_yes, bit_no, where_yes, where_no, pending_set, rejecting_set}
 use Rattle.lapd_link_steps.proofs.entity.Entity.contents_in_7_8.Goals as goal
 
 pub returns-then-self-clause-does : goal.returns-then-self-clause-does
@@ -24,11 +24,11 @@ returns-then-pf-clause-does c = λ info.
     where_no is_own_busy (row.dropped c.args.terms.now c.args.pf) (λ messages p fits. c.if-self.false)
     (where_yes (row.is_next c.args.ns) (row.out_of_sequence c.args.terms.now c.args.pf)
     (λ messages p fits. eq-eqb c.args.ns.value (seq p.r).value (c.if-ns-self.false ∙ ap (λ (v : Seq). v.value) fits.received))
-    (c.count_received.ensures _ _ _ ▹ c.rejecting_is.ensures _ _ _ ▹ c.deliver.ensures.does info _ ▹ bit_yes _ (word.pending_is true) c.if-pf.true (c.answer.ensures.does info)))
+    (c.count_received.ensures _ _ _ ▹ rejecting_set ▹ c.deliver.ensures.does info _ ▹ bit_yes _ (word.pending_is true) c.if-pf.true (c.report_ready.ensures.does info)))
 
 pub returns-else-pf-clause-does : goal.returns-else-pf-clause-does
 returns-else-pf-clause-does c = λ info.
     where_no is_own_busy (row.dropped c.args.terms.now c.args.pf) (λ messages p fits. c.if-self.false)
     (where_yes (row.is_next c.args.ns) (row.out_of_sequence c.args.terms.now c.args.pf)
     (λ messages p fits. eq-eqb c.args.ns.value (seq p.r).value (c.if-ns-self.false ∙ ap (λ (v : Seq). v.value) fits.received))
-    (c.count_received.ensures _ _ _ ▹ c.rejecting_is.ensures _ _ _ ▹ c.deliver.ensures.does info _ ▹ bit_no _ (word.answer c.args.terms.now) c.if-pf.false (c.pending_is.ensures.does _ _ _)))
+    (c.count_received.ensures _ _ _ ▹ rejecting_set ▹ c.deliver.ensures.does info _ ▹ bit_no _ (word.answer c.args.terms.now) c.if-pf.false (pending_set)))

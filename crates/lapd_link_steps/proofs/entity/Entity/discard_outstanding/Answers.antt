@@ -8,4 +8,4 @@ pub returns-clause-does : goal.returns-clause-does
 returns-clause-does c = λ info.
     where_yes has_outstanding nothing
     (λ messages p fits. not_same p.s p.a (λ same. absurd (true≢false (sym ((c.is_settled.ensures.plain p.a p.s fits.window).1 (sym same)) ∙ c.if-is_settled.false))))
-    (c.discard.ensures.does _ info ▹ c.establish_indication.ensures.does _ _ _)
+    (c.discard.ensures.does _ info ▹ c.note.ensures.does _ _ _)

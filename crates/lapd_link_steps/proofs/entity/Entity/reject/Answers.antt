@@ -1,7 +1,7 @@
 -- Hand-written answers for `Entity::reject`.
 use Rattle.lapd_link_steps.proofs.Vocabulary.{false, ap, Seq, Reject, ◌then◌, course_of}
 use Rattle.model_link.specs.Words as word
-use Rattle.lapd_link_steps.proofs.Steps.{◌▹◌, same_step}
+use Rattle.lapd_link_steps.proofs.Steps.{◌▹◌, same_step, pending_set}
 use Rattle.lapd_link_steps.proofs.entity.Entity.reject.Goals as goal
 
 pub returns-clause-does : goal.returns-clause-does
@@ -10,4 +10,4 @@ returns-clause-does c = λ info.
     (λ messages p fits.
     ap (λ (vr : Seq). (word.send c.args.terms.now (word.response (Reject vr c.args.pf)) then word.pending_is false) (course_of info c.args.self.now c.args.told.now p))
     fits.received)
-    (c.response.ensures.does info ▹ c.pending_is.ensures.does _ _ _)
+    (c.response.ensures.does info ▹ pending_set)

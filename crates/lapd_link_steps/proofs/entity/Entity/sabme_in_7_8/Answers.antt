@@ -1,6 +1,6 @@
 -- Hand-written answers for `Entity::sabme_in_7_8`.
-use Rattle.lapd_link_steps.proofs.Steps.{◌▹◌}
+use Rattle.lapd_link_steps.proofs.Steps.{◌▹◌, state_set}
 use Rattle.lapd_link_steps.proofs.entity.Entity.sabme_in_7_8.Goals as goal
 
 pub returns-clause-does : goal.returns-clause-does
-returns-clause-does c = λ info. c.response.ensures.does info ▹ c.clear_flags.ensures _ _ _ ▹ c.error.ensures.does _ _ _ ▹ c.discard_outstanding.ensures.does info ▹ c.zero_numbers.ensures.does _ info ▹ c.start_timer.ensures.does _ info ▹ c.enter.ensures _ _ _
+returns-clause-does c = λ info. c.response.ensures.does info ▹ c.clear_flags.ensures _ _ _ ▹ c.error.ensures.does _ _ _ ▹ c.discard_outstanding.ensures.does info ▹ c.zero_numbers.ensures.does _ info ▹ c.start_timer.ensures.does _ info ▹ state_set

@@ -10,15 +10,15 @@ invariant_of-self c =
     let sound = c.self.invariant in
     sound_sent (management_of c.self.inside) _ _ _ sound (remembered-range _ _ c.args.ri _ sound.table sound.memory (sym c.tei_for.ensures ∙ c.in-Some.is)) sound.checked c.send.ensures.waits
 
-pub invariant_of-self-in_default-free_tei : goal.invariant_of-self-in_default-free_tei
-invariant_of-self-in_default-free_tei c =
-    sound_sent (management_of c.self.inside) (IdentityDenied c.args.ri) _ _ c.self.invariant (omega arith) c.self.invariant.checked c.send-in_default-free_tei.ensures.waits
+pub invariant_of-self-in_default-2 : goal.invariant_of-self-in_default-2
+invariant_of-self-in_default-2 c =
+    sound_sent (management_of c.self.inside) (IdentityDenied c.args.ri) _ _ c.self.invariant (omega arith) c.self.invariant.checked c.send-in_default-2.ensures.waits
 
 pub invariant_of-self-2 : goal.invariant_of-self-2
 invariant_of-self-2 c =
     let sound = c.self.invariant in
-    let at = sym c.free_place.ensures.place ∙ c.in-Some-free_place.is in
-    let free = free_tei-is c.self.inside.table c.in-Some-free_tei.tei (sym c.free_tei.ensures ∙ c.in-Some-free_tei.is) in
+    let at = sym c.free_place.ensures.place ∙ c.in-Some-Some.is-0 in
+    let free = free_tei-is c.self.inside.table c.in-Some-Some.tei (sym c.free_tei.ensures ∙ c.in-Some-Some.is-1) in
     let new = sym c.tei_for.ensures ∙ c.in_default.is in
     sound_came (management_of c.self.inside) _ _ _ _ _ sound free.off at free.most c.put.ensures
     (subst (IsSoundMemory _) (sym c.remember.ensures) (memory-remember _ _ _ c.args.ri _ sound.memory (memory-put _ _ _ _ at sound.memory) new free.off (on-newcomer _ _ _ at)))

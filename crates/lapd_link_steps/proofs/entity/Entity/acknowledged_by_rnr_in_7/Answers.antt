@@ -1,6 +1,0 @@
--- Hand-written answers for `Entity::acknowledged_by_rnr_in_7`.
-use Rattle.lapd_link_steps.proofs.Steps.{by_then}
-use Rattle.lapd_link_steps.proofs.entity.Entity.acknowledged_by_rnr_in_7.Goals as goal
-
-pub returns-clause-does : goal.returns-clause-does
-returns-clause-does c = λ terms info. by_then (c.acknowledge.ensures.does terms info) (c.start_timer.ensures.does terms info)

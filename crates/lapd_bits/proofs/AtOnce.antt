@@ -1,5 +1,5 @@
 -- Bits that end nothing go on the open gap all at once.
-use Rattle.lapd_bits.proofs.Vocabulary.{◌≡◌, ℕ, suc, zero, ◌+◌, ◌≤◌, Bool, true, false, not, List, [], ◌∷◌, ◌++◌, length, reverse, replicate, nat_eq, if◌then◌else◌, min, Option, Some, None, option_map, refl, ap, sym, ◌∙◌, arith, and_parts, eq-eqb, false≢true, reverse-append, reverse-reverse, append_cancel_left, unstuffed, run_of, open_gap, AssemblesIn, HoldsGap, HoldsPast, IsJoined, onto, ends_nothing, Gap, ones_after, ones_after-reverse, unstuffed_after, unstuffed-counted, unstuffed_after-append, reverse_aux-onto, EndsNothing, IsQuiet, quiet}
+use Rattle.lapd_bits.proofs.Vocabulary.{◌≡◌, ℕ, suc, zero, ◌+◌, Bool, true, false, not, List, [], ◌∷◌, ◌++◌, length, reverse, replicate, nat_eq, if◌then◌else◌, min, Option, Some, None, option_map, refl, ap, sym, ◌∙◌, arith, and_parts, eq-eqb, false≢true, reverse-append, reverse-reverse, append_cancel_left, unstuffed, run_of, open_gap, AssemblesIn, HoldsGap, HoldsPast, IsJoined, onto, ends_nothing, Gap, ones_after, ones_after-reverse, unstuffed_after, unstuffed-counted, unstuffed_after-append, reverse_aux-onto, EndsNothing, IsQuiet, quiet}
 use Rattle.lapd_bits.proofs.BitSteps.{open_run, for_open}
 
 pub length-onto : (text past : List Bool) → length (onto text past) ≡ length text + length past
@@ -40,38 +40,24 @@ pub unstuffed_after-ones : (m n : ℕ) → unstuffed_after m (replicate n true) 
 unstuffed_after-ones m zero = refl
 unstuffed_after-ones m (suc n) = ap (λ t. true ∷ t) (unstuffed_after-ones (suc m) n)
 
-run_of-ones : (n : ℕ) → n ≤ 6 → run_of (replicate n true ++ false ∷ []) ≡ n
-run_of-ones zero h = refl
-run_of-ones (suc n) h = omega (arith, run_of-ones n (omega arith))
+run_of-ones : (n : ℕ) → run_of (replicate n true ++ false ∷ []) ≡ min 7 n
+run_of-ones zero = refl
+run_of-ones (suc n) = omega (arith, run_of-ones n)
 
 -- the run behind a text, after `n` 1s
-pub run-after : (n : ℕ) (text : List Bool) → n ≤ 6 → ends_nothing n text ≡ true
-    → run_of (onto text (replicate n true ++ false ∷ [])) ≡ min 7 (ones_after n text)
-run-after n text few q =
-    (quiet 0 n text (replicate n true ++ false ∷ []) (omega (arith, run_of-ones n few, few)) (EndsNothing-by_test n text q)).run
+pub run-after : (n : ℕ) (text : List Bool) → ends_nothing n text ≡ true → run_of (onto text (replicate n true ++ false ∷ [])) ≡ min 7 (ones_after n text)
+run-after n text q = (quiet 0 n text (replicate n true ++ false ∷ []) (run_of-ones n) (EndsNothing-by_test n text q)).run
 
 -- what stays of it there
 pub stays-after : (n : ℕ) (text content : List Bool) → unstuffed (replicate n true ++ text) ≡ replicate n true ++ content
     → unstuffed_after n text ≡ content
-stays-after n text content e =
-    append_cancel_left (replicate n true) _ _ (sym unstuffed-ones ∙ e)
-  where
-    unstuffed-ones : unstuffed (replicate n true ++ text) ≡ replicate n true ++ unstuffed_after n text
-    unstuffed-ones = grind (arith, unstuffed-counted, unstuffed_after-append, ones_after, unstuffed_after-ones, ones_after-ones)
+stays-after n text content e = grind (arith, append_cancel_left, unstuffed_after, unstuffed-counted, unstuffed_after-append, ones_after, unstuffed_after-ones, ones_after-ones)
 
 -- ---- a text on the open gap
 
 -- what stays of it joins the gap's octets
 pub joined : (past text content : List Bool) → unstuffed_after (run_of past) text ≡ content → IsJoined text content (open_gap past)
-joined past text content stays =
-    for_open past (λ g. unstuffed (reverse (onto text g)) ≡ unstuffed (reverse g) ++ content)
-    (λ g open_here.
-    ap unstuffed (reverse-onto text g)
-    ∙ unstuffed-counted (reverse g ++ text)
-    ∙ unstuffed_after-append 0 (reverse g) text
-    ∙ ap (λ n. unstuffed_after 0 (reverse g) ++ unstuffed_after n text) (ones_after-reverse g ∙ sym (open_run past g open_here).0)
-    ∙ ap (λ l. l ++ unstuffed_after (run_of past) text) (sym (unstuffed-counted (reverse g)))
-    ∙ ap (λ l. unstuffed (reverse g) ++ l) stays)
+joined past text content stays = grind (arith, for_open, reverse-onto, unstuffed-counted, unstuffed_after-append, unstuffed_after, ones_after-reverse, open_run)
 
 -- and the gap stands for it
 pub HoldsGap-joined :

@@ -44,7 +44,7 @@ module _
   quiet_behind = EndsNothing-by_test 0 behind flag.quiet
 
   six : ones_after ones text ≡ 6
-  six = omega (arith, run-after ones text flag.few flag.quiet_front, flag.six)
+  six = omega (arith, run-after ones text flag.quiet_front, flag.six)
 
   before_it : run_of past ≡ min 7 ones
   before_it = omega (arith, is_run, flag.few)

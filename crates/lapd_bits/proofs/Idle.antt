@@ -1,6 +1,6 @@
--- An octet of a line of flags brings nothing, and leaves the open gap as it was; so does one of 1s after seven.
-use Rattle.lapd_bits.proofs.Vocabulary.{◌≡◌, ℕ, suc, zero, ◌+◌, ◌-◌, ◌<◌, ◌≤◌, Bool, true, false, ◌&&◌, List, [], ◌∷◌, ◌++◌, length, min, take, drop, replicate, get_or, same_bits, same_from_test, nat_eq, nat_lt, Option, Some, None, option_map, option_to_list, refl, ap, sym, ◌∙◌, subst, arith, append-nil, and_parts, eqb-true, lt-ltb, low_bits, heard_until, run_of, open_gap, closed_event, flag_front, HoldsGap, HoldsPast, onto, with_bits, ends_nothing, Gap, IDLE, latest_ones, ones_after, reverse_aux-append, EndsNothing, IsFlag, IsQuiet, flag_ends, quiet}
-use Rattle.lapd_bits.proofs.AtOnce.{EndsNothing-by_test, HoldsGap-none, HoldsPast-quiet, length-onto}
+-- An octet of a line of flags brings nothing, and leaves the open gap as it was.
+use Rattle.lapd_bits.proofs.Vocabulary.{◌≡◌, ℕ, suc, zero, ◌+◌, ◌-◌, ◌<◌, Bool, true, false, ◌&&◌, List, [], ◌∷◌, ◌++◌, length, min, take, drop, replicate, get_or, same_bits, same_from_test, nat_eq, nat_lt, Option, Some, None, option_map, option_to_list, refl, ap, sym, ◌∙◌, subst, arith, append-nil, and_parts, eqb-true, lt-ltb, low_bits, heard_until, run_of, open_gap, closed_event, flag_front, HoldsGap, HoldsPast, onto, with_bits, ends_nothing, Gap, IDLE, latest_ones, ones_after, reverse_aux-append, IsFlag, flag_ends, quiet}
+use Rattle.lapd_bits.proofs.AtOnce.{EndsNothing-by_test, length-onto}
 use Rattle.lapd_bits.proofs.BitSteps.{open_run}
 use Rattle.lapd_bits.proofs.Tested.{all_pass}
 
@@ -8,28 +8,6 @@ use Rattle.lapd_bits.proofs.Tested.{all_pass}
 pub record StaysIdle (octets : List ℕ) (ones : ℕ) (gap : Option Gap) (octet : ℕ) (past : List Bool) : Type 0 where
   pub holds : HoldsPast octets ones gap (with_bits 8 octet past)
   pub nothing : (room : ℕ) → heard_until room (with_bits 8 octet past) ≡ heard_until room past
-
--- ---- 1s that go on after seven
-
-seven_on : (n k : ℕ) → 7 ≤ n → EndsNothing n (replicate k true)
-seven_on n zero many = tt
-seven_on n (suc k) many = (λ six. omega (arith, many, six), seven_on (suc n) k (omega (arith, many)))
-
-ones_are : low_bits 8 255 ≡ replicate 8 true
-unfolding low_bits
-ones_are = refl
-
--- an octet of them leaves the fields
-pub stays_given_up : (octets : List ℕ) (ones octet : ℕ) (past : List Bool) → HoldsPast octets ones None past → ones ≡ 7 → octet ≡ 255 → StaysIdle octets ones None octet past
-stays_given_up octets ones octet past h seven e =
-    let ones8 = replicate 8 true in
-    let q : (room : ℕ) → IsQuiet room 7 ones8 past = λ room. quiet room 7 ones8 past (sym h.run ∙ seven) (seven_on 7 8 (omega arith)) in
-    let bits : with_bits 8 octet past ≡ onto ones8 past = ap (λ o. with_bits 8 o past) e ∙ ap (λ t. onto t past) ones_are in
-    record {
-      holds = subst (HoldsPast octets ones None) (sym bits)
-          (HoldsPast-quiet octets ones None 7 ones8 past (q 0) seven (HoldsGap-none octets ones8 (open_gap past) h.open_is));
-      nothing = λ room. ap (heard_until room) bits ∙ (q room).heard;
-    }
 
 -- ---- a flag's other bits, and the first bits of the next
 

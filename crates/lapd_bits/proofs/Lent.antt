@@ -1,6 +1,6 @@
 -- What a deframer takes with an octet, and what it lends until the next.
-use Rattle.lapd_bits.proofs.Vocabulary.{arith, ◌≡◌, ℕ, Bool, subst, List, [], ◌∷◌, ◌++◌, Option, length, reverse, refl, sym, ap, ◌∙◌, append-nil, option_to_list, option_map, same_from_push, bits, low_bits, Event, heard_until, heard_in, room_for, open_gap, HoldsGap, HoldsPast, IsContent, IsJoined, Takes, with_bits, unstuffed_after, quiet}
-use Rattle.lapd_bits.specs.Deframer.{Stands, latest_of}
+use Rattle.lapd_bits.proofs.Vocabulary.{arith, ◌≡◌, ℕ, Bool, List, [], ◌∷◌, ◌++◌, Option, length, reverse, sym, ap, ◌∙◌, append-nil, option_to_list, option_map, same_from_push, bits, low_bits, Event, heard_until, heard_in, room_for, open_gap, HoldsGap, HoldsPast, IsContent, IsJoined, Takes, with_bits, unstuffed_after, quiet}
+use Rattle.lapd_bits.specs.Deframer.{Stands}
 use Rattle.lapd_bits.specs.declared.deframer.Deframer.{Deframer}
 use Rattle.lapd_bits.specs.declared.ended.Ended.TheVariants as ended
 use Rattle.lapd_bits.proofs.BitSteps.{with_bits-octet}
@@ -16,14 +16,7 @@ heard_more n201 past octet room e is told = grind (arith, with_bits-octet, optio
 -- A deframer that has taken an octet, and lends what it brings, stands for the octets with it.
 pub Stands-takes : (n201 octet : ℕ) (past : List ℕ) (old new : Deframer) → Stands n201 old past → Takes octet old new new.ended
     → Stands n201 new (past ++ octet ∷ [])
-Stands-takes n201 octet past old new h t =
-    record {
-      room = t.room ∙ h.room;
-      holds = subst (HoldsPast new.octets.items new.ones new.gap) (sym (with_bits-octet past octet)) (t.stands _ h.holds);
-      latest = λ others other e.
-          heard_more n201 past octet _ (latest_of new) h.room (t.told _ h.holds)
-          ∙ ap (λ p. heard_in n201 p ++ option_to_list (latest_of new)) (same_from_push past others octet other e).0;
-    }
+Stands-takes n201 octet past old new h t = grind (arith, with_bits-octet, heard_more, option_to_list, same_from_push)
 
 -- an octet that ends nothing, of which this is the content
 pub takes-content :
@@ -39,23 +32,18 @@ takes-content octet content count run old new c room e taken =
       room = room;
       stands = λ past h.
           let run = h.run in
-          HoldsPast-quiet new.octets.items new.ones new.gap old.ones text past (quiet 0 old.ones text past (omega (arith, run, c.few)) q)
-          (e ∙ c.run_is ∙ run-after old.ones text (omega (arith, c.few)) c.quiet)
+          HoldsPast-quiet new.octets.items new.ones new.gap old.ones text past (quiet 0 old.ones text past (omega (arith, run, old.ones_counted)) q)
+          (e ∙ c.run_is ∙ run-after old.ones text c.quiet)
           (taken (open_gap past)
           (joined past text _ (ap (λ n. unstuffed_after n text) (sym h.run) ∙ stays-after old.ones text _ c.stays))
           h.open_is);
       told = λ past h.
           let run = h.run in
-          (quiet (length old.octets.items) old.ones text past (omega (arith, run, c.few)) q).heard ∙ sym (append-nil (heard_until (length old.octets.items) past));
+          (quiet (length old.octets.items) old.ones text past (omega (arith, run, old.ones_counted)) q).heard ∙ sym (append-nil (heard_until (length old.octets.items) past));
     }
 
 -- and one of an idle line
 pub takes-idle : (octet : ℕ) (d : Deframer)
     → ((past : List Bool) → HoldsPast d.octets.items d.ones d.gap past → StaysIdle d.octets.items d.ones d.gap octet past)
     → Takes octet d d ended.Nothing
-takes-idle octet d stays =
-    record {
-      room = refl;
-      stands = λ past h. let s = stays past h in s.holds;
-      told = λ past h. let s = stays past h in s.nothing (length d.octets.items) ∙ sym (append-nil (heard_until (length d.octets.items) past));
-    }
+takes-idle octet d stays = grind (arith, append-nil)

@@ -1,5 +1,5 @@
 -- What a deframer hears with one bit more.
-use Rattle.lapd_bits.proofs.Vocabulary.{◌≡◌, ◌≢◌, ℕ, ◌+◌, ◌<◌, ◌≤◌, ◌⊎◌, inl, inr, Bool, true, false, List, [], ◌∷◌, ◌++◌, length, min, Option, Some, None, option_map, refl, ap, sym, ◌∙◌, arith, lt-ltb, low_bits, run_of, open_gap, AssemblesIn, HoldsGap, HoldsPast, EndsFlag, Hears, IsYoung, onto, Gap, open_gap-abort, open_gap-flag, ones_after, unstuffed_after, one_bit, quiet}
+use Rattle.lapd_bits.proofs.Vocabulary.{◌≡◌, ◌≢◌, ℕ, ◌+◌, ◌<◌, ◌≤◌, ◌⊎◌, Bool, true, false, List, [], ◌∷◌, ◌++◌, length, min, Option, Some, None, option_map, refl, ap, sym, ◌∙◌, arith, lt-ltb, low_bits, run_of, open_gap, AssemblesIn, HoldsGap, HoldsPast, EndsFlag, Hears, IsYoung, onto, Gap, open_gap-abort, open_gap-flag, ones_after, unstuffed_after, one_bit, quiet}
 use mir.Val.{bool_byte}
 use Rattle.lapd_bits.specs.declared.deframer.Deframer.{Deframer}
 use Rattle.lapd_bits.specs.declared.ended.Ended.TheVariants as ended
@@ -40,15 +40,10 @@ elsewhere false ones below not_six not_five = rw (lt-ltb ones 5 (omega (arith, n
 
 pub one_kept : (b : Bool) (ones count byte : ℕ) → ones < 7 → ones ≢ 6 → byte ≡ bool_byte b
     → ((ones ≡ 5) × (count ≡ byte)) ⊎ ((ones ≢ 5) × (count ≡ 1)) → unstuffed_after ones (b ∷ []) ≡ low_bits count byte
-one_kept b ones count byte below not_six is (inl five) =
-    ap (λ n. unstuffed_after n (b ∷ [])) five.0 ∙ at_five b ∙ (λ i. low_bits (sym (five.1 ∙ is) i) (sym is i))
-one_kept b ones count byte below not_six is (inr other) =
-    elsewhere b ones below not_six other.0 ∙ (λ i. low_bits (sym other.1 i) (sym is i))
+one_kept b ones count byte below not_six is o = grind (arith, unstuffed_after, at_five, elsewhere)
 
 pub one_at_most : (b : Bool) (ones count byte : ℕ) → byte ≡ bool_byte b → ((ones ≡ 5) × (count ≡ byte)) ⊎ ((ones ≢ 5) × (count ≡ 1)) → count ≤ 1
-one_at_most true ones count byte is (inl five) = omega (arith, five.1, is)
-one_at_most false ones count byte is (inl five) = omega (arith, five.1, is)
-one_at_most b ones count byte is (inr other) = omega (arith, other.1)
+one_at_most b ones count byte is o = grind arith
 
 -- fewer than seven 1s stand before it where a gap is open
 pub below_seven : (octets : List ℕ) (ones : ℕ) (gap : Gap) (past : List Bool) → HoldsPast octets ones (Some gap) past → ones < 7

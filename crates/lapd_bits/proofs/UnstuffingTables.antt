@@ -6,11 +6,10 @@ use Rattle.lapd_bits.proofs.Tested.{all_pass}
 abbrev is_entry : ℕ → ℕ → ℕ → ℕ → ℕ → Bool
 is_entry ones octet content count run =
     nat_eq count 0
-    || (nat_le ones 5
-    && (ends_nothing ones (low_bits 8 octet)
+    || (ends_nothing ones (low_bits 8 octet)
     && (same_bits (unstuffed (replicate ones true ++ low_bits 8 octet)) (replicate ones true ++ low_bits count content)
     && (nat_eq run (run_of (with_bits 8 octet (replicate ones true ++ false ∷ [])))
-    && (nat_lt content (2 ^ count) && (nat_le count 8 && nat_le run 6))))))
+    && (nat_lt content (2 ^ count) && (nat_le count 8 && nat_le run 7)))))
 
 abbrev is_entry_at : ℕ → Bool
 is_entry_at place =
@@ -22,13 +21,13 @@ entries_are = refl
 
 -- the entries for some 1s and an octet, where they are not marked
 by_test : (ones octet content count run : ℕ) → (nat_eq count 0 ≡ false) → is_entry ones octet content count run ≡ true
-    → IsContent ones octet content count run × (content < 2 ^ count) × (count ≤ 8) × (run ≤ 6)
+    → IsContent ones octet content count run × (content < 2 ^ count) × (count ≤ 8) × (run ≤ 7)
 by_test ones octet content count run some e = search (arith, and_parts, same_from_test, eqb-true, leb-true, ltb-true)
 
 pub entry : (ones octet : ℕ) → ones ≤ 7 → octet < 256 → (nat_eq (get_or TABLES.counts (octet * 8 + ones) 0) 0 ≡ false)
     → IsContent ones octet (get_or TABLES.bits (octet * 8 + ones) 0) (get_or TABLES.counts (octet * 8 + ones) 0) (get_or TABLES.runs octet 0)
     × (get_or TABLES.bits (octet * 8 + ones) 0 < 2 ^ get_or TABLES.counts (octet * 8 + ones) 0)
-    × (get_or TABLES.counts (octet * 8 + ones) 0 ≤ 8) × (get_or TABLES.runs octet 0 ≤ 6)
+    × (get_or TABLES.counts (octet * 8 + ones) 0 ≤ 8) × (get_or TABLES.runs octet 0 ≤ 7)
 entry ones octet few small some =
     let at = octet * 8 + ones in
     let row : at / 8 ≡ octet = omega arith in

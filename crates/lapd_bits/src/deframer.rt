@@ -136,14 +136,14 @@ impl Deframer {
         }
     }
 
-    /// Whether the octet leaves all as it is: it goes on with the 1s that gave a gap up; or it goes on with flags, the bits
-    /// since the latest flag begin another, and the octet has that flag's other bits and as many of the next.
+    /// Whether the octet leaves all as it is, since it goes on with flags: the bits since the latest flag begin another, and
+    /// the octet has that flag's other bits and as many of the next.
     #[inline(always)]
     fn is_idle(&self, octet: u8) -> bool
         ensures stays { IsTrue result → Takes octet self.now self.now Ended.Nothing }
     {
         let Some(gap) = &self.gap else {
-            return self.ones == 7 && octet == 0xFF;
+            return false;
         };
         if gap.since >= 8 {
             return false;

@@ -16,23 +16,27 @@ struct Tables {
 const ABOVE: u32 = 256;
 
 /// The table of `bits`, or of `counts`, from an octet's last bit to its first. A row has what stands for the bits so far after
-/// 0 to 6 1s, `$a` to `$g`; of a row the bit in front makes two, one for a 0 and one for a 1. A 0 after five 1s was stuffed, and
-/// goes. Any bit after six ends something, for which 0 stands in the end, and until then a number above all others.
+/// 0 to 7 1s, `$a` to `$h`; of a row the bit in front makes two, one for a 0 and one for a 1. A 0 after five 1s was stuffed, and
+/// goes. Any bit after six ends something, for which 0 stands in the end, and until then a number above all others; after seven
+/// no gap is open.
 macro_rules! entries {
     ($how:ident $first:literal) => {
-        entries!([[$first, $first, $first, $first, $first, $first, $first]] $how 8 7 6 5 4 3 2 1)
+        entries!([[$first, $first, $first, $first, $first, $first, $first, $first]] $how 8 7 6 5 4 3 2 1)
     };
-    ([$([$a:expr, $b:expr, $c:expr, $d:expr, $e:expr, $f:expr, $g:expr])*] bits $bit:literal $($more:literal)*) => {
+    ([$([$a:expr, $b:expr, $c:expr, $d:expr, $e:expr, $f:expr, $g:expr, $h:expr])*] bits $bit:literal $($more:literal)*) => {
         entries!([$(
-            [2 * $a, 2 * $a, 2 * $a, 2 * $a, 2 * $a, $a, ABOVE * ABOVE]
-            [2 * $b + 1, 2 * $c + 1, 2 * $d + 1, 2 * $e + 1, 2 * $f + 1, 2 * $g + 1, ABOVE * ABOVE]
+            [2 * $a, 2 * $a, 2 * $a, 2 * $a, 2 * $a, $a, ABOVE * ABOVE, $a]
+            [2 * $b + 1, 2 * $c + 1, 2 * $d + 1, 2 * $e + 1, 2 * $f + 1, 2 * $g + 1, ABOVE * ABOVE, 2 * $h + 1]
         )*] bits $($more)*)
     };
-    ([$([$a:expr, $b:expr, $c:expr, $d:expr, $e:expr, $f:expr, $g:expr])*] counts $bit:literal $($more:literal)*) => {
-        entries!([$([$a, $a, $a, $a, $a, $a - 1, ABOVE * ABOVE] [$b, $c, $d, $e, $f, $g, ABOVE * ABOVE])*] counts $($more)*)
+    ([$([$a:expr, $b:expr, $c:expr, $d:expr, $e:expr, $f:expr, $g:expr, $h:expr])*] counts $bit:literal $($more:literal)*) => {
+        entries!([$(
+            [$a, $a, $a, $a, $a, $a - 1, ABOVE * ABOVE, $a - 1]
+            [$b, $c, $d, $e, $f, $g, ABOVE * ABOVE, $h]
+        )*] counts $($more)*)
     };
     ([$([$($entry:expr),*])*] $how:ident) => {
-        [$($(if $entry < ABOVE { $entry as u8 } else { 0 },)* 0),*]
+        [$($(if $entry < ABOVE { $entry as u8 } else { 0 },)*)*]
     };
 }
 
@@ -42,16 +46,16 @@ static TABLES: Tables = Tables {
     runs: RUNS,
 };
 
-/// The 1s at an octet's end, where it ends nothing. Those before it don't count: eight 1s end something.
+/// The 1s at an octet's end, 7 for more. Those before it don't count: eight 1s come after seven, or end something.
 const RUNS: [u8; 256] = [
     0, 0, 0, 0, 0, 0, 0, 0, 0, 0, 0, 0, 0, 0, 0, 0, 0, 0, 0, 0, 0, 0, 0, 0, 0, 0, 0, 0, 0, 0, 0, 0,
     0, 0, 0, 0, 0, 0, 0, 0, 0, 0, 0, 0, 0, 0, 0, 0, 0, 0, 0, 0, 0, 0, 0, 0, 0, 0, 0, 0, 0, 0, 0, 0,
     0, 0, 0, 0, 0, 0, 0, 0, 0, 0, 0, 0, 0, 0, 0, 0, 0, 0, 0, 0, 0, 0, 0, 0, 0, 0, 0, 0, 0, 0, 0, 0,
     0, 0, 0, 0, 0, 0, 0, 0, 0, 0, 0, 0, 0, 0, 0, 0, 0, 0, 0, 0, 0, 0, 0, 0, 0, 0, 0, 0, 0, 0, 0, 0,
     1, 1, 1, 1, 1, 1, 1, 1, 1, 1, 1, 1, 1, 1, 1, 1, 1, 1, 1, 1, 1, 1, 1, 1, 1, 1, 1, 1, 1, 1, 1, 1,
-    1, 1, 1, 1, 1, 1, 1, 1, 1, 1, 1, 1, 1, 1, 1, 1, 1, 1, 1, 1, 1, 1, 1, 1, 1, 1, 1, 1, 1, 1, 1, 0,
+    1, 1, 1, 1, 1, 1, 1, 1, 1, 1, 1, 1, 1, 1, 1, 1, 1, 1, 1, 1, 1, 1, 1, 1, 1, 1, 1, 1, 1, 1, 1, 1,
     2, 2, 2, 2, 2, 2, 2, 2, 2, 2, 2, 2, 2, 2, 2, 2, 2, 2, 2, 2, 2, 2, 2, 2, 2, 2, 2, 2, 2, 2, 2, 2,
-    3, 3, 3, 3, 3, 3, 3, 3, 3, 3, 3, 3, 3, 3, 3, 3, 4, 4, 4, 4, 4, 4, 4, 4, 5, 5, 5, 5, 6, 6, 0, 0,
+    3, 3, 3, 3, 3, 3, 3, 3, 3, 3, 3, 3, 3, 3, 3, 3, 4, 4, 4, 4, 4, 4, 4, 4, 5, 5, 5, 5, 6, 6, 7, 7,
 ];
 
 /// What an octet brings that ends nothing.
@@ -64,7 +68,7 @@ pub(crate) struct Content {
     pub(crate) ones: u8,
     ghost below: { bits < 2 ^ count },
     ghost at_most: { count ≤ 8 },
-    ghost few: { ones ≤ 6 },
+    ghost few: { ones ≤ 7 },
 }
 
 /// What an octet brings after so many contiguous 1s, where it ends nothing. None is no more than slower, and no clause says

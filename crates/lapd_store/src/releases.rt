@@ -19,9 +19,19 @@ impl SlotQueue {
         ensures limits { SameLimits (S.store shelf.old) (S.store shelf.new) }
     {
         for released in 0..count.min(self.len()) {
-            if let Some(slot) = self.pop() {
-                shelf.release(slot);
-            }
+            self.release_one(shelf);
+        }
+    }
+
+    fn release_one<S: Shelf>(&mut self, shelf: &mut S)
+        requires { (messages : List (List ℕ)) × (others : List Owned) × Keeps (S.store shelf.old) self.old.slots messages others }
+        ensures kept { (messages : List (List ℕ)) (others : List Owned) → Keeps (S.store shelf.old) self.old.slots messages others
+            → Keeps (S.store shelf.new) self.new.slots (drop 1 messages) others }
+        ensures slots { self.new ≡ without_oldest_ones 1 self.old }
+        ensures limits { SameLimits (S.store shelf.old) (S.store shelf.new) }
+    {
+        if let Some(slot) = self.pop() {
+            shelf.release(slot);
         }
     }
 }

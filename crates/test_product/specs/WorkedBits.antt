@@ -4,7 +4,7 @@ use Rattle.model_bits.specs.Bits.{low_bits}
 use Rattle.model_bits.specs.OpenGap.{run_of}
 use Rattle.model_bits.specs.Stuffing.{stuffed, unstuffed}
 use Rattle.lapd_bits.specs.Stuffer.{last_ones, text_after, fives}
-use Rattle.lapd_bits.specs.Unstuffer.{has_six}
+use Rattle.lapd_bits.specs.Unstuffer.{ends_nothing}
 use Rattle.lapd_bits.specs.Steps.{with_bits}
 
 -- what stays of an octet after some 1s, and the 1s after it: no 1s and EF, one and EF, five and 00
@@ -32,14 +32,18 @@ run_after_five_and_00 : run_of (with_bits 8 0x00 (replicate 5 true ++ false ∷ 
 unfolding low_bits
 run_after_five_and_00 = refl
 
--- six 1s come in a flag, and in 01 after five
-six_in_a_flag : has_six (low_bits 8 0x7E) ≡ true
+-- a flag ends something, and so does 01 after five 1s; FC does not, though six 1s come at its end
+flag_ends_something : ends_nothing 0 (low_bits 8 0x7E) ≡ false
 unfolding low_bits
-six_in_a_flag = refl
+flag_ends_something = refl
 
-six_after_five : has_six (replicate 5 true ++ low_bits 8 0x01) ≡ true
+one_after_five_ends_something : ends_nothing 5 (low_bits 8 0x01) ≡ false
 unfolding low_bits
-six_after_five = refl
+one_after_five_ends_something = refl
+
+six_at_the_end_end_nothing : ends_nothing 0 (low_bits 8 0xFC) ≡ true
+unfolding low_bits
+six_at_the_end_end_nothing = refl
 
 -- what an octet makes of itself after some 1s: after four, FF has two 0s put in, after its first 1 and its sixth
 FF_after_four :

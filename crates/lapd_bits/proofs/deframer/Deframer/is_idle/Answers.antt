@@ -1,20 +1,8 @@
--- 1s have given a gap up, and go on; or the open gap is the beginning of a flag, and the octet goes on with it.
+-- The open gap is the beginning of a flag, and the octet goes on with it.
 use Rattle.lapd_bits.proofs.Vocabulary.{◌≡◌, ◌-◌, get_or, sym, subst, arith, eqb-true, HoldsPast, IDLE}
-use Rattle.lapd_bits.proofs.Idle.{StaysIdle, stays_idle, stays_given_up}
+use Rattle.lapd_bits.proofs.Idle.{StaysIdle, stays_idle}
 use Rattle.lapd_bits.proofs.Lent.{takes-idle}
 use Rattle.lapd_bits.proofs.deframer.Deframer.is_idle.Goals as goal
-
-pub returns-then-self-eq7 : goal.returns-then-self-eq7
-returns-then-self-eq7 c =
-    record {
-      stays = λ idle.
-          let s = c.args.self.now in
-          takes-idle c.args.octet s
-          (λ past h.
-          subst (λ g. StaysIdle s.octets.items s.ones g c.args.octet past) (sym c.in_default.is)
-          (stays_given_up s.octets.items s.ones c.args.octet past (subst (λ g. HoldsPast s.octets.items s.ones g past) c.in_default.is h)
-          c.if-self-eq7.true (eqb-true c.args.octet 255 idle)));
-    }
 
 pub returns : goal.returns
 returns c =

@@ -1,13 +1,18 @@
 -- Hand-written answers for `SlotQueue::release_oldest`.
-use Rattle.lapd_store.proofs.Vocabulary.{drop, sym}
-use Rattle.lapd_store.proofs.Queues.{Keeps-used}
+use Rattle.lapd_store.proofs.Vocabulary.{drop, ◌∙◌}
+use Rattle.lapd_store.proofs.Queues.{Keeps-one_less, without-one_less}
 use Rattle.lapd_store.proofs.slot_queue.SlotQueue.release_oldest.Goals as goal
 
-pub release-requires : goal.release-requires
-release-requires g c =
-    let (messages, others, kept) = c.requires in
-    Keeps-used c.loop-released.self.slots (drop c.loop-released.released messages) others 0 c.in-Some.slot (sym c.in-Some.ensures.oldest)
-    (c.loop-released.invariant.kept messages others kept)
-
 pub loop-released-preserved : goal.loop-released-preserved
-loop-released-preserved g c = ?
+loop-released-preserved g c =
+    let n = c.loop-released.released in
+    let before = c.loop-released.invariant in
+    let one = c.release_one.ensures in
+    record {
+      kept = λ messages others kept. Keeps-one_less c.release_one.new.self.slots messages others n (one.kept (drop n messages) others (before.kept messages others kept));
+      slots = without-one_less c.args.self.now c.loop-released.self c.release_one.new.self n before.slots one.slots;
+      limits = record {
+        slots = one.limits.slots ∙ before.limits.slots;
+        width = one.limits.width ∙ before.limits.width;
+      };
+    }

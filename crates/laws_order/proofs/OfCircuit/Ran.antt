@@ -1,8 +1,7 @@
 -- What a run keeps at one end of a circuit.
-use Rattle.laws_order.proofs.Vocabulary.{◌≡◌, ℕ, ◌<◌, ◌≤◌, ◌==◌, Bool, cond, List, [], ◌∷◌, ◌++◌, length, append_assoc, Option, None, Some, option_map, option_to_list, refl, sym, ap, ◌∙◌, subst, arith, append-nil, eq-eqb, All, All-append, All-cons, All-head, All-nil, AreOctets, Config, NextFrame, OctetCard, port_at, gained, is_due, left_of, longest_text, IsAtLine, AreAtLines, IsSoundPort, meant_at_lines, refined_card, on_its_way, heard_frames_are_octets, IsOnItsWay, pulls_are_takes, always_sound, fresh_octets_sound, port_sound, config_stays, moments-append, all-right, contents_given, HasOctets, GivesOctets, seen, seen_told, trace, trace_of, frames_begun, frames-are-octets, IsInRange, StreamEvent, port_pull, port_request, PortEvent, port_octet, port_meant, port_expiry, card_answer}
+use Rattle.laws_order.proofs.Vocabulary.{◌≡◌, ℕ, ◌<◌, ◌≤◌, ◌==◌, Bool, cond, List, [], ◌∷◌, ◌++◌, length, append_assoc, Option, None, Some, option_map, option_to_list, refl, sym, ap, ◌∙◌, subst, arith, append-nil, eq-eqb, All, All-append, All-cons, All-head, All-nil, AreOctets, Config, NextFrame, OctetCard, port_at, gained, left_of, longest_text, IsAtLine, AreAtLines, IsSoundPort, meant_at_lines, refined_card, on_its_way, heard_frames_are_octets, IsOnItsWay, pulls_are_takes, always_sound, fresh_octets_sound, port_sound, config_stays, moments-append, all-right, contents_given, HasOctets, GivesOctets, seen, trace, trace_of, frames_begun, frames-are-octets, IsInRange, StreamEvent, port_request, PortEvent, port_octet, port_meant, card_answer}
 use Rattle.std.proofs.lemmas.Grind.{flat_map-append}
 use Rattle.model_line.specs.Event as line
-use Rattle.model_line.specs.Request as asked
 use Rattle.model_card.specs.Card as cards
 use Rattle.model_card.specs.Event as frames
 use Rattle.model_card.specs.Run as runs

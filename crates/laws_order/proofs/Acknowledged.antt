@@ -1,7 +1,6 @@
 -- How many contents an observer has counted as acknowledged is V(A) of the link, while that is in state 7 or 8.
-use Rattle.laws_order.proofs.Vocabulary.{◌≡◌, ℕ, ◌+◌, ◌-◌, ◌%◌, ◌<◌, ◌≤◌, ◌==◌, ◌&&◌, ◌||◌, not, Bool, true, false, cond, List, [], ◌∷◌, ◌++◌, get_or, Option, Some, None, refl, sym, ap, ◌∙◌, subst, arith, eq-eqb, eqb-true, and_parts, append-nil, append_assoc, true≢false, all-left, nowhere, get_or-replicate, ◌⊎◌, inl, inr, fold, list_any, get_or-set_same, fold-append, Control, Parts, Service, place_of-is, State, AwaitingEstablishment, Terms, received, overlong, Link, is_multiple_frame, Config, IsInRange, Answer, refused, PoolFull, Line, fresh_line, link_of, place_in, terms, terms_in_range, line_at, has_lines, by_room, is_overlong, by_frame, state_after, event-follows, after, Goes, event-goes, off-fresh, fresh, at, Tally, no_tally, tallies, tally_of, LinkEvent, its, comes, here-at, IsSeenAs, seen-before, number-up, config-now, sound-now, moments-both, after_all-append, View, steps, views, view_of}
+use Rattle.laws_order.proofs.Vocabulary.{◌≡◌, ℕ, ◌+◌, ◌%◌, ◌<◌, ◌≤◌, ◌==◌, ◌&&◌, ◌||◌, not, Bool, true, false, cond, List, [], ◌∷◌, ◌++◌, get_or, Option, Some, None, refl, sym, ap, ◌∙◌, subst, arith, eq-eqb, eqb-true, and_parts, append-nil, append_assoc, true≢false, all-left, nowhere, get_or-replicate, ◌⊎◌, inl, inr, fold, list_any, get_or-set_same, fold-append, Control, Service, place_of-is, State, AwaitingEstablishment, Terms, Link, is_multiple_frame, Config, IsInRange, Answer, refused, PoolFull, Line, fresh_line, link_of, place_in, terms_in_range, line_at, has_lines, by_room, by_frame, event-follows, after, Goes, event-goes, off-fresh, fresh, at, Tally, no_tally, tallies, tally_of, LinkEvent, its, comes, here-at, IsSeenAs, seen-before, number-up, config-now, sound-now, moments-both, after_all-append, View, steps, views, view_of}
 use Rattle.model_link.specs.Deliveries.{restarts}
-use Rattle.model_link.specs.Events.{frame}
 use Rattle.model_link.specs.Link.{state_number}
 use Rattle.model_link.specs.Sound.{IsSound}
 use Rattle.model_line.specs.Event as line_event

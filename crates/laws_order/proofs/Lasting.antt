@@ -1,7 +1,8 @@
 -- Two cards of which one end, the far one, lasts in its establishment, whatever has become of the near one's: what goes to it.
-use Rattle.laws_order.proofs.Vocabulary.{◌≡◌, ℕ, zero, suc, ◌+◌, ◌<◌, ◌≤◌, false, List, [], ◌∷◌, ◌++◌, length, take, Option, Some, None, refl, sym, ap, ◌∙◌, arith, append-nil, inl, inr, slice_get, option_to_list, slice_get_within, Control, Information, ReceiveReady, ReceiveNotReady, Reject, Sabme, Disc, Parts, carries-next, Carries, Piece, Carried, Means, Rising, Advance, HasNumber, is_ui}
+use Rattle.laws_order.proofs.Vocabulary.{◌≡◌, ℕ, suc, ◌+◌, ◌<◌, ◌≤◌, false, List, [], ◌∷◌, ◌++◌, length, take, Option, Some, refl, arith, append-nil, inl, inr, slice_get, option_to_list, slice_get_within, Control, Information, ReceiveReady, ReceiveNotReady, Reject, Sabme, Disc, Parts, carries-next, Carries, Carried, Rising, Advance, HasNumber, is_ui}
 use Rattle.laws_order.proofs.Down.{Speaks, Unheeded}
 use Rattle.laws_order.proofs.Putting.{Each, Answered, Reporting}
+use Rattle.model_link.proofs.Hearing.{take-next}
 
 -- What an end says that does not speak any more: SABME and DISC, behind reports.
 abbrev pub Calls : Control → Type 0
@@ -73,12 +74,6 @@ module _ (contents : List (List ℕ)) (high : ℕ) where
   pub brought-plain : (r : ℕ) (fs : List Parts) → Brought contents high r fs → Each (λ control. is_ui control ≡ false) fs
   brought-plain r [] h = tt
   brought-plain r (f ∷ fs) (top, up, piece, h) = ((grind arith), brought-plain top fs h)
-
--- the contents up to a number, and the next one
-take-next : (xs : List (List ℕ)) (i : ℕ) (x : List ℕ) → slice_get xs i ≡ Some x → take i xs ++ x ∷ [] ≡ take (suc i) xs
-take-next [] i x e = absurd (cc e)
-take-next (y ∷ xs) zero x e = let same : y ≡ x = cc e in ap (λ z. z ∷ []) (sym same)
-take-next (y ∷ xs) (suc i) x e = ap (λ ys. y ∷ ys) (take-next xs i x e)
 
 -- What the far end takes of the first frame on the line.
 pub record Takes (contents : List (List ℕ)) (top r r' : ℕ) (d : Option (List ℕ)) : Type 0 where

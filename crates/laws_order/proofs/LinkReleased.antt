@@ -1,5 +1,5 @@
 -- What each event tells of a link in state 6, and in state 4.
-use Rattle.laws_order.proofs.Vocabulary.{arith, ◌≡◌, ℕ, Bool, true, false, cond, List, [], ◌∷◌, refl, ◌⊎◌, filter, nat_lt, list_any, Control, Ua, Dm, Note, State, TeiAssigned, AwaitingRelease, LinkTimer, Terms, received, Release, requested, cleared, Link, as_heard, by_frame, by_expiry, by_request, state_after, told_in_4, told_in_6, unasked, told_by, told_expired, told_requested, event-follows, is_data_of, own-is, after, told, is_news, begins_by_note, NoteError, NoteXid, NoteUnit, NoteReleaseConfirm}
+use Rattle.laws_order.proofs.Vocabulary.{arith, ◌≡◌, ℕ, Bool, true, false, List, [], ◌∷◌, refl, ◌⊎◌, filter, nat_lt, list_any, Control, Ua, Dm, Note, State, TeiAssigned, AwaitingRelease, Terms, received, Release, requested, cleared, Link, as_heard, by_frame, by_request, state_after, told_in_4, told_in_6, told_by, told_requested, event-follows, is_data_of, own-is, after, told, is_news, begins_by_note, NoteError, NoteReleaseConfirm}
 use Rattle.lapd_frame.specs.declared.notes.ErrorCode.TheVariants as code
 use Rattle.model_link.specs.Events.{Event, frame, Request, Establish}
 

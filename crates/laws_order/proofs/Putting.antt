@@ -1,6 +1,6 @@
 -- What an event of a link puts behind the control frames that wait, and what an offer gives: of each frame a predicate holds that holds of
 -- supervisory frames, of the answers to what is heard, and of the command that the state awaits the answer to.
-use Rattle.laws_order.proofs.Vocabulary.{arith, ◌≡◌, ℕ, suc, ◌&&◌, ◌||◌, not, Bool, true, false, cond, IsTrue, List, [], ◌∷◌, ◌++◌, take, refl, sym, ap, ◌∙◌, append-nil, append_assoc, slice_get, unwrap_or, nat_lt, length, Seq, seq, Control, Information, ReceiveReady, ReceiveNotReady, Reject, Sabme, Disc, Ua, Dm, Parts, State, AwaitingEstablishment, AwaitingRelease, ControlFrame, Terms, received, undefined, wrong_size, overlong, expired, requested, offer, cleared, Link, is_multiple_frame, frame_of, outstanding, course, given_of, Course, frame_given, frames_of, is_overlong, as_heard, moves, receipt_as, to_information, to_sabme, to_disc, answers_up, answers_to, answers, is_time, command_in, commands, put, room, event-follows, after, begun}
+use Rattle.laws_order.proofs.Vocabulary.{arith, ◌≡◌, ℕ, suc, ◌&&◌, ◌||◌, not, Bool, true, false, cond, IsTrue, List, [], ◌∷◌, ◌++◌, take, refl, ap, ◌∙◌, append-nil, append_assoc, slice_get, unwrap_or, nat_lt, length, Seq, seq, Control, Information, ReceiveReady, ReceiveNotReady, Reject, Sabme, Disc, Ua, Dm, Parts, State, AwaitingEstablishment, AwaitingRelease, ControlFrame, Terms, received, undefined, wrong_size, overlong, expired, requested, offer, cleared, Link, is_multiple_frame, frame_of, outstanding, course, given_of, Course, frame_given, frames_of, is_overlong, as_heard, moves, receipt_as, to_information, to_sabme, to_disc, answers, is_time, command_in, commands, put, room, event-follows, after, begun}
 use Rattle.model_link.specs.Events.{Event, frame}
 use Rattle.model_link.specs.Offers
 use Rattle.model_link.specs.Words

@@ -7,7 +7,7 @@ use Rattle.model_card.specs.Event as frames
 unfoldable use Rattle.model_card.specs.ports.Card.{after, answer, meant}
 use Rattle.laws_line.specs.Share as share
 use Rattle.laws_wire.specs.Wire as wire
-use Rattle.laws_order.specs.circuit.Circuit.{Termination, port_of, happens, answered, told_by, unless_refused}
+use Rattle.laws_order.specs.circuit.Circuit.{Termination, port_of, happens, answered, unless_refused}
 use Rattle.laws_order.specs.circuit.Through.{is_granted}
 
 -- An end as one of frames, with the frames on its way.

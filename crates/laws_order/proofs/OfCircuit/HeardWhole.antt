@@ -1,5 +1,5 @@
 -- A frame that is heard whole in octets is neither too short nor overlong, so where it comes as a frame it is heard as itself.
-use Rattle.laws_order.proofs.Vocabulary.{◌≡◌, ℕ, ◌+◌, ◌-◌, ◌≤◌, Bool, true, false, true≢false, cond, nat_eq, nat_lt, List, [], ◌∷◌, ◌++◌, length, take, reverse, Option, Some, None, option_and_then, option_to_list, subst, arith, All, and_left, le-ltb, ltb-false, ne_eqb, or_from, length-take-le, All-nil, All-append, All-tail, bits, ends_flag, since_flag, is_short, judged, text_event, closed_by_flag, given_up, heard_at, heard_until, heard_in, room_for, came, is_too_short, gained, heard_with, stream_frame, StreamEvent}
+use Rattle.laws_order.proofs.Vocabulary.{◌≡◌, ℕ, ◌+◌, ◌-◌, Bool, true, false, true≢false, cond, nat_eq, nat_lt, List, [], ◌∷◌, ◌++◌, length, take, reverse, Option, Some, None, option_and_then, option_to_list, subst, arith, All, and_left, le-ltb, ltb-false, ne_eqb, or_from, length-take-le, All-nil, All-append, All-tail, bits, ends_flag, since_flag, is_short, text_event, closed_by_flag, given_up, heard_at, heard_until, heard_in, room_for, came, is_too_short, gained, heard_with, stream_frame, StreamEvent}
 
 module _ (n201 : ℕ) where
   abbrev pub HasCome : StreamEvent → Type 0

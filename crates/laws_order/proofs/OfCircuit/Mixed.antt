@@ -1,5 +1,5 @@
 -- What happens to a card of frames that faces one of octets is, at the card of frames inside, what happens on a wire of frames.
-use Rattle.laws_order.proofs.Vocabulary.{arith, ◌≡◌, ℕ, List, [], ◌∷◌, Some, refl, Service, LineTold, Wire, Mixed, DeliveredBetweenKinds}
+use Rattle.laws_order.proofs.Vocabulary.{arith, ℕ, List, [], ◌∷◌, Some, refl, Service, LineTold, Wire, Mixed, DeliveredBetweenKinds}
 use Rattle.laws_order.specs.Happenings as order
 use Rattle.laws_order.specs.circuit.Damaged.{left_by, seen_by}
 use Rattle.laws_order.specs.circuit.Mixed as mixed

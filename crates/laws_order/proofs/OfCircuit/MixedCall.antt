@@ -26,8 +26,6 @@ module _ (service : Service) (tei : ℕ) where
   unfolding frames_done
   one-led v v' e is same = record { es = e ∷ []; talk = All-cons (IsCall service tei) e [] is (All-nil (IsCall service tei)); led = same }
 
-  -- ---- at the card of frames
-
   -- ---- at the card for octets
 
   abbrev ends : Station → Station → Wire

@@ -1,5 +1,5 @@
 -- How often a frame is taken: at most half as often as there are turns, since each was given first.
-use Rattle.laws_order.proofs.Vocabulary.{◌≡◌, ℕ, ◌+◌, ◌*◌, ◌≤◌, Bool, false, List, [], ◌∷◌, ◌++◌, length, drop, arith, length-append, All, if◌then◌else◌, All-head, All-tail, Service, Answer, Station, Wire, Act, Doing, frames_by, is_any, asks-way, takes-way, All-cons, All-nil, IsTalkOf, IsTalk, wire_with_first_of, wire_acting, wire_at_near, wire_is_turn, turned, wire_doing, wire_is_turn_of, wire_doing_all, wire_turns, wire_at_far, takes, IsCall, IsCallOf}
+use Rattle.laws_order.proofs.Vocabulary.{◌≡◌, ℕ, ◌+◌, ◌*◌, ◌≤◌, Bool, false, List, [], ◌∷◌, ◌++◌, length, drop, arith, length-append, All, if◌then◌else◌, All-head, All-tail, Service, Station, Wire, Act, Doing, is_any, asks-way, takes-way, All-cons, All-nil, IsTalk, wire_with_first_of, wire_at_near, wire_is_turn, turned, wire_doing, wire_doing_all, wire_turns, wire_at_far, takes, IsCall}
 unfoldable use Rattle.laws_wire.specs.Wire.{doing_all, turns}
 use Rattle.laws_order.specs.circuit.Circuit.{OctetAct, asks, pulls, hears, OctetDoing, at_near, at_far}
 

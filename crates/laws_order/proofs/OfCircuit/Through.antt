@@ -1,12 +1,12 @@
 -- A call by octets is a call of frames.
-use Rattle.laws_order.proofs.Vocabulary.{arith, ◌≡◌, ℕ, ◌<◌, List, [], ◌∷◌, ◌++◌, refl, sym, ap, ◌∙◌, subst, append-nil, All, append_cancel_left, All-nil, Service, Item, idle, heard_in, AreOctets, Config, Assign, frames_among, Port, fresh_port, IsAtLine, IsSoundPort, fresh_at, GivesOctets, CanCall, Wire, IsStill, calls-come-through, IsInRange, Bool, false, ◌||◌, cond, Option, None, Some, is_some, option_map, option_to_list, All-head, All-tail, is_due, Request, request, port_request, Establish, or-both}
+use Rattle.laws_order.proofs.Vocabulary.{arith, ◌≡◌, ℕ, ◌<◌, List, [], ◌∷◌, ◌++◌, refl, sym, ap, ◌∙◌, subst, append-nil, All, append_cancel_left, All-nil, Service, Item, idle, heard_in, Config, Assign, frames_among, Port, fresh_port, IsAtLine, IsSoundPort, fresh_at, GivesOctets, CanCall, Wire, IsStill, calls-come-through, IsInRange, Bool, false, ◌||◌, cond, Option, None, Some, is_some, option_map, option_to_list, All-head, All-tail, is_due, Request, request, port_request, Establish, or-both}
 unfoldable use Rattle.model_card.specs.Run.{moments as frame_moments}
 use Rattle.model_card.specs.ports.Card.{fresh}
 unfoldable use Rattle.model_card.specs.ports.Run.{after_all, meant_all}
 use Rattle.laws_wire.specs.Call as call
 use Rattle.laws_wire.specs.Wire as wire
 use Rattle.laws_order.specs.circuit.Circuit.{Termination, port_of, happens, Circuit, OctetDoing, doing_all}
-use Rattle.laws_order.specs.circuit.Through.{termination, assigned, calling, IsTalk, both_call, HasGone, HasAllGone, ComesThrough, CallsComeThroughInOctets}
+use Rattle.laws_order.specs.circuit.Through.{termination, assigned, calling, IsTalk, both_call, HasAllGone, ComesThrough, CallsComeThroughInOctets}
 use Rattle.laws_order.proofs.OfCircuit.AsFrames.{asked-as}
 use Rattle.laws_order.proofs.OfCircuit.OneWay.{Carries, all-given, framed}
 use Rattle.laws_order.proofs.OfCircuit.Projected.{as_wire, doings_meant, port-after, asked-way, Fits, Follows, Done, all-done}

@@ -69,9 +69,8 @@ impl PlainReport {
         ensures told { begun ≡ false → more ≡ false → Shows self.new (record nothing { orders = listed orders.now }) }
         ensures pulled { ShowsPull self.new begun more (listed orders.now) }
     {
-        let count = write_order_list(&mut self.orders, orders);
         self.show_nothing();
-        self.order_count = count;
+        self.order_count = write_order_list(&mut self.orders, orders);
         self.begun = u8::from(begun);
         self.more = u8::from(more);
     }

@@ -1,7 +1,7 @@
 //! A line of octets: a line, and its port.
 
-ghost use Rattle.std.specs.Prelude.{◌≡◌, ◌≤◌, List, Some, None, IsSome, IfOk, IfErr, OnErr, nat_le};
-ghost use Rattle.lapd_line.specs.{none_counted, Owned, Holds, Store, used_slots, may_send, refusal, request_of, IsInRange, starts, OctetLine, fresh_octet_line, after, OctetsStand, OctetsLead, octets_config, latest_frame, report_told, told_in, pulled_of};
+ghost use Rattle.std.specs.Prelude.{◌≡◌, ◌≤◌, ◌+◌, List, Some, None, IsSome, IfOk, IfErr, OnErr, nat_le};
+ghost use Rattle.lapd_line.specs.{none_counted, Owned, Holds, Store, used_slots, may_send, state_of, refusal, request_of, IsInRange, held_in, starts, OctetLine, fresh_octet_line, after, held_at, OctetsStand, OctetsLead, octets_config, latest_frame, report_told, told_in, pulled_of};
 ghost use Rattle.model_card.specs.ports.Line.{answer};
 ghost use Rattle.model_card.specs.ports.Port as port;
 ghost use Rattle.model_card.specs.ports.Port.{told};
@@ -11,7 +11,7 @@ use crate::frame_line::FrameLine;
 use crate::port::Port;
 use crate::pulled::Pulled;
 use crate::reports::Report;
-use lapd_frame::{Refusal, Timer};
+use lapd_frame::{Refusal, Service, Timer};
 use lapd_link::BareReport;
 use lapd_store::Shelf;
 use model_line::{Config, Request};
@@ -135,5 +135,23 @@ impl Line {
         }
         let taken = self.frames.load_next(&mut self.port, shelf);
         self.port.give(taken)
+    }
+
+    /// The state of the link of a service with this TEI, by its number in Q.921 (annex B): 4 to 8. None where the TEI is
+    /// not on the line.
+    pub fn state(&self, service: Service, tei: u8) -> Option<u8>
+        ensures { (store : Store) (others : List Owned) (l : OctetLine) → OctetsStand self.now store others l
+            → result ≡ state_of service tei l.line }
+    {
+        self.frames.state(service, tei)
+    }
+
+    /// How many octets the line stores beside those in slots of the shelf: those of [`FrameLine::held`] and of [`Port::held`].
+    pub fn held(&self) -> u32
+        requires { (store : Store) × (others : List Owned) × (l : OctetLine) × OctetsStand self.now store others l }
+        ensures { (store : Store) (others : List Owned) (l : OctetLine) → OctetsStand self.now store others l
+            → result ≡ held_in (octets_config self.now) l.line + held_at (octets_config self.now).n201 l.port }
+    {
+        self.frames.held() + self.port.held()
     }
 }

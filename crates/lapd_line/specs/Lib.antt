@@ -52,7 +52,7 @@ pub use Rattle.model_line.specs.Effect.{at_link, at_management, at_no_link, at_u
 pub use Rattle.model_line.specs.Event.{Answer, dropped, hears, nothing, told}
 pub use Rattle.model_line.specs.Expiry.{aim_of_expiry, at_timer}
 pub use Rattle.model_line.specs.Heard.{addressed, aim_of_long, aim_of_reading, drop_for, heard_side, unless_at_link}
-pub use Rattle.model_line.specs.Line.{Line, link_count, terms, window}
+pub use Rattle.model_line.specs.Line.{Line, link_count, state_of, terms, window}
 pub use Rattle.model_line.specs.Machine.{answer}
 pub use Rattle.model_line.specs.Refusal.{refusal}
 pub use Rattle.model_line.specs.Request.{request_of}

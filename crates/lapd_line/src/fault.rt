@@ -32,6 +32,16 @@ impl From<lapd_bits::StartFault> for StartFault {
     }
 }
 
+impl From<lapd_tei::StartFault> for StartFault {
+    ghost use Rattle.lapd_line.specs.declared.fault.StartFault.TheVariants.{OutOfMemory};
+
+    ghost from_gives = { λ _ fault. fault ≡ OutOfMemory };
+
+    fn from(_fault: lapd_tei::StartFault) -> StartFault {
+        StartFault::OutOfMemory
+    }
+}
+
 impl From<lapd_link::StartFault> for StartFault {
     ghost use Rattle.lapd_line.specs.declared.fault.StartFault.TheVariants.{OutOfMemory};
 

@@ -22,6 +22,7 @@
 #![tactic(auto)]
 
 mod events;
+mod fault;
 mod link;
 mod offers;
 mod orders;
@@ -30,8 +31,8 @@ mod received;
 mod requests;
 mod rooms;
 
+pub use fault::StartFault;
 pub use lapd_link_steps::BareReport;
-pub use lapd_store::StartFault;
 pub use link::Link;
 pub use model_link::{LinkTimer, Room, two_ends};
 pub use offers::Offer;

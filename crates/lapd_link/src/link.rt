@@ -4,9 +4,10 @@ ghost use Rattle.std.specs.Prelude.{◌≡◌, List, ◌≤◌, IfOk};
 ghost use Rattle.lapd_link.specs.{Store, Owned, Holds, TeiAssigned, address_at, held, terms_of};
 ghost use Rattle.model_link.specs.Link as machine;
 
+use crate::fault::StartFault;
 use lapd_frame::{Address, Service};
 use lapd_link_steps::Entity;
-use lapd_store::{SlotQueue, StartFault};
+use lapd_store::SlotQueue;
 use model_link::Terms;
 use std::alloc::Global;
 
@@ -39,6 +40,12 @@ impl Link {
         ensures queue { IfOk result (λ link. (terms_of link).queue ≡ queue) }
         ensures control { IfOk result (λ link. (terms_of link).control ≡ control) }
     {
+        let entity = Entity::start(alloc, usize::from(control)).map_err(
+            |_| StartFault::OutOfMemory,
+        )?;
+        let slots = SlotQueue::start(alloc, usize::from(queue)).map_err(
+            |_| StartFault::OutOfMemory,
+        )?;
         Ok(Link {
             terms: Terms {
                 service: Service::Call,
@@ -49,8 +56,8 @@ impl Link {
                 queue,
                 control,
             },
-            entity: Entity::start(alloc, usize::from(control))?,
-            queue: SlotQueue::start(alloc, usize::from(queue))?,
+            entity,
+            queue: slots,
         })
     }
 

@@ -20,6 +20,7 @@
 #![tactic(auto)]
 
 mod check;
+mod fault;
 mod heard;
 mod laws;
 mod messages;
@@ -30,6 +31,7 @@ mod table;
 mod teis;
 
 pub use check::{Check, Period};
+pub use fault::StartFault;
 pub use laws::{
     changes_are_told, down_gives_up, lowest_is_assigned, one_more_waits, orders_follow_the_check,
     sound_throughout, unserved_changes_nothing,

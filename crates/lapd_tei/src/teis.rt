@@ -7,6 +7,7 @@ ghost use Rattle.lapd_frame.specs.declared.addresses.Side.{Side as Spelt};
 mod checks;
 
 use crate::check::Check;
+use crate::fault::StartFault;
 use crate::heard::Heard;
 use crate::messages::Message;
 use crate::outcome::{Change, TeiOutcome};
@@ -14,7 +15,7 @@ use crate::queue::Queue;
 use crate::remembered::Memory;
 use crate::table::Table;
 use lapd_frame::{Note, Order, Refusal, ShortList, Side, Timer};
-use std::alloc::{AllocError, Global};
+use std::alloc::Global;
 use std::marker::Model;
 
 /// TEI management of one line (Q.921 clause 5.3), the network's side.
@@ -48,8 +49,8 @@ impl Teis {
     ///
     /// # Errors
     ///
-    /// `AllocError` where there is no memory for the messages that wait.
-    pub fn start(alloc: Global, terminals: usize) -> Result<Teis, AllocError>
+    /// `OutOfMemory` where there is no memory for the messages that wait.
+    pub fn start(alloc: Global, terminals: usize) -> Result<Teis, StartFault>
         requires { 1 ≤ terminals × terminals ≤ 8 }
         ensures { IfOk result (λ teis. teis ≡ empty terminals) }
     {
@@ -57,7 +58,7 @@ impl Teis {
             table: Table::empty(terminals),
             memory: Memory::new(),
             check: None,
-            queue: Queue::start(alloc)?,
+            queue: Queue::start(alloc).map_err(|_| StartFault::OutOfMemory)?,
         })
     }
 

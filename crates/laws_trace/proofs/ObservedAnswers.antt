@@ -1,5 +1,5 @@
 -- How the observer's link stands behind a frame that is answered in states 7 and 8, whatever state it leads to.
-use Rattle.laws_trace.proofs.Vocabulary.{◌≡◌, ℕ, ◌+◌, ◌==◌, ◌&&◌, ◌||◌, not, Bool, true, false, cond, length, Some, None, refl, sym, ap, ◌∙◌, subst, true≢false, nat_lt, is_some, Result, Ok, Err, list_any, option_map_or, and_parts, none-some, Information, ReceiveReady, ReceiveNotReady, Reject, ReadFault, Service, Parts, reading, State, state_number, Config, hears, Answer, heard_side, Line, link_of, place_in, IsInRange, notes_of, is_data_of, Card, line_at, is_full, at, has_lines, by_room, line_sound, Control, IsSound, card_answer as answer, IsAtLine, option_and_then, result_ok, result_err, frame_of, its_frame, malformed, fault_of, Observed, takes_next, observer_is_invalid as is_invalid, observer_takes as takes, anew, while_up, while_down, observer_by_frame as by_frame, by_heard, brings_next, is_up, seen, and-false}
+use Rattle.laws_trace.proofs.Vocabulary.{◌≡◌, ℕ, ◌+◌, ◌==◌, ◌&&◌, ◌||◌, not, Bool, true, false, cond, length, Some, None, refl, sym, ap, ◌∙◌, subst, true≢false, nat_lt, is_some, Result, Ok, Err, list_any, option_map_or, and_parts, none-some, Information, ReceiveReady, ReceiveNotReady, Reject, ReadFault, Service, Parts, reading, State, state_number, Config, hears, Answer, heard_side, Line, link_of, place_in, IsInRange, notes_of, is_data_of, Card, line_at, is_full, at, has_lines, by_room, line_sound, Control, IsSound, card_answer as answer, IsAtLine, option_and_then, result_ok, result_err, frame_of, its_frame, malformed, fault_of, Observed, observer_is_next as is_next, observer_is_invalid as is_invalid, observer_takes as takes, anew, while_up, while_down, observer_by_frame as by_frame, by_heard, brings_next, is_up, seen, and-false}
 use Rattle.model_bits.specs.Stream as stream
 use Rattle.model_line.specs.Machine as lines
 use Rattle.model_card.specs.Sound as card_sound
@@ -43,7 +43,7 @@ informed taken false ack o r h = record { count_is = h.count_is; busy_is = h.bus
 frame-stays : (long command : Bool) (control : Control) (o : Observed) → is_answered long control ≡ true
     → Stays (not long && brings_next o control) (is_information control) o (while_up long command control o)
 frame-stays false command (Information ns nr p) o is =
-    informed (takes_next o ns) (is_invalid (takes ns o) nr) nr.value o (takes ns o) (record { count_is = refl; busy_is = refl; rejected_is = refl })
+    informed (is_next o ns) (is_invalid (takes ns o) nr) nr.value o (takes ns o) (record { count_is = refl; busy_is = refl; rejected_is = refl })
 frame-stays long command (ReceiveReady nr f) o is =
     received long false false (not command && f) o (is_invalid o nr) (o.state == 8 && (not command && f)) nr.value (cond (false && o.state == 7) nr.value o.next)
 frame-stays long command (ReceiveNotReady nr f) o is =

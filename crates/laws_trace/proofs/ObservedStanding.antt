@@ -1,6 +1,6 @@
 -- How an event of a line moves what an observer knows of this side of a link: how many contents were told, whether layer 3
 -- is busy, and whether an I-frame is rejected.
-use Rattle.laws_trace.proofs.Vocabulary.{arith, ◌≡◌, ℕ, ◌+◌, ◌==◌, ◌&&◌, ◌||◌, not, Bool, true, false, cond, Option, Some, refl, is_some, option_map_or, Information, ReceiveReady, ReceiveNotReady, Reject, Sabme, Ua, Dm, Service, Timer, Parts, reading, State, TeiAssigned, AwaitingEstablishment, AwaitingRelease, Established, TimerRecovery, state_number, Config, hears, expiry, request, next, Answer, LineTold, gave, Control, Event, told, Request, brings_next, result_ok, brought, frame_of, its_frame, malformed, Observed, in_state, awaits, anew, observer_takes as takes, takes_next, observer_is_invalid as is_invalid, while_up, while_down, observer_by_frame as by_frame, by_t200, observer_by_expiry as by_expiry, enquires, sends, by_event, is_up, Disc, Frmr}
+use Rattle.laws_trace.proofs.Vocabulary.{arith, ◌≡◌, ℕ, ◌+◌, ◌==◌, ◌&&◌, ◌||◌, not, Bool, true, false, cond, Option, Some, refl, is_some, option_map_or, Information, ReceiveReady, ReceiveNotReady, Reject, Sabme, Ua, Dm, Service, Timer, Parts, reading, State, TeiAssigned, AwaitingEstablishment, AwaitingRelease, Established, TimerRecovery, state_number, Config, hears, expiry, request, next, Answer, LineTold, gave, Control, Event, told, Request, brings_next, result_ok, brought, frame_of, its_frame, malformed, Observed, in_state, awaits, anew, observer_takes as takes, observer_is_next as is_next, observer_is_invalid as is_invalid, while_up, while_down, observer_by_frame as by_frame, by_t200, observer_by_expiry as by_expiry, enquires, sends, by_event, is_up, Disc, Frmr}
 use Rattle.laws_trace.specs.Deliveries.{is_taken}
 use Rattle.laws_trace.proofs.ObservedShape.{When}
 use Rattle.laws_trace.proofs.Standing.{asked_busy}
@@ -51,7 +51,7 @@ in_7 long command control o = grind (arith, numbered-so, receipt-so)
 
 in_8 : (long command : Bool) (control : Control) → Frame TimerRecovery long command control
 in_8 true command (Information ns nr p) o = tt
-in_8 false command (Information ns nr p) o = let p = in_number 8 o in numbered-so 8 refl true (takes_next p ns) (is_invalid (takes ns p) nr) nr.value p (takes ns p) refl record { before = refl; count_is = refl; busy_is = refl; rejected_is = refl }
+in_8 false command (Information ns nr p) o = let p = in_number 8 o in numbered-so 8 refl true (is_next p ns) (is_invalid (takes ns p) nr) nr.value p (takes ns p) refl record { before = refl; count_is = refl; busy_is = refl; rejected_is = refl }
 in_8 true command (ReceiveReady nr f) o = receipt-so 8 refl false (is_invalid (in_number 8 o) nr) (8 == 8 && (not command && f)) nr.value (cond (false && 8 == 7) nr.value o.next) (in_number 8 o)
 in_8 false command (ReceiveReady nr f) o = receipt-so 8 refl false (is_invalid (in_number 8 o) nr) (8 == 8 && (not command && f)) nr.value (cond (false && 8 == 7) nr.value o.next) (in_number 8 o)
 in_8 true command (ReceiveNotReady nr f) o = receipt-so 8 refl true (is_invalid (in_number 8 o) nr) (8 == 8 && (not command && f)) nr.value (cond (false && 8 == 7) nr.value o.next) (in_number 8 o)

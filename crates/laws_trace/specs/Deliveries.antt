@@ -16,14 +16,14 @@ use Rattle.model_card.specs.Machine.{answer}
 use Rattle.model_card.specs.Run.{after_all}
 use Rattle.laws_trace.specs.LinkFrames.{brought}
 use Rattle.laws_trace.specs.Managing.{Managed, is_on, manages}
-use Rattle.laws_trace.specs.Observer.{Observed, View, takes_next, view_of}
+use Rattle.laws_trace.specs.Observer.{Observed, View, is_next, view_of}
 use Rattle.laws_trace.specs.Trace.{is_up}
 use Rattle.laws_trace.specs.Units.{is_ui}
 
 -- An I-frame is taken in states 7 and 8, while layer 3 is not busy, of at most N201 octets, and with the N(S) that is the
 -- next, V(R) (Q.921 clauses 3.5.2.4 to 3.5.2.6, 5.6.2, 5.6.6 and 5.8.5).
 abbrev pub brings_next : Observed → Control → Bool
-brings_next o (Information ns nr p) = takes_next o ns
+brings_next o (Information ns nr p) = is_next o ns
 brings_next o other = false
 
 abbrev pub is_taken : Config → Observed → Parts → Bool

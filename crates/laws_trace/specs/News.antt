@@ -14,7 +14,6 @@ use Rattle.model_line.specs.declared.config.Config.{Config}
 use Rattle.model_line.specs.Event as line_event
 use Rattle.model_line.specs.Event.{hears, expiry, request, Answer}
 use Rattle.model_line.specs.Request.{Release}
-pub use Rattle.laws_link.specs.States.{is_sabme}
 use Rattle.laws_line.specs.Heard.{notes_of}
 use Rattle.laws_line.specs.Share.{is_granted}
 use Rattle.model_card.specs.Event.{Event, at}
@@ -35,6 +34,10 @@ is_news service tei other = false
 -- The terminal sends SABME, or XID; and layer 3 asks for the release.
 abbrev pub brings : (Control → Bool) → Config → Service → ℕ → line_event.Event → Bool
 brings is c service tei what = option_map_or (λ (f : Parts). is f.control) (brought c service tei what) false
+
+abbrev pub is_sabme : Control → Bool
+is_sabme (Sabme p) = true
+is_sabme other = false
 
 abbrev pub is_xid : Control → Bool
 is_xid (control.Xid pf) = true

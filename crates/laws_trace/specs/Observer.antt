@@ -61,12 +61,12 @@ anew o = record o { state = 5; acknowledged = 0; next = 0; busy = false; asked =
 
 -- The information of an I-frame is taken, and told, where its N(S) is the next, V(R), and else the frame is rejected;
 -- neither is it while layer 3 is busy (clauses 5.6.2, 5.6.6 and 5.8.1).
-abbrev pub takes_next : Observed → Seq → Bool
-takes_next o ns = not o.own_busy && ns.value == o.count % 128
+abbrev pub is_next : Observed → Seq → Bool
+is_next o ns = not o.own_busy && ns.value == o.count % 128
 
 abbrev pub takes : Seq → Observed → Observed
 takes ns o =
-    record o { count = if takes_next o ns then o.count + 1 else o.count; rejected = if takes_next o ns then false else if not o.own_busy then true else o.rejected }
+    record o { count = if is_next o ns then o.count + 1 else o.count; rejected = if is_next o ns then false else if not o.own_busy then true else o.rejected }
 
 -- N(R) is invalid where it is none of V(A) to V(S), counted upwards from V(A) (clauses 3.5.2.3 and 5.8.2). That of an
 -- I-frame acknowledges;

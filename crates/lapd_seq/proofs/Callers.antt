@@ -22,33 +22,19 @@ is_seq x n e = same_seq x (seq n) e
 -- the distance of two plain numbers that are at most 127 apart
 pub distance-plain : (x y : Seq) (a s : ℕ) → AreNumbers x y a s → a + distance_of x y ≡ s
 unfolding distance_of
-distance-plain x y a s h =
-    let va : x.value ≡ a % 128 = seq-value x a h.acknowledged in
-    let vs : y.value ≡ s % 128 = seq-value y s h.sent in
-    let low : a ≤ s = h.ordered in
-    let high : s ≤ a + 127 = h.within in
-    omega arith
+distance-plain x y a s h = omega (arith, seq-value x a h.acknowledged, seq-value y s h.sent, h.ordered, h.within)
 
 -- the number that lies as far above a as an N(R) above V(A) has its remainder
 pub seq-distance : (x nr : Seq) (a : ℕ) → x ≡ seq a → nr ≡ seq (a + distance_of x nr)
 unfolding distance_of
 seq-distance x nr a e =
-    let v : x.value ≡ a % 128 = seq-value x a e in
-    let low : x.value < 128 = x.in_range in
-    let here : nr.value < 128 = nr.in_range in
-    is_seq nr (a + distance_of x nr) (omega arith)
+    is_seq nr (a + distance_of x nr) (omega (arith, seq-value x a e, x.in_range, nr.in_range))
 
 -- an N(R) that names a number of a..=s is valid
 pub valid_from-named : (x nr y : Seq) (a s n : ℕ) → AreNumbers x y a s → IsNamed a s nr n → IsValid x nr y
 unfolding distance_of
 valid_from-named x nr y a s n h k =
-    let va : x.value ≡ a % 128 = seq-value x a h.acknowledged in
-    let vs : y.value ≡ s % 128 = seq-value y s h.sent in
-    let named : nr.value ≡ n % 128 = seq-value nr n k.remainder in
-    let high : s ≤ a + 127 = h.within in
-    let from : a ≤ n = k.from in
-    let to : n ≤ s = k.to in
-    omega arith
+    omega (arith, seq-value x a h.acknowledged, seq-value y s h.sent, seq-value nr n k.remainder, h.within, k.from, k.to)
 
 -- a valid N(R) names the number that lies as far above a as the N(R) above V(A)
 pub named-valid : (x nr y : Seq) (a s : ℕ) → AreNumbers x y a s → IsValid x nr y → IsNamed a s nr (a + distance_of x nr)
@@ -63,6 +49,4 @@ named-valid x nr y a s h v =
 -- from V(A) to the number that an N(R) names
 pub distance-named : (x nr y : Seq) (a s n : ℕ) → AreNumbers x y a s → IsNamed a s nr n → a + distance_of x nr ≡ n
 distance-named x nr y a s n h k =
-    let low : s ≤ a + 127 = h.within in
-    let to : n ≤ s = k.to in
-    distance-plain x nr a n (record { ordered = k.from; within = omega arith; acknowledged = h.acknowledged; sent = k.remainder })
+    distance-plain x nr a n (record { ordered = k.from; within = omega (arith, h.within, k.to); acknowledged = h.acknowledged; sent = k.remainder })

@@ -4,9 +4,7 @@ use Rattle.lapd_seq.proofs.Callers.{is_seq, seq-value, distance-plain, seq-dista
 
 -- the number after
 pub seq-next : (x y : Seq) (n : ℕ) → x ≡ seq n → y.value ≡ (x.value + 1) % 128 → y ≡ seq (n + 1)
-seq-next x y n e h =
-    let v : x.value ≡ n % 128 = seq-value x n e in
-    is_seq y (n + 1) (omega arith)
+seq-next x y n e h = is_seq y (n + 1) (omega (arith, seq-value x n e, h))
 
 -- an N(R) names the number of the next I-frame exactly where it has the value of V(S)
 pub named-next : (x nr y : Seq) (a s n : ℕ) → AreNumbers x y a s → IsNamed a s nr n → (nr.value ≡ y.value) ↔ (n ≡ s)
@@ -38,42 +36,29 @@ named-finds x nr y a s b h test =
 -- one more is sent
 pub numbers-advance : (x y y' : Seq) (a s : ℕ) → distance_of x y < 127 → y' ≡ seq (s + 1) → AreNumbers x y a s → AreNumbers x y' a (s + 1)
 numbers-advance x y y' a s free next h =
-    let whole : a + distance_of x y ≡ s = distance-plain x y a s h in
-    let low : a ≤ s = h.ordered in
-    record { ordered = omega arith; within = omega arith; acknowledged = h.acknowledged; sent = next }
+    record { ordered = omega (arith, h.ordered); within = omega (arith, distance-plain x y a s h, free); acknowledged = h.acknowledged; sent = next }
 
 -- a number is no step away from itself
 pub distance-self : (x : Seq) → distance_of x x ≡ 0
 unfolding distance_of
-distance-self x =
-    let small : x.value < 128 = x.in_range in
-    omega arith
+distance-self x = omega (arith, x.in_range)
 
 -- V(A) is a valid N(R)
 pub first-valid : (x y : Seq) → IsValid x x y
-first-valid x y = let none : distance_of x x ≡ 0 = distance-self x in omega arith
+first-valid x y = omega (arith, distance-self x)
 
 -- two numbers stand for the first's value and what lies as far above it
 pub numbers-of : (x y : Seq) → distance_of x y < 128 → AreNumbers x y x.value (x.value + distance_of x y)
 numbers-of x y bound =
-    let small : x.value < 128 = x.in_range in
-    let same : x ≡ seq x.value = is_seq x x.value (omega arith) in
-    record { ordered = omega arith; within = omega arith; acknowledged = same; sent = seq-distance x y x.value same }
+    let same : x ≡ seq x.value = is_seq x x.value (omega (arith, x.in_range)) in
+    record { ordered = omega arith; within = omega (arith, bound); acknowledged = same; sent = seq-distance x y x.value same }
 
 -- the next number is one step further away
 pub distance-next : (x y y' : Seq) → distance_of x y < 127 → y' ≡ seq (y.value + 1) → distance_of x y' ≡ distance_of x y + 1
 unfolding distance_of
-distance-next x y y' free next =
-    let after : y'.value ≡ (y.value + 1) % 128 = seq-value y' (y.value + 1) next in
-    let low : x.value < 128 = x.in_range in
-    let high : y.value < 128 = y.in_range in
-    omega arith
+distance-next x y y' free next = omega (arith, seq-value y' (y.value + 1) next, x.in_range, y.in_range, free)
 
 -- a valid N(R) parts the way from V(A) to V(S)
 pub distance-parts : (x nr y : Seq) → IsValid x nr y → distance_of x nr + distance_of nr y ≡ distance_of x y
 unfolding distance_of
-distance-parts x nr y valid =
-    let low : x.value < 128 = x.in_range in
-    let between : nr.value < 128 = nr.in_range in
-    let high : y.value < 128 = y.in_range in
-    omega arith
+distance-parts x nr y valid = omega (arith, x.in_range, nr.in_range, y.in_range, valid)

@@ -11,30 +11,22 @@ returns-in-Some-clause-refused g c = λ others m s.
 
 pub returns-in-None-clause-granted : goal.returns-in-None-clause-granted
 returns-in-None-clause-granted g c = λ others m s.
-    let none : refusal (terms_of c.args.self.now) m (nat_le c.args.slots (used_slots (g.S.Shelf.store c.args.shelf.now))) (request_of c.args.request) ≡ None =
     ap (λ (n : ℕ). refusal (terms_of c.args.self.now) m (nat_le c.args.slots n) (request_of c.args.request)) (sym c.used.ensures.count)
-    ∙ sym (c.refusal.ensures.machine (g.S.Shelf.store c.args.shelf.now) others m s) ∙ c.in-None.is in
-    none
+    ∙ sym (c.refusal.ensures.machine (g.S.Shelf.store c.args.shelf.now) others m s) ∙ c.in-None.is
 
 pub returns-in-None-clause-stands : goal.returns-in-None-clause-stands
 returns-in-None-clause-stands g c = λ others m s.
-    let none : refusal (terms_of c.args.self.now) m (nat_le c.args.slots (used_slots (g.S.Shelf.store c.args.shelf.now))) (request_of c.args.request) ≡ None =
-    ap (λ (n : ℕ). refusal (terms_of c.args.self.now) m (nat_le c.args.slots n) (request_of c.args.request)) (sym c.used.ensures.count)
-    ∙ sym (c.refusal.ensures.machine (g.S.Shelf.store c.args.shelf.now) others m s) ∙ c.in-None.is in
     let reaches : Reaches [] m (course (terms_of c.args.self.now) (requested (request_of c.args.request) (nat_le c.args.slots (used_slots (g.S.Shelf.store c.args.shelf.now)))) m) c.grant.new.self (g.S.Shelf.store c.grant.new.shelf) others c.grant.new.report =
     subst (λ (k : Course). Reaches [] m k c.grant.new.self (g.S.Shelf.store c.grant.new.shelf) others c.grant.new.report)
-    (granted-course (terms_of c.args.self.now) (request_of c.args.request) (nat_le c.args.slots (used_slots (g.S.Shelf.store c.args.shelf.now))) m none)
+    (granted-course (terms_of c.args.self.now) (request_of c.args.request) (nat_le c.args.slots (used_slots (g.S.Shelf.store c.args.shelf.now))) m (returns-in-None-clause-granted g c others m s))
     (c.grant.ensures.reaches others m s) in
     stands-after (requested (request_of c.args.request) (nat_le c.args.slots (used_slots (g.S.Shelf.store c.args.shelf.now)))) s c.grant.ensures.stays c.grant.ensures.limits reaches
 
 pub returns-in-None-clause-told : goal.returns-in-None-clause-told
 returns-in-None-clause-told g c = λ others m s.
-    let none : refusal (terms_of c.args.self.now) m (nat_le c.args.slots (used_slots (g.S.Shelf.store c.args.shelf.now))) (request_of c.args.request) ≡ None =
-    ap (λ (n : ℕ). refusal (terms_of c.args.self.now) m (nat_le c.args.slots n) (request_of c.args.request)) (sym c.used.ensures.count)
-    ∙ sym (c.refusal.ensures.machine (g.S.Shelf.store c.args.shelf.now) others m s) ∙ c.in-None.is in
     let reaches : Reaches [] m (course (terms_of c.args.self.now) (requested (request_of c.args.request) (nat_le c.args.slots (used_slots (g.S.Shelf.store c.args.shelf.now)))) m) c.grant.new.self (g.S.Shelf.store c.grant.new.shelf) others c.grant.new.report =
     subst (λ (k : Course). Reaches [] m k c.grant.new.self (g.S.Shelf.store c.grant.new.shelf) others c.grant.new.report)
-    (granted-course (terms_of c.args.self.now) (request_of c.args.request) (nat_le c.args.slots (used_slots (g.S.Shelf.store c.args.shelf.now))) m none)
+    (granted-course (terms_of c.args.self.now) (request_of c.args.request) (nat_le c.args.slots (used_slots (g.S.Shelf.store c.args.shelf.now))) m (returns-in-None-clause-granted g c others m s))
     (c.grant.ensures.reaches others m s) in
     told-after {link = c.args.self.now} (requested (request_of c.args.request) (nat_le c.args.slots (used_slots (g.S.Shelf.store c.args.shelf.now)))) c.grant.ensures.stays reaches
 

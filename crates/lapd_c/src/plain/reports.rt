@@ -70,9 +70,9 @@ impl PlainReport {
         ensures pulled { ShowsPull self.new begun more (listed orders.now) }
     {
         self.show_nothing();
-        self.order_count = write_order_list(&mut self.orders, orders);
         self.begun = u8::from(begun);
         self.more = u8::from(more);
+        self.order_count = write_order_list(&mut self.orders, orders);
     }
 
     /// Shows what a pull was answered with: whether it began a frame, and at most four orders.
@@ -82,8 +82,8 @@ impl PlainReport {
         ensures { ShowsPull self.new begun false orders.now }
     {
         self.show_nothing();
-        self.order_count = write_orders(&mut self.orders, orders);
         self.begun = u8::from(begun);
+        self.order_count = write_orders(&mut self.orders, orders);
     }
 
     /// Shows what an octet, a frame, an expiry or a request was answered with, and the contents that it delivered. These have
@@ -183,18 +183,18 @@ fn write_order_list(places: &mut [PlainOrder; 4], orders: &ShortList<Order>) -> 
         ShortList::None => 0,
         ShortList::One(orders) => write_orders(places, orders),
         ShortList::Two(_) | ShortList::Three(_) | ShortList::Four(_) => {
-            write_several_orders(places, orders)
+            write_several_orders(places, *orders)
         }
     }
 }
 
 #[cold]
 #[inline(never)]
-fn write_several_orders(places: &mut [PlainOrder; 4], orders: &ShortList<Order>) -> u8
-    ensures count { result ≡ length (listed orders.now) }
-    ensures orders { take result places.new ≡ map plain_order (listed orders.now) }
+fn write_several_orders(places: &mut [PlainOrder; 4], orders: ShortList<Order>) -> u8
+    ensures count { result ≡ length (listed orders) }
+    ensures orders { take result places.new ≡ map plain_order (listed orders) }
 {
-    write_orders(places, items(orders))
+    write_orders(places, items(&orders))
 }
 
 // Writes orders to the first places, and answers how many there are.

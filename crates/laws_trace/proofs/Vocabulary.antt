@@ -123,7 +123,7 @@ pub use Rattle.laws_link.specs.Offered.{Carries, IsOffered, i_frames, number_sen
 pub use Rattle.laws_link.specs.States.{as_heard, by_expiry, by_frame, by_received, by_request, comes_to, is_anew, is_clearing, is_faulty, is_invalid, is_overlong, leads_by_agreement, leads_by_sabme, moves, numbers_begin, receipt_of, state_after}
 pub use Rattle.laws_link.specs.Telling.{final_as, numbered_as, told_by, told_cleared, told_expired}
 pub use Rattle.laws_link.specs.Timed.{is_same, obey, obeyed}
-pub use Rattle.laws_link.specs.Waiting.{answers, answers_to, answers_up, as_command, as_response, behind, command_in, commands, takes_next, is_taken, is_time, put, receipt_as, room, to_disc, to_information, to_sabme, to_supervisory, waiting_left}
+pub use Rattle.laws_link.specs.Waiting.{answers, answers_to, answers_up, as_command, as_response, behind, command_in, commands, is_next, is_taken, is_time, put, receipt_as, room, to_disc, to_information, to_sabme, to_supervisory, waiting_left}
 pub use Rattle.laws_link.specs.two.Needed.{HasItsTimer, IsCalmIn, needed, needed_in}
 pub use Rattle.laws_trace.specs.ControlFrames.{put_in}
 pub use Rattle.laws_trace.specs.Deliveries.{Deliveries, brings_next, is_unit_for, is_unit_taken}

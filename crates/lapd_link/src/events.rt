@@ -34,7 +34,10 @@ impl Link {
     {
         let mut report = BareReport::nothing();
         self.receive(received, &mut report, shelf);
-        Outcome::of(&report, received.information())
+        match received {
+            Received::Frame(frame) => Outcome::of(&report, frame.info),
+            _ => Outcome::of(&report, &[]),
+        }
     }
 
     /// The same without lending anything: the report, in which nothing is told yet, then says whether the frame's information is

@@ -30,11 +30,12 @@ const LONGEST: usize = 264;
 
 /// Runs a list of events, and hands each reply to the sink, in order. Answers how many events there were.
 ///
-/// Its clauses say what a run is: from `ok` to `counters_add_up` they are those of [`lapd_card::Card::drive`] with the same names, of
-/// a frame that came or a fault in place of an octet, and of a call for the next frame in place of a pull. From `by_event` to `from_zero` are laws of every run, as
-/// [`lapd_card::Card::drive`] has them of what its octets mean (`rejects_are_long`: each REJ with a valid N(R) is one of the frames
-/// heard that have four octets or more). The frames that it gives, with those still to be sent, are linear in the octets of the
-/// frames that came (`linear`). And it keeps all promises (`promises`).
+/// Its clauses say what a run is: from `ok` to `counters_add_up` they are those of [`lapd_card::Card::drive`] with the
+/// same names, of a frame that came or a fault in place of an octet, and of a call for the next frame in place of a pull.
+/// From `by_event` to `from_zero` are laws of every run, as [`lapd_card::Card::drive`] has them of what its octets mean
+/// (`rejects_are_long`: each REJ with a valid N(R) is one of the frames heard that have four octets or more). The frames
+/// that it gives, with those still to be sent, are linear in the octets of the frames that came (`linear`). And it keeps
+/// all promises (`promises`).
 ///
 /// # Errors
 ///

@@ -8,8 +8,8 @@ ghost use Rattle.lapd_card.specs.Sink.{one_failure_more};
 use crate::frame_replies::FrameReply;
 use lapd_card::SinkFailed;
 
-/// Takes the answers to a list of events at a [`FrameCard`](lapd_card::FrameCard), in order, as [`lapd_card::Sink`] takes those of a
-/// card of octets.
+/// Takes the answers to a list of events at a [`FrameCard`](lapd_card::FrameCard), in order, as [`lapd_card::Sink`] takes
+/// those of a card of octets.
 pub trait FrameSink {
     /// What a sink is before and after it takes a reply, that of an event at a line.
     ghost takes: { Self → ℕ → Answer → Self → Type 0 };

@@ -6,8 +6,9 @@
 //! beside. The clauses of [`lapd_card::Card::drive`] say the rest: where the card is after the events, which replies the sink
 //! has taken, what bounds storage and frames, and what stands in the octets.
 //!
-//! - `frame_call` with `frame_events`, `frame_sink` and `frame_replies`: `drive_frames`, which runs a whole list of events at a card
-//!   of frames, with what a run is, the laws of every run, and the promises. A caller that needs no proof calls the card itself.
+//! - `frame_call` with `frame_events`, `frame_sink` and `frame_replies`: `drive_frames`, which runs a whole list of events
+//!   at a card of frames, with what a run is, the laws of every run, and the promises. A caller that needs no proof calls
+//!   the card itself.
 //! - `call`: `drive`, the same of a card of octets.
 //! - `laws`: the promises of every machine of a card that is reached, as calls without effect.
 #![tactic(auto)]

@@ -5,9 +5,10 @@
 //! this module, and those of a link in `laws_link`. `specs/card` has the contents of the links from moment to moment
 //! (`Contents`), what holds in a moment (`OneEvent`), what holds of a list of events (`Promises`), and in brief,
 //! beside what the laws of the trace of a line say (`Brief`), which timers a caller runs (`Timers`), what calls for
-//! the next frame of a line come to (`Among`, `PromisesOfTakes`, of octets `WaitingIsHeard`), that a line goes down (`GoesDown`), what notes tell
-//! (`Knowledge`), the laws, which say of which cards and lists (`Laws`, `Machine`), and worked values of the laws and
-//! of the machine, also some that break them (`Worked*`). Each law is the contract of a call that does nothing.
+//! the next frame of a line come to (`Among`, `PromisesOfTakes`, of octets `WaitingIsHeard`), that a line goes down
+//! (`GoesDown`), what notes tell (`Knowledge`), the laws, which say of which cards and lists (`Laws`, `Machine`), and
+//! worked values of the laws and of the machine, also some that break them (`Worked*`). Each law is the contract of a
+//! call that does nothing.
 //! `laws_promises` has what is promised of a list of events in one record, `Promises`: a law here names the fields
 //! that it proves, and their comments say it in words.
 //!

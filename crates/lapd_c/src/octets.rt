@@ -1,8 +1,7 @@
 //! What happens at a card for octets: one that comes, and one that goes; which frame a pull began, and which was heard last.
 
-ghost use Rattle.std.specs.Prelude.{◌≡◌, ◌≢◌, ◌<◌};
-ghost use Rattle.lapd_c.specs.{OctetsWithLine, CardStands, Leads, shelf_of, head_begun_at, head_heard_at, plain_head, IsOctetsCall, IsReopened, ShowsReply, octet_of, card_of, IsHandle, OctetsStand, CountsMeaning, counters_at};
-ghost use Rattle.lapd_card.specs.Card.{line_count};
+ghost use Rattle.std.specs.Prelude.{◌≡◌, ◌≢◌};
+ghost use Rattle.lapd_c.specs.{OctetsWithLine, head_begun_at, head_heard_at, plain_head, IsOctetsCall, IsReopened, ShowsReply, octet_of, card_of, IsHandle, OctetsStand, CountsMeaning, counters_at};
 ghost use Rattle.model_card.specs.ports.Card as machine;
 ghost use Rattle.model_card.specs.ports.Card.{after, answer};
 ghost use Rattle.model_card.specs.ports.Event.{at};
@@ -12,8 +11,6 @@ ghost use Rattle.lapd_c.specs.Statuses as status;
 use crate::card::CardHandle;
 use crate::lend::lend;
 use crate::plain::{OK, PlainHead, PlainReport};
-use lapd_card::Card;
-use lapd_store::RawShelf;
 
 /// Takes an octet that came from a line, low bit first.
 #[unsafe(no_mangle)]
@@ -33,22 +30,17 @@ pub extern "C" fn lapd_octet(
     ensures reopened { IsReopened line handle.old handle.new result report.new }
 {
     lend!(kept of handle, Octets(card), line);
-    hear(card, line, octet, report);
-    kept.tell_reopened(line, report);
-    OK
-}
-
-// Hears an octet at a line that the card has. Mostly it ends nothing, and then nothing else is looked for.
-#[inline(always)]
-fn hear(card: &mut Card<RawShelf>, line: usize, octet: u8, report: &mut PlainReport)
-    requires { line < line_count card.old }
-    ensures shows { (m : machine.OctetCard) → CardStands card.old m
-        → ShowsReply report.new (answer (at line (port.octet octet)) m) }
-    ensures leads { Leads shelf_of (at line (port.octet octet)) card.old card.new }
-{
     match card.hear(line, octet) {
-        None => report.show_nothing(),
-        Some(told) => report.show(&told, card.contents(line, &told)),
+        None => {
+            report.show_nothing();
+            kept.tell_reopened(line, report);
+            OK
+        }
+        Some(told) => {
+            report.show(&told, card.contents(line, &told));
+            kept.tell_reopened(line, report);
+            OK
+        }
     }
 }
 

@@ -1,6 +1,5 @@
 -- The program's words, where they stand in references.
 use Rattle.lapd_script.proofs.Vocabulary.{◌≡◌, ℕ, ◌<◌, ◌≤◌, Bool, true, false, cond, ◌&&◌, List, [], ◌∷◌, length, get_or, Some, None, Option, refl, ap, ◌∙◌, Bor, bytes_eq, codes, arith, texts, Job, job, frame, job_or_none, limits_of, seen}
-use Rattle.lapd_frame.specs.declared.addresses.Side.TheVariants.{Network}
 use Rattle.lapd_script.specs.declared.jobs.Job as rust
 use Rattle.lapd_script.specs.declared.jobs.Job.TheVariants.{Frame}
 use Rattle.std.specs.Bool.{then_some}
@@ -21,8 +20,8 @@ seen_if true found = refl
 seen_if false found = refl
 
 pub with_network : (words : List (Bor (List ℕ))) (result : Option rust.Job) (test : Bool) → 3 ≤ length words → length words < 4
-    → result ≡ then_some test (Frame (get_or words 1 nowhere) Network) → test ≡ (bytes_eq (at words 0) (codes "frame") && bytes_eq (at words 2) (codes "--network")) → seen result ≡ job (texts words)
-with_network (a ∷ b ∷ c ∷ []) result test low high r t = ap seen r ∙ seen_if test (Frame b Network) ∙ ap (λ t. cond t (Some (frame b.now Network)) None) t
+    → result ≡ then_some test (Frame (get_or words 1 nowhere) true) → test ≡ (bytes_eq (at words 0) (codes "frame") && bytes_eq (at words 2) (codes "--network")) → seen result ≡ job (texts words)
+with_network (a ∷ b ∷ c ∷ []) result test low high r t = ap seen r ∙ seen_if test (Frame b true) ∙ ap (λ t. cond t (Some (frame b.now true)) None) t
 with_network (a ∷ b ∷ c ∷ d ∷ more) result test low high r t = absurd (omega (arith, high))
 with_network _ result test low high r t = absurd (omega (arith, low))
 

@@ -1,7 +1,5 @@
 -- What the words after the program's name ask for.
-use Rattle.std.specs.Prelude.{ℕ, ◌&&◌, if◌then◌else◌, List, [], ◌∷◌, codes, bytes_eq, Option, Some, None, Result, Ok, Err}
-use Rattle.lapd_frame.specs.declared.addresses.Side.{Side}
-use Rattle.lapd_frame.specs.declared.addresses.Side.TheVariants.{User, Network}
+use Rattle.std.specs.Prelude.{ℕ, ◌&&◌, Bool, true, false, if◌then◌else◌, List, [], ◌∷◌, codes, bytes_eq, Option, Some, None, Result, Ok, Err}
 use Rattle.lapd_script.specs.declared.kind.FaultKind.{FaultKind}
 use Rattle.lapd_script.specs.declared.jobs.Job as rust
 use Rattle.lapd_script.specs.Number.{number}
@@ -10,8 +8,8 @@ use Rattle.lapd_script.specs.Read.{◌>>=◌}
 pub data Job : Type 0 where
   -- play a script
   run : Job
-  -- show the frame of these digits, which this side sent
-  frame : List ℕ → Side → Job
+  -- show the frame of these digits, which the network sent, or else the user
+  frame : List ℕ → Bool → Job
   -- show the bound of what a card of these numbers stores
   limits : ℕ → ℕ → ℕ → ℕ → ℕ → Job
 
@@ -29,12 +27,11 @@ abbrev pub job_or_none : Result Job FaultKind → Option Job
 job_or_none (Ok job) = Some job
 job_or_none (Err kind) = None
 
--- `run`; `frame HEX`, which the user sent, or with `--network` the network; `limits` with five numbers; any other words ask for
--- nothing
+-- `run`, `frame HEX`, `frame HEX --network`, and `limits` with five numbers; any other words ask for nothing
 abbrev pub job : List (List ℕ) → Option Job
 job (a ∷ []) = if bytes_eq a (codes "run") then Some run else None
-job (a ∷ b ∷ []) = if bytes_eq a (codes "frame") then Some (frame b User) else None
-job (a ∷ b ∷ c ∷ []) = if bytes_eq a (codes "frame") && bytes_eq c (codes "--network") then Some (frame b Network) else None
+job (a ∷ b ∷ []) = if bytes_eq a (codes "frame") then Some (frame b false) else None
+job (a ∷ b ∷ c ∷ []) = if bytes_eq a (codes "frame") && bytes_eq c (codes "--network") then Some (frame b true) else None
 job (a ∷ b ∷ c ∷ d ∷ e ∷ f ∷ []) = if bytes_eq a (codes "limits") then job_or_none (limits_of b c d e f) else None
 job _ = None
 
@@ -42,5 +39,5 @@ job _ = None
 abbrev pub seen : Option rust.Job → Option Job
 seen None = None
 seen (Some rust.TheVariants.Run) = Some run
-seen (Some (rust.TheVariants.Frame hex side)) = Some (frame hex.now side)
+seen (Some (rust.TheVariants.Frame hex network)) = Some (frame hex.now network)
 seen (Some (rust.TheVariants.Limits l)) = Some (limits l.lines l.terminals l.control l.slots l.n201)

@@ -1,6 +1,7 @@
 -- What a `frame` job writes: what the frame of its digits says, and what that frame is on a line.
-use Rattle.std.specs.Prelude.{◌≡◌, ℕ, ◌<◌, ◌≤◌, List, ◌++◌, length, Result, Ok, Err}
+use Rattle.std.specs.Prelude.{◌≡◌, ℕ, ◌<◌, ◌≤◌, Bool, if◌then◌else◌, List, ◌++◌, length, Result, Ok, Err}
 use Rattle.lapd_frame.specs.declared.addresses.Side.{Side}
+use Rattle.lapd_frame.specs.declared.addresses.Side.TheVariants.{User, Network}
 use Rattle.lapd_frame.specs.Faults.{IsFault}
 use Rattle.lapd_frame.specs.Grammar.{Parts, Spells}
 use Rattle.lapd_script.specs.declared.kind.FaultKind.TheVariants as kind
@@ -10,6 +11,10 @@ use Rattle.lapd_transcript.specs.Shown.{shown_text, on_line_text}
 use Rattle.lapd_transcript.specs.Streams.{Taken, IsWritten, IsBroken}
 use Rattle.lapd_script.specs.declared.shown.FrameFault.{FrameFault}
 use Rattle.lapd_script.specs.declared.shown.FrameFault.TheVariants.{BadOctets, TooLong, NoFrame, Write, OutOfMemory}
+
+-- Who sent the frame: the network with `--network`, else the user.
+abbrev pub side_of : Bool → Side
+side_of network = if network then Network else User
 
 -- The digits are octets that spell a frame of this side, and this is its text,
 pub record IsShown (side : Side) (digits text : List ℕ) : Type 0 where

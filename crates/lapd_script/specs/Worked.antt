@@ -156,10 +156,10 @@ number_before_cause = refl
 one_word : job (codes "run" ∷ []) ≡ Some run
 one_word = refl
 
-a_frame_of_the_user : job (codes "frame" ∷ codes "00817F" ∷ []) ≡ Some (frame (codes "00817F") User)
+a_frame_of_the_user : job (codes "frame" ∷ codes "00817F" ∷ []) ≡ Some (frame (codes "00817F") false)
 a_frame_of_the_user = refl
 
-a_frame_of_the_network : job (codes "frame" ∷ codes "zz" ∷ codes "--network" ∷ []) ≡ Some (frame (codes "zz") Network)
+a_frame_of_the_network : job (codes "frame" ∷ codes "zz" ∷ codes "--network" ∷ []) ≡ Some (frame (codes "zz") true)
 a_frame_of_the_network = refl
 
 five_numbers : job (codes "limits" ∷ codes "8" ∷ codes "8" ∷ codes "4" ∷ codes "64" ∷ codes "260" ∷ []) ≡ Some (limits 8 8 4 64 260)

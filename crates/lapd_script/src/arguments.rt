@@ -5,7 +5,6 @@ ghost use Rattle.lapd_script.specs.{job, seen, limits_of, job_or_none, texts};
 
 use crate::jobs::{Job, Limits};
 use crate::values::number;
-use lapd_frame::Side;
 
 /// What these words ask for, and `None` where they ask for nothing that there is.
 pub fn job<'a>(words: &[&'a str]) -> Option<Job<'a>>
@@ -15,11 +14,11 @@ pub fn job<'a>(words: &[&'a str]) -> Option<Job<'a>>
         [name] => (*name == "run").then_some(Job::Run),
         [name, hex] => (*name == "frame").then_some(Job::Frame {
             hex: *hex,
-            side: Side::User,
+            network: false,
         }),
         [name, hex, flag] => (*name == "frame" && *flag == "--network").then_some(Job::Frame {
             hex: *hex,
-            side: Side::Network,
+            network: true,
         }),
         [name, lines, terminals, control, slots, n201] => {
             if *name == "limits" {

@@ -3,8 +3,6 @@
 ghost use Rattle.std.specs.Prelude.{◌≡◌, ◌≤◌};
 ghost use Rattle.lapd_script.specs.Bound.{bound};
 
-use lapd_frame::Side;
-
 /// The numbers of `limits`, in the ranges that a card line has for them.
 #[derive(Clone, Copy)]
 pub struct Limits {
@@ -31,7 +29,7 @@ pub enum Job<'a> {
     /// `run`: play a script.
     Run,
     /// `frame HEX [--network]`: show the frame of these digits, which the user sent, or the network.
-    Frame { hex: &'a str, side: Side },
+    Frame { hex: &'a str, network: bool },
     /// `limits LINES TERMINALS CONTROL SLOTS N201`: show the bound of what a card stores.
     Limits(Limits),
 }

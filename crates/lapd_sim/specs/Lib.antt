@@ -12,7 +12,6 @@ pub mod machine
 -- the words of the contracts, from where they are defined
 pub use Rattle.lapd_card.specs.Kinds.{config_of, counters_of}
 pub use Rattle.lapd_frame.specs.ShortLists.{listed}
-pub use Rattle.lapd_frame.specs.declared.addresses.Side.{Side}
 pub use Rattle.lapd_line.specs.Reports.{told_beside}
 pub use Rattle.lapd_script.specs.Bound.{bound}
 pub use Rattle.lapd_script.specs.FaultLines.{IsTold, play_line}
@@ -20,6 +19,7 @@ pub use Rattle.lapd_script.specs.Faults.{reads_failed_by, writes_failed_by}
 pub use Rattle.lapd_script.specs.Job.{frame, job, limits, run}
 pub use Rattle.lapd_script.specs.Meaning.{meant}
 pub use Rattle.lapd_script.specs.ScriptLines.{AreLeft}
+pub use Rattle.lapd_script.specs.Shown.{side_of}
 pub use Rattle.lapd_script.specs.Words.{texts}
 pub use Rattle.lapd_script.specs.declared.faults.PlayFault.{PlayFault}
 pub use Rattle.lapd_script.specs.declared.faults.PlayFault.TheVariants.{Write}

@@ -1,9 +1,10 @@
 //! The program's work: what its words ask for, its fault lines and its exit status.
 
-ghost use Rattle.std.specs.Prelude.{◌≡◌, ◌≢◌, ◌≤◌, ◌↔◌, ◌++◌, ℕ, List, Result, Some, None, decimal, codes};
-ghost use Rattle.lapd_sim.specs.{bound, job, run, frame, limits, texts, PlayFault, Write, FrameFault, play_line, IsTold, Shows, Frames, Runs, Side};
+ghost use Rattle.std.specs.Prelude.{◌≡◌, ◌≢◌, ◌≤◌, ◌↔◌, ◌++◌, ℕ, Bool, List, Result, Some, None, decimal, codes};
+ghost use Rattle.lapd_sim.specs.{bound, job, run, frame, limits, texts, PlayFault, Write, FrameFault, play_line, IsTold, Shows, Frames, Runs, side_of};
 
 use crate::player::play;
+use lapd_frame::Side;
 use lapd_script::{Job, PlayFault, job, refuse, refuse_digits, refuse_words, show_frame};
 use lapd_transcript::{Source, Target, write_bound};
 use std::alloc::Global;
@@ -41,8 +42,8 @@ pub fn serve<S: Source, T: Target, F: Target>(
         (record { remaining = S.remaining source.new; failures = S.failures source.new })
         (T.taken target.old) (T.taken target.new) (F.taken faults.old) (F.taken faults.new) }
     // `frame`: what the frame says and what it is on a line, or the first fault of its digits.
-    ensures shown { (digits : List ℕ) (side : Side) → job (texts words.now) ≡ Some (frame digits side)
-        → (r : Result Unit FrameFault) × Frames r result side digits
+    ensures shown { (digits : List ℕ) (network : Bool) → job (texts words.now) ≡ Some (frame digits network)
+        → (r : Result Unit FrameFault) × Frames r result (side_of network) digits
         (T.taken target.old) (T.taken target.new) (F.taken faults.old) (F.taken faults.new) }
     // `limits`: the bound has been written, or a write failed.
     ensures bound { (l t c s n : ℕ) → job (texts words.now) ≡ Some (limits l t c s n)
@@ -55,14 +56,23 @@ pub fn serve<S: Source, T: Target, F: Target>(
             Ok(()) => DONE,
             Err(fault) => refuse(fault, faults),
         },
-        Some(Job::Frame { hex, side }) => match show_frame(alloc, hex.as_bytes(), side, target) {
-            Ok(()) => DONE,
-            Err(fault) => refuse_digits(fault, faults),
-        },
+        Some(Job::Frame { hex, network }) => {
+            match show_frame(alloc, hex.as_bytes(), side_of(network), target) {
+                Ok(()) => DONE,
+                Err(fault) => refuse_digits(fault, faults),
+            }
+        }
         Some(Job::Limits(limits)) => match write_bound(target, limits.bound()) {
             Ok(()) => DONE,
             Err(_) => refuse(PlayFault::Write, faults),
         },
         None => refuse_words(faults),
     }
+}
+
+/// Who sent a frame: the network with `--network`, else the user.
+fn side_of(network: bool) -> Side
+    ensures { result ≡ side_of network }
+{
+    if network { Side::Network } else { Side::User }
 }

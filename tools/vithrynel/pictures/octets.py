@@ -74,7 +74,7 @@ COMES = [
 ]
 # The way of a frame that a controller brings, as far as it is another, and of the next one.
 FRAMES = [
-    Call("lapd_frame", "lapd_c/src/frames.rt"), Call("FrameCard::hear", "lapd_card/src/frame_card.rt"),
+    Call("lapd_frame", "lapd_c/src/frames.rt"), Call("FrameCard::frame", "lapd_card/src/frame_card.rt"),
     Call("FrameLine::frame", "lapd_line/src/frame_line.rt"),
     Call("lapd_next_frame", "lapd_c/src/frames.rt"), Call("FrameCard::next_frame", "lapd_card/src/frame_card.rt"),
     Call("FrameLine::next_frame", "lapd_line/src/next_frame.rt"),

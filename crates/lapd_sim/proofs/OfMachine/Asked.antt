@@ -84,8 +84,8 @@ not_limits false x l t r s n never e = cc
 only : (words : List (List ℕ)) (l t r s n : ℕ) → job words ≡ Some (limits l t r s n) → (c : Config) × IsInRange c × (limits l t r s n ≡ limits_of_card c)
 only [] l t r s n e = cc
 only (a ∷ []) l t r s n e = absurd (not_limits (bytes_eq a (codes "run")) (Some run) l t r s n (λ h. cc) e)
-only (a ∷ b ∷ []) l t r s n e = absurd (not_limits (bytes_eq a (codes "frame")) (Some (frame b User)) l t r s n (λ h. cc) e)
-only (a ∷ b ∷ c ∷ []) l t r s n e = absurd (not_limits (bytes_eq a (codes "frame") && bytes_eq c (codes "--network")) (Some (frame b Network)) l t r s n (λ h. cc) e)
+only (a ∷ b ∷ []) l t r s n e = absurd (not_limits (bytes_eq a (codes "frame")) (Some (frame b false)) l t r s n (λ h. cc) e)
+only (a ∷ b ∷ c ∷ []) l t r s n e = absurd (not_limits (bytes_eq a (codes "frame") && bytes_eq c (codes "--network")) (Some (frame b true)) l t r s n (λ h. cc) e)
 only (a ∷ b ∷ c ∷ d ∷ []) l t r s n e = cc
 only (a ∷ b ∷ c ∷ d ∷ f ∷ []) l t r s n e = cc
 only (a ∷ b ∷ c ∷ d ∷ f ∷ g ∷ []) l t r s n e =

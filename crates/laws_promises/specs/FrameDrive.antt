@@ -17,7 +17,7 @@ use Rattle.model_card.specs.Event.{Event, at}
 use Rattle.model_card.specs.Machine.{answer}
 use Rattle.model_card.specs.Run.{run}
 use Rattle.lapd_card.specs.FrameCard.{Held}
-use Rattle.lapd_card.specs.FrameStands.{Stands, Leads}
+use Rattle.lapd_card.specs.FrameStands.{FrameStands, Leads}
 use Rattle.lapd_card.specs.Sink.{Taken, one_failure_more}
 use Rattle.lapd_store.specs.Store.{Store}
 use Rattle.laws_promises.specs.declared.frame_events.FrameEvent as rust
@@ -58,5 +58,5 @@ pub record Hands {S K E : Type 0} (store : S → Store) (takes misses : K → �
   pub failed : OnErr result (failures after ≡ one_failure_more (failures before))
   pub not_failed : OnOk result (failures after ≡ failures before)
   pub leads : Leads store event old new
-  pub taken : OnOk result ((m : Card) → Stands store old m → takes before event.line (answer event m) after)
-  pub not_taken : OnErr result ((m : Card) → Stands store old m → misses before event.line (answer event m) after)
+  pub taken : OnOk result ((m : Card) → FrameStands store old m → takes before event.line (answer event m) after)
+  pub not_taken : OnErr result ((m : Card) → FrameStands store old m → misses before event.line (answer event m) after)

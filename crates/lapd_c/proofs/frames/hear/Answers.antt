@@ -1,5 +1,5 @@
 -- Hand-written answers for `hear`: the frame is heard by the configuration of the machine.
-use Rattle.lapd_c.proofs.Vocabulary.{◌≤◌, ℕ, List, length, Option, Some, refl, sym, ap, subst, ◌∙◌, Config, ShowsAnswer, told, Event, answer, comes, Shows, contents_of}
+use Rattle.lapd_c.proofs.Vocabulary.{◌≤◌, ℕ, List, length, Option, Some, refl, sym, ap, subst, ◌∙◌, Config, ShowsAnswer, told, Event, answer, comes, Shows, contents_or_none}
 use Rattle.lapd_line.proofs.Quiet.{quiet_told}
 use Rattle.lapd_line.specs.Reports.{delivered_in, octets_of, told_beside, told_in}
 use Rattle.model_card.specs.Machine.{after}
@@ -14,7 +14,7 @@ returns-clause-shows c = λ m s.
     let delivered = c.contents.ensures ∙ ap (λ (d : Config). delivered_in (octets_of (Some (came d.n201 c.args.octets.now))) c.frame.new.report) c.frame.ensures.after.config in
     shown_told m (comes c.args.line c.args.octets.now m) (told_in (octets_of (Some (came c.args.card.now.config.n201 c.args.octets.now))) c.frame.new.report) c.show.new.self s.reached.config
     (c.frame.ensures.told m s ∙ ap (λ (e : Event). answer e m) is)
-    (subst (λ (o : Option (List ℕ)). length (contents_of o) ≤ 260 → Shows c.show.new.self (told_beside o c.frame.new.report)) delivered c.show.ensures)
+    (subst (λ (o : Option (List ℕ)). length (contents_or_none o) ≤ 260 → Shows c.show.new.self (told_beside o c.frame.new.report)) delivered c.show.ensures)
 
 pub returns-then-frame-clause-shows : goal.returns-then-frame-clause-shows
 returns-then-frame-clause-shows c = λ m s.

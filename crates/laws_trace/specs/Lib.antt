@@ -16,6 +16,7 @@ pub mod TimersAreTimely
 pub mod LinksMove
 pub mod News
 pub mod Outgoing
+pub mod NoSlotIsLost
 pub mod FramesAreDue
 pub mod WorkedDue
 pub mod WorkedUnits

@@ -10,6 +10,7 @@ ghost use Rattle.laws_trace.specs.Deliveries.{Deliveries};
 ghost use Rattle.laws_trace.specs.LinksMove.{LinksMove};
 ghost use Rattle.laws_trace.specs.News.{NewsIsTold};
 ghost use Rattle.laws_trace.specs.NoLossInVain.{NoLossInVain};
+ghost use Rattle.laws_trace.specs.NoSlotIsLost.{NoSlotIsLost};
 ghost use Rattle.laws_trace.specs.RoomsAreTold.{RoomsAreTold};
 ghost use Rattle.laws_trace.specs.TeisAreManaged.{TeisAreManaged};
 ghost use Rattle.laws_trace.specs.TimersAreTimely.{TimersAreTimely, TimersRun};
@@ -185,6 +186,14 @@ pub fn news_is_told()
 /// clauses 3.5.2.3, 5.5.1.1, 5.5.1.2, 5.5.3.1, 5.5.3.2 and 5.7, and profile).
 pub fn rooms_are_told()
     ensures { Always RoomsAreTold }
+{}
+
+/// No slot of the pool is lost. A request finds the pool full only where all lines of the card together keep as many contents
+/// as there are slots, as whoever watches each line has them: the unit data that waits, as [`units_go_out`] has it, and what
+/// the links keep, as [`what_is_given_is_due`] has it. So a slot is free again once its contents are acknowledged, given up
+/// as [`news_is_told`] tells it, or, of unit data, sent (profile).
+pub fn no_slot_is_lost()
+    ensures { Always NoSlotIsLost }
 {}
 
 /// Counters count what is seen. What the moments of a run at a line show to its counters, but for why something is dropped,

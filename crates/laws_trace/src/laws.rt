@@ -180,18 +180,19 @@ pub fn news_is_told()
 /// Rooms are told as they are. Of each link whose TEI is on the line the places of its queue are those that
 /// `FrameCard::room` tells as left and those of the contents that the link keeps, as [`what_is_given_is_due`] has them:
 /// so contents take a place until they are acknowledged, or layer 3 learns that they are lost, and none is lost silently.
-/// Of a link in state 7 or 8 V(A) is told, which is the N(R) that was heard of it last, 0 where none was since its
-/// numbers began; and what is left, of the queue and of the pool, is what the next request for data would be refused
-/// for. In the other states that is refused for the state, so no data is granted there that nothing keeps (Q.921
-/// clauses 3.5.2.3, 5.5.1.1, 5.5.1.2, 5.5.3.1, 5.5.3.2 and 5.7, and profile).
+/// The slots of the pool are those that it tells as left and those that are taken, as [`no_slot_is_lost`] has them. Of a
+/// link in state 7 or 8 V(A) is told, which is the N(R) that was heard of it last, 0 where none was since its numbers
+/// began; and what is left, of the queue and of the pool, is what the next request for data would be refused for. In
+/// the other states that is refused for the state, so no data is granted there that nothing keeps (Q.921 clauses
+/// 3.5.2.3, 5.5.1.1, 5.5.1.2, 5.5.3.1, 5.5.3.2 and 5.7, and profile).
 pub fn rooms_are_told()
     ensures { Always RoomsAreTold }
 {}
 
-/// No slot of the pool is lost. A request finds the pool full only where all lines of the card together keep as many contents
-/// as there are slots, as whoever watches each line has them: the unit data that waits, as [`units_go_out`] has it, and what
-/// the links keep, as [`what_is_given_is_due`] has it. So a slot is free again once its contents are acknowledged, given up
-/// as [`news_is_told`] tells it, or, of unit data, sent (profile).
+/// No slot of the pool is lost. The lines of a card together take no more slots than it has, and a request finds the pool
+/// full only where they take all of them, to whoever watches the lines: one for each unit data that waits, as
+/// [`units_go_out`] has it, and one for each contents that a link keeps, as [`what_is_given_is_due`] has it. So a slot is
+/// free again as soon as its unit data begins, or its contents are acknowledged, or either is given up (profile).
 pub fn no_slot_is_lost()
     ensures { Always NoSlotIsLost }
 {}

@@ -103,6 +103,7 @@ pub mod NoLossInVain
 pub mod SlotsSummed
 pub mod SlotsTaken
 pub mod NoSlotIsLost
+pub mod UnitsAreGranted
 pub mod RoomsAreTold
 pub mod UnitsAreTold
 pub mod CountersCount

@@ -19,8 +19,8 @@ waits_on card number = has_next number card
 abbrev pub next_waiting : ℕ → Card → Option ℕ
 next_waiting from card = find (waits_on card) (range_with_len from (card.config.lines - from))
 
--- So a call for its next frame gives one, and none at those of the card that come before it, from that one on; where there is no
--- such line, at none of them.
+-- By the answers of the machine: a call for the next frame gives one at that line, and none at those of the card that come
+-- before it, from that one on; where no such line is told, at none of these.
 pub record IsFirstWaiting (from : ℕ) (card : Card) (first : Option ℕ) : Type 0 where
   pub gives : IfSome first (λ number. (from ≤ number) × (is_given (answer (at number next) card) ≡ true))
   pub others : (number : ℕ) → from ≤ number → number < unwrap_or first card.config.lines → answer (at number next) card ≡ gave None

@@ -1,5 +1,5 @@
 -- What is told of the room of a link: the law.
-use Rattle.laws_trace.proofs.Vocabulary.{◌≡◌, ℕ, ◌≤◌, Bool, true, false, not, cond, length, Option, Some, None, Ok, refl, sym, ap, ◌∙◌, subst, arith, true≢false, nat_lt, le-ltb, Refusal, BadTei, NoLink, place_of-is, is_on-at, Room, queue_of, is_multiple_frame, room_of, Config, Effect, Line, link_of, place_in, terms, has_tei, unless_refused_told, unless, Card, line_at, is_full, free, answer_is, refuses_by, is-off, Data, refusal, fresh, after_all, managing_is_on as is_on, View, view_of, Outgoing, outgoing_of, card_answer as answer, at, Always, is_up, of_request, always_sound, fresh_is_sound}
+use Rattle.laws_trace.proofs.Vocabulary.{◌≡◌, ℕ, ◌≤◌, Bool, true, false, not, cond, length, Some, None, Ok, refl, sym, ap, ◌∙◌, subst, arith, nat_lt, le-ltb, BadTei, NoLink, place_of-is, is_on-at, Room, queue_of, is_multiple_frame, room_of, Config, Line, link_of, place_in, terms, has_tei, unless, Card, line_at, free, refuses_by, Data, fresh, after_all, managing_is_on as is_on, View, view_of, Outgoing, outgoing_of, card_answer as answer, at, Always, is_up, always_sound, fresh_is_sound}
 use Rattle.model_card.specs.Card.{used}
 use Rattle.model_card.specs.Room.{room}
 use Rattle.model_card.proofs.Refusals.{refused_by_the_table}

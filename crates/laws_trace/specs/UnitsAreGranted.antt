@@ -11,8 +11,8 @@ use Rattle.laws_trace.specs.NoSlotIsLost.{slots_taken}
 use Rattle.laws_trace.specs.Observer.{moment_of, view_of}
 use Rattle.laws_trace.specs.UnitsGoOut.{units_of}
 
--- For a TEI on the line, of at most N201 octets, it is granted exactly where fewer units wait there than may, and not all slots of
--- the pool are taken (profile).
+-- For a TEI on the line, of at most N201 octets, it is granted exactly where fewer units wait there than may, and not all slots
+-- of the pool are taken (profile).
 abbrev pub UnitsAreGranted : Config → List Event → ℕ → Type 0
 UnitsAreGranted c events number =
     (service : Service) (tei : ℕ) (contents : List ℕ) → is_on tei (view_of c service tei number events).teis ≡ true → length contents ≤ c.n201

@@ -1,5 +1,5 @@
--- Worked values: what is told of the room of a link, and of a pool that is full; rooms that tell V(S) as V(A), and a pool that is full too
--- early, which break the laws.
+-- Worked values: what is told of the room of a link, and of a full pool; and what breaks the laws: a room that tells V(S) as
+-- V(A), and a pool that is full too early.
 use Rattle.std.specs.Prelude.{◌≡◌, ℕ, List, [], ◌∷◌, ◌++◌, Ok, refl}
 use Rattle.lapd_frame.specs.declared.refusals.Refusal.TheVariants.{PoolFull}
 use Rattle.lapd_frame.specs.declared.services.Service.TheVariants.{Call}

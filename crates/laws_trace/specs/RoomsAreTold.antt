@@ -35,5 +35,4 @@ pub record IsRoom (c : Config) (events : List Event) (number : ℕ) (service : S
 
 abbrev pub RoomsAreTold : Config → List Event → ℕ → Type 0
 RoomsAreTold c events number =
-    (service : Service) (tei : ℕ) → let o = outgoing_of c service tei number events in
-    is_on tei o.view.teis ≡ true → IsRoom c events number service tei o
+    (service : Service) (tei : ℕ) → let o = outgoing_of c service tei number events in is_on tei o.view.teis ≡ true → IsRoom c events number service tei o

@@ -35,9 +35,9 @@ pub fn the_other_side_is_heard()
 /// whole. Unit data waits from when it is granted until it begins, so that it goes in order and once; or until the line is
 /// down, when what waits is given up. And a call for the next frame gives none, or a frame of a link, only where none waits:
 /// so unit data goes before frames of links, and, as calls come to an end (`calls_come_to_an_end` of the promises), all of it
-/// goes (`all`). Unit data for a TEI on the line, of at most N201 octets, is granted exactly where fewer wait there than the
-/// configuration says, and a slot of the pool is free, as [`no_slot_is_lost`] has them (`granted`; Q.921 clauses 3.6.5 and
-/// 5.2.2, annex B, and profile).
+/// goes (`all`). Unit data for a TEI on the line, and from the network's side for the group, of at most N201 octets, is
+/// granted exactly where fewer wait there than the configuration says, and a slot of the pool is free, as
+/// [`no_slot_is_lost`] has them (`granted`; Q.921 clauses 3.6.5 and 5.2.2, annex B, and profile).
 pub fn units_go_out()
     ensures front { Always UnitsGoOut }
     ensures all { Always AllUnitsGoOut }

@@ -35,7 +35,7 @@ pub use Rattle.lapd_card.specs.Counted.{counters_in}
 pub use Rattle.lapd_card.specs.Kinds.{alone, card_in, CardStands, for_octets, FrameCardStands, Machine, shelf_of, with_ports}
 pub use Rattle.lapd_card.specs.Ports.{told_at}
 pub use Rattle.lapd_card.specs.Stands.{Leads}
-pub use Rattle.lapd_card.specs.Waiting.{has_next, next_waiting}
+pub use Rattle.lapd_card.specs.Waiting.{IsFirstWaiting, has_next, next_waiting}
 pub use Rattle.lapd_clock.specs.Timer.{first_out_of_range}
 pub use Rattle.lapd_clock.specs.Timers.{after_due, due_at, idle, next_moment, with_lengths}
 pub use Rattle.lapd_count.specs.Counters.{none_counted}

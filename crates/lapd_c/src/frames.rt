@@ -1,8 +1,8 @@
 //! What happens at a card for frames: a frame that comes, a fault in place of one, and the frame that goes next; and on which
 //! lines one waits.
 
-ghost use Rattle.std.specs.Prelude.{◌≡◌, ◌≢◌, ◌+◌, ◌≤◌, ◌<◌, true, length, Some, None, IfSome, IfOk, IfErr};
-ghost use Rattle.lapd_c.specs.{FramesWithLine, moment_counted, moment_of, counters_in, has_next, next_waiting, IsCall, IsFramesCall, IsReopened, ShowsAnswer, ShowsPull, card_of, kind_in, marks_at, IsHandle, FramesStand, Counts, counters_at, for_octets, FrameCardStands, comes, fails, goes, next_at, IsGiven};
+ghost use Rattle.std.specs.Prelude.{◌≡◌, ◌≢◌, ◌==◌, if◌then◌else◌, ◌+◌, ◌≤◌, ◌<◌, true, length, Some, None, IfSome, IfOk, IfErr};
+ghost use Rattle.lapd_c.specs.{FramesWithLine, moment_counted, moment_of, counters_in, IsFirstWaiting, has_next, next_waiting, IsCall, IsFramesCall, IsReopened, ShowsAnswer, ShowsPull, card_of, kind_in, marks_at, IsHandle, FramesStand, Counts, counters_at, for_octets, FrameCardStands, comes, fails, goes, next_at, IsGiven};
 ghost use Rattle.model_card.specs.Card as machine;
 ghost use Rattle.model_card.specs.Machine.{after, answer};
 ghost use Rattle.lapd_card.specs.FrameCard.{line_count};
@@ -138,6 +138,9 @@ pub extern "C" fn lapd_next_waiting(handle: &mut CardHandle, from: u32, line: &m
     ensures none { (m : machine.Card) → FramesStand handle.old m → next_waiting from m ≡ None → result ≡ status.no_frame }
     ensures told { (m : machine.Card) → FramesStand handle.old m
         → IfSome (next_waiting from m) (λ next. (result ≡ status.ok) × (line.new ≡ next)) }
+    // By the machine's own answers: a call for the next frame of that line gives one, and of those before it none.
+    ensures first { (m : machine.Card) → FramesStand handle.old m
+        → IsFirstWaiting from m (if result == status.ok then Some line.new else None) }
 {
     lend!(kept of handle, Frames(card));
     *line = or_answer!(card.next_waiting(from as usize), NO_FRAME) as u32;

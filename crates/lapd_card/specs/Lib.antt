@@ -45,5 +45,5 @@ pub use Rattle.lapd_card.specs.Kept.{IsShort, kept_of}
 pub use Rattle.lapd_card.specs.Lines.{AreFresh}
 pub use Rattle.lapd_card.specs.Ports.{PortsStand, told_at, told_if_at}
 pub use Rattle.lapd_card.specs.Start.{is_too_small, start_fault}
-pub use Rattle.lapd_card.specs.Waiting.{has_next, next_waiting}
+pub use Rattle.lapd_card.specs.Waiting.{IsFirstWaiting, has_next, next_waiting}
 pub use Rattle.lapd_card.specs.declared.fault.CardFault.TheVariants.{OutOfMemory}

@@ -24,36 +24,37 @@ abbrev busy : Card
 busy = asked_at 3 (asked_at 1 (fresh four_lines))
 
 none_waits : next_waiting 0 (fresh four_lines) ≡ None
+unfolding lines.answer lines.takes_slot
 none_waits = refl
 
 from_0 : next_waiting 0 busy ≡ Some 1
-unfolding lines.after lines.takes_slot
+unfolding lines.after lines.answer lines.takes_slot
 from_0 = refl
 
 from_1 : next_waiting 1 busy ≡ Some 1
-unfolding lines.after lines.takes_slot
+unfolding lines.after lines.answer lines.takes_slot
 from_1 = refl
 
 from_2 : next_waiting 2 busy ≡ Some 3
-unfolding lines.after lines.takes_slot
+unfolding lines.after lines.answer lines.takes_slot
 from_2 = refl
 
 from_3 : next_waiting 3 busy ≡ Some 3
-unfolding lines.after lines.takes_slot
+unfolding lines.after lines.answer lines.takes_slot
 from_3 = refl
 
 from_4 : next_waiting 4 busy ≡ None
-unfolding lines.after lines.takes_slot
+unfolding lines.after lines.answer lines.takes_slot
 from_4 = refl
 
 one_given : next_waiting 0 (after (at 1 line.next) busy) ≡ Some 3
-unfolding lines.after lines.takes_slot
+unfolding lines.after lines.answer lines.takes_slot
 one_given = refl
 
 waits_on_3 : has_next 3 busy ≡ true
-unfolding lines.after lines.takes_slot
+unfolding lines.after lines.answer lines.takes_slot
 waits_on_3 = refl
 
 behind_the_last : has_next 4 busy ≡ false
-unfolding lines.after lines.takes_slot
+unfolding lines.after lines.answer lines.takes_slot
 behind_the_last = refl

@@ -2,7 +2,7 @@
 
 ghost use Rattle.std.specs.Prelude.{◌≡◌, ◌≤◌, ◌<◌, ◌↔◌, true, length, drop, Some, None, IsSome, IfOk, IfErr, IfSome, IsErr, OnOk, OnErr, get_or};
 ghost use Rattle.std.specs.Option.{option_copied};
-ghost use Rattle.lapd_card.specs.{none_counted, IsQuiet, answer_of_request, delivered_in, listed, told_beside, told_in, octets_of, gave_in, written, IsClear, heard_of, RisesByHeard, RisesByExpiry, RisesByRequest, FallsByNext, room, RefusesBy, has_next, next_waiting, came, cause_of, refusal, request_of, starts, limit, IsLoaded, orders_taken};
+ghost use Rattle.lapd_card.specs.{none_counted, IsQuiet, answer_of_request, delivered_in, listed, told_beside, told_in, octets_of, gave_in, written, IsClear, heard_of, RisesByHeard, RisesByExpiry, RisesByRequest, FallsByNext, room, RefusesBy, IsFirstWaiting, has_next, next_waiting, came, cause_of, refusal, request_of, starts, limit, IsLoaded, orders_taken};
 ghost use Rattle.model_bits.specs.Stream as stream;
 ghost use Rattle.model_card.specs.Card as machine;
 ghost use Rattle.model_card.specs.Event.{at};
@@ -211,6 +211,8 @@ impl<S: Shelf> FrameCard<S> {
     #[inline(always)]
     pub fn next_waiting(&self, from: usize) -> Option<usize>
         ensures next { (m : machine.Card) → FrameStands S.store self.now m → result ≡ next_waiting from m }
+        // By the machine's own answers: a call for the next frame of that line gives one, and of those before it none.
+        ensures first { (m : machine.Card) → FrameStands S.store self.now m → IsFirstWaiting from m result }
         ensures within { IfSome result (λ line. line < line_count self.now) }
         // No card has more lines.
         ensures few { IfSome result (λ line. line < 64) }

@@ -100,6 +100,10 @@ pub mod OwedAtLine
 pub mod LossesAtLine
 pub mod FramesOfLink
 pub mod NoLossInVain
+pub mod SlotsSummed
+pub mod SlotsTaken
+pub mod NoSlotIsLost
+pub mod UnitsAreGranted
 pub mod RoomsAreTold
 pub mod UnitsAreTold
 pub mod CountersCount

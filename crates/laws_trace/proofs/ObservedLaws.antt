@@ -1,5 +1,5 @@
 -- What the observer knows of a link gives the laws of it, by what follows its parts.
-use Rattle.laws_trace.proofs.Vocabulary.{arith, ◌≡◌, ℕ, ◌<◌, ◌==◌, ◌&&◌, ◌||◌, inl, inr, not, Bool, false, cond, List, [], ◌∷◌, ◌++◌, map, Option, Some, None, is_some, refl, sym, ap, ◌∙◌, subst, fold, filter, nat_le, if◌then◌else◌, list_any, Note, EstablishIndication, EstablishConfirm, ReleaseIndication, ReleaseConfirm, Error, Service, State, LinkTimer, state_number, Config, orders_in, Line, state_of, IsInRange, obeyed, notes_of, timer_of, left_by, runs_at_callers, line_at, at, moments, unwrap_or, NoteXid as Xid, fresh, CardEvent as Event, after, Moment, after_all, AreAtLines, managing_is_on as is_on, NewsIsTold, Observed, View, view_of, moment_of, view_behind, TimersRun, Seen, seen, Always, renews}
+use Rattle.laws_trace.proofs.Vocabulary.{arith, lt-ltb, config-stays, ◌≡◌, ℕ, ◌<◌, ◌==◌, ◌&&◌, ◌||◌, inl, inr, not, Bool, false, cond, List, [], ◌∷◌, ◌++◌, map, Option, Some, None, is_some, refl, sym, ap, ◌∙◌, subst, fold, filter, nat_le, if◌then◌else◌, list_any, Note, EstablishIndication, EstablishConfirm, ReleaseIndication, ReleaseConfirm, Error, Service, State, LinkTimer, state_number, Config, orders_in, Line, state_of, IsInRange, obeyed, notes_of, timer_of, left_by, runs_at_callers, line_at, at, moments, unwrap_or, NoteXid as Xid, fresh, CardEvent as Event, after, Moment, after_all, AreAtLines, managing_is_on as is_on, NewsIsTold, Observed, View, view_of, moment_of, view_behind, TimersRun, Seen, seen, Always, renews}
 use Rattle.model_line.specs.Event as line_event
 use Rattle.laws_trace.specs.LinksMove.{LinksMove}
 use Rattle.laws_trace.proofs.MovesWatched.{repeated}
@@ -83,7 +83,10 @@ module _ (c : Config) (events : List Event) (number : ℕ) (ranged : IsInRange c
     known-then = facts service tei l then_asked x.outstanding r next_line u (holds-behind c events number ranged all within service tei what)
 
 pub links-move-so : Always LinksMove
-links-move-so c events number ranged all within service tei = moved-so c events number ranged all within service tei
+links-move-so c events number ranged all within service tei =
+    let card = after_all (fresh c) events in
+    let there = lt-ltb number card.config.lines (subst (λ (d : Config). number < d.lines) (sym (config-stays (fresh c) events)) within) in
+    ap (λ b. cond b (state_of service tei (line_at number card)) None) there ∙ moved-so c events number ranged all within service tei
 
 pub timers-run-so : Always TimersRun
 timers-run-so c events number ranged all within service tei =

@@ -51,7 +51,7 @@ module _ (c : Config) (events : List Event) (number : ℕ) (ranged : IsInRange c
   pub goes : Goes c [] (trace_of c events number) (map (unit_frame c) end.units)
   goes = subst (λ (l : Line). Goes c (map (unit_frame c) l.units) (trace_of c events number) (map (unit_frame c) end.units)) start passed.0
 
-  waiting-is : units_of c events number ≡ map (unit_frame c) end.units
+  pub waiting-is : units_of c events number ≡ map (unit_frame c) end.units
   waiting-is = left-is-waiting c (trace_of c events number) [] (map (unit_frame c) end.units) goes
 
   pub front : UnitsGoOut c events number

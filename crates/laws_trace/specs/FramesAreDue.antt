@@ -46,6 +46,5 @@ GivenIsDue c events number =
 -- and it gives none only where no link of a TEI on the line offers any.
 abbrev pub DueIsGiven : Config → List Event → ℕ → Type 0
 DueIsGiven c events number =
-    (service : Service) (tei : ℕ) →
-    let o = outgoing_of c service tei number events in
+    (service : Service) (tei : ℕ) → let o = outgoing_of c service tei number events in
     frame_in (moment_of c events number next).answer ≡ [] → is_on tei o.view.teis ≡ true → offers c service tei o ≡ []

@@ -34,6 +34,4 @@ GivesOctets other = Unit {0}
 
 -- Then so are those of the frames that begin.
 abbrev pub FramesAreOctets : Config → List Event → ℕ → Type 0
-FramesAreOctets c events number =
-    let t = trace_of c events number in
-    All GivesOctets t → All AreOctets (frames_begun t)
+FramesAreOctets c events number = let t = trace_of c events number in All GivesOctets t → All AreOctets (frames_begun t)

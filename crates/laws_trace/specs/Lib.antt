@@ -16,6 +16,8 @@ pub mod TimersAreTimely
 pub mod LinksMove
 pub mod News
 pub mod Outgoing
+pub mod NoSlotIsLost
+pub mod UnitsAreGranted
 pub mod FramesAreDue
 pub mod WorkedDue
 pub mod WorkedUnits
@@ -31,6 +33,7 @@ pub mod WorkedManaging
 pub mod WorkedOtherSide
 pub mod RoomsAreTold
 pub mod WorkedRooms
+pub mod WorkedGranted
 pub mod WorkedUnitsTold
 pub mod CountersCount
 pub mod WorkedCounters

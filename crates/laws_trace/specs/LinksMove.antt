@@ -2,8 +2,7 @@
 use Rattle.std.specs.Prelude.{◌≡◌, ℕ, List, Some, None, if◌then◌else◌}
 use Rattle.lapd_frame.specs.declared.services.Service.{Service}
 use Rattle.model_line.specs.declared.config.Config.{Config}
-use Rattle.model_line.specs.Line.{state_of}
-use Rattle.model_card.specs.Card.{fresh, line_at}
+use Rattle.model_card.specs.Card.{fresh, state}
 use Rattle.model_card.specs.Event.{Event}
 use Rattle.model_card.specs.Run.{after_all}
 use Rattle.laws_trace.specs.Managing.{is_on}
@@ -13,6 +12,5 @@ use Rattle.laws_trace.specs.Observer.{view_of}
 -- not on the line.
 abbrev pub LinksMove : Config → List Event → ℕ → Type 0
 LinksMove c events number =
-    (service : Service) (tei : ℕ) →
-    let v = view_of c service tei number events in
-    state_of service tei (line_at number (after_all (fresh c) events)) ≡ (if is_on tei v.teis then Some v.link.state else None)
+    (service : Service) (tei : ℕ) → let v = view_of c service tei number events in
+    state number service tei (after_all (fresh c) events) ≡ (if is_on tei v.teis then Some v.link.state else None)

@@ -98,8 +98,7 @@ notes_due c service tei was now what a =
 -- And they are exactly those of a link, of these kinds, in the answer.
 abbrev pub NewsIsTold : Config → List Event → ℕ → Type 0
 NewsIsTold c events number =
-    (service : Service) (tei : ℕ) (before : List Event) (what : line_event.Event) (behind : List Event) →
-    events ≡ before ++ at number what ∷ behind →
+    (service : Service) (tei : ℕ) (before : List Event) (what : line_event.Event) (behind : List Event) → events ≡ before ++ at number what ∷ behind →
     let a = (moment_of c before number what).answer in
     let was = (view_of c service tei number before).link in
     let now = (view_behind c service tei number before what).link in

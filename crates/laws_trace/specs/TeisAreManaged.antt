@@ -40,5 +40,4 @@ pub record IsAsDue (c : Config) (due : Managed) (a : Answer) : Type 0 where
 
 -- So it is of each event of the line, after whatever happened to the card.
 abbrev pub TeisAreManaged : Config → List Event → ℕ → Type 0
-TeisAreManaged c events number =
-    (what : line_event.Event) → IsAsDue c (due c what (managed_after c number events)) (moment_of c events number what).answer
+TeisAreManaged c events number = (what : line_event.Event) → IsAsDue c (due c what (managed_after c number events)) (moment_of c events number what).answer

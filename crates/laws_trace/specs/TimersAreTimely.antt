@@ -67,8 +67,7 @@ is_order_of service tei (Stop timer) = is_timer_of service tei timer
 -- The orders of a link in the answer to an event of the line, after whatever happened before, are those that are due.
 abbrev pub TimersAreTimely : Config → List Event → ℕ → Type 0
 TimersAreTimely c events number =
-    (service : Service) (tei : ℕ) (what : line_event.Event) →
-    let was = (view_of c service tei number events).link in
+    (service : Service) (tei : ℕ) (what : line_event.Event) → let was = (view_of c service tei number events).link in
     let now = (view_behind c service tei number events what).link in
     filter (is_order_of service tei) (orders_in (moment_of c events number what).answer) ≡ orders_due c service tei was now what
 

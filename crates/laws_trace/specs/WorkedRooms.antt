@@ -1,21 +1,27 @@
--- Worked values: what is told of the room of a link, and one that tells V(S) as V(A), which breaks the law.
-use Rattle.std.specs.Prelude.{◌≡◌, List, [], ◌∷◌, ◌++◌, Ok, refl}
+-- Worked values: what is told of the room of a link, and of a full pool; and what breaks the laws: a room that tells V(S) as
+-- V(A), and a pool that is full too early.
+use Rattle.std.specs.Prelude.{◌≡◌, ℕ, List, [], ◌∷◌, ◌++◌, Ok, refl}
+use Rattle.lapd_frame.specs.declared.refusals.Refusal.TheVariants.{PoolFull}
 use Rattle.lapd_frame.specs.declared.services.Service.TheVariants.{Call}
 use Rattle.lapd_frame.specs.Reading.{reading, header_of, control_of, unnumbered_of, supervisory_of}
 use Rattle.lapd_seq.specs.Circle.{named, distance_of}
 use Rattle.lapd_seq.specs.Numbers.{seq}
 use Rattle.lapd_tei.specs.Events as teis
+use Rattle.model_line.specs.declared.config.Config.{Config}
+use Rattle.model_line.specs.Event.{refused}
 use Rattle.model_line.specs.Machine as lines
 use Rattle.model_line.specs.Request.{Assign, Data}
 use Rattle.model_card.specs.Card.{fresh}
 use Rattle.model_card.specs.Event.{Event}
+use Rattle.model_card.specs.Machine.{answer}
 use Rattle.model_card.specs.Room.{room}
 use Rattle.model_card.specs.Run.{moments, after_all}
 use Rattle.laws_line.specs.card.Worked.{usual, on_0, up}
 use Rattle.laws_trace.specs.Outgoing.{outgoing_of}
 use Rattle.laws_trace.specs.WorkedKept.{Same}
 use Rattle.laws_trace.specs.WorkedObserver.{link_after}
-use Rattle.laws_trace.specs.WorkedUnits.{calls, comes}
+use Rattle.laws_trace.specs.NoSlotIsLost.{slots_taken}
+use Rattle.laws_trace.specs.WorkedUnits.{calls, comes, unit}
 
 -- SABME of TEI 64, two data; UA and one of them go: two places of eight are taken, and none is acknowledged;
 abbrev gone : List Event
@@ -49,3 +55,31 @@ none_kept = refl
 all_left : room 0 Call 64 (after_all (fresh usual) on) ≡ Ok (record { queue = 8; pool = 64; va = 0 })
 unfolding after_all lines.after lines.takes_slot teis.course teis.refusal
 all_left = refl
+
+-- Two slots of 64 are taken, and one behind RR 1;
+two_taken : slots_taken usual gone ≡ 2
+unfolding moments lines.after lines.answer lines.takes_slot teis.course teis.refusal seq distance_of named reading header_of control_of unnumbered_of supervisory_of
+two_taken = refl
+
+-- and as many where unit data takes one of them.
+abbrev two_slots : Config
+two_slots = record usual { slots = 2 }
+
+abbrev full : List Event
+full = up ++ on_0 (Data Call 64 (7 ∷ [])) ∷ on_0 (unit 8) ∷ []
+
+both_taken : slots_taken two_slots full ≡ 2
+unfolding moments lines.after lines.answer lines.takes_slot teis.course teis.refusal seq distance_of named reading header_of control_of unnumbered_of supervisory_of
+both_taken = refl
+
+-- So a third finds the pool full. One that found it full while one slot is taken would break the law.
+third_refused : answer (on_0 (unit 9)) (after_all (fresh two_slots) full) ≡ refused PoolFull
+unfolding after_all lines.after lines.answer lines.takes_slot teis.course teis.refusal seq distance_of named reading header_of control_of unnumbered_of supervisory_of
+third_refused = refl
+
+one_taken : slots_taken two_slots (on_0 (unit 8) ∷ []) ≡ 1
+unfolding moments lines.after lines.answer lines.takes_slot
+one_taken = refl
+
+half_is_not_full : Same 1 2 → ⊥
+half_is_not_full e = cc e

@@ -10,10 +10,12 @@ ghost use Rattle.laws_trace.specs.Deliveries.{Deliveries};
 ghost use Rattle.laws_trace.specs.LinksMove.{LinksMove};
 ghost use Rattle.laws_trace.specs.News.{NewsIsTold};
 ghost use Rattle.laws_trace.specs.NoLossInVain.{NoLossInVain};
+ghost use Rattle.laws_trace.specs.NoSlotIsLost.{NoSlotIsLost};
 ghost use Rattle.laws_trace.specs.RoomsAreTold.{RoomsAreTold};
 ghost use Rattle.laws_trace.specs.TeisAreManaged.{TeisAreManaged};
 ghost use Rattle.laws_trace.specs.TimersAreTimely.{TimersAreTimely, TimersRun};
 ghost use Rattle.laws_trace.specs.TurnsMeanwhile.{LinksTakeTurnsMeanwhile};
+ghost use Rattle.laws_trace.specs.UnitsAreGranted.{UnitsAreGranted};
 ghost use Rattle.laws_trace.specs.UnitsGoOut.{UnitsGoOut, AllUnitsGoOut};
 
 /// Each configuration within the ranges is served: no fault is found in it, so `Card::start` starts a card with it, as
@@ -33,10 +35,13 @@ pub fn the_other_side_is_heard()
 /// whole. Unit data waits from when it is granted until it begins, so that it goes in order and once; or until the line is
 /// down, when what waits is given up. And a call for the next frame gives none, or a frame of a link, only where none waits:
 /// so unit data goes before frames of links, and, as calls come to an end (`calls_come_to_an_end` of the promises), all of it
-/// goes (`all`; Q.921 clauses 3.6.5 and 5.2.2, annex B, and profile).
+/// goes (`all`). Unit data for a TEI on the line, and from the network's side for the group, of at most N201 octets, is
+/// granted exactly where fewer wait there than the configuration says, and a slot of the pool is free, as
+/// [`no_slot_is_lost`] has them (`granted`; Q.921 clauses 3.6.5 and 5.2.2, annex B, and profile).
 pub fn units_go_out()
     ensures front { Always UnitsGoOut }
     ensures all { Always AllUnitsGoOut }
+    ensures granted { Always UnitsAreGranted }
 {}
 
 /// What begins on a line are frames. Each is one that the grammar has, as that of the card's side, with the SAPI of a
@@ -179,12 +184,21 @@ pub fn news_is_told()
 /// Rooms are told as they are. Of each link whose TEI is on the line the places of its queue are those that
 /// `FrameCard::room` tells as left and those of the contents that the link keeps, as [`what_is_given_is_due`] has them:
 /// so contents take a place until they are acknowledged, or layer 3 learns that they are lost, and none is lost silently.
-/// Of a link in state 7 or 8 V(A) is told, which is the N(R) that was heard of it last, 0 where none was since its
-/// numbers began; and what is left, of the queue and of the pool, is what the next request for data would be refused
-/// for. In the other states that is refused for the state, so no data is granted there that nothing keeps (Q.921
-/// clauses 3.5.2.3, 5.5.1.1, 5.5.1.2, 5.5.3.1, 5.5.3.2 and 5.7, and profile).
+/// The slots of the pool are those that it tells as left and those that are taken, as [`no_slot_is_lost`] has them. Of a
+/// link in state 7 or 8 V(A) is told, which is the N(R) that was heard of it last, 0 where none was since its numbers
+/// began; and what is left, of the queue and of the pool, is what the next request for data would be refused for. In
+/// the other states that is refused for the state, so no data is granted there that nothing keeps (Q.921 clauses
+/// 3.5.2.3, 5.5.1.1, 5.5.1.2, 5.5.3.1, 5.5.3.2 and 5.7, and profile).
 pub fn rooms_are_told()
     ensures { Always RoomsAreTold }
+{}
+
+/// No slot of the pool is lost. The lines of a card together take no more slots than it has, and a request finds the pool
+/// full only where they take all of them, to whoever watches the lines: one for each unit data that waits, as
+/// [`units_go_out`] has it, and one for each contents that a link keeps, as [`what_is_given_is_due`] has it. So a slot is
+/// free again as soon as its unit data begins, or its contents are acknowledged, or either is given up (profile).
+pub fn no_slot_is_lost()
+    ensures { Always NoSlotIsLost }
 {}
 
 /// Counters count what is seen. What the moments of a run at a line show to its counters, but for why something is dropped,

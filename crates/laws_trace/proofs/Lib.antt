@@ -100,6 +100,7 @@ pub mod OwedAtLine
 pub mod LossesAtLine
 pub mod FramesOfLink
 pub mod NoLossInVain
+pub mod AnswersAreGiven
 pub mod RoomsAreTold
 pub mod UnitsAreTold
 pub mod CountersCount

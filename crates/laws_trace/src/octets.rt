@@ -34,15 +34,16 @@ pub fn frames_go_out()
     ensures heard { OfEachLine GoOutAsTheyAre }
 {}
 
-/// What answers a poll, SABME or DISC is heard within a number of pulls. Where the latest that octets, expiries, requests and
-/// pulls came to at the card of frames is an event of the line, and the answer to it tells no frame as lost, each control
-/// frame that is due by it is heard by who receives the octets that the pulls of the line give behind that, behind those that
-/// waited before, each, of two alike, too, as a frame of its own (`answers`); and so are all that wait on the link, whatever
-/// was lost (`waiting`). This holds whatever comes between the pulls, as long as the TEI stays on the line and the link is
-/// not deactivated, once they are as many as the configuration says: each of the frames that `answers_are_given` lets go before,
-/// and one frame behind, counts as the longest; so with eight terminals, 4 unit data, 4 control frames and N201 of 260, where
-/// no message of TEI management and no unit data comes meanwhile, 23,370 pulls are enough (Q.921 clauses 2.2 to 2.7, 5.5.1.2,
-/// 5.5.3.2, 5.6.2 to 5.6.7, 5.7 and 5.8.1, and profile).
+/// What answers a poll, SABME or DISC is heard within a number of pulls. Where the latest that octets, expiries,
+/// requests and pulls came to at the card of frames is an event of the line, and the answer to it tells no frame as
+/// lost, each control frame that is due by it is heard by who receives the octets that the pulls of the line give
+/// behind that, behind those that waited before, each, of two alike, too, as a frame of its own (`answers`); and so are
+/// all that wait on the link, whatever was lost (`waiting`). This holds whatever comes between the pulls, as long as
+/// the TEI stays on the line and the link is not deactivated, once they are as many as the configuration says: each of
+/// the frames that `answers_are_given` lets go before, and one frame behind, counts as the longest; so with eight
+/// terminals, 4 unit data, 4 control frames and N201 of 260, where no message of TEI management and no unit data comes
+/// meanwhile, 23,370 pulls are enough (Q.921 clauses 2.2 to 2.7, 5.5.1.2, 5.5.3.2, 5.6.2 to 5.6.7, 5.7 and 5.8.1, and
+/// profile).
 pub fn answers_are_heard()
     ensures answers { OfEachLine AnswersAreHeard }
     ensures waiting { OfEachLine AllThatWaitsIsHeard }

@@ -95,10 +95,10 @@ module _ (c : Config) (ranged : IsInRange c) (number tei : ℕ) (few : number < 
           → frames_before c (after c next l) number (length before') + come_first c es (after c next l) < takes_in es
       fewer before' nearer = grind arith
 
-      go : ((t : Taken) × (taken c l ≡ Some t) × (t.frame ≡ control_text c number tei f))
+      go : ((t : Taken) × (taken c l ≡ Some t) × (t.frame ≡ control_text c number tei f) × (before ≡ []))
           ⊎ ((before' : List ControlFrame) × (frames (after c next l) ≡ before' ++ f ∷ behind) × (frames_before c (after c next l) number (length before') + 1 ≤ frames_before c l number (length before)))
           → IsTakenIn c (next ∷ es) l (control_text c number tei f)
-      go (inl (t, some, is)) = at-once es l t (control_text c number tei f) some is
+      go (inl (t, some, is, first)) = at-once es l t (control_text c number tei f) some is
       go (inr (before', waits', nearer)) = sooner next es l (control_text c number tei f) (more before' behind waits' (fewer before' nearer))
 
   by-other : (f : ControlFrame) (e : Event) (es : List Event) (l : Line) → is_take e ≡ false → deactivates (service_at number) tei e ≡ false → IsSound c l → tei_at (place_at number) l ≡ Some tei → tei_at (place_at number) (after c e l) ≡ Some tei

@@ -9,6 +9,7 @@ pub mod OneEvent
 pub mod Watching
 pub mod Knowing
 pub mod Meanwhile
+pub mod InOrder
 pub mod Amid
 pub mod Wherever
 pub mod GoingOut

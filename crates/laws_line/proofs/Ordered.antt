@@ -15,7 +15,7 @@ Nearer c number l before f behind others l' =
 module _ (c : Config) (ranged : IsInRange c) (number tei : ℕ) (few : number < link_count c) (l : Line) (s : IsSound c l) (at : tei_at (place_at number) l ≡ Some tei)
     (f : ControlFrame) (behind : List ControlFrame) where
   abbrev Step : List ControlFrame → Taken → Type 0
-  Step before t = (t.frame ≡ control_text c number tei f) ⊎ Nearer c number l before f behind (frames_before c l number (length before)) t.line
+  Step before t = ((t.frame ≡ control_text c number tei f) × (before ≡ [])) ⊎ Nearer c number l before f behind (frames_before c l number (length before)) t.line
 
   one-less : {X : Type 0} (xs ys : List X) (x : X) → xs ≡ x ∷ ys → length (drop 1 xs) + 1 ≡ length xs
   one-less xs ys x e = ap (λ zs. length (drop 1 zs) + 1) e ∙ (let n : length ys + 1 ≡ length (x ∷ ys) = omega arith in n) ∙ sym (ap length e)
@@ -26,7 +26,7 @@ module _ (c : Config) (ranged : IsInRange c) (number tei : ℕ) (few : number < 
   -- its own link gives
   own-gives : (before : List ControlFrame) → (link_at number l).waiting ≡ before ++ f ∷ behind → (g : Given) → link_given (terms_at c number l) (link_at number l) ≡ Some g
       → Step before (with_given_frame c l number (terms_at c number l) g)
-  own-gives [] e g given = inl (text-is c ranged number tei few l f g at (subst (GoesWhole f) given (first-goes (terms_at c number l) (link_at number l) f behind e)))
+  own-gives [] e g given = inl (text-is c ranged number tei few l f g at (subst (GoesWhole f) given (first-goes (terms_at c number l) (link_at number l) f behind e)), refl)
   own-gives (b ∷ bs) e g given = grind (arith, get_or-set_same, nat_le, leb-true, others-wait)
 
   gives-some : (before : List ControlFrame) → (link_at number l).waiting ≡ before ++ f ∷ behind → link_given (terms_at c number l) (link_at number l) ≡ None → ⊥
@@ -69,7 +69,7 @@ module _ (c : Config) (ranged : IsInRange c) (number tei : ℕ) (few : number < 
   -- so a call takes it, or it comes nearer
   abbrev Goes : List ControlFrame → Line → Type 0
   Goes before l' =
-      ((t : Taken) × (taken c l ≡ Some t) × (t.frame ≡ control_text c number tei f)) ⊎ Nearer c number l before f behind (frames_before c l number (length before)) l'
+      ((t : Taken) × (taken c l ≡ Some t) × (t.frame ≡ control_text c number tei f) × (before ≡ [])) ⊎ Nearer c number l before f behind (frames_before c l number (length before)) l'
 
   by-taken : (before : List ControlFrame) → (link_at number l).waiting ≡ before ++ f ∷ behind → (o : Option Taken) → taken c l ≡ o → Goes before (option_map_or line_of o l)
   by-taken before e o some = grind (arith, by-all, not-empty, none-waits)
@@ -93,7 +93,7 @@ taken-in-order c ranged number tei few f behind (suc n) l s at before e less =
         → ((before' : List ControlFrame) → (link_at number (after c next l)).waiting ≡ before' ++ f ∷ behind → frames_before c (after c next l) number (length before') < n
         → IsTakenWithin c n (after c next l) (control_text c number tei f))
         → IsTakenWithin c (suc n) l (control_text c number tei f)
-    go (inl (t, some, is)) more = now c n l t (control_text c number tei f) some is
+    go (inl (t, some, is, first)) more = now c n l t (control_text c number tei f) some is
     go (inr (before', e', nearer)) more = later c n l (control_text c number tei f) (more before' e' (omega (arith, less, nearer)))
 
 pub enough-goes : (c : Config) → IsInRange c → (number tei : ℕ) → number < link_count c → (n : ℕ) (l : Line) → IsSound c l → tei_at (place_at number) l ≡ Some tei

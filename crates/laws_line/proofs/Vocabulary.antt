@@ -186,14 +186,14 @@ pub use Rattle.laws_line.specs.Unmanaged.{IsUnmanaged, UsersManageNothing}
 pub use Rattle.laws_line.specs.WorkedAmong.{events, frames_first, one_comes, takes_are}
 pub use Rattle.laws_line.specs.WorkedPolled.{asked, before_poll, both_wait, call_link, is_up as line_is_up, is_valid, on_line, one_waits, poll, poll_octets, sabme_octets, small, still_on_line, two_to_go}
 pub use Rattle.laws_line.specs.WorkedSabme.{before_sabme, sabme}
-pub use Rattle.laws_line.specs.card.Among.{IsIdleAmong, IsTakenAmong}
+pub use Rattle.laws_line.specs.card.Among.{AreAmong, IsIdleAmong}
 pub use Rattle.laws_line.specs.card.Brief.{CausesAreTold, LeavesOthers, LinksStay, OthersStay, TellsCause}
 pub use Rattle.laws_line.specs.card.Contents.{accepted_at, begun as line_begun, link_named, one_more, share_in}
 pub use Rattle.laws_line.specs.card.GoesDown.{LinesGoDown as LineLinesGoDown, happens_at}
 pub use Rattle.laws_line.specs.card.Machine.{CardsAreReached}
 pub use Rattle.laws_line.specs.card.OneEvent.{IsOneEventIn}
 pub use Rattle.laws_line.specs.card.Promises.{BeginsAnew, HasOneEvent, IsCountedIn, IsNew, IsServedIn, NotesTell, RunsWhatIsNeeded}
-pub use Rattle.laws_line.specs.card.PromisesOfTakes.{CallsComeToAnEnd, IsNotDeactivated, IsWaiting, WaitingIsTaken, Wherever, is_deactivated_at}
+pub use Rattle.laws_line.specs.card.PromisesOfTakes.{CallsComeToAnEnd, IsNotDeactivated, WaitingIsTaken, Wherever, is_deactivated_at}
 unfoldable pub use Rattle.laws_line.specs.card.PromisesOfTakes.{StaysAt, come_first_at}
 pub use Rattle.laws_line.specs.card.Timers.{AllHaveTheirTimers, one_more as line_one_more, runs_at_callers}
 pub use Rattle.laws_link.proofs.Counted.{counted}

@@ -60,7 +60,7 @@ pub use Rattle.laws_line.specs.Noted.{noted_coming, noted_ending, noted_leaving}
 pub use Rattle.laws_line.specs.OneEvent.{SaysNothing, noted_behind}
 pub use Rattle.laws_line.specs.Served.{HasNothing, units_asked}
 pub use Rattle.laws_line.specs.Share.{asked_by, ending, no_share, share_of}
-pub use Rattle.laws_line.specs.card.Among.{IsTakenAmong}
+pub use Rattle.laws_line.specs.card.Among.{AreAmong}
 pub use Rattle.laws_line.specs.card.Brief.{LinksStay, TellsCause}
 pub use Rattle.laws_line.specs.card.Contents.{accepted_at, history}
 pub use Rattle.laws_line.specs.card.Knowledge.{up_by_notes}

@@ -7,8 +7,8 @@ pub use Rattle.std.proofs.lemmas.List.Sums.{sum_by-cons}
 pub use Rattle.std.specs.Prelude.{All, count_by, option_map}
 pub use Rattle.lapd_frame.specs.declared.timers.Order.{Order}
 pub use Rattle.laws_line.proofs.OfCard.Brief.{causes-are-told, others-stay}
-pub use Rattle.laws_line.proofs.OfCard.Wherever.{come-to-an-end, waiting-taken}
-pub use Rattle.laws_line.specs.card.PromisesOfTakes.{CallsComeToAnEnd, WaitingIsTaken, Wherever}
+pub use Rattle.laws_line.proofs.OfCard.Wherever.{come-to-an-end}
+pub use Rattle.laws_line.specs.card.PromisesOfTakes.{CallsComeToAnEnd, Wherever}
 pub use Rattle.model_bits.specs.declared.heard.Cause.TheVariants.{Short}
 pub use Rattle.model_card.proofs.Amortised.{frames_amortised, rejects_are_long}
 pub use Rattle.model_card.proofs.OfPorts.Codec.{asked_at, refines, said_is}

@@ -5,7 +5,7 @@ use Rattle.std.specs.Prelude.{ℕ, List, take}
 use Rattle.model_card.specs.Card.{Card}
 use Rattle.model_card.specs.Event.{Event}
 use Rattle.laws_line.specs.card.Brief.{OthersStay, CausesAreTold}
-use Rattle.laws_line.specs.card.PromisesOfTakes.{Wherever, WaitingIsTaken, CallsComeToAnEnd}
+use Rattle.laws_line.specs.card.PromisesOfTakes.{Wherever, CallsComeToAnEnd}
 
 -- From a card on: those of a whole list hold in each of its moments; and those with a count hold after that many of
 -- its events, so after each of them.
@@ -16,15 +16,6 @@ pub record Promises (m : Card) (events : List Event) : Type 0 where
   -- Of what is heard and is no frame why it is none is all that is answered, and of a frame of TEI management on the user's
   -- side that it is not served; so it changes nothing, as `without_effect` of `drive` says (clauses 2.9 and 5.3).
   pub causes_are_told : CausesAreTold m events
-  -- A control frame that waits is taken by one of the calls for the next frame of its line, once they are more than the
-  -- configuration allows before it. This holds wherever in the list it waits, of a link of a TEI on the line, and whatever other
-  -- events come between the calls, as long as the TEI stays and the link is not deactivated: then each message of TEI management
-  -- and each unit data that comes meanwhile counts as well. Before it go messages of TEI management, unit data, for each control
-  -- frame of its link that waits before it at most one frame of every link, and at most one of each link that comes before its own
-  -- in the round; so 72 calls are enough with eight terminals, 4 unit data and 4 control frames. Of octets, how many pulls these
-  -- are, `waiting_is_heard` of `PromisesOfOctets` says. (Which control frames wait, as the answers to polls, SABME and DISC,
-  -- `what_is_given_is_due` of `laws_trace` says; clauses 5.5.1.2, 5.5.3.2, 5.6.2 to 5.6.7 and 5.8.1, and profile.)
-  pub waiting_is_taken : (count : ℕ) → Wherever WaitingIsTaken m (take count events)
   -- Once the next frame of a line was called for as often as the configuration says, and nothing else happened there, the next
   -- call gives none: so by `teis_are_managed`, `units_go_out` and `what_is_given_is_due` of `laws_trace` nothing waits on it but
   -- I-frames behind a closed window, behind a terminal that is busy, or of a link that is not in state 7. These are 200 calls on a

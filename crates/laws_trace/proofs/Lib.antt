@@ -104,6 +104,7 @@ pub mod SlotsSummed
 pub mod SlotsTaken
 pub mod NoSlotIsLost
 pub mod UnitsAreGranted
+pub mod AnswersAreGiven
 pub mod RoomsAreTold
 pub mod UnitsAreTold
 pub mod CountersCount

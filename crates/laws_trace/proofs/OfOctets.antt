@@ -1,9 +1,9 @@
 -- Lemmas.
-mod Seen
+pub mod Seen
 mod AsOctets
 mod Emptied
 mod Spans
 pub mod UnitsAreHeard
 pub mod FramesGoOut
-pub mod WaitedIsHeard
+pub mod AnswersAreHeard
 pub mod LatestIsBegun

@@ -82,7 +82,7 @@ module _ (c : Config) (number : ℕ) (ranged : IsInRange c) (within : number < c
   abbrev with_event : List Event → Event → Moment
   with_event before e = let card = after_all (fresh c) before in record { card = card; event = e; answer = answer e card }
 
-  then-is : (before : List Event) (e : Event) → outgoing_of c service tei number (before ++ e ∷ []) ≡ watches c service tei number (outgoing_of c service tei number before) (with_event before e)
+  pub then-is : (before : List Event) (e : Event) → outgoing_of c service tei number (before ++ e ∷ []) ≡ watches c service tei number (outgoing_of c service tei number before) (with_event before e)
   unfolding moments
   then-is before e = grind (arith, moments-both, fold-append)
 

@@ -81,7 +81,7 @@ pub use Rattle.laws_line.proofs.InRounds.{comes-first}
 pub use Rattle.laws_line.proofs.Leaving.{next-moves}
 pub use Rattle.laws_line.proofs.LinkMoves.{IsOne, OfLink, of-links, taken-one}
 pub use Rattle.laws_line.proofs.Obeyed.{both-true, obeyed-append, service-same, services-equal}
-pub use Rattle.laws_line.proofs.OfCard.Meanwhile.{card-drains, card-idles, card-waits, line-sound}
+pub use Rattle.laws_line.proofs.OfCard.Meanwhile.{card-drains, card-idles, line-sound}
 pub use Rattle.laws_line.proofs.OfCard.Spelling.{head}
 pub use Rattle.laws_line.proofs.OfCard.TimersRun.{begins-timely-card, needed-run, needs-none, timely-after, timely-all}
 pub use Rattle.laws_line.proofs.OfCard.Wherever.{all-left, all-right, config-stays}
@@ -101,9 +101,7 @@ pub use Rattle.laws_line.specs.Served.{HasNothing, IsIdle, IsOfLink, IsOwed, IsS
 pub use Rattle.laws_line.specs.Share.{is_granted}
 pub use Rattle.laws_line.specs.Steady.{Brings, BringsMalformed, IsBy, IsDeactivated, IsOf, timer_of}
 pub use Rattle.laws_line.specs.Timers.{HaveTheirTimers, is_needed, left_by, runs_then}
-pub use Rattle.laws_line.specs.card.Among.{IsTakenAmong}
 pub use Rattle.model_card.specs.Takes.{AreTakesAt, takes_at}
-pub use Rattle.laws_line.specs.card.PromisesOfTakes.{IsWaiting}
 pub use Rattle.laws_line.specs.card.Timers.{AllHaveTheirTimers, one_more, runs_at_callers}
 pub use Rattle.laws_link.proofs.Starting.{none-ordered}
 pub use Rattle.laws_link.proofs.Counted.{kept-after}

@@ -12,6 +12,7 @@ pub mod ControlFrames
 pub mod Managing
 pub mod TeisAreManaged
 pub mod NoLossInVain
+pub mod AnswersAreGiven
 pub mod TimersAreTimely
 pub mod LinksMove
 pub mod News
@@ -29,6 +30,7 @@ pub mod Deliveries
 pub mod WorkedDeliveries
 pub mod WorkedControls
 pub mod WorkedLoss
+pub mod WorkedAnswers
 pub mod WorkedManaging
 pub mod WorkedOtherSide
 pub mod RoomsAreTold

@@ -3,6 +3,7 @@ pub mod Granted
 pub mod Pulled
 pub mod UnitsAreHeard
 pub mod FramesGoOut
-pub mod WaitedIsHeard
+pub mod AnswersAreHeard
 pub mod LatestIsBegun
 pub mod Worked
+pub mod WorkedAnswers

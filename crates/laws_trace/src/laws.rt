@@ -1,6 +1,7 @@
 //! The laws. Each is the contract of a call that does nothing.
 
 ghost use Rattle.laws_trace.specs.Trace.{Always};
+ghost use Rattle.laws_trace.specs.AnswersAreGiven.{AnswersAreGiven, WaitingIsGiven};
 ghost use Rattle.laws_trace.specs.Configurations.{RangesAreServed};
 ghost use Rattle.laws_trace.specs.CountersCount.{CountersCount};
 ghost use Rattle.laws_trace.specs.OtherSide.{TheOtherSideIsHeard};
@@ -101,6 +102,22 @@ pub fn what_is_told_was_heard()
 pub fn what_is_given_is_due()
     ensures due { Always GivenIsDue }
     ensures none { Always DueIsGiven }
+{}
+
+/// What answers a poll, SABME or DISC is given within a number of calls for the next frame. Something happens at a
+/// line, and the answer to it tells no frame as lost. Then each control frame of a link that is due by it, as
+/// [`what_is_given_is_due`] has these, waits behind those that waited before, and is given by one of the calls for the
+/// next frame of the line among the events that follow, behind those, so that each frame, of two alike, too, has a call
+/// of its own (`answers`). So it is of all that waits on the link, whatever was lost (`waiting`). This holds whatever
+/// else happens, as long as the TEI stays on the line, as whoever watches it knows, and the link is not deactivated,
+/// once the calls are more than go before: four messages of TEI management, unit data, for each control frame of the
+/// link that waits before it at most one frame of every link, and at most one of each link that comes before its own in
+/// the round, with each message of TEI management and each unit data that comes meanwhile; so 72 calls are enough with
+/// eight terminals, 4 unit data and 4 control frames where none of these comes (Q.921 clauses 5.5.1.2, 5.5.3.2, 5.6.2
+/// to 5.6.7, 5.7 and 5.8.1, and profile).
+pub fn answers_are_given()
+    ensures answers { Always AnswersAreGiven }
+    ensures waiting { Always WaitingIsGiven }
 {}
 
 /// Nothing is lost in vain. Of the control frames of a link that become due by an event, as [`what_is_given_is_due`] has

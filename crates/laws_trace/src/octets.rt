@@ -6,9 +6,9 @@
 //! long enough (`Pulled`), a file for each law, and worked values (`Worked`). Each law is the contract of a call that does nothing.
 
 ghost use Rattle.model_card.specs.ports.GoingOut.{OfEachLine};
+ghost use Rattle.laws_trace.specs.octets.AnswersAreHeard.{AnswersAreHeard, AllThatWaitsIsHeard};
 ghost use Rattle.laws_trace.specs.octets.FramesGoOut.{OnlyFramesAreHeard, GivenAreOctets, GoOutAsTheyAre, AllFramesGoOut};
 ghost use Rattle.laws_trace.specs.octets.LatestIsBegun.{LatestIsBegun};
-ghost use Rattle.laws_trace.specs.octets.WaitedIsHeard.{AllThatWaitedIsHeard};
 ghost use Rattle.laws_trace.specs.octets.UnitsAreHeard.{UnitsAreHeard, AllUnitsAreHeard};
 
 /// Unit data is heard at the other end. The UI frames that a receiver hears in the octets that a line's pulls gave,
@@ -34,13 +34,25 @@ pub fn frames_go_out()
     ensures heard { OfEachLine GoOutAsTheyAre }
 {}
 
+/// What answers a poll, SABME or DISC is heard within a number of pulls. Where the latest that octets, expiries,
+/// requests and pulls came to at the card of frames is an event of the line, and the answer to it tells no frame as
+/// lost, each control frame that is due by it is heard by who receives the octets that the pulls of the line give
+/// behind that, behind those that waited before, each, of two alike, too, as a frame of its own (`answers`); and so are
+/// all that wait on the link, whatever was lost (`waiting`). This holds whatever comes between the pulls, as long as
+/// the TEI stays on the line and the link is not deactivated, once they are as many as the configuration says: each of
+/// the frames that `answers_are_given` lets go before, and one frame behind, counts as the longest; so with eight
+/// terminals, 4 unit data, 4 control frames and N201 of 260, where no message of TEI management and no unit data comes
+/// meanwhile, 23,370 pulls are enough (Q.921 clauses 2.2 to 2.7, 5.5.1.2, 5.5.3.2, 5.6.2 to 5.6.7, 5.7 and 5.8.1, and
+/// profile).
+pub fn answers_are_heard()
+    ensures answers { OfEachLine AnswersAreHeard }
+    ensures waiting { OfEachLine AllThatWaitsIsHeard }
+{}
+
 /// In the end all frames go out. Once a line was only pulled, as often as the configuration says, a receiver has heard
-/// each frame that the card of frames gave there, and none is on its way (`all`); and each control frame that waited on
-/// a link before, as an answer does, he has heard since (`waited`; two alike may be one; Q.921 clauses 2.2 to 2.7 and
-/// 5.5 to 5.8).
+/// each frame that the card of frames gave there, and none is on its way (Q.921 clauses 2.2 to 2.7).
 pub fn all_frames_go_out()
-    ensures all { OfEachLine AllFramesGoOut }
-    ensures waited { OfEachLine AllThatWaitedIsHeard }
+    ensures { OfEachLine AllFramesGoOut }
 {}
 
 /// The latest frame is told. What `Card::begun` tells is how the frame begins that a pull of the line began last: the

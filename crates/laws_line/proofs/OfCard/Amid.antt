@@ -1,9 +1,12 @@
 -- A control frame that waits at a line of a card is taken by one of so many calls also where other events of that line are
 -- between them.
-use Rattle.laws_line.proofs.Vocabulary.{◌≡◌, ℕ, ◌+◌, ◌-◌, ◌<◌, ◌≤◌, ◌==◌, ◌&&◌, Bool, true, false, cond, List, [], ◌∷◌, ◌++◌, length, get_or, set, Some, refl, sym, ap, subst, ◌∙◌, ◌⊎◌, inl, inr, arith, eqb-false, get_or-set_same, All-head, All-tail, ControlFrame, next, Line, fresh_line, link_count, service_at, place_at, tei_at, link_at, Taken, taken, Card, line_at, at, wants_room, IsAtLine, AreAtLines, after_all, after_is_sound, eqb-true, is_take, go_first, frames_before, control_text, deactivates, CardEvent as Event, card_after as after, CardIsSound as IsSound, IsTakenAmong, come_first_at, takes_of, is_deactivated_at, StaysAt, IsNotDeactivated}
+use Rattle.laws_line.proofs.Vocabulary.{◌≡◌, ℕ, ◌+◌, ◌-◌, ◌<◌, ◌≤◌, ◌==◌, ◌&&◌, Bool, true, false, cond, List, [], ◌∷◌, ◌++◌, length, get_or, set, Some, refl, sym, ap, subst, ◌∙◌, ◌⊎◌, inl, inr, arith, eq-eqb, eqb-false, get_or-set_same, All-head, All-tail, ControlFrame, next, Line, fresh_line, link_count, service_at, place_at, tei_at, link_at, Taken, taken, Card, line_at, at, wants_room, IsAtLine, AreAtLines, after_is_sound, eqb-true, is_take, go_first, frames_before, control_text, deactivates, CardEvent as Event, card_after as after, CardIsSound as IsSound, AreAmong, map, card_answer as answer, come_first_at, takes_of, is_deactivated_at, StaysAt, IsNotDeactivated}
 use Rattle.model_line.specs.Machine as lines
+unfoldable use Rattle.model_line.specs.Machine.{answer as line_answer}
+unfoldable use Rattle.model_card.specs.Run.{moments}
+use Rattle.model_card.specs.ports.Codec.{frames_given, given_of}
 use Rattle.laws_line.proofs.Among.{no-farther-off, other-waits}
-use Rattle.laws_line.proofs.Ordered.{next-goes}
+use Rattle.laws_line.proofs.OfCard.InOrder.{InOrder, in-order, among-behind}
 use Rattle.laws_line.proofs.OfCard.Meanwhile.{at-another, at-next, few-lines, is-call, line-sound}
 
 module _ (number link tei : ℕ) (f : ControlFrame) where
@@ -27,7 +30,7 @@ module _ (number link tei : ℕ) (f : ControlFrame) where
   unmoved : (card : Card) (before behind : List ControlFrame) (l l' : Line) → l' ≡ l → Waits l before behind → Farther card before l l'
   unmoved card before behind l l' same waits = grind arith
 
-  on-first : (card : Card) (events : List Event) → StaysAt number link tei card events → On (line_at number card)
+  pub on-first : (card : Card) (events : List Event) → StaysAt number link tei card events → On (line_at number card)
   unfolding StaysAt
   on-first card [] on = on
   on-first card (e ∷ events) on = on.0
@@ -60,41 +63,61 @@ module _ (number link tei : ℕ) (f : ControlFrame) where
   Less card events before =
       frames_before card.config (line_at number card) link (length before) + come_first_at number card events < takes_of number events
 
+  -- what is given by the calls among events
+  abbrev given : Card → List Event → List (List ℕ)
+  given card events = frames_given number (moments card events)
+
+  abbrev texts : Card → List ControlFrame → List (List ℕ)
+  texts card fs = map (control_text card.config link tei) fs
+
   Rest : Card → Event → List Event → Type 0
   Rest card e events =
       (before behind : List ControlFrame) → Waits (line_at number (after e card)) before behind → Less (after e card) events before
-      → IsTakenAmong (after e card) number events (control_text card.config link tei f)
+      → AreAmong (texts card (before ++ f ∷ [])) (given (after e card) events)
 
-  sooner : (card : Card) (e : Event) (events : List Event) (frame : List ℕ) → IsTakenAmong (after e card) number events frame → IsTakenAmong card number (e ∷ events) frame
-  unfolding after_all
-  sooner card e events frame x =
-      record { front = e ∷ x.front; back = x.back; split = ap (λ es. e ∷ es) x.split; one = x.one; taken_is = x.taken_is; is = x.is }
+  sooner : (card : Card) (e : Event) (events : List Event) (frames : List (List ℕ)) → AreAmong frames (given (after e card) events) → AreAmong frames (given card (e ∷ events))
+  unfolding moments
+  sooner card e events frames x = among-behind frames (given_of number (record { card = card; event = e; answer = answer e card })) (given (after e card) events) x
+
+  given-now : (card : Card) (events : List Event) (t : Taken) → taken card.config (line_at number card) ≡ Some t → given card (at number next ∷ events) ≡ t.frame ∷ given (after (at number next) card) events
+  unfolding moments line_answer lines.takes_slot
+  given-now card events t some = grind (arith, eq-eqb)
+
+  first-given : (card : Card) (events : List Event) (b : ControlFrame) (bs : List ControlFrame) (t : Taken) → taken card.config (line_at number card) ≡ Some t → t.frame ≡ control_text card.config link tei b
+      → AreAmong (texts card bs) (given (after (at number next) card) events) → AreAmong (texts card (b ∷ bs)) (given card (at number next ∷ events))
+  first-given card events b bs t some is x =
+      let rest = given (after (at number next) card) events in
+      ([], rest, given-now card events t some ∙ ap (λ text. text ∷ rest) is, x)
 
   by-call : (card : Card) (events : List Event) → IsSound card → number < card.config.lines → link < link_count card.config → On (line_at number card)
       → (before behind : List ControlFrame) → Waits (line_at number card) before behind
       → frames_before card.config (line_at number card) link (length before) + come_first_at number (after (at number next) card) events < 1 + takes_of number events
-      → Rest card (at number next) events → IsTakenAmong card number (at number next ∷ events) (control_text card.config link tei f)
-  unfolding Rest after_all
+      → Rest card (at number next) events → AreAmong (texts card (before ++ f ∷ [])) (given card (at number next ∷ events))
+  unfolding Rest
   by-call card events s few some at' before behind waits less more =
-      go (next-goes card.config s.config link tei some (line_at number card) (line-sound card number s few) at' f behind before waits)
+      go (in-order card.config s.config link tei some (line_at number card) (line-sound card number s few) at' f behind before waits)
     where
-      is : line_at number (after (at number next) card) ≡ lines.after card.config next (line_at number card)
+      is : line_at number (after (at number next) card) ≡ (lines.after card.config next (line_at number card))
       is = at-next card number (few-lines number card s few)
 
-      go : ((t : Taken) × (taken card.config (line_at number card) ≡ Some t) × (t.frame ≡ control_text card.config link tei f))
-          ⊎ ((before' : List ControlFrame) × Waits (lines.after card.config next (line_at number card)) before' behind
-          × (frames_before card.config (lines.after card.config next (line_at number card)) link (length before') + 1 ≤ frames_before card.config (line_at number card) link (length before)))
-          → IsTakenAmong card number (at number next ∷ events) (control_text card.config link tei f)
-      go (inl (t, begins, same)) = record { front = []; back = events; split = refl; one = t; taken_is = begins; is = same }
-      go (inr (before', waits', nearer)) =
+      later : (before' : List ControlFrame) → Waits (lines.after card.config next (line_at number card)) before' behind → frames_before card.config (lines.after card.config next (line_at number card)) link (length before') + 1 ≤ frames_before card.config (line_at number card) link (length before)
+          → AreAmong (texts card (before' ++ f ∷ [])) (given (after (at number next) card) events)
+      later before' waits' nearer =
           let near : frames_before card.config (line_at number (after (at number next) card)) link (length before') + 1 ≤ frames_before card.config (line_at number card) link (length before) =
           subst (λ l. frames_before card.config l link (length before') + 1 ≤ frames_before card.config (line_at number card) link (length before)) (sym is) nearer in
-          sooner card (at number next) events (control_text card.config link tei f)
-          (more before' behind (subst (λ l. Waits l before' behind) (sym is) waits') (omega (arith, less, near)))
+          more before' behind (subst (λ l. Waits l before' behind) (sym is) waits') (omega (arith, less, near))
+
+      go : InOrder card.config s.config link tei some (line_at number card) (line-sound card number s few) at' f behind before (lines.after card.config next (line_at number card))
+          → AreAmong (texts card (before ++ f ∷ [])) (given card (at number next ∷ events))
+      go (inl (none, (t, begins, same))) =
+          subst (λ fs. AreAmong (texts card (fs ++ f ∷ [])) (given card (at number next ∷ events))) (sym none) (first-given card events f [] t begins same tt)
+      go (inr (inl (b, bs, first, (t, begins, same), (waits', nearer)))) =
+          subst (λ fs. AreAmong (texts card (fs ++ f ∷ [])) (given card (at number next ∷ events))) (sym first) (first-given card events b (bs ++ f ∷ []) t begins same (later bs waits' nearer))
+      go (inr (inr (waits', nearer))) = sooner card (at number next) events (texts card (before ++ f ∷ [])) (later before waits' nearer)
 
   pub taken-amid : (events : List Event) (card : Card) → IsSound card → number < card.config.lines → link < link_count card.config → AreAtLines card events → StaysAt number link tei card events
       → IsNotDeactivated number link tei events
-      → (before behind : List ControlFrame) → Waits (line_at number card) before behind → Less card events before → IsTakenAmong card number events (control_text card.config link tei f)
+      → (before behind : List ControlFrame) → Waits (line_at number card) before behind → Less card events before → AreAmong (texts card (before ++ f ∷ [])) (given card events)
   unfolding StaysAt come_first_at Rest
   taken-amid [] card s few some lines on up before behind waits less = absurd (omega (arith, less))
   taken-amid (e ∷ events) card s few some lines on up before behind waits less =
@@ -115,8 +138,8 @@ module _ (number link tei : ℕ) (f : ControlFrame) where
 
       by-kind : (b : Bool) → (e.line == number && is_take e.what) ≡ b
           → ((before' behind' : List ControlFrame) → Waits (line_at number (after e card)) before' behind' → Less (after e card) events before'
-          → IsTakenAmong (after e card) number events (control_text card.config link tei f))
-          → IsTakenAmong card number (e ∷ events) (control_text card.config link tei f)
+          → AreAmong (texts card (before' ++ f ∷ [])) (given (after e card) events))
+          → AreAmong (texts card (before ++ f ∷ [])) (given card (e ∷ events))
       by-kind true is more =
           let same = is-call number e is in
           let none : cond true 0 come + rest ≡ rest = omega arith in
@@ -129,4 +152,4 @@ module _ (number link tei : ℕ) (f : ControlFrame) where
           let farther = x.1 in
           let fewer : frames_before card.config (line_at number card) link (length before) + (cond false 0 come + rest) < cond false 1 0 + takes_of number events = with-kind false is in
           let sum : (cond false 0 come + rest) ≡ come + rest = omega arith in
-          sooner card e events (control_text card.config link tei f) (more before x.0.0 x.0.1 (omega (arith, fewer, farther, sum)))
+          sooner card e events (texts card (before ++ f ∷ [])) (more before x.0.0 x.0.1 (omega (arith, fewer, farther, sum)))

@@ -1,10 +1,9 @@
 -- A line of a card after so many calls for its next frame, whatever happened at the other lines meanwhile.
-use Rattle.laws_line.proofs.Vocabulary.{◌≡◌, ◌≢◌, ℕ, zero, suc, ◌+◌, ◌<◌, ◌≤◌, ◌==◌, ◌&&◌, and_parts, All, is_take, takes_of, subst, Bool, true, false, cond, List, [], ◌∷◌, ◌++◌, length, get_or, set, refl, sym, ap, ◌∙◌, arith, eqb-false, get_or-set_same, get_or-set_other, All-nil, All-cons, All-head, All-tail, All-get_or, ControlFrame, Config, next, Line, fresh_line, taken, Card, line_at, at, wants_room, IsAtLine, AreAtLines, after_all, after_is_sound, eqb-true, HasNothing, after_takes, frames_to_go, IsEnough, control_text, IsTakenWithin, CardEvent as Event, card_after as after, CardIsSound as IsSound, AreTakesAt, takes_at, IsTakenAmong, IsIdleAmong, IsWaiting}
+use Rattle.laws_line.proofs.Vocabulary.{◌≡◌, ◌≢◌, ℕ, zero, suc, ◌+◌, ◌<◌, ◌≤◌, ◌==◌, ◌&&◌, and_parts, All, is_take, takes_of, Bool, true, false, cond, List, [], ◌∷◌, ◌++◌, length, get_or, set, refl, sym, ap, ◌∙◌, arith, eqb-false, get_or-set_same, get_or-set_other, All-nil, All-cons, All-head, All-tail, All-get_or, Config, next, Line, fresh_line, Card, line_at, at, wants_room, IsAtLine, AreAtLines, after_all, after_is_sound, eqb-true, HasNothing, after_takes, frames_to_go, CardEvent as Event, card_after as after, CardIsSound as IsSound, AreTakesAt, takes_at, IsIdleAmong}
 use Rattle.model_line.specs.Event as line_event
 use Rattle.model_line.specs.Machine as lines
 use Rattle.model_line.specs.Sound as line_sound
 use Rattle.laws_line.proofs.Draining.{drains, idles}
-use Rattle.laws_line.proofs.Ordered.{enough-goes}
 
 -- One event, by whether it finds room.
 elsewhere : (card : Card) (number : ℕ) (e : Event) (x : Line) (b : Bool) → number ≢ e.line
@@ -116,20 +115,3 @@ card-drains card number events s few lines takes less = grind (arith, line-after
 pub card-idles : (card : Card) (number : ℕ) (events : List Event) → IsSound card → number < card.config.lines → AreAtLines card events → AreTakesAt number events
     → HasNothing card.config (line_at number card) → IsIdleAmong card number events
 card-idles card number events s few lines takes nothing = grind (arith, line-after, idles, line-sound)
-
-module _ (card : Card) (number : ℕ) (s : IsSound card) (few : number < card.config.lines) (events : List Event) (all : AreAtLines card events) (takes : AreTakesAt number events) where
-  pub taken-from : (frame : List ℕ) → IsTakenWithin card.config (takes_at number events) (line_at number card) frame → IsTakenAmong card number events frame
-  taken-from frame h =
-      let x = call-behind number h.takes events (omega (arith, h.few, same-takes number events takes)) in
-      let rest = at number next ∷ x.back in
-      let lines = all-left (IsAtLine card) x.front rest (subst (AreAtLines card) x.split all) in
-      let only = all-left (IsServed number) x.front rest (subst (AreTakesAt number) x.split takes) in
-      let there : line_at number (after_all card x.front) ≡ after_takes card.config h.takes (line_at number card) =
-      line-after number x.front card s few lines only ∙ ap (λ k. after_takes card.config k (line_at number card)) (sym (same-takes number x.front only) ∙ x.before) in
-      record { front = x.front; back = x.back; split = x.split; one = h.one; taken_is = ap (taken card.config) there ∙ h.taken_is; is = h.is }
-
-  pub card-waits : (link tei : ℕ) (before : List ControlFrame) (f : ControlFrame) (behind : List ControlFrame) → IsWaiting card.config (line_at number card) link tei before f behind
-      → IsEnough card.config (takes_at number events) (line_at number card) link (length before) → IsTakenAmong card number events (control_text card.config link tei f)
-  card-waits link tei before f behind h enough =
-      taken-from (control_text card.config link tei f)
-      (enough-goes card.config s.config link tei h.few (takes_at number events) (line_at number card) (line-sound card number s few) h.on_line before f behind h.waits enough)

@@ -1,8 +1,11 @@
 -- The laws of a line's takes wherever they come in a list of events.
-use Rattle.laws_line.proofs.Vocabulary.{◌<◌, List, [], ◌∷◌, ◌++◌, length, sym, ap, subst, arith, All-nil, All-head, All-tail, Config, gave, next_of, Card, line_at, IsAtLine, AreAtLines, after_all, after_is_sound, always_sound, option_map, HasNothing, CardEvent as Event, card_after as after, CardIsSound as IsSound, Wherever, WaitingIsTaken, CallsComeToAnEnd, answer, line_takes_slot}
+use Rattle.laws_line.proofs.Vocabulary.{AreAmong, ControlFrame, link_at, map, control_text, refl, ◌≡◌, ◌∙◌, ◌<◌, List, [], ◌∷◌, ◌++◌, length, sym, ap, subst, arith, All-nil, All-head, All-tail, Config, gave, next_of, Card, line_at, IsAtLine, AreAtLines, after_all, after_is_sound, always_sound, option_map, HasNothing, CardEvent as Event, card_after as after, CardIsSound as IsSound, Wherever, WaitingIsTaken, CallsComeToAnEnd, answer, line_takes_slot}
+use Rattle.model_card.specs.Run.{moments}
+use Rattle.model_card.specs.ports.Codec.{frames_given}
 use Rattle.laws_line.proofs.Bounds.{to-go-few}
 use Rattle.laws_line.proofs.Soon.{few-before, others-fit}
-use Rattle.laws_line.proofs.OfCard.Amid.{taken-amid}
+use Rattle.laws_line.proofs.OfCard.Amid.{on-first, taken-amid}
+use Rattle.laws_line.proofs.OfCard.InOrder.{has-end}
 use Rattle.laws_line.proofs.OfCard.Meanwhile.{IsServed, line-sound, card-drains, card-idles}
 pub use Rattle.laws_line.proofs.OfCard.Meanwhile.{all-left, all-right}
 pub use Rattle.model_card.proofs.Runs.{config_stays as config-stays}
@@ -23,11 +26,20 @@ wherever P law m events s all front rest split = behind P law m front rest s (su
 -- What waits is taken.
 waiting : Law WaitingIsTaken
 unfolding Law
-waiting card events s all number link tei before f behind few h on up less =
-    let l = line_at number card in
-    let sound = line-sound card number s few in
-    let first = few-before card.config l sound link (length before) h.few (others-fit card.config s.config l sound link tei h.few h.on_line before f behind h.waits) in
-    taken-amid number link tei f events card s few h.few all on up before behind h.waits (omega (arith, first, less))
+waiting card events s all number link tei few some on up less = by-last (link_at link (line_at number card)).waiting refl
+  where
+    AreGiven : List ControlFrame → Type 0
+    AreGiven fs = AreAmong (map (control_text card.config link tei) fs) (frames_given number (moments card events))
+
+    by-last : (fs : List ControlFrame) → (link_at link (line_at number card)).waiting ≡ fs → AreGiven (link_at link (line_at number card)).waiting
+    by-last [] none = subst AreGiven (sym none) tt
+    by-last (w ∷ ws) e =
+        let x = has-end [] w ws in
+        let waits = e ∙ x.are in
+        let at = on-first number link tei x.last card events on in
+        let sound = line-sound card number s few in
+        let first = few-before card.config (line_at number card) sound link (length x.front) some (others-fit card.config s.config (line_at number card) sound link tei some at x.front x.last [] waits) in
+        subst AreGiven (sym waits) (taken-amid number link tei x.last events card s few some all on up x.front [] waits (omega (arith, first, less)))
 
 pub waiting-taken : (m : Card) (events : List Event) → IsSound m → AreAtLines m events → Wherever WaitingIsTaken m events
 unfolding Law

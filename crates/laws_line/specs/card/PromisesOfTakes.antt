@@ -1,28 +1,21 @@
 -- What is promised of the calls for the next frame in a list of events, from a card on.
-use Rattle.std.specs.Prelude.{◌≡◌, ℕ, ◌+◌, ◌-◌, ◌<◌, ◌≤◌, ◌==◌, ◌&&◌, if◌then◌else◌, Bool, false, List, [], ◌∷◌, ◌++◌, All, Some, None}
-use Rattle.model_link.specs.declared.frames.ControlFrame.{ControlFrame}
-use Rattle.model_line.specs.declared.config.Config.{Config}
+use Rattle.std.specs.Prelude.{◌≡◌, ℕ, ◌+◌, ◌-◌, ◌<◌, ◌≤◌, ◌==◌, ◌&&◌, if◌then◌else◌, Bool, false, List, [], ◌∷◌, ◌++◌, map, All, Some, None}
 use Rattle.model_line.specs.Event.{next, gave}
-use Rattle.model_line.specs.Line.{Line, link_count, service_at, place_at, tei_at, link_at}
+use Rattle.model_line.specs.Line.{link_count, service_at, place_at, tei_at, link_at}
 use Rattle.laws_line.specs.Drains.{control_text, most_frames, most_frames_before}
 use Rattle.laws_line.specs.Among.{go_first}
 use Rattle.laws_line.specs.Requests.{deactivates}
 use Rattle.model_card.specs.Card.{Card, line_at}
 use Rattle.model_card.specs.Event.{Event, at}
 use Rattle.model_card.specs.Machine.{after, answer}
-use Rattle.model_card.specs.Run.{after_all}
+use Rattle.model_card.specs.Run.{after_all, moments}
+use Rattle.model_card.specs.ports.Codec.{frames_given}
 use Rattle.model_card.specs.Takes.{AreTakesAt, is_take, takes_at, takes_of}
-use Rattle.laws_line.specs.card.Among.{IsTakenAmong}
+use Rattle.laws_line.specs.card.Among.{AreAmong}
 
 -- Wherever in a list of events: of the card after any front of it, and of the events behind that.
 abbrev pub Wherever : (Card → List Event → Type 0) → Card → List Event → Type 0
 Wherever P m events = (front behind : List Event) → events ≡ front ++ behind → P (after_all m front) behind
-
--- A control frame waits on a link of a TEI on the line, with others of its link before it.
-pub record IsWaiting (c : Config) (l : Line) (link tei : ℕ) (before : List ControlFrame) (f : ControlFrame) (behind : List ControlFrame) : Type 0 where
-  pub few : link < link_count c
-  pub on_line : tei_at (place_at link) l ≡ Some tei
-  pub waits : (link_at link l).waiting ≡ before ++ f ∷ behind
 
 -- How many messages of TEI management and unit data come at a line by other events than calls for its next frame.
 unfoldable pub come_first_at : ℕ → Card → List Event → ℕ
@@ -43,16 +36,15 @@ is_deactivated_at number link tei e = e.line == number && deactivates (service_a
 abbrev pub IsNotDeactivated : ℕ → ℕ → ℕ → List Event → Type 0
 IsNotDeactivated number link tei events = All (λ e. is_deactivated_at number link tei e ≡ false) events
 
--- Whatever happens at the line beside these calls: as long as the TEI stays, and the link is not deactivated, one of them
--- takes a control frame that waits, once they are more than the configuration allows before it, with each message and unit data
--- that comes meanwhile.
+-- Whatever happens at the line beside these calls: as long as the TEI stays, and the link is not deactivated, the control frames
+-- that wait on it are given in order, each by one of them, once they are more than the configuration allows before the last of
+-- these, with each message and unit data that comes meanwhile.
 abbrev pub WaitingIsTaken : Card → List Event → Type 0
 WaitingIsTaken card events =
-    (number link tei : ℕ) (before : List ControlFrame) (f : ControlFrame) (behind : List ControlFrame) → number < card.config.lines →
-    IsWaiting card.config (line_at number card) link tei before f behind → StaysAt number link tei card events →
+    (number link tei : ℕ) → number < card.config.lines → link < link_count card.config → StaysAt number link tei card events →
     IsNotDeactivated number link tei events →
     most_frames_before card.config + come_first_at number card events < takes_of number events →
-    IsTakenAmong card number events (control_text card.config link tei f)
+    AreAmong (map (control_text card.config link tei) (link_at link (line_at number card)).waiting) (frames_given number (moments card events))
 
 -- Once the line was only called for its next frame, as often as the configuration says, the next call gives none.
 abbrev pub CallsComeToAnEnd : Card → List Event → Type 0

@@ -1,6 +1,7 @@
 -- Worked values: states, answers and runs that would break the promises, which no card comes to.
 use Rattle.std.specs.Prelude.{◌≡◌, ◌≢◌, ℕ, zero, suc, ◌<◌, true, false, List, [], ◌∷◌, ◌++◌, None, refl}
-use Rattle.laws_line.specs.WorkedWords.{ap, arith, Fcs, Call, T200, Link, link_fresh as fresh_link, told, gave, hears, next, nothing, cause_in, Line, fresh_line, place_at, tei_at, link_at, Card, fresh, Event, at, card_answer as answer, IsTakenAmong, LinksStay, TellsCause, up_by_notes, runs_at_callers}
+use Rattle.std.proofs.Common.{◌∙◌}
+use Rattle.laws_line.specs.WorkedWords.{ap, arith, Fcs, Call, T200, Link, link_fresh as fresh_link, told, gave, hears, next, nothing, cause_in, Line, fresh_line, place_at, tei_at, link_at, Card, fresh, at, card_answer as answer, AreAmong, LinksStay, TellsCause, up_by_notes, runs_at_callers}
 use Rattle.model_bits.specs.Stream as stream
 use Rattle.model_line.specs.Machine as lines
 use Rattle.laws_line.specs.card.Worked.{usual}
@@ -29,13 +30,17 @@ not_started e = cc e
 not_noted : up_by_notes 0 Call 64 false [] ≡ true → ⊥
 not_noted e = cc e
 
--- `takes_serve_wherever`: no call takes what waits.
-no_call : (front back : List Event) → [] ≡ front ++ at 0 next ∷ back → ⊥
-no_call [] back e = cc e
-no_call (x ∷ front) back e = cc e
+-- `takes_serve_wherever`: what waits is not given; or one frame is, where two alike wait.
+none_there : {X : Type 0} (x : X) (front back : List X) → [] ≡ front ++ x ∷ back → ⊥
+none_there x [] back e = cc e
+none_there x (y ∷ front) back e = cc e
 
-never_taken : IsTakenAmong (fresh usual) 0 [] (0x00 ∷ 0x81 ∷ 0x73 ∷ []) → ⊥
-never_taken x = no_call x.front x.back x.split
+never_given : AreAmong {X = List ℕ} ((0x00 ∷ 0x81 ∷ 0x73 ∷ []) ∷ []) [] → ⊥
+never_given (front, back, split, rest) = none_there (0x00 ∷ 0x81 ∷ 0x73 ∷ []) front back split
+
+one_for_two : AreAmong {X = ℕ} (7 ∷ 7 ∷ []) (7 ∷ []) → ⊥
+one_for_two ([], back, split, (front, behind, later, rest)) = none_there 7 front behind ((let none : [] ≡ back = cc split in none) ∙ later)
+one_for_two (x ∷ front, back, split, rest) = none_there 7 front back (let none : [] ≡ front ++ 7 ∷ back = cc split in none)
 
 -- `calls_come_to_an_end`: a line on which unit data waits still, after as many calls as are enough.
 abbrev pub with_unit : Line

@@ -12,7 +12,7 @@ use Rattle.model_card.specs.ports.Port.{request, pull}
 use Rattle.model_card.specs.ports.Pulls.{most_pulls_behind}
 use Rattle.model_card.specs.ports.Run.{after_all}
 use Rattle.laws_line.specs.WorkedPolled.{small}
-use Rattle.laws_line.specs.card.WaitingIsHeard.{IsHeardSince}
+use Rattle.laws_line.specs.card.WaitingIsHeard.{AreHeardSince}
 use Rattle.laws_line.specs.card.Worked.{usual}
 
 -- At most 23,370 pulls, with 71 frames before the one that waits and one behind it, each of the longest; and on the least card 178.
@@ -35,9 +35,9 @@ sabme_waits = refl
 abbrev given_by : ℕ → List ℕ
 given_by pulls = (port_at 0 (after_all waiting (replicate pulls (at 0 pull)))).given
 
-it_is_heard : IsHeardSince 8 [] (given_by 8) (0x02 ∷ 0x81 ∷ 0x7F ∷ [])
+it_is_heard : AreHeardSince 8 [] (given_by 8) ((0x02 ∷ 0x81 ∷ 0x7F ∷ []) ∷ [])
 unfolding after_all after answer meant lines.after lines.answer lines.takes_slot teis.course teis.refusal low_bits
-it_is_heard = record { front = []; back = []; goes_on = refl }
+it_is_heard = record { since = stream.frame (0x02 ∷ 0x81 ∷ 0x7F ∷ []) ∷ []; goes_on = refl; among = ([], [], refl, tt) }
 
 not_yet : stream.heard_in 8 (given_by 7) ≡ []
 unfolding after_all after answer meant lines.after lines.answer lines.takes_slot teis.course teis.refusal low_bits

@@ -12,16 +12,17 @@ ghost use Rattle.model_card.specs.ports.Run as octets_run;
 ghost use Rattle.laws_line.specs.card.PromisesOfTakes.{Wherever, WaitingIsTaken, CallsComeToAnEnd};
 ghost use Rattle.laws_line.specs.card.WaitingIsHeard.{WaitingIsHeard};
 
-/// Calls for the next frame of a line serve it, wherever in a list of events they come, and whatever happens at the other
-/// lines of its card meanwhile: one of them takes a control frame that waits (`taken`), and they come to an end (`ended`), within
-/// as many as the configuration says, as `waiting_is_taken` and `calls_come_to_an_end` have it.
+/// Calls for the next frame of a line serve it, wherever in a list of events they come, and whatever happens at the
+/// other lines of its card meanwhile: the control frames that wait on a link are given in order, each by one of them
+/// (`taken`), and they come to an end (`ended`), within as many as the configuration says. `answers_are_given` of
+/// `laws_trace` and `calls_come_to_an_end` of `Promises` stand on it.
 pub fn takes_serve_wherever()
     ensures taken { (m : Card) (events : List Event) → IsSound m → AreAtLines m events → Wherever WaitingIsTaken m events }
     ensures ended { (m : Card) (events : List Event) → IsSound m → AreAtLines m events → Wherever CallsComeToAnEnd m events }
 {}
 
-/// A control frame that waits is heard: of a card of octets, by who receives the octets that the pulls of its line give, as
-/// `waiting_is_heard` of `PromisesOfOctets` has it.
+/// What waits is heard: of a card of octets, the control frames that wait on a link, in order, by who receives the
+/// octets that the pulls of its line give. `answers_are_heard` of `laws_trace` stands on it.
 #[tactic(auto, using(crate::proofs::OfCard::GoingOut::waiting_heard))]
 pub fn waiting_is_heard()
     ensures { (m : OctetCard) (events : List octets.Event) → IsReached m → octets_run.AreAtLines m events → WaitingIsHeard m events }

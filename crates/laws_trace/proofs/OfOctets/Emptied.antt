@@ -12,7 +12,7 @@ use Rattle.model_card.specs.ports.Sound.{IsSoundOctetCard}
 use Rattle.model_card.proofs.OfPorts.Sound.{always_sound}
 
 -- what events mean behind others
-meant_both : (m : OctetCard) (front behind : List Event) → meant_all m (front ++ behind) ≡ meant_all m front ++ meant_all (after_all m front) behind
+pub meant_both : (m : OctetCard) (front behind : List Event) → meant_all m (front ++ behind) ≡ meant_all m front ++ meant_all (after_all m front) behind
 unfolding after_all meant_all
 meant_both m [] behind = refl
 meant_both m (e ∷ front) behind = grind (arith, meant_both (after e m) front behind, append_assoc)

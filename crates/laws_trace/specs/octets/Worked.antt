@@ -22,7 +22,6 @@ use Rattle.model_card.specs.ports.Run.{moments}
 use Rattle.laws_trace.specs.octets.FramesGoOut.{IsReadable}
 use Rattle.laws_trace.specs.octets.Granted.{units_to_hear}
 use Rattle.laws_trace.specs.octets.UnitsAreHeard.{units_heard, AreHeard, AreAllHeard}
-use Rattle.laws_line.specs.card.WaitingIsHeard.{IsHeardSince}
 
 abbrev asks : Request → Event
 asks r = at 0 (request r)
@@ -77,14 +76,6 @@ second_alone h =
 
 unheard : AreAllHeard (units_heard usual []) (record { earlier = []; since = spelled 1 ∷ [] }) → ⊥
 unheard h = let one : [] ≡ map as_octets (spelled 1 ∷ []) = h.all ∙ ap (λ before. before ++ map as_octets (spelled 1 ∷ [])) h.fronts in cc one
-
--- Where nothing is heard, what waited is not heard since.
-none_there : (x : stream.Event) (front back : List stream.Event) → [] ≡ front ++ x ∷ back → ⊥
-none_there x [] back e = cc e
-none_there x (y ∷ front) back e = cc e
-
-never : IsHeardSince 260 [] [] (0x00 ∷ 0x81 ∷ 0x73 ∷ []) → ⊥
-never h = none_there (stream.frame (0x00 ∷ 0x81 ∷ 0x73 ∷ [])) h.front h.back h.goes_on
 
 -- Where a receiver hears a frame whose check is bad, what goes out is no frame.
 bad_check : All (IsReadable usual) (stream.dropped Fcs ∷ []) → ⊥

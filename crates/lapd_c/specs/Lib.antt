@@ -56,7 +56,7 @@ pub use Rattle.lapd_c.specs.Cards.{card_of, FramesStand, IsHandle, kind_in, mark
 pub use Rattle.lapd_c.specs.Config.{config_fault, config_in, side_in}
 pub use Rattle.lapd_c.specs.Counted.{counters_at, Counts, CountsMeaning}
 pub use Rattle.lapd_c.specs.Counters.{plain_counters}
-pub use Rattle.lapd_c.specs.Exchange.{Exchanged, ExchangedIn, is_exchange, is_quiet, step_event, steps_made, with_step}
+pub use Rattle.lapd_c.specs.Exchange.{Exchanged, ExchangedIn, is_exchange, tells_nothing, step_event, steps_made, with_step}
 pub use Rattle.lapd_c.specs.Frames.{comes, fails, goes, IsGiven, next_at}
 pub use Rattle.lapd_c.specs.Heads.{plain_head}
 pub use Rattle.lapd_c.specs.LinkMarks.{AreMarked, AreUnmarked, marks_of, MarksBecome}

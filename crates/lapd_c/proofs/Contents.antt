@@ -1,5 +1,5 @@
 -- Contents that an answer delivers have at most N201 octets.
-use Rattle.lapd_c.proofs.Vocabulary.{◌≡◌, ℕ, ◌≤◌, Answer, Card, OctetCard, told, option_map, Bool, true, false, List, length, Option, None, nat_lt, refl, sym, subst, arith, leb-true, ltb-false, and_parts, option_or, option_map_or, Control, Ui, State, Terms, Refusal, Arrived, eligible_of, information_in, Link, Course, begun, by_bit, leave_unserved, deliver_unit, delivered-at_once, Fits, FitsEvent, Kept, frame_row, event_row, Change, Config, hears, expiry, request, next, refused, nothing, told_of_management, of_link, of_change, of_management, of_aim, without_units, event_aims, Effect, Line, unless_refused_told, refusal, Service, contents_of, contents_in, ContentsFit}
+use Rattle.lapd_c.proofs.Vocabulary.{◌≡◌, ℕ, ◌≤◌, Answer, Card, OctetCard, told, option_map, Bool, true, false, List, length, Option, None, nat_lt, refl, sym, subst, arith, leb-true, ltb-false, and_parts, option_or, option_map_or, Control, Ui, State, Terms, Refusal, Arrived, eligible_of, information_in, Link, Course, begun, by_bit, leave_unserved, deliver_unit, delivered-at_once, Fits, FitsEvent, Kept, frame_row, event_row, Change, Config, hears, expiry, request, next, refused, nothing, told_of_management, of_link, of_change, of_management, of_aim, without_units, event_aims, Effect, Line, unless_refused_told, refusal, Service, contents_or_none, contents_in, ContentsFit}
 use Rattle.std.proofs.Common.{Some}
 use Rattle.model_link.specs.Events as link
 use Rattle.model_link.specs.Machine as links
@@ -15,7 +15,7 @@ use Rattle.model_card.specs.ports.Event as octets
 use Rattle.model_card.specs.ports.Port as port
 
 abbrev IsSmall : ℕ → Option (List ℕ) → Type 0
-IsSmall most o = length (contents_of o) ≤ most
+IsSmall most o = length (contents_or_none o) ≤ most
 
 -- every word of a link's tables tells no unit data, but that which tells them
 pub record NoUnit (unit : Option (List ℕ)) : Type 0 where
@@ -120,6 +120,6 @@ said-small : (card : Card) (o : Option frames.Event) → IsSmall card.config.n20
 said-small card None = omega arith
 said-small card (Some e) = passed-on card.config.n201 (frames_answer e card) (contents_fit card e)
 
-pub replies_fit : (m : OctetCard) (e : octets.Event) → length (contents_of (contents_told (octets_answer e m))) ≤ m.card.config.n201
+pub replies_fit : (m : OctetCard) (e : octets.Event) → length (contents_or_none (contents_told (octets_answer e m))) ≤ m.card.config.n201
 unfolding octets_answer
 replies_fit m e = grind (arith, said-small)

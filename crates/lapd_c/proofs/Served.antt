@@ -1,5 +1,5 @@
 -- What a report shows is what the machine answers.
-use Rattle.lapd_c.proofs.Vocabulary.{◌≡◌, ◌≤◌, length, Option, IfSome, Result, Ok, IfOk, sym, ap, ◌∙◌, subst, arith, counters_in, LineTold, told, IsInRange, ranges_of, Card, Event, answer, OctetCard, PlainReport, Shows, contents_of, ShowsAnswer, ShowsReply, contents_in, Store, KeptCard, Octets, Frames, HeldCard, Machine, with_ports, alone, AnyStands, CardStands, FrameCardStands}
+use Rattle.lapd_c.proofs.Vocabulary.{◌≡◌, ◌≤◌, length, Option, IfSome, Result, Ok, IfOk, sym, ap, ◌∙◌, subst, arith, counters_in, LineTold, told, IsInRange, ranges_of, Card, Event, answer, OctetCard, PlainReport, Shows, contents_or_none, ShowsAnswer, ShowsReply, contents_in, Store, KeptCard, Octets, Frames, HeldCard, Machine, with_ports, alone, AnyStands, CardStands, FrameCardStands}
 use Rattle.lapd_card.specs.Card as octets
 use Rattle.lapd_card.specs.FrameCard as frames
 use Rattle.lapd_c.specs.Cards.{StandsIn}
@@ -34,24 +34,24 @@ pub if_some : {X : Type 0} (P : X → Type 0) (o : Option X) (x : X) → o ≡ S
 if_some P o x e p = subst (λ r. IfSome r P) (sym e) p
 
 -- contents of an answer have room in a report
-small : (m : Card) (e : Event) (t : LineTold) → IsInRange m.config → told t ≡ answer e m → length (contents_of t.contents) ≤ 260
+small : (m : Card) (e : Event) (t : LineTold) → IsInRange m.config → told t ≡ answer e m → length (contents_or_none t.contents) ≤ 260
 small m e t ranges is =
-    let fits : length (contents_of (contents_in (told t))) ≤ m.config.n201 = subst (λ a. length (contents_of (contents_in a)) ≤ m.config.n201) (sym is) (contents_fit m e) in
+    let fits : length (contents_or_none (contents_in (told t))) ≤ m.config.n201 = subst (λ a. length (contents_or_none (contents_in a)) ≤ m.config.n201) (sym is) (contents_fit m e) in
     let most : m.config.n201 ≤ 260 = (ranges_of m.config ranges).n201.most in
     omega arith
 
-pub small_reply : (m : OctetCard) (e : octet_event.Event) (t : LineTold) → IsInRange m.card.config → port.told t ≡ octet_card.answer e m → length (contents_of t.contents) ≤ 260
+pub small_reply : (m : OctetCard) (e : octet_event.Event) (t : LineTold) → IsInRange m.card.config → port.told t ≡ octet_card.answer e m → length (contents_or_none t.contents) ≤ 260
 small_reply m e t ranges is =
-    let fits : length (contents_of (contents_told (port.told t))) ≤ m.card.config.n201 = subst (λ a. length (contents_of (contents_told a)) ≤ m.card.config.n201) (sym is) (replies_fit m e) in
+    let fits : length (contents_or_none (contents_told (port.told t))) ≤ m.card.config.n201 = subst (λ a. length (contents_or_none (contents_told a)) ≤ m.card.config.n201) (sym is) (replies_fit m e) in
     let most : m.card.config.n201 ≤ 260 = (ranges_of m.card.config ranges).n201.most in
     omega arith
 
 -- so what the card tells is shown whole
 pub shown_told : (m : Card) (e : Event) (t : LineTold) (p : PlainReport) → IsInRange m.config → told t ≡ answer e m
-    → (length (contents_of t.contents) ≤ 260 → Shows p t) → ShowsAnswer p (answer e m)
+    → (length (contents_or_none t.contents) ≤ 260 → Shows p t) → ShowsAnswer p (answer e m)
 shown_told m e t p ranges is h = subst (ShowsAnswer p) is (h (small m e t ranges is))
 
 -- and what it tells of octets
 pub shown_reply : (m : OctetCard) (e : octet_event.Event) (t : LineTold) (p : PlainReport) → IsInRange m.card.config → port.told t ≡ octet_card.answer e m
-    → (length (contents_of t.contents) ≤ 260 → Shows p t) → ShowsReply p (octet_card.answer e m)
+    → (length (contents_or_none t.contents) ≤ 260 → Shows p t) → ShowsReply p (octet_card.answer e m)
 shown_reply m e t p ranges is h = subst (ShowsReply p) is (h (small_reply m e t ranges is))

@@ -40,7 +40,7 @@ pub use Rattle.lapd_frame.specs.declared.services.Service.{Service}
 pub use Rattle.lapd_line.specs.Reports.{answer_of_request, gave_in, next_in, written}
 pub use Rattle.lapd_line.specs.declared.next_frame.NextFrame.{NextFrame}
 pub use Rattle.lapd_c.specs.LinkPlaces.{service_at, tei_at}
-pub use Rattle.lapd_c.specs.Reports.{Shows, contents_of}
+pub use Rattle.lapd_c.specs.Reports.{Shows, contents_or_none}
 pub use Rattle.lapd_c.specs.Requests.{read_of}
 pub use Rattle.lapd_c.specs.declared.plain.reports.PlainReport.{PlainReport}
 pub use Rattle.lapd_store.specs.Store.{Store}

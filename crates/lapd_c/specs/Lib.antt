@@ -63,7 +63,7 @@ pub use Rattle.lapd_c.specs.LinkMarks.{AreMarked, AreUnmarked, marks_of, MarksBe
 pub use Rattle.lapd_c.specs.Links.{FirstFrom, IsNext, NoneFrom}
 pub use Rattle.lapd_c.specs.Notes.{plain_note}
 pub use Rattle.lapd_c.specs.Reopened.{is_open, is_there, IsFirstOpen, refused_place, ShowsReopened, TellsReopened, waits_on, waits_there, WaitsFor, with_reopened}
-pub use Rattle.lapd_c.specs.Reports.{contents_in, contents_of, mark_of, orders_of, SameButContents, Shows, ShowsPull}
+pub use Rattle.lapd_c.specs.Reports.{contents_in, contents_or_none, mark_of, orders_of, SameButContents, Shows, ShowsPull}
 pub use Rattle.lapd_c.specs.Requests.{request_in}
 pub use Rattle.lapd_c.specs.Rooms.{plain_room}
 pub use Rattle.lapd_c.specs.Services.{service_in}

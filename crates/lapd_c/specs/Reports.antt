@@ -19,9 +19,9 @@ abbrev pub contents_in : PlainReport → Option (List ℕ)
 contents_in r = if r.delivered == 0 then None else Some (take r.length r.contents)
 
 -- Contents, or none where nothing is delivered.
-abbrev pub contents_of : Option (List ℕ) → List ℕ
-contents_of None = []
-contents_of (Some contents) = contents
+abbrev pub contents_or_none : Option (List ℕ) → List ℕ
+contents_or_none None = []
+contents_or_none (Some contents) = contents
 
 -- 1 where there are contents, also of no octets; else 0.
 abbrev pub mark_of : Option (List ℕ) → ℕ
@@ -33,7 +33,7 @@ pub record Shows (r : PlainReport) (t : LineTold) : Type 0 where
   pub note_count : r.note_count ≡ length t.notes
   pub order_count : r.order_count ≡ length t.orders
   pub delivered : r.delivered ≡ mark_of t.contents
-  pub octet_count : r.length ≡ length (contents_of t.contents)
+  pub octet_count : r.length ≡ length (contents_or_none t.contents)
   pub notes : notes_in r ≡ map plain_note t.notes
   pub orders : orders_of r ≡ map plain_order t.orders
   pub contents : contents_in r ≡ t.contents

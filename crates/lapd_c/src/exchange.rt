@@ -2,7 +2,7 @@
 
 ghost use Rattle.std.specs.Prelude.{◌≡◌, ◌≢◌, ◌≤◌, ◌<◌, ◌*◌, ◌-◌, true, false, not, length};
 ghost use Rattle.std.specs.Option.{option_copied};
-ghost use Rattle.lapd_c.specs.{OctetsWithLine, meant_all, told_at, Leads, told_beside, IsOctetsCall, IsReopened, ShowsReply, octet_of, Shows, contents_of, card_of, IsHandle, CardStands, shelf_of, counters_at, tells_nothing, is_exchange, step_event, steps_made, with_step, Exchanged, ExchangedIn, counters_in, all_counted, moments};
+ghost use Rattle.lapd_c.specs.{OctetsWithLine, meant_all, told_at, Leads, told_beside, IsOctetsCall, IsReopened, ShowsReply, octet_of, Shows, contents_or_none, card_of, IsHandle, CardStands, shelf_of, counters_at, tells_nothing, is_exchange, step_event, steps_made, with_step, Exchanged, ExchangedIn, counters_in, all_counted, moments};
 ghost use Rattle.model_card.specs.ports.Card as machine;
 ghost use Rattle.model_card.specs.ports.Card.{answer};
 ghost use Rattle.model_card.specs.ports.Event.{at};
@@ -128,7 +128,7 @@ fn tells_ended(
 ) -> bool
     requires { line < line_count card.now }
     ensures tells { result ≡ not (tells_nothing (port.told (told_at card.now.ports line told.now))) }
-    ensures shown { length (contents_of (told_at card.now.ports line told.now).contents) ≤ 260 → result ≡ true
+    ensures shown { length (contents_or_none (told_at card.now.ports line told.now).contents) ≤ 260 → result ≡ true
         → Shows report.new (told_at card.now.ports line told.now) }
     ensures unchanged { result ≡ false → report.new ≡ report.old }
 {

@@ -1,5 +1,5 @@
 -- How many octets a card stores, line by line and port by port, and that they are few.
-use Rattle.lapd_card.proofs.Vocabulary.{◌≡◌, ℕ, ◌+◌, ◌*◌, ◌≤◌, ◌<◌, List, [], ◌∷◌, length, take, get_or, refl, sym, ap, subst, ◌∙◌, arith, Fits, w32, w64, mul-le-mul_left, sum_by_more, sum_by-cons, sum_by, take_all, Config, IsInRange, held_in, octets_of, stored_in, ranges_of, FrameLine, Card, stored, limit, IsReached, reached-sound, stored_within_limit, Store, stored_octets, Held, line_count, Stands, HasPast}
+use Rattle.lapd_card.proofs.Vocabulary.{◌≡◌, ℕ, ◌+◌, ◌*◌, ◌≤◌, ◌<◌, List, [], ◌∷◌, length, take, get_or, refl, sym, ap, subst, ◌∙◌, arith, Fits, w32, w64, mul-le-mul_left, sum_by_more, sum_by-cons, sum_by, take_all, Config, IsInRange, held_in, octets_of, stored_in, ranges_of, FrameLine, Card, stored, limit, IsReached, reached-sound, stored_within_limit, Store, stored_octets, Held, line_count, FrameStands, HasPast}
 use Rattle.model_line.specs.Line as line
 use Rattle.model_card.specs.ports.Stored as octets
 use Rattle.lapd_card.proofs.OneLine.{Called, lines-all, few-lines}
@@ -38,26 +38,26 @@ fits_64 n small = grind (arith, small)
 
 -- what a card stores
 module _ {S : Type 0} (store : S → Store) {card self : Held S} (same : card ≡ self) (past : HasPast store card) where
-  pub stored_is : {held lying : ℕ} → ((m : Card) → Stands store self m → held ≡ sum_by (held_in m.config) m.lines) → lying ≡ stored_octets (store card.shelf)
-      → (m : Card) → Stands store self m → held + lying ≡ stored m
+  pub stored_is : {held lying : ℕ} → ((m : Card) → FrameStands store self m → held ≡ sum_by (held_in m.config) m.lines) → lying ≡ stored_octets (store card.shelf)
+      → (m : Card) → FrameStands store self m → held + lying ≡ stored m
   stored_is is lie m s =
-      let shelf = lie ∙ octets_is store card m (subst (λ c. Stands store c m) (sym same) s) in
+      let shelf = lie ∙ octets_is store card m (subst (λ c. FrameStands store c m) (sym same) s) in
       omega (arith, is m s, shelf, sums m.config m.lines)
 
   -- which is few
-  pub stored_few : {held lying : ℕ} → ((m : Card) → Stands store self m → held ≡ sum_by (held_in m.config) m.lines) → lying ≡ stored_octets (store card.shelf)
+  pub stored_few : {held lying : ℕ} → ((m : Card) → FrameStands store self m → held ≡ sum_by (held_in m.config) m.lines) → lying ≡ stored_octets (store card.shelf)
       → held + lying ≤ 2232192
   stored_few is lie =
       let (m, s) = subst (HasPast store) same past in
       omega (arith, stored_is is lie m s, stored_small m s.reached)
 
-  pub stored_within : {held lying : ℕ} → ((m : Card) → Stands store self m → held ≡ sum_by (held_in m.config) m.lines) → lying ≡ stored_octets (store card.shelf)
+  pub stored_within : {held lying : ℕ} → ((m : Card) → FrameStands store self m → held ≡ sum_by (held_in m.config) m.lines) → lying ≡ stored_octets (store card.shelf)
       → held + lying ≤ limit self.config
   stored_within {held} {lying} is lie =
       let (m, s) = subst (HasPast store) same past in
       subst (λ c. held + lying ≤ limit c) s.config (omega (arith, stored_is is lie m s, stored_within_limit.now m (reached-sound m s.reached)))
 
-  pub of_machine : {items : List FrameLine} → items ≡ card.lines → (m : Card) → Stands store self m → length items ≡ length m.lines
+  pub of_machine : {items : List FrameLine} → items ≡ card.lines → (m : Card) → FrameStands store self m → length items ≡ length m.lines
   of_machine is m s = ap length (is ∙ ap (λ c. c.lines) same) ∙ s.lines.count
 
   -- the lines so far, in a loop over them
@@ -76,5 +76,5 @@ module _ {S : Type 0} (store : S → Store) {card self : Held S} (same : card �
         let place : i < 64 = omega (arith, here, most, ap length is) in
         grind (arith, so_far, few, place)
 
-    pub all_held : length items ≤ i → (m : Card) → Stands store self m → sum_by (held_in m.config) (take i m.lines) ≡ sum_by (held_in m.config) m.lines
+    pub all_held : length items ≤ i → (m : Card) → FrameStands store self m → sum_by (held_in m.config) (take i m.lines) ≡ sum_by (held_in m.config) m.lines
     all_held all m s = ap (sum_by (held_in m.config)) (take_all i m.lines (omega (arith, all, of_machine is m s)))

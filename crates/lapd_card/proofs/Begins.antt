@@ -1,5 +1,5 @@
 -- A card as it begins.
-use Rattle.lapd_card.proofs.Vocabulary.{◌≡◌, ◌≤◌, List, [], ◌∷◌, map, ◌++◌, length, replicate, refl, sym, ap, subst, ◌∙◌, arith, None, Some, Option, Bool, true, false, if◌then◌else◌, none-some, nat_lt, ◌||◌, or_parts, ltb-false, length-replicate, append-nil, All-nil, All-cons, All, AllByRecursion, flat_map, zip, Config, first_fault, fresh_line, fresh, reached-fresh, Holds, Store, used_slots, Holds-unused, used_slots-held, none_counted, counters_of, FrameLine, pairs_of, held_of, IsFit, owned, IsFresh, AreFresh, Stands, is_too_small, start_fault, fault_by, Field, BadConfig, ShelfTooSmall}
+use Rattle.lapd_card.proofs.Vocabulary.{◌≡◌, ◌≤◌, List, [], ◌∷◌, map, ◌++◌, length, replicate, refl, sym, ap, subst, ◌∙◌, arith, None, Some, Option, Bool, true, false, if◌then◌else◌, none-some, nat_lt, ◌||◌, or_parts, ltb-false, length-replicate, append-nil, All-nil, All-cons, All, AllByRecursion, flat_map, zip, Config, first_fault, fresh_line, fresh, reached-fresh, Holds, Store, used_slots, Holds-unused, used_slots-held, none_counted, counters_of, FrameLine, pairs_of, held_of, IsFit, owned, IsFresh, AreFresh, FrameStands, is_too_small, start_fault, fault_by, Field, BadConfig, ShelfTooSmall}
 use Rattle.lapd_line.specs.Marks.{AreMarked}
 use Rattle.lapd_line.specs.declared.marks.Marks.{Marks}
 use Rattle.lapd_card.proofs.Waiting.{none_marked_first}
@@ -54,7 +54,7 @@ module _ (c : Config) (ls : List FrameLine) (all : AreFresh c ls) where
 
   -- and they stand, on a shelf that is not too small
   pub fresh_stands : {S : Type 0} (store : S → Store) (shelf : S) (marks : Marks) → AreMarked marks (λ number. false) → start_fault c (store shelf) ≡ None
-      → Stands store (record { config = c; lines = ls; shelf = shelf; waiting = marks }) (fresh c)
+      → FrameStands store (record { config = c; lines = ls; shelf = shelf; waiting = marks }) (fresh c)
   fresh_stands store shelf marks unmarked none =
       let s = store shelf in
       let (range, room) = no_fault c s none in

@@ -16,7 +16,7 @@ use Rattle.model_card.specs.ports.Port.{answer_of}
 use Rattle.model_card.specs.ports.Promises.{IsWithinLimit, HasSixOctetsAFrame, HasSevenOctetsAReject, IsLinear, IsIsolated}
 use Rattle.model_card.specs.ports.Run.{IsAtLine, AreAtLines}
 unfoldable use Rattle.model_card.specs.ports.Run.{after_all, meant_all}
-use Rattle.model_card.specs.ports.Sound as octets
+use Rattle.model_card.specs.ports.Sound.{IsSoundOctetCard}
 use Rattle.model_card.proofs.OfPorts.Codec.{refines, run_goes_on}
 use Rattle.model_card.proofs.OfPorts.Drops.{drops_are_without_effect}
 use Rattle.model_card.proofs.OfPorts.Isolated.{lines_isolated}
@@ -51,7 +51,7 @@ refused_by_table = record {
 }
 
 -- the texts of its lines go on
-textual : (m : OctetCard) (events : List Event) → octets.IsSound m → AreAtLines m events → IsTextual m events
+textual : (m : OctetCard) (events : List Event) → IsSoundOctetCard m → AreAtLines m events → IsTextual m events
 textual m events s within number few = record {
   goes_on = run_goes_on m events number (subst (λ n. number < n) (sym s.count) few);
   text = (port_sound (after_all m events) number (always_sound m events s within) (subst (λ (c : Config). number < c.lines) (sym (config_stays m events)) few)).text;
@@ -96,7 +96,7 @@ laws store card list within = record {
   where
     -- a law of frames holds of what the events mean,
     meaning : (P : Card → List frames.Event → Type 0) → ((m : Card) (fs : List frames.Event) → IsSound m → runs.AreAtLines m fs → P m fs)
-        → (m : OctetCard) (es : List Event) → octets.IsSound m → AreAtLines m es → P m.card (meant_all m es)
+        → (m : OctetCard) (es : List Event) → IsSoundOctetCard m → AreAtLines m es → P m.card (meant_all m es)
     meaning P law m es s at_lines = law m.card (meant_all m es) s.card ((refines m es).at_lines at_lines)
 
     meaning_first : (P : Config → List frames.Event → Type 0) → ((c : Config) (fs : List frames.Event) → IsInRange c → runs.AreAtLines (cards.fresh c) fs → P c fs)
@@ -104,7 +104,7 @@ laws store card list within = record {
     meaning_first P law c es range at_lines = law c (meant_all (fresh c) es) range ((refines (fresh c) es).at_lines at_lines)
 
     -- and a law of octets of each front
-    front : (P : OctetCard → List Event → Type 0) → ((m : OctetCard) (es : List Event) → octets.IsSound m → AreAtLines m es → P m es) → (m : OctetCard) (count : ℕ) → Stands store card m → P m (take count list)
+    front : (P : OctetCard → List Event → Type 0) → ((m : OctetCard) (es : List Event) → IsSoundOctetCard m → AreAtLines m es → P m es) → (m : OctetCard) (count : ℕ) → Stands store card m → P m (take count list)
     front P law m count s = law m (take count list) (reached_sound m s.reached) (All-take (IsAtLine m) count list (within m s))
 
     first : (P : Config → List Event → Type 0) → ((c : Config) (es : List Event) → IsInRange c → AreAtLines (fresh c) es → P c es) → (count : ℕ) → Stands store card (fresh card.frames.config) → P card.frames.config (take count list)

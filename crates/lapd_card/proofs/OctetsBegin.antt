@@ -5,7 +5,7 @@ use Rattle.model_card.specs.ports.Port.{fresh_port}
 use Rattle.model_card.proofs.OfPorts.Reaching.{reached_fresh}
 use Rattle.model_card.specs.Card as cards
 use Rattle.lapd_card.specs.FrameCard as frame_card
-use Rattle.lapd_card.specs.FrameStands as frame
+use Rattle.lapd_card.specs.FrameStands.{FrameStands}
 use Rattle.lapd_card.specs.Stands.{Stands}
 
 abbrev pub IsFreshPort : ℕ → Port → Type 0
@@ -23,7 +23,7 @@ fresh_ports n201 count ports is all = record {
   each = subst (λ n. (number : ℕ) (other : Port) → number < length ports → PortStands n201 (get_or ports number other) (get_or (replicate n fresh_port) number fresh_port)) is (each_fresh n201 ports all);
 }
 
-pub fresh_stands : {S : Type 0} (store : S → Store) (c : Config) {frames : frame_card.Held S} {ports : List Port} → frames.config ≡ c → frame.Stands store frames (cards.fresh c)
+pub fresh_stands : {S : Type 0} (store : S → Store) (c : Config) {frames : frame_card.Held S} {ports : List Port} → frames.config ≡ c → FrameStands store frames (cards.fresh c)
     → PortsStand c.n201 ports (replicate c.lines fresh_port) → Stands store (record { frames = frames; ports = ports }) (fresh c)
 fresh_stands store c {frames} {ports} same stands there = record {
   frames = stands;

@@ -1,5 +1,5 @@
 -- An event at a card is one at one of its lines.
-use Rattle.lapd_card.proofs.Vocabulary.{arith, if◌then◌else◌, ◌≡◌, ℕ, ◌<◌, ◌-◌, false, List, [], ◌++◌, length, nat_le, refl, sym, ap, subst, ◌∙◌, Some, None, IsSome, Option, Ok, Err, Result, IfOk, IfErr, IfSome, OnOk, OnErr, lt-ltb, append-nil, set-get_or, set, map, flat_map, sum_by, zip, Refusal, Service, none_counted, BareReport, answer_of_request, told_beside, Config, refusal, Request, slots_of, octets_of, Card, line_at, used, is_full, state, Event, at, wants_room, after, refused_by_the_table, IfErr-weaker, moment_counted, Store, used_slots, stored_octets, used_slots-held, stored_octets-held, slots-machines, octets-machines, slots-pairs, octets-pairs, owned_octets, Owned, FrameLine, config_of, Held, counters_of, IsFit, owned, Stands, HasPast, Leads, Room, room_in, room, RefusesBy, refuses_by}
+use Rattle.lapd_card.proofs.Vocabulary.{arith, if◌then◌else◌, ◌≡◌, ℕ, ◌<◌, ◌-◌, false, List, [], ◌++◌, length, nat_le, refl, sym, ap, subst, ◌∙◌, Some, None, IsSome, Option, Ok, Err, Result, IfOk, IfErr, IfSome, OnOk, OnErr, lt-ltb, append-nil, set-get_or, set, map, flat_map, sum_by, zip, Refusal, Service, none_counted, BareReport, answer_of_request, told_beside, Config, refusal, Request, slots_of, octets_of, Card, line_at, used, is_full, state, Event, at, wants_room, after, refused_by_the_table, IfErr-weaker, moment_counted, Store, used_slots, stored_octets, used_slots-held, stored_octets-held, slots-machines, octets-machines, slots-pairs, octets-pairs, owned_octets, Owned, FrameLine, config_of, Held, counters_of, IsFit, owned, FrameStands, HasPast, Leads, Room, room_in, room, RefusesBy, refuses_by}
 use Rattle.lapd_line.specs.Stands as line
 use Rattle.model_bits.specs.Stream as stream
 use Rattle.model_line.specs.Event as line_event
@@ -13,7 +13,7 @@ use Rattle.lapd_card.proofs.Served.{TakesNoSlot, heard_takes, has_room, answer_s
 
 module _ {S : Type 0} (store : S → Store) where
   -- the slots in use are those of the machine, and so are the octets in them
-  pub used_is : (card : Held S) (m : Card) → Stands store card m → used_slots (store card.shelf) ≡ used m
+  pub used_is : (card : Held S) (m : Card) → FrameStands store card m → used_slots (store card.shelf) ≡ used m
   used_is card m s =
       let pairs = flat_map owned (zip card.lines m.lines) in
       used_slots-held (pairs ++ []) s.lines.held
@@ -24,7 +24,7 @@ module _ {S : Type 0} (store : S → Store) where
       fits : (c : Config) (p : FrameLine × machine.Line) → IsFit c p → length (owned p) ≡ slots_of c p.1
       fits c p fit = slots-pairs p.0 fit.store fit.others p.1 fit.stands ∙ ap (λ d. slots_of d p.1) fit.config
 
-  pub octets_is : (card : Held S) (m : Card) → Stands store card m → stored_octets (store card.shelf) ≡ sum_by (octets_of m.config) m.lines
+  pub octets_is : (card : Held S) (m : Card) → FrameStands store card m → stored_octets (store card.shelf) ≡ sum_by (octets_of m.config) m.lines
   octets_is card m s =
       let pairs = flat_map owned (zip card.lines m.lines) in
       stored_octets-held (pairs ++ []) s.lines.held
@@ -36,14 +36,14 @@ module _ {S : Type 0} (store : S → Store) where
       fits c p fit = octets-pairs p.0 fit.store fit.others p.1 fit.stands ∙ ap (λ d. octets_of d p.1) fit.config
 
   -- the machine of a card that a call finds counts its slots
-  free : (card self : Held S) → card ≡ self → (m : Card) → Stands store self m → (slots : ℕ) → slots ≡ card.config.slots → (slots ≡ m.config.slots) × (used_slots (store card.shelf) ≡ used m)
+  free : (card self : Held S) → card ≡ self → (m : Card) → FrameStands store self m → (slots : ℕ) → slots ≡ card.config.slots → (slots ≡ m.config.slots) × (used_slots (store card.shelf) ≡ used m)
   free card self same m stood slots is =
-      let s = subst (λ c. Stands store c m) (sym same) stood in
+      let s = subst (λ c. FrameStands store c m) (sym same) stood in
       (is ∙ ap (λ c. c.slots) (sym s.config), used_is card m s)
 
   -- an event keeps a past
   pub past_after : {e : Event} {card self new : Held S} → card ≡ self → Leads store e self new → HasPast store card → HasPast store new
-  past_after {e} same leads (m, s) = (after e m, leads.stands m (subst (λ c. Stands store c m) same s))
+  past_after {e} same leads (m, s) = (after e m, leads.stands m (subst (λ c. FrameStands store c m) same s))
 
   module _ {card self : Held S} {i : ℕ} {x : FrameLine} (call : Called store card self i x) where
     -- what the line does with an event that takes no slot, the card does,
@@ -53,20 +53,20 @@ module _ {S : Type 0} (store : S → Store) where
 
     -- and answers what its line answers
     pub answers : (e : line_event.Event) (P : line_event.Answer → Type 0) → ((others : List Owned) (l : machine.Line) → line.Stands x (store card.shelf) others l → P (lines.answer (config_of x) e l))
-        → (m : Card) → Stands store self m → wants_room (at i e) m ≡ false → P (answer (at i e) m)
+        → (m : Card) → FrameStands store self m → wants_room (at i e) m ≡ false → P (answer (at i e) m)
     answers e P says m s room = subst P (sym (answer_served i e m room)) (one_holds store call (λ c l. P (lines.answer c e l)) says m s)
 
     pub event_says : (e : line_event.Event) → TakesNoSlot e → (P : line_event.Answer → Type 0) → ((others : List Owned) (l : machine.Line) → line.Stands x (store card.shelf) others l → P (lines.answer (config_of x) e l))
-        → (m : Card) → Stands store self m → P (answer (at i e) m)
+        → (m : Card) → FrameStands store self m → P (answer (at i e) m)
     event_says e takes P says m s = answers e P says m s (has_room i e takes m)
 
     pub event_told : (e : line_event.Event) → TakesNoSlot e → {r : line_event.Answer} → ((others : List Owned) (l : machine.Line) → line.Stands x (store card.shelf) others l → r ≡ lines.answer (config_of x) e l)
-        → (m : Card) → Stands store self m → r ≡ answer (at i e) m
+        → (m : Card) → FrameStands store self m → r ≡ answer (at i e) m
     event_told e takes {r} told = event_says e takes (λ a. r ≡ a) told
 
     -- What is heard, if anything is, it serves so too.
     pub heard_told : (o : Option stream.Event) {r : line_event.Answer} → ((others : List Owned) (l : machine.Line) → line.Stands x (store card.shelf) others l → r ≡ line.answer_if_heard (config_of x) o l)
-        → IfSome o (λ e. (m : Card) → Stands store self m → r ≡ answer (at i (line_event.hears e)) m)
+        → IfSome o (λ e. (m : Card) → FrameStands store self m → r ≡ answer (at i (line_event.hears e)) m)
     heard_told None says = tt
     heard_told (Some e) says = event_told (line_event.hears e) (heard_takes e) says
 
@@ -83,7 +83,7 @@ module _ {S : Type 0} (store : S → Store) where
     -- the line refuses by what the card holds
     pub refusal_is : (r : Request) (slots : ℕ) (o : Option Refusal) → slots ≡ card.config.slots
         → ((others : List Owned) (l : machine.Line) → line.Stands x (store card.shelf) others l → refusal (config_of x) (nat_le slots (used_slots (store card.shelf))) r l ≡ o)
-        → (m : Card) → Stands store self m → refusal m.config (is_full m) r (line_at i m) ≡ o
+        → (m : Card) → FrameStands store self m → refusal m.config (is_full m) r (line_at i m) ≡ o
     refusal_is r slots o is says m s =
         let (most, taken) = free card self call.same m s slots is in
         ap (λ n. refusal m.config (nat_le m.config.slots n) r (line_at i m)) (sym taken)
@@ -93,7 +93,7 @@ module _ {S : Type 0} (store : S → Store) where
     -- and has room by what it leaves free
     pub room_is : (service : Service) (tei slots : ℕ) (r : Result Room Refusal) → slots ≡ card.config.slots
         → ((others : List Owned) (l : machine.Line) → line.Stands x (store card.shelf) others l → r ≡ room_in (config_of x) (slots - used_slots (store card.shelf)) service tei l)
-        → (m : Card) → Stands store self m → r ≡ room i service tei m
+        → (m : Card) → FrameStands store self m → r ≡ room i service tei m
     room_is service tei slots r is says m s =
         let (most, taken) = free card self call.same m s slots is in
         one_says store call (λ c l. room_in c (slots - used_slots (store card.shelf)) service tei l) r says m s
@@ -102,7 +102,7 @@ module _ {S : Type 0} (store : S → Store) where
 
     -- the state of a link is that of its line's
     pub state_is : (service : Service) (tei : ℕ) (r : Option ℕ) → ((others : List Owned) (l : machine.Line) → line.Stands x (store card.shelf) others l → r ≡ machine.state_of service tei l)
-        → (m : Card) → Stands store self m → r ≡ state i service tei m
+        → (m : Card) → FrameStands store self m → r ≡ state i service tei m
     state_is service tei r is m s =
         one_says store call (λ c l. machine.state_of service tei l) r is m s
         ∙ ap (λ b. if b then machine.state_of service tei (line_at i m) else None) (sym (lt-ltb i m.config.lines (subst (λ c. i < c.lines) (sym s.config) call.within)))
@@ -127,14 +127,14 @@ pub record Requested {S : Type 0} (store : S → Store) (r : Request) (card : He
 
 module _ {S : Type 0} (store : S → Store) {r : Request} {card self : Held S} {i slots : ℕ} {x : FrameLine} (call : Called store card self i x) {o : BareReport} {y : FrameLine} {t : S} {w : Marks} where
   -- the card refuses and accepts with its line
-  pub request_refused : (result : Result Unit Refusal) → Requested store r card i slots x result o y t w → IfErr result (λ why. (m : Card) → Stands store self m → refusal m.config (is_full m) r (line_at i m) ≡ Some why)
+  pub request_refused : (result : Result Unit Refusal) → Requested store r card i slots x result o y t w → IfErr result (λ why. (m : Card) → FrameStands store self m → refusal m.config (is_full m) r (line_at i m) ≡ Some why)
   request_refused result asked = IfErr-weaker result _ _ (λ why. refusal_is store call r slots (Some why) asked.most) asked.refused
 
-  pub request_accepted : (result : Result Unit Refusal) → Requested store r card i slots x result o y t w → OnOk result ((m : Card) → Stands store self m → refusal m.config (is_full m) r (line_at i m) ≡ None)
+  pub request_accepted : (result : Result Unit Refusal) → Requested store r card i slots x result o y t w → OnOk result ((m : Card) → FrameStands store self m → refusal m.config (is_full m) r (line_at i m) ≡ None)
   request_accepted (Ok done) asked = refusal_is store call r slots None asked.most asked.accepted
   request_accepted (Err why) asked = tt
 
-  pub request_told : (result : Result Unit Refusal) → Requested store r card i slots x result o y t w → (m : Card) → Stands store self m → answer_of_request result o ≡ answer (at i (line_event.request r)) m
+  pub request_told : (result : Result Unit Refusal) → Requested store r card i slots x result o y t w → (m : Card) → FrameStands store self m → answer_of_request result o ≡ answer (at i (line_event.request r)) m
   request_told (Err why) asked m s = sym ((refused_by_the_table.refused_exactly m i r why).1 (request_refused (Err why) asked m s))
   request_told (Ok done) asked m s =
       answers store call (line_event.request r) (λ a. line_event.told (told_beside None o) ≡ a) asked.told m s (accepted_has_room r i m (request_accepted (Ok done) asked m s))
@@ -153,7 +153,7 @@ module _ {S : Type 0} (store : S → Store) {r : Request} {card self : Held S} {
         config = ap (λ c. c.config) is;
         stands = λ m s.
             let some = subst (λ o. IsSome o) (sym (refused m s)) refl in
-            subst (Stands store _) (sym (refused_by_the_table.unchanged m i r some)) (subst (λ c. Stands store c m) (sym is) s);
+            subst (FrameStands store _) (sym (refused_by_the_table.unchanged m i r some)) (subst (λ c. FrameStands store c m) (sym is) s);
         counted = λ m s.
             ap (λ c. map counters_of c.lines) is
             ∙ sym (set-get_or (map counters_of self.lines) i none_counted)

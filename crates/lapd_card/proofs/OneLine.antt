@@ -1,5 +1,5 @@
 -- One line of a card, taken out of its lines and put back.
-use Rattle.lapd_card.proofs.Vocabulary.{◌≡◌, ℕ, ◌≤◌, ◌<◌, List, [], length, refl, sym, ap, subst, ◌∙◌, arith, false, get_or, set, length-set, get_or_default, get_or-map, map, map-set, none_counted, with_all, ranges_of, Config, Owned, Store, SameLimits, FocusPair, focus_pair, held_of, stands_on, FrameLine, config_of, Card, line_at, at, wants_room, moment_counted, reached-after, reached-sound, Held, line_count, counters_of, IsFit, owned, LinesStand, Stands, HasPast, Leads}
+use Rattle.lapd_card.proofs.Vocabulary.{◌≡◌, ℕ, ◌≤◌, ◌<◌, List, [], length, refl, sym, ap, subst, ◌∙◌, arith, false, get_or, set, length-set, get_or_default, get_or-map, map, map-set, none_counted, with_all, ranges_of, Config, Owned, Store, SameLimits, FocusPair, focus_pair, held_of, stands_on, FrameLine, config_of, Card, line_at, at, wants_room, moment_counted, reached-after, reached-sound, Held, line_count, counters_of, IsFit, owned, LinesStand, FrameStands, HasPast, Leads}
 use Rattle.lapd_line.specs.Stands as line
 use Rattle.model_line.specs.Counted.{shown}
 use Rattle.model_line.specs.Event as line_event
@@ -67,20 +67,20 @@ module _ {S : Type 0} (store : S → Store) where
       omega (arith, few, there, ap (λ c. c.lines) s.config)
 
   -- the lines that are marked, of few
-  pub few_card : {card self : Held S} → card ≡ self → (m : Card) → Stands store self m
+  pub few_card : {card self : Held S} → card ≡ self → (m : Card) → FrameStands store self m
       → AreMarked card.waiting (waits_on m) × (line_count self ≡ m.config.lines) × (line_count self ≤ 64)
   few_card {card} {self} same m s =
       let most : m.config.lines ≤ 64 = (ranges_of m.config s.reached.config).lines.most in
       let all : line_count self ≡ m.config.lines = ap (λ c. c.lines) (sym s.config) in
-      ((subst (λ c. Stands store c m) (sym same) s).waiting, all, omega (arith, most, all))
+      ((subst (λ c. FrameStands store c m) (sym same) s).waiting, all, omega (arith, most, all))
 
   pub few-lines : (card : Held S) → HasPast store card → length card.lines ≤ 64
   few-lines card o = grind (arith, ranges_of, reached-sound)
 
   module _ {card self : Held S} {i : ℕ} {x : FrameLine} (call : Called store card self i x) where
-    focused_at : (m : Card) → Stands store self m → Focused m.config card.lines (store card.shelf) m.lines i x
+    focused_at : (m : Card) → FrameStands store self m → Focused m.config card.lines (store card.shelf) m.lines i x
     focused_at m stood =
-        let s = subst (λ c. Stands store c m) (sym call.same) stood in
+        let s = subst (λ c. FrameStands store c m) (sym call.same) stood in
         focused m.config card.lines (store card.shelf) m.lines i x (line-there card self i (length card.lines) call.past call.same call.within refl) call.is
         (subst (λ c. LinesStand c card.lines (store card.shelf) m.lines) (sym s.config) s.lines)
 
@@ -88,25 +88,25 @@ module _ {S : Type 0} (store : S → Store) where
     pub one_serves : (others : List Owned) × (l : machine.Line) × line.Stands x (store card.shelf) others l
     one_serves =
         let (m, s) = call.past in
-        let focus = focused_at m (subst (λ c. Stands store c m) call.same s) in
+        let focus = focused_at m (subst (λ c. FrameStands store c m) call.same s) in
         (focus.rest, line_at i m, focus.stands)
 
     -- it has the card's configuration
     pub has_config : config_of x ≡ self.config
     has_config =
         let (m, s) = call.past in
-        let stood = subst (λ c. Stands store c m) call.same s in
+        let stood = subst (λ c. FrameStands store c m) call.same s in
         (focused_at m stood).config ∙ stood.config
 
     -- what is said of every past of the line is said of the line of the machine
     pub one_holds : (P : Config → machine.Line → Type 0) → ((others : List Owned) (l : machine.Line) → line.Stands x (store card.shelf) others l → P (config_of x) l)
-        → (m : Card) → Stands store self m → P m.config (line_at i m)
+        → (m : Card) → FrameStands store self m → P m.config (line_at i m)
     one_holds P holds m s =
         let focus = focused_at m s in
         subst (λ d. P d (line_at i m)) focus.config (holds focus.rest (line_at i m) focus.stands)
 
     pub one_says : {X : Type 0} (f : Config → machine.Line → X) (r : X) → ((others : List Owned) (l : machine.Line) → line.Stands x (store card.shelf) others l → r ≡ f (config_of x) l)
-        → (m : Card) → Stands store self m → r ≡ f m.config (line_at i m)
+        → (m : Card) → FrameStands store self m → r ≡ f m.config (line_at i m)
     one_says f r says = one_holds (λ c l. r ≡ f c l) says
 
     -- its counters are those at its place
@@ -117,14 +117,14 @@ module _ {S : Type 0} (store : S → Store) where
 
     -- what a call on it does, it does among all, where it finds room
     pub one_leads : (e : line_event.Event) (y : FrameLine) (t : S) (w : Marks) → line.Leads e x (store card.shelf) y (store t) → Looked i card.waiting y w
-        → ((m : Card) → Stands store self m → wants_room (at i e) m ≡ false)
+        → ((m : Card) → FrameStands store self m → wants_room (at i e) m ≡ false)
         → Leads store (at i e) self (record { config = card.config; lines = set card.lines i y; shelf = t; waiting = w })
     one_leads e y t w leads looked room = record {
       config = ap (λ c. c.config) call.same;
       stands = λ m s.
           let focus = focused_at m s in
           let is = after_served i e m (room m s) in
-          let own = subst (λ c. Stands store c m) (sym call.same) s in
+          let own = subst (λ c. FrameStands store c m) (sym call.same) s in
           let stands = leads.stands focus.rest (line_at i m) focus.stands in
           let l = lines.after m.config e (line_at i m) in
           let within : i < m.config.lines = subst (λ c. i < c.lines) (sym s.config) call.within in

@@ -31,6 +31,7 @@ use Rattle.lapd_card.specs.Card.{Held, line_count}
 use Rattle.lapd_card.specs.Drive.{CostsAs, IsPriced}
 use Rattle.lapd_card.specs.FrameCard as frame_card
 use Rattle.lapd_card.specs.FrameStands as frame
+use Rattle.lapd_card.specs.FrameStands.{FrameStands}
 use Rattle.lapd_card.specs.Stands.{Stands, Leads}
 use Rattle.lapd_card.proofs.OnePort.{Called, port_holds, gone_on, with_config, reached-after}
 
@@ -71,7 +72,7 @@ heard_at i h = option_map (frames.at i) (option_map line.hears h)
 abbrev pub Tells : {S : Type 0} → (S → Store) → ℕ → Option stream.Event → frame_card.Held S → Option BareReport → Type 0
 Tells store i None old bare = bare ≡ None
 Tells store i (Some e) old bare =
-    (m : Card) → frame.Stands store old m → line.told (told_if (octets_of (Some e)) bare) ≡ machine.answer (frames.at i (line.hears e)) m
+    (m : Card) → FrameStands store old m → line.told (told_if (octets_of (Some e)) bare) ≡ machine.answer (frames.at i (line.hears e)) m
 
 -- as it does where something is heard
 pub if_leads : {S : Type 0} (store : S → Store) (i : ℕ) (old new : frame_card.Held S) (h : Option stream.Event) → IsSome h → IfSome h (λ e. frame.Leads store (frames.at i (line.hears e)) old new)
@@ -79,7 +80,7 @@ pub if_leads : {S : Type 0} (store : S → Store) (i : ℕ) (old new : frame_car
 if_leads store i old new h some leads = grind arith
 
 pub if_tells : {S : Type 0} (store : S → Store) (i : ℕ) (old : frame_card.Held S) (bare : BareReport) (h : Option stream.Event) → IsSome h
-    → IfSome h (λ e. (m : Card) → frame.Stands store old m → line.told (told_in (octets_of h) bare) ≡ machine.answer (frames.at i (line.hears e)) m)
+    → IfSome h (λ e. (m : Card) → FrameStands store old m → line.told (told_in (octets_of h) bare) ≡ machine.answer (frames.at i (line.hears e)) m)
     → Tells store i h old (Some bare)
 if_tells store i old bare h some says = grind arith
 
@@ -97,7 +98,7 @@ module _ {S : Type 0} (store : S → Store) {card : Held S} {i : ℕ} {x : Port}
     stays f h same = grind arith
 
     frames_stand : (f : frame_card.Held S) (h : Option stream.Event) → LeadsIfHeard store i h card.frames f → (m : OctetCard) → Stands store card m
-        → frame.Stands store f (option_map_or (card_after m.card) (heard_at i h) m.card)
+        → FrameStands store f (option_map_or (card_after m.card) (heard_at i h) m.card)
     frames_stand f h same m s = grind arith
 
     frames_count : (f : frame_card.Held S) (h : Option stream.Event) → LeadsIfHeard store i h card.frames f → (m : OctetCard) → Stands store card m
@@ -112,7 +113,7 @@ module _ {S : Type 0} (store : S → Store) {card : Held S} {i : ℕ} {x : Port}
           let there = port_holds store call m s in
           let is = brings m.card.config.n201 (port_at i m) there in
           gone_on store (port.octet value) call.within (stays f (latest_in y) leads) m s
-          (subst (λ h. frame.Stands store f (option_map_or (card_after m.card) (heard_at i h) m.card)) (sym is) (frames_stand f (latest_in y) leads m s))
+          (subst (λ h. FrameStands store f (option_map_or (card_after m.card) (heard_at i h) m.card)) (sym is) (frames_stand f (latest_in y) leads m s))
           (goes_on m.card.config.n201 (port_at i m) there);
       counted = λ m s.
           let is = brings m.card.config.n201 (port_at i m) (port_holds store call m s) in
@@ -176,7 +177,7 @@ module _ {e : port.Event} {f : line.Event} (on : IsPassedOn e f) where
         ∙ ap (λ o. all_counted (counters_in card.frames.lines) (option_to_list (option_map (frame_moment m) o))) (sym (meant_is i m));
   }
 
-  pub passed_told : {S : Type 0} (store : S → Store) {card : Held S} (i : ℕ) {r : line.Answer} → ((m : Card) → frame.Stands store card.frames m → r ≡ machine.answer (frames.at i f) m)
+  pub passed_told : {S : Type 0} (store : S → Store) {card : Held S} (i : ℕ) {r : line.Answer} → ((m : Card) → FrameStands store card.frames m → r ≡ machine.answer (frames.at i f) m)
       → (m : OctetCard) → Stands store card m → answer_of r ≡ answer (at i e) m
   passed_told store i says m s = ap answer_of (says m.card s.frames) ∙ sym (passed_answer i m)
 
@@ -268,14 +269,14 @@ module _ {S : Type 0} (store : S → Store) {card : Held S} {i : ℕ} {x : Port}
       config = refl;
       stands = λ m s.
           gone_on store port.pull call.within refl m s
-          (subst (frame.Stands store card.frames) (sym (none_begun_leaves m.card i (is_due (port_at i m)) (nothing m s))) s.frames)
+          (subst (FrameStands store card.frames) (sym (none_begun_leaves m.card i (is_due (port_at i m)) (nothing m s))) s.frames)
           (pulls_none m s).after;
       counted = λ m s. none_begun_counts m i (counters_in card.frames.lines) (is_due (port_at i m)) (nothing m s);
     }
 
   -- the next frame is called for
   module _ {f : frame_card.Held S} {mid y : Port} (taken_one : Option (ShortList Order)) {pulled : Pulled} (few : length x.framer.left < 8)
-      (loaded : (m : Card) → frame.Stands store card.frames m → IsLoaded (machine.answer (frames.at i line.next) m) (orders_taken taken_one) x mid)
+      (loaded : (m : Card) → FrameStands store card.frames m → IsLoaded (machine.answer (frames.at i line.next) m) (orders_taken taken_one) x mid)
       (leads : frame.Leads store (frames.at i line.next) card.frames f) (gives : Gives mid taken_one pulled y) where
     due : (m : OctetCard) → Stands store card m → is_due (port_at i m) ≡ true
     due m s = due_is (port_holds store call m s) ∙ lt-ltb (length x.framer.left) 8 few
@@ -298,7 +299,7 @@ module _ {S : Type 0} (store : S → Store) {card : Held S} {i : ℕ} {x : Port}
       stands = λ m s.
           let p = port_at i m in
           gone_on store port.pull call.within leads.config m s
-          (subst (λ b. frame.Stands store f (option_map_or (card_after m.card) (called i b) m.card)) (sym (due m s)) (leads.stands m.card s.frames))
+          (subst (λ b. FrameStands store f (option_map_or (card_after m.card) (called i b) m.card)) (sym (due m s)) (leads.stands m.card s.frames))
           (subst (λ b. PortStands m.card.config.n201 y (port.after port.pull (option_map (answer_to m.card) (called i b)) p)) (sym (due m s)) (pulls_next m s).after);
       counted = λ m s.
           leads.counted m.card s.frames

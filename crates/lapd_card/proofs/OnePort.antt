@@ -13,7 +13,7 @@ use Rattle.model_card.proofs.OfPorts.Steps.{config_after}
 use Rattle.model_line.specs.Sound.{IsInRange}
 use Rattle.lapd_card.specs.Card.{Held, line_count}
 use Rattle.lapd_card.specs.FrameCard as frame_card
-use Rattle.lapd_card.specs.FrameStands as frame
+use Rattle.lapd_card.specs.FrameStands.{FrameStands}
 use Rattle.lapd_card.specs.Stands.{Stands, HasPast, Leads}
 
 -- ---- the ports
@@ -93,7 +93,7 @@ module _ {S : Type 0} (store : S → Store) where
 
   -- where the card of frames and one port have gone on, the card has
   pub gone_on : {card : Held S} {i : ℕ} (e : port.Event) {f : frame_card.Held S} {y : Port} → i < line_count card → f.config ≡ card.frames.config
-      → (m : OctetCard) → Stands store card m → frame.Stands store f (after (at i e) m).card → PortStands m.card.config.n201 y (port.after e (said (at i e) m) (port_at i m))
+      → (m : OctetCard) → Stands store card m → FrameStands store f (after (at i e) m).card → PortStands m.card.config.n201 y (port.after e (said (at i e) m) (port_at i m))
       → Stands store (record { frames = f; ports = set card.ports i y }) (after (at i e) m)
   unfolding after
   gone_on {card} {i} e {f} {y} within config m s frames one = record {
@@ -117,5 +117,5 @@ module _ {S : Type 0} (store : S → Store) where
   put_twice {e} {card} {f} ports i x y leads = subst (λ ps. Leads store e card (record { frames = f; ports = ps })) (sym (set-set ports i x y)) leads
 
   -- what holds of the card of frames inside
-  pub inside : {card self : Held S} → card ≡ self → {P : Card → Type 0} → ((m : Card) → frame.Stands store card.frames m → P m) → (m : OctetCard) → Stands store self m → P m.card
+  pub inside : {card self : Held S} → card ≡ self → {P : Card → Type 0} → ((m : Card) → FrameStands store card.frames m → P m) → (m : OctetCard) → Stands store self m → P m.card
   inside same holds m s = holds m.card (stood same m s).frames

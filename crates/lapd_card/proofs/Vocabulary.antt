@@ -13,7 +13,7 @@ pub use Rattle.std.specs.Option.{option_map_or}
 pub use Rattle.std.specs.Prelude.{IfSome, IsTrue, OnOk, is_err, option_map, option_to_list}
 pub use Rattle.lapd_card.specs.Counted.{counters_in, counters_of}
 pub use Rattle.lapd_card.specs.FrameCard.{Held, line_count}
-pub use Rattle.lapd_card.specs.FrameStands.{HasPast, Leads, Stands}
+pub use Rattle.lapd_card.specs.FrameStands.{HasPast, Leads, FrameStands}
 pub use Rattle.lapd_card.specs.Kept.{kept_of}
 pub use Rattle.lapd_card.specs.Lines.{AreFresh, IsFit, IsFresh, LinesStand, owned}
 pub use Rattle.lapd_card.specs.Ports.{PortsStand, told_at, told_if_at, told_of}

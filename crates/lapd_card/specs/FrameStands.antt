@@ -15,7 +15,7 @@ use Rattle.lapd_store.specs.Store.{Store}
 -- A card stands for a machine: it has its configuration, and its lines stand for the machine's over its shelf, which
 -- has as many slots as the configuration says, or more; those lines are marked on which a frame waits; and the machine is one
 -- that a list of events reaches.
-pub record Stands {S : Type 0} (store : S → Store) (card : Held S) (m : machine.Card) : Type 0 where
+pub record FrameStands {S : Type 0} (store : S → Store) (card : Held S) (m : machine.Card) : Type 0 where
   pub config : m.config ≡ card.config
   pub lines : LinesStand card.config card.lines (store card.shelf) m.lines
   pub slots : card.config.slots ≤ (store card.shelf).slots
@@ -24,11 +24,11 @@ pub record Stands {S : Type 0} (store : S → Store) (card : Held S) (m : machin
 
 -- There is a machine for which it stands.
 abbrev pub HasPast : {S : Type 0} → (S → Store) → Held S → Type 0
-HasPast store card = (m : machine.Card) × Stands store card m
+HasPast store card = (m : machine.Card) × FrameStands store card m
 
 -- An event leads a card from one value to another: for every machine for which the card stood, it stands for that machine
 -- after the event. At its line what it shows is counted, and on no other line anything.
 pub record Leads {S : Type 0} (store : S → Store) (event : Event) (old new : Held S) : Type 0 where
   pub config : new.config ≡ old.config
-  pub stands : (m : machine.Card) → Stands store old m → Stands store new (after event m)
-  pub counted : (m : machine.Card) → Stands store old m → counters_in new.lines ≡ moment_counted (counters_in old.lines) (moment_of m event)
+  pub stands : (m : machine.Card) → FrameStands store old m → FrameStands store new (after event m)
+  pub counted : (m : machine.Card) → FrameStands store old m → counters_in new.lines ≡ moment_counted (counters_in old.lines) (moment_of m event)

@@ -14,8 +14,8 @@ use Rattle.lapd_store.specs.Store.{Store}
 use Rattle.lapd_card.specs.Card as octets
 use Rattle.lapd_card.specs.Counted.{counters_in}
 use Rattle.lapd_card.specs.FrameCard as frames
-use Rattle.lapd_card.specs.FrameStands as frame_card
-use Rattle.lapd_card.specs.Stands as octet_card
+use Rattle.lapd_card.specs.FrameStands.{FrameStands}
+use Rattle.lapd_card.specs.Stands.{Stands}
 use Rattle.lapd_card.specs.declared.kinds.AnyCard.{AnyCard}
 use Rattle.lapd_card.specs.declared.kinds.AnyCard.TheVariants.{Octets, Frames}
 pub use Rattle.lapd_card.specs.declared.kinds.CardKind.{CardKind}
@@ -68,10 +68,10 @@ stored (alone m) = of_frames.stored m
 
 -- A card for octets stands for a machine; one for frames; one of either kind.
 abbrev pub CardStands : octets.Held Store → OctetCard → Type 0
-CardStands c m = octet_card.Stands shelf_of c m
+CardStands c m = Stands shelf_of c m
 
 abbrev pub FrameCardStands : frames.Held Store → Card → Type 0
-FrameCardStands c m = frame_card.Stands shelf_of c m
+FrameCardStands c m = FrameStands shelf_of c m
 
 abbrev pub AnyStands : AnyCard → Machine → Type 0
 AnyStands (Octets c) (with_ports m) = CardStands c m

@@ -9,14 +9,14 @@ use Rattle.model_card.specs.ports.Event.{Event}
 use Rattle.model_card.specs.ports.Reached.{IsReached}
 use Rattle.lapd_card.specs.Card.{Held}
 use Rattle.lapd_card.specs.Counted.{counters_in}
-use Rattle.lapd_card.specs.FrameStands as frame
+use Rattle.lapd_card.specs.FrameStands.{FrameStands}
 use Rattle.lapd_card.specs.Ports.{PortsStand}
 use Rattle.lapd_store.specs.Store.{Store}
 
 -- A card of octets stands for a machine: its card of frames does for the one inside, and its ports do for the machine's; and
 -- the machine is one that a list of events reaches.
 pub record Stands {S : Type 0} (store : S → Store) (card : Held S) (m : machine.OctetCard) : Type 0 where
-  pub frames : frame.Stands store card.frames m.card
+  pub frames : FrameStands store card.frames m.card
   pub ports : PortsStand card.frames.config.n201 card.ports m.ports
   pub reached : IsReached m
 

@@ -61,7 +61,7 @@ impl<S: Shelf> Model for FrameCard<S> {
 impl<S: Shelf> FrameCard<S> {
     ghost use Rattle.lapd_card.specs.Counted.{counters_in};
     ghost use Rattle.lapd_card.specs.FrameCard.{line_count, room_for_frames};
-    ghost use Rattle.lapd_card.specs.FrameStands.{Stands, Leads};
+    ghost use Rattle.lapd_card.specs.FrameStands.{FrameStands, Leads};
 
     /// How many lines the card has: 1 to 64.
     pub fn lines(&self) -> usize
@@ -85,13 +85,13 @@ impl<S: Shelf> FrameCard<S> {
     pub fn frame(&mut self, line: usize, octets: &[u8], report: &mut BareReport) -> bool
         requires within { line < line_count self.old }
         requires clear { IsClear report.old }
-        ensures told { (m : machine.Card) → Stands S.store self.old m
+        ensures told { (m : machine.Card) → FrameStands S.store self.old m
             → told (told_in (octets_of (Some (came self.old.config.n201 octets.now))) report.new)
             ≡ answer (at line (hears (came self.old.config.n201 octets.now))) m }
         ensures after { Leads S.store (at line (hears (came self.old.config.n201 octets.now))) self.old self.new }
         ensures quiet { result ≡ true → IsQuiet report.new }
         // What may be sent rises by two at most for the frame, and by k more where that is an REJ with a valid N(R).
-        ensures frames { (m : machine.Card) → Stands S.store self.old m → RisesByHeard line (came self.old.config.n201 octets.now) m }
+        ensures frames { (m : machine.Card) → FrameStands S.store self.old m → RisesByHeard line (came self.old.config.n201 octets.now) m }
     {
         let lane = &mut self.lines[line];
         let is_quiet = lane.frame(octets, report, &mut self.shelf);
@@ -119,7 +119,7 @@ impl<S: Shelf> FrameCard<S> {
     pub fn failed(&mut self, line: usize, fault: Fault, report: &mut BareReport)
         requires within { line < line_count self.old }
         requires clear { IsClear report.old }
-        ensures told { (m : machine.Card) → Stands S.store self.old m
+        ensures told { (m : machine.Card) → FrameStands S.store self.old m
             → told (told_beside None report.new) ≡ answer (at line (hears (stream.dropped (cause_of fault)))) m }
         ensures after { Leads S.store (at line (hears (stream.dropped (cause_of fault)))) self.old self.new }
     {
@@ -135,7 +135,7 @@ impl<S: Shelf> FrameCard<S> {
         requires within { line < line_count self.old }
         requires clear { IsClear report.old }
         requires something { IsSome (heard_of heard) }
-        ensures told { IfSome (heard_of heard.entry) (λ e. (m : machine.Card) → Stands S.store self.old m
+        ensures told { IfSome (heard_of heard.entry) (λ e. (m : machine.Card) → FrameStands S.store self.old m
             → told (told_in (octets_of (heard_of heard.entry)) report.new) ≡ answer (at line (hears e)) m) }
         ensures after { IfSome (heard_of heard.entry) (λ e. Leads S.store (at line (hears e)) self.old self.new) }
     {
@@ -162,14 +162,14 @@ impl<S: Shelf> FrameCard<S> {
         ensures room { IfErr result (λ fault. fault.room ≡ room_for_frames self.old) }
         ensures unchanged { OnErr result (self.new ≡ self.old) }
         ensures unwritten { OnErr result (out.new ≡ out.old) }
-        ensures gave { IfOk result (λ given. (m : machine.Card) → Stands S.store self.old m
+        ensures gave { IfOk result (λ given. (m : machine.Card) → FrameStands S.store self.old m
             → gave_in out.new given ≡ answer (at line next) m) }
         ensures fits { IfOk result (λ given. written given ≤ length out.new) }
         ensures rest { IfOk result (λ given. drop (written given) out.new ≡ drop (written given) out.old) }
         ensures length { length out.new ≡ length out.old }
         ensures after { OnOk result (Leads S.store (at line next) self.old self.new) }
         // Where it gives a frame, what may be sent falls by one or two; else it stays.
-        ensures frames { (m : machine.Card) → Stands S.store self.old m → FallsByNext line m }
+        ensures frames { (m : machine.Card) → FrameStands S.store self.old m → FallsByNext line m }
     {
         let room = self.frame_room();
         if out.len() < room {
@@ -187,7 +187,7 @@ impl<S: Shelf> FrameCard<S> {
         requires within { line < line_count self.old }
         requires few { length port.old.framer.left < 8 }
         requires room { port.old.framer.room ≡ self.old.config.n201 }
-        ensures loaded { (m : machine.Card) → Stands S.store self.old m
+        ensures loaded { (m : machine.Card) → FrameStands S.store self.old m
             → IsLoaded (answer (at line next) m) (orders_taken result) port.old port.new }
         ensures after { Leads S.store (at line next) self.old self.new }
     {
@@ -201,7 +201,7 @@ impl<S: Shelf> FrameCard<S> {
     #[inline(always)]
     pub fn has_next(&self, line: usize) -> bool
         requires { line < line_count self.now }
-        ensures { (m : machine.Card) → Stands S.store self.now m → result ≡ has_next line m }
+        ensures { (m : machine.Card) → FrameStands S.store self.now m → result ≡ has_next line m }
     {
         self.waiting.has(line)
     }
@@ -210,7 +210,7 @@ impl<S: Shelf> FrameCard<S> {
     /// line, so that many quiet lines cost no more than one.
     #[inline(always)]
     pub fn next_waiting(&self, from: usize) -> Option<usize>
-        ensures next { (m : machine.Card) → Stands S.store self.now m → result ≡ next_waiting from m }
+        ensures next { (m : machine.Card) → FrameStands S.store self.now m → result ≡ next_waiting from m }
         ensures within { IfSome result (λ line. line < line_count self.now) }
         // No card has more lines.
         ensures few { IfSome result (λ line. line < 64) }
@@ -222,13 +222,13 @@ impl<S: Shelf> FrameCard<S> {
     pub fn expire(&mut self, line: usize, timer: Timer, report: &mut BareReport)
         requires within { line < line_count self.old }
         requires clear { IsClear report.old }
-        ensures told { (m : machine.Card) → Stands S.store self.old m
+        ensures told { (m : machine.Card) → FrameStands S.store self.old m
             → told (told_beside None report.new) ≡ answer (at line (expiry timer)) m }
         ensures after { Leads S.store (at line (expiry timer)) self.old self.new }
         // It starts one timer at most, so applying the orders of what falls due comes to an end.
         ensures starts { starts (listed report.new.orders) ≤ 1 }
         // What may be sent rises by k + 1 where the timer was running, else by nothing.
-        ensures frames { (m : machine.Card) → Stands S.store self.old m → RisesByExpiry line timer m }
+        ensures frames { (m : machine.Card) → FrameStands S.store self.old m → RisesByExpiry line timer m }
     {
         let lane = &mut self.lines[line];
         lane.expire(timer, report, &mut self.shelf);
@@ -249,17 +249,17 @@ impl<S: Shelf> FrameCard<S> {
     ) -> Result<(), Refusal>
         requires within { line < line_count self.old }
         requires clear { IsClear report.old }
-        ensures refused { IfErr result (λ why. (m : machine.Card) → Stands S.store self.old m
+        ensures refused { IfErr result (λ why. (m : machine.Card) → FrameStands S.store self.old m
             → refusal m.config (machine.is_full m) (request_of request.entry) (machine.line_at line m) ≡ Some why) }
         ensures unchanged { OnErr result (self.new ≡ self.old) }
         ensures untold { OnErr result (report.new ≡ report.old) }
-        ensures accepted { OnOk result ((m : machine.Card) → Stands S.store self.old m
+        ensures accepted { OnOk result ((m : machine.Card) → FrameStands S.store self.old m
             → refusal m.config (machine.is_full m) (request_of request.entry) (machine.line_at line m) ≡ None) }
-        ensures told { (m : machine.Card) → Stands S.store self.old m
+        ensures told { (m : machine.Card) → FrameStands S.store self.old m
             → answer_of_request result report.new ≡ answer (at line (line_event.request (request_of request.entry))) m }
         ensures after { Leads S.store (at line (line_event.request (request_of request.entry))) self.old self.new }
         // What may be sent rises by one where it is accepted, else by nothing.
-        ensures frames { (m : machine.Card) → Stands S.store self.old m → RisesByRequest line (request_of request.entry) m }
+        ensures frames { (m : machine.Card) → FrameStands S.store self.old m → RisesByRequest line (request_of request.entry) m }
     {
         let lane = &mut self.lines[line];
         match lane.request(
@@ -279,7 +279,7 @@ impl<S: Shelf> FrameCard<S> {
     /// The state of the link of a service with this TEI, by its number in Q.921: 4 to 8. None where the card has no such
     /// line, or the TEI is not on it.
     pub fn state(&self, line: usize, service: Service, tei: u8) -> Option<u8>
-        ensures { (m : machine.Card) → Stands S.store self.now m → result ≡ machine.state line service tei m }
+        ensures { (m : machine.Card) → FrameStands S.store self.now m → result ≡ machine.state line service tei m }
     {
         if line < self.lines() {
             self.lines[line].state(service, tei)
@@ -297,10 +297,10 @@ impl<S: Shelf> FrameCard<S> {
     /// There is no such link: `BadTei` where the TEI is over 126, `NoLink` where it is not on the line.
     pub fn room(&self, line: usize, service: Service, tei: u8) -> Result<Room, Refusal>
         requires { line < line_count self.now }
-        ensures told { (m : machine.Card) → Stands S.store self.now m → result ≡ room line service tei m }
+        ensures told { (m : machine.Card) → FrameStands S.store self.now m → result ≡ room line service tei m }
         // In state 7 or 8 a request to send contents that are not too long is refused for a full queue exactly where no place
         // is left, and else for a full pool exactly where no slot is.
-        ensures refuses { (m : machine.Card) → Stands S.store self.now m
+        ensures refuses { (m : machine.Card) → FrameStands S.store self.now m
             → IfOk result (λ room. RefusesBy room line service tei m) }
     {
         self.lines[line].room(service, tei, &self.shelf, u32::from(self.config.slots))
@@ -320,7 +320,7 @@ impl<S: Shelf> FrameCard<S> {
     /// remembered, and of contents in slots. It keeps nothing of the frames that come and go. They are never more than
     /// [`FrameCard::frame_limit`] says.
     pub fn stored(&self) -> u32
-        ensures octets { (m : machine.Card) → Stands S.store self.now m → result ≡ stored m }
+        ensures octets { (m : machine.Card) → FrameStands S.store self.now m → result ≡ stored m }
         ensures few { result ≤ frame_limits.limit self.now.config }
     {
         let mut held = 0;
@@ -332,7 +332,7 @@ impl<S: Shelf> FrameCard<S> {
 
     /// How many octets a card of octets with its configuration stores at most: [`crate::limit`].
     pub fn limit(&self) -> u32
-        ensures { (m : machine.Card) → Stands S.store self.now m → result ≡ limit m.config }
+        ensures { (m : machine.Card) → FrameStands S.store self.now m → result ≡ limit m.config }
     {
         crate::stored::limit(&self.config)
     }

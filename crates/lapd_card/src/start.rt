@@ -13,7 +13,7 @@ use lapd_store::Shelf;
 use std::alloc::Global;
 
 impl<S: Shelf> FrameCard<S> {
-    ghost use Rattle.lapd_card.specs.FrameStands.{Stands};
+    ghost use Rattle.lapd_card.specs.FrameStands.{FrameStands};
 
     /// A card with these sizes and limits, over a shelf on which nothing lies. No TEI is on any line.
     ///
@@ -27,7 +27,7 @@ impl<S: Shelf> FrameCard<S> {
         ensures otherwise { IfNone (start_fault config (S.store shelf)) (IsOkUnless result OutOfMemory) }
         ensures config { IfOk result (λ card. card.config ≡ config) }
         ensures shelf { IfOk result (λ card. card.shelf ≡ shelf) }
-        ensures fresh { IfOk result (λ card. Stands S.store card (machine.fresh config)) }
+        ensures fresh { IfOk result (λ card. FrameStands S.store card (machine.fresh config)) }
         ensures counters { IfOk result (λ card. counters_in card.lines ≡ replicate config.lines none_counted) }
     {
         if let Some(fault) = fault_of(&config, &shelf) {

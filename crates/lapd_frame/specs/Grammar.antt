@@ -1,6 +1,6 @@
 -- The grammar of frames: which octets spell which frame (Q.921 clauses 2 and 3). The octets are those between two
 -- flags, without bit stuffing and frame check.
-use Rattle.std.specs.Prelude.{◌≡◌, ℕ, ◌+◌, ◌*◌, ◌<◌, Bool, true, false, IsTrue, not, if◌then◌else◌, ◌==◌, List, [], ◌∷◌, ◌++◌, length, All}
+use Rattle.std.specs.Prelude.{◌≡◌, ℕ, ◌+◌, ◌*◌, ◌<◌, Bool, true, false, IsTrue, not, if◌then◌else◌, ◌==◌, List, [], ◌∷◌, ◌++◌, length}
 use Rattle.lapd_frame.specs.declared.addresses.Side.{Side}
 use Rattle.lapd_frame.specs.declared.addresses.Side.TheVariants.{User, Network}
 use Rattle.lapd_frame.specs.declared.addresses.Address.{Address}
@@ -102,7 +102,3 @@ spelling side frame = head_of side frame.address frame.control ++ frame.info
 pub record Spells (side : Side) (frame : Parts) (octets : List ℕ) : Type 0 where
   pub is_frame : IsFrame frame
   pub octets_are : octets ≡ spelling side frame
-
--- octets, each 0 to 255
-abbrev pub AreOctets : List ℕ → Type 0
-AreOctets octets = All (λ octet. octet < 256) octets

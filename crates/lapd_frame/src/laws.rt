@@ -1,7 +1,8 @@
 //! What holds of the grammar itself.
 
 ghost use Rattle.std.specs.Prelude.{◌≡◌, ℕ, List, ◌↔◌};
-ghost use Rattle.lapd_frame.specs.{Side, ReadFault, IsFault, Parts, Spells, AreOctets, reading};
+ghost use Rattle.model_bits.specs.StuffingLaws.{AreOctets};
+ghost use Rattle.lapd_frame.specs.{Side, ReadFault, IsFault, Parts, Spells, reading};
 
 /// Octets that spell a frame for a side spell no other, and `reading`, by which `read` and
 /// `read_long` are stated, is the grammar read backwards: what was written is read again. This is a

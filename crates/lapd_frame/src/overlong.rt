@@ -1,7 +1,8 @@
 //! Frames that are too long to keep.
 
 ghost use Rattle.std.specs.Prelude.{◌≡◌, ℕ, ◌≤◌, List, length, ◌++◌};
-ghost use Rattle.lapd_frame.specs.{AreOctets, IsLong, reading, long_of, long_reading};
+ghost use Rattle.model_bits.specs.StuffingLaws.{AreOctets};
+ghost use Rattle.lapd_frame.specs.{IsLong, reading, long_of, long_reading};
 
 use crate::addresses::{Address, Side};
 use crate::controls::Control;

@@ -1,5 +1,5 @@
 -- What is heard, by whom it is for.
-use Rattle.lapd_line.proofs.Vocabulary.{arith, ◌≡◌, ℕ, Bool, true, false, not, ◌&&◌, nat_le, ◌==◌, ◌≤◌, List, [], ◌∷◌, Option, Some, None, Err, length, drop, sym, ap, ◌∙◌, cond, subst, eqb-true, drop_of_length-le, Address, Side, Note, Service, ShortList, Parts, service_of, listed, Unserved, Control, ReadFault, Management, Owned, Store, Config, LineTold, Line, addressed, at_place, to_service, group_tei, drop_for, message_of, aim_of_long, aim_of_reading, Aim, at_none, at_management, of_aim, group_told, told_of_ui, told_of_group, told_at, managed_at, at_side, has_management, Addressee, LinkLayer, BareReport, addressee, of_service, aim_at, is_ui, message_at, group_service, Stands, Serves, always, told_in}
+use Rattle.lapd_line.proofs.Vocabulary.{arith, ◌≡◌, ℕ, Bool, true, false, not, ◌&&◌, nat_le, ◌==◌, ◌≤◌, List, [], ◌∷◌, Option, Some, None, Err, length, drop, sym, ap, ◌∙◌, cond, subst, eqb-true, drop_of_length-le, Address, Side, Note, Service, ShortList, Parts, service_of, listed, Unserved, Control, ReadFault, Management, Owned, Store, Config, LineTold, Line, addressed, at_place, to_service, group_tei, drop_for, message_of, aim_of_long, aim_of_reading, Aim, at_none, at_management, of_aim, group_told, told_of_ui, told_of_group, told_at, managed_at, at_side, has_management, Addressee, LinkLayer, BareReport, addressee, of_service, aim_at, is_ui, message_at, group_service, LayerStands, Serves, always, told_in}
 use Rattle.lapd_frame.specs.declared.notes.Note.TheVariants as notes
 use Rattle.model_link.specs.Events as link
 use Rattle.lapd_tei.specs.Events as teis
@@ -9,12 +9,12 @@ use Rattle.lapd_line.specs.Reports.{IsClear}
 use Rattle.lapd_line.proofs.ReportSteps.{clear_tells_nothing}
 
 -- one aim is the other, for every past that stands
-pub serves_as : {aim' aim : Line → Aim} {octets : List ℕ} {e new : LinkLayer} {s t : Store} {o : BareReport} → ((others : List Owned) (m : Line) → Stands e s others m → aim m ≡ aim' m)
+pub serves_as : {aim' aim : Line → Aim} {octets : List ℕ} {e new : LinkLayer} {s t : Store} {o : BareReport} → ((others : List Owned) (m : Line) → LayerStands e s others m → aim m ≡ aim' m)
     → Serves aim' octets e s new t o → Serves aim octets e s new t o
 serves_as {aim'} {aim} {octets} {e} {new} {s} {t} {o} same h = record {
   config = h.config;
   limits = h.limits;
-  stands = λ others m st. subst (λ a. Stands new t others (of_aim e.config a m).line) (sym (same others m st)) (h.stands others m st);
+  stands = λ others m st. subst (λ a. LayerStands new t others (of_aim e.config a m).line) (sym (same others m st)) (h.stands others m st);
   told = λ others m st. h.told others m st ∙ ap (λ a. (of_aim e.config a m).told) (sym (same others m st));
 }
 
@@ -34,7 +34,7 @@ module _ (l : Line) (what : link.Received) (to_management : Aim) where
   addressed-aimed address = grind (arith, to_service-aimed)
 
 pub aimed : (e : LinkLayer) (s : Store) (others : List Owned) (m : Line) (address : Address) (what : link.Received) (to_management : Aim) (whom : Addressee)
-    → whom ≡ addressee e.teis address → Stands e s others m → addressed m address what to_management ≡ aim_at whom what to_management
+    → whom ≡ addressee e.teis address → LayerStands e s others m → addressed m address what to_management ≡ aim_at whom what to_management
 aimed e s others m address what to_management whom is st = grind (arith, addressed-aimed)
 
 -- octets that are no more than so many have nothing after them

@@ -1,5 +1,5 @@
 -- The octets that a line holds: their sums, and that there are few.
-use Rattle.lapd_line.proofs.Vocabulary.{◌≡◌, ℕ, ◌+◌, ◌*◌, ◌/◌, ◌<◌, ◌≤◌, Bool, List, [], ◌∷◌, length, reverse, nat_lt, cond, Option, Some, refl, ap, zero, suc, ◌∙◌, arith, ltb-false, All-head, All-tail, sum_by-cons, same_Some, All, sum_by, range_with_len, option_map_or, unwrap_or, bits, octets_held, kept_count, open_gap, unstuffed, room_for, Network, spelling, Owned, Store, Link, Fits, terms_of, Terms, frame_of, held, IsWaitingFrame, Config, Line, link_count, service_at, terms, IsSoundAt, held_by_link, LinkLayer, Stands, HasTerms, LinksStand, machine_at}
+use Rattle.lapd_line.proofs.Vocabulary.{◌≡◌, ℕ, ◌+◌, ◌*◌, ◌/◌, ◌<◌, ◌≤◌, Bool, List, [], ◌∷◌, length, reverse, nat_lt, cond, Option, Some, refl, ap, zero, suc, ◌∙◌, arith, ltb-false, All-head, All-tail, sum_by-cons, same_Some, All, sum_by, range_with_len, option_map_or, unwrap_or, bits, octets_held, kept_count, open_gap, unstuffed, room_for, Network, spelling, Owned, Store, Link, Fits, terms_of, Terms, frame_of, held, IsWaitingFrame, Config, Line, link_count, service_at, terms, IsSoundAt, held_by_link, LinkLayer, LayerStands, HasTerms, LinksStand, machine_at}
 use Rattle.model_link.specs.Link as machine
 use Rattle.lapd_line.proofs.LayerSteps.{beside_links, links_part}
 
@@ -35,7 +35,7 @@ held_at : (c : Config) (number : ℕ) (ts : Terms) (l : machine.Link) (o : Optio
     → held ts l ≡ held (terms c (service_at number) (unwrap_or o 0)) l
 held_at c number ts l o same is = grind arith
 
-pub held_there : (e : LinkLayer) (store : Store) (others : List Owned) (m : Line) (number : ℕ) (ts : Terms) → Stands e store others m → number < link_count e.config → HasTerms e.links number ts
+pub held_there : (e : LinkLayer) (store : Store) (others : List Owned) (m : Line) (number : ℕ) (ts : Terms) → LayerStands e store others m → number < link_count e.config → HasTerms e.links number ts
     → held ts (machine_at m.links number) ≡ held_by_link e.config m number
 held_there e store others m number ts st within has = grind (arith, held_at, same_Some)
 
@@ -45,7 +45,7 @@ terms_there (x ∷ links) zero within = (terms_of x, refl)
 terms_there (x ∷ links) (suc n) within = terms_there links n (omega (arith, within))
 
 -- so what is held for the link at a place is what the machine says
-pub held_place : (e : LinkLayer) (store : Store) (others : List Owned) (m : Line) (number result : ℕ) → Stands e store others m → number < link_count e.config
+pub held_place : (e : LinkLayer) (store : Store) (others : List Owned) (m : Line) (number result : ℕ) → LayerStands e store others m → number < link_count e.config
     → ((c : Config) (ts : Terms) (store : Store) (others : List Owned) (ms : List machine.Link) → HasTerms e.links number ts → LinksStand c e.links store others ms → result ≡ held ts (machine_at ms number))
     → result ≡ held_by_link e.config m number
 held_place e store others m number result st within h =

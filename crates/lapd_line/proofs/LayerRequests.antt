@@ -1,11 +1,10 @@
 -- Requests, and why they are refused.
-use Rattle.lapd_line.proofs.Vocabulary.{◌≡◌, ℕ, ◌+◌, ◌||◌, Bool, true, false, not, ◌≤◌, nat_lt, List, [], ◌∷◌, length, Option, Some, None, refl, sym, ap, subst, ◌∙◌, cond, arith, option_map_or, ltb-false, none-some, prefix_len, list_any, Refusal, BadTei, NoLink, WrongState, Service, serves, Terms, Places, is_on, place_of, IsAt, is_on-at, place_of-is, Config, Line, has_tei, link_of, link_in, place_in, terms, link_number, with_link, refusal, Establish, Release, Data, SetBusy, ClearBusy, Assign, Remove, Check, Owned, Store, Link, told_with, at_link, of_aim, told_of_link, at_requested, Marks, LinkLayer, BareReport, Stands, Standing, Serves, Sets, TellsOf, HasTerms, Refuses, machine_at, told_in, link_refusal, management_refusal, Deactivate}
+use Rattle.lapd_line.proofs.Vocabulary.{◌≡◌, ℕ, ◌+◌, ◌||◌, Bool, true, false, not, ◌≤◌, nat_lt, List, [], ◌∷◌, length, Option, Some, None, refl, sym, ap, subst, ◌∙◌, cond, arith, option_map_or, ltb-false, none-some, prefix_len, list_any, Refusal, BadTei, NoLink, WrongState, Service, serves, Terms, Places, is_on, place_of, IsAt, is_on-at, place_of-is, Config, Line, has_tei, link_of, link_in, place_in, terms, link_number, with_link, refusal, Establish, Release, Data, SetBusy, ClearBusy, Assign, Remove, Check, Owned, Store, Link, told_with, at_link, of_aim, told_of_link, at_requested, Marks, LinkLayer, BareReport, LayerStands, Standing, Serves, Sets, TellsOf, HasTerms, Refuses, machine_at, told_in, link_refusal, management_refusal, Deactivate}
 use Rattle.model_link.specs.Events as link
 use Rattle.model_link.specs.Link as machine
 use Rattle.model_link.specs.Machine as answers
 use Rattle.model_link.specs.Requests as links
 use Rattle.lapd_tei.specs.Events as teis
-use Rattle.lapd_line.specs.LinkLayer as layer
 use Rattle.lapd_line.specs.Links as all
 use Rattle.lapd_line.proofs.LayerSteps.{beside_links, links_part, named, numbered, at_link_serves}
 use Rattle.lapd_line.specs.declared.requests.TeiRequest.TheVariants as tei_request
@@ -64,7 +63,7 @@ pub off_line : (places : Places) (tei : ℕ) → place_of tei places ≡ None �
 off_line places tei = grind (arith, nat_lt, none-some, none_any, ltb-false)
 
 -- where the link of a request is, the link refuses, or not
-module _ (e : LinkLayer) (s : Store) (others : List Owned) (m : Line) (st : Stands e s others m) (service : Service) (tei : ℕ) (full : Bool) (request : link.Request) where
+module _ (e : LinkLayer) (s : Store) (others : List Owned) (m : Line) (st : LayerStands e s others m) (service : Service) (tei : ℕ) (full : Bool) (request : link.Request) where
   pub no_link : nat_lt 126 tei ≡ false → place_of tei e.teis.places ≡ None → link_refusal e.config full service tei request m ≡ Some NoLink
   no_link low none =
       ap (λ b. cond b (Some BadTei) (cond (not (has_tei tei m)) (Some NoLink) (links.refusal (terms e.config service tei) (link_of service tei m) full request))) low
@@ -84,7 +83,7 @@ module _ (e : LinkLayer) (s : Store) (others : List Owned) (m : Line) (st : Stan
       ∙ refuses e.config (terms e.config service tei) (beside_links e m others) m.links (subst (λ x. HasTerms e.links x (terms e.config service tei)) (sym same) n.has_terms) (links_part e s others m st)
 
 -- a deactivation is refused where there is no link, and granted where there is one
-module _ (e : LinkLayer) (s : Store) (others : List Owned) (m : Line) (st : Stands e s others m) (service : Service) (tei : ℕ) where
+module _ (e : LinkLayer) (s : Store) (others : List Owned) (m : Line) (st : LayerStands e s others m) (service : Service) (tei : ℕ) where
   pub deactivated_refused : nat_lt 126 tei ≡ false → place_of tei e.teis.places ≡ None → refusal e.config false (Deactivate service tei) m ≡ Some NoLink
   deactivated_refused low none =
       ap (λ b. cond b (Some BadTei) (cond (not (has_tei tei m)) (Some NoLink) None)) low
@@ -113,11 +112,11 @@ asked_serves e s t new awake service tei place number full request answer outcom
     record {
       config = refl;
       limits = whole.limits;
-      stands = λ others m st. subst (λ o. layer.Stands (record e { links = new; awake = awake }) t others o.line) (one others m st at same) (whole.stands others m st);
+      stands = λ others m st. subst (λ o. LayerStands (record e { links = new; awake = awake }) t others o.line) (one others m st at same) (whole.stands others m st);
       told = λ others m st. whole.told others m st ∙ ap (λ o. o.told) (one others m st at same);
     }
   where
-    one : (others : List Owned) (m : Line) → Stands e s others m → IsAt e.teis.places place tei → number ≡ link_number place service
+    one : (others : List Owned) (m : Line) → LayerStands e s others m → IsAt e.teis.places place tei → number ≡ link_number place service
         → of_aim e.config (at_link service tei place (link.requested request full)) m ≡ of_aim e.config (at_requested service tei request (place_in m tei)) m
     one others m st at same =
         let n = named e s others m service tei place st at in

@@ -1,5 +1,5 @@
 -- What a call on the links does to the entities of a line.
-use Rattle.lapd_line.proofs.Vocabulary.{◌≡◌, ℕ, ◌<◌, ◌≤◌, List, ◌++◌, length, slice_get, Option, Some, refl, sym, ap, subst, ◌∙◌, arith, append_assoc, get_or, None, Owned, Holds, Store, SameLimits, Service, Link, told_with, state_number, IsAt, place_of, at-within, place_of-is, Line, link_number, link_count, service_at, place_at, tei_at, terms, state_in, state_of, at_link, told_of_link, IsSound, place_at-number, service_at-number, number_within, aim_sound, ranges_of, LinkLayer, BareReport, told_in, unit_pairs, UnitRing, AreFor, Marks, Sets, AreAwake, TellsOf, Bool, LinksStand, HasTerms, links_pairs, terms_in, machine_at, LinkFits, Stands, Standing, Serves, always, Config, Management, All, zip}
+use Rattle.lapd_line.proofs.Vocabulary.{◌≡◌, ℕ, ◌<◌, ◌≤◌, List, ◌++◌, length, slice_get, Option, Some, refl, sym, ap, subst, ◌∙◌, arith, append_assoc, get_or, None, Owned, Holds, Store, SameLimits, Service, Link, told_with, state_number, IsAt, place_of, at-within, place_of-is, Line, link_number, link_count, service_at, place_at, tei_at, terms, state_in, state_of, at_link, told_of_link, IsSound, place_at-number, service_at-number, number_within, aim_sound, ranges_of, LinkLayer, BareReport, told_in, unit_pairs, UnitRing, AreFor, Marks, Sets, AreAwake, TellsOf, Bool, LinksStand, HasTerms, links_pairs, terms_in, machine_at, LinkFits, LayerStands, Standing, Serves, always, Config, Management, All, zip}
 use Rattle.std.specs.Option.{option_map}
 use Rattle.model_link.specs.Events as event
 use Rattle.model_link.specs.Link as machine
@@ -8,10 +8,10 @@ use Rattle.lapd_line.proofs.AwakeSteps.{awake_set}
 use Rattle.lapd_line.proofs.LinkSteps.{same_many}
 
 -- The entities stand again where the links are as they were, and what else differs is said anew.
-pub stands_as : {e : LinkLayer} {s : Store} {others : List Owned} {m : Line} → Stands e s others m → (teis : Management) (units : UnitRing) (t : Store) (rest : List Owned) (l : Line)
+pub stands_as : {e : LinkLayer} {s : Store} {others : List Owned} {m : Line} → LayerStands e s others m → (teis : Management) (units : UnitRing) (t : Store) (rest : List Owned) (l : Line)
     → (l.links ≡ m.links) × (l.turn ≡ m.turn) × (l.management.places ≡ m.management.places) × (units.capacity ≡ e.units.capacity)
     → e.config.n201 ≤ t.width → IsSound e.config l → l.management ≡ teis → AreFor units.waiting l.units → Holds t ((links_pairs e.links l.links ++ unit_pairs units.waiting l.units) ++ rest)
-    → Stands (record e { teis = teis; units = units }) t rest l
+    → LayerStands (record e { teis = teis; units = units }) t rest l
 stands_as {e} st teis units t rest l same wide sound management addressed held = record {
   range = st.range;
   wide = wide;
@@ -31,15 +31,15 @@ stands_as {e} st teis units t rest l same wide sound management addressed held =
 abbrev pub beside_links : LinkLayer → Line → List Owned → List Owned
 beside_links e m others = unit_pairs e.units.waiting m.units ++ others
 
-pub links_part : (e : LinkLayer) (s : Store) (others : List Owned) (m : Line) → Stands e s others m → LinksStand e.config e.links s (beside_links e m others) m.links
+pub links_part : (e : LinkLayer) (s : Store) (others : List Owned) (m : Line) → LayerStands e s others m → LinksStand e.config e.links s (beside_links e m others) m.links
 links_part e s others m st = grind (arith, append_assoc)
 
 -- the way back: where the links and their machines have changed, and the turn, and nothing else
 pub links_turned : (e : LinkLayer) (s t : Store) (others : List Owned) (m : Line) (new : List Link) (ms : List machine.Link) (awake : Marks) (turn turn' : ℕ)
-    → Stands e s others m → terms_in new ≡ terms_in e.links → SameLimits s t
+    → LayerStands e s others m → terms_in new ≡ terms_in e.links → SameLimits s t
     → IsSound e.config (record m { links = ms; turn = turn })
     → LinksStand e.config new t (beside_links e m others) ms → AreAwake awake new ms → turn ≡ turn'
-    → Stands (record e { links = new; awake = awake; turn = turn' }) t others (record m { links = ms; turn = turn })
+    → LayerStands (record e { links = new; awake = awake; turn = turn' }) t others (record m { links = ms; turn = turn })
 links_turned e s t others m new ms awake turn turn' st same limits sound stand are_awake turns = record {
   range = st.range;
   wide = stand.wide;
@@ -56,10 +56,10 @@ links_turned e s t others m new ms awake turn turn' st same limits sound stand a
 }
 
 pub links_back : (e : LinkLayer) (s t : Store) (others : List Owned) (m : Line) (new : List Link) (ms : List machine.Link) (awake : Marks)
-    → Stands e s others m → terms_in new ≡ terms_in e.links → SameLimits s t
+    → LayerStands e s others m → terms_in new ≡ terms_in e.links → SameLimits s t
     → IsSound e.config (record m { links = ms })
     → LinksStand e.config new t (beside_links e m others) ms → AreAwake awake new ms
-    → Stands (record e { links = new; awake = awake }) t others (record m { links = ms })
+    → LayerStands (record e { links = new; awake = awake }) t others (record m { links = ms })
 links_back e s t others m new ms awake st same limits sound stand are_awake = links_turned e s t others m new ms awake m.turn e.turn st same limits sound stand are_awake st.turn
 
 -- the link of a service with the TEI at a place: where it is, and its parameters
@@ -68,7 +68,7 @@ pub record Named (e : LinkLayer) (service : Service) (tei place : ℕ) : Type 0 
   pub few : link_number place service < link_count e.config
   pub has_terms : HasTerms e.links (link_number place service) (terms e.config service tei)
 
-pub named : (e : LinkLayer) (s : Store) (others : List Owned) (m : Line) (service : Service) (tei place : ℕ) → Stands e s others m → IsAt e.teis.places place tei → Named e service tei place
+pub named : (e : LinkLayer) (s : Store) (others : List Owned) (m : Line) (service : Service) (tei place : ℕ) → LayerStands e s others m → IsAt e.teis.places place tei → Named e service tei place
 named e s others m service tei place st at =
     let number = link_number place service in
     let at' : IsAt m.management.places place tei = subst (λ t. IsAt t.places place tei) (sym st.management) at in
@@ -82,7 +82,7 @@ named e s others m service tei place st at =
     }
 
 -- at most eight places
-pub few_places : (e : LinkLayer) (s : Store) (others : List Owned) (m : Line) → Stands e s others m → length e.teis.places ≤ 8
+pub few_places : (e : LinkLayer) (s : Store) (others : List Owned) (m : Line) → LayerStands e s others m → length e.teis.places ≤ 8
 few_places e s others m st = omega (arith, ap (λ t. length t.places) st.management, st.sound.places, (ranges_of e.config st.range).terminals.most)
 
 -- so the number of a link is exact
@@ -131,7 +131,7 @@ at_link_serves {e} {s} {t} {new} {awake} {service} {tei} {place} {number} {what}
     }
 
 -- the state of a link of a TEI on the line
-pub state_is : (e : LinkLayer) (s : Store) (others : List Owned) (m : Line) (service : Service) (tei place number : ℕ) (result : Option ℕ) → Stands e s others m → place_of tei e.teis.places ≡ Some place
+pub state_is : (e : LinkLayer) (s : Store) (others : List Owned) (m : Line) (service : Service) (tei place number : ℕ) (result : Option ℕ) → LayerStands e s others m → place_of tei e.teis.places ≡ Some place
     → (place ≤ 8 → number ≡ link_number place service)
     → (number < length e.links → LinksStand e.config e.links s (beside_links e m others) m.links → result ≡ Some (state_number (machine_at m.links number).state))
     → result ≡ state_of service tei m

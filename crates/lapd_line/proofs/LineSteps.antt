@@ -3,7 +3,7 @@ use Rattle.lapd_line.proofs.Vocabulary.{◌≡◌, fold-append, List, [], ◌++�
 use Rattle.model_bits.specs.Stream as stream
 use Rattle.lapd_count.specs.Counters.{with_more}
 use Rattle.model_line.specs.Line as machine
-use Rattle.lapd_line.specs.LinkLayer as layer
+use Rattle.lapd_line.specs.LinkLayer.{LayerStands}
 use Rattle.lapd_line.specs.Reports.{octets_of}
 use Rattle.lapd_line.specs.Stands.{Stands}
 use Rattle.lapd_line.proofs.Silent.{expiry_silent, silent_told}
@@ -21,7 +21,7 @@ counted_twice k a b = sym (fold-append with_more k a b)
 
 -- So it leads the line on.
 pub leads_on : {event : Event} {old new : FrameLine} {s t : Store} {e : LinkLayer} (all : List More) → e.config ≡ config_of old → SameLimits s t
-    → ((others : List Owned) (m : machine.Line) → Stands old s others m → layer.Stands e t others (after (config_of old) event m))
+    → ((others : List Owned) (m : machine.Line) → Stands old s others m → LayerStands e t others (after (config_of old) event m))
     → ((others : List Owned) (m : machine.Line) → Stands old s others m → shown (config_of old) event (answer (config_of old) event m) ≡ all)
     → new ≡ gone_on old e all → Leads event old s new t
 leads_on {event} {old} {t = t} all config limits goes are is = record {
@@ -64,7 +64,7 @@ dropped_leads {old} s cause o says is = record {
 
 -- a timer has expired
 pub expiry_told : {e new : LinkLayer} {s t : Store} {o : BareReport} (timer : Timer) → Serves (aim_of_expiry timer) [] e s new t o
-    → (others : List Owned) (m : machine.Line) → layer.Stands e s others m → told (told_beside None o) ≡ answer e.config (expiry timer) m
+    → (others : List Owned) (m : machine.Line) → LayerStands e s others m → told (told_beside None o) ≡ answer e.config (expiry timer) m
 unfolding answer
 expiry_told {e} {o = o} timer served others m st = ap told (silent_told o (served.told others m st) (expiry_silent e.config m timer))
 

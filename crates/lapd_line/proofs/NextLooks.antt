@@ -1,5 +1,5 @@
 -- Whether a frame waits.
-use Rattle.lapd_line.proofs.Vocabulary.{◌≡◌, ℕ, zero, suc, ◌+◌, ◌-◌, ◌<◌, ◌≤◌, Bool, true, false, ◌||◌, List, [], ◌∷◌, slice_get, Option, Some, None, is_some, option_map, option_or, option_map_or, refl, sym, ap, ◌∙◌, arith, false≢true, inl, inr, cases_eq, same_Some, length-map, Side, Owned, Store, Terms, Given, given, terms_of, Config, Line, UnitData, link_at, link_count, terms_at, Taken, link_taken, first_taken, round, with_given_frame, LinkLayer, IsMark, AreMarked, gives, gives_at, machine_at, terms_in, Stands, AreFor, QueuedUnit}
+use Rattle.lapd_line.proofs.Vocabulary.{◌≡◌, ℕ, zero, suc, ◌+◌, ◌-◌, ◌<◌, ◌≤◌, Bool, true, false, ◌||◌, List, [], ◌∷◌, slice_get, Option, Some, None, is_some, option_map, option_or, option_map_or, refl, sym, ap, ◌∙◌, arith, false≢true, inl, inr, cases_eq, same_Some, length-map, Side, Owned, Store, Terms, Given, given, terms_of, Config, Line, UnitData, link_at, link_count, terms_at, Taken, link_taken, first_taken, round, with_given_frame, LinkLayer, IsMark, AreMarked, gives, gives_at, machine_at, terms_in, LayerStands, AreFor, QueuedUnit}
 use Rattle.std.proofs.lemmas.Bool.{cases_lt}
 use Rattle.std.proofs.lemmas.Option.{slice_get_within}
 use Rattle.lapd_tei.specs.Events.{offered}
@@ -38,7 +38,7 @@ some_among c m from (suc n) number low high some =
           ∙ or_true (is_some (link_taken c m from))
     ]
 
-module _ (e : LinkLayer) (s : Store) (others : List Owned) (m : Line) (st : Stands e s others m) where
+module _ (e : LinkLayer) (s : Store) (others : List Owned) (m : Line) (st : LayerStands e s others m) where
   -- a link that is awake is there,
   pub there : (number : ℕ) → number < 64 → IsMark e.awake number true → number < link_count e.config
   there number few awake = go (slice_get (terms_in e.links) number) refl (marked (gives_at e.links m.links number) (sym awake ∙ st.awake number few))

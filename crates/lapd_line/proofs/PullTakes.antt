@@ -1,5 +1,5 @@
 -- What a pull takes: the entities and the line without it.
-use Rattle.lapd_line.proofs.Vocabulary.{arith, ◌≡◌, List, Option, Some, None, ◌∙◌, subst, option_or, Order, Owned, Store, Config, Line, Taken, LinkLayer, Stands, Loading, Took, Takes}
+use Rattle.lapd_line.proofs.Vocabulary.{arith, ◌≡◌, List, Option, Some, None, ◌∙◌, subst, option_or, Order, Owned, Store, Config, Line, Taken, LinkLayer, LayerStands, Loading, Took, Takes}
 
 -- what one source gives, or else another
 pub takes_or : {first second : Config → Line → Option Taken} {a b c : LinkLayer} {s t u : Store} {f g h : Loading} {orders : Option (List Order)}
@@ -13,7 +13,7 @@ takes_or {first} {second} {a} {b} {c} {s} {t} {u} {f} {g} {h} {orders} none then
   took = λ others m st. go others m (first a.config m) (none.took others m st);
 }
   where
-    again : (others : List Owned) (m : Line) → Stands b t others m → g ≡ f → Took (second a.config m) orders m c u others f h
+    again : (others : List Owned) (m : Line) → LayerStands b t others m → g ≡ f → Took (second a.config m) orders m c u others f h
     again others m st same = grind arith
 
     go : (others : List Owned) (m : Line) (o : Option Taken) → Took o None m b t others f g → Took (option_or o (second a.config m)) orders m c u others f h
@@ -34,7 +34,7 @@ takes_first second {first} {a} {b} {s} {t} {f} {g} {orders} some = record {
 
 -- the same of two sources that are the same for every past that stands
 pub takes_as : {first second : Config → Line → Option Taken} {a b : LinkLayer} {s t : Store} {f g : Loading} {orders : Option (List Order)}
-    → ((others : List Owned) (m : Line) → Stands a s others m → first a.config m ≡ second a.config m)
+    → ((others : List Owned) (m : Line) → LayerStands a s others m → first a.config m ≡ second a.config m)
     → Takes first a s f b t g orders → Takes second a s f b t g orders
 takes_as {first} {second} {a} {b} {s} {t} {f} {g} {orders} same h = record {
   config = h.config;

@@ -1,5 +1,5 @@
 -- What a pull takes of the links.
-use Rattle.lapd_line.proofs.Vocabulary.{◌≡◌, ◌⊎◌, inl, inr, Bool, true, false, ℕ, zero, suc, ◌+◌, ◌-◌, ◌≤◌, ◌<◌, List, [], ◌∷◌, ◌++◌, length, take, drop, get_or, slice_get, Option, Some, None, option_map, IfSome, refl, ap, sym, ◌∙◌, subst, arith, none-some, slice_get_cases, slice_get-map, range_with_len, option_or, unwrap_or, Order, IsFrame, spelling, listed, Owned, Store, IsUsed, Link, Offer, contents_in, HasMessage, terms_of, Terms, frame_of, given, Given, Config, Line, link_at, link_count, place_at, service_at, tei_at, terms, terms_at, Taken, with_given_frame, link_taken, first_taken, round, IsSoundAt, fresh_gives_nothing, TakesSoundly, link_sound, ranges_of, is_some, false≢true, ShortList, orders_taken, IsMark, Sets, TellsOf, given_by, LinkLayer, Stands, Standing, HasTerms, IsGiven, Offers, terms_in, Loading, Loads, room_in, reference_in, IsFree, HasTaken, Took, Takes}
+use Rattle.lapd_line.proofs.Vocabulary.{◌≡◌, ◌⊎◌, inl, inr, Bool, true, false, ℕ, zero, suc, ◌+◌, ◌-◌, ◌≤◌, ◌<◌, List, [], ◌∷◌, ◌++◌, length, take, drop, get_or, slice_get, Option, Some, None, option_map, IfSome, refl, ap, sym, ◌∙◌, subst, arith, none-some, slice_get_cases, slice_get-map, range_with_len, option_or, unwrap_or, Order, IsFrame, spelling, listed, Owned, Store, IsUsed, Link, Offer, contents_in, HasMessage, terms_of, Terms, frame_of, given, Given, Config, Line, link_at, link_count, place_at, service_at, tei_at, terms, terms_at, Taken, with_given_frame, link_taken, first_taken, round, IsSoundAt, fresh_gives_nothing, TakesSoundly, link_sound, ranges_of, is_some, false≢true, ShortList, orders_taken, IsMark, Sets, TellsOf, given_by, LinkLayer, LayerStands, Standing, HasTerms, IsGiven, Offers, terms_in, Loading, Loads, room_in, reference_in, IsFree, HasTaken, Took, Takes}
 use Rattle.lapd_store.specs.Store.{contents_of}
 use Rattle.model_link.specs.Machine.{after}
 use Rattle.lapd_line.proofs.AwakeSteps.{awake_set, awake_gives}
@@ -14,7 +14,7 @@ pub record Known (e : LinkLayer) (m : Line) (number : ℕ) : Type 0 where
   pub none : given t (link_at number m) ≡ None → given (terms_at e.config number m) (link_at number m) ≡ None
   pub some : (g : Given) → given t (link_at number m) ≡ Some g → HasTerms e.links number (terms_at e.config number m)
 
-pub known : (e : LinkLayer) (s : Store) (others : List Owned) (m : Line) (number : ℕ) → number < link_count e.config → Stands e s others m → Known e m number
+pub known : (e : LinkLayer) (s : Store) (others : List Owned) (m : Line) (number : ℕ) → number < link_count e.config → LayerStands e s others m → Known e m number
 known e s others m number few st = go (tei_at (place_at number) m) refl (st.sound.links number few) (slice_get_cases e.links number).1
   where
     go : (o : Option ℕ) → tei_at (place_at number) m ≡ o → IsSoundAt e.config number (link_at number m) o
@@ -61,7 +61,7 @@ record Gives (e : LinkLayer) (s : Store) (m : Line) (number : ℕ) (o : Offer) :
   pub has : HasTerms e.links number (terms_at e.config number m)
   pub is : IsGiven s (terms_at e.config number m) (link_at number m) (Some o)
 
-gives : (e : LinkLayer) (s : Store) (others : List Owned) (m : Line) (number : ℕ) (new : List Link) (o : Offer) → number < link_count e.config → Stands e s others m
+gives : (e : LinkLayer) (s : Store) (others : List Owned) (m : Line) (number : ℕ) (new : List Link) (o : Offer) → number < link_count e.config → LayerStands e s others m
     → Offers number e.links new (Some o) → Gives e s m number o
 gives e s others m number new o few st offers =
     let k = known e s others m number few st in
@@ -175,7 +175,7 @@ no_value : {A : Type 0} (o : Option A) → is_some o ≡ false → o ≡ None
 no_value o none = grind arith
 
 -- links that are asleep have nothing to give
-pub asleep_gives_nothing : (e : LinkLayer) (s : Store) (others : List Owned) (m : Line) (number : ℕ) → number < link_count e.config → Stands e s others m → IsMark e.awake number false → link_taken e.config m number ≡ None
+pub asleep_gives_nothing : (e : LinkLayer) (s : Store) (others : List Owned) (m : Line) (number : ℕ) → number < link_count e.config → LayerStands e s others m → IsMark e.awake number false → link_taken e.config m number ≡ None
 asleep_gives_nothing e s others m number few st asleep =
     let k = known e s others m number few st in
     let low = low_link e s number (others, m, st) few in
@@ -261,7 +261,7 @@ take_range a n zero h = refl
 take_range a zero (suc t) h = absurd (omega (arith, h))
 take_range a (suc n) (suc t) h = ap (λ l. a ∷ l) (take_range (a + 1) n t (omega (arith, h)))
 
-pub round_is : (e : LinkLayer) (s : Store) (others : List Owned) (m : Line) → Stands e s others m
+pub round_is : (e : LinkLayer) (s : Store) (others : List Owned) (m : Line) → LayerStands e s others m
     → option_or (among e.turn (link_count e.config - e.turn) e.config m) (among 0 (e.turn - 0) e.config m) ≡ first_taken e.config m (round e.config m)
 round_is e s others m st =
     let n = link_count e.config in

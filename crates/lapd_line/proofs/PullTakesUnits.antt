@@ -1,5 +1,5 @@
 -- What a pull takes of the unit data that waits.
-use Rattle.lapd_line.proofs.Vocabulary.{◌≡◌, ℕ, ◌≤◌, ◌<◌, List, [], ◌∷◌, ◌++◌, length, drop, slice_get, Some, None, option_map, true, false, refl, ap, sym, ◌∙◌, subst, arith, length-drop, All-head, All-drop, none-some, same_Some, Ui, Service, IsFrame, spelling, sapi_of, Owned, Holds, Keeps, Store, SameLimits, IsUsed, without, Part, second_part, Keeps-used, Keeps-at, Keeps-release, Config, Line, UnitData, with_unit, unit_taken, IsUnitData, LinkLayer, QueuedUnit, Stands, links_pairs, AreFor, messages_of, unit_pairs, without_oldest, Loading, Loads, room_in, reference_in, HasTaken, Took, Takes}
+use Rattle.lapd_line.proofs.Vocabulary.{◌≡◌, ℕ, ◌≤◌, ◌<◌, List, [], ◌∷◌, ◌++◌, length, drop, slice_get, Some, None, option_map, true, false, refl, ap, sym, ◌∙◌, subst, arith, length-drop, All-head, All-drop, none-some, same_Some, Ui, Service, IsFrame, spelling, sapi_of, Owned, Holds, Keeps, Store, SameLimits, IsUsed, without, Part, second_part, Keeps-used, Keeps-at, Keeps-release, Config, Line, UnitData, with_unit, unit_taken, IsUnitData, LinkLayer, QueuedUnit, LayerStands, links_pairs, AreFor, messages_of, unit_pairs, without_oldest, Loading, Loads, room_in, reference_in, HasTaken, Took, Takes}
 use Rattle.std.specs.Prelude.{All}
 use Rattle.lapd_store.specs.Store.{contents_of}
 use Rattle.lapd_line.specs.Units.{slots_of}
@@ -43,11 +43,11 @@ oldest_of c s (x ∷ us) (d ∷ ds) rest u is (service, tei, same) all held =
     })
 
 -- the units of a line stand beside its links and what others own
-abbrev pub beside_units : (e : LinkLayer) (s : Store) (others : List Owned) (m : Line) → Stands e s others m
+abbrev pub beside_units : (e : LinkLayer) (s : Store) (others : List Owned) (m : Line) → LayerStands e s others m
     → Part s (unit_pairs e.units.waiting m.units) (λ new. (links_pairs e.links m.links ++ new) ++ others)
 beside_units e s others m st = second_part s (links_pairs e.links m.links) (unit_pairs e.units.waiting m.units) others st.held
 
-pub oldest : (e : LinkLayer) (s : Store) (others : List Owned) (m : Line) (u : QueuedUnit) (st : Stands e s others m) → slice_get e.units.waiting 0 ≡ Some u
+pub oldest : (e : LinkLayer) (s : Store) (others : List Owned) (m : Line) (u : QueuedUnit) (st : LayerStands e s others m) → slice_get e.units.waiting 0 ≡ Some u
     → Oldest e.config s e.units.waiting m.units (beside_units e s others m st).rest u
 oldest e s others m u st is =
     oldest_of e.config s e.units.waiting m.units (beside_units e s others m st).rest u is st.addressed st.sound.units
@@ -61,8 +61,8 @@ pub is_frame : (service : Service) (sapi tei : ℕ) → sapi ≡ sapi_of service
 is_frame service sapi tei is fits = record { sapi = omega (arith, is, sapi_small service); tei = omega (arith, fits); kind = refl; size = refl }
 
 -- without the oldest
-pub without_unit : (e : LinkLayer) (s t : Store) (others : List Owned) (m : Line) (u : QueuedUnit) → Stands e s others m → slice_get e.units.waiting 0 ≡ Some u
-    → t ≡ without s u.slot → Stands (record e { units = without_oldest e.units }) t others (record m { units = drop 1 m.units })
+pub without_unit : (e : LinkLayer) (s t : Store) (others : List Owned) (m : Line) (u : QueuedUnit) → LayerStands e s others m → slice_get e.units.waiting 0 ≡ Some u
+    → t ≡ without s u.slot → LayerStands (record e { units = without_oldest e.units }) t others (record m { units = drop 1 m.units })
 without_unit e s t others m u st is free =
     let o = oldest e s others m u st is in
     stands_as st e.teis (without_oldest e.units) t others (record m { units = drop 1 m.units }) (refl, refl, refl, refl) (subst (λ x. e.config.n201 ≤ x.width) (sym free) st.wide)

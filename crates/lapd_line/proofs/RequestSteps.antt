@@ -6,7 +6,7 @@ use Rattle.model_line.specs.declared.requests.Request as asking
 use Rattle.model_link.specs.Events as link
 use Rattle.lapd_link.specs.declared.requests.LinkRequest as links
 use Rattle.lapd_link.specs.Events.{request_of as link_request_of}
-use Rattle.lapd_line.specs.LinkLayer as layer
+use Rattle.lapd_line.specs.LinkLayer.{LayerStands}
 use Rattle.lapd_line.proofs.LayerRequests.{establish_rows, release_rows, data_rows, set_busy_rows, clear_busy_rows}
 use Rattle.std.proofs.lemmas.Result.{IfErr-weaker}
 use Rattle.lapd_line.proofs.LinkSteps.{on_ok}
@@ -16,12 +16,12 @@ use Rattle.lapd_line.proofs.Silent.{request_silent, silent_told}
 -- a request that is this one is refused, or granted, as this one
 module _ {X : Type 0} (e : LinkLayer) (s : Store) (full : Bool) {r this : Request} (is : r ≡ this) {f : machine.Line → Option Refusal}
     (same : (m : machine.Line) → refusal e.config full this m ≡ f m) (result : Result X Refusal) where
-  pub refused_as : IfErr result (λ why. (others : List Owned) (m : machine.Line) → layer.Stands e s others m → f m ≡ Some why)
-      → IfErr result (λ why. (others : List Owned) (m : machine.Line) → layer.Stands e s others m → refusal e.config full r m ≡ Some why)
+  pub refused_as : IfErr result (λ why. (others : List Owned) (m : machine.Line) → LayerStands e s others m → f m ≡ Some why)
+      → IfErr result (λ why. (others : List Owned) (m : machine.Line) → LayerStands e s others m → refusal e.config full r m ≡ Some why)
   refused_as h = IfErr-weaker result _ _ (λ why k. λ others m st. ap (λ x. refusal e.config full x m) is ∙ same m ∙ k others m st) h
 
-  pub granted_as : OnOk result ((others : List Owned) (m : machine.Line) → layer.Stands e s others m → f m ≡ None)
-      → OnOk result ((others : List Owned) (m : machine.Line) → layer.Stands e s others m → refusal e.config full r m ≡ None)
+  pub granted_as : OnOk result ((others : List Owned) (m : machine.Line) → LayerStands e s others m → f m ≡ None)
+      → OnOk result ((others : List Owned) (m : machine.Line) → LayerStands e s others m → refusal e.config full r m ≡ None)
   granted_as h = on_ok result (λ k. λ others m st. ap (λ x. refusal e.config full x m) is ∙ same m ∙ k others m st) h
 
 -- and what is done for its aim is done for the request
@@ -79,8 +79,8 @@ with_room c full Down l e = e
 
 -- the entities tell what the machine answers to a request that is granted
 pub request_told : {e new : LinkLayer} {s t : Store} {o : BareReport} (full : Bool) (r : Request)
-    → ((others : List Owned) (m : machine.Line) → layer.Stands e s others m → refusal e.config full r m ≡ None) → Serves (aim_of_request r) [] e s new t o
-    → (others : List Owned) (m : machine.Line) → layer.Stands e s others m → told (told_beside None o) ≡ answer e.config (line_event.request r) m
+    → ((others : List Owned) (m : machine.Line) → LayerStands e s others m → refusal e.config full r m ≡ None) → Serves (aim_of_request r) [] e s new t o
+    → (others : List Owned) (m : machine.Line) → LayerStands e s others m → told (told_beside None o) ≡ answer e.config (line_event.request r) m
 unfolding answer
 request_told {e} {o = o} full r granted served others m st =
     ap told (silent_told o (served.told others m st) (request_silent e.config m r))
@@ -88,14 +88,14 @@ request_told {e} {o = o} full r granted served others m st =
 
 -- and the line goes on
 pub requested : {old new : FrameLine} {s : Store} {e : LinkLayer} {t : Store} {o : BareReport} (full : Bool) (r : Request)
-    → ((others : List Owned) (m : machine.Line) → layer.Stands old.layer s others m → refusal (config_of old) full r m ≡ None)
+    → ((others : List Owned) (m : machine.Line) → LayerStands old.layer s others m → refusal (config_of old) full r m ≡ None)
     → Serves (aim_of_request r) [] old.layer s e t o → new ≡ gone_on old e (bare_shown o) → Leads (line_event.request r) old s new t
 unfolding after answer
 requested {old} {s = s} {e} {t} {o} full r granted served is =
     let c = config_of old in
     leads_on {event = line_event.request r} (bare_shown o) served.config served.limits
     (λ others m st.
-    subst (λ why. layer.Stands e t others (of_aim c (unless_refused why (aim_of_request r m)) m).line) (sym (with_room c full r m (granted others m st.layer)))
+    subst (λ why. LayerStands e t others (of_aim c (unless_refused why (aim_of_request r m)) m).line) (sym (with_room c full r m (granted others m st.layer)))
     (served.stands others m st.layer))
     (λ others m st.
     ap (λ why. answer_shown c.side (unless_refused_told why (of_aim c (unless_refused why (aim_of_request r m)) m))) (with_room c full r m (granted others m st.layer))

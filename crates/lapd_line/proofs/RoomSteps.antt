@@ -1,11 +1,11 @@
 -- The room of a link of a line.
-use Rattle.lapd_line.proofs.Vocabulary.{◌≡◌, ℕ, ◌<◌, ◌≤◌, Bool, true, false, not, nat_lt, List, length, Option, Some, None, Result, Err, sym, ap, subst, ◌∙◌, cond, option_map_or, ok_or, Refusal, BadTei, NoLink, Service, Owned, Store, is_on, place_of, is_on-at, place_of-is, Room, Terms, room_of, Config, Line, has_tei, link_in, link_number, link_of, terms, unless, LinkLayer, Stands, HasTerms, LinksStand, machine_at}
+use Rattle.lapd_line.proofs.Vocabulary.{◌≡◌, ℕ, ◌<◌, ◌≤◌, Bool, true, false, not, nat_lt, List, length, Option, Some, None, Result, Err, sym, ap, subst, ◌∙◌, cond, option_map_or, ok_or, Refusal, BadTei, NoLink, Service, Owned, Store, is_on, place_of, is_on-at, place_of-is, Room, Terms, room_of, Config, Line, has_tei, link_in, link_number, link_of, terms, unless, LinkLayer, LayerStands, HasTerms, LinksStand, machine_at}
 use Rattle.model_link.specs.Link as machine
 use Rattle.model_line.specs.Room.{room_in}
 use Rattle.lapd_line.proofs.LayerRequests.{off_line}
 use Rattle.lapd_line.proofs.LayerSteps.{beside_links, links_part, named, numbered}
 
-module _ (e : LinkLayer) (s : Store) (others : List Owned) (m : Line) (st : Stands e s others m) (service : Service) (tei free : ℕ) where
+module _ (e : LinkLayer) (s : Store) (others : List Owned) (m : Line) (st : LayerStands e s others m) (service : Service) (tei free : ℕ) where
   -- by whether the TEI is one of a terminal, and whether it is on the line
   abbrev by_tests : Bool → Bool → Result Room Refusal
   by_tests bad on = unless (cond bad (Some BadTei) (cond (not on) (Some NoLink) None)) (room_of (terms e.config service tei) free (link_of service tei m))

@@ -1,5 +1,5 @@
 -- A line begins: what its parts are, and that they stand for an empty past.
-use Rattle.lapd_line.proofs.Vocabulary.{◌≡◌, ℕ, ◌≤◌, List, [], ◌∷◌, ◌++◌, length, replicate, Some, None, refl, sym, ap, subst, ◌∙◌, arith, get_or-replicate, All-nil, All-cons, All-head, All-tail, All, zip, Owned, Holds, pairs_of, Store, empty_store, Holds-empty, Management, empty, Link, terms_of, fresh, queue_of, Config, place_at, link_count, fresh_line, IsInRange, fresh_sound, place_within, ranges_of, Marks, AreMarked, false, Stands, LinkFits, links_pairs, IsBegun, AreBegun, UnitRing, AreFor, empty_ring, unit_pairs}
+use Rattle.lapd_line.proofs.Vocabulary.{◌≡◌, ℕ, ◌≤◌, List, [], ◌∷◌, ◌++◌, length, replicate, Some, None, refl, sym, ap, subst, ◌∙◌, arith, get_or-replicate, All-nil, All-cons, All-head, All-tail, All, zip, Owned, Holds, pairs_of, Store, empty_store, Holds-empty, Management, empty, Link, terms_of, fresh, queue_of, Config, place_at, link_count, fresh_line, IsInRange, fresh_sound, place_within, ranges_of, Marks, AreMarked, false, LayerStands, LinkFits, links_pairs, IsBegun, AreBegun, UnitRing, AreFor, empty_ring, unit_pairs}
 use Rattle.lapd_link.specs.Stands as link
 use Rattle.lapd_link.specs.Stands.{slots_of}
 use Rattle.lapd_line.proofs.AwakeSteps.{awake_first}
@@ -35,7 +35,7 @@ absurd_none h = cc
 -- the entities, of parts that were just started
 pub layer_fresh : (c : Config) (teis : Management) (links : List Link) (units : UnitRing) (awake : Marks) → IsInRange c → teis ≡ empty c.terminals → AreBegun c links → units ≡ empty_ring c.unit_queue → AreMarked awake (λ number. false)
     → (store : Store) (others : List Owned) → c.n201 ≤ store.width → Holds store others
-    → Stands (record { config = c; teis = teis; links = links; units = units; turn = 0; awake = awake }) store others (fresh_line c)
+    → LayerStands (record { config = c; teis = teis; links = links; units = units; turn = 0; awake = awake }) store others (fresh_line c)
 layer_fresh c teis links units awake ranged is_teis b is_units none store others wide held = record {
   range = ranged;
   wide = wide;

@@ -1,5 +1,5 @@
 -- Changes of the table, and the links that follow them.
-use Rattle.lapd_line.proofs.Vocabulary.{◌≡◌, ◌≢◌, ℕ, ◌<◌, ◌≤◌, List, [], ◌++◌, length, get_or, set, slice_get, Some, None, refl, sym, ap, subst, ◌∙◌, arith, append_assoc, ⊎_elim, cases_eq, length-map, length-set, get_or-set_same, get_or-set_other, none-some, same_Some, slice_get-set_same, slice_get-set_other, Owned, Holds, Store, Service, Call, Packet, Link, BareReport, told_with, terms_of, Gained, Left, TeiOutcome, HasJoined, HasLeft, Management, told_of, changes_are_told, Line, link_number, link_count, service_at, place_at, tei_at, terms, link_at, at_management, of_change, of_management, told_of_link, told_of_management, with_cleared, with_opened, IsSound, IsSoundAt, IsInRange, management_event_sound, place_at-number, service_at-number, number_within, ranges_of, other_place, LinkLayer, told_in, unit_pairs, Marks, Sets, AreAwake, false, LinksStand, HasTerms, links_pairs, terms_in, machine_at, Stands, Serves, always, IsAnswerTo, with_management, Config, Terms, listed, cleared-tells, cleared-orders, LinkTold, Changing}
+use Rattle.lapd_line.proofs.Vocabulary.{◌≡◌, ◌≢◌, ℕ, ◌<◌, ◌≤◌, List, [], ◌++◌, length, get_or, set, slice_get, Some, None, refl, sym, ap, subst, ◌∙◌, arith, append_assoc, ⊎_elim, cases_eq, length-map, length-set, get_or-set_same, get_or-set_other, none-some, same_Some, slice_get-set_same, slice_get-set_other, Owned, Holds, Store, Service, Call, Packet, Link, BareReport, told_with, terms_of, Gained, Left, TeiOutcome, HasJoined, HasLeft, Management, told_of, changes_are_told, Line, link_number, link_count, service_at, place_at, tei_at, terms, link_at, at_management, of_change, of_management, told_of_link, told_of_management, with_cleared, with_opened, IsSound, IsSoundAt, IsInRange, management_event_sound, place_at-number, service_at-number, number_within, ranges_of, other_place, LinkLayer, told_in, unit_pairs, Marks, Sets, AreAwake, false, LinksStand, HasTerms, links_pairs, terms_in, machine_at, LayerStands, Serves, always, IsAnswerTo, with_management, Config, Terms, listed, cleared-tells, cleared-orders, LinkTold, Changing}
 use Rattle.model_link.specs.Events as event
 use Rattle.model_link.specs.Link as machine
 use Rattle.model_link.specs.Machine as answers
@@ -23,7 +23,7 @@ both_cleared {c} {second = second} t1 t2 others ms has_one has_two one two stand
     (one.told c t1 others ms has_one stand, two.goes_on c t2 others _ has after_one, two.told c t2 others _ has after_one)
 
 -- the link of a free place is as it begins
-free_link : {e : LinkLayer} {s : Store} {others : List Owned} {m : Line} (service : Service) (place : ℕ) → Stands e s others m → place < length e.teis.places → get_or e.teis.places place None ≡ None
+free_link : {e : LinkLayer} {s : Store} {others : List Owned} {m : Line} (service : Service) (place : ℕ) → LayerStands e s others m → place < length e.teis.places → get_or e.teis.places place None ≡ None
     → machine_at m.links (link_number place service) ≡ machine.fresh
 free_link {e} {m = m} service place st within free =
     let number = link_number place service in
@@ -35,7 +35,7 @@ free_link {e} {m = m} service place st within free =
 -- The entities after an event of TEI management: the table is another one, and so may the links be.
 module _ (e : LinkLayer) (before : Management) (what : teis.Event) (outcome : TeiOutcome) (is : IsAnswerTo what before e.teis outcome) where
   -- the table has moved as it is told
-  pub moved : (s : Store) (others : List Owned) (m : Line) → Stands (with_management before e) s others m → Moves before.places outcome.change e.teis.places
+  pub moved : (s : Store) (others : List Owned) (m : Line) → LayerStands (with_management before e) s others m → Moves before.places outcome.change e.teis.places
   moved s others m st =
       let law = changes_are_told what m.management is.range st.sound.management in
       let at_before = subst (λ b. Moves b.places (teis.told what b).change (teis.after what b).places) st.management law in
@@ -43,19 +43,19 @@ module _ (e : LinkLayer) (before : Management) (what : teis.Event) (outcome : Te
       (subst (λ n. Moves before.places (teis.told what before).change n.places) (sym is.after) at_before)
 
   -- what the machine makes of it
-  pub followed : (s : Store) (others : List Owned) (m : Line) → Stands (with_management before e) s others m
+  pub followed : (s : Store) (others : List Owned) (m : Line) → LayerStands (with_management before e) s others m
       → of_management e.config what m ≡ of_change e.config outcome.change (told_of_management (told_of outcome)) (record m { management = e.teis })
   followed s others m st = grind arith
 
   -- so they stand again, where the links do
   pub rebuilt : (s t : Store) (others : List Owned) (m : Line) (new : List Link) (ms : List machine.Link) (awake : Marks)
-      → Stands (with_management before e) s others m
+      → LayerStands (with_management before e) s others m
       → LinksStand e.config new t (unit_pairs e.units.waiting m.units ++ others) ms
       → length new ≡ length e.links
       → ((number tei : ℕ) → number < link_count e.config → get_or e.teis.places (place_at number) None ≡ Some tei → HasTerms new number (terms e.config (service_at number) tei))
       → AreAwake awake new ms
       → (of_management e.config what m).line ≡ record m { management = e.teis; links = ms }
-      → Stands (record e { links = new; awake = awake }) t others (record m { management = e.teis; links = ms })
+      → LayerStands (record e { links = new; awake = awake }) t others (record m { management = e.teis; links = ms })
   rebuilt s t others m new ms awake st stand count has_terms are_awake line = record {
     range = st.range;
     wide = stand.wide;
@@ -81,7 +81,7 @@ module _ (e : LinkLayer) (before : Management) (what : teis.Event) (outcome : Te
         let same : e.teis.places ≡ before.places = subst (λ c. Moves before.places c e.teis.places) none (moved s others m st) in
         let all : of_management e.config what m ≡ record { line = record m { management = e.teis }; told = told_of_management (told_of outcome) } =
         followed s others m st ∙ ap (λ c. of_change e.config c (told_of_management (told_of outcome)) (record m { management = e.teis })) none in
-        subst (λ l. Stands e s others l) (sym (ap (λ x. x.line) all))
+        subst (λ l. LayerStands e s others l) (sym (ap (λ x. x.line) all))
         (rebuilt s s others m e.links m.links e.awake st (links_part (with_management before e) s others m st) refl
         (λ number tei few at. st.terms number tei few (ap (λ b. get_or b.places (place_at number) None) st.management ∙ ap (λ p. get_or p (place_at number) None) (sym same) ∙ at))
         st.awake (ap (λ x. x.line) all));
@@ -103,7 +103,7 @@ module _ (e : LinkLayer) (before : Management) (what : teis.Event) (outcome : Te
         let there : HasJoined before.places e.teis.places tei place = subst (λ c. Moves before.places c e.teis.places) gained (moved s others m st) in
         let all : of_management e.config what m ≡ record { line = with_opened place (record m { management = e.teis }); told = told_of_management (told_of outcome) } =
         followed s others m st ∙ ap (λ c. of_change e.config c (told_of_management (told_of outcome)) (record m { management = e.teis })) gained in
-        subst (λ l. Stands (record e { links = two }) s others l) (sym (ap (λ x. x.line) all))
+        subst (λ l. LayerStands (record e { links = two }) s others l) (sym (ap (λ x. x.line) all))
         (rebuilt s s others m two _ e.awake st (second _ _ (first _ _ (links_part (with_management before e) s others m st))) count (has_terms s others m st there) (are_awake s others m st there) (ap (λ x. x.line) all));
     told = λ others m st. told ∙ ap (λ x. x.told) (sym (followed s others m st ∙ ap (λ c. of_change e.config c (told_of_management (told_of outcome)) (record m { management = e.teis })) gained));
   }
@@ -121,14 +121,14 @@ module _ (e : LinkLayer) (before : Management) (what : teis.Event) (outcome : Te
       count = sym (length-map two terms_of) ∙ ap (λ l. length l) all_terms ∙ length-set _ packet _ ∙ length-set _ call _ ∙ length-map e.links terms_of
 
       -- they were asleep, as the place was free, and begin with nothing to give
-      are_awake : (s' : Store) (others : List Owned) (m : Line) → Stands (with_management before e) s' others m → HasJoined before.places e.teis.places tei place
+      are_awake : (s' : Store) (others : List Owned) (m : Line) → LayerStands (with_management before e) s' others m → HasJoined before.places e.teis.places tei place
           → AreAwake e.awake two (set (set m.links call machine.fresh) packet machine.fresh)
       are_awake s' others m st there =
           awake_begun e.awake one two (set m.links call machine.fresh) packet (λ other apart. ap (λ l. slice_get l other) second_terms ∙ slice_get-set_other (terms_in one) packet other _ apart)
           (get_or-set_other m.links call packet machine.fresh machine.fresh (λ q. omega (arith, q)) ∙ free_link {e = with_management before e} Packet place st there.within there.was_free)
           (awake_begun e.awake e.links one m.links call (λ other apart. ap (λ l. slice_get l other) first_terms ∙ slice_get-set_other (terms_in e.links) call other _ apart) (free_link {e = with_management before e} Call place st there.within there.was_free) st.awake)
 
-      has_terms : (s' : Store) (others : List Owned) (m : Line) → Stands (with_management before e) s' others m → HasJoined before.places e.teis.places tei place
+      has_terms : (s' : Store) (others : List Owned) (m : Line) → LayerStands (with_management before e) s' others m → HasJoined before.places e.teis.places tei place
           → (number tei' : ℕ) → number < link_count e.config → get_or e.teis.places (place_at number) None ≡ Some tei' → HasTerms two number (terms e.config (service_at number) tei')
       has_terms s' others m st there number tei' few at =
           subst (λ l. slice_get l number ≡ Some (terms e.config (service_at number) tei')) (sym all_terms)
@@ -174,7 +174,7 @@ module _ (e : LinkLayer) (before : Management) (what : teis.Event) (outcome : Te
     limits = record { slots = second.limits.slots ∙ first.limits.slots; width = second.limits.width ∙ first.limits.width };
     stands = λ others m st.
         let all = followed s others m st ∙ ap (λ c. of_change e.config c (told_of_management (told_of outcome)) (record m { management = e.teis })) gone in
-        subst (λ l. Stands (record e { links = two; awake = awake }) t others l) (sym (ap (λ x. x.line) all))
+        subst (λ l. LayerStands (record e { links = two; awake = awake }) t others l) (sym (ap (λ x. x.line) all))
         (rebuilt s t others m two _ awake st (both s others m st).1 (same_many two e.links same_terms) (has_terms s others m st) (are_awake m st.awake) (ap (λ x. x.line) all));
     told = λ others m st.
         let all = followed s others m st ∙ ap (λ c. of_change e.config c (told_of_management (told_of outcome)) (record m { management = e.teis })) gone in
@@ -184,13 +184,13 @@ module _ (e : LinkLayer) (before : Management) (what : teis.Event) (outcome : Te
         ∙ sym (ap (λ x. x.told) all);
   }
     where
-      there : (s' : Store) (others : List Owned) (m : Line) → Stands (with_management before e) s' others m → HasLeft before.places e.teis.places tei place
+      there : (s' : Store) (others : List Owned) (m : Line) → LayerStands (with_management before e) s' others m → HasLeft before.places e.teis.places tei place
       there s' others m st = subst (λ c. Moves before.places c e.teis.places) gone (moved s' others m st)
 
       one_of : List machine.Link → List machine.Link
       one_of ms = set ms (link_number place Call) (answers.after (terms e.config Call tei) event.cleared (machine_at ms (link_number place Call)))
 
-      both : (s' : Store) (others : List Owned) (m : Line) → Stands (with_management before e) s others m
+      both : (s' : Store) (others : List Owned) (m : Line) → LayerStands (with_management before e) s others m
           → (told_with [] call ≡ answers.told (terms e.config Call tei) event.cleared (machine_at m.links (link_number place Call)))
           × LinksStand e.config two t (unit_pairs e.units.waiting m.units ++ others) (set (one_of m.links) (link_number place Packet) (answers.after (terms e.config Packet tei) event.cleared (machine_at (one_of m.links) (link_number place Packet))))
           × (told_with [] packet ≡ answers.told (terms e.config Packet tei) event.cleared (machine_at (one_of m.links) (link_number place Packet)))
@@ -209,7 +209,7 @@ module _ (e : LinkLayer) (before : Management) (what : teis.Event) (outcome : Te
           awake_cleared mid awake one two (one_of m.links) (link_number place Packet) sleeps_too second.terms
           (awake_cleared e.awake mid e.links one m.links (link_number place Call) sleeps first.terms h)
 
-      has_terms : (s' : Store) (others : List Owned) (m : Line) → Stands (with_management before e) s' others m
+      has_terms : (s' : Store) (others : List Owned) (m : Line) → LayerStands (with_management before e) s' others m
           → (number tei' : ℕ) → number < link_count e.config → get_or e.teis.places (place_at number) None ≡ Some tei' → HasTerms two number (terms e.config (service_at number) tei')
       has_terms s' others m st number tei' few at =
           let gone_from = there s' others m st in
@@ -242,7 +242,7 @@ module _ (e : LinkLayer) (s : Store) (tei place : ℕ) where
     pub has : (service : Service) {number : ℕ} → (place ≤ 8 → number ≡ link_number place service) → HasTerms e.links number (terms e.config service tei)
 
 -- there are such links, whose numbers are exact
-link_within : {e : LinkLayer} {s : Store} {others : List Owned} {m : Line} (service : Service) (place : ℕ) {number : ℕ} → Stands e s others m → place < length e.teis.places → number ≡ link_number place service → number < length e.links
+link_within : {e : LinkLayer} {s : Store} {others : List Owned} {m : Line} (service : Service) (place : ℕ) {number : ℕ} → LayerStands e s others m → place < length e.teis.places → number ≡ link_number place service → number < length e.links
 link_within {e} service place st within is =
     let low : place < e.config.terminals = omega (arith, within, st.sound.places, ap (λ t. length t.places) st.management) in
     omega (arith, is, st.count, number_within place e.config.terminals service low)

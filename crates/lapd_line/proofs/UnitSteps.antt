@@ -1,5 +1,5 @@
 -- Unit data that is asked to be sent: why it is refused, and where it waits.
-use Rattle.lapd_line.proofs.Vocabulary.{◌≡◌, ℕ, ◌≤◌, ◌<◌, ◌==◌, ◌&&◌, ◌||◌, Bool, true, false, not, nat_lt, nat_le, cond, List, [], ◌∷◌, ◌++◌, length, Option, Some, None, refl, sym, ap, subst, ◌∙◌, arith, ltb-false, leb-false, map-append, length-map, Refusal, BadTei, NoLink, TooLong, QueueFull, PoolFull, Service, Owned, Holds, pairs_of, Store, SameLimits, with_contents, used_slots, Keeps-put, Places, is_on, place_of, place_of-is, is_on-at, Config, nothing, Line, UnitData, at_units, of_aim, refusal, contents_of, last_unit_tei, IsProper, aim_sound, unit_tei, LinkLayer, BareReport, QueuedUnit, Stands, Standing, Serves, always, told_in, UnitRing, AreFor, messages_of, unit_pairs, slot_of, with_newest}
+use Rattle.lapd_line.proofs.Vocabulary.{◌≡◌, ℕ, ◌≤◌, ◌<◌, ◌==◌, ◌&&◌, ◌||◌, Bool, true, false, not, nat_lt, nat_le, cond, List, [], ◌∷◌, ◌++◌, length, Option, Some, None, refl, sym, ap, subst, ◌∙◌, arith, ltb-false, leb-false, map-append, length-map, Refusal, BadTei, NoLink, TooLong, QueueFull, PoolFull, Service, Owned, Holds, pairs_of, Store, SameLimits, with_contents, used_slots, Keeps-put, Places, is_on, place_of, place_of-is, is_on-at, Config, nothing, Line, UnitData, at_units, of_aim, refusal, unit_contents, last_unit_tei, IsProper, aim_sound, unit_tei, LinkLayer, BareReport, QueuedUnit, LayerStands, Standing, Serves, always, told_in, UnitRing, AreFor, messages_of, unit_pairs, slot_of, with_newest}
 use Rattle.std.specs.Option.{is_some}
 use Rattle.lapd_store.specs.Store.{IsFree}
 use Rattle.model_line.specs.Request as asked
@@ -29,12 +29,12 @@ neither : (a b : Bool) → (not a && not b) ≡ not (a || b)
 neither a b = grind arith
 
 -- as many wait as the machine has
-pub waiting : (e : LinkLayer) (s : Store) (others : List Owned) (m : Line) → Stands e s others m → length e.units.waiting ≡ length m.units
-waiting e s others m st = sym (length-map e.units.waiting slot_of) ∙ as_many e.units.waiting m.units st.addressed ∙ length-map m.units contents_of
+pub waiting : (e : LinkLayer) (s : Store) (others : List Owned) (m : Line) → LayerStands e s others m → length e.units.waiting ≡ length m.units
+waiting e s others m st = sym (length-map e.units.waiting slot_of) ∙ as_many e.units.waiting m.units st.addressed ∙ length-map m.units unit_contents
 
 -- No row before those for room holds: then these two are the answer.
 pub room_is_left : (e : LinkLayer) (s : Store) (others : List Owned) (m : Line) (service : Service) (tei octets : ℕ) (contents : List ℕ) (full : Bool) (answer : Option Refusal)
-    → Stands e s others m → length contents ≡ octets → nat_lt (last_unit_tei e.config.side) tei ≡ false → ((tei == 127) || is_on tei e.teis.places) ≡ true → nat_lt e.config.n201 octets ≡ false
+    → LayerStands e s others m → length contents ≡ octets → nat_lt (last_unit_tei e.config.side) tei ≡ false → ((tei == 127) || is_on tei e.teis.places) ≡ true → nat_lt e.config.n201 octets ≡ false
     → answer ≡ cond (nat_le e.config.unit_queue (length e.units.waiting)) (Some QueueFull) (cond full (Some PoolFull) None)
     → answer ≡ refusal e.config full (asked.Unit service tei contents) m
 room_is_left e s others m service tei octets contents full answer st size low found short is =
@@ -58,15 +58,15 @@ granted c full service tei contents m e = grind (arith, row_passed, unit_tei, lt
 
 -- the answer of the code is that of the machine, whatever the contents of this length
 pub refused_so : (e : LinkLayer) (s : Store) (service : Service) (tei : ℕ) (contents : List ℕ) (slots used : ℕ) (answer : Option Refusal) → used ≡ used_slots s
-    → ((store : Store) (others : List Owned) (m : Line) (service : Service) (info : List ℕ) → Stands e store others m → length info ≡ length contents
+    → ((store : Store) (others : List Owned) (m : Line) (service : Service) (info : List ℕ) → LayerStands e store others m → length info ≡ length contents
     → answer ≡ refusal e.config (nat_le slots used) (asked.Unit service tei info) m)
-    → (others : List Owned) (m : Line) → Stands e s others m → refusal e.config (nat_le slots (used_slots s)) (asked.Unit service tei contents) m ≡ answer
+    → (others : List Owned) (m : Line) → LayerStands e s others m → refusal e.config (nat_le slots (used_slots s)) (asked.Unit service tei contents) m ≡ answer
 refused_so e s service tei contents slots used answer count h = λ others m st.
     ap (λ n. refusal e.config (nat_le slots n) (asked.Unit service tei contents) m) (sym count) ∙ sym (h s others m service contents st refl)
 
 -- so there is a place for it
 pub placed : (e : LinkLayer) (s : Store) (slots : ℕ) (service : Service) (tei : ℕ) (contents : List ℕ) → Standing e s → slots ≤ s.slots
-    → ((others : List Owned) (m : Line) → Stands e s others m → refusal e.config (nat_le slots (used_slots s)) (asked.Unit service tei contents) m ≡ None)
+    → ((others : List Owned) (m : Line) → LayerStands e s others m → refusal e.config (nat_le slots (used_slots s)) (asked.Unit service tei contents) m ≡ None)
     → HasPlace e s (length contents)
 placed e s slots service tei contents (others, m, st) within none =
     let (proper, free) = granted e.config (nat_le slots (used_slots s)) service tei contents m (none others m st) in
@@ -89,12 +89,12 @@ newest_held : (s t : Store) (us : List QueuedUnit) (ds : List UnitData) (u : Que
 newest_held s t us ds u d rest same free stored held =
     let kept = Keeps-put (slots_of us) (messages_of ds) rest u.slot d.contents free stored (record { lengths = as_many us ds same; held = held }) in
     subst (λ l. Holds t (pairs_of l (messages_of (ds ++ d ∷ [])) ++ rest)) (sym (map-append slot_of us (u ∷ [])))
-    (subst (λ l. Holds t (pairs_of (slots_of us ++ u.slot ∷ []) l ++ rest)) (sym (map-append contents_of ds (d ∷ []))) kept.held)
+    (subst (λ l. Holds t (pairs_of (slots_of us ++ u.slot ∷ []) l ++ rest)) (sym (map-append unit_contents ds (d ∷ []))) kept.held)
 
 -- with one more that waits
-with_unit : (e : LinkLayer) (s t : Store) (others : List Owned) (m : Line) (u : QueuedUnit) (d : UnitData) → Stands e s others m → u.service ≡ d.service → u.tei ≡ d.tei
+with_unit : (e : LinkLayer) (s t : Store) (others : List Owned) (m : Line) (u : QueuedUnit) (d : UnitData) → LayerStands e s others m → u.service ≡ d.service → u.tei ≡ d.tei
     → IsFree s u.slot → t ≡ with_contents s u.slot d.contents → IsProper e.config m (at_units d)
-    → Stands (record e { units = with_newest u e.units }) t others (of_aim e.config (at_units d) m).line
+    → LayerStands (record e { units = with_newest u e.units }) t others (of_aim e.config (at_units d) m).line
 with_unit e s t others m u d st service tei free stored proper =
     let part = beside_units e s others m st in
     stands_as st e.teis (with_newest u e.units) t others (of_aim e.config (at_units d) m).line (refl, refl, refl, refl) (subst (λ x. e.config.n201 ≤ x.width) (sym stored) st.wide)
@@ -103,7 +103,7 @@ with_unit e s t others m u d st service tei free stored proper =
 
 -- and the entities have served it
 pub unit_serves : (e : LinkLayer) (s t : Store) (ring : UnitRing) (slots : ℕ) (service : Service) (tei slot : ℕ) (contents : List ℕ) (outcome : BareReport)
-    → ((others : List Owned) (m : Line) → Stands e s others m → refusal e.config (nat_le slots (used_slots s)) (asked.Unit service tei contents) m ≡ None)
+    → ((others : List Owned) (m : Line) → LayerStands e s others m → refusal e.config (nat_le slots (used_slots s)) (asked.Unit service tei contents) m ≡ None)
     → IsFree s slot → t ≡ with_contents s slot contents → SameLimits s t → ring ≡ with_newest (record { service = service; tei = tei; slot = slot }) e.units → told_in [] outcome ≡ nothing
     → Serves (always (at_units (record { service = service; tei = tei; contents = contents }))) [] e s (record e { units = ring }) t outcome
 unit_serves e s t ring slots service tei slot contents outcome none free stored limits pushed told =
@@ -113,7 +113,7 @@ unit_serves e s t ring slots service tei slot contents outcome none free stored 
       config = refl;
       limits = limits;
       stands = λ others m st.
-          subst (λ r. Stands (record e { units = r }) t others (of_aim e.config (at_units d) m).line) (sym pushed)
+          subst (λ r. LayerStands (record e { units = r }) t others (of_aim e.config (at_units d) m).line) (sym pushed)
           (with_unit e s t others m u d st refl refl free stored (granted e.config (nat_le slots (used_slots s)) service tei contents m (none others m st)).0);
       told = λ others m st. told;
     }

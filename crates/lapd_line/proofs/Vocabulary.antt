@@ -43,7 +43,7 @@ pub use Rattle.lapd_frame.specs.declared.timers.Timer.{Timer}
 pub use Rattle.lapd_line.specs.Addressing.{addressee, aim_at, group_service, is_ui, message_at, of_service}
 pub use Rattle.lapd_line.specs.Awake.{AreAwake, TellsOf, gives, gives_at}
 pub use Rattle.lapd_line.specs.Counted.{bare_shown, with_counted}
-pub use Rattle.lapd_line.specs.LinkLayer.{Serves, Standing, Stands, aim_of_event, always}
+pub use Rattle.lapd_line.specs.LinkLayer.{Serves, Standing, LayerStands, aim_of_event, always}
 pub use Rattle.lapd_line.specs.Links.{GoesOn, HasTerms, IsGiven, LinkFits, LinksStand, Offers, Refuses, link_pairs, links_pairs, machine_at, terms_in}
 pub use Rattle.lapd_line.specs.Loading.{IsFree, IsNext, Loading, Loads, in_bits, in_octets, room_in, reference_in}
 pub use Rattle.lapd_line.specs.Marks.{AreMarked, IsLowestFrom, IsMark, IsMarkedAmong, NoneFrom, Sets, digit}
@@ -122,7 +122,7 @@ pub use Rattle.model_line.specs.Requested.{aim_of_request, at_deactivated, at_re
 pub use Rattle.model_line.specs.Room.{unless}
 pub use Rattle.model_line.specs.Sides.{at_side, group_told, has_management, last_unit_tei, managed_at, told_at, told_of_group, told_of_ui}
 pub use Rattle.model_line.specs.Sound.{IsInRange, IsSound, IsSoundAt, IsUnitData}
-pub use Rattle.model_line.specs.Stored.{contents_of, held_by_link, octets_by_link, octets_of, slots_by_link, slots_of, sum_of_links, total_length, unit_length}
+pub use Rattle.model_line.specs.Stored.{unit_contents, held_by_link, octets_by_link, octets_of, slots_by_link, slots_of, sum_of_links, total_length, unit_length}
 pub use Rattle.model_line.specs.declared.config.Config.{Config}
 pub use Rattle.model_card.proofs.OfPorts.TextGoesOn.{left_is, one_item, text_of}
 pub use Rattle.model_card.specs.ports.HeadHeard.{or_heard}

@@ -19,7 +19,7 @@ use Rattle.lapd_line.specs.Units.{AreFor, unit_pairs}
 use Rattle.lapd_line.specs.Reports.{told_in}
 
 -- The entities agree with the machine of a line, which is sound; and the shelf holds exactly what they and others own.
-pub record Stands (e : LinkLayer) (store : Store) (others : List Owned) (m : Line) : Type 0 where
+pub record LayerStands (e : LinkLayer) (store : Store) (others : List Owned) (m : Line) : Type 0 where
   pub range : IsInRange e.config
   pub wide : e.config.n201 ≤ store.width
   pub sound : IsSound e.config m
@@ -38,15 +38,15 @@ pub record Stands (e : LinkLayer) (store : Store) (others : List Owned) (m : Lin
 
 -- There is a past that they stand for.
 abbrev pub Standing : LinkLayer → Store → Type 0
-Standing e store = (others : List Owned) × (m : Line) × Stands e store others m
+Standing e store = (others : List Owned) × (m : Line) × LayerStands e store others m
 
 -- The entities have served what an event is to them, and tell what the machine tells. What is delivered lies in these
 -- octets.
 pub record Serves (aim : Line → Aim) (octets : List ℕ) (old : LinkLayer) (s : Store) (new : LinkLayer) (t : Store) (outcome : BareReport) : Type 0 where
   pub config : new.config ≡ old.config
   pub limits : SameLimits s t
-  pub stands : (others : List Owned) (m : Line) → Stands old s others m → Stands new t others (of_aim old.config (aim m) m).line
-  pub told : (others : List Owned) (m : Line) → Stands old s others m → told_in octets outcome ≡ (of_aim old.config (aim m) m).told
+  pub stands : (others : List Owned) (m : Line) → LayerStands old s others m → LayerStands new t others (of_aim old.config (aim m) m).line
+  pub told : (others : List Owned) (m : Line) → LayerStands old s others m → told_in octets outcome ≡ (of_aim old.config (aim m) m).told
 
 -- the same aim, whatever the past
 abbrev pub always : Aim → Line → Aim

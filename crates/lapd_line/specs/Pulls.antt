@@ -12,7 +12,7 @@ use Rattle.model_line.specs.Event.{next}
 use Rattle.model_line.specs.Taken.{Taken, taken, next_of}
 use Rattle.lapd_line.specs.declared.frame_line.FrameLine.{FrameLine}
 use Rattle.lapd_line.specs.declared.link_layer.LinkLayer.{LinkLayer}
-use Rattle.lapd_line.specs.LinkLayer.{Stands}
+use Rattle.lapd_line.specs.LinkLayer.{LayerStands}
 use Rattle.lapd_line.specs.Loading.{Loading, Loads, IsNext, room_in, reference_in}
 use Rattle.lapd_line.specs.Stands as line
 use Rattle.lapd_line.specs.Stands.{config_of}
@@ -20,12 +20,12 @@ use Rattle.lapd_line.specs.Stands.{config_of}
 -- A frame was taken and loaded.
 pub record HasTaken (k : Taken) (told : List Order) (new : LinkLayer) (t : Store) (others : List Owned) (f g : Loading) : Type 0 where
   pub orders : told ≡ k.orders
-  pub stands : Stands new t others k.line
+  pub stands : LayerStands new t others k.line
   pub loaded : Loads k.frame f g
 
 -- Or there was none, and what a frame is loaded into is as it was.
 abbrev pub Took : Option Taken → Option (List Order) → Line → LinkLayer → Store → List Owned → Loading → Loading → Type 0
-Took None None m new t others f g = Stands new t others m × (g ≡ f)
+Took None None m new t others f g = LayerStands new t others m × (g ≡ f)
 Took (Some k) (Some orders) m new t others f g = HasTaken k orders new t others f g
 Took None (Some orders) m new t others f g = ⊥
 Took (Some k) None m new t others f g = ⊥
@@ -36,7 +36,7 @@ pub record Takes (source : Config → Line → Option Taken) (old : LinkLayer) (
   pub limits : SameLimits s t
   pub room : room_in g ≡ room_in f
   pub reference : reference_in g ≡ reference_in f
-  pub took : (others : List Owned) (m : Line) → Stands old s others m → Took (source old.config m) orders m new t others f g
+  pub took : (others : List Owned) (m : Line) → LayerStands old s others m → Took (source old.config m) orders m new t others f g
 
 abbrev pub orders_taken : Option (ShortList Order) → Option (List Order)
 orders_taken orders = option_map listed orders

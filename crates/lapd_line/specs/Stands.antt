@@ -16,7 +16,7 @@ use Rattle.model_line.specs.Event.{Event, Answer, hears, told, nothing}
 use Rattle.model_line.specs.Line as machine
 use Rattle.model_line.specs.Machine.{after, answer}
 use Rattle.lapd_line.specs.declared.frame_line.FrameLine.{FrameLine}
-use Rattle.lapd_line.specs.LinkLayer as layer
+use Rattle.lapd_line.specs.LinkLayer.{LayerStands}
 use Rattle.lapd_line.specs.Links.{links_pairs}
 use Rattle.lapd_line.specs.Units.{unit_pairs}
 
@@ -30,7 +30,7 @@ pairs_of line m = links_pairs line.layer.links m.links ++ unit_pairs line.layer.
 -- A line stands for a past beside others on its shelf: its entities do, and the shelf holds exactly what the line and the
 -- others own.
 pub record Stands (line : FrameLine) (store : Store) (others : List Owned) (m : machine.Line) : Type 0 where
-  pub layer : layer.Stands line.layer store others m
+  pub layer : LayerStands line.layer store others m
 
 -- An event leads a line and its shelf from one value to another: for every past, and every list of what others own, for
 -- which they stood, they stand for that past with the event, and for the same others; and its counters count what the event

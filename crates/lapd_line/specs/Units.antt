@@ -2,7 +2,7 @@
 use Rattle.std.specs.Prelude.{◌≡◌, ℕ, List, [], ◌∷◌, ◌++◌, map, drop}
 use Rattle.lapd_store.specs.Ownership.{Owned, pairs_of}
 use Rattle.model_line.specs.Line.{UnitData}
-use Rattle.model_line.specs.Stored.{contents_of}
+use Rattle.model_line.specs.Stored.{unit_contents}
 use Rattle.lapd_line.specs.declared.units.QueuedUnit.{QueuedUnit}
 
 -- the oldest first, and how many there may be
@@ -34,7 +34,7 @@ abbrev pub slots_of : List QueuedUnit → List ℕ
 slots_of units = map slot_of units
 
 abbrev pub messages_of : List UnitData → List (List ℕ)
-messages_of units = map contents_of units
+messages_of units = map unit_contents units
 
 abbrev pub unit_pairs : List QueuedUnit → List UnitData → List Owned
 unit_pairs units waiting = pairs_of (slots_of units) (messages_of waiting)

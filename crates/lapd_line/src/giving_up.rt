@@ -8,7 +8,7 @@ use lapd_link::BareReport;
 use lapd_store::Shelf;
 
 impl LinkLayer {
-    ghost use Rattle.lapd_line.specs.LinkLayer.{Stands};
+    ghost use Rattle.lapd_line.specs.LinkLayer.{LayerStands};
 
     /// Gives up the unit data that waits, and what TEI management has going. Links and TEIs stay.
     pub(crate) fn give_up<S: Shelf>(&mut self, report: &mut BareReport, shelf: &mut S)
@@ -26,8 +26,8 @@ impl LinkLayer {
         requires { Standing self.old (S.store shelf.old) }
         ensures config { self.new.config ≡ self.old.config }
         ensures limits { SameLimits (S.store shelf.old) (S.store shelf.new) }
-        ensures after { (others : List Owned) (m : Line) → Stands self.old (S.store shelf.old) others m
-            → Stands self.new (S.store shelf.new) others (without_units m) }
+        ensures after { (others : List Owned) (m : Line) → LayerStands self.old (S.store shelf.old) others m
+            → LayerStands self.new (S.store shelf.new) others (without_units m) }
     {
         for given_up in 0..self.units.len() {
             self.give_up_unit(shelf);
@@ -39,8 +39,8 @@ impl LinkLayer {
         requires { Standing self.old (S.store shelf.old) }
         ensures config { self.new.config ≡ self.old.config }
         ensures limits { SameLimits (S.store shelf.old) (S.store shelf.new) }
-        ensures after { (others : List Owned) (m : Line) → Stands self.old (S.store shelf.old) others m
-            → Stands self.new (S.store shelf.new) others (record m { units = drop 1 m.units }) }
+        ensures after { (others : List Owned) (m : Line) → LayerStands self.old (S.store shelf.old) others m
+            → LayerStands self.new (S.store shelf.new) others (record m { units = drop 1 m.units }) }
     {
         if let Some(unit) = self.units.oldest() {
             shelf.release(unit.slot);

@@ -7,12 +7,12 @@ ghost use Rattle.model_line.specs.Line as machine;
 use crate::link_layer::LinkLayer;
 
 impl LinkLayer {
-    ghost use Rattle.lapd_line.specs.LinkLayer.{Stands};
+    ghost use Rattle.lapd_line.specs.LinkLayer.{LayerStands};
 
     /// How many the links hold, of control frames that wait.
     pub(crate) fn held_by_links(&self) -> u32
         requires { (store : Store) × Standing self.now store }
-        ensures held { (store : Store) (others : List Owned) (m : machine.Line) → Stands self.now store others m
+        ensures held { (store : Store) (others : List Owned) (m : machine.Line) → LayerStands self.now store others m
             → result ≡ sum_of_links self.now.config (held_by_link self.now.config m) }
         ensures few { result ≤ 1024 }
     {

@@ -69,7 +69,7 @@ impl TeiRequest {
 
 impl LinkLayer {
     ghost use Rattle.lapd_link.specs.Events as link;
-    ghost use Rattle.lapd_line.specs.LinkLayer.{Stands};
+    ghost use Rattle.lapd_line.specs.LinkLayer.{LayerStands};
 
     /// Serves a request, or refuses it and changes nothing.
     #[inline(always)]
@@ -83,12 +83,12 @@ impl LinkLayer {
         requires stands { Standing self.old (S.store shelf.old) }
         requires clear { IsClear report.old }
         requires slots { slots ≤ (S.store shelf.old).slots }
-        ensures refused { IfErr result (λ why. (others : List Owned) (m : Line) → Stands self.old (S.store shelf.old) others m
+        ensures refused { IfErr result (λ why. (others : List Owned) (m : Line) → LayerStands self.old (S.store shelf.old) others m
             → refusal self.old.config (nat_le slots (used_slots (S.store shelf.old))) (request_of request.entry) m ≡ Some why) }
         ensures unchanged { OnErr result (self.new ≡ self.old) }
         ensures kept { OnErr result (shelf.new ≡ shelf.old) }
         ensures untold { OnErr result (report.new ≡ report.old) }
-        ensures granted { OnOk result ((others : List Owned) (m : Line) → Stands self.old (S.store shelf.old) others m
+        ensures granted { OnOk result ((others : List Owned) (m : Line) → LayerStands self.old (S.store shelf.old) others m
             → refusal self.old.config (nat_le slots (used_slots (S.store shelf.old))) (request_of request.entry) m ≡ None) }
         ensures served { OnOk result (Serves (aim_of_request (request_of request.entry)) [] self.old (S.store shelf.old) self.new (S.store shelf.new) report.new) }
     {
@@ -129,12 +129,12 @@ impl LinkLayer {
         requires stands { Standing self.old (S.store shelf.old) }
         requires clear { IsClear report.old }
         requires slots { slots ≤ (S.store shelf.old).slots }
-        ensures refused { IfErr result (λ why. (others : List Owned) (m : Line) → Stands self.old (S.store shelf.old) others m
+        ensures refused { IfErr result (λ why. (others : List Owned) (m : Line) → LayerStands self.old (S.store shelf.old) others m
             → link_refusal self.old.config (nat_le slots (used_slots (S.store shelf.old))) service tei (link.request_of request.entry) m ≡ Some why) }
         ensures unchanged { OnErr result (self.new ≡ self.old) }
         ensures kept { OnErr result (shelf.new ≡ shelf.old) }
         ensures untold { OnErr result (report.new ≡ report.old) }
-        ensures granted { OnOk result ((others : List Owned) (m : Line) → Stands self.old (S.store shelf.old) others m
+        ensures granted { OnOk result ((others : List Owned) (m : Line) → LayerStands self.old (S.store shelf.old) others m
             → link_refusal self.old.config (nat_le slots (used_slots (S.store shelf.old))) service tei (link.request_of request.entry) m ≡ None) }
         ensures served { OnOk result (Serves (λ m. at_requested service tei (link.request_of request.entry) (machine.place_in m tei)) [] self.old (S.store shelf.old) self.new (S.store shelf.new) report.new) }
     {
@@ -166,11 +166,11 @@ impl LinkLayer {
         requires stands { Standing self.old (S.store shelf.old) }
         requires clear { IsClear report.old }
         ensures untold { OnErr result (report.new ≡ report.old) }
-        ensures refused { IfErr result (λ why. (others : List Owned) (m : Line) → Stands self.old (S.store shelf.old) others m
+        ensures refused { IfErr result (λ why. (others : List Owned) (m : Line) → LayerStands self.old (S.store shelf.old) others m
             → refusal self.old.config false (asked.Deactivate service tei) m ≡ Some why) }
         ensures unchanged { OnErr result (self.new ≡ self.old) }
         ensures kept { OnErr result (shelf.new ≡ shelf.old) }
-        ensures granted { OnOk result ((others : List Owned) (m : Line) → Stands self.old (S.store shelf.old) others m
+        ensures granted { OnOk result ((others : List Owned) (m : Line) → LayerStands self.old (S.store shelf.old) others m
             → refusal self.old.config false (asked.Deactivate service tei) m ≡ None) }
         ensures served { OnOk result (Serves (λ m. at_deactivated service tei (machine.place_in m tei)) [] self.old (S.store shelf.old) self.new (S.store shelf.new) report.new) }
     {
@@ -197,12 +197,12 @@ impl LinkLayer {
     ) -> Result<(), Refusal>
         requires stands { Standing self.old (S.store shelf.old) }
         requires clear { IsClear report.old }
-        ensures refused { IfErr result (λ why. (others : List Owned) (m : Line) → Stands self.old (S.store shelf.old) others m
+        ensures refused { IfErr result (λ why. (others : List Owned) (m : Line) → LayerStands self.old (S.store shelf.old) others m
             → management_refusal self.old.config.side asked tei m ≡ Some why) }
         ensures unchanged { OnErr result (self.new ≡ self.old) }
         ensures kept { OnErr result (shelf.new ≡ shelf.old) }
         ensures untold { OnErr result (report.new ≡ report.old) }
-        ensures granted { OnOk result ((others : List Owned) (m : Line) → Stands self.old (S.store shelf.old) others m
+        ensures granted { OnOk result ((others : List Owned) (m : Line) → LayerStands self.old (S.store shelf.old) others m
             → management_refusal self.old.config.side asked tei m ≡ None) }
         ensures served { OnOk result (Serves (always (at_management (event_of asked tei))) [] self.old (S.store shelf.old) self.new (S.store shelf.new) report.new) }
     {
@@ -234,12 +234,12 @@ impl LinkLayer {
         requires stands { Standing self.old (S.store shelf.old) }
         requires clear { IsClear report.old }
         requires slots { slots ≤ (S.store shelf.old).slots }
-        ensures refused { IfErr result (λ why. (others : List Owned) (m : Line) → Stands self.old (S.store shelf.old) others m
+        ensures refused { IfErr result (λ why. (others : List Owned) (m : Line) → LayerStands self.old (S.store shelf.old) others m
             → refusal self.old.config (nat_le slots (used_slots (S.store shelf.old))) (asked.Unit service tei contents.now) m ≡ Some why) }
         ensures unchanged { OnErr result (self.new ≡ self.old) }
         ensures kept { OnErr result (shelf.new ≡ shelf.old) }
         ensures untold { OnErr result (report.new ≡ report.old) }
-        ensures granted { OnOk result ((others : List Owned) (m : Line) → Stands self.old (S.store shelf.old) others m
+        ensures granted { OnOk result ((others : List Owned) (m : Line) → LayerStands self.old (S.store shelf.old) others m
             → refusal self.old.config (nat_le slots (used_slots (S.store shelf.old))) (asked.Unit service tei contents.now) m ≡ None) }
         ensures served { OnOk result (Serves (always (at_units (record { service = service; tei = tei; contents = contents.now }))) [] self.old (S.store shelf.old) self.new (S.store shelf.new) report.new) }
     {
@@ -256,7 +256,7 @@ impl LinkLayer {
 
     /// Why unit data of so many octets is refused.
     fn unit_refusal(&self, tei: u8, octets: usize, pool_is_full: bool) -> Option<Refusal>
-        ensures { (store : Store) (others : List Owned) (m : Line) (service : Service) (contents : List ℕ) → Stands self.now store others m → length contents ≡ octets
+        ensures { (store : Store) (others : List Owned) (m : Line) (service : Service) (contents : List ℕ) → LayerStands self.now store others m → length contents ≡ octets
             → result ≡ refusal self.now.config pool_is_full (asked.Unit service tei contents) m }
     {
         if tei > last_unit_tei(self.config.side) {

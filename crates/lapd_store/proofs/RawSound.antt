@@ -1,7 +1,7 @@
 -- A shelf over a region stays sound: after a put, a release and at the start.
 use Rattle.lapd_store.proofs.Vocabulary.{◌≡◌, ◌≢◌, ℕ, zero, suc, ◌+◌, ◌*◌, ◌^◌, ◌<◌, ◌≤◌, Option, Some, None, IsSome, List, [], ◌∷◌, length, replicate, set, get_or, refl, sym, ap, subst, ◌∙◌, arith, inl, inr, length-set, nat_cmp, cases_eq, cond-true, cond-false, le-ltb, lt-ltb, get_or-replicate, length-replicate, get_or-set_same, get_or-set_other, entries_from, Holds, SameOutside, free_mark, list_end, or_end, link, slot_contents, contents_from, raw_store, IsApart, IsFreeList, IsFilled, Store, empty_store, contents_of, IsUsed, IsFree, used_slots, stored_octets, with_contents, without, IsWithinLimits, Inside}
 use Rattle.std.specs.FinMap as finmap
-use Rattle.lapd_store.specs.RawStore.{IsSound}
+use Rattle.lapd_store.specs.RawStore.{IsSoundRaw}
 use Rattle.lapd_store.proofs.Entries.{each_key, same_entries, get-insert_same, get-insert_other, get-remove_same, get-remove_other}
 use Rattle.lapd_store.proofs.RawLemmas.{get_raw, times_le, slot_ends, kept, contents_held, contents_free, marked, marked_within, used_within, apart_used, list_kept}
 use Rattle.lapd_store.proofs.StoreLemmas.{used_slots-empty, stored_octets-empty, IsWithinLimits-empty, used_slots-with_contents, stored_octets-with_contents, IsWithinLimits-with_contents, used_slots-without, stored_octets-without, IsWithinLimits-without, stored_octets_bound}
@@ -25,7 +25,7 @@ taken region lens width (slot ∷ rest) first number list ne is =
 none_used : IsSome {T = List ℕ} None → ⊥
 none_used e = cc
 
-module _ (a : Inside) (sound : IsSound a) where
+module _ (a : Inside) (sound : IsSoundRaw a) where
   pub contents_of-raw : (slot : ℕ) → contents_of (raw_store a) slot ≡ slot_contents a.region a.width slot (get_or a.lengths.items slot free_mark)
   contents_of-raw slot = get_raw a.region a.width a.lengths.items slot
 
@@ -114,7 +114,7 @@ module _ (a : Inside) (sound : IsSound a) where
       -- and the shelf is sound where that slot is
       sound-new : (s : Store) → raw_store b ≡ s → (free : List ℕ) → IsFreeList b.region b.lengths.items b.width free b.first
           → (get_or (set a.lengths.items slot mark) slot free_mark ≢ free_mark → IsFilled b.region (set a.lengths.items slot mark) a.width slot)
-          → length free + b.used ≡ length a.lengths.items → b.used ≡ used_slots s → b.octets ≡ stored_octets s → IsWithinLimits s → IsSound b
+          → length free + b.used ≡ length a.lengths.items → b.used ≡ used_slots s → b.octets ≡ stored_octets s → IsWithinLimits s → IsSoundRaw b
       sound-new s is free linked filled total counted measured within = grind (arith, each_key, filled-others, as_long, covered-new)
 
 -- a used slot: its octets are written, they lie in the region, and the counts are more than nothing
@@ -129,7 +129,7 @@ pub record Used (a : Inside) (slot : ℕ) : Type 0 where
   pub octets : get_or a.lengths.items slot free_mark ≤ a.octets
 
 -- as a caller names it
-pub used_slot : {a : Inside} {s : Store} {n m : ℕ} → IsSound a → raw_store a ≡ s → n ≡ m → IsUsed s m → Used a n
+pub used_slot : {a : Inside} {s : Store} {n m : ℕ} → IsSoundRaw a → raw_store a ≡ s → n ≡ m → IsUsed s m → Used a n
 used_slot {a} {s} {n} {m} sound view same is =
     let used = subst (IsUsed (raw_store a)) (sym same) (subst (λ t. IsUsed t m) (sym view) is) in
     let mark = used_mark a sound n used in
@@ -148,7 +148,7 @@ used_slot {a} {s} {n} {m} sound view same is =
     }
 
 -- as the code reaches a slot: by a number, and a width that was cast
-module _ (a b : Inside) (sound : IsSound a) (slot from : ℕ) (wide_from : from ≡ a.width) (wide : b.width ≡ a.width) where
+module _ (a b : Inside) (sound : IsSoundRaw a) (slot from : ℕ) (wide_from : from ≡ a.width) (wide : b.width ≡ a.width) where
   -- a put in the first free slot
   module _ (ne : a.first ≢ list_end) (is_first : slot ≡ a.first) (xs : List ℕ) (outside : SameOutside a.region b.region (slot * from) (length xs)) (lies : Holds b.region (slot * from) xs)
       (short : length xs ≤ a.width) (items : b.lengths.items ≡ set a.lengths.items slot (length xs)) where
@@ -173,7 +173,7 @@ module _ (a b : Inside) (sound : IsSound a) (slot from : ℕ) (wide_from : from 
         (ap (slot_contents b.region a.width slot) (get_or-set_same a.lengths.items slot (length xs) free_mark inside) ∙ in_place ∙ sym (get-insert_same _ slot xs))
         (λ q other. get-insert_other _ slot xs q other)
 
-    pub put_sound : b.octets ≡ a.octets + length xs → b.used ≡ a.used + 1 → ((next : ℕ) → Holds a.region (slot * from) (link next) → b.first ≡ next) → IsSound b
+    pub put_sound : b.octets ≡ a.octets + length xs → b.used ≡ a.used + 1 → ((next : ℕ) → Holds a.region (slot * from) (link next) → b.first ≡ next) → IsSoundRaw b
     put_sound octets used read =
         let t = first_slot a sound ne slot is_first in
         let first = read t.next (subst (λ w. Holds a.region (slot * w) (link t.next)) (sym wide_from) t.holds) in
@@ -204,7 +204,7 @@ module _ (a b : Inside) (sound : IsSound a) (slot from : ℕ) (wide_from : from 
     release_stored =
         store-new a sound b slot 2 left two free_mark items wide _ (contents_free b.region a.width slot _ now_free ∙ sym (get-remove_same _ slot)) (λ q other. get-remove_other _ slot q other)
 
-    pub release_sound : b.octets + get_or a.lengths.items slot free_mark ≡ a.octets → b.used + 1 ≡ a.used → b.first ≡ slot → IsSound b
+    pub release_sound : b.octets + get_or a.lengths.items slot free_mark ≡ a.octets → b.used + 1 ≡ a.used → b.first ≡ slot → IsSoundRaw b
     release_sound octets used first =
         let apart = apart_used a.region a.lengths.items a.width sound.free a.first slot was.mark sound.linked in
         sound-new a sound b slot 2 left two free_mark items wide _ release_stored (slot ∷ sound.free) (
@@ -252,7 +252,7 @@ module _ (b : Inside) (slots : ℕ) (items : b.lengths.items ≡ replicate slots
       λ i. record { contents = none i; slots = (ap length items ∙ length-replicate slots free_mark) i; width = b.width }
 
   pub start_sound : length b.region ≡ slots * b.width → ((slot : ℕ) → slot < slots → Holds b.region (slot * b.width) (link (or_end (slot + 1) slots)))
-      → b.first ≡ or_end 0 slots → b.octets ≡ 0 → b.used ≡ 0 → slots ≤ 8192 → 8 ≤ b.width → b.width ≤ 260 → IsSound b
+      → b.first ≡ or_end 0 slots → b.octets ≡ 0 → b.used ≡ 0 → slots ≤ 8192 → 8 ≤ b.width → b.width ≤ 260 → IsSoundRaw b
   start_sound size links first octets used few least most =
       let long = ap length items ∙ length-replicate slots free_mark in
       let is = start_store in

@@ -1,5 +1,5 @@
 -- A slab of octet vectors as a store.
-use Rattle.lapd_store.proofs.Vocabulary.{◌≡◌, ℕ, ◌+◌, ◌-◌, ◌^◌, ◌<◌, ◌≤◌, Option, Some, None, IsSome, List, [], map, length, sym, ap, subst, ◌∙◌, arith, count_by, option_map, is_some, nat_cmp, nat_cmp_total, Slab, get, slab_len, entries_from, ContainsKey, Updates, ArrayVec, filled, slab_store, IsSound, empty_store, contents_of, IsUsed, IsFree, used_slots, stored_octets, with_contents, without, IsWithinLimits}
+use Rattle.lapd_store.proofs.Vocabulary.{◌≡◌, ℕ, ◌+◌, ◌-◌, ◌^◌, ◌<◌, ◌≤◌, Option, Some, None, IsSome, List, [], map, length, sym, ap, subst, ◌∙◌, arith, count_by, option_map, is_some, nat_cmp, nat_cmp_total, Slab, get, slab_len, entries_from, ContainsKey, Updates, ArrayVec, filled, slab_store, IsSoundSlab, empty_store, contents_of, IsUsed, IsFree, used_slots, stored_octets, with_contents, without, IsWithinLimits}
 use Rattle.std.specs.FinMap as finmap
 use Rattle.lapd_store.specs.declared.slab_shelf.SlabShelf.TheInside.{Inside}
 use Rattle.lapd_store.proofs.StoreLemmas.{used_slots-empty, stored_octets-empty, IsWithinLimits-empty, used_slots-with_contents, stored_octets-with_contents, IsWithinLimits-with_contents, used_slots-without, stored_octets-without, IsWithinLimits-without, stored_octets_bound}
@@ -22,8 +22,8 @@ filled-remove old new key updates = grind (arith, same_entries, each_key, get-fi
 pub slab_store-start : (slab : Slab (ArrayVec ℕ)) (slots width : ℕ) → slab.slots ≡ [] → slab_store (record { contents = slab; octets = 0; slots = slots; width = width }) ≡ empty_store slots width
 slab_store-start slab slots width empty i = record { contents = finmap.from_entries (map (λ e. (e.0, e.1.items)) (entries_from 0 (empty i))); slots = slots; width = width }
 
-pub IsSound-start : (slab : Slab (ArrayVec ℕ)) (slots width : ℕ) → slab.slots ≡ [] → slots ≤ slab.capacity → slots < 2 ^ 32 → width ≤ 260 → IsSound (record { contents = slab; octets = 0; slots = slots; width = width })
-IsSound-start slab slots width empty room few narrow =
+pub IsSoundSlab-start : (slab : Slab (ArrayVec ℕ)) (slots width : ℕ) → slab.slots ≡ [] → slots ≤ slab.capacity → slots < 2 ^ 32 → width ≤ 260 → IsSoundSlab (record { contents = slab; octets = 0; slots = slots; width = width })
+IsSoundSlab-start slab slots width empty room few narrow =
     let is = slab_store-start slab slots width empty in
     record {
       room = room;
@@ -37,7 +37,7 @@ IsSound-start slab slots width empty room few narrow =
 some_mapped : (o : Option (ArrayVec ℕ)) → IsSome (option_map (λ v. v.items) o) → IsSome o
 some_mapped o some = grind arith
 
-module _ (a : Inside) (sound : IsSound a) where
+module _ (a : Inside) (sound : IsSoundSlab a) where
   -- a slot of the store is a key of the slab
   pub contents_of-slab : (slot : ℕ) → contents_of (slab_store a) slot ≡ option_map (λ v. v.items) (get a.contents slot)
   contents_of-slab slot = get-filled a.contents slot
@@ -59,8 +59,8 @@ module _ (a : Inside) (sound : IsSound a) where
     pub IsFree-slab : get a.contents key ≡ None → IsFree (slab_store a) key
     IsFree-slab vacant = contents_of-slab key ∙ ap (option_map (λ v. v.items)) vacant
 
-    pub IsSound-put : used_slots (slab_store a) < a.slots → length octets ≤ a.width → get a.contents key ≡ None → Updates a.contents slab key (Some (record { items = octets })) → slab_len slab ≡ slab_len a.contents + 1 → slab.capacity ≡ a.contents.capacity → IsSound (record { contents = slab; octets = a.octets + length octets; slots = a.slots; width = a.width })
-    IsSound-put room fits vacant updates longer capacity =
+    pub IsSoundSlab-put : used_slots (slab_store a) < a.slots → length octets ≤ a.width → get a.contents key ≡ None → Updates a.contents slab key (Some (record { items = octets })) → slab_len slab ≡ slab_len a.contents + 1 → slab.capacity ≡ a.contents.capacity → IsSoundSlab (record { contents = slab; octets = a.octets + length octets; slots = a.slots; width = a.width })
+    IsSoundSlab-put room fits vacant updates longer capacity =
         let is = slab_store-put updates in
         let free = IsFree-slab vacant in
         record {
@@ -76,8 +76,8 @@ module _ (a : Inside) (sound : IsSound a) where
     pub slab_store-release : Updates a.contents slab key None → slab_store (record { contents = slab; octets = a.octets - length octets; slots = a.slots; width = a.width }) ≡ without (slab_store a) key
     slab_store-release updates i = record { contents = filled-remove a.contents slab key updates i; slots = a.slots; width = a.width }
 
-    pub IsSound-release : contents_of (slab_store a) key ≡ Some octets → Updates a.contents slab key None → slab_len slab + 1 ≡ slab_len a.contents → slab.capacity ≡ a.contents.capacity → IsSound (record { contents = slab; octets = a.octets - length octets; slots = a.slots; width = a.width })
-    IsSound-release held updates shorter capacity =
+    pub IsSoundSlab-release : contents_of (slab_store a) key ≡ Some octets → Updates a.contents slab key None → slab_len slab + 1 ≡ slab_len a.contents → slab.capacity ≡ a.contents.capacity → IsSoundSlab (record { contents = slab; octets = a.octets - length octets; slots = a.slots; width = a.width })
+    IsSoundSlab-release held updates shorter capacity =
         let is = slab_store-release updates in
         let fewer = used_slots-without (slab_store a) key octets held in
         let less = stored_octets-without (slab_store a) key octets held in

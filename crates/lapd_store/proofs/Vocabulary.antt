@@ -34,7 +34,7 @@ pub use Rattle.lapd_store.specs.Memory.{block_of, lent, octet, octet_lent, octet
 pub use Rattle.lapd_store.specs.Ownership.{Keeps, Owned, owned_octets, pairs_of}
 pub use Rattle.lapd_store.specs.RawStore.{IsApart, IsFilled, IsFreeList, contents_from, free_mark, link, list_end, octets_at, or_end, raw_store, slot_contents}
 pub use Rattle.lapd_store.specs.Region.{Holds, SameOutside}
-pub use Rattle.lapd_store.specs.SlabStore.{IsSound, filled, slab_store}
+pub use Rattle.lapd_store.specs.SlabStore.{IsSoundSlab, filled, slab_store}
 pub use Rattle.lapd_store.specs.SlotRing.{SlotRing, without_oldest_ones}
 pub use Rattle.lapd_store.specs.Store.{IsFree, IsFull, IsUsed, IsWithinLimits, SameLimits, Store, contents_of, empty_store, stored_octets, used_slots, with_contents, without}
 pub use Rattle.lapd_store.specs.contracts.octets.give_back.{clauses, ended}

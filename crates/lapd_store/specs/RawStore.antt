@@ -63,7 +63,7 @@ module _ (region : List (Option ℕ)) (lengths : List ℕ) (width : ℕ) where
     pub holds : Holds region (slot * width) octets
 
 -- Every slot is on the free list or has all its octets, and the counts are those of the store.
-pub record IsSound (a : Inside) : Type 0 where
+pub record IsSoundRaw (a : Inside) : Type 0 where
   pub free : List ℕ
   pub linked : IsFreeList a.region a.lengths.items a.width free a.first
   pub filled : (slot : ℕ) → get_or a.lengths.items slot free_mark ≢ free_mark → IsFilled a.region a.lengths.items a.width slot

@@ -16,7 +16,7 @@ slab_store a = record { contents = finmap.from_entries (filled a.contents); slot
 
 -- The slab has room for every slot's value, its count of values and the count of octets are those of the store, the
 -- store is within its limits, and the limits are within what a count and a vector can hold.
-pub record IsSound (a : Inside) : Type 0 where
+pub record IsSoundSlab (a : Inside) : Type 0 where
   pub room : a.slots ≤ a.contents.capacity
   pub counted : slab_len a.contents ≡ used_slots (slab_store a)
   pub measured : a.octets ≡ stored_octets (slab_store a)

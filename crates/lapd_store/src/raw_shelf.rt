@@ -36,11 +36,11 @@ impl Model for RawShelf {
 
     ghost coded = { store_code };
 
-    ghost use Rattle.lapd_store.specs.RawStore.{raw_store, IsSound};
+    ghost use Rattle.lapd_store.specs.RawStore.{raw_store, IsSoundRaw};
 
     ghost view = { raw_store };
 
-    ghost invariant = { IsSound };
+    ghost invariant = { IsSoundRaw };
 }
 
 impl RawShelf {

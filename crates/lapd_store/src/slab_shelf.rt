@@ -30,11 +30,11 @@ impl Model for SlabShelf {
 
     ghost coded = { store_code };
 
-    ghost use Rattle.lapd_store.specs.SlabStore.{slab_store, IsSound};
+    ghost use Rattle.lapd_store.specs.SlabStore.{slab_store, IsSoundSlab};
 
     ghost view = { slab_store };
 
-    ghost invariant = { IsSound };
+    ghost invariant = { IsSoundSlab };
 }
 
 impl SlabShelf {

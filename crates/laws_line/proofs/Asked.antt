@@ -1,5 +1,5 @@
 -- An event accepts for a link what its request asks and its answer grants.
-use Rattle.laws_line.proofs.Vocabulary.{arith, ◌≡◌, ℕ, Bool, true, false, cond, List, [], Option, Some, None, is_some, refl, nat_lt, Refusal, Service, Timer, LinkTimer, contents_of, not_not, Config, hears, Aim, at_timer, aim_of_expiry, Line, place_in, link_in, terms, aim_of_heard, Request, at_requested, at_deactivated, aim_of_request, heard_aims, Event, answer, refusal, Data, no_share, ending, share_aimed, share_of, asked_for, asked_by, LinkData, LinkRequest, StreamEvent}
+use Rattle.laws_line.proofs.Vocabulary.{arith, ◌≡◌, ℕ, Bool, true, false, cond, List, [], Option, Some, None, is_some, refl, nat_lt, Refusal, Service, Timer, LinkTimer, contents_asked, not_not, Config, hears, Aim, at_timer, aim_of_expiry, Line, place_in, link_in, terms, aim_of_heard, Request, at_requested, at_deactivated, aim_of_request, heard_aims, Event, answer, refusal, Data, no_share, ending, share_aimed, share_of, asked_for, asked_by, LinkData, LinkRequest, StreamEvent}
 use Rattle.model_link.specs.Requests as requests
 use Rattle.model_line.proofs.RoomForAll.{passed}
 
@@ -32,7 +32,7 @@ module _ (c : Config) (l : Line) (number : ℕ) where
   nothing-more : (b : Bool) → cond {A = List (List ℕ)} b [] [] ≡ []
   nothing-more b = grind arith
 
-  requested : (service : Service) (tei : ℕ) (what : LinkRequest) (o : Option ℕ) → contents_of what ≡ []
+  requested : (service : Service) (tei : ℕ) (what : LinkRequest) (o : Option ℕ) → contents_asked what ≡ []
       → Accepts [] (at_requested service tei what o)
   requested service tei what o none = grind (arith, is_some, nothing-more)
 

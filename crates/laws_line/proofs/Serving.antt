@@ -1,5 +1,5 @@
 -- What is taken.
-use Rattle.laws_line.proofs.Vocabulary.{◌≡◌, ℕ, ◌+◌, ◌<◌, false, List, [], ◌∷◌, ◌++◌, drop, take, slice_get, get_or, set, Option, Some, None, refl, sym, ap, ◌∙◌, subst, arith, zero-add, append-nil, IfSome, range_with_len, option_or, option_map_or, get_or-set_same, take-append-drop, All-head, All-tail, All-nil, All-cons, All-get_or, All-append, get_or-range_with_len, length-range_with_len, none-some, Service, Timer, LinkTimer, Link, is_information, Given, IsInOrder, IsOffered, given-in-order, given-is-offered, carried-is, offer-counts, nothing-given, Config, hears, Aim, at_units, at_timer, aim_of_expiry, aim_of_heard, Request, at_requested, aim_of_request, heard_aims, Line, UnitData, link_count, service_at, place_at, tei_at, terms, link_at, with_link, Taken, with_given_frame, link_taken, first_taken, round, taken, IsSoundAt, round_below, at_no_link, option_map, All, fresh, link_one as one, Event, after, answer, IsSound, IsSilentAt, IsItsTurn, IsOfLink, IsOwed, HasNothing, line_contents_of as contents_of, IsServed, unit_asked, units_behind, UnitsWait, TurnStays, LinkRequest, link_offer, link_given, link_after, StreamEvent}
+use Rattle.laws_line.proofs.Vocabulary.{cond, ◌≡◌, ℕ, ◌+◌, ◌<◌, false, List, [], ◌∷◌, ◌++◌, drop, take, slice_get, get_or, set, Option, Some, None, refl, sym, ap, ◌∙◌, subst, arith, zero-add, append-nil, IfSome, range_with_len, option_or, option_map_or, get_or-set_same, take-append-drop, All-head, All-tail, All-nil, All-cons, All-get_or, All-append, get_or-range_with_len, length-range_with_len, none-some, Service, Timer, LinkTimer, Link, is_information, Given, IsInOrder, IsOffered, given-in-order, given-is-offered, carried-is, offer-counts, nothing-given, Config, hears, Aim, at_units, at_timer, aim_of_expiry, aim_of_heard, Request, at_requested, aim_of_request, heard_aims, Line, UnitData, link_count, service_at, place_at, tei_at, terms, link_at, with_link, Taken, with_given_frame, link_taken, first_taken, round, taken, IsSoundAt, round_below, at_no_link, option_map, All, fresh, Event, after, answer, IsSound, IsSilentAt, IsItsTurn, IsOfLink, IsOwed, HasNothing, contents_of_link, IsServed, unit_asked, units_behind, UnitsWait, TurnStays, LinkRequest, link_offer, link_given, link_after, StreamEvent}
 use Rattle.model_link.specs.Sound as link_sound
 use Rattle.laws_line.proofs.Silence.{silent}
 use Rattle.laws_line.proofs.Downs.{by-down}
@@ -13,11 +13,11 @@ module _ (c : Config) (l : Line) (s : IsSound c l) where
   -- What is taken, by the line without it; or nothing waits.
   abbrev Fate : Option Taken → Type 0
   Fate None = HasNothing c l
-  Fate (Some t) = IsOwed c (contents_of l) l t.line t.frame
+  Fate (Some t) = IsOwed c (contents_of_link l) l t.line t.frame
 
   abbrev LinkFate : ℕ → Option Taken → Type 0
   LinkFate number None = IsSilentAt c l number
-  LinkFate number (Some t) = IsItsTurn c l number → IsOfLink c (contents_of l) l t.line t.frame
+  LinkFate number (Some t) = IsItsTurn c l number → IsOfLink c (contents_of_link l) l t.line t.frame
 
   by-link : (number : ℕ) → number < link_count c → LinkFate number (link_taken c l number)
   by-link number few = go (tei_at (place_at number) l) refl (s.links number few)
@@ -29,10 +29,10 @@ module _ (c : Config) (l : Line) (s : IsSound c l) where
       at-tei tei at sound (Some g) e =
           let t = terms c (service_at number) tei in
           let after_it = link_after t link_offer (link_at number l) in
-          let carried : IsOffered (contents_of l number) (link_at number l).s g.frame g.contents =
+          let carried : IsOffered (contents_of_link l number) (link_at number l).s g.frame g.contents =
           subst (λ o. IfSome o (λ g. IsOffered (link_at number l).contents (link_at number l).s g.frame g.contents)) e (given-is-offered t (link_at number l) sound) in
-          let counts : after_it.s ≡ (link_at number l).s + one (is_information g.frame.control) =
-          offer-counts t (link_at number l) sound ∙ ap (λ o. (link_at number l).s + one (option_map_or (λ g. is_information g.frame.control) o false)) e in
+          let counts : after_it.s ≡ (link_at number l).s + cond (is_information g.frame.control) 1 0 =
+          offer-counts t (link_at number l) sound ∙ ap (λ o. (link_at number l).s + cond (option_map_or (λ g. is_information g.frame.control) o false) 1 0) e in
           let here : get_or (set l.links number after_it) number fresh ≡ after_it = get_or-set_same l.links number after_it fresh (omega (arith, few, s.count)) in
           let ordered : IsInOrder t (link_at number l) after_it g.frame =
           subst (λ o. IfSome o (λ g. IsInOrder t (link_at number l) after_it g.frame)) e (given-in-order t (link_at number l) sound) in (
@@ -47,7 +47,7 @@ module _ (c : Config) (l : Line) (s : IsSound c l) where
             information = g.contents;
             spelled = refl;
             in_order = subst (λ (x : Link). IsInOrder t (link_at number l) x g.frame) (sym here) ordered;
-            carried = carried-is (contents_of l number) (link_at number l).s g.frame.command g.frame.control g.contents carried;
+            carried = carried-is (contents_of_link l number) (link_at number l).s g.frame.command g.frame.control g.contents carried;
             counted = ap (λ (x : Link). x.s) here ∙ counts;
             line = ap (λ (x : Link). record (with_link number x l) { turn = number + 1 }) (sym here);
           }
@@ -110,7 +110,7 @@ module _ (c : Config) (l : Line) (s : IsSound c l) where
   pub none-waits : taken c l ≡ None → HasNothing c l
   none-waits e = subst Fate e taken-is
 
-  pub served : IsServed c (contents_of l) l
+  pub served : IsServed c (contents_of_link l) l
   unfolding after
   served = grind (arith, taken-is)
 

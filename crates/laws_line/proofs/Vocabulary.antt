@@ -15,8 +15,9 @@ pub use Rattle.std.specs.Prelude.{All, Contains, count_by, fold, map, sum_by}
 pub use Rattle.model_bits.specs.declared.heard.Cause.{Cause}
 pub use Rattle.model_bits.specs.declared.heard.Cause.TheVariants.{Extension, Fcs, Sapi, Tei, Unserved}
 pub use Rattle.model_bits.specs.Stream.{dropped as bits_dropped, Event as StreamEvent, frame as stream_frame, overlong as stream_overlong}
+pub use Rattle.model_bits.specs.StuffingLaws.{AreOctets}
 pub use Rattle.lapd_frame.proofs.Spelling.{reading-again, reading-found}
-pub use Rattle.lapd_frame.specs.Grammar.{AreOctets, Parts, Spells, cr_bit, head_of, one_of, row, second_octet, spelling}
+pub use Rattle.lapd_frame.specs.Grammar.{Parts, Spells, cr_bit, head_of, one_of, row, second_octet, spelling}
 pub use Rattle.lapd_frame.specs.Reading.{long_reading}
 unfoldable pub use Rattle.lapd_frame.specs.Reading.{control_of, header_of, reading, supervisory_of, unnumbered_of}
 pub use Rattle.lapd_frame.specs.Services.{same_service, sapi_of, service_of}
@@ -144,12 +145,12 @@ pub use Rattle.laws_link.proofs.OfTwo.Waiting.{in-turn, nothing-given, nothing-t
 pub use Rattle.laws_link.proofs.Offering.{carried-is, given-is-offered, offer-counts, offer-leaves}
 pub use Rattle.laws_link.proofs.Once.{data-is, within-is}
 pub use Rattle.laws_link.proofs.Starting.{given-leaves}
-pub use Rattle.laws_link.specs.Accepted.{accepted, contents_of, ends, is_loss, is_release, tells_loss}
+pub use Rattle.laws_link.specs.Accepted.{accepted, contents_asked, ends, is_loss, is_release, tells_loss}
 pub use Rattle.laws_link.specs.Heard.{contents_heard, data_due, unit_due, unit_heard}
 pub use Rattle.laws_link.specs.History.{History, IsCounted, Share, share}
 pub use Rattle.laws_link.specs.InOrder.{IsInOrder}
 pub use Rattle.laws_link.specs.Known.{is_up, known, seen}
-pub use Rattle.laws_link.specs.Offered.{IsOffered, one as link_one}
+pub use Rattle.laws_link.specs.Offered.{IsOffered}
 pub use Rattle.laws_link.specs.States.{as_heard, is_overlong}
 pub use Rattle.laws_link.specs.Telling.{told_by, told_cleared}
 pub use Rattle.laws_link.specs.Timed.{ComesInStep, IsTimed, is_same, obey, obeyed}
@@ -175,7 +176,7 @@ pub use Rattle.laws_line.specs.Noted.{NotesItsOwn, noted_coming, noted_ending, n
 pub use Rattle.laws_line.specs.OneEvent.{IsAlone, IsGranted, IsManaged, IsOfPart, IsOneEvent, SaysNothing, noted_behind, noted_ending as line_noted_ending, of_down, of_group, of_link as line_of_link, of_management as line_of_management, of_next, of_units}
 pub use Rattle.laws_line.specs.Reasons.{HasReason, HaveReasons}
 pub use Rattle.laws_line.specs.Requests.{deactivates, of_link as requests_of_link}
-pub use Rattle.laws_line.specs.Served.{HasNothing, IsIdle, IsItsTurn, IsOfLink, IsOwed, IsServed, IsSilent, IsSilentAt, TurnStays, UnitsWait, contents_of as line_contents_of, unit_asked, units_behind, units_left}
+pub use Rattle.laws_line.specs.Served.{HasNothing, IsIdle, IsItsTurn, IsOfLink, IsOwed, IsServed, IsSilent, IsSilentAt, TurnStays, UnitsWait, contents_of_link, unit_asked, units_behind, units_left}
 pub use Rattle.laws_line.specs.Share.{asked_by, asked_for, ending, is_granted, is_link, no_share, share_aimed, share_of}
 pub use Rattle.laws_line.specs.Short.{AnswersAreShort}
 pub use Rattle.laws_line.specs.Steady.{Brings, BringsMalformed, BringsMessage, HearsFrame, IsBy, IsDeactivated, IsOf, IsOfManagement, timer_of}

@@ -3,6 +3,7 @@ use Rattle.std.specs.Prelude.{◌≡◌, ◌⊎◌, ℕ, ◌==◌, ◌&&◌, ◌
 use Rattle.std.specs.List.{list_any}
 use Rattle.std.specs.Option.{option_or}
 use Rattle.model_bits.specs.Stream as stream
+use Rattle.model_bits.specs.StuffingLaws.{AreOctets}
 use Rattle.lapd_frame.specs.declared.addresses.Address.{Address}
 use Rattle.lapd_frame.specs.declared.addresses.Side.TheVariants.{User}
 use Rattle.lapd_frame.specs.declared.faults.ReadFault.TheVariants.{Undefined, WrongSize}
@@ -10,7 +11,7 @@ use Rattle.lapd_frame.specs.declared.notes.Note.{Note}
 use Rattle.lapd_frame.specs.declared.notes.Note.TheVariants as notes
 use Rattle.lapd_frame.specs.declared.overlong.Long.TheVariants as long
 use Rattle.lapd_frame.specs.declared.services.Service.{Service}
-use Rattle.lapd_frame.specs.Grammar.{Parts, Spells, AreOctets}
+use Rattle.lapd_frame.specs.Grammar.{Parts, Spells}
 use Rattle.lapd_frame.specs.Reading.{reading, long_reading}
 use Rattle.lapd_frame.specs.Services.{sapi_of, same_service}
 use Rattle.model_link.specs.Events as link

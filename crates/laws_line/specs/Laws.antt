@@ -17,7 +17,7 @@ use Rattle.model_line.specs.Sides.{group_told, IsToGroup}
 use Rattle.model_line.specs.Sound.{IsInRange, IsSound}
 use Rattle.laws_line.specs.Share.{share_of, IsKept, asked_by}
 use Rattle.laws_line.specs.Loss.{IsTold}
-use Rattle.laws_line.specs.Served.{contents_of, IsServed, UnitsWait, TurnStays}
+use Rattle.laws_line.specs.Served.{contents_of_link, IsServed, UnitsWait, TurnStays}
 use Rattle.laws_line.specs.OneEvent.{IsOneEvent}
 use Rattle.laws_line.specs.Heard.{IsFor, IsTo, IsMalformed, IsTooLong, IsOneEvent as IsOneHeard, OnlyTells, IsToManagement, contents_in, due, IsNotedOnce, IsHeard}
 use Rattle.laws_line.specs.Causes.{HaveCauses, AreThere}
@@ -38,7 +38,7 @@ pub record NothingIsLost : Type 0 where
 -- A call for the next frame takes what waits, or nothing waits; what waits of unit data is what was granted; and only such
 -- calls change turns.
 pub record TakesServe : Type 0 where
-  pub served : (c : Config) (l : Line) → IsInRange c → IsSound c l → IsServed c (contents_of l) l
+  pub served : (c : Config) (l : Line) → IsInRange c → IsSound c l → IsServed c (contents_of_link l) l
   pub units : (c : Config) (e : Event) (l : Line) → UnitsWait e l (after c e l) (answer c e l)
   pub turns : (c : Config) (e : Event) (l : Line) → TurnStays e l (after c e l)
 

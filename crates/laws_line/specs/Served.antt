@@ -10,7 +10,6 @@ use Rattle.model_link.specs.declared.terms.Terms.{Terms}
 use Rattle.model_link.specs.Link.{Link}
 use Rattle.model_link.specs.Sound.{is_information}
 use Rattle.laws_link.specs.InOrder.{IsInOrder}
-use Rattle.laws_link.specs.Offered.{one}
 use Rattle.laws_link.specs.Sending.{MayGo}
 use Rattle.lapd_tei.specs.declared.messages.Message.{Message}
 use Rattle.lapd_tei.specs.Messages.{frame_of}
@@ -85,7 +84,7 @@ pub record IsOfLink (c : Config) (contents : ℕ → List (List ℕ)) (before af
   })
   pub in_order : IsInOrder (terms c (service_at number) tei) (link_at number before) (link_at number after) (record { command = command; control = control })
   pub carried : information ≡ (if is_information control then slice_get (contents number) (link_at number before).s else None)
-  pub counted : (link_at number after).s ≡ (link_at number before).s + one (is_information control)
+  pub counted : (link_at number after).s ≡ (link_at number before).s + (if is_information control then 1 else 0)
   pub line : after ≡ record (with_link number (link_at number after) before) { turn = number + 1 }
 
 abbrev pub IsOwed : Config → (ℕ → List (List ℕ)) → Line → Line → List ℕ → Type 0
@@ -102,8 +101,8 @@ pub record IsIdle (c : Config) (before after : Line) : Type 0 where
   pub nothing : HasNothing c before
   pub line : after ≡ before
 
-abbrev pub contents_of : Line → ℕ → List (List ℕ)
-contents_of l number = (link_at number l).contents
+abbrev pub contents_of_link : Line → ℕ → List (List ℕ)
+contents_of_link l number = (link_at number l).contents
 
 abbrev pub IsServed : Config → (ℕ → List (List ℕ)) → Line → Type 0
 IsServed c contents l =

@@ -1,11 +1,8 @@
 -- Worked values: what calls for the next frame alone come to.
-use Rattle.std.specs.Prelude.{◌≡◌, ℕ, List, [], ◌∷◌, length, refl}
-use Rattle.laws_line.specs.WorkedWords.{Network, reading, header_of, control_of, unnumbered_of, supervisory_of, seq, distance_of, named, Config, of_aim, Line, fresh_line, link_at, of_request, aim_of_heard, Assign, frames_to_go, way_round, frames_before, most_frames, most_frames_before}
-use Rattle.model_bits.specs.Stream as stream
+use Rattle.std.specs.Prelude.{◌≡◌, [], ◌∷◌, length, refl}
+use Rattle.laws_line.specs.WorkedWords.{reading, header_of, control_of, unnumbered_of, supervisory_of, seq, distance_of, named, Line, fresh_line, link_at, of_request, Assign, frames_to_go, way_round, frames_before, most_frames, most_frames_before}
 use Rattle.lapd_tei.specs.Events as teis
-
-abbrev usual : Config
-usual = record { lines = 1; terminals = 8; k = 7; k16 = 7; queue = 8; unit_queue = 4; control = 4; slots = 64; n201 = 260; n200 = 3; side = Network }
+use Rattle.laws_line.specs.Worked.{usual, heard}
 
 -- At most 200 frames are to go on a line, for which as many calls are enough.
 most_wait : most_frames usual ≡ 200
@@ -20,9 +17,6 @@ at_turn : way_round 16 3 3 ∷ way_round 16 5 3 ∷ way_round 16 16 3 ∷ [] ≡
 at_turn = refl
 
 -- The UA of the call link of TEI 64 waits, and then the answer to an RR with P=1.
-abbrev heard : List ℕ → Line → Line
-heard octets l = (of_aim usual (aim_of_heard usual l (stream.frame octets)) l).line
-
 abbrev polled : Line
 polled = heard (0x00 ∷ 0x81 ∷ 0x01 ∷ 0x01 ∷ []) (heard (0x00 ∷ 0x81 ∷ 0x7F ∷ []) (of_request usual (Assign 64) (fresh_line usual)).line)
 

@@ -1,35 +1,21 @@
 -- Worked values of a line: each computes.
 use Rattle.std.specs.Prelude.{◌≡◌, ℕ, zero, suc, false, List, [], ◌∷◌, replicate, Some, None, refl}
-use Rattle.laws_line.specs.WorkedWords.{Sapi, Tei, Network, BadTei, NoLink, WrongState, TeiTaken, CheckRunning, ControlFull, Call, Packet, Start, Stop, T203, reading, header_of, control_of, unnumbered_of, Config, nothing, dropped, Request, Data, Unit, Assign, Remove, Check, Line, fresh_line, state_of, Effect, of_aim, aim_of_heard, refusal, of_request, Taken, taken}
+use Rattle.laws_line.specs.WorkedWords.{Sapi, Tei, BadTei, NoLink, WrongState, TeiTaken, CheckRunning, ControlFull, Call, Packet, Start, Stop, T203, reading, header_of, control_of, unnumbered_of, nothing, dropped, Data, Unit, Assign, Remove, Check, Line, state_of, Effect, of_aim, aim_of_heard, refusal, of_request, taken}
 use Rattle.model_bits.specs.Stream as stream
 use Rattle.lapd_frame.specs.declared.notes.Note.TheVariants as notes
 use Rattle.lapd_frame.specs.declared.notes.ErrorCode.TheVariants as code
 use Rattle.lapd_tei.specs.Events as teis
-
-abbrev pub usual : Config
-usual = record { lines = 1; terminals = 8; k = 7; k16 = 7; queue = 8; unit_queue = 4; control = 4; slots = 64; n201 = 260; n200 = 3; side = Network }
+use Rattle.laws_line.specs.Worked.{usual, heard}
+use Rattle.laws_line.specs.WorkedServed.{asked, with_64}
 
 -- a frame of a terminal is heard
 abbrev hearing : List ℕ → Line → Effect
 hearing octets l = of_aim usual (aim_of_heard usual l (stream.frame octets)) l
 
-abbrev heard : List ℕ → Line → Line
-heard octets l = (hearing octets l).line
-
--- a request is made
-abbrev asked : Request → Line → Line
-asked r l = (of_request usual r l).line
-
 -- the next frames that are taken
-abbrev line_of : Taken → Line
-line_of t = t.line
-
 unfoldable frames_taken : ℕ → Line → List (List ℕ)
 frames_taken zero l = []
 frames_taken (suc n) l = elim (taken usual l) [ None ↦ [] | Some t ↦ t.frame ∷ frames_taken n t.line ]
-
-abbrev with_64 : Line
-with_64 = asked (Assign 64) (fresh_line usual)
 
 abbrev with_64_and_65 : Line
 with_64_and_65 = asked (Assign 65) with_64

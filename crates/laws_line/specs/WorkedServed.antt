@@ -19,7 +19,7 @@ taken_from zero l = l
 taken_from (suc n) l = taken_from n (after usual next l)
 
 -- A call takes the message that waits, else the unit data, else a frame of a link;
-abbrev with_64 : Line
+abbrev pub with_64 : Line
 with_64 = asked (Assign 64) (fresh_line usual)
 
 message_taken : next_frame (asked (Check 64) (asked (Unit Call 127 (0xAB ∷ [])) with_64))

@@ -4,7 +4,7 @@ use Rattle.laws_line.specs.WorkedWords.{Tei, Unserved, User, BadTei, WrongSide, 
 use Rattle.model_bits.specs.Stream as stream
 use Rattle.lapd_frame.specs.declared.notes.Note.TheVariants as notes
 use Rattle.lapd_tei.specs.Events as teis
-use Rattle.laws_line.specs.WorkedLine.{usual}
+use Rattle.laws_line.specs.Worked.{usual}
 
 -- the private exchange's end of a trunk
 abbrev trunk : Config

@@ -1,5 +1,5 @@
 -- What each event makes of the contents of a link, of V(A) and of V(S).
-use Rattle.laws_link.proofs.Vocabulary.{◌≡◌, ℕ, ◌+◌, ◌≤◌, Bool, true, false, cond, List, [], ◌∷◌, ◌++◌, length, take, drop, Option, Some, None, is_some, refl, ◌⊎◌, inl, inr, sym, subst, true≢false, arith, length-take-le, append-nil, drop-drop, add-zero, ⊎_elim, All, nat_lt, nat_le, option_map_or, drop_all, drop-append-le, All-head, Control, Ui, ErrorCode, Refusal, WrongState, State, TeiAssigned, AwaitingEstablishment, AwaitingRelease, Established, TimerRecovery, LinkTimer, T200, ControlFrame, Terms, Link, is_multiple_frame, IsSettledIn, IsSound, IsWaitingFrame, Course, begun, Step, ◌then◌, nothing, changed, Leads, nothing_leads, number_of, acknowledged_by, contents_of, is_release, tells_loss, Share, share, left_by, with_share, unit_due, one, is_i_frame, i_frames, begin_anew, deliver_unit, leave_unserved, pending_is, start, unit_data, give_information, give_waiting, is_awaiting_acknowledgement, may_send_information, offer_among, send_acknowledgement, with_one_sent, course, expired_in, expired_step, frame_in, frame_step, given_of, is_running, malformed_in, told_of_clearing, both_ways}
+use Rattle.laws_link.proofs.Vocabulary.{◌≡◌, ℕ, ◌+◌, ◌≤◌, Bool, true, false, cond, List, [], ◌∷◌, ◌++◌, length, take, drop, Option, Some, None, is_some, refl, ◌⊎◌, inl, inr, sym, subst, true≢false, arith, length-take-le, append-nil, drop-drop, add-zero, ⊎_elim, All, nat_lt, nat_le, option_map_or, drop_all, drop-append-le, All-head, Control, Ui, ErrorCode, Refusal, WrongState, State, TeiAssigned, AwaitingEstablishment, AwaitingRelease, Established, TimerRecovery, LinkTimer, T200, ControlFrame, Terms, Link, is_multiple_frame, IsSettledIn, IsSound, IsWaitingFrame, Course, begun, Step, ◌then◌, nothing, changed, Leads, nothing_leads, number_of, acknowledged_by, contents_asked, is_release, tells_loss, Share, share, left_by, with_share, unit_due, is_i_frame, i_frames, begin_anew, deliver_unit, leave_unserved, pending_is, start, unit_data, give_information, give_waiting, is_awaiting_acknowledgement, may_send_information, offer_among, send_acknowledgement, with_one_sent, course, expired_in, expired_step, frame_in, frame_step, given_of, is_running, malformed_in, told_of_clearing, both_ways}
 use Rattle.model_link.specs.Events
 use Rattle.model_link.specs.Requests
 use Rattle.laws_link.proofs.Queueing.{On, words}
@@ -142,7 +142,7 @@ module _ (t : Terms) (l : Link) (h : IsSound t l) where
   releases other e s = absurd (true≢false (sym s))
 
   granted : (request : Events.Request) (o : Option Refusal) → cond (Requests.serves l.state request) o (Some WrongState) ≡ None
-      → Led (requested-share false (contents_of request) (is_release request) (Requests.granted t request (begun l))) 0 (Requests.granted t request (begun l))
+      → Led (requested-share false (contents_asked request) (is_release request) (Requests.granted t request (begun l))) 0 (Requests.granted t request (begun l))
   unfolding Moved
   granted Events.Establish o e = by-row 0 (Requests.granted t Events.Establish (begun l)) (established_in_4 t l h.ordered h.accepted)
   granted Events.Release o e = releases l.state refl (served (Requests.serves l.state Events.Release) o e)
@@ -152,13 +152,13 @@ module _ (t : Terms) (l : Link) (h : IsSound t l) where
 
   requested : (request : Events.Request) (full : Bool) (o : Option Refusal) → Requests.refusal t l full request ≡ o
       → let c = elim o as (λ o. Course) [ None ↦ Requests.granted t request (begun l) | Some _ ↦ begun l ] in
-      Led (requested-share (is_some o) (contents_of request) (is_release request) c) 0 c
+      Led (requested-share (is_some o) (contents_asked request) (is_release request) c) 0 c
   requested request full None e = granted request (Requests.refusal_for_room t l full request) e
   requested request full (Some w) e = by-row 0 (begun l) unmoved
 
   -- Offers.
   abbrev given-in : Course → ℕ
-  given-in c = one (option_map_or is_i_frame (given_of t l c c.sent) false)
+  given-in c = cond (option_map_or is_i_frame (given_of t l c c.sent) false) 1 0
 
   gives : (c : Course) (n : ℕ) → c.link.contents ≡ l.contents → c.link.a ≡ l.a → c.link.s ≡ l.s + n → tells_loss c.notes ≡ false → c.zeroed ≡ false
       → Led (row c.zeroed (tells_loss c.notes) 0) n c
@@ -170,7 +170,7 @@ module _ (t : Terms) (l : Link) (h : IsSound t l) where
   offers : (ws : List ControlFrame) → All (IsWaitingFrame t) ws → Gives (offer_among t ws (begun l))
   offers (f ∷ fs) frames =
       let bare = (All-head (IsWaitingFrame t) f fs frames).without_contents in
-      subst (λ b. Led (row false false 0) (one b) (give_waiting f fs (begun l))) (sym bare) (gives (give_waiting f fs (begun l)) 0 refl refl (sym (add-zero l.s)) refl refl)
+      subst (λ b. Led (row false false 0) (cond b 1 0) (give_waiting f fs (begun l))) (sym bare) (gives (give_waiting f fs (begun l)) 0 refl refl (sym (add-zero l.s)) refl refl)
   offers [] frames =
       let one_more = (give_information then changed with_one_sent then pending_is false) (begun l) in
       both_ways Gives (may_send_information t l) _ _

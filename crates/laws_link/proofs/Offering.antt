@@ -1,5 +1,5 @@
 -- What an offer gives.
-use Rattle.laws_link.proofs.Vocabulary.{arith, ◌≡◌, ℕ, ◌+◌, ◌<◌, Bool, true, false, cond, List, [], ◌∷◌, length, slice_get, Option, None, refl, sym, ap, ◌∙◌, add-zero, All, IfSome, nat_lt, option_map_or, ltb-true, and_parts, slice_get-get_or, get_or, All-head, seq, Control, ControlFrame, Terms, Link, course, after, given, given_of, IsSound, IsWaitingFrame, is_information, Course, Sent, begun, IsOffered, one, is_i_frame, both_ways, offer, first_unsent, may_send_information, next_information, offer_among}
+use Rattle.laws_link.proofs.Vocabulary.{arith, ◌≡◌, ℕ, ◌+◌, ◌<◌, Bool, true, false, cond, List, [], ◌∷◌, length, slice_get, Option, None, refl, sym, ap, ◌∙◌, add-zero, All, IfSome, nat_lt, option_map_or, ltb-true, and_parts, slice_get-get_or, get_or, All-head, seq, Control, ControlFrame, Terms, Link, course, after, given, given_of, IsSound, IsWaitingFrame, is_information, Course, Sent, begun, IsOffered, is_i_frame, both_ways, offer, first_unsent, may_send_information, next_information, offer_among}
 
 -- a frame without contents that is no I-frame
 alone : (all : List (List ℕ)) (j : ℕ) (command : Bool) (control : Control) → is_information control ≡ false → IsOffered all j (record { command = command; control = control }) None
@@ -51,12 +51,12 @@ module _ (t : Terms) (l : Link) where
 
 -- and V(S) counts the I-frame that it gives.
 abbrev counts-it : Terms → Link → Course → Type 0
-counts-it t l c = c.link.s ≡ l.s + one (option_map_or is_i_frame (given_of t l c c.sent) false)
+counts-it t l c = c.link.s ≡ l.s + cond (option_map_or is_i_frame (given_of t l c c.sent) false) 1 0
 
 module _ (t : Terms) (l : Link) (h : IsSound t l) where
   counting : (ws : List ControlFrame) → All (IsWaitingFrame t) ws → counts-it t l (offer_among t ws (begun l))
-  counting (f ∷ fs) frames = sym (add-zero l.s) ∙ ap (λ b. l.s + one b) (sym ((All-head (IsWaitingFrame t) f fs frames).without_contents))
+  counting (f ∷ fs) frames = sym (add-zero l.s) ∙ ap (λ b. l.s + cond b 1 0) (sym ((All-head (IsWaitingFrame t) f fs frames).without_contents))
   counting [] frames = grind (arith, both_ways, add-zero)
 
-  pub offer-counts : (after t offer l).s ≡ l.s + one (option_map_or is_i_frame (given t l) false)
+  pub offer-counts : (after t offer l).s ≡ l.s + cond (option_map_or is_i_frame (given t l) false) 1 0
   offer-counts = counting l.waiting h.frames

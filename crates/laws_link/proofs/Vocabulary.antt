@@ -68,7 +68,7 @@ pub use Rattle.model_link.specs.Established.{acknowledged_by_information_in_7, a
 pub use Rattle.model_link.specs.MultipleFrame.{answered, clear_busy_in_7_8, contents_in_7_8, data_in_7_8, failed, information_in_7_8, is_final, release_in_7_8, set_busy_in_7_8, supervisory, ua_in_7_8}
 pub use Rattle.model_link.specs.Requests.{granted, refusal, refusal_of_contents, release_in, serves}
 pub use Rattle.model_link.specs.TimerRecovery.{acknowledged_in_8, frame_in_8, particulars_in_8, recovered, solicited, t200_in_8}
-pub use Rattle.laws_link.specs.Accepted.{acknowledged_by, beyond, contents_of, empties, is_loss, is_release, number_of, tells_loss}
+pub use Rattle.laws_link.specs.Accepted.{acknowledged_by, beyond, contents_asked, empties, is_loss, is_release, number_of, tells_loss}
 pub use Rattle.laws_link.specs.Beginning.{IsSeen, tells_beginning}
 pub use Rattle.laws_link.specs.Effects.{IsReleasedIn, TakesEffect}
 pub use Rattle.laws_link.specs.Expiries.{Expires, ExpiresIn, IsGivenUp, IsSent, enquiry}
@@ -79,9 +79,9 @@ pub use Rattle.laws_link.specs.History.{History, IsCounted, IsKept, Share, left_
 unfoldable pub use Rattle.laws_link.specs.History.{with_all}
 pub use Rattle.laws_link.specs.InOrder.{IsInOrder}
 pub use Rattle.laws_link.specs.Known.{is_up, is_up_in, known, seen}
-pub use Rattle.laws_link.specs.Offered.{IsOffered, i_frames, is_i_frame, one}
+pub use Rattle.laws_link.specs.Offered.{IsOffered, i_frames, is_i_frame}
 pub use Rattle.laws_link.specs.Owing.{HasReceipt, IsBegunAgain, Owes, receipt}
-pub use Rattle.laws_link.specs.Samples.{sabme, up, usual}
+pub use Rattle.laws_link.specs.Samples.{sabme, up, usual_terms}
 pub use Rattle.laws_link.specs.Sending.{GoesBackTo, MayGo, asked_from, reported}
 unfoldable pub use Rattle.laws_link.specs.Sending.{i_frames_offered, offered}
 pub use Rattle.laws_link.specs.Starting.{LeavesTimers}
@@ -89,7 +89,7 @@ pub use Rattle.laws_link.specs.States.{as_heard, by_expiry, numbers_begin, state
 pub use Rattle.laws_link.specs.Steady.{AsksFrom, BeginsBusy, EndsBusy, MayEndBy, MayLose, MovesBusy, MovesSent, is_anew, tells_anew}
 pub use Rattle.laws_link.specs.Telling.{told_by, told_with}
 pub use Rattle.laws_link.specs.Timed.{ComesInStep, IsTimed, IsTimedIn, StaysInStep, is_same, obeyed}
-pub use Rattle.laws_link.specs.Waiting.{answers, commands, is_next, is_taken, lost_by, put, to_information, waiting_left}
+pub use Rattle.laws_link.specs.Waiting.{answers, commands, has_next_number, is_taken, lost_by, put, to_information, waiting_left}
 pub use Rattle.laws_link.specs.two.Ahead.{IsAhead, IsMild, IsMildAct, IsMildRequest}
 unfoldable pub use Rattle.laws_link.specs.two.Ahead.{StayAhead}
 pub use Rattle.laws_link.specs.two.AnyOrder.{IsStill, IsTurn, IsTurnOf, load, load_of, weight, weight_at}

@@ -16,12 +16,12 @@ use Rattle.model_link.specs.Requests.{refusal}
 use Rattle.model_link.specs.Machine.{told}
 
 -- Contents that layer 3 gives in a data request that is not refused.
-abbrev pub contents_of : Request → List (List ℕ)
-contents_of (Data octets) = octets ∷ []
-contents_of other = []
+abbrev pub contents_asked : Request → List (List ℕ)
+contents_asked (Data octets) = octets ∷ []
+contents_asked other = []
 
 abbrev pub accepted : Terms → Event → Link → List (List ℕ)
-accepted t (requested request pool_is_full) l = if is_some (refusal t l pool_is_full request) then [] else contents_of request
+accepted t (requested request pool_is_full) l = if is_some (refusal t l pool_is_full request) then [] else contents_asked request
 accepted t other l = []
 
 -- The N(R) of a supervisory frame, or of an I-frame of at most N201 octets.

@@ -8,7 +8,7 @@ use Rattle.model_link.specs.declared.frames.ControlFrame.{ControlFrame}
 use Rattle.model_link.specs.Link.{Link, is_multiple_frame}
 use Rattle.model_link.specs.Events.{frame, Establish, SetBusy, ClearBusy, Event, received, requested, offer}
 use Rattle.laws_link.specs.States.{moves, comes_to, is_clearing, is_anew}
-use Rattle.laws_link.specs.Waiting.{is_next, is_taken, is_time, put}
+use Rattle.laws_link.specs.Waiting.{has_next_number, is_taken, is_time, put}
 
 -- A flag goes off where an establishment begins anew; in states 7 and 8 an event may set it; else it stays (Q.921 clause
 -- 5.7, and the profile).
@@ -42,7 +42,7 @@ own_busy_left e l to = flag_left e l to (busy_asked e l.own_busy) l.own_busy
 -- What REJ asked for is awaited from an I-frame out of sequence to the next one in sequence. With own busy on I-frames are
 -- dropped, and say nothing of it (clauses 5.6.6 and 5.8.1).
 abbrev pub rejecting_by : Control → Link → Bool
-rejecting_by (Information ns nr p) l = if l.own_busy then l.rejecting else not (is_next ns l)
+rejecting_by (Information ns nr p) l = if l.own_busy then l.rejecting else not (has_next_number ns l)
 rejecting_by other l = l.rejecting
 
 abbrev pub rejecting_heard : Event → Link → Bool
@@ -55,7 +55,7 @@ rejecting_left e l to = flag_left e l to (rejecting_heard e l) l.rejecting
 -- An acknowledgement is owed for an I-frame that is taken, until a frame is put (in states 7 and 8 it has N(R), and may
 -- have found no room and be told as lost), or goes, or the link leaves these states (clauses 5.5.3.2, 5.6.2 and 5.6.3.1).
 abbrev pub takes_contents_by : Control → Link → Bool
-takes_contents_by (Information ns nr p) l = is_taken (is_next ns l) l
+takes_contents_by (Information ns nr p) l = is_taken (has_next_number ns l) l
 takes_contents_by other l = false
 
 abbrev pub takes_contents : Event → Link → Bool

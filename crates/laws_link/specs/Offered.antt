@@ -29,15 +29,12 @@ abbrev pub IsOffered : List (List ℕ) → ℕ → ControlFrame → Option (List
 IsOffered all j f contents =
     elim (number_sent f.control) as (λ o. Type 0) [ None ↦ contents ≡ None | Some ns ↦ Carries all j ns contents ]
 
--- How many I-frames an event gives.
-abbrev pub one : Bool → ℕ
-one b = if b then 1 else 0
-
 abbrev pub is_i_frame : Given → Bool
 is_i_frame g = is_information g.frame.control
 
+-- How many I-frames an event gives.
 abbrev pub i_frames : Terms → Event → Link → ℕ
-i_frames t offer l = one (option_map_or is_i_frame (given t l) false)
+i_frames t offer l = if option_map_or is_i_frame (given t l) false then 1 else 0
 i_frames t other l = 0
 
 -- V(S) goes on by each I-frame that is given. An event that gives none leaves it, or takes it back to V(A): I-frames

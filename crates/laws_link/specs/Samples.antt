@@ -14,17 +14,17 @@ use Rattle.model_link.specs.Told.{LinkTold, Given}
 use Rattle.model_link.specs.Machine.{after, after_all, told, given}
 
 -- TEI 64 with k 7, N201 260, N200 3, room for 8 contents and for 4 control frames; and the same with other numbers.
-abbrev pub usual : Terms
-usual = record { service = Call; tei = 64; k = 7; n201 = 260; n200 = 3; queue = 8; control = 4 }
+abbrev pub usual_terms : Terms
+usual_terms = record { service = Call; tei = 64; k = 7; n201 = 260; n200 = 3; queue = 8; control = 4 }
 
 abbrev pub with_k_and_queue : ℕ → ℕ → Terms
-with_k_and_queue k queue = record usual { k = k; queue = queue }
+with_k_and_queue k queue = record usual_terms { k = k; queue = queue }
 
 abbrev pub with_n200 : ℕ → Terms
-with_n200 n200 = record usual { n200 = n200 }
+with_n200 n200 = record usual_terms { n200 = n200 }
 
 abbrev pub packet : Terms
-packet = record usual { service = Packet; k = 3 }
+packet = record usual_terms { service = Packet; k = 3 }
 
 -- Octets of a frame from the terminal, with an address of the link.
 abbrev pub received_as : Result Parts ReadFault → Received
@@ -82,4 +82,4 @@ abbrev pub sabme : Event
 sabme = comes (0x00 ∷ 0x81 ∷ 0x7F ∷ [])
 
 abbrev pub up : Link
-up = after_all usual (sabme ∷ offer ∷ []) fresh
+up = after_all usual_terms (sabme ∷ offer ∷ []) fresh

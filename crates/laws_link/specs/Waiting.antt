@@ -25,9 +25,10 @@ abbrev pub as_command : Control → List ControlFrame
 as_command control = record { command = true; control = control } ∷ []
 
 -- In states 7 and 8 an I-frame is taken where own busy is off and it is the next one; where own busy is off and it is
--- another, it is out of sequence (clauses 5.6.2, 5.6.6 and 5.8.1).
-abbrev pub is_next : Seq → Link → Bool
-is_next ns l = ns.value == (seq l.r).value
+-- another, it is out of sequence (clauses 5.6.2, 5.6.6 and 5.8.1). Which is the next is said anew here, in place of the
+-- machine's word, so that the law stays as it is where the machine changes; so are other words of these laws.
+abbrev pub has_next_number : Seq → Link → Bool
+has_next_number ns l = ns.value == (seq l.r).value
 
 abbrev pub is_taken : Bool → Link → Bool
 is_taken next l = not l.own_busy && next
@@ -57,7 +58,7 @@ to_disc other p = Ua p
 
 -- No other frame is answered.
 abbrev pub answers_up : Bool → Control → Link → List ControlFrame
-answers_up command (Information ns nr p) l = to_information (is_next ns l) p l
+answers_up command (Information ns nr p) l = to_information (has_next_number ns l) p l
 answers_up command (ReceiveReady nr p) l = to_supervisory command p l
 answers_up command (ReceiveNotReady nr p) l = to_supervisory command p l
 answers_up command (Reject nr p) l = to_supervisory command p l

@@ -1,15 +1,15 @@
 -- Worked values: what an event leaves of a link.
 use Rattle.std.specs.Prelude.{◌≡◌, true, false, List, [], ◌∷◌, refl}
-use Rattle.laws_link.specs.WorkedWords.{seq, distance_of, named, supervisory_of, unnumbered_of, control_of, header_of, reading, ReceiveReady, ReceiveNotReady, Reject, Sabme, Call, State, AwaitingEstablishment, Established, TimerRecovery, T203, ControlFrame, Link, fresh, Event, SetBusy, expired, after, after_all, usual, comes, ask, sabme, up, as_heard, state_after, numbers_begin, put, peer_busy_left, pending_left, told_by}
+use Rattle.laws_link.specs.WorkedWords.{seq, distance_of, named, supervisory_of, unnumbered_of, control_of, header_of, reading, ReceiveReady, ReceiveNotReady, Reject, Sabme, Call, State, AwaitingEstablishment, Established, TimerRecovery, T203, ControlFrame, Link, fresh, Event, SetBusy, expired, after, after_all, usual_terms, comes, ask, sabme, up, as_heard, state_after, numbers_begin, put, peer_busy_left, pending_left, told_by}
 use Rattle.lapd_frame.specs.declared.notes.ErrorCode.TheVariants as code
 use Rattle.lapd_frame.specs.declared.notes.Note.TheVariants as notes
 
 -- by the tables
 abbrev led : Event → Link → State
-led e l = state_after usual (as_heard usual e) l
+led e l = state_after usual_terms (as_heard usual_terms e) l
 
 abbrev puts : Event → Link → List ControlFrame
-puts e l = put (as_heard usual e) l (led e l)
+puts e l = put (as_heard usual_terms e) l (led e l)
 
 -- SABME leads to state 7, and RR with N(R) 5, of which nothing was sent, from there to state 5: SABME goes.
 by_sabme : led sabme fresh ≡ Established
@@ -43,7 +43,7 @@ to_poll : puts (comes (0x00 ∷ 0x81 ∷ 0x01 ∷ 0x01 ∷ [])) up ≡ record { 
 unfolding seq distance_of named reading header_of control_of unnumbered_of supervisory_of after_all
 to_poll = refl
 
-to_poll_when_busy : puts (comes (0x00 ∷ 0x81 ∷ 0x01 ∷ 0x01 ∷ [])) (after usual (ask SetBusy) up)
+to_poll_when_busy : puts (comes (0x00 ∷ 0x81 ∷ 0x01 ∷ 0x01 ∷ [])) (after usual_terms (ask SetBusy) up)
     ≡ record { command = false; control = ReceiveNotReady (seq 0) true } ∷ []
 unfolding seq distance_of named reading header_of control_of unnumbered_of supervisory_of after_all
 to_poll_when_busy = refl
@@ -53,7 +53,7 @@ unfolding seq distance_of named reading header_of control_of unnumbered_of super
 to_gap = refl
 
 -- An acknowledgement that is owed for I-frame 0 is owed still after UI; and UA with F=1 in state 7 begins no numbers.
-owed : pending_left (comes (0x00 ∷ 0x81 ∷ 0x03 ∷ 0xCB ∷ [])) (after usual (comes (0x00 ∷ 0x81 ∷ 0x00 ∷ 0x00 ∷ 0x41 ∷ [])) up) Established ≡ true
+owed : pending_left (comes (0x00 ∷ 0x81 ∷ 0x03 ∷ 0xCB ∷ [])) (after usual_terms (comes (0x00 ∷ 0x81 ∷ 0x00 ∷ 0x00 ∷ 0x41 ∷ [])) up) Established ≡ true
 unfolding seq distance_of named reading header_of control_of unnumbered_of supervisory_of after_all
 owed = refl
 
@@ -62,6 +62,6 @@ unfolding seq distance_of named reading header_of control_of unnumbered_of super
 ua_begins_none = refl
 
 -- That UA is told as error C.
-ua_told : told_by usual (comes (0x02 ∷ 0x81 ∷ 0x73 ∷ [])) up Established ≡ notes.Error Call 64 code.C ∷ []
+ua_told : told_by usual_terms (comes (0x02 ∷ 0x81 ∷ 0x73 ∷ [])) up Established ≡ notes.Error Call 64 code.C ∷ []
 unfolding seq distance_of named reading header_of control_of unnumbered_of supervisory_of after_all
 ua_told = refl

@@ -1,6 +1,6 @@
 -- Worked values: the room of a link.
 use Rattle.std.specs.Prelude.{◌≡◌, [], ◌∷◌, None, Some, refl}
-use Rattle.laws_link.specs.WorkedWords.{seq, distance_of, named, QueueFull, PoolFull, supervisory_of, unnumbered_of, control_of, header_of, reading, Link, fresh, Data, offer, after_all, room_of, refusal_for, usual, with_k_and_queue, comes, ask, sabme}
+use Rattle.laws_link.specs.WorkedWords.{seq, distance_of, named, QueueFull, PoolFull, supervisory_of, unnumbered_of, control_of, header_of, reading, Link, fresh, Data, offer, after_all, room_of, refusal_for, usual_terms, with_k_and_queue, comes, ask, sabme}
 
 -- With k 1 and places for two contents, two leave no place, however many slots are free; once the terminal has
 -- acknowledged the first, there is one.
@@ -17,7 +17,7 @@ unfolding seq distance_of named reading header_of control_of unnumbered_of super
 one_place = refl
 
 -- V(A) is a number modulo 128.
-after_129 : room_of usual 0 (record fresh { a = 129; s = 129; r = 3 }) ≡ record { queue = 8; pool = 0; va = 1 }
+after_129 : room_of usual_terms 0 (record fresh { a = 129; s = 129; r = 3 }) ≡ record { queue = 8; pool = 0; va = 1 }
 after_129 = refl
 
 -- Where both are used up the queue is told, as it is nearer.

@@ -32,7 +32,7 @@ pub use Rattle.laws_link.specs.Heard.{unit_due}
 pub use Rattle.laws_link.specs.History.{nothing_yet, share}
 unfoldable pub use Rattle.laws_link.specs.History.{with_all}
 pub use Rattle.laws_link.specs.Offered.{i_frames}
-pub use Rattle.laws_link.specs.Samples.{ask, comes, packet, pulls, sabme, told_after, up, usual, with_k_and_queue, with_n200}
+pub use Rattle.laws_link.specs.Samples.{ask, comes, packet, pulls, sabme, told_after, up, usual_terms, with_k_and_queue, with_n200}
 unfoldable pub use Rattle.laws_link.specs.Samples.{lost, notes, out}
 unfoldable pub use Rattle.laws_link.specs.Sending.{i_frames_offered}
 pub use Rattle.laws_link.specs.States.{as_heard, numbers_begin, state_after}

@@ -47,14 +47,14 @@ pub use Rattle.laws_line.specs.Share.{is_granted}
 pub use Rattle.laws_line.specs.Steady.{IsBy, timer_of}
 pub use Rattle.laws_link.proofs.Follows.{event-follows}
 pub use Rattle.laws_link.proofs.TimedRows.{timed-after}
-pub use Rattle.laws_link.specs.Accepted.{accepted, contents_of}
+pub use Rattle.laws_link.specs.Accepted.{accepted, contents_asked}
 pub use Rattle.laws_link.specs.Flags.{repeats_left, takes_contents}
 pub use Rattle.laws_link.specs.Known.{is_up, is_up_in}
 pub use Rattle.laws_link.specs.States.{as_heard, by_expiry, by_frame, by_received, by_request, is_clearing, is_faulty, is_invalid, is_overlong, moves, receipt_of, state_after}
 pub use Rattle.laws_link.specs.Steady.{is_anew}
 pub use Rattle.laws_link.specs.Telling.{error, establish_indication, final_as, numbered_as, told_by, told_by_frame, told_cleared, told_expired, told_in_4, told_in_6, told_malformed, told_requested, unasked}
 pub use Rattle.laws_link.specs.Timed.{IsTimedIn}
-pub use Rattle.laws_link.specs.Waiting.{answers, answers_to, answers_up, command_in, commands, is_next, is_taken, is_time, put, receipt_as, room, to_disc, to_information, to_sabme}
+pub use Rattle.laws_link.specs.Waiting.{answers, answers_to, answers_up, command_in, commands, has_next_number, is_taken, is_time, put, receipt_as, room, to_disc, to_information, to_sabme}
 pub use Rattle.laws_link.specs.two.Rounds.{IsReady, IsTaken}
 pub use Rattle.laws_trace.proofs.Begins.{unless}
 pub use Rattle.laws_trace.proofs.DataAsked.{granted-data}
@@ -75,7 +75,7 @@ pub use Rattle.laws_trace.proofs.TimersAreTimely.{config-now, sound-now, timely-
 pub use Rattle.laws_trace.proofs.TimersOfEvent.{off-fresh}
 pub use Rattle.laws_trace.proofs.TimersWatched.{nothing_yet}
 pub use Rattle.laws_trace.proofs.Drained.{moments-both}
-pub use Rattle.laws_trace.specs.FramesAreRead.{GivesOctets, HasOctets, contents_given}
+pub use Rattle.laws_trace.specs.FramesAreRead.{GivesOctets, contents_given}
 pub use Rattle.laws_trace.specs.LinkFrames.{is_for}
 pub use Rattle.laws_trace.specs.Observer.{View, steps, view_of, views}
 pub use Rattle.laws_trace.specs.Trace.{IsFront, Seen, data_asked, frame_in, frames_begun, is_own, seen, seen_told, trace, trace_of}
@@ -121,6 +121,7 @@ pub use Rattle.model_card.specs.Machine.{wants_room, answer as card_answer}
 pub use Rattle.model_card.specs.ports.Card.{OctetCard, answer_to, card_after, port_at, said}
 pub use Rattle.model_card.specs.ports.Codec.{IsTextOf, frames_among, octet_pulled}
 pub use Rattle.model_card.specs.ports.GoingOut.{GoOut}
+pub use Rattle.model_card.specs.ports.HeardOctets.{HasOctets}
 pub use Rattle.model_card.specs.ports.Port.{Port, answer_of, fresh_port, gained, is_due, item_of, left_of, next_octet, with_item, with_octet, Event as PortEvent, after as port_after, expiry as port_expiry, meant as port_meant, octet as port_octet, pull as port_pull, request as port_request, told as port_told}
 pub use Rattle.model_card.specs.ports.Pulls.{longest_text}
 pub use Rattle.model_card.specs.ports.Run.{AreAtLines, IsAtLine}

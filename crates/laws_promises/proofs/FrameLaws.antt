@@ -1,5 +1,5 @@
 -- The laws of the machine hold of the events of a card's list, and of every front of it.
-use Rattle.laws_promises.proofs.Vocabulary.{arith, ◌≡◌, ℕ, ◌<◌, List, take, sym, subst, All, All-map, All-take, All-weaker, Card, Config, IsAtLine, IsSound, Stands, reached-sound, frames_amortised, rejects_are_long}
+use Rattle.laws_promises.proofs.Vocabulary.{arith, ◌≡◌, ℕ, ◌<◌, List, take, sym, subst, All, All-map, All-take, All-weaker, Card, Config, IsAtLine, IsSound, FrameStands, reached-sound, frames_amortised, rejects_are_long}
 use Rattle.model_line.specs.Sound.{IsInRange}
 use Rattle.model_card.specs.ByEvent.{ArePriced}
 use Rattle.model_card.specs.Card.{fresh}
@@ -27,7 +27,7 @@ use Rattle.laws_promises.proofs.Linear.{TakesItsOctets, all_take, is_linear}
 line_is : (n201 : ℕ) (e : rust.FrameEvent) → (event_of n201 e).line ≡ line_of e
 line_is n201 e = grind arith
 
-events_at_lines : {S : Type 0} (store : S → Store) (card : Held S) (n201 : ℕ) (events : List rust.FrameEvent) → All (λ e. line_of e < line_count card) events → (m : Card) → Stands store card m
+events_at_lines : {S : Type 0} (store : S → Store) (card : Held S) (n201 : ℕ) (events : List rust.FrameEvent) → All (λ e. line_of e < line_count card) events → (m : Card) → FrameStands store card m
     → AreAtLines m (events_of n201 events)
 events_at_lines store card n201 events within m s =
     All-map (IsAtLine m) (event_of n201) events
@@ -36,21 +36,21 @@ events_at_lines store card n201 events within m s =
 
 -- The laws hold of the events of a list, of each front of it, and of each front of that of a card as it begins.
 pub record Laws {S : Type 0} (store : S → Store) (card : Held S) (list : List Event) : Type 0 where
-  pub by_event : (m : Card) → Stands store card m → ArePriced m list
-  pub drops : (m : Card) → Stands store card m → AreDropsWithoutCost m list
-  pub without_effect : (m : Card) → Stands store card m → AreDropsWithoutEffect m list
-  pub within_limit : (m : Card) (count : ℕ) → Stands store card m → IsWithinLimit m (take count list)
-  pub amortised : (m : Card) (count : ℕ) → Stands store card m → IsAmortised m (take count list)
-  pub amortised_from_zero : (count : ℕ) → Stands store card (fresh card.config) → IsAmortisedFromZero card.config (take count list)
-  pub rejects_are_long : (m : Card) (count : ℕ) → Stands store card m → AreRejectsLong m (take count list)
-  pub isolated : (count : ℕ) → Stands store card (fresh card.config) → IsIsolated card.config (take count list)
-  pub never_full : (count : ℕ) → Stands store card (fresh card.config) → IsNeverFull card.config (take count list)
-  pub numbered : (m : Card) (count : ℕ) → Stands store card m → IsNumbered m (take count list)
-  pub from_zero : (count : ℕ) → Stands store card (fresh card.config) → IsNumberedFromZero card.config (take count list)
-  pub linear : (m : Card) (count : ℕ) → Stands store card m → IsLinear m (take count list)
-  pub promises : (m : Card) → Stands store card m → Promises m list
+  pub by_event : (m : Card) → FrameStands store card m → ArePriced m list
+  pub drops : (m : Card) → FrameStands store card m → AreDropsWithoutCost m list
+  pub without_effect : (m : Card) → FrameStands store card m → AreDropsWithoutEffect m list
+  pub within_limit : (m : Card) (count : ℕ) → FrameStands store card m → IsWithinLimit m (take count list)
+  pub amortised : (m : Card) (count : ℕ) → FrameStands store card m → IsAmortised m (take count list)
+  pub amortised_from_zero : (count : ℕ) → FrameStands store card (fresh card.config) → IsAmortisedFromZero card.config (take count list)
+  pub rejects_are_long : (m : Card) (count : ℕ) → FrameStands store card m → AreRejectsLong m (take count list)
+  pub isolated : (count : ℕ) → FrameStands store card (fresh card.config) → IsIsolated card.config (take count list)
+  pub never_full : (count : ℕ) → FrameStands store card (fresh card.config) → IsNeverFull card.config (take count list)
+  pub numbered : (m : Card) (count : ℕ) → FrameStands store card m → IsNumbered m (take count list)
+  pub from_zero : (count : ℕ) → FrameStands store card (fresh card.config) → IsNumberedFromZero card.config (take count list)
+  pub linear : (m : Card) (count : ℕ) → FrameStands store card m → IsLinear m (take count list)
+  pub promises : (m : Card) → FrameStands store card m → Promises m list
 
-laws : {S : Type 0} (store : S → Store) (card : Held S) (list : List Event) → ((m : Card) → Stands store card m → AreAtLines m list) → All (TakesItsOctets card.config.n201) list
+laws : {S : Type 0} (store : S → Store) (card : Held S) (list : List Event) → ((m : Card) → FrameStands store card m → AreAtLines m list) → All (TakesItsOctets card.config.n201) list
     → Laws store card list
 laws store card list within octets = record {
   by_event = whole ArePriced frames_by_event.in_runs;
@@ -70,13 +70,13 @@ laws store card list within octets = record {
   promises = λ m s. promises-kept m list s.reached (within m s);
 }
   where
-    whole : (P : Card → List Event → Type 0) → ((m : Card) (es : List Event) → IsSound m → AreAtLines m es → P m es) → (m : Card) → Stands store card m → P m list
+    whole : (P : Card → List Event → Type 0) → ((m : Card) (es : List Event) → IsSound m → AreAtLines m es → P m es) → (m : Card) → FrameStands store card m → P m list
     whole P law m s = law m list (reached-sound m s.reached) (within m s)
 
-    front : (P : Card → List Event → Type 0) → ((m : Card) (es : List Event) → IsSound m → AreAtLines m es → P m es) → (m : Card) (count : ℕ) → Stands store card m → P m (take count list)
+    front : (P : Card → List Event → Type 0) → ((m : Card) (es : List Event) → IsSound m → AreAtLines m es → P m es) → (m : Card) (count : ℕ) → FrameStands store card m → P m (take count list)
     front P law m count s = law m (take count list) (reached-sound m s.reached) (All-take (IsAtLine m) count list (within m s))
 
-    first : (P : Config → List Event → Type 0) → ((c : Config) (es : List Event) → IsInRange c → AreAtLines (fresh c) es → P c es) → (count : ℕ) → Stands store card (fresh card.config) → P card.config (take count list)
+    first : (P : Config → List Event → Type 0) → ((c : Config) (es : List Event) → IsInRange c → AreAtLines (fresh c) es → P c es) → (count : ℕ) → FrameStands store card (fresh card.config) → P card.config (take count list)
     first P law count s = law card.config (take count list) s.reached.config (All-take (IsAtLine (fresh card.config)) count list (within (fresh card.config) s))
 
 -- so of the events with which a card is driven

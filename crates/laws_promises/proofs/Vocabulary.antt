@@ -29,7 +29,7 @@ pub use Rattle.std.proofs.lemmas.List.{length-map, take_all}
 pub use Rattle.std.proofs.lemmas.Option.{slice_get-get_or}
 pub use Rattle.model_card.specs.Counted.{all_counted, moment_counted, moment_of}
 pub use Rattle.lapd_card.specs.Counted.{counters_in}
-pub use Rattle.lapd_card.specs.FrameStands.{Leads, Stands}
+pub use Rattle.lapd_card.specs.FrameStands.{Leads, FrameStands}
 pub use Rattle.lapd_card.specs.Sink.{Taken}
 pub use Rattle.model_card.proofs.Fold.{run_is_moments}
 pub use Rattle.model_card.proofs.Refusals.{refused_by_the_table}

@@ -14,7 +14,7 @@ ghost use Rattle.model_line.specs.Event as line_event;
 ghost use Rattle.model_line.specs.Request.{request_of};
 ghost use Rattle.lapd_card.specs.Counted.{counters_in};
 ghost use Rattle.lapd_card.specs.FrameCard.{line_count};
-ghost use Rattle.lapd_card.specs.FrameStands.{Stands, Leads};
+ghost use Rattle.lapd_card.specs.FrameStands.{FrameStands, Leads};
 ghost use Rattle.lapd_card.specs.Sink.{Hands, MissesNext, Taken, one_failure_more};
 ghost use Rattle.laws_promises.specs.FrameDrive.{event_of, line_of, events_of};
 ghost use Rattle.laws_promises.specs.Linear.{IsLinear};
@@ -52,44 +52,44 @@ pub fn drive_frames<S: Shelf, K: FrameSink>(
     ensures failed { OnErr result (K.failures sink.new ≡ one_failure_more (K.failures sink.old)) }
     ensures not_failed { OnOk result (K.failures sink.new ≡ K.failures sink.old) }
     ensures config { card.new.config ≡ card.old.config }
-    ensures ran { OnOk result ((m : machine.Card) → Stands S.store card.old m
-        → Stands S.store card.new (run m (events_of card.old.config.n201 events.now)).card) }
-    ensures taken { OnOk result ((m : machine.Card) → Stands S.store card.old m
+    ensures ran { OnOk result ((m : machine.Card) → FrameStands S.store card.old m
+        → FrameStands S.store card.new (run m (events_of card.old.config.n201 events.now)).card) }
+    ensures taken { OnOk result ((m : machine.Card) → FrameStands S.store card.old m
         → Taken K.takes sink.old (run m (events_of card.old.config.n201 events.now)).replies sink.new) }
-    ensures counters { OnOk result ((m : machine.Card) → Stands S.store card.old m
+    ensures counters { OnOk result ((m : machine.Card) → FrameStands S.store card.old m
         → counters_in card.new.lines ≡ all_counted (counters_in card.old.lines) (moments m (events_of card.old.config.n201 events.now))) }
-    ensures stopped { IfErr result (λ fault. (m : machine.Card) → Stands S.store card.old m
-        → Stands S.store card.new (run m (take (fault.at + 1) (events_of card.old.config.n201 events.now))).card) }
-    ensures taken_before { IfErr result (λ fault. (m : machine.Card) → Stands S.store card.old m
+    ensures stopped { IfErr result (λ fault. (m : machine.Card) → FrameStands S.store card.old m
+        → FrameStands S.store card.new (run m (take (fault.at + 1) (events_of card.old.config.n201 events.now))).card) }
+    ensures taken_before { IfErr result (λ fault. (m : machine.Card) → FrameStands S.store card.old m
         → MissesNext K.takes K.misses (run m (take fault.at (events_of card.old.config.n201 events.now))).replies
         (run m (take (fault.at + 1) (events_of card.old.config.n201 events.now))).replies sink.old sink.new) }
-    ensures counters_before { IfErr result (λ fault. (m : machine.Card) → Stands S.store card.old m
+    ensures counters_before { IfErr result (λ fault. (m : machine.Card) → FrameStands S.store card.old m
         → counters_in card.new.lines ≡ all_counted (counters_in card.old.lines) (moments m (take (fault.at + 1) (events_of card.old.config.n201 events.now)))) }
     ensures moments { RunIsMoments }
     ensures refused { RefusedByTheTable }
     ensures counters_add_up { CountersAreNumbers }
-    ensures by_event { (m : machine.Card) → Stands S.store card.old m → ArePriced m (events_of card.old.config.n201 events.now) }
-    ensures drops { (m : machine.Card) → Stands S.store card.old m → AreDropsWithoutCost m (events_of card.old.config.n201 events.now) }
-    ensures without_effect { (m : machine.Card) → Stands S.store card.old m → AreDropsWithoutEffect m (events_of card.old.config.n201 events.now) }
-    ensures within_limit { (m : machine.Card) (count : ℕ) → Stands S.store card.old m
+    ensures by_event { (m : machine.Card) → FrameStands S.store card.old m → ArePriced m (events_of card.old.config.n201 events.now) }
+    ensures drops { (m : machine.Card) → FrameStands S.store card.old m → AreDropsWithoutCost m (events_of card.old.config.n201 events.now) }
+    ensures without_effect { (m : machine.Card) → FrameStands S.store card.old m → AreDropsWithoutEffect m (events_of card.old.config.n201 events.now) }
+    ensures within_limit { (m : machine.Card) (count : ℕ) → FrameStands S.store card.old m
         → IsWithinLimit m (take count (events_of card.old.config.n201 events.now)) }
-    ensures amortised { (m : machine.Card) (count : ℕ) → Stands S.store card.old m
+    ensures amortised { (m : machine.Card) (count : ℕ) → FrameStands S.store card.old m
         → IsAmortised m (take count (events_of card.old.config.n201 events.now)) }
-    ensures amortised_from_zero { (count : ℕ) → Stands S.store card.old (machine.fresh card.old.config)
+    ensures amortised_from_zero { (count : ℕ) → FrameStands S.store card.old (machine.fresh card.old.config)
         → IsAmortisedFromZero card.old.config (take count (events_of card.old.config.n201 events.now)) }
-    ensures rejects_are_long { (m : machine.Card) (count : ℕ) → Stands S.store card.old m
+    ensures rejects_are_long { (m : machine.Card) (count : ℕ) → FrameStands S.store card.old m
         → AreRejectsLong m (take count (events_of card.old.config.n201 events.now)) }
-    ensures isolated { (count : ℕ) → Stands S.store card.old (machine.fresh card.old.config)
+    ensures isolated { (count : ℕ) → FrameStands S.store card.old (machine.fresh card.old.config)
         → IsIsolated card.old.config (take count (events_of card.old.config.n201 events.now)) }
-    ensures never_full { (count : ℕ) → Stands S.store card.old (machine.fresh card.old.config)
+    ensures never_full { (count : ℕ) → FrameStands S.store card.old (machine.fresh card.old.config)
         → IsNeverFull card.old.config (take count (events_of card.old.config.n201 events.now)) }
-    ensures numbered { (m : machine.Card) (count : ℕ) → Stands S.store card.old m
+    ensures numbered { (m : machine.Card) (count : ℕ) → FrameStands S.store card.old m
         → IsNumbered m (take count (events_of card.old.config.n201 events.now)) }
-    ensures from_zero { (count : ℕ) → Stands S.store card.old (machine.fresh card.old.config)
+    ensures from_zero { (count : ℕ) → FrameStands S.store card.old (machine.fresh card.old.config)
         → IsNumberedFromZero card.old.config (take count (events_of card.old.config.n201 events.now)) }
-    ensures linear { (m : machine.Card) (count : ℕ) → Stands S.store card.old m
+    ensures linear { (m : machine.Card) (count : ℕ) → FrameStands S.store card.old m
         → IsLinear m (take count (events_of card.old.config.n201 events.now)) }
-    ensures promises { (m : machine.Card) → Stands S.store card.old m → Promises m (events_of card.old.config.n201 events.now) }
+    ensures promises { (m : machine.Card) → FrameStands S.store card.old m → Promises m (events_of card.old.config.n201 events.now) }
 {
     for (at, event) in events.iter().enumerate() {
         if answer(card, *event, sink).is_err() {
@@ -107,7 +107,7 @@ fn answer<S: Shelf, K: FrameSink>(
 ) -> Result<(), SinkFailed>
     requires { line_of event < line_count card.old }
     ensures leads { Leads S.store (event_of card.old.config.n201 event.entry) card.old card.new }
-    ensures hands { Hands K.takes K.misses K.failures (Stands S.store card.old) (line_of event.entry)
+    ensures hands { Hands K.takes K.misses K.failures (FrameStands S.store card.old) (line_of event.entry)
         (answer (event_of card.old.config.n201 event.entry)) sink.old sink.new result }
 {
     let mut report = BareReport::nothing();
@@ -137,7 +137,7 @@ fn hand_on<S: Shelf, K: FrameSink>(
 ) -> Result<(), SinkFailed>
     requires { line < line_count card.old }
     ensures leads { Leads S.store (at line line_event.next) card.old card.new }
-    ensures hands { Hands K.takes K.misses K.failures (Stands S.store card.old) line
+    ensures hands { Hands K.takes K.misses K.failures (FrameStands S.store card.old) line
         (answer (at line line_event.next)) sink.old sink.new result }
 {
     let mut octets = [0; LONGEST];
@@ -163,7 +163,7 @@ fn grant<S: Shelf, K: FrameSink>(
 ) -> Result<(), SinkFailed>
     requires { line < line_count card.old }
     ensures leads { Leads S.store (at line (line_event.request (request_of request.entry))) card.old card.new }
-    ensures hands { Hands K.takes K.misses K.failures (Stands S.store card.old) line
+    ensures hands { Hands K.takes K.misses K.failures (FrameStands S.store card.old) line
         (answer (at line (line_event.request (request_of request.entry)))) sink.old sink.new result }
 {
     let mut report = BareReport::nothing();

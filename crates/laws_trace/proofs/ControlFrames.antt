@@ -29,10 +29,10 @@ module _ (service : Service) (tei : ℕ) where
     abbrev was : Standing
     was = calm n busy rejected
 
-    abbrev Stands : Line → Type 0
-    Stands l = IsCount (link_of service tei l) n × IsStanding (link_of service tei l) busy rejected
+    abbrev StandsCalm : Line → Type 0
+    StandsCalm l = IsCount (link_of service tei l) n × IsStanding (link_of service tei l) busy rejected
 
-    idle : (c : Config) (time up : Bool) (l : Line) (lost : ℕ) → time ≡ false → up ≡ false → Stands l → Moves c was time up l [] lost l
+    idle : (c : Config) (time up : Bool) (l : Line) (lost : ℕ) → time ≡ false → up ≡ false → StandsCalm l → Moves c was time up l [] lost l
     idle c time up l lost none still stands = grind (arith, waits, due_here, append-nil, command_of, none-mapped, none-taken)
 
     no-time : (l : Line) (n : ℕ) → n ≡ 0 → (differ (state_of service tei l) (state_of service tei l) || n == 1) ≡ false
@@ -41,7 +41,7 @@ module _ (service : Service) (tei : ℕ) where
     abbrev time_of : Line → CardEvent → Bool → Line → Bool
     time_of l e b next = differ (state_of service tei l) (state_of service tei next) || (b && option_map_or one_more (expired_of service tei e.what) 0 == 1)
 
-    own-line : (m : Card) (e : CardEvent) → IsSound m → AllHaveTheirTimers m → IsAtLine m e → let l = line_at e.line m in Stands l
+    own-line : (m : Card) (e : CardEvent) → IsSound m → AllHaveTheirTimers m → IsAtLine m e → let l = line_at e.line m in StandsCalm l
         → let x = line_at e.line (after e m) in Moves m.config was (time_of l e true x) (deactivates service tei e.what) l (seen e.what (answer e m)) (lost_in (answer e m)) x
     own-line m e s timely here stands =
         let c = m.config in
@@ -73,7 +73,7 @@ module _ (service : Service) (tei : ℕ) where
         let x = line_at number (after e m) in
         Moves m.config was (time_of l e b x) (b && deactivates service tei e.what) l (cond b (seen e.what (answer e m)) []) (lost_in (answer e m)) x
 
-    pub moment : (m : Card) (e : CardEvent) (number : ℕ) → IsSound m → AllHaveTheirTimers m → IsAtLine m e → Stands (line_at number m)
+    pub moment : (m : Card) (e : CardEvent) (number : ℕ) → IsSound m → AllHaveTheirTimers m → IsAtLine m e → StandsCalm (line_at number m)
         → (b : Bool) → (e.line == number) ≡ b → Moment-moves m e number b
     moment m e number s timely at-line stands false other =
         let l = line_at number m in
@@ -82,4 +82,4 @@ module _ (service : Service) (tei : ℕ) where
         (idle m.config (time_of l e false l) false l lost (no-time l 0 refl) refl stands)
     moment m e number s timely at-line stands true is =
         let same = eqb-true e.line number is in
-        subst (λ i. Moment-moves m e i true) same (own-line m e s timely at-line (subst (λ i. Stands (line_at i m)) (sym same) stands))
+        subst (λ i. Moment-moves m e i true) same (own-line m e s timely at-line (subst (λ i. StandsCalm (line_at i m)) (sym same) stands))

@@ -1,5 +1,5 @@
 -- What an event of a link puts is what it makes due.
-use Rattle.laws_trace.proofs.Vocabulary.{◌≡◌, ℕ, ◌+◌, ◌-◌, ◌≤◌, ◌==◌, ◌||◌, Bool, true, false, cond, List, [], ◌∷◌, ◌++◌, length, take, drop, zero, suc, Some, refl, sym, ap, ◌∙◌, subst, arith, nat_lt, flat_map-append, All-take, Information, Ua, Dm, Parts, HasItsTimer, needed_in, State, ControlFrame, Terms, LinkTimer, restarts, overlong, received, expired, requested, Link, is_multiple_frame, state_number, busy_asked, takes_contents, as_heard, moves, state_after, receipt_as, as_command, is_next, to_sabme, to_disc, answers, commands, put, behind, waiting_left, event-follows, Seq, length-drop, Control, T200, LinkEvent as Event, frame, LinkRequest as Request, room, link_after as after, link_told as told, false_from_ne_true}
+use Rattle.laws_trace.proofs.Vocabulary.{◌≡◌, ℕ, ◌+◌, ◌-◌, ◌≤◌, ◌==◌, ◌||◌, Bool, true, false, cond, List, [], ◌∷◌, ◌++◌, length, take, drop, zero, suc, Some, refl, sym, ap, ◌∙◌, subst, arith, nat_lt, flat_map-append, All-take, Information, Ua, Dm, Parts, HasItsTimer, needed_in, State, ControlFrame, Terms, LinkTimer, restarts, overlong, received, expired, requested, Link, is_multiple_frame, state_number, busy_asked, takes_contents, as_heard, moves, state_after, receipt_as, as_command, has_next_number, to_sabme, to_disc, answers, commands, put, behind, waiting_left, event-follows, Seq, length-drop, Control, T200, LinkEvent as Event, frame, LinkRequest as Request, room, link_after as after, link_told as told, false_from_ne_true}
 use Rattle.laws_link.specs.Waiting as waiting
 use Rattle.laws_trace.proofs.ControlsWatched.{control_in, receipt, polled, to_information, while_up, answer_to, changed, command_of}
 use Rattle.laws_trace.proofs.DeliveriesWatched.{Standing}
@@ -59,7 +59,7 @@ module _ (t : Terms) (l : Link) (m : ℕ) (busy rejected : Bool) (n : ℕ) (busy
   by-size f ns nr p true is h = refl
   by-size f ns nr p false is h =
       let e = received (frame (record f { control = Information ns nr p })) in
-      both-up l.state (waiting.to_information (is_next ns l) p l) (to_information p was now)
+      both-up l.state (waiting.to_information (has_next_number ns l) p l) (to_information p was now)
       (λ up. grind (arith, was, calm, rejected_behind))
 
   by-frame : (f : Parts) (control : Control) → let e = received (frame (record f { control = control })) in

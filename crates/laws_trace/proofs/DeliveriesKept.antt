@@ -25,8 +25,8 @@ module _ (c : Config) (service : Service) (tei : ℕ) where
       )
 
 -- Over runs.
-abbrev Stands : Config → Line → Type 0
-Stands c l = Unit {0}
+abbrev NeedsNothing : Config → Line → Type 0
+NeedsNothing c l = Unit {0}
 
 abbrev Shows : Config → Line → List Seen → Line → Type 0
 Shows c k t l =
@@ -44,7 +44,7 @@ joins c k l m t u h i service tei n busy rejected count stands =
     let kept : calm w.told.count w.busy w.rejected ≡ w = ap (λ o. record { told = record { frame = o; count = w.told.count }; busy = w.busy; rejected = w.rejected }) (sym first.0) in
     grind (arith, standing, fold-append, stand)
 
-steps : (c : Config) → IsInRange c → (e : Event) (l : Line) → IsSound c l → Stands c l → Shows c l (seen e (answer c e l)) (after c e l) × Stands c (after c e l)
+steps : (c : Config) → IsInRange c → (e : Event) (l : Line) → IsSound c l → NeedsNothing c l → Shows c l (seen e (answer c e l)) (after c e l) × NeedsNothing c (after c e l)
 steps c ranged e l s stands = ((λ service tei m busy rejected count own. event-passes c service tei ranged e l s m busy rejected count own), tt)
 
 pub run-stands : (c : Config) (events : List CardEvent) (number : ℕ) → IsInRange c → AreAtLines (cards.fresh c) events → number < c.lines → (service : Service) (tei : ℕ)
@@ -53,5 +53,5 @@ run-stands c events number ranged all within service tei =
     let start : line_at number (cards.fresh c) ≡ fresh_line c = get_or-replicate c.lines number (fresh_line c) (fresh_line c) within in
     let off : link_of service tei (line_at number (cards.fresh c)) ≡ fresh =
     ap (link_of service tei) start ∙ ap (λ o. option_map_or (link_in (fresh_line c) service) o fresh) (nowhere c tei) in
-    (run-shows Stands Shows rests joins steps (cards.fresh c) events number (fresh_is_sound c ranged) all tt).0 service tei 0 false false (λ up. ap (λ (k : Link). k.r) off)
+    (run-shows NeedsNothing Shows rests joins steps (cards.fresh c) events number (fresh_is_sound c ranged) all tt).0 service tei 0 false false (λ up. ap (λ (k : Link). k.r) off)
     (subst (λ (k : Link). IsStanding k false false) (sym off) (grind (arith, never)))

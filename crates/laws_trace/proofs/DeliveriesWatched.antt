@@ -1,5 +1,5 @@
 -- What layer 3 is told of what is heard.
-use Rattle.laws_trace.proofs.Vocabulary.{◌≡◌, ℕ, ◌%◌, ◌&&◌, ◌||◌, not, Bool, true, false, List, length, option_to_list, count_by, Option, Some, None, if◌then◌else◌, list_any, Information, Note, Service, Parts, Config, is_data_of, is_unit_of, tells_contents, Control, Request, SetBusy, ClearBusy, is_for, is_own, Seen, trace_noted as noted, granted, is_ui}
+use Rattle.laws_trace.proofs.Vocabulary.{◌≡◌, ℕ, ◌%◌, ◌&&◌, ◌||◌, not, Bool, true, false, List, length, option_to_list, count_by, Option, Some, None, if◌then◌else◌, list_any, Information, Note, Service, Parts, Config, is_data_of, is_unit_of, tells_contents, Control, Request, SetBusy, ClearBusy, is_for, is_information, is_own, Seen, trace_noted as noted, granted, is_ui}
 use Rattle.laws_trace.proofs.Counting.{Watched, nothing_yet, begins, watch}
 
 -- And how the card's side of the link stands. Layer 3 is busy from SetBusy that is granted to ClearBusy that is, and is
@@ -22,10 +22,6 @@ abbrev pub busy_by : Service → ℕ → Standing → Seen → Bool
 busy_by service tei w (granted r) = busy_asked service tei w.busy r
 busy_by service tei w (noted ns contents) = if begins service tei w.told.frame ns then false else w.busy
 busy_by service tei w other = w.busy
-
-abbrev pub is_information : Control → Bool
-is_information (Information ns nr p) = true
-is_information other = false
 
 abbrev pub brings_information : Service → ℕ → Option Parts → Bool
 brings_information service tei None = false

@@ -68,8 +68,8 @@ module _ (service : Service) (tei number : ℕ) where
         (λ room. off-due card.config l (line_sound card e.line (has_lines card s) here) service tei was asks outstanding owes e.what none)
 
   -- Over a run.
-  abbrev Stands : Bool → Owing → Line → Type 0
-  Stands was w l = IsAskedOf service tei was l × IsTrueOf service tei w.known l × IsOwed service tei w.outstanding l
+  abbrev StandsOwing : Bool → Owing → Line → Type 0
+  StandsOwing was w l = IsAskedOf service tei was l × IsTrueOf service tei w.known l × IsOwed service tei w.outstanding l
 
   module _ (card : Card) (s : IsSound card) (timely : AllHaveTheirTimers card) (e : Event) (here : IsAtLine card e) (within : number < card.config.lines) where
     abbrev m : Moment
@@ -109,7 +109,7 @@ module _ (service : Service) (tei number : ℕ) where
             (own-owes k (subst (λ n. IsTrueOf service tei k (line_at n card)) (sym same) agrees) outstanding (subst (λ n. IsOwed service tei outstanding (line_at n card)) (sym same) owes))
         go false other = λ in_5. subst (IsOwed service tei outstanding) (sym (apart card e number (λ same. true≢false (sym (eq-eqb e.line number (sym same)) ∙ other)))) owes
 
-    moment-stands : (was : Bool) (w : Owing) → Stands was w (line_at number card) → Stands (asked service tei number was m) (owing card.config service tei number w m) later
+    moment-stands : (was : Bool) (w : Owing) → StandsOwing was w (line_at number card) → StandsOwing (asked service tei number was m) (owing card.config service tei number w m) later
     moment-stands was w h = (moment-asked was h.0 w.outstanding h.2, known, go (is_state 5 (state_of service tei later)) refl)
       where
         new : Known
@@ -126,8 +126,8 @@ module _ (service : Service) (tei number : ℕ) where
         go false off = known-owes card.config s.config later (line_sound (after e card) number (has_lines (after e card) sound-later) within) service tei new known off
 
   run-stands : (card : Card) (events : List Event) → IsSound card → AllHaveTheirTimers card → AreAtLines card events → number < card.config.lines → (was : Bool) (w : Owing)
-      → Stands was w (line_at number card)
-      → Stands (fold (asked service tei number) was (moments card events)) (fold (owing card.config service tei number) w (moments card events)) (line_at number (after_all card events))
+      → StandsOwing was w (line_at number card)
+      → StandsOwing (fold (asked service tei number) was (moments card events)) (fold (owing card.config service tei number) w (moments card events)) (line_at number (after_all card events))
   unfolding moments after_all
   run-stands card [] s timely all within was w h = h
   run-stands card (e ∷ events) s timely all within was w h =
@@ -144,12 +144,12 @@ module _ (c : Config) (events : List Event) (number : ℕ) (ranged : IsInRange c
   abbrev owes_now : Owing
   owes_now = fold (owing c service tei number) none_owed (moments (fresh c) events)
 
-  stands-now : Stands service tei number was_asked owes_now (line_at number (after_all (fresh c) events))
+  stands-now : StandsOwing service tei number was_asked owes_now (line_at number (after_all (fresh c) events))
   stands-now =
       let start : line_at number (fresh c) ≡ fresh_line c = get_or-replicate c.lines number (fresh_line c) (fresh_line c) within in
       let off : link_of service tei (line_at number (fresh c)) ≡ fresh_link =
       ap (link_of service tei) start ∙ ap (λ o. option_map_or (link_in (fresh_line c) service) o fresh_link) (nowhere c tei) in
-      let begun : Stands service tei number false none_owed (line_at number (fresh c)) =
+      let begun : StandsOwing service tei number false none_owed (line_at number (fresh c)) =
       (subst (λ (y : Link). Asks y.state false y.asked) (sym off) tt, begins-true c events number ranged all within service tei, sym (ap (λ (y : Link). not (y.s == y.a)) off)) in
       run-stands service tei number (fresh c) events (fresh_is_sound c ranged) (begins-timely-card c) all within false none_owed begun
 

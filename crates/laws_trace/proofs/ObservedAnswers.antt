@@ -5,7 +5,8 @@ use Rattle.model_card.specs.Sound as card_sound
 use Rattle.laws_trace.proofs.Counting.{begins}
 use Rattle.laws_trace.proofs.Deliveries.{frame_by}
 use Rattle.laws_trace.proofs.DeliveriesRun.{IsCount}
-use Rattle.laws_trace.proofs.DeliveriesWatched.{is_information, brings_information}
+use Rattle.laws_trace.proofs.DeliveriesWatched.{brings_information}
+use Rattle.model_link.specs.Sound.{is_information}
 use Rattle.laws_trace.proofs.ObservedCount.{Same}
 use Rattle.laws_trace.proofs.ObservedStanding.{begun_by, begins_by, taken_by, informs}
 use Rattle.laws_trace.proofs.ObservedTold.{begins-so, informs-so, data-so}

@@ -12,7 +12,7 @@ use Rattle.laws_trace.proofs.NewsWatched.{Owing, owing}
 use Rattle.laws_trace.proofs.ObservedAnswers.{is_answered, card-answered}
 use Rattle.laws_trace.proofs.ObservedControls.{by-heard, asked-answers-is, busies, still-busy, none-led, AsBusy, unchanged, as-busy-before}
 use Rattle.laws_trace.proofs.ObservedCount.{Same, Agree}
-use Rattle.laws_trace.proofs.ObservedCounted.{Stands, agrees-then}
+use Rattle.laws_trace.proofs.ObservedCounted.{StandsCalm, agrees-then}
 use Rattle.laws_trace.proofs.ObservedFacts.{Facts, facts, state-is, differs-is}
 use Rattle.laws_trace.proofs.Observed.{IsObserved}
 use Rattle.laws_trace.proofs.ObservedRun.{Holds, holds-then, is-told}
@@ -28,7 +28,7 @@ use Rattle.laws_trace.proofs.Runs.{apart}
 module _ (service : Service) (tei number : ℕ) where
   module _ (card : Card) (s : IsSound card) (timely : AllHaveTheirTimers card) (e : Event) (here : IsAtLine card e)
       (k : Known) (asked : Bool) (w : Owing) (known_is : w.known ≡ k) (m : ℕ) (v : View) (h : Holds service tei k asked w.outstanding m (line_at number card) v)
-      (n : ℕ) (busy rejected : Bool) (stands : Stands service tei number n busy rejected (line_at number card)) (agree : Agree v.link (calm n busy rejected)) where
+      (n : ℕ) (busy rejected : Bool) (stands : StandsCalm service tei number n busy rejected (line_at number card)) (agree : Agree v.link (calm n busy rejected)) where
     abbrev c : Config
     c = card.config
 

@@ -23,11 +23,11 @@ unfolding lines.takes_slot
 still c service tei e l o takes = grind arith
 
 module _ (service : Service) (tei number : ℕ) where
-  abbrev pub Stands : ℕ → Bool → Bool → Line → Type 0
-  Stands n busy rejected l = IsCount (link_of service tei l) n × IsStanding (link_of service tei l) busy rejected
+  abbrev pub StandsCalm : ℕ → Bool → Bool → Line → Type 0
+  StandsCalm n busy rejected l = IsCount (link_of service tei l) n × IsStanding (link_of service tei l) busy rejected
 
   -- One event of the line.
-  own-behind : (card : Card) → IsSound card → (e : Event) → IsAtLine card e → (n : ℕ) (busy rejected : Bool) → let l = line_at e.line card in Stands n busy rejected l
+  own-behind : (card : Card) → IsSound card → (e : Event) → IsAtLine card e → (n : ℕ) (busy rejected : Bool) → let l = line_at e.line card in StandsCalm n busy rejected l
       → (place : ℕ) → place_in l tei ≡ Some place → (o : Observed) → o.state ≡ state_number (link_of service tei l).state → Agree o (calm n busy rejected)
       → Agree (by_event card.config service tei e.what (answer e card) o) (standing service tei card.config (calm n busy rejected) (seen e.what (answer e card)))
   own-behind card s e here n busy rejected stands place on o is agree =
@@ -44,7 +44,7 @@ module _ (service : Service) (tei number : ℕ) where
 
   module _ (card : Card) (s : IsSound card) (timely : AllHaveTheirTimers card) (e : Event) (here : IsAtLine card e)
       (k : Known) (asked : Bool) (w : Owing) (known_is : w.known ≡ k) (m : ℕ) (v : View) (h : Holds service tei k asked w.outstanding m (line_at number card) v)
-      (n : ℕ) (busy rejected : Bool) (stands : Stands n busy rejected (line_at number card)) (agree : Agree v.link (calm n busy rejected)) where
+      (n : ℕ) (busy rejected : Bool) (stands : StandsCalm n busy rejected (line_at number card)) (agree : Agree v.link (calm n busy rejected)) where
     abbrev c : Config
     c = card.config
 
@@ -71,7 +71,7 @@ module _ (service : Service) (tei number : ℕ) where
             let some : Some (state_number y.0) ≡ Some (state_number l.state) = sym y.1 ∙ state-on service tei (line_at number card) place at in
             let inner : state_number y.0 ≡ state_number l.state = cc some in
             let is : v.link.state ≡ state_number l.state = y.2.state_is ∙ inner in
-            own-behind card s e here n busy rejected (subst (λ i. Stands n busy rejected (line_at i card)) same stands) place (subst (λ i. place_in (line_at i card) tei ≡ Some place) same at) v.link
+            own-behind card s e here n busy rejected (subst (λ i. StandsCalm n busy rejected (line_at i card)) same stands) place (subst (λ i. place_in (line_at i card) tei ≡ Some place) same at) v.link
             (subst (λ i. v.link.state ≡ state_number (link_of service tei (line_at i card)).state) same is) agree
     by-line b eq is was on = grind arith
 
@@ -81,7 +81,7 @@ module _ (service : Service) (tei number : ℕ) where
 
   pub run-agrees : (card : Card) (events : List Event) → IsSound card → AllHaveTheirTimers card → AreAtLines card events
       → (k : Known) (asked : Bool) (w : Owing) → w.known ≡ k → (m : ℕ) (v : View) → Holds service tei k asked w.outstanding m (line_at number card) v
-      → (n : ℕ) (busy rejected : Bool) → Stands n busy rejected (line_at number card) → Agree v.link (calm n busy rejected)
+      → (n : ℕ) (busy rejected : Bool) → StandsCalm n busy rejected (line_at number card) → Agree v.link (calm n busy rejected)
       → Agree (fold (views card.config service tei number) v (moments card events)).link (standing service tei card.config (calm n busy rejected) (trace number (moments card events)))
   unfolding moments after_all
   run-agrees card [] s timely all k asked w is m v h n busy rejected stands agree = agree

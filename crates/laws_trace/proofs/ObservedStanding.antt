@@ -4,7 +4,7 @@ use Rattle.laws_trace.proofs.Vocabulary.{arith, ◌≡◌, ℕ, ◌+◌, ◌==�
 use Rattle.laws_trace.specs.Deliveries.{is_taken}
 use Rattle.laws_trace.proofs.ObservedShape.{When}
 use Rattle.laws_trace.proofs.Standing.{asked_busy}
-use Rattle.laws_trace.proofs.DeliveriesWatched.{is_information}
+use Rattle.model_link.specs.Sound.{is_information}
 
 -- The numbers begin by SABME in states 4, 7 and 8, and by UA with F=1 in state 5.
 abbrev pub begun_by : ℕ → Control → Bool

@@ -5,7 +5,8 @@ use Rattle.laws_trace.proofs.Counting.{begins}
 use Rattle.laws_trace.proofs.Begins.{in-state, unless}
 use Rattle.laws_trace.proofs.Deliveries.{frame_by, brings-frame, brings-none, one-begins}
 use Rattle.laws_trace.proofs.DeliveriesRun.{IsCount, event-aims, data-noted, no-data, ended-notes}
-use Rattle.laws_trace.proofs.DeliveriesWatched.{is_information, brings_information}
+use Rattle.laws_trace.proofs.DeliveriesWatched.{brings_information}
+use Rattle.model_link.specs.Sound.{is_information}
 use Rattle.laws_trace.proofs.ObservedStanding.{begun_by, begins_by, taken_by, informs}
 use Rattle.laws_trace.proofs.OneLink.{HasNone, Goes, event-goes}
 use Rattle.laws_trace.proofs.Facts.{number-up}

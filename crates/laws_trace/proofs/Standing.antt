@@ -2,7 +2,8 @@
 use Rattle.laws_trace.proofs.Vocabulary.{arith, ◌≡◌, ℕ, ◌==◌, ◌&&◌, ◌||◌, Bool, true, false, cond, List, Option, Some, None, refl, sym, ap, ◌∙◌, subst, eq-eqb, inl, inr, true≢false, fold, not, is_some, list_any, and_parts, Service, Parts, same_service, Terms, restarts, Link, is_multiple_frame, Config, request, Answer, Line, place_in, link_of, terms, aim_of, unless_refused, at_requested, IsInRange, notes_of, is_data_of, is_granted, IsBy, not-refused, eqb-true, fresh_link as fresh, Event, told, line_after as after, answer, Request, SetBusy, ClearBusy, IsSound, is_own, Seen, seen, is_for, service-same, link_told}
 use Rattle.laws_link.specs.Flags as flags
 use Rattle.model_link.specs.Events as link
-use Rattle.laws_trace.proofs.DeliveriesWatched.{Standing, busy_asked, is_information, brings_information, stand}
+use Rattle.laws_trace.proofs.DeliveriesWatched.{Standing, busy_asked, brings_information, stand}
+use Rattle.model_link.specs.Sound.{is_information}
 use Rattle.laws_trace.proofs.Counting.{begins_by, begins, counted}
 use Rattle.laws_trace.proofs.Deliveries.{frame_by, brings-frame, brings-none, one-begins, heard-by}
 use Rattle.laws_trace.proofs.DeliveriesRun.{IsCount, event-aims, data-noted, no-data, ended-notes}
@@ -85,13 +86,13 @@ module _ (service : Service) (tei : ℕ) where
     abbrev now : Standing
     now = behind c e l a m busy rejected
 
-    abbrev Stands : Link → Type 0
-    Stands k = IsStanding k now.busy now.rejected
+    abbrev StandsNow : Link → Type 0
+    StandsNow k = IsStanding k now.busy now.rejected
 
     abbrev t : Terms
     t = terms c service tei
 
-    both-are : (k : Link) (b d : Bool) → now.busy ≡ b → now.rejected ≡ d → IsStanding k b d → Stands k
+    both-are : (k : Link) (b d : Bool) → now.busy ≡ b → now.rejected ≡ d → IsStanding k b d → StandsNow k
     both-are k b d is too h = subst (λ b. IsStanding k b now.rejected) (sym is) (subst (λ d. IsStanding k b d) (sym too) h)
 
     module _ (x : HasOne c service tei e l (after c e l) a) where
@@ -112,7 +113,7 @@ module _ (service : Service) (tei : ℕ) where
           ∙ ap (λ d. cond (restarts t x.event own || d) false i) (data-noted c ranged l s e service tei m count x)
           ∙ ap (λ b. cond (restarts t x.event own || delivers) false (cond (b && not busy) true rejected)) (brings-is c e a x.event x.by)
 
-      one-stands : Stands (link_of service tei (after c e l))
+      one-stands : StandsNow (link_of service tei (after c e l))
       one-stands = grind (arith, both-are, busy_behind, rejected_behind, busy-is, rejected-is, link-stands)
 
       one-free : list_any (is_data_of service tei) (notes_of a) ≡ true → asked_busy e a busy ≡ false
@@ -124,8 +125,8 @@ module _ (service : Service) (tei : ℕ) where
               let y = delivers-free t own busy x.event contents is in
               asked-is c e a x.event busy x.by ∙ y.2 ∙ sym (stands.busy_is y.0) ∙ y.1
 
-    anew-stands : link_of service tei (after c e l) ≡ fresh → Stands (link_of service tei (after c e l))
-    anew-stands new = subst Stands (sym new) (grind (arith, never))
+    anew-stands : link_of service tei (after c e l) ≡ fresh → StandsNow (link_of service tei (after c e l))
+    anew-stands new = subst StandsNow (sym new) (grind (arith, never))
 
     module _ (x : HasNone c service tei e l (after c e l) a) where
       on-line : (o : Option ℕ) → place_in l tei ≡ o → is_multiple_frame own.state ≡ true → (place : ℕ) × (place_in l tei ≡ Some place)
@@ -154,10 +155,10 @@ module _ (service : Service) (tei : ℕ) where
       rejected-stays up = grind (arith, by-frame, frame_by, brings_information, untold)
 
     -- So of every event.
-    pub event-stands : Stands (link_of service tei (after c e l)) × (list_any (is_data_of service tei) (notes_of a) ≡ true → asked_busy e a busy ≡ false)
+    pub event-stands : StandsNow (link_of service tei (after c e l)) × (list_any (is_data_of service tei) (notes_of a) ≡ true → asked_busy e a busy ≡ false)
     event-stands = go (event-goes c e l service tei s)
       where
-        go : Goes c service tei e l (after c e l) a → Stands (link_of service tei (after c e l)) × (list_any (is_data_of service tei) (notes_of a) ≡ true → asked_busy e a busy ≡ false)
+        go : Goes c service tei e l (after c e l) a → StandsNow (link_of service tei (after c e l)) × (list_any (is_data_of service tei) (notes_of a) ≡ true → asked_busy e a busy ≡ false)
         go (inl x) = ((grind (arith, busy-stays, rejected-stays, anew-stands)), λ some. absurd (no-data c ranged l s e service tei m count x some))
         go (inr (inl x)) = (one-stands x, one-free x)
         go (inr (inr x)) = (

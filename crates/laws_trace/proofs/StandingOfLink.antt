@@ -1,7 +1,8 @@
 -- How a link stands behind an event: own busy, and whether REJ stands.
 use Rattle.laws_trace.proofs.Vocabulary.{arith, ◌≡◌, ℕ, ◌&&◌, ◌||◌, Bool, true, false, cond, List, [], Some, None, refl, sym, ap, ◌∙◌, not, is_some, nat_le, and_parts, and_right, or_parts, or_from, or_right, none-some, Parts, State, AwaitingEstablishment, ControlFrame, Terms, Arrived, is_eligible, restarts, eligible, Received, received, Link, is_multiple_frame, event-delivers, delivered-at_once, flag_left, busy_asked, own_busy_left, rejecting_heard, takes_contents, unless_put, owed_in, pending_left, as_heard, is_anew, is_clearing, leads_by_sabme, leads_by_agreement, comes_to, numbers_begin, state_after, put, event-follows, Control, LinkEvent as Event, frame, link_told, link_after}
 use Rattle.laws_trace.proofs.Counting.{Watched}
-use Rattle.laws_trace.proofs.DeliveriesWatched.{Standing, is_information}
+use Rattle.laws_trace.proofs.DeliveriesWatched.{Standing}
+use Rattle.model_link.specs.Sound.{is_information}
 use Rattle.laws_trace.proofs.Begins.{in-state, up-before}
 use Rattle.laws_trace.proofs.ReceiptsNumbered.{PendsUp, pends-up, taken-is}
 use Rattle.laws_trace.proofs.Facts.{never}

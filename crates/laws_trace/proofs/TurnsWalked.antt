@@ -1,5 +1,5 @@
 -- How the turn goes round the links of a line while whatever happens there: one keeps its place, and another has something to send.
-use Rattle.laws_trace.proofs.Vocabulary.{◌≡◌, ◌≢◌, ℕ, ◌+◌, ◌<◌, ◌≤◌, ◌==◌, ◌⊎◌, ⊎_elim, Bool, true, false, cond, List, [], ◌∷◌, ◌++◌, get_or, map, Option, Some, None, option_map, refl, sym, ap, ◌∙◌, subst, inl, inr, arith, eq-eqb, true≢false, All, filter, and_parts, flat_map-append, get_or-set_same, map-append, filter-append, Address, sapi_of, Config, request, next, Answer, gave, Line, fresh_line, link_count, service_at, place_at, tei_at, Taken, taken, next_of, way_round, in_turn, IsSilentAt, IsOfLink, IsOwed, IsIdle, contents_of, comes-first, served, turn-stays, Card, line_at, is_full, by_room, eqb-true, unwrap_or, information_of, CardEvent as Event, after, card_answer as answer, IsAtLine, CardIsSound as IsSound, trace_frame_in as frame_in, Seen, seen, frames_begun, IsAmong, sapi-small}
+use Rattle.laws_trace.proofs.Vocabulary.{◌≡◌, ◌≢◌, ℕ, ◌+◌, ◌<◌, ◌≤◌, ◌==◌, ◌⊎◌, ⊎_elim, Bool, true, false, cond, List, [], ◌∷◌, ◌++◌, get_or, map, Option, Some, None, option_map, refl, sym, ap, ◌∙◌, subst, inl, inr, arith, eq-eqb, true≢false, All, filter, and_parts, flat_map-append, get_or-set_same, map-append, filter-append, Address, sapi_of, Config, request, next, Answer, gave, Line, fresh_line, link_count, service_at, place_at, tei_at, Taken, taken, next_of, way_round, in_turn, IsSilentAt, IsOfLink, IsOwed, IsIdle, contents_of_link, comes-first, served, turn-stays, Card, line_at, is_full, by_room, eqb-true, unwrap_or, information_of, CardEvent as Event, after, card_answer as answer, IsAtLine, CardIsSound as IsSound, trace_frame_in as frame_in, Seen, seen, frames_begun, IsAmong, sapi-small}
 use Rattle.model_line.specs.Event as line_event
 use Rattle.model_line.specs.Machine as lines
 use Rattle.model_line.specs.Sound as line
@@ -106,7 +106,7 @@ module _ (c : Config) (one tei other its : ℕ) where
     abbrev new : Line
     new = lines.after c next l
 
-    of-link : (frame : List ℕ) (x : IsOfLink c (contents_of l) l new frame) (names : List LinkName) → Walk new names → Walk l (names-in (frame ∷ []) ++ names)
+    of-link : (frame : List ℕ) (x : IsOfLink c (contents_of_link l) l new frame) (names : List LinkName) → Walk new names → Walk l (names-in (frame ∷ []) ++ names)
     of-link frame x names walk =
         let a : Address = record { sapi = sapi_of (service_at x.number); command = x.command; tei = x.tei } in
         a-name frame (name_of x.number x.tei) names (ap (is_of_a_link c.side) x.spelled ∙ link-frame c.side a x.control (plain-order c l new frame plain x) (unwrap_or x.information []))
@@ -120,7 +120,7 @@ module _ (c : Config) (one tei other its : ℕ) where
           turned = ap (λ (l : Line). l.turn) x.line;
         }) walk)
 
-    by-next : (o : Option Taken) → elim o as (λ o. Type 0) [ None ↦ IsIdle c l new | Some t ↦ IsOwed c (contents_of l) l new t.frame ]
+    by-next : (o : Option Taken) → elim o as (λ o. Type 0) [ None ↦ IsIdle c l new | Some t ↦ IsOwed c (contents_of_link l) l new t.frame ]
         → (names : List LinkName) → Walk new names → Walk l (names-in (frame_in (gave (option_map next_of o))) ++ names)
     by-next None x names walk = still l new names (ap (λ (l : Line). l.turn) x.line) walk
     by-next (Some t) (inl x) names walk =

@@ -1,5 +1,5 @@
 -- Unit data goes out in the order in which it was granted, over runs.
-use Rattle.laws_trace.proofs.Vocabulary.{arith, ◌≡◌, ℕ, ◌<◌, ◌≤◌, ◌==◌, ◌&&◌, Bool, true, false, cond, List, [], ◌∷◌, ◌++◌, drop, map, slice_get, Option, Some, None, option_map, refl, sym, ap, ◌∙◌, subst, inl, inr, append-nil, All, not, filter, get_or-replicate, map-append, All-nil, All-head, Ui, sapi_of, IsInOrder, Link, ControlFrame, Config, hears, expiry, request, next, NextFrame, Answer, gave, Line, UnitData, link_count, link_at, service_at, terms, fresh_line, management_sapi, Taken, taken, unit_frame, next_of, IsInRange, IsUnitData, IsOfLink, IsOwed, IsIdle, contents_of, units_asked, event-follows, event-happens, served, units-wait, fold, information_of, fresh_link as fresh, Event, line_after as after, answer, Request, IsSound, trace_frame_in as frame_in, Seen, seen_told, seen_granted, seen, frames_begun, IsFront, units_left, is_ui, is_down, is_unit, waits, trace_begun as begun, granted}
+use Rattle.laws_trace.proofs.Vocabulary.{arith, ◌≡◌, ℕ, ◌<◌, ◌≤◌, ◌==◌, ◌&&◌, Bool, true, false, cond, List, [], ◌∷◌, ◌++◌, drop, map, slice_get, Option, Some, None, option_map, refl, sym, ap, ◌∙◌, subst, inl, inr, append-nil, All, not, filter, get_or-replicate, map-append, All-nil, All-head, Ui, sapi_of, IsInOrder, Link, ControlFrame, Config, hears, expiry, request, next, NextFrame, Answer, gave, Line, UnitData, link_count, link_at, service_at, terms, fresh_line, management_sapi, Taken, taken, unit_frame, next_of, IsInRange, IsUnitData, IsOfLink, IsOwed, IsIdle, contents_of_link, units_asked, event-follows, event-happens, served, units-wait, fold, information_of, fresh_link as fresh, Event, line_after as after, answer, Request, IsSound, trace_frame_in as frame_in, Seen, seen_told, seen_granted, seen, frames_begun, IsFront, units_left, is_ui, is_down, is_unit, waits, trace_begun as begun, granted}
 use Rattle.laws_trace.proofs.NoUi.{IsPlain, all-left}
 use Rattle.laws_trace.proofs.Reading.{other-frame, unit-is}
 use Rattle.laws_trace.specs.Units as units
@@ -92,7 +92,7 @@ first-of c [] u is h = absurd (cc)
 first-of c (v ∷ us) u is h = let same : v ≡ u = cc in subst (λ (x : UnitData). x.tei ≤ 127) same (All-head (IsUnitData c) v us h).tei
 
 -- a frame of a link is none
-pub plain-order : (c : Config) (l new : Line) (frame : List ℕ) → NoneWaits c l → (x : IsOfLink c (contents_of l) l new frame) → is_ui x.control ≡ false
+pub plain-order : (c : Config) (l new : Line) (frame : List ℕ) → NoneWaits c l → (x : IsOfLink c (contents_of_link l) l new frame) → is_ui x.control ≡ false
 plain-order c l new frame h x = by-order x.in_order
   where
     by-order : IsInOrder (terms c (service_at x.number) x.tei) (link_at x.number l) (link_at x.number new) (record { command = x.command; control = x.control }) → is_ui x.control ≡ false
@@ -100,7 +100,7 @@ plain-order c l new frame h x = by-order x.in_order
     by-order (inr (inl information)) = ap (λ (f : ControlFrame). is_ui f.control) information.is
     by-order (inr (inr acknowledgement)) = ap (λ (f : ControlFrame). is_ui f.control) acknowledgement.is
 
-of-link : (c : Config) (l new : Line) (frame : List ℕ) → NoneWaits c l → IsOfLink c (contents_of l) l new frame → is_unit c.side frame ≡ false
+of-link : (c : Config) (l new : Line) (frame : List ℕ) → NoneWaits c l → IsOfLink c (contents_of_link l) l new frame → is_unit c.side frame ≡ false
 of-link c l new frame h x =
     ap (is_unit c.side) x.spelled
     ∙ other-frame c.side (record { sapi = sapi_of (service_at x.number); command = x.command; tei = x.tei }) x.control (ap (λ b. b && not (sapi_of (service_at x.number) == management_sapi)) (plain-order c l new frame h x)) _
@@ -110,7 +110,7 @@ unfolding Goes
 begins c waiting left frame b is h = (left, subst (λ b. Begun b waiting frame left) (sym is) h, refl)
 
 next-passes : (c : Config) (l new : Line) → IsSound c l → NoneWaits c l → (o : Option Taken)
-    → elim o as (λ o. Type 0) [ None ↦ IsIdle c l new | Some t ↦ IsOwed c (contents_of l) l new t.frame ]
+    → elim o as (λ o. Type 0) [ None ↦ IsIdle c l new | Some t ↦ IsOwed c (contents_of_link l) l new t.frame ]
     → Goes c (frames c l) (map begun (frame_in (gave (option_map next_of o)))) (frames c new)
 unfolding Goes
 next-passes c l new s h None x = ap (λ (l : Line). map (unit_frame c) l.units) x.line

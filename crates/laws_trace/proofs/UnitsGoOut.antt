@@ -1,5 +1,5 @@
 -- Unit data goes out: the laws.
-use Rattle.laws_trace.proofs.Vocabulary.{◌≡◌, ℕ, ◌<◌, ◌≤◌, List, [], ◌++◌, map, sym, ap, ◌∙◌, subst, get_or-replicate, Config, Line, fresh_line, unit_frame, most_frames, line_at, fresh_is_sound, AreTakesAt, takes_at, refl, arith, true, false, ◌||◌, Option, Some, None, option_map, list_any, inl, inr, sapi_of, next, next_of, gave, Taken, taken, IsIdle, IsOwed, contents_of, served, at, config-stays, Bool, filter, Parts, fresh, CardEvent as Event, after_all, AreAtLines, trace_frame_in as frame_in, trace_of, IsFront, Always, reads, is_ui, is_unit, units_of, UnitsGoOut, AllUnitsGoOut, information_of, IsInRange, IsSound, card_answer as answer, sapi-small}
+use Rattle.laws_trace.proofs.Vocabulary.{◌≡◌, ℕ, ◌<◌, ◌≤◌, List, [], ◌++◌, map, sym, ap, ◌∙◌, subst, get_or-replicate, Config, Line, fresh_line, unit_frame, most_frames, line_at, fresh_is_sound, AreTakesAt, takes_at, refl, arith, true, false, ◌||◌, Option, Some, None, option_map, list_any, inl, inr, sapi_of, next, next_of, gave, Taken, taken, IsIdle, IsOwed, contents_of_link, served, at, config-stays, Bool, filter, Parts, fresh, CardEvent as Event, after_all, AreAtLines, trace_frame_in as frame_in, trace_of, IsFront, Always, reads, is_ui, is_unit, units_of, UnitsGoOut, AllUnitsGoOut, information_of, IsInRange, IsSound, card_answer as answer, sapi-small}
 use Rattle.laws_trace.proofs.Runs.{run-shows}
 use Rattle.laws_trace.proofs.LineAtEnd.{line-at-end}
 use Rattle.laws_trace.proofs.Turns.{ui-frame}
@@ -23,7 +23,7 @@ units-gone c l s = go (taken c l) (served c l s)
     ui : (frame : List ℕ) → is_of_a_link c.side frame ≡ false → (gives-ui c frame || false) ≡ false → l.units ≡ []
     ui frame is none = grind arith
 
-    go : (o : Option Taken) → elim o as (λ o. Type 0) [ None ↦ IsIdle c l (lines.after c next l) | Some t ↦ IsOwed c (contents_of l) l (lines.after c next l) t.frame ]
+    go : (o : Option Taken) → elim o as (λ o. Type 0) [ None ↦ IsIdle c l (lines.after c next l) | Some t ↦ IsOwed c (contents_of_link l) l (lines.after c next l) t.frame ]
         → list_any (gives-ui c) (frame_in (gave (option_map next_of o))) ≡ false → l.units ≡ []
     go None x none = x.nothing.units
     go (Some t) (inl x) none =

@@ -97,7 +97,7 @@ pub use Rattle.laws_line.specs.Frames.{lost_in}
 pub use Rattle.laws_line.specs.Heard.{IsHeard, IsHeardAtLink, IsHeardByGroup, IsMalformed, IsTooLong, contents_in, is_data_of, is_unit_of, notes_of, tells_contents}
 pub use Rattle.laws_line.specs.Loss.{is_loss_of}
 pub use Rattle.laws_line.specs.Requests.{deactivates, is_deactivation, of_link}
-pub use Rattle.laws_line.specs.Served.{HasNothing, IsIdle, IsOfLink, IsOwed, IsSilent, IsSilentAt, contents_of, in_turn, unit_asked, units_asked, units_behind, units_left}
+pub use Rattle.laws_line.specs.Served.{HasNothing, IsIdle, IsOfLink, IsOwed, IsSilent, IsSilentAt, contents_of_link, in_turn, unit_asked, units_asked, units_behind, units_left}
 pub use Rattle.laws_line.specs.Share.{is_granted}
 pub use Rattle.laws_line.specs.Steady.{Brings, BringsMalformed, IsBy, IsDeactivated, IsOf, timer_of}
 pub use Rattle.laws_line.specs.Timers.{HaveTheirTimers, is_needed, left_by, runs_then}
@@ -123,12 +123,12 @@ pub use Rattle.laws_link.specs.Offered.{Carries, IsOffered, i_frames, number_sen
 pub use Rattle.laws_link.specs.States.{as_heard, by_expiry, by_frame, by_received, by_request, comes_to, is_anew, is_clearing, is_faulty, is_invalid, is_overlong, leads_by_agreement, leads_by_sabme, moves, numbers_begin, receipt_of, state_after}
 pub use Rattle.laws_link.specs.Telling.{final_as, numbered_as, told_by, told_cleared, told_expired}
 pub use Rattle.laws_link.specs.Timed.{is_same, obey, obeyed}
-pub use Rattle.laws_link.specs.Waiting.{answers, answers_to, answers_up, as_command, as_response, behind, command_in, commands, is_next, is_taken, is_time, put, receipt_as, room, to_disc, to_information, to_sabme, to_supervisory, waiting_left}
+pub use Rattle.laws_link.specs.Waiting.{answers, answers_to, answers_up, as_command, as_response, behind, command_in, commands, has_next_number, is_taken, is_time, put, receipt_as, room, to_disc, to_information, to_sabme, to_supervisory, waiting_left}
 pub use Rattle.laws_link.specs.two.Needed.{HasItsTimer, IsCalmIn, needed, needed_in}
 pub use Rattle.laws_trace.specs.ControlFrames.{put_in}
 pub use Rattle.laws_trace.specs.Deliveries.{Deliveries, brings_next, is_unit_for, is_unit_taken}
 pub use Rattle.laws_trace.specs.FramesAreDue.{DueIsGiven, GivenIsDue, may_go, offers, text}
-pub use Rattle.laws_trace.specs.FramesAreRead.{FramesAreOctets, FramesAreRead, GivesOctets, HasOctets, IsSpelled, contents_given, is_of_use}
+pub use Rattle.laws_trace.specs.FramesAreRead.{FramesAreOctets, FramesAreRead, GivesOctets, IsSpelled, contents_given, is_of_use}
 pub use Rattle.laws_trace.specs.LinkFrames.{brought, fault_of, faulty_long, frame_of, is_for, is_frame_of, its_frame, malformed, reads}
 pub use Rattle.laws_trace.specs.Managing.{manages, Checked, Managed, asked, by_event as managing_by_event, by_message, checks, due, gives, grants, is_on as managing_is_on, leaves, led, managed_after, may_check, none_on, nothing_due, over, owes, ran_out, responded}
 pub use Rattle.laws_trace.specs.News.{NewsIsTold, brings, given_up, is_news, is_sabme, is_xid, releases, wrong, wrong_frame, wrong_number}
@@ -171,7 +171,7 @@ unfoldable pub use Rattle.model_card.specs.ports.Card.{meant}
 pub use Rattle.model_card.specs.ports.Codec.{frame_moment, frames_among, frames_given, given_of, meant_in, octets_of}
 pub use Rattle.model_card.specs.ports.Event.{Event as PortsEvent}
 pub use Rattle.model_card.specs.ports.GoingOut.{OfEachLine, answer_of_call, as_octets, call_answered, calls_answered, frames_to_hear, octets_given}
-pub use Rattle.model_card.specs.ports.HeardOctets.{HearsOctets}
+pub use Rattle.model_card.specs.ports.HeardOctets.{HasOctets, HearsOctets}
 pub use Rattle.model_card.specs.ports.Port.{Port, answer_of, fresh_port, gained, is_due}
 pub use Rattle.model_card.specs.ports.Promises.{moments_meant}
 pub use Rattle.model_card.specs.ports.Pulls.{pulls_at, pulls_behind}

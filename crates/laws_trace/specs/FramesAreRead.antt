@@ -1,6 +1,5 @@
 -- What begins on a line are frames.
 use Rattle.std.specs.Prelude.{◌≡◌, ℕ, ◌==◌, ◌||◌, Bool, true, List, [], All, is_some}
-use Rattle.model_bits.specs.Stream as stream
 use Rattle.model_bits.specs.StuffingLaws.{AreOctets}
 use Rattle.lapd_frame.specs.Grammar.{Parts, Spells}
 use Rattle.lapd_frame.specs.Services.{service_of}
@@ -8,6 +7,7 @@ use Rattle.model_line.specs.declared.config.Config.{Config}
 use Rattle.model_line.specs.Request as asked
 use Rattle.model_line.specs.Request.{Request}
 use Rattle.model_card.specs.Event.{Event}
+use Rattle.model_card.specs.ports.HeardOctets.{HasOctets}
 use Rattle.laws_trace.specs.Trace.{Seen, heard, granted, trace_of, frames_begun}
 
 -- Each is one that the grammar has, as that of the card's side, of a service or of TEI management (Q.921 clauses 2, 3
@@ -26,10 +26,6 @@ abbrev pub contents_given : Request → List ℕ
 contents_given (asked.Data service tei contents) = contents
 contents_given (asked.Unit service tei contents) = contents
 contents_given other = []
-
-abbrev pub HasOctets : stream.Event → Type 0
-HasOctets (stream.frame octets) = AreOctets octets
-HasOctets other = Unit {0}
 
 abbrev pub GivesOctets : Seen → Type 0
 GivesOctets (granted r) = AreOctets (contents_given r)

@@ -17,8 +17,8 @@ use Rattle.model_card.specs.Event.{Event}
 use Rattle.model_card.specs.Run.{moments, after_all}
 use Rattle.laws_line.specs.card.Worked.{usual, on_0, up}
 use Rattle.laws_trace.specs.Outgoing.{data_granted, loses, went_on}
-use Rattle.laws_trace.specs.WorkedObserver.{link_after}
-use Rattle.laws_trace.specs.WorkedUnits.{calls, comes}
+use Rattle.laws_trace.specs.WorkedObserver.{link_after, two_gone}
+use Rattle.laws_trace.specs.WorkedUnits.{comes}
 
 -- SABME of TEI 64, and data: one place of eight is taken;
 one_taken : room 0 Call 64 (after_all (fresh usual) (up ++ on_0 (Data Call 64 (7 ∷ [])) ∷ [])) ≡ Ok (record { queue = 7; pool = 63; va = 0 })
@@ -44,9 +44,6 @@ a_loss : loses Call 64 next (told (record nothing { notes = ReleaseIndication Ca
 a_loss = refl
 
 -- RR 1 behind two I-frames acknowledges one, to the observer; SABME acknowledges none, though V(A) is 0 behind it.
-abbrev two_gone : List Event
-two_gone = up ++ on_0 (Data Call 64 (7 ∷ [])) ∷ on_0 (Data Call 64 (8 ∷ [])) ∷ calls 3
-
 abbrev one_heard : List Event
 one_heard = two_gone ++ comes (0x02 ∷ 0x81 ∷ 0x01 ∷ 0x02 ∷ []) ∷ []
 
@@ -59,7 +56,7 @@ unfolding moments lines.after lines.answer lines.takes_slot teis.course teis.ref
 none_more = refl
 
 -- Where all places were left while contents are kept, the law would be broken.
-abbrev Same : ℕ → ℕ → Type 0
+abbrev pub Same : ℕ → ℕ → Type 0
 Same m n = m ≡ n
 
 lost_silently : Same (8 + 1) 8 → ⊥

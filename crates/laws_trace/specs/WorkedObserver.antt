@@ -70,7 +70,7 @@ unfolding moments lines.after lines.answer lines.takes_slot teis.course teis.ref
 goes_down = refl
 
 -- Two I-frames go; RR with N(R) = 1 acknowledges the first; REJ takes the second back, and the next call sends it again.
-abbrev two_gone : List Event
+abbrev pub two_gone : List Event
 two_gone = up ++ on_0 (Data Call 64 (7 ∷ [])) ∷ on_0 (Data Call 64 (8 ∷ [])) ∷ calls 3
 
 abbrev rr_comes : Event

@@ -1,16 +1,12 @@
 -- Worked values: which side's frames are heard, and one that would be its own.
 use Rattle.std.specs.Prelude.{◌≡◌, ◌==◌, true, [], ◌∷◌, Ok, refl}
-use Rattle.lapd_frame.specs.declared.controls.Control.TheVariants.{Sabme}
-use Rattle.lapd_frame.specs.Grammar.{Parts}
 use Rattle.lapd_frame.specs.Reading.{reading, header_of, control_of, unnumbered_of}
 use Rattle.model_line.specs.Heard.{heard_side}
 use Rattle.laws_line.specs.card.Worked.{usual}
+use Rattle.laws_line.specs.WorkedSabme.{sabme}
 use Rattle.laws_trace.specs.OtherSide.{bit_in}
 
 -- SABME of a terminal is heard as a command by a card of the network's side.
-abbrev sabme : Parts
-sabme = record { address = record { sapi = 0; command = true; tei = 64 }; control = Sabme true; info = [] }
-
 sabme_heard : reading (heard_side usual) (0x00 ∷ 0x81 ∷ 0x7F ∷ []) ≡ Ok sabme
 unfolding reading header_of control_of unnumbered_of
 sabme_heard = refl

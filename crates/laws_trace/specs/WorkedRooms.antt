@@ -1,5 +1,5 @@
 -- Worked values: what is told of the room of a link, and one that tells V(S) as V(A), which breaks the law.
-use Rattle.std.specs.Prelude.{◌≡◌, ℕ, List, [], ◌∷◌, ◌++◌, Ok, refl}
+use Rattle.std.specs.Prelude.{◌≡◌, List, [], ◌∷◌, ◌++◌, Ok, refl}
 use Rattle.lapd_frame.specs.declared.services.Service.TheVariants.{Call}
 use Rattle.lapd_frame.specs.Reading.{reading, header_of, control_of, unnumbered_of, supervisory_of}
 use Rattle.lapd_seq.specs.Circle.{named, distance_of}
@@ -13,6 +13,7 @@ use Rattle.model_card.specs.Room.{room}
 use Rattle.model_card.specs.Run.{moments, after_all}
 use Rattle.laws_line.specs.card.Worked.{usual, on_0, up}
 use Rattle.laws_trace.specs.Outgoing.{outgoing_of}
+use Rattle.laws_trace.specs.WorkedKept.{Same}
 use Rattle.laws_trace.specs.WorkedObserver.{link_after}
 use Rattle.laws_trace.specs.WorkedUnits.{calls, comes}
 
@@ -33,9 +34,6 @@ one_kept = refl
 none_heard : (link_after gone).acknowledged ≡ 0
 unfolding moments lines.after lines.answer lines.takes_slot teis.course teis.refusal seq distance_of named reading header_of control_of unnumbered_of supervisory_of
 none_heard = refl
-
-abbrev Same : ℕ → ℕ → Type 0
-Same m n = m ≡ n
 
 sent_is_told : Same 1 0 → ⊥
 sent_is_told e = cc e

@@ -5,7 +5,7 @@ use Rattle.laws_wire.proofs.Asking.{with_more}
 use Rattle.laws_wire.proofs.Fair.{Fine, frame-fair, timer-fair}
 use Rattle.laws_wire.proofs.Held.{Held, TellsIt, Erred, now-erred, held-given, held-lost, taken-told, held-taken, expired-told, held-expired, held-asked}
 use Rattle.laws_wire.proofs.Joint.{Joint, IsMeant, since, line-on, loses-first, Goes, waits-more, goes-on, only-link, accepts, timer-goes, timer-delivers, GivesOn, gives-on, first-means, HearsOn, hears-on}
-use Rattle.laws_wire.proofs.Standing.{IsCarried, Stands, link-sound, link-ranges}
+use Rattle.laws_wire.proofs.Standing.{IsCarried, StationStands, link-sound, link-ranges}
 use Rattle.laws_wire.proofs.Talking.{Face}
 
 -- the first of a line that begins with other frames is one of those, or none is before it
@@ -27,10 +27,10 @@ module _ (service : Service) (tei place : ℕ) (past : List LineTold) (c : Confi
   Its s n = Held c service tei place past s n
 
   pub sound : (s : Station) (n : End) → Its s n → IsSound n.terms n.link
-  sound s n h = link-sound service tei place s n (subst (λ k. Stands k service tei place s n) (sym h.stands.config) h.stands)
+  sound s n h = link-sound service tei place s n (subst (λ k. StationStands k service tei place s n) (sym h.stands.config) h.stands)
 
   pub ranges : (s : Station) (n : End) → Its s n → IsInRange n.terms
-  ranges s n h = link-ranges service tei place s n (subst (λ k. Stands k service tei place s n) (sym h.stands.config) h.stands)
+  ranges s n h = link-ranges service tei place s n (subst (λ k. StationStands k service tei place s n) (sym h.stands.config) h.stands)
 
   -- An end whose link is up, with what is on its line.
   pub record UpAt (s : Station) (n m : End) (first near far : List Parts) : Type 0 where

@@ -3,7 +3,7 @@ use Rattle.laws_wire.proofs.Vocabulary.{◌≡◌, ℕ, ◌<◌, ◌||◌, [], l
 use Rattle.laws_link.specs.two.Rounds.{HasArrived}
 use Rattle.laws_wire.proofs.Alone.{link-is, still-alone}
 use Rattle.laws_wire.proofs.Run.{arrived, none-given, way-empty}
-use Rattle.laws_wire.proofs.Standing.{Stands}
+use Rattle.laws_wire.proofs.Standing.{StationStands}
 use Rattle.laws_wire.proofs.Talking.{Past, Holds}
 use Rattle.laws_wire.proofs.Up.{Talk}
 
@@ -13,12 +13,12 @@ none-less a s k e e' less = omega (arith, e, e', less)
 module _ (service : Service) (tei : ℕ) where
   -- the link of a station that stands for an end
   its-link : (c : Config) (place : ℕ) (past : Past) (s : Station) (n : End) → Holds c service tei place past s n → own_link service tei s ≡ n.link
-  its-link c place past s n h = grind (arith, Stands, link-is, line_sound, has_lines)
+  its-link c place past s n h = grind (arith, StationStands, link-is, line_sound, has_lines)
 
   speaks : (c d : Config) (p q : ℕ) (past other : Past) (s u : Station) (n m : End) → Holds c service tei p past s n → Holds d service tei q other u m → Steady n
       → HasArrived n.link.contents n m → answered next s ≡ gave None → s.way ≡ [] → Speaks service tei s u
   speaks c d p q past other s u n m h k steady got none way =
-      let own : Stands s.card.config service tei p s n = subst (λ k. Stands k service tei p s n) (sym h.stands.config) h.stands in
+      let own : StationStands s.card.config service tei p s n = subst (λ k. StationStands k service tei p s n) (sym h.stands.config) h.stands in
       let here = its-link c p past s n h in
       let there = its-link d q other u m k in
       record {

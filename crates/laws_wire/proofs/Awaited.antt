@@ -13,7 +13,7 @@ use Rattle.laws_wire.specs.Facing.{line_of, read_as, parts_of, own_link}
 use Rattle.laws_wire.proofs.Fair.{HasError}
 use Rattle.laws_wire.proofs.Held.{error-said, tells_error}
 use Rattle.laws_wire.proofs.Speaking.{heard_by, said_by}
-use Rattle.laws_wire.proofs.Standing.{IsCarried, Stands, link-ranges, gives-frames, gives-stands}
+use Rattle.laws_wire.proofs.Standing.{IsCarried, StationStands, link-ranges, gives-frames, gives-stands}
 
 -- ---- of two links less is asked
 
@@ -103,7 +103,7 @@ read-again service tei c (f ∷ fs) all =
 
 module _ (service : Service) (tei place : ℕ) where
   abbrev Own : Station → End → Type 0
-  Own s n = Stands s.card.config service tei place s n
+  Own s n = StationStands s.card.config service tei place s n
 
   way-read : (s : Station) (n : End) → Own s n → flat_map (read_as s.card.config) s.way ≡ n.way
   way-read s n h = ap (flat_map (read_as s.card.config)) h.way ∙ read-again service tei s.card.config n.way h.carried
@@ -149,9 +149,9 @@ module _ (service : Service) (tei : ℕ) (s : Station) where
           let l = link_in (line_of s) service place in
           ap (λ a. is_any_order (orders_in a)) (answers-t200 place e) ∙ (grind (arith, nat_lt, none-ordered))
 
-module _ (service : Service) (tei : ℕ) (c : Config) (place : ℕ) (s : Station) (n : End) (h : Stands c service tei place s n) where
-  own : Stands s.card.config service tei place s n
-  own = subst (λ k. Stands k service tei place s n) (sym h.config) h
+module _ (service : Service) (tei : ℕ) (c : Config) (place : ℕ) (s : Station) (n : End) (h : StationStands c service tei place s n) where
+  own : StationStands s.card.config service tei place s n
+  own = subst (λ k. StationStands k service tei place s n) (sym h.config) h
 
   pub link-is : own_link service tei s ≡ n.link
   link-is = ap (λ o. option_map_or (link_in (line_of s) service) o fresh) h.speaks.placed ∙ h.speaks.link
@@ -223,7 +223,7 @@ waits-first asked n f fs first is h = grind arith
 pub goes-first : (asked : Bool → Control → Bool) (n : End) (f : Parts) (fs : List Parts) → n.way ≡ f ∷ fs → asked f.address.command f.control ≡ true → HasNo asked n → ⊥
 goes-first asked n f fs first is h = grind arith
 
-module _ (service : Service) (tei : ℕ) (c d : Config) (p q : ℕ) (s r : Station) (n m : End) (near : Stands c service tei p s n) (far : Stands d service tei q r m) where
+module _ (service : Service) (tei : ℕ) (c d : Config) (p q : ℕ) (s r : Station) (n m : End) (near : StationStands c service tei p s n) (far : StationStands d service tei q r m) where
   pub long-there : IsLongEnough service tei s r → awaits_answer n.link.state ≡ true → NoneOpen n m
   long-there long awaits =
       let none = long (awaits-is service tei c p s n near ∙ awaits) in

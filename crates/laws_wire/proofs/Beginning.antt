@@ -8,7 +8,7 @@ use Rattle.model_card.specs.Event.{at as event_at}
 use Rattle.laws_wire.proofs.Answered.{asks-way, same-granted}
 use Rattle.laws_wire.proofs.Calling.{asked, asks-establish, end}
 use Rattle.laws_wire.proofs.LineSpeaks.{Speaks}
-use Rattle.laws_wire.proofs.Standing.{IsCarried, Stands, asks-granted, link-ranges}
+use Rattle.laws_wire.proofs.Standing.{IsCarried, StationStands, asks-granted, link-ranges}
 use Rattle.laws_wire.proofs.Talking.{unheard, Holds, none-told}
 use Rattle.laws_wire.proofs.Speaking.{said_by}
 
@@ -129,8 +129,8 @@ module _ (service : Service) (tei : ℕ) (c : Config) (ranged : line_sound.IsInR
     abbrev start : End
     start = end (terms c service tei) fresh []
 
-    own : Stands s.card.config service tei 0 s start
-    own = subst (λ k. Stands k service tei 0 s start) (sym begins.stands.config) begins.stands
+    own : StationStands s.card.config service tei 0 s start
+    own = subst (λ k. StationStands k service tei 0 s start) (sym begins.stands.config) begins.stands
 
     abbrev its_line : Line
     its_line = line_at line s.card

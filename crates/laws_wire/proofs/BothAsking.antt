@@ -4,7 +4,7 @@ use Rattle.laws_wire.proofs.Vocabulary.{arith, ◌≡◌, ℕ, ◌≤◌, true, 
 use Rattle.model_line.specs.Refusal.{refusal}
 use Rattle.model_card.specs.Event.{at as event_at}
 use Rattle.laws_wire.proofs.Calling.{asked, asks-establish, end}
-use Rattle.laws_wire.proofs.Standing.{Stands, Granted, asks-granted, asks-stands, link-ranges}
+use Rattle.laws_wire.proofs.Standing.{StationStands, Granted, asks-granted, asks-stands, link-ranges}
 use Rattle.laws_wire.proofs.Talking.{Past, Holds}
 use Rattle.laws_wire.proofs.Speaking.{said_by}
 
@@ -26,8 +26,8 @@ pub record Refuses (service : Service) (tei : ℕ) (s : Station) : Type 0 where
   pub none : is_granted (answered (request (Establish service tei)) s) ≡ false
 
 module _ (service : Service) (tei place : ℕ) (c : Config) (first : Past) (s : Station) (n : End) (h : Holds c service tei place first s n) where
-  own : Stands s.card.config service tei place s n
-  own = subst (λ k. Stands k service tei place s n) (sym h.stands.config) h.stands
+  own : StationStands s.card.config service tei place s n
+  own = subst (λ k. StationStands k service tei place s n) (sym h.stands.config) h.stands
 
   abbrev l : Line
   l = line_at s.line s.card

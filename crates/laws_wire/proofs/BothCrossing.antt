@@ -6,7 +6,7 @@ use Rattle.laws_wire.proofs.BothHalf.{lower}
 use Rattle.laws_wire.proofs.Calling.{sabme, ua, its_ua, awaiting, caller, end, sound-caller, with_ua_waiting, with_ua_first}
 use Rattle.laws_wire.proofs.Ringing.{ringing, its_sabme}
 use Rattle.laws_wire.proofs.Speaking.{said_by}
-use Rattle.laws_wire.proofs.Standing.{Stands}
+use Rattle.laws_wire.proofs.Standing.{StationStands}
 use Rattle.laws_wire.proofs.Talking.{Face, Past, unheard, after_note, Holds, none-told, holds-given, holds-lost, takes as takes_frame, Took}
 use Rattle.laws_wire.proofs.Quiet.{one-at-most, Both, first-way, quiet-gives, quiet-takes, quiet-requests}
 use Rattle.laws_wire.proofs.Up.{pair_of, turn_of, granted_of}
@@ -168,7 +168,7 @@ module _ (service : Service) (tei : ℕ) (c d : Config) (p q : ℕ) (face : Face
           → said_by (course t (received (frame f)) (crossing t own other).link) ≡ past.told → Holds c service tei p past (with_first_of w.far.way s) n'
       holds-then past n' is empty had none said =
           subst (λ s'. Holds c service tei p past s' n') (sym same) (record {
-            stands = subst (Stands c service tei p (comes (spelling d.side f) s)) is took.stands;
+            stands = subst (StationStands c service tei p (comes (spelling d.side f) s)) is took.stands;
             granted = takes-granted (spelling d.side f) s ∙ both.near.granted ∙ sym empty;
             since = [];
             told =

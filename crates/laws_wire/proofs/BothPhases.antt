@@ -8,7 +8,7 @@ use Rattle.laws_wire.proofs.BothCrossing as crossed
 use Rattle.laws_wire.proofs.BothCrossing.{waits, under_way, turned-order}
 use Rattle.laws_wire.proofs.Calling.{sabme, asked, awaiting, called, takes-sabme, told-of-sabme, end, none-granted-asked, none-granted-awaiting, none-granted-fresh, first-pair, with_ua_waiting}
 use Rattle.laws_wire.proofs.Speaking.{said_by}
-use Rattle.laws_wire.proofs.Standing.{Stands}
+use Rattle.laws_wire.proofs.Standing.{StationStands}
 use Rattle.laws_wire.proofs.Talking.{Face, unheard, after_note, Holds, none-told, holds-given, holds-lost, takes as takes_frame, Took}
 use Rattle.laws_wire.proofs.Quiet.{one-at-most, Both, turned-both, first-way, quiet-gives, quiet-takes, quiet-requests}
 use Rattle.laws_wire.proofs.Up.{turn_of, granted_of}
@@ -100,7 +100,7 @@ module _ (service : Service) (tei : ℕ) where
         let is : with_link (received (frame f)) (end u fresh []) ≡ with_ua_waiting (end u called []) = ap (λ y. end u y []) (takes-sabme u ru t) in
         let far : Holds d service tei q second (comes (spelling c.side f) s) (with_ua_waiting (end u called [])) =
         record {
-          stands = subst (Stands d service tei q (comes (spelling c.side f) s)) is x.stands;
+          stands = subst (StationStands d service tei q (comes (spelling c.side f) s)) is x.stands;
           granted = takes-granted (spelling c.side f) s ∙ h.both.far.granted;
           since = [];
           told = x.told ∙ ap (λ ts. ts ++ said_by (course u (received (frame f)) fresh)) (none-told d service tei q [] s (end u fresh []) h.both.far refl) ∙ told-of-sabme u ru t;

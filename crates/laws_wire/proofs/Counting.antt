@@ -6,7 +6,7 @@ use Rattle.laws_wire.proofs.Awaited.{link-is, state-is, awaits-is, may-here}
 use Rattle.laws_wire.proofs.LooseUp.{for-asked}
 use Rattle.laws_wire.proofs.LossyPhases.{for-data}
 use Rattle.laws_wire.proofs.LossyRun.{setting}
-use Rattle.laws_wire.proofs.Standing.{IsCarried, Stands, asks-stands, gives-stands, expires-stands}
+use Rattle.laws_wire.proofs.Standing.{IsCarried, StationStands, asks-stands, gives-stands, expires-stands}
 use Rattle.laws_wire.proofs.Talking.{Face, unheard, takes as takes_frame}
 use Rattle.laws_wire.proofs.TimelyUp.{each-timer}
 use Rattle.laws_wire.proofs.UaBefore.{regranted}
@@ -63,15 +63,15 @@ module _ (service : Service) (tei : ℕ) where
   abbrev Below : Station → ℕ → Type 0
   Below s k = IsBelow (own_link service tei s) k
 
-  module _ (c d : Config) (p q : ℕ) (face : Face c d) (w : Wire) (n m : End) (near : Stands c service tei p w.near n) (far : Stands d service tei q w.far m) (k : ℕ) (below : Below w.near k) where
+  module _ (c d : Config) (p q : ℕ) (face : Face c d) (w : Wire) (n m : End) (near : StationStands c service tei p w.near n) (far : StationStands d service tei q w.far m) (k : ℕ) (below : Below w.near k) where
     abbrev in_7 : Bool
     in_7 = is_in_7 service tei w.near
 
     abbrev own : Config
     own = w.near.card.config
 
-    own-stands : Stands own service tei p w.near n
-    own-stands = subst (λ c. Stands c service tei p w.near n) (sym near.config) near
+    own-stands : StationStands own service tei p w.near n
+    own-stands = subst (λ c. StationStands c service tei p w.near n) (sym near.config) near
 
     seven : awaits_answer n.link.state ≡ true → in_7 ≡ false
     seven awaits = ap is_7 (state-is service tei c p w.near n near) ∙ (grind arith)
@@ -86,7 +86,7 @@ module _ (service : Service) (tei : ℕ) where
     own-below = subst (λ l. IsBelow l k) (link-is service tei c p w.near n near) below
 
     -- an event, at which T200 does not expire, or does
-    by-event : (b : Config) (e : Event) (s' : Station) (n' : End) → Stands b service tei p s' n' → n'.link ≡ after n.terms e n.link → is_clearing (as_heard n.terms e) ≡ false
+    by-event : (b : Config) (e : Event) (s' : Station) (n' : End) → StationStands b service tei p s' n' → n'.link ≡ after n.terms e n.link → is_clearing (as_heard n.terms e) ≡ false
         → is_time (as_heard n.terms e) n.link ≡ false → Below s' (cond in_7 0 k)
     by-event b e s' n' stands is stays none =
         subst (λ l. IsBelow l (cond in_7 0 k)) (sym (link-is service tei b p s' n' stands ∙ is))
@@ -138,7 +138,7 @@ module _ (service : Service) (tei : ℕ) where
   few : (r k i i' : ℕ) → r ≤ k → k < i → i' ≡ i → r < i'
   few r k i i' h h' e = omega (arith, h, h', e)
 
-  of-act : (c : Config) (p : ℕ) (act : Act) → IsFullTalkOf service tei act → (w : Wire) (n : End) → Stands c service tei p w.near n → (k : ℕ) → Below w.near k → IsCountedOf act k w
+  of-act : (c : Config) (p : ℕ) (act : Act) → IsFullTalkOf service tei act → (w : Wire) (n : End) → StationStands c service tei p w.near n → (k : ℕ) → Below w.near k → IsCountedOf act k w
       → IsTimelyOf act w
   of-act c p (times_out timer) is w n h k below x =
       each-timer service tei (λ timer. IsCountedOf (times_out timer) k w → IsTimelyOf (times_out timer) w)
@@ -161,10 +161,10 @@ module _ (service : Service) (tei : ℕ) where
     record Both (w : Wire) : Type 0 where
       n : End
       m : End
-      near : Stands c service tei p w.near n
-      far : Stands d service tei q w.far m
+      near : StationStands c service tei p w.near n
+      far : StationStands d service tei q w.far m
 
-    ringing : (P : Station → Type 0) → ((s : Station) → P s → (m : End) × Stands d service tei q s m) → (w : Wire) → Rs service tei c d p q face back rt ru P w → Both w
+    ringing : (P : Station → Type 0) → ((s : Station) → P s → (m : End) × StationStands d service tei q s m) → (w : Wire) → Rs service tei c d p q face back rt ru P w → Both w
     ringing P there w (inl h) = record { n = _; m = (there w.far h.far).0; near = h.near.stands; far = (there w.far h.far).1 }
     ringing P there w (inr (inl h)) = record { n = _; m = (there w.far h.far).0; near = h.near.stands; far = (there w.far h.far).1 }
     ringing P there w (inr (inr h)) = record { n = _; m = (there w.far h.far).0; near = h.near.stands; far = (there w.far h.far).1 }

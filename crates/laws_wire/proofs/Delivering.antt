@@ -10,7 +10,7 @@ use Rattle.laws_wire.proofs.Alone.{link-is, no-way, no-messages, no-units, none-
 use Rattle.laws_wire.proofs.Logged.{logged, with_logs, run-logged, turns-logged}
 use Rattle.laws_wire.proofs.Run.{still-up, arrived, none-given, way-empty}
 use Rattle.laws_wire.proofs.Spelled.{twice-other}
-use Rattle.laws_wire.proofs.Standing.{IsCarried, Stands, link-sound, link-ranges}
+use Rattle.laws_wire.proofs.Standing.{IsCarried, StationStands, link-sound, link-ranges}
 use Rattle.laws_wire.proofs.Talking.{Past, Holds}
 use Rattle.laws_wire.proofs.Talking as talking
 use Rattle.laws_wire.proofs.Up.{pair_of, Talk, talks, Acted}
@@ -72,7 +72,7 @@ module _ (service : Service) (tei : ℕ) where
     own : own_link service tei s ≡ link_in (line_of s) service up.place
     own = link-is service tei up.place s sound up.placed
 
-    stands : Stands s.card.config service tei up.place s (end_at s u)
+    stands : StationStands s.card.config service tei up.place s (end_at s u)
     stands = record {
       config = refl;
       sound = h.card.0;

@@ -8,7 +8,7 @@ use Rattle.laws_wire.proofs.Leaving.{its_disc, disc, leaving, releases, releases
 use Rattle.laws_wire.proofs.Loose.{Loose, loose-turned, loose-came}
 use Rattle.laws_wire.proofs.LooseUp.{LooseUp}
 use Rattle.laws_wire.proofs.Speaking.{said_by}
-use Rattle.laws_wire.proofs.Standing.{Stands, Granted, asks-granted}
+use Rattle.laws_wire.proofs.Standing.{StationStands, Granted, asks-granted}
 use Rattle.laws_wire.proofs.Talking.{Face}
 use Rattle.laws_wire.proofs.Tells.{Tells, as-end}
 use Rattle.laws_wire.proofs.LossyRun.{setting}
@@ -23,8 +23,8 @@ three-pass a b d x y z e e' e'' = rw (e, e', e'') refl
 pub record BothRest (service : Service) (tei : ℕ) (c d : Config) (p q : ℕ) (w : Wire) : Type 0 where
   n : End
   m : End
-  near : Stands c service tei p w.near n
-  far : Stands d service tei q w.far m
+  near : StationStands c service tei p w.near n
+  far : StationStands d service tei q w.far m
   near_hushed : IsHushed service tei n
   far_hushed : IsHushed service tei m
   near_stopped : runs_t200 service tei w.near ≡ false
@@ -73,8 +73,8 @@ module _ (service : Service) (tei : ℕ) (few : tei ≤ 126) (c d : Config) (p q
       (sym (runs-up service tei d q w.far m h.far h.loose.joined.far_up) ∙ h.far_stopped)).state
 
   -- the release is granted
-  own : Stands w.near.card.config service tei p w.near n
-  own = subst (λ k. Stands k service tei p w.near n) (sym h.near.config) h.near
+  own : StationStands w.near.card.config service tei p w.near n
+  own = subst (λ k. StationStands k service tei p w.near n) (sym h.near.config) h.near
 
   abbrev its_line : Line
   its_line = line_at w.near.line w.near.card
@@ -110,7 +110,7 @@ module _ (service : Service) (tei : ℕ) (few : tei ≤ 126) (c d : Config) (p q
     inl (record {
       near = as-end service tei c p _ (heard_in w.near) s' (with_link (requested LinkRelease false) n) (record { terms = t; link = leaving n.link 0 (its_disc ∷ []); way = []; delivered = [] })
           (record {
-            stands = subst (λ k. Stands k service tei p s' (with_link (requested LinkRelease false) n)) h.near.config granted.stands;
+            stands = subst (λ k. StationStands k service tei p s' (with_link (requested LinkRelease false) n)) h.near.config granted.stands;
             told = ap (flat_map for_layer_3) granted.told ∙ flat_map-append for_layer_3 w.near.told (said_by (course n.terms (requested LinkRelease false) n.link));
           })
           (λ i. record { terms = h.near.terms i; link = releases n.terms room n.link near-state (nothing-given n.terms n.link near-hushed.given).waiting i; way = near-hushed.way i; delivered = [] })

@@ -1,5 +1,5 @@
 -- What is left to do on a wire, as its stations are; and what is done at an end makes it less, whatever its phase.
-use Rattle.laws_wire.proofs.Vocabulary.{◌≡◌, ℕ, ◌+◌, ◌*◌, ◌≤◌, Bool, false, cond, List, [], length, refl, sym, subst, inl, inr, append-nil, arith, Service, Timer, Parts, LinkTimer, T200, T203, Terms, Link, Course, course, begun, End, with_link, Config, LineTold, request, Line, place_in, Request, SetBusy, ClearBusy, at_requested, aim_of_request, contents_of, Station, Wire, happens, Act, requests, times_out, takes, acting, turned, granted_of, link_of, flat_map, is_granted, answered, IsAsked, IsOfLink, IsFullTalkOf, IsTimelyOf, is_move_of, expiries_of, requested, LinkClearBusy, LinkRequest, LinkSetBusy, timer_T200, timer_T203, reports_of}
+use Rattle.laws_wire.proofs.Vocabulary.{◌≡◌, ℕ, ◌+◌, ◌*◌, ◌≤◌, Bool, false, cond, List, [], length, refl, sym, subst, inl, inr, append-nil, arith, Service, Timer, Parts, LinkTimer, T200, T203, Terms, Link, Course, course, begun, End, with_link, Config, LineTold, request, Line, place_in, Request, SetBusy, ClearBusy, at_requested, aim_of_request, contents_requested, Station, Wire, happens, Act, requests, times_out, takes, acting, turned, granted_of, link_of, flat_map, is_granted, answered, IsAsked, IsOfLink, IsFullTalkOf, IsTimelyOf, is_move_of, expiries_of, requested, LinkClearBusy, LinkRequest, LinkSetBusy, timer_T200, timer_T203, reports_of}
 use Rattle.laws_wire.specs.Facing.{line_of, read_as}
 use Rattle.laws_wire.proofs.Awaited.{link-is, way-is, may-there}
 use Rattle.laws_wire.proofs.Held.{Held}
@@ -8,7 +8,7 @@ use Rattle.laws_wire.proofs.LoadsTimed.{May, timer-fairly}
 use Rattle.laws_wire.proofs.LooseUp.{for-asked}
 use Rattle.laws_wire.proofs.LossyPhases.{Aims}
 use Rattle.laws_wire.proofs.Rested.{Then, then-gives, then-loses, then-asks, fairly-expires}
-use Rattle.laws_wire.proofs.Standing.{Stands, Granted, asks-stands}
+use Rattle.laws_wire.proofs.Standing.{StationStands, Granted, asks-stands}
 use Rattle.laws_wire.proofs.Talking.{Face}
 use Rattle.laws_wire.proofs.TimelyUp.{each-timer}
 use Rattle.laws_wire.proofs.Weighing.{undelivered, weigh_of, weigh}
@@ -40,7 +40,7 @@ module _ (service : Service) (tei : ℕ) where
   abbrev pub heft : ℕ → Wire → ℕ
   heft v w = weigh_of v (its_link w.near) (its_way w.near) (its_link w.far) (its_way w.far)
 
-  pub heft-is : (v : ℕ) (c d : Config) (p q : ℕ) (w : Wire) (n m : End) → Stands c service tei p w.near n → Stands d service tei q w.far m → heft v w ≡ weigh v n m
+  pub heft-is : (v : ℕ) (c d : Config) (p q : ℕ) (w : Wire) (n m : End) → StationStands c service tei p w.near n → StationStands d service tei q w.far m → heft v w ≡ weigh v n m
   heft-is v c d p q w n m near far =
       λ i. weigh_of v (link-is service tei c p w.near n near i) (way-is service tei c p w.near n near i) (link-is service tei d q w.far m far i) (way-is service tei d q w.far m far i)
 
@@ -88,13 +88,13 @@ module _ (service : Service) (tei : ℕ) where
 
     -- ---- layer 3 asks
 
-    module _ (r : Request) (rq : LinkRequest) (aims : (l : Line) → aim_of_request r l ≡ at_requested service tei rq (place_in l tei)) (none : contents_of r ≡ [])
+    module _ (r : Request) (rq : LinkRequest) (aims : (l : Line) → aim_of_request r l ≡ at_requested service tei rq (place_in l tei)) (none : contents_requested r ≡ [])
         (said : Reports v n.link (course n.terms (requested rq false) n.link)) where
       abbrev s' : Station
       s' = happens (request r) w.near
 
-      own : Stands w.near.card.config service tei p w.near n
-      own = subst (λ k. Stands k service tei p w.near n) (sym near.stands.config) near.stands
+      own : StationStands w.near.card.config service tei p w.near n
+      own = subst (λ k. StationStands k service tei p w.near n) (sym near.stands.config) near.stands
 
       abbrev n' : End
       n' = with_link (requested rq false) n
@@ -106,7 +106,7 @@ module _ (service : Service) (tei : ℕ) where
       same e = grind arith
 
       reported : Granted service tei p w.near n own r rq aims s' → Pays v 0 0 (cond {A = ℕ} bit 1 0) w (record w { near = s' })
-      reported g = grind (arith, append-nil, load, load_way, undelivered, heft-is, Stands, here)
+      reported g = grind (arith, append-nil, load, load_way, undelivered, heft-is, StationStands, here)
 
       busy-pays : Pays v 0 0 (cond {A = ℕ} bit 1 0) w (acting (requests r) w)
       busy-pays = elim (asks-stands service tei p w.near n own r rq aims) [ inl e ↦ same e | inr g ↦ reported g ]

@@ -6,7 +6,7 @@ use Rattle.laws_wire.proofs.Answered.{gives-told, same-granted, takes-granted}
 use Rattle.laws_wire.proofs.Asking.{with_more}
 use Rattle.laws_wire.proofs.Fair.{HasError, or-true}
 use Rattle.laws_wire.proofs.Speaking.{heard_by, said_by}
-use Rattle.laws_wire.proofs.Standing.{IsCarried, Stands, expires-stands, expires-said}
+use Rattle.laws_wire.proofs.Standing.{IsCarried, StationStands, expires-stands, expires-said}
 use Rattle.laws_wire.proofs.Talking.{Face, unheard, Holds, holds-given, holds-lost, holds-asked, More, takes as takes_frame}
 
 -- ---- what layer 3 hears of an event
@@ -40,7 +40,7 @@ not-erred s none h = false≢true (sym (list_any_none tells_error s.told none) �
 -- ---- a station and the end for which it stands
 
 pub record Held (c : Config) (service : Service) (tei place : ℕ) (past : List LineTold) (s : Station) (n : End) : Type 0 where
-  pub stands : Stands c service tei place s n
+  pub stands : StationStands c service tei place s n
   pub granted : s.granted ≡ n.link.contents
   pub heard : heard_in s ≡ past ++ map (data_told service tei) n.delivered
 
@@ -49,8 +49,8 @@ module _ (service : Service) (tei place : ℕ) (past : List LineTold) (c : Confi
   quiet : Holds c service tei place (record { told = s.told; had = n.delivered }) s n
   quiet = record { stands = h.stands; granted = h.granted; since = []; told = sym (append-nil s.told); delivered = sym (append-nil n.delivered) }
 
-  own : Stands s.card.config service tei place s n
-  own = subst (λ k. Stands k service tei place s n) (sym h.stands.config) h.stands
+  own : StationStands s.card.config service tei place s n
+  own = subst (λ k. StationStands k service tei place s n) (sym h.stands.config) h.stands
 
   -- what it heard by an event
   pub heard-then : (s' : Station) (x : Course) → s'.told ≡ s.told ++ said_by x → TellsIt n.terms.service n.terms.tei x
@@ -86,7 +86,7 @@ module _ (service : Service) (tei place : ℕ) (past : List LineTold) (c : Confi
     pub taken-told : took.told ≡ s.told ++ said_by x
     taken-told = (takes_frame service tei place unheard c d face s n f h.stands from).told
 
-    pub taken-stands : Stands c service tei place took (with_link (link.received (link.frame f)) n)
+    pub taken-stands : StationStands c service tei place took (with_link (link.received (link.frame f)) n)
     taken-stands = (takes_frame service tei place unheard c d face s n f h.stands from).stands
 
     pub held-taken : TellsIt n.terms.service n.terms.tei x → (with_link (link.received (link.frame f)) n).link.contents ≡ n.link.contents
@@ -109,7 +109,7 @@ module _ (service : Service) (tei place : ℕ) (past : List LineTold) (c : Confi
         → Held c service tei place past after (with_link (link.expired its) n)
     held-expired tells kept =
         record {
-          stands = subst (λ k. Stands k service tei place after (with_link (link.expired its) n)) h.stands.config (expires-stands service tei place s n own timer its aims);
+          stands = subst (λ k. StationStands k service tei place after (with_link (link.expired its) n)) h.stands.config (expires-stands service tei place s n own timer its aims);
           granted = same-granted (expiry timer) s refl ∙ h.granted ∙ sym kept;
           heard = heard-then after (course n.terms (link.expired its) n.link) expired-told tells;
         }
@@ -133,7 +133,7 @@ module _ (service : Service) (tei place : ℕ) (past : List LineTold) (c : Confi
       })
 
   -- the first that it hears is its establishment
-  pub held-first : (first : LineTold) (s' : Station) (n' : End) (x : Course) → past ≡ [] → n.delivered ≡ [] → n'.delivered ≡ [] → Stands c service tei place s' n' → s'.granted ≡ s.granted
+  pub held-first : (first : LineTold) (s' : Station) (n' : End) (x : Course) → past ≡ [] → n.delivered ≡ [] → n'.delivered ≡ [] → StationStands c service tei place s' n' → s'.granted ≡ s.granted
       → n'.link.contents ≡ n.link.contents → s'.told ≡ s.told ++ said_by x → said_by x ≡ first ∷ [] → for_layer_3 first ≡ first ∷ []
       → Held c service tei place (first ∷ []) s' n'
   held-first first s' n' x none before now stands granted kept told said is = grind (arith, flat_map, flat_map-append, said_by, append-nil)

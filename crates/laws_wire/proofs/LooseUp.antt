@@ -1,5 +1,5 @@
 -- Two stations that are up, either of which may be busy, where each timer is timely: both stay up, whatever is lost.
-use Rattle.laws_wire.proofs.Vocabulary.{arith, ◌≡◌, ℕ, Bool, false, cond, List, [], ◌∷◌, ◌++◌, length, drop, map, None, refl, sym, ap, subst, ◌∙◌, ◌⊎◌, inl, inr, append-nil, Service, Timer, TimerRecovery, Terms, LinkTimer, T203, Link, course, End, with_link, with_sent, offer-gave, Config, LineTold, request, Line, place_in, Request, at_requested, aim_of_request, awaits_answer, IsMildRequest, CanRepeat, HasNothingToSend, nothing-given, runs, T200, Course, Data, SetBusy, ClearBusy, Station, Wire, happens, Act, requests, times_out, gives, takes, loses, acting, turned, IsStill, contents_of, data_told, heard_in, IsTimelyOf, runs_t200, IsAsked, IsFullTalkOf, Rests, requested, expired, LinkSetBusy, LinkClearBusy, LinkData, LinkRequest, timer_T200, timer_T203}
+use Rattle.laws_wire.proofs.Vocabulary.{arith, ◌≡◌, ℕ, Bool, false, cond, List, [], ◌∷◌, ◌++◌, length, drop, map, None, refl, sym, ap, subst, ◌∙◌, ◌⊎◌, inl, inr, append-nil, Service, Timer, TimerRecovery, Terms, LinkTimer, T203, Link, course, End, with_link, with_sent, offer-gave, Config, LineTold, request, Line, place_in, Request, at_requested, aim_of_request, awaits_answer, IsMildRequest, CanRepeat, HasNothingToSend, nothing-given, runs, T200, Course, Data, SetBusy, ClearBusy, Station, Wire, happens, Act, requests, times_out, gives, takes, loses, acting, turned, IsStill, contents_requested, data_told, heard_in, IsTimelyOf, runs_t200, IsAsked, IsFullTalkOf, Rests, requested, expired, LinkSetBusy, LinkClearBusy, LinkData, LinkRequest, timer_T200, timer_T203}
 use Rattle.model_link.specs.TwoEnds as two_ends
 use Rattle.laws_link.specs.two.Timely as two_links_timely
 use Rattle.laws_wire.proofs.Asking.{with_more, asked-form}
@@ -7,7 +7,7 @@ use Rattle.laws_wire.proofs.Awaited.{closed, may-there, long-there, runs-up, res
 use Rattle.laws_wire.proofs.Held.{TellsIt, Held, heard-then, held-given, held-lost, Grants, held-asked}
 use Rattle.laws_wire.proofs.Loose.{Loose, loose-turned, loose-after, HasAll, loose-came}
 use Rattle.laws_wire.proofs.LossyPhases.{Aims}
-use Rattle.laws_wire.proofs.Standing.{Stands, Granted, asks-stands}
+use Rattle.laws_wire.proofs.Standing.{StationStands, Granted, asks-stands}
 use Rattle.laws_wire.proofs.Talking.{Face}
 use Rattle.laws_wire.proofs.TimelyUp.{took-held, each-timer, hushed, timer-held, never}
 
@@ -82,7 +82,7 @@ module _ (service : Service) (tei : ℕ) where
 
   -- own busy begins or ends
   module _ (c : Config) (place : ℕ) (past : List LineTold) (s : Station) (n : End) (h : Held c service tei place past s n) (r : Request) (rq : LinkRequest)
-      (aims : (l : Line) → aim_of_request r l ≡ at_requested service tei rq (place_in l tei)) (none : contents_of r ≡ [])
+      (aims : (l : Line) → aim_of_request r l ≡ at_requested service tei rq (place_in l tei)) (none : contents_requested r ≡ [])
       (mute : Mute n.link (course n.terms (requested rq false) n.link)) where
     abbrev n' : End
     n' = with_link (requested rq false) n
@@ -90,8 +90,8 @@ module _ (service : Service) (tei : ℕ) where
     abbrev s' : Station
     s' = happens (request r) s
 
-    own : Stands s.card.config service tei place s n
-    own = subst (λ k. Stands k service tei place s n) (sym h.stands.config) h.stands
+    own : StationStands s.card.config service tei place s n
+    own = subst (λ k. StationStands k service tei place s n) (sym h.stands.config) h.stands
 
     pub held-busy : (s' ≡ s) ⊎ Held c service tei place past s' n'
     held-busy = go (asks-stands service tei place s n own r rq aims)
@@ -105,7 +105,7 @@ module _ (service : Service) (tei : ℕ) where
         go : (s' ≡ s) ⊎ Granted service tei place s n own r rq aims s' → (s' ≡ s) ⊎ Held c service tei place past s' n'
         go (inl same) = inl same
         go (inr g) = inr (record {
-          stands = subst (λ k. Stands k service tei place s' n') h.stands.config g.stands;
+          stands = subst (λ k. StationStands k service tei place s' n') h.stands.config g.stands;
           granted = g.granted ∙ ap (λ xs. s.granted ++ xs) none ∙ append-nil s.granted ∙ h.granted ∙ sym mute.contents;
           heard = heard-then service tei place past c s n h s' x g.told tells;
         })
@@ -157,7 +157,7 @@ module _ (service : Service) (tei : ℕ) where
           loose = subst (λ y. Loose y m) (asked-form octets n x.none) (loose-after n m h.loose (two_ends.asks (LinkData octets) false) tt);
         }
 
-    by-busy : (r : Request) (rq : LinkRequest) → IsMildRequest rq → (aims : (l : Line) → aim_of_request r l ≡ at_requested service tei rq (place_in l tei)) → contents_of r ≡ []
+    by-busy : (r : Request) (rq : LinkRequest) → IsMildRequest rq → (aims : (l : Line) → aim_of_request r l ≡ at_requested service tei rq (place_in l tei)) → contents_requested r ≡ []
         → Mute n.link (course n.terms (requested rq false) n.link) → Now (acting (requests r) w)
     by-busy r rq is aims none mute =
         elim (held-busy c p past w.near n h.near r rq aims none mute) [

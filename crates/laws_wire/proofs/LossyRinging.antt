@@ -5,7 +5,7 @@ use Rattle.laws_wire.proofs.Calling.{sabme, ua, end, answering, takes-sabme, tol
 use Rattle.laws_wire.proofs.Held.{Held, Erred, held-given, held-lost, held-first, taken-told, taken-stands, held-expired, held-asked}
 use Rattle.laws_wire.proofs.LossyPhases.{made, for-data, for-timer, first-way, empty, IsRinging, Went, no-take, no-take_far}
 use Rattle.laws_wire.proofs.Ringing.{ringing, IsSabme, AreSabmes, one-sabme_less}
-use Rattle.laws_wire.proofs.Standing.{IsCarried, Stands}
+use Rattle.laws_wire.proofs.Standing.{IsCarried, StationStands}
 use Rattle.laws_wire.proofs.StillRinging.{StillRings, rings-asks, rings-expires, rings-gives, rings-loses}
 use Rattle.laws_wire.proofs.Talking.{Face}
 
@@ -63,7 +63,7 @@ module _ (service : Service) (tei : ℕ) (c d : Config) (p q : ℕ) (face : Face
       answered_by : Held d service tei q (indicated service tei ∷ []) reached (end u answering [])
       answered_by =
           held-first service tei q [] d w.far (end u fresh []) h.far (indicated service tei) reached (end u answering []) (course u (received (frame call)) fresh) refl refl refl
-          (subst (Stands d service tei q reached) becomes (taken-stands service tei q [] d w.far (end u fresh []) h.far c back call its_way.1)) (takes-granted (spelling c.side call) w.far) refl
+          (subst (StationStands d service tei q reached) becomes (taken-stands service tei q [] d w.far (end u fresh []) h.far c back call its_way.1)) (takes-granted (spelling c.side call) w.far) refl
           (taken-told service tei q [] d w.far (end u fresh []) h.far c back call its_way.1) (told-of-sabme u ru t) refl
 
       answers : Leads (turned (acting takes (turned w)))

@@ -1,7 +1,7 @@
 -- What changes nothing at a station: a call for a frame where none waits, taking a frame where none is on its way, and data that is refused.
 use Rattle.laws_wire.proofs.Vocabulary.{◌≡◌, ℕ, ◌≤◌, false, List, [], ◌∷◌, map, drop, None, sym, ap, subst, ◌∙◌, ◌⊎◌, inl, inr, arith, All, All-head, Service, Parts, spelling, given, End, frame_given, Config, Request, request, next, refusal, Data, Station, Wire, happens, frames_by, with_first_of, requests, gives, takes, acting, turned, answered, IsTalkOf, LinkData, two_ends_with_first_lost}
 use Rattle.laws_wire.proofs.Answered.{gives-granted}
-use Rattle.laws_wire.proofs.Standing.{IsCarried, Stands, gives-frames}
+use Rattle.laws_wire.proofs.Standing.{IsCarried, StationStands, gives-frames}
 use Rattle.laws_wire.proofs.Talking.{Past, Holds, holds-given, holds-lost, More, holds-asked}
 use Rattle.laws_wire.proofs.Up.{turn_of, stays, granted_of}
 
@@ -32,7 +32,7 @@ module _ (service : Service) (tei : ℕ) where
       pub granted : granted_of w' ≡ granted_of w
 
     pub frames-are : frames_by (answered next w.near) ≡ map (spelling w.near.card.config.side) (frame_given n.terms (given n.terms n.link))
-    frames-are = gives-frames service tei p w.near n (subst (λ k. Stands k service tei p w.near n) (sym h.near.stands.config) h.near.stands)
+    frames-are = gives-frames service tei p w.near n (subst (λ k. StationStands k service tei p w.near n) (sym h.near.stands.config) h.near.stands)
 
     pub quiet-gives : given n.terms n.link ≡ None → Quiet (acting gives w) (turn_of (frames_by (answered next w.near)))
     quiet-gives none =

@@ -8,7 +8,7 @@ use Rattle.laws_wire.proofs.Held.{Held, Erred, now-erred, held-given, held-lost,
 use Rattle.laws_wire.proofs.Loads.{load, load_way, load_waiting, owes, may_reject, back, brings, way-append, Gives, offer-gives}
 use Rattle.laws_wire.proofs.LoadsTimed.{Expires, timer-expires}
 use Rattle.laws_wire.proofs.LossyPhases.{Aims, for-data, for-timer, first-way}
-use Rattle.laws_wire.proofs.Standing.{IsCarried, Stands, expires-stands, gives-frames}
+use Rattle.laws_wire.proofs.Standing.{IsCarried, StationStands, expires-stands, gives-frames}
 use Rattle.laws_wire.proofs.Talking.{Face}
 use Rattle.laws_wire.proofs.Weighing.{Fell, undelivered, accepts-more, goes as goes_on, delivers}
 
@@ -27,8 +27,8 @@ module _ (service : Service) (tei : ℕ) (c d : Config) (p q : ℕ) (past_n past
   pub record Then (w' : Wire) (moved expired : ℕ) : Type 0 where
     pub n' : End
     pub m' : End
-    pub near' : Stands c service tei p w'.near n'
-    pub far' : Stands d service tei q w'.far m'
+    pub near' : StationStands c service tei p w'.near n'
+    pub far' : StationStands d service tei q w'.far m'
     pub more : ℕ
     pub fell : Fell v moved expired more n m n' m'
     pub granted : granted_of w' ≡ granted_of w + more
@@ -43,8 +43,8 @@ module _ (service : Service) (tei : ℕ) (c d : Config) (p q : ℕ) (past_n past
   abbrev Leads : Act → Type 0
   Leads act = Then (acting act w) (moved_by act) (expiries_of act) ⊎ Erred (acting act w).near
 
-  own : Stands w.near.card.config service tei p w.near n
-  own = subst (λ k. Stands k service tei p w.near n) (sym near.stands.config) near.stands
+  own : StationStands w.near.card.config service tei p w.near n
+  own = subst (λ k. StationStands k service tei p w.near n) (sym near.stands.config) near.stands
 
   -- ---- it gives
 
@@ -106,7 +106,7 @@ module _ (service : Service) (tei : ℕ) (c d : Config) (p q : ℕ) (past_n past
     fairly-expires y = record {
       n' = n2;
       m' = m;
-      near' = subst (λ k. Stands k service tei p left n2) near.stands.config (expires-stands service tei p w.near n own timer its aims);
+      near' = subst (λ k. StationStands k service tei p left n2) near.stands.config (expires-stands service tei p w.near n own timer its aims);
       far' = far.stands;
       more = 0;
       fell = goes_on v n m n2 m y.contents refl 0 1 y.received (total (load v went.link) (load v n.link) (load_way v n.way) (load v m.link + load_way v m.way) y.within);
@@ -135,7 +135,7 @@ module _ (service : Service) (tei : ℕ) (c d : Config) (p q : ℕ) (past_n past
       go (inl same) = record {
         n' = n;
         m' = m;
-        near' = subst (λ s. Stands c service tei p s n) (sym same) near.stands;
+        near' = subst (λ s. StationStands c service tei p s n) (sym same) near.stands;
         far' = far.stands;
         more = 0;
         fell = goes_on v n m n m refl refl 0 0 refl (omega arith);
@@ -161,14 +161,14 @@ module _ (service : Service) (tei : ℕ) (c d : Config) (p q : ℕ) (past_n past
   abbrev m1 : End
   m1 = two_ends_with_first_lost m
 
-  lost : Stands d service tei q (with_first_lost w.far) m1
+  lost : StationStands d service tei q (with_first_lost w.far) m1
   lost = (held-lost service tei q past_m d w.far m far).stands
 
   pub takes-nothing : m.way ≡ [] → Then (acting takes w) (moved_by takes) 0
   takes-nothing e' = record {
     n' = n;
     m' = m1;
-    near' = subst (λ ways. Stands c service tei p (with_first_of ways w.near) n) (sym e) near.stands;
+    near' = subst (λ ways. StationStands c service tei p (with_first_of ways w.near) n) (sym e) near.stands;
     far' = lost;
     more = 0;
     fell = subst (λ ways. Fell v (cond {A = ℕ} (is_any ways) 1 0) 0 0 n m n m1) (sym e) (goes_on v n m n m1 refl refl 0 0 refl (same (load_way v (drop 1 m.way)) (load_way v m.way) ((v + 4) * 0) (ap (λ way. load_way v (drop 1 way)) e' ∙ sym (ap (load_way v) e'))));
@@ -217,7 +217,7 @@ module _ (service : Service) (tei : ℕ) (c d : Config) (p q : ℕ) (past_n past
     takes-well y few = record {
       n' = n1;
       m' = m1;
-      near' = subst (λ ways. Stands c service tei p (with_first_of ways w.near) n1) (sym way-there.0) (taken-stands service tei p past_n c w.near n near d face f way-there.1);
+      near' = subst (λ ways. StationStands c service tei p (with_first_of ways w.near) n1) (sym way-there.0) (taken-stands service tei p past_n c w.near n near d face f way-there.1);
       far' = lost;
       more = 0;
       fell = subst (λ ways. Fell v (cond {A = ℕ} (is_any ways) 1 0) 0 0 n m n1 m1) (sym way-there.0) (fell y few);

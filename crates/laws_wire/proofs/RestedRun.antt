@@ -11,7 +11,7 @@ use Rattle.laws_wire.proofs.LossyPhases.{IsRinging, IsUp, Goes, HasErred, Went}
 use Rattle.laws_wire.proofs.LossyRun.{goes, errs, setting, rings}
 use Rattle.laws_wire.proofs.Rested.{TakesWell, then-acts}
 use Rattle.laws_wire.proofs.Ringing.{ringing, IsSabme, AreSabmes, ignores}
-use Rattle.laws_wire.proofs.Standing.{Stands}
+use Rattle.laws_wire.proofs.Standing.{StationStands}
 use Rattle.laws_wire.proofs.Talking.{Face}
 use Rattle.laws_wire.proofs.Weighing.{same-way, weigh_of, weigh, Fell, fell-turned}
 
@@ -111,8 +111,8 @@ module _ (service : Service) (tei : ℕ) (c d : Config) (p q : ℕ) (face : Face
   record Next (w' : Wire) (moved expired : ℕ) (n m : End) : Type 0 where
     n' : End
     m' : End
-    near : Stands c service tei p w'.near n'
-    far : Stands d service tei q w'.far m'
+    near : StationStands c service tei p w'.near n'
+    far : StationStands d service tei q w'.far m'
     more : ℕ
     fell : Fell v moved expired more n m n' m'
 
@@ -155,7 +155,7 @@ module _ (service : Service) (tei : ℕ) (c d : Config) (p q : ℕ) (face : Face
     falls : moved ≤ weigh v n m + (v + 4) * expired + (v + 6) * more
 
   -- the same ends
-  weighs-same : (w : Wire) (x : Seen w) (n' m' : End) → Stands c service tei p w.near n' → Stands d service tei q w.far m' → (n'.link ≡ x.n.link) × (m'.link ≡ x.m.link) × (weigh v n' m' ≡ weigh v x.n x.m)
+  weighs-same : (w : Wire) (x : Seen w) (n' m' : End) → StationStands c service tei p w.near n' → StationStands d service tei q w.far m' → (n'.link ≡ x.n.link) × (m'.link ≡ x.m.link) × (weigh v n' m' ≡ weigh v x.n x.m)
   weighs-same w x n' m' near far =
       let near-link = (sym near.speaks.link ∙ x.near.stands.speaks.link) in
       let far-link = (sym far.speaks.link ∙ x.far.stands.speaks.link) in

@@ -11,7 +11,7 @@ use Rattle.laws_wire.proofs.BothPhases.{cost, Goes, step}
 use Rattle.laws_wire.proofs.Calling.{asked, caller, end, with_ua_waiting, with_ua_first}
 use Rattle.laws_wire.proofs.Spelled.{twice-other}
 use Rattle.laws_wire.proofs.SoFar.{at-first, then-data}
-use Rattle.laws_wire.proofs.Standing.{Stands, still-gives-none}
+use Rattle.laws_wire.proofs.Standing.{StationStands, still-gives-none}
 use Rattle.laws_wire.proofs.Talking.{Face, Past, unheard, after_note, Holds, all-told, none-told, no-way}
 use Rattle.laws_wire.proofs.Up.{pair_of, Talk, granted_of, turned-pair}
 use Rattle.laws_wire.proofs.Quiet.{Both}
@@ -46,7 +46,7 @@ pub record ToldSoFar (service : Service) (tei : ℕ) (note : LineTold) (w : Wire
 
 module _ (service : Service) (tei : ℕ) where
   pub none-given : (k : Config) (place : ℕ) (first : Past) (s : Station) (n : End) → Holds k service tei place first s n → answered next s ≡ gave None → given n.terms n.link ≡ None
-  none-given k place first s n h e = still-gives-none service tei place s n (subst (λ k. Stands k service tei place s n) (sym h.stands.config) h.stands) e
+  none-given k place first s n h e = still-gives-none service tei place s n (subst (λ k. StationStands k service tei place s n) (sym h.stands.config) h.stands) e
 
   pub way-empty : (k : Config) (place : ℕ) (first : Past) (s : Station) (n : End) → Holds k service tei place first s n → s.way ≡ [] → n.way ≡ []
   way-empty k place first s n h e = no-way (spelling k.side) n.way (sym h.stands.way ∙ e)

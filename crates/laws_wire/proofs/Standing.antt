@@ -1,5 +1,5 @@
 -- A station at whose line one link alone speaks stands for an end of two links that face each other.
-use Rattle.laws_wire.proofs.Vocabulary.{arith, ◌≡◌, ℕ, ◌+◌, ◌<◌, ◌≤◌, Bool, true, false, cond, List, [], ◌++◌, length, map, set, Option, Some, None, IfSome, option_map, Ok, refl, sym, ap, subst, ◌∙◌, ◌⊎◌, inl, inr, append-nil, All, get_or-set_same, set-get_or, map-append, All-nil, All-cons, All-append, Refusal, PoolFull, Service, Timer, Parts, spelling, reading, sapi_of, Terms, LinkTimer, frame_of, Given, End, with_link, with_sent, frame_given, given_is_frame, Config, came, hears, expiry, request, next, Answer, refused, gave, at_timer, aim_of_expiry, Line, fresh_line, place_in, link_number, terms, unless_refused, unless_refused_told, of_request, heard_side, with_given_frame, next_of, Request, at_requested, aim_of_request, sound_in, given_short, terms_in_range, Card, line_at, wants_room, after_is_sound, has_lines, line_sound, Event, Station, answered, happens, comes, told_by, frames_by, contents_of, line_answer, line_takes_slot, line_after}
+use Rattle.laws_wire.proofs.Vocabulary.{arith, ◌≡◌, ℕ, ◌+◌, ◌<◌, ◌≤◌, Bool, true, false, cond, List, [], ◌++◌, length, map, set, Option, Some, None, IfSome, option_map, Ok, refl, sym, ap, subst, ◌∙◌, ◌⊎◌, inl, inr, append-nil, All, get_or-set_same, set-get_or, map-append, All-nil, All-cons, All-append, Refusal, PoolFull, Service, Timer, Parts, spelling, reading, sapi_of, Terms, LinkTimer, frame_of, Given, End, with_link, with_sent, frame_given, given_is_frame, Config, came, hears, expiry, request, next, Answer, refused, gave, at_timer, aim_of_expiry, Line, fresh_line, place_in, link_number, terms, unless_refused, unless_refused_told, of_request, heard_side, with_given_frame, next_of, Request, at_requested, aim_of_request, sound_in, given_short, terms_in_range, Card, line_at, wants_room, after_is_sound, has_lines, line_sound, Event, Station, answered, happens, comes, told_by, frames_by, contents_requested, line_answer, line_takes_slot, line_after}
 use Rattle.std.specs.Option.{unwrap_or}
 use Rattle.model_bits.specs.Stream.{frame}
 use Rattle.model_link.specs.Events as link
@@ -23,7 +23,7 @@ pub record IsCarried (c : Config) (service : Service) (tei : ℕ) (f : Parts) : 
   pub sapi : f.address.sapi ≡ sapi_of service
   pub by : f.address.tei ≡ tei
 
-pub record Stands (c : Config) (service : Service) (tei place : ℕ) (s : Station) (n : End) : Type 0 where
+pub record StationStands (c : Config) (service : Service) (tei place : ℕ) (s : Station) (n : End) : Type 0 where
   pub config : s.card.config ≡ c
   pub sound : card_sound.IsSound s.card
   pub within : s.line < c.lines
@@ -32,7 +32,7 @@ pub record Stands (c : Config) (service : Service) (tei place : ℕ) (s : Statio
   pub way : s.way ≡ map (spelling c.side) n.way
   pub carried : All (IsCarried c service tei) n.way
 
-module _ (service : Service) (tei place : ℕ) (s : Station) (n : End) (h : Stands s.card.config service tei place s n) where
+module _ (service : Service) (tei place : ℕ) (s : Station) (n : End) (h : StationStands s.card.config service tei place s n) where
   abbrev m : Card
   m = s.card
 
@@ -65,7 +65,7 @@ module _ (service : Service) (tei place : ℕ) (s : Station) (n : End) (h : Stan
 
   -- so it stands for another end
   pub stands-then : (e : Event) (n' : End) → n'.terms ≡ n.terms → Speaks c service tei place n'.link (line_at s.line (after (event_at s.line e) m))
-      → (happens e s).way ≡ map (spelling c.side) n'.way → All (IsCarried c service tei) n'.way → Stands c service tei place (happens e s) n'
+      → (happens e s).way ≡ map (spelling c.side) n'.way → All (IsCarried c service tei) n'.way → StationStands c service tei place (happens e s) n'
   stands-then e n' same-terms speaks way carried = assumption (after_is_sound m (event_at s.line e) h.sound h.within, speaks, same-terms ∙ h.terms, way, carried)
 
   -- ---- it gives
@@ -87,7 +87,7 @@ module _ (service : Service) (tei place : ℕ) (s : Station) (n : End) (h : Stan
   pub gives-frames : frames_by (answered next s) ≡ map (spelling c.side) (frame_given n.terms (links.given n.terms n.link))
   gives-frames = grind (arith, gives-own, frames-are)
 
-  pub gives-stands : Stands c service tei place (happens next s) (with_sent n)
+  pub gives-stands : StationStands c service tei place (happens next s) (with_sent n)
   unfolding line_takes_slot
   gives-stands =
       let sound : link_sound.IsSound t n.link = subst (λ u. link_sound.IsSound u n.link) h.terms link-sound in
@@ -118,7 +118,7 @@ module _ (service : Service) (tei place : ℕ) (s : Station) (n : End) (h : Stan
     abbrev it : Event
     it = hears (came c.n201 octets)
 
-    pub takes-stands : Stands c service tei place (comes octets s) (with_link (link.received (link.frame f)) n)
+    pub takes-stands : StationStands c service tei place (comes octets s) (with_link (link.received (link.frame f)) n)
     unfolding line_takes_slot
     takes-stands =
         let e = link.received (link.frame f) in
@@ -145,15 +145,15 @@ module _ (service : Service) (tei place : ℕ) (s : Station) (n : End) (h : Stan
     pub record Granted (s' : Station) : Type 0 where
       pub none : refusal c false r l ≡ None
       pub answer : is_granted (wire.answered asks s) ≡ true
-      pub stands : Stands c service tei place s' (with_link e n)
-      pub granted : s'.granted ≡ s.granted ++ contents_of r
+      pub stands : StationStands c service tei place s' (with_link e n)
+      pub granted : s'.granted ≡ s.granted ++ contents_requested r
       pub told : s'.told ≡ s.told ++ said_by (links.course n.terms e n.link)
 
     abbrev made : Card → Answer → Station
     made m' a = record s {
       card = m';
       way = s.way ++ frames_by a;
-      granted = s.granted ++ wire.unless_refused a (contents_of r);
+      granted = s.granted ++ wire.unless_refused a (contents_requested r);
       told = s.told ++ told_by a;
     }
 
@@ -186,7 +186,7 @@ module _ (service : Service) (tei place : ℕ) (s : Station) (n : End) (h : Stan
               (subst (Speaks c service tei place (links.after t e n.link)) (sym its)
               (asks-on c service tei place l own-sound n.link h.speaks r asked (aims l) none)))
               (asks-way r s ∙ h.way) h.carried;
-          granted = ap (λ k. k.granted) is ∙ ap (λ o. s.granted ++ wire.unless_refused (own-answer o) (contents_of r)) none;
+          granted = ap (λ k. k.granted) is ∙ ap (λ o. s.granted ++ wire.unless_refused (own-answer o) (contents_requested r)) none;
           told =
               ap (λ k. k.told) is ∙ ap (λ a. s.told ++ told_by a) (asks-told c service tei place l own-sound n.link h.speaks r asked (aims l) none)
               ∙ ap (λ u. s.told ++ said_by (links.course u e n.link)) (sym h.terms);
@@ -222,7 +222,7 @@ module _ (service : Service) (tei place : ℕ) (s : Station) (n : End) (h : Stan
     abbrev expires : Event
     expires = expiry timer
 
-    pub expires-stands : Stands c service tei place (happens expires s) (with_link (link.expired its) n)
+    pub expires-stands : StationStands c service tei place (happens expires s) (with_link (link.expired its) n)
     unfolding line_takes_slot
     expires-stands =
         let e = link.expired its in

@@ -5,7 +5,7 @@ use Rattle.model_link.specs.Events as link
 use Rattle.laws_wire.proofs.Answered.{gives-told, gives-granted, takes-granted}
 use Rattle.laws_wire.proofs.Asking.{with_more, asked-form}
 use Rattle.laws_wire.proofs.Speaking.{said_by, TellsData}
-use Rattle.laws_wire.proofs.Standing.{IsCarried, Stands, Granted, gives-stands, takes-stands, takes-told, asks-stands}
+use Rattle.laws_wire.proofs.Standing.{IsCarried, StationStands, Granted, gives-stands, takes-stands, takes-told, asks-stands}
 
 -- Two configurations of the two sides.
 pub record Face (c d : Config) : Type 0 where
@@ -24,7 +24,7 @@ abbrev pub after_note : LineTold → Past
 after_note t = record { told = t ∷ []; had = [] }
 
 pub record Holds (c : Config) (service : Service) (tei place : ℕ) (past : Past) (s : Station) (n : End) : Type 0 where
-  pub stands : Stands c service tei place s n
+  pub stands : StationStands c service tei place s n
   pub granted : s.granted ≡ n.link.contents
   pub since : List (List ℕ)
   pub told : s.told ≡ past.told ++ map (data_told service tei) since
@@ -49,8 +49,8 @@ module _ (service : Service) (tei place : ℕ) (first : Past) where
       → Holds c service tei place first (happens next s) (with_sent n)
   holds-given c s n h kept = record {
     stands =
-        subst (λ k. Stands k service tei place (happens next s) (with_sent n)) h.stands.config
-        (gives-stands service tei place s n (subst (λ k. Stands k service tei place s n) (sym h.stands.config) h.stands));
+        subst (λ k. StationStands k service tei place (happens next s) (with_sent n)) h.stands.config
+        (gives-stands service tei place s n (subst (λ k. StationStands k service tei place s n) (sym h.stands.config) h.stands));
     granted = gives-granted s ∙ h.granted ∙ sym kept;
     since = h.since;
     told = gives-told s ∙ h.told;
@@ -81,20 +81,20 @@ module _ (service : Service) (tei place : ℕ) (first : Past) where
 
   -- it takes a frame of the other side
   pub record Took (c : Config) (s : Station) (n : End) (octets : List ℕ) (f : Parts) : Type 0 where
-    pub stands : Stands c service tei place (comes octets s) (with_link (link.received (link.frame f)) n)
+    pub stands : StationStands c service tei place (comes octets s) (with_link (link.received (link.frame f)) n)
     pub told : (comes octets s).told ≡ s.told ++ said_by (course n.terms (link.received (link.frame f)) n.link)
 
-  pub takes : (c d : Config) → Face c d → (s : Station) (n : End) (f : Parts) → Stands c service tei place s n → IsCarried d service tei f → Took c s n (spelling d.side f) f
+  pub takes : (c d : Config) → Face c d → (s : Station) (n : End) (f : Parts) → StationStands c service tei place s n → IsCarried d service tei f → Took c s n (spelling d.side f) f
   takes c d face s n f h from =
       let x = from.carried in
       let same-n201 : d.n201 ≡ s.card.config.n201 = sym face.n201 ∙ ap (λ k. k.n201) (sym h.config) in
       let whole : came s.card.config.n201 (spelling d.side f) ≡ frame (spelling d.side f) = subst (λ k. came k (spelling d.side f) ≡ frame (spelling d.side f)) same-n201 x.whole in
       let side : d.side ≡ heard_side s.card.config = sym face.side ∙ ap (λ k. other_side k.side) (sym h.config) in
       let read : Rattle.lapd_frame.specs.Reading.reading (heard_side s.card.config) (spelling d.side f) ≡ Ok f = subst (λ k. Rattle.lapd_frame.specs.Reading.reading k (spelling d.side f) ≡ Ok f) side x.read in
-      let own = (subst (λ k. Stands k service tei place s n) (sym h.config) h) in
+      let own = (subst (λ k. StationStands k service tei place s n) (sym h.config) h) in
       record {
         stands =
-            subst (λ k. Stands k service tei place (comes (spelling d.side f) s) (with_link (link.received (link.frame f)) n)) h.config
+            subst (λ k. StationStands k service tei place (comes (spelling d.side f) s) (with_link (link.received (link.frame f)) n)) h.config
             (takes-stands service tei place s n own f (spelling d.side f) whole read from.sapi from.by);
         told = takes-told service tei place s n own f (spelling d.side f) whole read from.sapi from.by;
       }
@@ -128,12 +128,12 @@ module _ (service : Service) (tei place : ℕ) (first : Past) where
   pub holds-asked : (c : Config) (s : Station) (n : End) (octets : List ℕ) → Holds c service tei place first s n
       → (happens (request (Data service tei octets)) s ≡ s) ⊎ More c s (happens (request (Data service tei octets)) s) n octets
   holds-asked c s n octets h =
-      let own = (subst (λ k. Stands k service tei place s n) (sym h.stands.config) h.stands) in
+      let own = (subst (λ k. StationStands k service tei place s n) (sym h.stands.config) h.stands) in
       go own (asks-stands service tei place s n own (Data service tei octets) (link.Data octets) (λ l. refl))
     where
       s' : Station
       s' = happens (request (Data service tei octets)) s
 
-      go : (own : Stands s.card.config service tei place s n) → (s' ≡ s) ⊎ Granted service tei place s n own (Data service tei octets) (link.Data octets) (λ l. refl) s'
+      go : (own : StationStands s.card.config service tei place s n) → (s' ≡ s) ⊎ Granted service tei place s n own (Data service tei octets) (link.Data octets) (λ l. refl) s'
           → (s' ≡ s) ⊎ More c s s' n octets
-      go own o = grind (arith, link-grants, Stands, s', with_more, asked-form, said_by, append-nil)
+      go own o = grind (arith, link-grants, StationStands, s', with_more, asked-form, said_by, append-nil)

@@ -4,7 +4,7 @@ use Rattle.model_link.specs.TwoEnds.{with_first_of, with_first_lost}
 use Rattle.laws_link.specs.States.{moves}
 use Rattle.model_link.specs.Events.{Event, frame, overlong, Data}
 use Rattle.model_link.specs.Offers
-use Rattle.laws_link.specs.Waiting.{is_next}
+use Rattle.laws_link.specs.Waiting.{has_next_number}
 
 abbrev pub IsFree : Control → Type 0
 IsFree control = busy_by control false ≡ false
@@ -53,7 +53,7 @@ module _ (t : Terms) (l : Link) (own : l.own_busy ≡ false) where
   -- what a frame is answered by
   answers-so : (b : Bool) (control : Control) → NoAlien (kind_of b control) → All WaitsSo (answers_to b control l)
   answers-so b (Information ns nr false) h =
-      either (is_multiple_frame l.state) _ _ (either (not l.own_busy && (not (is_next ns l) && not l.rejecting)) _ _ rejects none) none
+      either (is_multiple_frame l.state) _ _ (either (not l.own_busy && (not (has_next_number ns l) && not l.rejecting)) _ _ rejects none) none
   answers-so b control h = grind (arith, either, answered, none)
 
   commands-so : (to : State) → IsTrue (is_multiple_frame to) → All WaitsSo (command_in to l)

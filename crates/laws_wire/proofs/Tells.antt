@@ -4,13 +4,13 @@ use Rattle.model_link.specs.Events as link
 use Rattle.laws_wire.proofs.Answered.{gives-told}
 use Rattle.laws_wire.proofs.LossyPhases.{Aims}
 use Rattle.laws_wire.proofs.Speaking.{said_by}
-use Rattle.laws_wire.proofs.Standing.{IsCarried, Stands, gives-stands, expires-stands, expires-said}
+use Rattle.laws_wire.proofs.Standing.{IsCarried, StationStands, gives-stands, expires-stands, expires-said}
 use Rattle.laws_wire.proofs.Talking.{Face, unheard, takes as takes_frame}
 use Rattle.laws_wire.proofs.Up.{stays}
 
 -- A station stands for an end, whose layer 3 heard this.
 pub record Tells (service : Service) (tei : ℕ) (k : Config) (place : ℕ) (heard : List LineTold) (s : Station) (n : End) : Type 0 where
-  pub stands : Stands k service tei place s n
+  pub stands : StationStands k service tei place s n
   pub told : heard_in s ≡ heard
 
 module _ (service : Service) (tei : ℕ) where
@@ -19,15 +19,15 @@ module _ (service : Service) (tei : ℕ) where
 
   -- what it delivered is no part of it
   pub as-end : (k : Config) (place : ℕ) (hs hs' : List LineTold) (s : Station) (n n' : End) → T k place hs s n → record n { delivered = n'.delivered } ≡ n' → hs ≡ hs' → T k place hs' s n'
-  as-end k place hs hs' s n n' h e same = grind (arith, Stands)
+  as-end k place hs hs' s n n' h e same = grind (arith, StationStands)
 
-  own : (k : Config) (place : ℕ) (hs : List LineTold) (s : Station) (n : End) → T k place hs s n → Stands s.card.config service tei place s n
-  own k place hs s n h = subst (λ k. Stands k service tei place s n) (sym h.stands.config) h.stands
+  own : (k : Config) (place : ℕ) (hs : List LineTold) (s : Station) (n : End) → T k place hs s n → StationStands s.card.config service tei place s n
+  own k place hs s n h = subst (λ k. StationStands k service tei place s n) (sym h.stands.config) h.stands
 
   module _ (k : Config) (place : ℕ) (hs : List LineTold) (s : Station) (n : End) (h : T k place hs s n) where
     pub t-given : T k place hs (happens next s) (with_sent n)
     t-given = record {
-      stands = subst (λ k. Stands k service tei place (happens next s) (with_sent n)) h.stands.config (gives-stands service tei place s n (own k place hs s n h));
+      stands = subst (λ k. StationStands k service tei place (happens next s) (with_sent n)) h.stands.config (gives-stands service tei place s n (own k place hs s n h));
       told = ap (flat_map for_layer_3) (gives-told s) ∙ h.told;
     }
 
@@ -46,7 +46,7 @@ module _ (service : Service) (tei : ℕ) where
         → T k place (hs ++ flat_map for_layer_3 (said_by (course n.terms (link.expired its) n.link))) (happens (expiry timer) s) (with_link (link.expired its) n)
     t-expired timer its aims = record {
       stands =
-          subst (λ k. Stands k service tei place (happens (expiry timer) s) (with_link (link.expired its) n)) h.stands.config
+          subst (λ k. StationStands k service tei place (happens (expiry timer) s) (with_link (link.expired its) n)) h.stands.config
           (expires-stands service tei place s n (own k place hs s n h) timer its aims);
       told =
           ap (flat_map for_layer_3) (expires-said service tei place s n (own k place hs s n h) timer its aims)

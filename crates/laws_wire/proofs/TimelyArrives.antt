@@ -4,7 +4,7 @@ use Rattle.laws_link.specs.two.CutOff as cut_off
 use Rattle.laws_wire.proofs.Awaited.{NoneOpen, closed, may-there, open-here}
 use Rattle.laws_wire.proofs.Held.{Held}
 use Rattle.laws_wire.proofs.Loose.{Loose, as-loose}
-use Rattle.laws_wire.proofs.Standing.{Stands, gives-none}
+use Rattle.laws_wire.proofs.Standing.{StationStands, gives-none}
 use Rattle.laws_wire.proofs.Talking.{Face}
 use Rattle.laws_wire.proofs.TimelyUp.{IsHushed, hushed, none-waits, none-of, none-open, BothUp, turned-up, up-expires, rounds-up, timed-8}
 use Rattle.laws_link.proofs.OfTwo.TimelyRuns.{flows-low}
@@ -35,7 +35,7 @@ module _ (service : Service) (tei : ℕ) where
 
     nothing-said : (k : Config) (place : ℕ) (past : List LineTold) (s : Station) (n : End) → Held k service tei place past s n → given n.terms n.link ≡ None
         → answered next s ≡ gave None
-    nothing-said k place past s n h none = gives-none service tei place s n (subst (λ k. Stands k service tei place s n) (sym h.stands.config) h.stands) none
+    nothing-said k place past s n h none = gives-none service tei place s n (subst (λ k. StationStands k service tei place s n) (sym h.stands.config) h.stands) none
 
     -- what has arrived at the links has arrived
     pub arrived : (before w : Wire) (e : Ends) (cn cm : List (List ℕ)) → Up w e.near e.far → TwoLinksHasArrived cn e.near e.far → TwoLinksHasArrived cm e.far e.near

@@ -6,7 +6,7 @@ use Rattle.laws_wire.proofs.Tame.{WaitsSo, IsFreeFrame}
 use Rattle.laws_wire.proofs.Firm.{Firm}
 use Rattle.laws_wire.proofs.Held.{Held, held-given, held-asked}
 use Rattle.laws_wire.proofs.Ringing.{answered}
-use Rattle.laws_wire.proofs.Standing.{Stands, asks-stands}
+use Rattle.laws_wire.proofs.Standing.{StationStands, asks-stands}
 use Rattle.laws_wire.proofs.Up.{stays}
 pub use Rattle.laws_wire.proofs.Answered.{lost-none, takes-none}
 
@@ -59,7 +59,7 @@ module _ (service : Service) (tei : ℕ) (k : Config) (place : ℕ) (past : List
       (looks : (c : Config) (l : Line) → refusal_on c false r l ≡ first_that_holds (bad_tei tei ∷ no_link tei l ∷ wrong_state service tei asked l ∷ [])) where
     unserved : serves n.link.state asked ≡ false → happens (request r) s ≡ s
     unserved none =
-        let own : Stands s.card.config service tei place s n = subst (λ k. Stands k service tei place s n) (sym h.stands.config) h.stands in
+        let own : StationStands s.card.config service tei place s n = subst (λ k. StationStands k service tei place s n) (sym h.stands.config) h.stands in
         let l : Line = line_at s.line s.card in
         elim (asks-stands service tei place s n own r asked aims) [
           | inl same ↦ same

@@ -6,7 +6,7 @@ use Rattle.laws_wire.proofs.Calling.{sabme, end, answering, called, takes-sabme,
 use Rattle.laws_wire.proofs.Held.{Held, TellsIt, held-given, held-lost, held-first, taken-told, taken-stands, held-expired}
 use Rattle.laws_wire.proofs.LossyPhases.{made, for-data, for-timer, Aims, first-way, empty}
 use Rattle.laws_wire.proofs.Ringing.{ringing, its_sabme, repeated, t200-repeats}
-use Rattle.laws_wire.proofs.Standing.{Stands}
+use Rattle.laws_wire.proofs.Standing.{StationStands}
 use Rattle.laws_wire.proofs.Talking.{Face}
 use Rattle.laws_wire.proofs.TimelyFirst.{firm-first, takes-none, loses-none, gives-nothing, asks-refused}
 use Rattle.laws_wire.proofs.TimelyUp.{each-timer, hushed}
@@ -149,7 +149,7 @@ module _ (service : Service) (tei : ℕ) (c d : Config) (p q : ℕ) (face : Face
         let becomes : with_link (received (frame f)) (end u fresh []) ≡ end u answering [] = ap (λ y. end u y []) (takes-sabme u ru t) in
         let held : Held d service tei q (indicated service tei ∷ []) reached (end u answering []) =
         held-first service tei q [] d w.far (end u fresh []) h.far (indicated service tei) reached (end u answering []) (course u (received (frame f)) fresh) refl refl refl
-        (subst (Stands d service tei q reached) becomes (taken-stands service tei q [] d w.far (end u fresh []) h.far c back f way.1)) (takes-granted (spelling c.side f) w.far) refl
+        (subst (StationStands d service tei q reached) becomes (taken-stands service tei q [] d w.far (end u fresh []) h.far c back f way.1)) (takes-granted (spelling c.side f) w.far) refl
         (taken-told service tei q [] d w.far (end u fresh []) h.far c back f way.1) (told-of-sabme u ru t) refl in
         record {
           repeats = h.repeats;

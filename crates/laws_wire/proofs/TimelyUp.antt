@@ -9,7 +9,7 @@ use Rattle.laws_wire.proofs.Held.{Held, held-given, held-lost, held-taken, held-
 use Rattle.laws_wire.proofs.Joint.{timer-goes}
 use Rattle.laws_wire.proofs.LossyPhases.{for-data, Aims}
 use Rattle.laws_wire.proofs.RoundsKeep.{rounds-keep}
-use Rattle.laws_wire.proofs.Standing.{IsCarried, Stands, still-gives-none}
+use Rattle.laws_wire.proofs.Standing.{IsCarried, StationStands, still-gives-none}
 use Rattle.laws_wire.proofs.Talking.{Face, no-way}
 
 module _ (service : Service) (tei : ℕ) where
@@ -27,7 +27,7 @@ module _ (service : Service) (tei : ℕ) where
   pub hushed : (k : Config) (place : ℕ) (past : List LineTold) (s : Station) (n : End) → Held k service tei place past s n → answered next s ≡ gave None → s.way ≡ []
       → IsHushed n
   hushed k place past s n h none empty = record {
-    given = still-gives-none service tei place s n (subst (λ k. Stands k service tei place s n) (sym h.stands.config) h.stands) none;
+    given = still-gives-none service tei place s n (subst (λ k. StationStands k service tei place s n) (sym h.stands.config) h.stands) none;
     way = no-way (spelling k.side) n.way (sym h.stands.way ∙ empty);
   }
 

@@ -1,7 +1,7 @@
 -- Two cards on one wire, one of which was granted more before: nothing else is other.
 use Rattle.laws_wire.proofs.Vocabulary.{◌≡◌, ℕ, suc, ◌==◌, Bool, false, cond, List, [], ◌∷◌, ◌++◌, length, refl, append-nil, eqb-true, arith, LineTold, Service, End, Config, next, zero, subst, All, flat_map, Control, Parts, NoneGoes, giving, is_poll, is_final, IsTimelyOf, timer_T200, read_as}
 use Rattle.laws_wire.specs.Wire.{Station, Wire, answered, happens, unless_refused, contents_in, Act, times_out}
-use Rattle.laws_wire.proofs.Standing.{Stands}
+use Rattle.laws_wire.proofs.Standing.{StationStands}
 
 -- These were granted before.
 abbrev pub before : List (List ℕ) → Station → Station
@@ -11,7 +11,7 @@ abbrev pub with_before : List (List ℕ) → Wire → Wire
 with_before g w = record w { far = before g w.far }
 
 -- what was granted does not matter to what stands for a station
-pub regranted : (k : Config) (service : Service) (tei place : ℕ) (s : Station) (n : End) (g : List (List ℕ)) → Stands k service tei place s n → Stands k service tei place (record s { granted = g }) n
+pub regranted : (k : Config) (service : Service) (tei place : ℕ) (s : Station) (n : End) (g : List (List ℕ)) → StationStands k service tei place s n → StationStands k service tei place (record s { granted = g }) n
 regranted k service tei place s n g h = record { config = h.config; sound = h.sound; within = h.within; speaks = h.speaks; terms = h.terms; way = h.way; carried = h.carried }
 
 pub split : (b : Bool) (g : List (List ℕ)) → g ≡ cond b g [] ++ cond b [] g

@@ -1,5 +1,5 @@
 -- The station of the end that is called, whose link is up: what requests, timers and calls for the next frame do there.
-use Rattle.laws_wire.proofs.Vocabulary.{◌≡◌, ℕ, ◌==◌, Bool, true, false, not, ◌||◌, IsTrue, List, [], ◌∷◌, ◌++◌, None, refl, sym, ap, subst, ◌∙◌, ◌⊎◌, inl, inr, arith, Service, Timer, TimerRecovery, LinkTimer, T203, Terms, Link, Course, after, is_multiple_frame, has_outstanding, given, is_running, awaits_answer, no-reports, End, with_link, frame_given, Config, LineTold, expiry, request, Line, place_in, Request, at_requested, aim_of_request, IsMildRequest, CanRepeat, HasNo, Sane, T200, Data, SetBusy, ClearBusy, Station, Wire, happens, times_out, contents_of, IsOfLink, is_poll, IsTimelyOf, requested, LinkEvent, offer, LinkSetBusy, expired, LinkClearBusy, LinkData, LinkRequest, timer_T200, timer_T203, course, IsAsked, gives_information, timer-stays, request-stays, is_recovering}
+use Rattle.laws_wire.proofs.Vocabulary.{◌≡◌, ℕ, ◌==◌, Bool, true, false, not, ◌||◌, IsTrue, List, [], ◌∷◌, ◌++◌, None, refl, sym, ap, subst, ◌∙◌, ◌⊎◌, inl, inr, arith, Service, Timer, TimerRecovery, LinkTimer, T203, Terms, Link, Course, after, is_multiple_frame, has_outstanding, given, is_running, awaits_answer, no-reports, End, with_link, frame_given, Config, LineTold, expiry, request, Line, place_in, Request, at_requested, aim_of_request, IsMildRequest, CanRepeat, HasNo, Sane, T200, Data, SetBusy, ClearBusy, Station, Wire, happens, times_out, contents_requested, IsOfLink, is_poll, IsTimelyOf, requested, LinkEvent, offer, LinkSetBusy, expired, LinkClearBusy, LinkData, LinkRequest, timer_T200, timer_T203, course, IsAsked, gives_information, timer-stays, request-stays, is_recovering}
 use Rattle.laws_wire.proofs.Acting.{ranges, sound}
 use Rattle.laws_wire.proofs.Asking.{asked-form}
 use Rattle.laws_wire.proofs.Awaited.{awaits-is, may-there, none-there, gives-reads}
@@ -67,7 +67,7 @@ module _ (service : Service) (tei : ℕ) (d : Config) (q : ℕ) (past : List Lin
                 stirs = grind (arith, asked-form, sane-after, no-reports);
               })
 
-      asks-busy : (r : Request) (rq : LinkRequest) → IsMildRequest rq → (aims : (l : Line) → aim_of_request r l ≡ at_requested service tei rq (place_in l tei)) → contents_of r ≡ []
+      asks-busy : (r : Request) (rq : LinkRequest) → IsMildRequest rq → (aims : (l : Line) → aim_of_request r l ≡ at_requested service tei rq (place_in l tei)) → contents_requested r ≡ []
           → Mute M.link (course M.terms (requested rq false) M.link) → Goes M.link (after M.terms (requested rq false) M.link) [] → P (happens (request r) s)
       asks-busy r rq mild aims none mute g = go (held-busy service tei d q past s M h r rq aims none mute)
         where

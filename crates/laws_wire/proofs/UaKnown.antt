@@ -8,7 +8,7 @@ use Rattle.laws_wire.specs.Settling.{Busy, busy_by, busy_behind, busy}
 use Rattle.laws_wire.proofs.Awaited.{link-is}
 use Rattle.laws_wire.proofs.LooseUp.{for-asked}
 use Rattle.laws_wire.proofs.LossyPhases.{Aims, for-timer}
-use Rattle.laws_wire.proofs.Standing.{IsCarried, Stands, link-sound, link-ranges, gives-stands, expires-stands, Granted, asks-stands, asks-answered}
+use Rattle.laws_wire.proofs.Standing.{IsCarried, StationStands, link-sound, link-ranges, gives-stands, expires-stands, Granted, asks-stands, asks-answered}
 use Rattle.laws_wire.proofs.Talking.{Face, unheard, Took, takes as takes_frame}
 use Rattle.laws_wire.proofs.UaBefore.{regranted}
 use Rattle.laws_wire.proofs.UaLostRun.{Goes, step}
@@ -26,9 +26,9 @@ module _ (service : Service) (tei : ℕ) where
 
   -- ---- what is done at a station
 
-  module _ (c : Config) (p : ℕ) (s : Station) (n : End) (stands : Stands c service tei p s n) (b : Bool) (known : Known b s) where
-    own : Stands s.card.config service tei p s n
-    own = subst (λ k. Stands k service tei p s n) (sym stands.config) stands
+  module _ (c : Config) (p : ℕ) (s : Station) (n : End) (stands : StationStands c service tei p s n) (b : Bool) (known : Known b s) where
+    own : StationStands s.card.config service tei p s n
+    own = subst (λ k. StationStands k service tei p s n) (sym stands.config) stands
 
     is : (link_of service tei (line_of s)) ≡ n.link
     is = link-is service tei c p s n stands
@@ -55,7 +55,7 @@ module _ (service : Service) (tei : ℕ) where
         by-event (expired its) (happens (expiry timer) s) b
         (link-is service tei s.card.config p (happens (expiry timer) s) (with_link (expired its) n) (expires-stands service tei p s n own timer its aims)) (mild (expired its) refl)
 
-    pub known-takes : (s' : Station) (f : Parts) → Stands c service tei p s' (with_link (received (frame f)) n) → Known b s'
+    pub known-takes : (s' : Station) (f : Parts) → StationStands c service tei p s' (with_link (received (frame f)) n) → Known b s'
     known-takes s' f then =
         by-event (received (frame f)) s' b (link-is service tei c p s' (with_link (received (frame f)) n) then) (mild (received (frame f)) refl)
 
@@ -108,7 +108,7 @@ module _ (service : Service) (tei : ℕ) where
 
   -- ---- and on a wire
 
-  module _ (c d : Config) (p q : ℕ) (face : Face c d) (w : Wire) (n m : End) (near : Stands c service tei p w.near n) (far : Stands d service tei q w.far m) (up : IsTrue (is_multiple_frame n.link.state) ⊎ (n.link.own_busy ≡ false))
+  module _ (c d : Config) (p q : ℕ) (face : Face c d) (w : Wire) (n m : End) (near : StationStands c service tei p w.near n) (far : StationStands d service tei q w.far m) (up : IsTrue (is_multiple_frame n.link.state) ⊎ (n.link.own_busy ≡ false))
       (b : Bool) (known : Known b w.near) where
     taken : (way : List Parts) → m.way ≡ way → Known b (with_first_of w.far.way w.near)
     taken [] e = subst (λ ways. Known b (with_first_of ways w.near)) (sym (far.way ∙ ap (map (spelling d.side)) e)) known
@@ -135,8 +135,8 @@ module _ (service : Service) (tei : ℕ) where
     record Stood (w : Wire) : Type 0 where
       n : End
       m : End
-      near : Stands c service tei p w.near n
-      far : Stands d service tei q w.far m
+      near : StationStands c service tei p w.near n
+      far : StationStands d service tei q w.far m
       near_up : IsTrue (is_multiple_frame n.link.state) ⊎ (n.link.own_busy ≡ false)
       far_up : IsTrue (is_multiple_frame m.link.state) ⊎ (m.link.own_busy ≡ false)
 

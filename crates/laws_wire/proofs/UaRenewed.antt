@@ -6,7 +6,7 @@ use Rattle.laws_wire.proofs.Held.{Held, held-lost, taken-told, taken-stands}
 use Rattle.laws_wire.proofs.LossyPhases.{first-way}
 use Rattle.laws_wire.proofs.Ringing.{ringing}
 use Rattle.laws_wire.proofs.Speaking.{said_by}
-use Rattle.laws_wire.proofs.Standing.{IsCarried, Stands}
+use Rattle.laws_wire.proofs.Standing.{IsCarried, StationStands}
 use Rattle.laws_wire.proofs.Talking.{Face}
 use Rattle.laws_wire.proofs.UaBefore.{with_before, regranted, split}
 use Rattle.laws_wire.proofs.UaCalled.{sane-after, again, renews}
@@ -80,8 +80,8 @@ module _ (service : Service) (tei : ℕ) (c d : Config) (p q : ℕ) (face : Face
     held room e = record {
       stands =
           regranted d service tei q reached (left room) (cond b [] w.far.granted)
-          (subst (λ room. Stands d service tei q reached (left room)) e
-          (subst (Stands d service tei q reached) becomes (taken-stands service tei q past d w.far M h.held c back (sabme t) its_way.1)));
+          (subst (λ room. StationStands d service tei q reached (left room)) e
+          (subst (StationStands d service tei q reached) becomes (taken-stands service tei q past d w.far M h.held c back (sabme t) its_way.1)));
       granted = ap (λ g. cond b [] g) h.held.granted;
       heard = heard;
     }

@@ -8,7 +8,7 @@ use Rattle.laws_wire.proofs.Calling.{end, its_ua, sabme, ua, takes-sabme}
 use Rattle.laws_wire.proofs.Held.{Held, held-given, held-lost, held-first, taken-told, taken-stands}
 use Rattle.laws_wire.proofs.LossyPhases.{first-way}
 use Rattle.laws_wire.proofs.Ringing.{ringing, answered as answered_link, its_sabme}
-use Rattle.laws_wire.proofs.Standing.{IsCarried, Stands, gives-stands}
+use Rattle.laws_wire.proofs.Standing.{IsCarried, StationStands, gives-stands}
 use Rattle.laws_wire.proofs.Talking.{Face}
 use Rattle.laws_wire.proofs.UaCalled.{renews}
 use Rattle.laws_wire.proofs.UaLost.{Rings, repeats-sabme}
@@ -68,15 +68,15 @@ module _ (service : Service) (tei : ℕ) (c d : Config) (p q : ℕ) (face : Face
     abbrev m : End
     m = with_link event M
 
-    far2 : Stands d service tei q reached m
+    far2 : StationStands d service tei q reached m
     far2 = taken-stands service tei q past d w.far M held c back (sabme t) way1.1
 
     -- UA goes
     abbrev w3 : Wire
     w3 = record { near = w2.near; far = happens next reached }
 
-    far3 : Stands reached.card.config service tei q w3.far (with_sent m)
-    far3 = gives-stands service tei q reached m (subst (λ k. Stands k service tei q reached m) (sym far2.config) far2)
+    far3 : StationStands reached.card.config service tei q w3.far (with_sent m)
+    far3 = gives-stands service tei q reached m (subst (λ k. StationStands k service tei q reached m) (sym far2.config) far2)
 
     gone : (with_sent m).way ≡ ua u ∷ []
     gone = grind (arith, gives-waiting, its_ua)

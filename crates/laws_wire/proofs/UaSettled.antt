@@ -9,7 +9,7 @@ use Rattle.laws_wire.proofs.Held.{Held}
 use Rattle.laws_wire.proofs.Loose.{loose-turned}
 use Rattle.laws_wire.proofs.LooseUp.{LooseAt, at-turned, at-expires, at-gives, at-takes}
 use Rattle.laws_wire.proofs.RoundsKeep.{rounds-keep}
-use Rattle.laws_wire.proofs.Standing.{Stands, gives-none}
+use Rattle.laws_wire.proofs.Standing.{StationStands, gives-none}
 use Rattle.laws_wire.proofs.Talking.{Face}
 use Rattle.laws_wire.proofs.TimelyArrives.{cut-off, no-answer}
 use Rattle.laws_wire.proofs.TimelyUp.{IsHushed, hushed, none-waits, none-of, none-open, timed-8}
@@ -40,7 +40,7 @@ module _ (service : Service) (tei : ℕ) (c d : Config) (p q : ℕ) (face : Face
 
   nothing-said : (k : Config) (place : ℕ) (its : List LineTold) (s : Station) (n : End) → Held k service tei place its s n → given n.terms n.link ≡ None
       → answered next s ≡ gave None
-  nothing-said k place its s n h none = gives-none service tei place s n (subst (λ k. Stands k service tei place s n) (sym h.stands.config) h.stands) none
+  nothing-said k place its s n h none = gives-none service tei place s n (subst (λ k. StationStands k service tei place s n) (sym h.stands.config) h.stands) none
 
   module _ (w : Wire) (n m : End) (h : At w n m) (still : IsStill w) (may : BothMayRepeat service tei w) (near_free : n.link.own_busy ≡ false) (far_free : m.link.own_busy ≡ false) where
     abbrev timer : Timer

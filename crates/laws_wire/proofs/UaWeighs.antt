@@ -11,7 +11,7 @@ use Rattle.laws_wire.proofs.Loose.{Loose, loose-turned, loose-after}
 use Rattle.laws_wire.proofs.LossyPhases.{first-way}
 use Rattle.laws_wire.proofs.Rested.{TakesWell, takes-nothing, takes-well}
 use Rattle.laws_wire.proofs.Ringing.{ringing, its_sabme, ignores}
-use Rattle.laws_wire.proofs.Standing.{Stands}
+use Rattle.laws_wire.proofs.Standing.{StationStands}
 use Rattle.laws_wire.proofs.Talking.{Face}
 use Rattle.laws_wire.proofs.UaCalled.{again, renews}
 use Rattle.laws_wire.proofs.UaLost.{behind}
@@ -228,7 +228,7 @@ module _ (service : Service) (tei : ℕ) (c d : Config) (p q : ℕ) (face : Face
     abbrev room : Bool
     room = has_room M.terms l
 
-    stands : Stands d service tei q reached m'
+    stands : StationStands d service tei q reached m'
     stands = taken-stands service tei q past d w.far M h.held c back (sabme t) (first-way service tei c p [] w.near n (sabme t) [] refl near).1
 
     abbrev kept : Bool → Link

@@ -4,7 +4,7 @@ use Rattle.laws_link.proofs.OfTwo.AnyOrder as any_order
 use Rattle.laws_wire.proofs.Answered.{gives-granted, takes-granted}
 use Rattle.laws_wire.proofs.Asking.{with_more, asked-form, asks-more, Asked}
 use Rattle.laws_wire.proofs.Speaking.{tells-data}
-use Rattle.laws_wire.proofs.Standing.{IsCarried, Stands, gives-frames}
+use Rattle.laws_wire.proofs.Standing.{IsCarried, StationStands, gives-frames}
 use Rattle.laws_wire.proofs.Talking.{Face, Past, Holds, holds-given, holds-lost, holds-taken, fits, More, holds-asked}
 
 abbrev pub pair_of : End → End → Ends
@@ -79,7 +79,7 @@ module _ (service : Service) (tei : ℕ) where
 
     module _ (w : Wire) (n m : End) (h : Talk c d p q first second w n m) where
       turn-is : turn_of (frames_by (answered next w.near)) ≡ turn_of (map (spelling w.near.card.config.side) (frame_given n.terms (given n.terms n.link)))
-      turn-is = ap turn_of (gives-frames service tei p w.near n (subst (λ k. Stands k service tei p w.near n) (sym h.near.stands.config) h.near.stands))
+      turn-is = ap turn_of (gives-frames service tei p w.near n (subst (λ k. StationStands k service tei p w.near n) (sym h.near.stands.config) h.near.stands))
 
       acts-gives : Acted w (acting gives w) n m (turn_of (frames_by (answered next w.near)))
       acts-gives =

@@ -166,7 +166,7 @@ pub use Rattle.laws_wire.specs.StillTimely.{IsSparedStill, IsStillDoing, IsStill
 unfoldable pub use Rattle.laws_wire.specs.StillTimely.{StayStill}
 pub use Rattle.laws_wire.specs.Timely.{IsLongEnough, IsNoneOpen, IsSpared, IsTimely, IsTimelyOf, MayRepeat, NoneGoes, awaits_in, awaits_reply, bit_of, gives_one, is_final, is_poll, is_ua}
 unfoldable pub use Rattle.laws_wire.specs.Timely.{StayTimely, giving}
-pub use Rattle.laws_wire.specs.Wire.{Act, Doing, IsStill, Station, Wire, acting, answered, at_far, at_near, comes, contents_of, doing, frames_by, gives, happens, is_any, is_turn, is_turn_of, loses, requests, takes, tells_nothing, times_out, told_by, turned, with_first_lost, with_first_of}
+pub use Rattle.laws_wire.specs.Wire.{Act, Doing, IsStill, Station, Wire, acting, answered, at_far, at_near, comes, contents_requested, doing, frames_by, gives, happens, is_any, is_turn, is_turn_of, loses, requests, takes, tells_nothing, times_out, told_by, turned, with_first_lost, with_first_of}
 unfoldable pub use Rattle.laws_wire.specs.Wire.{doing_all, turns}
 pub use Rattle.laws_wire.specs.Worked.{begins, establishes, network, talks, user}
 pub use Rattle.laws_wire.specs.WorkedRecovering.{loses_three, lost, recovered}

@@ -2,7 +2,7 @@
 -- each contents that are not delivered yet a REJ, v turns, and an acknowledgement.
 use Rattle.laws_wire.proofs.Vocabulary.{◌≡◌, ℕ, ◌+◌, ◌-◌, ◌*◌, ◌≤◌, List, [], ◌∷◌, length, map, refl, sym, ap, ◌∙◌, arith, All, All-head, All-tail, Service, Parts, spelling, reading, Link, End, Config, Station}
 use Rattle.laws_wire.proofs.Loads.{load, load_way}
-use Rattle.laws_wire.proofs.Standing.{IsCarried, Stands}
+use Rattle.laws_wire.proofs.Standing.{IsCarried, StationStands}
 
 -- ---- a station stands for one end alone
 
@@ -20,7 +20,7 @@ module _ (service : Service) (tei : ℕ) (c : Config) where
       λ i. same i ∷ others i
   spelled-same other any h g e = absurd (cc)
 
-  module _ (place : ℕ) (s : Station) (n n' : End) (h : Stands c service tei place s n) (g : Stands c service tei place s n') where
+  module _ (place : ℕ) (s : Station) (n n' : End) (h : StationStands c service tei place s n) (g : StationStands c service tei place s n') where
     pub same-way : n.way ≡ n'.way
     same-way = spelled-same n.way n'.way h.carried g.carried (sym h.way ∙ g.way)
 

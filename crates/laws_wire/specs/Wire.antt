@@ -34,12 +34,12 @@ frames_by (gave (Some frame)) = frame.octets ∷ []
 frames_by other = []
 
 -- The contents of a request for data, where it is granted.
-abbrev pub contents_of : Request → List (List ℕ)
-contents_of (Data service tei contents) = contents ∷ []
-contents_of other = []
+abbrev pub contents_requested : Request → List (List ℕ)
+contents_requested (Data service tei contents) = contents ∷ []
+contents_requested other = []
 
 abbrev pub contents_in : Event → List (List ℕ)
-contents_in (request r) = contents_of r
+contents_in (request r) = contents_requested r
 contents_in other = []
 
 abbrev pub unless_refused : Answer → List (List ℕ) → List (List ℕ)

@@ -13,6 +13,7 @@ use Rattle.laws_wire.specs.Call.{confirmed, indicated, data_told}
 use Rattle.laws_wire.specs.Losing.{heard_in}
 use Rattle.laws_wire.specs.Recovering.{round, rounds, both_expire, with_t200_expired}
 use Rattle.laws_wire.specs.Worked.{begins}
+use Rattle.laws_wire.specs.WorkedAnswering.{loses_ua}
 use Rattle.laws_wire.specs.WorkedLosing.{error_f}
 
 -- SABME is lost, T200 expires, and it goes again. Then each end sends an I-frame, and both are lost.
@@ -76,9 +77,6 @@ unfolding lines.after lines.answer lines.takes_slot reading header_of control_of
 heard_ringing = refl
 
 -- That UA is not lost is needed: as SABME comes again error F is told.
-abbrev pub loses_ua : List Doing
-loses_ua = at_near gives ∷ at_far takes ∷ at_far gives ∷ at_far loses ∷ at_near (times_out (T200 Call 0)) ∷ round
-
 heard_again : heard_in (doing_all loses_ua begins).far ≡ indicated Call 0 ∷ error_f ∷ []
 unfolding lines.after lines.answer lines.takes_slot reading header_of control_of unnumbered_of supervisory_of teis.course teis.refusal seq distance_of named doing_all turns rounds
 heard_again = refl

@@ -22,7 +22,7 @@ pub use Rattle.model_card.specs.Event.{Event, at}
 pub use Rattle.model_card.specs.Isolation.{answers_at, event_in, is_served_at}
 pub use Rattle.model_card.specs.Laws.{CardsStaySound, DeliveriesNumbered, DropsChangeNothing, DropsCostNothing, FramesAmortised, FramesAmortisedFromZero, FramesByEvent, LinesIsolated, PoolNeverFull, RefusedByTheTable, RejectsAreLong, RunIsMoments, StoredWithinLimit, reply_of}
 pub use Rattle.model_card.specs.Machine.{after, answer, wants_room}
-pub use Rattle.model_card.specs.Numbered.{IsNext, LinkName, arrived, contents_of, delivered, one_more, received_by, restarts}
+pub use Rattle.model_card.specs.Numbered.{IsNext, LinkName, arrived, contents_numbered, delivered, one_more, received_by, restarts}
 pub use Rattle.model_card.specs.Promises.{HasLink, IsAmortised, IsNotRefusedForPool}
 pub use Rattle.model_card.specs.Reached.{IsReached}
 pub use Rattle.model_card.specs.Room.{RefusesBy, room}

@@ -31,14 +31,14 @@ abbrev pub received_by : LinkName → Card → ℕ
 received_by name card = (link_at name.number (line_at name.line card)).r
 
 -- The contents of an eligible I-frame, where its N(S) is that of delivery i.
-abbrev pub contents_of : ℕ → Option Arrived → Option (List ℕ)
-contents_of i None = None
-contents_of i (Some frame) = if frame.ns.value == i % 128 then Some frame.contents else None
+abbrev pub contents_numbered : ℕ → Option Arrived → Option (List ℕ)
+contents_numbered i None = None
+contents_numbered i (Some frame) = if frame.ns.value == i % 128 then Some frame.contents else None
 
 -- Deliveries are counted from 0 on since an establishment. Delivery i is the contents of the first eligible frame after that of
 -- delivery i - 1 whose N(S) is i modulo 128, in that frame's moment; a moment that brings no such frame delivers nothing.
 abbrev pub IsNext : LinkName → Moment → Type 0
-IsNext name m = delivered name m ≡ (if restarts name m then None else contents_of (received_by name m.card) (arrived name m))
+IsNext name m = delivered name m ≡ (if restarts name m then None else contents_numbered (received_by name m.card) (arrived name m))
 
 abbrev pub one_more : LinkName → ℕ → Moment → ℕ
 one_more name i m = if restarts name m then 0 else i + length (option_to_list (delivered name m))

@@ -32,8 +32,8 @@ slots_of c l = length l.units + sum_of_links c (slots_by_link l)
 abbrev pub total_length : List (List ℕ) → ℕ
 total_length contents = sum_by length contents
 
-abbrev pub contents_of : UnitData → List ℕ
-contents_of unit = unit.contents
+abbrev pub unit_contents : UnitData → List ℕ
+unit_contents unit = unit.contents
 
 abbrev pub unit_length : UnitData → ℕ
 unit_length unit = length unit.contents

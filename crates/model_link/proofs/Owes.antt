@@ -4,7 +4,7 @@ use Rattle.model_link.proofs.Waits.{Waits}
 use Rattle.model_link.proofs.Kept.{Purse, another, two}
 unfoldable use Rattle.model_link.proofs.Kept.{how_many}
 use Rattle.model_link.proofs.Careful.{Careful}
-use Rattle.model_link.proofs.SoundRows.{is_in, Standing, Stands, stand}
+use Rattle.model_link.proofs.SoundRows.{is_in, Standing, CourseStands, stand}
 
 -- What an event under way has sent, and what the link may still send.
 abbrev pub owed : Terms → Course → ℕ
@@ -30,14 +30,14 @@ resent : (len a s m k : ℕ) → a ≤ m → s ≤ a + k → s ≤ len → m ≤
 resent len a s m k from within all to = omega arith
 
 module _ (t : Terms) (r : IsInRange t) (total extra : ℕ) (Window : Type 0) (pays : Window → extra ≡ t.k) where
-  abbrev sound : Careful t (Unit {0}) (Unit {0}) (Unit {0}) (Unit {0}) (Unit {0}) (Unit {0}) is_in (Stands t t.queue) (λ p q c. Stands t t.queue c) (Stands t t.queue)
+  abbrev sound : Careful t (Unit {0}) (Unit {0}) (Unit {0}) (Unit {0}) (Unit {0}) (Unit {0}) is_in (CourseStands t t.queue) (λ p q c. CourseStands t t.queue c) (CourseStands t t.queue)
   sound = stand t r.tei t.queue (Unit {0}) (λ x. refl)
 
   -- the last word, and any that raises what is owed by no more than it spends
   done : (p : Purse) (c : Course) → Owes t total extra p c → Within t total c
   done p c h = record { within = omega (arith, h.within) }
 
-  spends : (p p' : Purse) (c c' : Course) → Stands t t.queue c' → owed t c' + how_many p' ≤ owed t c + how_many p → Owes t total extra p c → Owes t total extra p' c'
+  spends : (p p' : Purse) (c c' : Course) → CourseStands t t.queue c' → owed t c' + how_many p' ≤ owed t c + how_many p → Owes t total extra p c → Owes t total extra p' c'
   spends p p' c c' x less h = record { stands = x; within = omega (arith, less, h.within) }
 
   saves : (p : Purse) (c : Course) → Owes t total extra (another p) c → Owes t total extra p c

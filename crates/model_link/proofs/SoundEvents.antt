@@ -3,13 +3,13 @@ use Rattle.model_link.proofs.Vocabulary.{◌≡◌, ℕ, ◌-◌, ◌≤◌, Lis
 use Rattle.model_link.proofs.Kept.{any_event}
 use Rattle.model_link.proofs.Careful.{Queues, any_contents}
 use Rattle.model_link.proofs.Rows.{event_by}
-use Rattle.model_link.proofs.SoundRows.{Stands, stand, begins}
+use Rattle.model_link.proofs.SoundRows.{CourseStands, stand, begins}
 
 -- A sound link stands, with any number of contents that its queue has; and the other way round.
-pub sound-stands : (t : Terms) (q : ℕ) (l : Link) → length (queue_of l) ≤ q → IsSound t l → Stands t q (begun l)
+pub sound-stands : (t : Terms) (q : ℕ) (l : Link) → length (queue_of l) ≤ q → IsSound t l → CourseStands t q (begun l)
 sound-stands t q l few h = grind (arith, length-drop)
 
-stands-sound : (t : Terms) (c : Course) → Stands t t.queue c → IsSound t c.link
+stands-sound : (t : Terms) (c : Course) → CourseStands t t.queue c → IsSound t c.link
 stands-sound t c h = grind (arith, length-drop)
 
 -- A sound link stays sound.

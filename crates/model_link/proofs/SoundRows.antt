@@ -24,8 +24,8 @@ pub record Standing (t : Terms) (q : ℕ) (contents : List (List ℕ)) (a s : �
   pub sizes : All (λ octets. length octets ≤ t.n201) contents
   pub frames : All (IsWaitingFrame t) waiting
 
-abbrev pub Stands : Terms → ℕ → Course → Type 0
-Stands t q c = Standing t q c.link.contents c.link.a c.link.s c.link.state c.link.asked c.link.waiting c.link.own_busy c.link.pending
+abbrev pub CourseStands : Terms → ℕ → Course → Type 0
+CourseStands t q c = Standing t q c.link.contents c.link.a c.link.s c.link.state c.link.asked c.link.waiting c.link.own_busy c.link.pending
 
 -- nothing queued is settled in every state, and anything in states 7 and 8
 settles-none : (a n : ℕ) (state : State) (asked : Bool) → n ≡ a → settled a n state asked
@@ -134,22 +134,22 @@ not-first b o w e = grind arith
 module _ (t : Terms) (r : t.tei ≤ 126) (q : ℕ) (Queued : Type 0) (room : Queued → q ≡ t.queue) where
   -- words that are put together
   transfers : Queued → (octets : List ℕ) (full : Bool) (c : Course) → refusal t c.link full (Data octets) ≡ None
-      → Stands t q c → Stands t q (data_in_7_8 octets c)
+      → CourseStands t q c → CourseStands t q (data_in_7_8 octets c)
   transfers may octets full c e h =
       let parts = not-refused (is_multiple_frame c.link.state) _ WrongState e in
       let small = not-first (nat_lt t.n201 (length octets)) _ TooLong parts.1 in
       let free = not-first (nat_le t.queue (length (drop c.link.a c.link.contents))) _ QueueFull small.1 in
       queueing h octets parts.0 (ltb-false t.n201 (length octets) small.0) (omega (arith, (room may), leb-false t.queue (length (drop c.link.a c.link.contents)) free.0))
 
-  reports : (b : Bool) (c : Course) → Stands t q c → Stands t q (report_ready t (own_busy_is b c))
+  reports : (b : Bool) (c : Course) → CourseStands t q c → CourseStands t q (report_ready t (own_busy_is b c))
   reports b c h = sending (silent h b) _ r (ready_waits t false false (with_own_busy b c.link))
 
-  pub begins : (c : Course) → Stands t q (begin_anew c)
+  pub begins : (c : Course) → CourseStands t q (begin_anew c)
   begins c = grind arith
 
-  recovers : (i : ℕ) (timer : LinkTimer) (c : Course) → c.link.a ≤ i → i ≤ c.link.s → Stands t q c
-      → Stands t q ((send_again_from i then start timer then enter Established) c)
+  recovers : (i : ℕ) (timer : LinkTimer) (c : Course) → c.link.a ≤ i → i ≤ c.link.s → CourseStands t q c
+      → CourseStands t q ((send_again_from i then start timer then enter Established) c)
   recovers i timer c from to h = up (going-back h i from to) Established refl
 
-  pub stand : Careful t (Unit {0}) (Unit {0}) (Unit {0}) (Unit {0}) Queued (Unit {0}) is_in (Stands t q) (λ p p' c. Stands t q c) (Stands t q)
+  pub stand : Careful t (Unit {0}) (Unit {0}) (Unit {0}) (Unit {0}) Queued (Unit {0}) is_in (CourseStands t q) (λ p p' c. CourseStands t q c) (CourseStands t q)
   stand = search (silent, owes, resting, asking, up, sending, r, gone, acknowledging, going-back, recovers, discarding, zeroing, transfers, sent, reports, begins) depth 12 fits 4000

@@ -2,7 +2,7 @@
 
 ghost use Rattle.std.specs.Prelude.{◌≡◌, ◌≤◌, [], false, length, take, map};
 ghost use Rattle.std.specs.Option.{option_copied};
-ghost use Rattle.lapd_c.specs.{listed, told_beside, nothing, plain_note, plain_order, ShowsReopened, with_reopened, Shows, ShowsPull, SameButContents, contents_in, contents_of, mark_of, orders_of};
+ghost use Rattle.lapd_c.specs.{listed, told_beside, nothing, plain_note, plain_order, ShowsReopened, with_reopened, Shows, ShowsPull, SameButContents, contents_in, contents_or_none, mark_of, orders_of};
 
 use crate::plain::links::service_at;
 use crate::plain::notes::{PlainNote, cause_number};
@@ -92,7 +92,7 @@ impl PlainReport {
     /// It stands apart, so that what tells nothing, or orders alone, has no part of it in its way.
     #[inline(never)]
     pub fn show(&mut self, told: &BareReport, delivered: Option<&[u8]>)
-        ensures { length (contents_of (option_copied delivered.entry)) ≤ 260
+        ensures { length (contents_or_none (option_copied delivered.entry)) ≤ 260
             → Shows self.new (told_beside (option_copied delivered.entry) told.now) }
     {
         self.show_orders(false, false, &told.orders);
@@ -133,9 +133,9 @@ impl PlainReport {
         requires length { self.old.length ≡ 0 }
         ensures rest { SameButContents self.old self.new }
         ensures mark { self.new.delivered ≡ mark_of (option_copied delivered.entry) }
-        ensures length { length (contents_of (option_copied delivered.entry)) ≤ 260
-            → self.new.length ≡ length (contents_of (option_copied delivered.entry)) }
-        ensures contents { length (contents_of (option_copied delivered.entry)) ≤ 260
+        ensures length { length (contents_or_none (option_copied delivered.entry)) ≤ 260
+            → self.new.length ≡ length (contents_or_none (option_copied delivered.entry)) }
+        ensures contents { length (contents_or_none (option_copied delivered.entry)) ≤ 260
             → contents_in self.new ≡ option_copied delivered.entry }
     {
         if let Some(contents) = delivered {

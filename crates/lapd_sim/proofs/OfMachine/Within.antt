@@ -17,21 +17,21 @@ use Rattle.model_card.specs.ports.Card.{OctetCard}
 use Rattle.model_card.specs.ports.Event as octets
 use Rattle.model_card.specs.ports.Port as port
 use Rattle.model_card.specs.ports.Run as octet_runs
-use Rattle.model_card.specs.ports.Sound as octet_sound
+use Rattle.model_card.specs.ports.Sound.{IsSoundOctetCard}
 use Rattle.model_card.specs.ports.Stored as octet_stored
 use Rattle.lapd_sim.specs.machine.Board.{What, of_octets, of_frames, octets_after, frames_after}
 use Rattle.lapd_sim.proofs.OfMachine.Events.{scripts_are_runs}
 
 -- A board's card is sound, as one of its kind, and has the board's configuration.
 abbrev SoundAs : CardKind → OctetCard → Type 0
-SoundAs Octets m = octet_sound.IsSound m
+SoundAs Octets m = IsSoundOctetCard m
 SoundAs Frames m = cards.IsSound m.card
 
 record Fits (b : Board) : Type 0 where
   config : b.card.card.config ≡ b.config
   sound : SoundAs b.kind b.card
 
-sound-octets : (m : OctetCard) (e : octets.Event) → octet_sound.IsSound m → e.line < m.card.config.lines → octet_sound.IsSound (ports.after e m)
+sound-octets : (m : OctetCard) (e : octets.Event) → IsSoundOctetCard m → e.line < m.card.config.lines → IsSoundOctetCard (ports.after e m)
 unfolding octet_runs.after_all
 sound-octets m e s within = ports_sound.cards_stay_sound.always m (e ∷ []) s (All-cons (octet_runs.IsAtLine m) e [] within (All-nil (octet_runs.IsAtLine m)))
 

@@ -16,7 +16,7 @@ use Rattle.lapd_sim.specs.machine.Board.{octet, pull, expiry, request, at}
 use Rattle.lapd_sim.specs.machine.Steps.{teis_on}
 use Rattle.lapd_sim.specs.machine.Events.{script_events}
 
-abbrev a_card : List ℕ
+abbrev pub a_card : List ℕ
 a_card = codes "card 1 8 7 8 4 4 64 260 3\nassign 0 64\n"
 
 -- a request, eight octets from the line, seven pulls; `stored` brings none

@@ -1,5 +1,5 @@
 -- Whole scripts of establishment and supervision, and their transcripts: each computes.
-use Rattle.std.specs.Prelude.{◌≡◌, ℕ, List, ◌++◌, codes, Some, refl}
+use Rattle.std.specs.Prelude.{◌≡◌, ◌++◌, codes, Some, refl}
 use Rattle.std.specs.Fmt.{digits}
 use Rattle.hex.specs.Hex.{decode_pairs, encode_with}
 use Rattle.model_bits.specs.Bits.{low_bits}
@@ -12,9 +12,7 @@ use Rattle.lapd_sim.specs.machine.Board as boards
 use Rattle.lapd_script.specs.declared.kind.FaultKind.TheVariants.{UnknownWord}
 use Rattle.lapd_sim.specs.machine.Steps.{teis_on}
 use Rattle.lapd_sim.specs.machine.Script.{transcript, first_fault}
-
-abbrev a_card : List ℕ
-a_card = codes "card 1 8 7 8 4 4 64 260 3\nassign 0 64\n"
+use Rattle.lapd_sim.specs.machine.WorkedEvents.{a_card}
 
 -- the terminal establishes the link; seven pulls give the flag, UA with its check, and a flag
 established : transcript (a_card ++ codes "rx 0 7E0081EF50B1FDFC\npull 0 7\nstored\n") ≡ codes "0 establish-indication 64\n0 tx 7E008173C4127E\n0 frame 008173\nstored 0 limit 17470\n"

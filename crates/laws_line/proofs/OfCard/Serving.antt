@@ -1,5 +1,5 @@
 -- What is taken after a list of events.
-use Rattle.laws_line.proofs.Vocabulary.{arith, ◌≡◌, ℕ, ◌<◌, slice_get, List, Option, Some, None, sym, subst, inl, inr, Config, next, Line, link_count, Taken, taken, Card, line_at, after_all, AreAtLines, always_sound, has_lines, line_sound, IsOfLink, IsOwed, IsIdle, line_contents_of as contents_of, IsServed, CardEvent as Event, CardIsSound as IsSound, accepted_at, IsServedIn}
+use Rattle.laws_line.proofs.Vocabulary.{arith, ◌≡◌, ℕ, ◌<◌, slice_get, List, Option, Some, None, sym, subst, inl, inr, Config, next, Line, link_count, Taken, taken, Card, line_at, after_all, AreAtLines, always_sound, has_lines, line_sound, IsOfLink, IsOwed, IsIdle, contents_of_link, IsServed, CardEvent as Event, CardIsSound as IsSound, accepted_at, IsServedIn}
 use Rattle.model_line.specs.Machine as lines
 use Rattle.laws_line.proofs.Serving.{served}
 use Rattle.laws_line.proofs.OfCard.Keeping.{run-counted}
@@ -29,7 +29,7 @@ served-in card events s all number within =
     let config : end.config ≡ card.config = config_stays card events in
     let there : number < end.config.lines = subst (λ (c : Config). number < c.lines) (sym config) within in
     let l = line_at number end in
-    let now : IsServed end.config (contents_of l) l = served end.config l (line_sound end number (has_lines end (always_sound card events s all)) there) in
-    serves card.config (contents_of l) (accepted_at card events number)
+    let now : IsServed end.config (contents_of_link l) l = served end.config l (line_sound end number (has_lines end (always_sound card events s all)) there) in
+    serves card.config (contents_of_link l) (accepted_at card events number)
     (λ n few. (run-counted card events s all (record { line = number; number = n }) (within, few)).accepted) l
-    (subst (λ c. IsServed c (contents_of l) l) config now)
+    (subst (λ c. IsServed c (contents_of_link l) l) config now)

@@ -1,11 +1,9 @@
 -- Worked values: what was accepted over a run, and what waits to be sent.
 use Rattle.std.specs.Prelude.{◌≡◌, ℕ, List, [], ◌∷◌, ◌++◌, refl}
-use Rattle.laws_line.specs.WorkedWords.{Network, frame, Call, reading, header_of, control_of, unnumbered_of, History, Config, hears, request, Request, Assign, Data, Release, fresh, Event, at, moments, history, accepted_at}
+use Rattle.laws_line.specs.WorkedWords.{frame, Call, reading, header_of, control_of, unnumbered_of, History, hears, request, Request, Assign, Data, Release, fresh, Event, at, moments, history, accepted_at}
 use Rattle.lapd_tei.specs.Events as teis
 use Rattle.model_line.specs.Machine as lines
-
-abbrev pub usual : Config
-usual = record { lines = 1; terminals = 8; k = 7; k16 = 7; queue = 8; unit_queue = 4; control = 4; slots = 64; n201 = 260; n200 = 3; side = Network }
+pub use Rattle.laws_line.specs.Worked.{usual}
 
 abbrev pub on_0 : Request → Event
 on_0 r = at 0 (request r)

@@ -38,7 +38,7 @@ never_taken : IsTakenAmong (fresh usual) 0 [] (0x00 ∷ 0x81 ∷ 0x73 ∷ []) �
 never_taken x = no_call x.front x.back x.split
 
 -- `calls_come_to_an_end`: a line on which unit data waits still, after as many calls as are enough.
-abbrev with_unit : Line
+abbrev pub with_unit : Line
 with_unit = record (fresh_line usual) { units = record { service = Call; tei = 127; contents = 0xAB ∷ [] } ∷ [] }
 
 abbrev with_line : Line → Card

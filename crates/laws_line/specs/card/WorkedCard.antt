@@ -1,15 +1,10 @@
 -- Worked values of a card: each computes.
 use Rattle.std.specs.Prelude.{None, ◌≡◌, ℕ, List, [], ◌∷◌, ◌++◌, map, Some, refl}
-use Rattle.laws_line.specs.WorkedWords.{frame, Network, QueueFull, PoolFull, Call, reading, header_of, control_of, unnumbered_of, Config, first_fault, Answer, told, refused, gave, hears, next, request, nothing, Request, Assign, Data, Unit, Event, at, Card, fresh, state, run, stored, limit}
+use Rattle.laws_line.specs.WorkedWords.{QueueFull, PoolFull, Call, reading, header_of, control_of, unnumbered_of, Config, first_fault, Answer, told, refused, gave, next, request, nothing, Data, Unit, Event, at, Card, fresh, state, run, stored, limit}
 use Rattle.lapd_tei.specs.Events as teis
 use Rattle.model_line.specs.declared.config.Field.TheVariants as field
 use Rattle.model_line.specs.Machine as lines
-
-abbrev pub usual : Config
-usual = record { lines = 1; terminals = 8; k = 7; k16 = 7; queue = 8; unit_queue = 4; control = 4; slots = 64; n201 = 260; n200 = 3; side = Network }
-
-abbrev on_0 : Request → Event
-on_0 r = at 0 (request r)
+use Rattle.laws_line.specs.card.Worked.{usual, up}
 
 abbrev card_after : Config → List Event → Card
 card_after c events = (run (fresh c) events).card
@@ -19,10 +14,6 @@ answer_of reply = reply.1
 
 abbrev answers_after : Config → List Event → List Event → List Answer
 answers_after c before events = map answer_of (run (card_after c before) events).replies
-
--- TEI 64 on line 0, and its SABME
-abbrev up : List Event
-up = on_0 (Assign 64) ∷ at 0 (hears (frame (0x00 ∷ 0x81 ∷ 0x7F ∷ []))) ∷ []
 
 up_is_established : state 0 Call 64 (card_after usual up) ≡ Some 7
 unfolding lines.after lines.takes_slot reading header_of control_of unnumbered_of teis.course teis.refusal

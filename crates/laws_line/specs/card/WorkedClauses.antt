@@ -1,12 +1,13 @@
 -- Worked values: cards, and moments with other answers, that would break the clauses of `Card::drive`.
 use Rattle.std.specs.Prelude.{◌≡◌, ℕ, ◌+◌, ◌*◌, ◌≤◌, List, [], ◌∷◌, map, Some, None, refl}
-use Rattle.laws_line.specs.WorkedWords.{ap, arith, frame, Fcs, Short, PoolFull, Call, reading, header_of, control_of, unnumbered_of, supervisory_of, seq, named, distance_of, hears, next, request, gave, Answer, told, refused, dropped, nothing, cause_in, Line, fresh_line, Assign, Data, lost_in, Card, fresh, sent, heard, accepted, expired, rejected, window, IsPriced, IsDropWithoutCost, IsDropWithoutEffect, at, events_at, answers_at, answer_in, LinkName, IsNext, IsWithinLimit, IsNotRefusedForPool, Moment, moments, after_all}
+use Rattle.laws_line.specs.WorkedWords.{ap, arith, frame, Fcs, Short, PoolFull, Call, reading, header_of, control_of, unnumbered_of, supervisory_of, seq, named, distance_of, hears, next, request, gave, Answer, told, refused, dropped, nothing, cause_in, Assign, Data, lost_in, Card, fresh, sent, heard, accepted, expired, rejected, window, IsPriced, IsDropWithoutCost, IsDropWithoutEffect, at, events_at, answers_at, answer_in, LinkName, IsNext, IsWithinLimit, IsNotRefusedForPool, Moment, moments, after_all}
 use Rattle.model_bits.specs.Stream as stream
 use Rattle.lapd_frame.specs.declared.notes.Note.TheVariants as notes
 use Rattle.lapd_tei.specs.Events as teis
 use Rattle.model_line.specs.Event as line_event
 use Rattle.model_line.specs.Machine as lines
 use Rattle.laws_line.specs.card.Worked.{usual, on_0, up}
+use Rattle.laws_line.specs.card.WorkedBroken.{with_unit}
 
 abbrev moment : Card → line_event.Event → Answer → Moment
 moment card what answer = record { card = card; event = at 0 what; answer = answer }
@@ -23,9 +24,6 @@ dropped_with_effect : IsDropWithoutEffect (moment (fresh usual) (hears (stream.d
 dropped_with_effect none = let lost : 1 ≡ 0 = ap lost_in (none (stream.dropped Fcs) Fcs refl refl).0 in omega (arith, lost)
 
 -- `within_limit`: an octet is stored where none may be.
-abbrev with_unit : Line
-with_unit = record (fresh_line usual) { units = record { service = Call; tei = 127; contents = 0xAB ∷ [] } ∷ [] }
-
 abbrev none_may : Card
 none_may = record { config = record usual { lines = 0; slots = 0 }; lines = with_unit ∷ [] }
 

@@ -1,6 +1,6 @@
 -- Worked values: a control frame that waits at a line of octets, and the pulls by which it is heard.
-use Rattle.std.specs.Prelude.{◌≡◌, ℕ, ◌+◌, true, List, [], ◌∷◌, ◌++◌, replicate, refl}
-use Rattle.laws_line.specs.WorkedWords.{Network, Call, command, Sabme, Config, link_at, Assign, Establish, most_frames_before}
+use Rattle.std.specs.Prelude.{◌≡◌, ℕ, ◌+◌, true, List, [], ◌∷◌, replicate, refl}
+use Rattle.laws_line.specs.WorkedWords.{Call, command, Sabme, link_at, Assign, Establish, most_frames_before}
 use Rattle.lapd_tei.specs.Events as teis
 use Rattle.model_bits.specs.Bits.{low_bits}
 use Rattle.model_bits.specs.Stream as stream
@@ -13,7 +13,7 @@ use Rattle.model_card.specs.ports.Pulls.{most_pulls_behind}
 use Rattle.model_card.specs.ports.Run.{after_all}
 use Rattle.laws_line.specs.WorkedPolled.{small}
 use Rattle.laws_line.specs.card.WaitingIsHeard.{IsHeardSince}
-use Rattle.laws_line.specs.card.WorkedCard.{usual}
+use Rattle.laws_line.specs.card.Worked.{usual}
 
 -- At most 23,370 pulls, with 71 frames before the one that waits and one behind it, each of the longest; and on the least card 178.
 most_pulls : most_pulls_behind usual.n201 (most_frames_before usual + 1) ≡ 23370

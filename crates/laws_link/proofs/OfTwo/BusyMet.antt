@@ -1,6 +1,6 @@
 -- The premises of the laws on an end that is busy itself are met: by a link where own busy has begun, and by the worked run in
 -- which RNR and all frames are lost.
-use Rattle.laws_link.proofs.Vocabulary.{ℕ, true, false, List, [], ◌∷◌, length, refl, arith, ltb-true, leb-true, seq, distance_of, named, supervisory_of, unnumbered_of, control_of, header_of, reading, Information, ReceiveNotReady, Parts, frame_of, command, response, Data, SetBusy, frame, Event, received, requested, offer, after_all, Ends, asks, sends, receives, Doing, at_near, at_far, doing_all, StayUp, sound-all, usual, up, both, StayAhead, IsTaken, HasUnsent, IsSilent, IsSilentWith, HasMissing, IsBusyItself, IsOpenItself, IsDropped, busy_losing, busy_cut_off, near_dropped, far_dropped}
+use Rattle.laws_link.proofs.Vocabulary.{ℕ, true, false, List, [], ◌∷◌, length, refl, arith, ltb-true, leb-true, seq, distance_of, named, supervisory_of, unnumbered_of, control_of, header_of, reading, Information, ReceiveNotReady, Parts, frame_of, command, response, Data, SetBusy, frame, Event, received, requested, offer, after_all, Ends, asks, sends, receives, Doing, at_near, at_far, doing_all, StayUp, sound-all, usual_terms, up, both, StayAhead, IsTaken, HasUnsent, IsSilent, IsSilentWith, HasMissing, IsBusyItself, IsOpenItself, IsDropped, busy_losing, busy_cut_off, near_dropped, far_dropped}
 use Rattle.laws_link.proofs.OfTwo.Premises.{begins}
 use Rattle.laws_link.proofs.OfTwo.PremisesMet.{by-test, stay_ahead, mild, mild_act, mild_request}
 use Rattle.laws_link.proofs.OfTwo.Together.{all-stay_up}
@@ -48,11 +48,11 @@ busy_now = doing_all begun both
 
 pub is-busy : IsBusyItself busy_now.near
 unfolding seq distance_of named reading header_of control_of unnumbered_of supervisory_of after_all doing_all
-is-busy = search (begins.ranges, sound-all usual begins.ranges (requested SetBusy false ∷ offer ∷ []) up begins.sound)
+is-busy = search (begins.ranges, sound-all usual_terms begins.ranges (requested SetBusy false ∷ offer ∷ []) up begins.sound)
 
 pub is-open : IsOpenItself busy_now.far
 unfolding seq distance_of named reading header_of control_of unnumbered_of supervisory_of after_all doing_all
-is-open = search (begins.ranges, sound-all usual begins.ranges (received (frame (frame_of usual (response (ReceiveNotReady (seq 0) false)))) ∷ []) up begins.sound)
+is-open = search (begins.ranges, sound-all usual_terms begins.ranges (received (frame (frame_of usual_terms (response (ReceiveNotReady (seq 0) false)))) ∷ []) up begins.sound)
 
 pub is-taken : IsTaken busy_now.near busy_now.far
 unfolding seq distance_of named reading header_of control_of unnumbered_of supervisory_of after_all doing_all
@@ -71,18 +71,18 @@ abbrev asks_for : ℕ → Event
 asks_for n = requested (Data (n ∷ [])) false
 
 abbrev sent_first : ℕ → Parts
-sent_first n = record (frame_of usual (command (Information (seq 0) (seq 0) false))) { info = n ∷ [] }
+sent_first n = record (frame_of usual_terms (command (Information (seq 0) (seq 0) false))) { info = n ∷ [] }
 
 abbrev dropping : ℕ → ℕ → List Event
 dropping theirs own = requested SetBusy false ∷ offer ∷ received (frame (sent_first theirs)) ∷ asks_for own ∷ []
 
 pub near-busy : IsBusyItself near_dropped.near
 unfolding seq distance_of named reading header_of control_of unnumbered_of supervisory_of after_all doing_all
-near-busy = search (begins.ranges, sound-all usual begins.ranges (dropping 4 1) up begins.sound)
+near-busy = search (begins.ranges, sound-all usual_terms begins.ranges (dropping 4 1) up begins.sound)
 
 pub far-open : IsOpenItself near_dropped.far
 unfolding seq distance_of named reading header_of control_of unnumbered_of supervisory_of after_all doing_all
-far-open = search (begins.ranges, sound-all usual begins.ranges (asks_for 4 ∷ offer ∷ []) up begins.sound)
+far-open = search (begins.ranges, sound-all usual_terms begins.ranges (asks_for 4 ∷ offer ∷ []) up begins.sound)
 
 pub near-taken : IsTaken near_dropped.near near_dropped.far
 unfolding seq distance_of named reading header_of control_of unnumbered_of supervisory_of after_all doing_all
@@ -98,11 +98,11 @@ near-unsent = leb-true (length near_dropped.near.link.contents) 1 refl
 
 pub far-busy : IsBusyItself far_dropped.far
 unfolding seq distance_of named reading header_of control_of unnumbered_of supervisory_of after_all doing_all
-far-busy = search (begins.ranges, sound-all usual begins.ranges (dropping 1 4) up begins.sound)
+far-busy = search (begins.ranges, sound-all usual_terms begins.ranges (dropping 1 4) up begins.sound)
 
 pub near-open : IsOpenItself far_dropped.near
 unfolding seq distance_of named reading header_of control_of unnumbered_of supervisory_of after_all doing_all
-near-open = search (begins.ranges, sound-all usual begins.ranges (asks_for 1 ∷ offer ∷ []) up begins.sound)
+near-open = search (begins.ranges, sound-all usual_terms begins.ranges (asks_for 1 ∷ offer ∷ []) up begins.sound)
 
 pub far-taken : IsTaken far_dropped.far far_dropped.near
 unfolding seq distance_of named reading header_of control_of unnumbered_of supervisory_of after_all doing_all

@@ -1,11 +1,11 @@
 -- Worked values: the loss of the third of seven frames between two links, and its recovery by REJ.
 use Rattle.std.specs.Prelude.{◌≡◌, ℕ, false, List, [], ◌∷◌, ◌++◌, length, replicate, refl}
-use Rattle.laws_link.specs.WorkedWords.{seq, distance_of, named, supervisory_of, unnumbered_of, control_of, header_of, reading, Data, after_all, Ends, asks, sends, receives, loses, Doing, at_near, at_far, doing_all, usual, up}
+use Rattle.laws_link.specs.WorkedWords.{seq, distance_of, named, supervisory_of, unnumbered_of, control_of, header_of, reading, Data, after_all, Ends, asks, sends, receives, loses, Doing, at_near, at_far, doing_all, usual_terms, up}
 
 abbrev pub both : Ends
 both = record {
-  near = record { terms = usual; link = up; way = []; delivered = [] };
-  far = record { terms = usual; link = up; way = []; delivered = [] };
+  near = record { terms = usual_terms; link = up; way = []; delivered = [] };
+  far = record { terms = usual_terms; link = up; way = []; delivered = [] };
 }
 
 abbrev asked : ℕ → Doing

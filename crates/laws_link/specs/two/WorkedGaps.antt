@@ -1,9 +1,9 @@
 -- Worked values: I-frames out of sequence, and REJ.
 use Rattle.std.specs.Prelude.{◌≡◌, ℕ, ◌*◌, false, List, [], ◌∷◌, refl}
-use Rattle.laws_link.specs.WorkedWords.{seq, distance_of, named, Reject, supervisory_of, unnumbered_of, control_of, header_of, reading, ControlFrame, Event, response, after_all, usual, comes, up}
+use Rattle.laws_link.specs.WorkedWords.{seq, distance_of, named, Reject, supervisory_of, unnumbered_of, control_of, header_of, reading, ControlFrame, Event, response, after_all, usual_terms, comes, up}
 
 abbrev waits_after : List Event → List ControlFrame
-waits_after es = (after_all usual es up).waiting
+waits_after es = (after_all usual_terms es up).waiting
 
 -- An I-frame with this N(S), and P=0.
 abbrev information : ℕ → Event

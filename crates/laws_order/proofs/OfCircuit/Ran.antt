@@ -12,9 +12,9 @@ unfoldable use Rattle.model_card.specs.Run.{moments as frame_moments}
 use Rattle.model_card.specs.ports.Card.{fresh}
 unfoldable use Rattle.model_card.specs.ports.Card.{after, meant}
 use Rattle.model_card.specs.ports.Event.{Event, at}
-use Rattle.model_card.specs.ports.HeardOctets as ports
+use Rattle.model_card.specs.ports.HeardOctets.{HearsOctets}
 unfoldable use Rattle.model_card.specs.ports.Run.{after_all, meant_all}
-use Rattle.model_card.specs.ports.Sound.{IsSound}
+use Rattle.model_card.specs.ports.Sound.{IsSoundOctetCard}
 use Rattle.laws_trace.specs.Trace as traces
 use Rattle.laws_order.specs.circuit.Circuit.{Termination, port_of, happens}
 
@@ -48,14 +48,11 @@ IsExact (line.hears e) = HasOctets e
 IsExact (line.request r) = AreOctets (contents_given r)
 IsExact other = Unit {0}
 
-same-octets : (e : StreamEvent) → ports.HasOctets e → HasOctets e
-same-octets e h = grind arith
-
-heard-exact : (number : ℕ) (o : Option StreamEvent) → All (λ (e : frames.Event). ports.HearsOctets e.what) (option_to_list (option_map (frames.at number) (option_map line.hears o)) ++ [])
+heard-exact : (number : ℕ) (o : Option StreamEvent) → All (λ (e : frames.Event). HearsOctets e.what) (option_to_list (option_map (frames.at number) (option_map line.hears o)) ++ [])
     → All IsExact (option_to_list (option_map line.hears o))
 heard-exact number None h = All-nil IsExact
 heard-exact number (Some e) h =
-    All-cons IsExact (line.hears e) [] (same-octets e (All-head (λ (e : frames.Event). ports.HearsOctets e.what) (frames.at number (line.hears e)) [] h)) (All-nil IsExact)
+    All-cons IsExact (line.hears e) [] (All-head (λ (e : frames.Event). HearsOctets e.what) (frames.at number (line.hears e)) [] h) (All-nil IsExact)
 
 meaning-exact : (m : OctetCard) (number : ℕ) (what : PortEvent) → AsksOctets what → All IsExact (option_to_list (port_meant m.card.config.n201 what (port_at number m)))
 unfolding meant meant_all
@@ -112,7 +109,7 @@ module _ (c : Config) (ranged : IsInRange c) (s : Termination) (h : Ran c s) whe
   reached : IsReached s.card
   reached = subst IsReached (sym h.is) (reached_after_all (fresh c) h.events (reached_fresh c ranged) h.at_lines)
 
-  pub sound : IsSound s.card
+  pub sound : IsSoundOctetCard s.card
   sound = reached_sound s.card reached
 
   pub within-ports : s.line < length s.card.ports

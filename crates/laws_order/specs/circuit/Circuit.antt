@@ -7,7 +7,7 @@ use Rattle.model_card.specs.ports.Card.{OctetCard, port_at, after, answer}
 use Rattle.model_card.specs.ports.Codec.{octet_pulled}
 use Rattle.model_card.specs.ports.Event.{at}
 use Rattle.model_card.specs.ports.Port.{Port, Event, octet, expiry, request, pull, Answer, told, refused, pulled}
-use Rattle.laws_wire.specs.Wire.{without_orders, contents_of}
+use Rattle.laws_wire.specs.Wire.{without_orders, contents_requested}
 
 -- A card at one end of the circuit, which is at one of its lines; the octets that its pulls gave and that the other end has
 -- not heard yet, the oldest first; the contents that its layer 3 asked to send and was granted; and what its layer 3 was told.
@@ -35,7 +35,7 @@ unless_refused (pulled value begun orders) contents = []
 abbrev pub contents_in : Event → List (List ℕ)
 contents_in (octet value) = []
 contents_in (expiry timer) = []
-contents_in (request r) = contents_of r
+contents_in (request r) = contents_requested r
 contents_in pull = []
 
 -- Something happens at an end: an event at its line, which its card answers.

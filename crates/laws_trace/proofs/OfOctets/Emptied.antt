@@ -8,7 +8,7 @@ use Rattle.model_card.proofs.CardSound as card_sound
 use Rattle.laws_trace.proofs.Drained.{drained}
 use Rattle.model_card.specs.ports.Pulls as pulls
 use Rattle.model_card.specs.ports.Run.{IsAtLine}
-use Rattle.model_card.specs.ports.Sound.{IsSound}
+use Rattle.model_card.specs.ports.Sound.{IsSoundOctetCard}
 use Rattle.model_card.proofs.OfPorts.Sound.{always_sound}
 
 -- what events mean behind others
@@ -127,7 +127,7 @@ module _ (c : Config) (events : List Event) (number : ℕ) (ranged : IsInRange c
   pub few : number < m.card.config.lines
   few = subst (λ (x : Config). number < x.lines) (sym same) within
 
-  pub sound : IsSound m
+  pub sound : IsSoundOctetCard m
   sound = always_sound (fresh c) h.before (fresh_octets_sound c ranged) before_lines
 
   pub only : AreTakesAt number calls

@@ -1,5 +1,5 @@
 -- Pulls of a line are calls for its next frame, and by them the bits that are left of it run out.
-use Rattle.model_card.proofs.OfPorts.Vocabulary.{◌≡◌, ◌==◌, ◌&&◌, ℕ, ◌+◌, ◌*◌, ◌/◌, ◌<◌, ◌≤◌, ◌⊎◌, Bool, true, false, List, [], ◌∷◌, ◌++◌, length, Option, None, Some, option_map, option_to_list, refl, sym, ap, subst, cond, arith, inl, inr, cases_lt, eqb-true, ltb-true, mul-le-mul_right, length-append, length-drop, length-bits, length-check, All, All-nil, All-cons, All-head, All-tail, All-append, bits, stuffed, Item, item_text, item_octets, Config, Event, IsSound, IsTextOf, IsAtLine, AreAtLines, OctetCard, Port, after, after_all, fresh, fresh_port, given_in, is_due, item_of, left_of, meant, meant_all, port_at, pull, said, with_item, with_octet}
+use Rattle.model_card.proofs.OfPorts.Vocabulary.{◌≡◌, ◌==◌, ◌&&◌, ℕ, ◌+◌, ◌*◌, ◌/◌, ◌<◌, ◌≤◌, ◌⊎◌, Bool, true, false, List, [], ◌∷◌, ◌++◌, length, Option, None, Some, option_map, option_to_list, refl, sym, ap, subst, cond, arith, inl, inr, cases_lt, eqb-true, ltb-true, mul-le-mul_right, length-append, length-drop, length-bits, length-check, All, All-nil, All-cons, All-head, All-tail, All-append, bits, stuffed, Item, item_text, item_octets, Config, Event, IsSoundOctetCard, IsTextOf, IsAtLine, AreAtLines, OctetCard, Port, after, after_all, fresh, fresh_port, given_in, is_due, item_of, left_of, meant, meant_all, port_at, pull, said, with_item, with_octet}
 use Rattle.model_line.specs.Event as line
 use Rattle.model_card.specs.Event as frames
 use Rattle.model_card.specs.ports.GoingOut.{OfEachLine}
@@ -121,7 +121,7 @@ port_spends : (n201 : ℕ) (e : port.Event) (p : Port) (ask : line.Event → lin
 port_spends n201 e p ask short h = grind (arith, call_counts, pull_is)
 
 -- at a card
-own_spends : (m : OctetCard) (e : Event) → IsSound m → IsAtLine m e
+own_spends : (m : OctetCard) (e : Event) → IsSoundOctetCard m → IsAtLine m e
     → Spent m.card.config.n201 (port_at e.line m) (port.after e.what (said e m) (port_at e.line m)) (cond (is_pull e.what) 1 0)
     (take_count (port.meant m.card.config.n201 e.what (port_at e.line m)))
 unfolding meant
@@ -134,7 +134,7 @@ calls-append number (f ∷ a) b = omega (arith, calls-append number a b)
 calls_where : (number n : ℕ) (o : Option line.Event) → takes_of number (option_to_list (option_map (frames.at n) o)) ≡ cond (n == number) (take_count o) 0
 calls_where number n o = grind arith
 
-event_spends : (m : OctetCard) (e : Event) (number : ℕ) → IsSound m → IsAtLine m e → number < m.card.config.lines
+event_spends : (m : OctetCard) (e : Event) (number : ℕ) → IsSoundOctetCard m → IsAtLine m e → number < m.card.config.lines
     → Spent m.card.config.n201 (port_at number m) (port_at number (after e m)) (cond ((e.line == number) && is_pull e.what) 1 0) (takes_of number (option_to_list (meant e m)))
 unfolding meant
 event_spends m e number s within few =
@@ -150,7 +150,7 @@ sum_spent : (a b c pulls more takes others longest : ℕ) → b + 8 * pulls ≤ 
     → c + 8 * (pulls + more) ≤ a + (takes + others) * longest
 sum_spent a b c pulls more takes others longest first later = omega (arith, first, later)
 
-run_spends : (m : OctetCard) (events : List Event) (number : ℕ) → IsSound m → AreAtLines m events → number < m.card.config.lines
+run_spends : (m : OctetCard) (events : List Event) (number : ℕ) → IsSoundOctetCard m → AreAtLines m events → number < m.card.config.lines
     → Spent m.card.config.n201 (port_at number m) (port_at number (after_all m events)) (pulls_of number events) (takes_of number (meant_all m events))
 unfolding after_all meant_all
 run_spends m [] number s within few = omega arith
@@ -173,7 +173,7 @@ run_spends m (e ∷ events) number s within few =
 more_calls : (left bits n takes longest : ℕ) → left + n * longest < bits → bits ≤ left + takes * longest → n < takes
 more_calls left bits n takes longest enough spent = grind (arith, mul-le-mul_right, cases_lt)
 
-enough_meanwhile : (m : OctetCard) (events : List Event) (number n : ℕ) → IsSound m → AreAtLines m events → number < m.card.config.lines
+enough_meanwhile : (m : OctetCard) (events : List Event) (number n : ℕ) → IsSoundOctetCard m → AreAtLines m events → number < m.card.config.lines
     → pulls_behind m.card.config.n201 (port_at number m) n ≤ pulls_of number events → n < takes_of number (meant_all m events)
 enough_meanwhile m events number n s within few enough =
     let longest = longest_text m.card.config.n201 in
@@ -201,7 +201,7 @@ calls_few number (f ∷ fs) = let rest = calls_few number fs in let one = go (f.
     go : (b take : Bool) → cond (b && take) 1 0 ≤ cond b 1 0
     go b take = grind arith
 
-enough_pulls : (m : OctetCard) (events : List Event) (number n : ℕ) → IsSound m → AreAtLines m events → number < m.card.config.lines → ArePullsAt number events
+enough_pulls : (m : OctetCard) (events : List Event) (number n : ℕ) → IsSoundOctetCard m → AreAtLines m events → number < m.card.config.lines → ArePullsAt number events
     → pulls_behind m.card.config.n201 (port_at number m) n ≤ pulls_at number events → n < takes_at number (meant_all m events)
 enough_pulls m events number n s within few h enough =
     let less = enough_meanwhile m events number n s within few (subst (λ k. pulls_behind m.card.config.n201 (port_at number m) n ≤ k) (sym (only_pulls number events h)) enough) in

@@ -1,6 +1,6 @@
 -- Cards of octets that are reached: one that begins is, events at its lines lead to others, and all of them are sound, and the
 -- cards of frames inside reached too.
-use Rattle.model_card.proofs.OfPorts.Vocabulary.{List, [], ◌∷◌, ◌++◌, refl, ap, sym, ◌∙◌, subst, All-nil, All-append, All-push, Config, IsInRange, Event, IsSound, IsAtLine, AreAtLines, OctetCard, after, after_all, fresh, meant_all, ◌≡◌}
+use Rattle.model_card.proofs.OfPorts.Vocabulary.{List, [], ◌∷◌, ◌++◌, refl, ap, sym, ◌∙◌, subst, All-nil, All-append, All-push, Config, IsInRange, Event, IsSoundOctetCard, IsAtLine, AreAtLines, OctetCard, after, after_all, fresh, meant_all, ◌≡◌}
 use Rattle.model_card.specs.Reached as cards
 use Rattle.model_card.specs.ports.Reached.{IsReached}
 use Rattle.model_card.proofs.OfPorts.Codec.{all_below, refined_card}
@@ -31,8 +31,8 @@ pub reached_after : (m : OctetCard) (e : Event) → IsReached m → IsAtLine m e
 unfolding after_all
 reached_after m e r within = reached_after_all m (e ∷ []) r (All-push (IsAtLine m) [] e (All-nil (IsAtLine m)) within)
 
-pub reached_sound : (m : OctetCard) → IsReached m → IsSound m
-reached_sound m r = subst IsSound (sym r.same) (always_sound (fresh m.card.config) r.events (fresh_octets_sound m.card.config r.config) r.at_lines)
+pub reached_sound : (m : OctetCard) → IsReached m → IsSoundOctetCard m
+reached_sound m r = subst IsSoundOctetCard (sym r.same) (always_sound (fresh m.card.config) r.events (fresh_octets_sound m.card.config r.config) r.at_lines)
 
 pub frames_reached : (m : OctetCard) → IsReached m → cards.IsReached m.card
 frames_reached m r =

@@ -1,5 +1,5 @@
 -- A card of octets is sound as it begins, and each event keeps it so.
-use Rattle.model_card.proofs.OfPorts.Vocabulary.{◌≡◌, ℕ, ◌+◌, ◌≤◌, ◌<◌, Bool, true, false, List, [], ◌∷◌, length, Option, None, Some, IfSome, option_map, option_map_or, refl, ap, sym, ◌∙◌, subst, cond, arith, length-replicate, All, All-get_or, All-head, All-nil, All-push, All-replicate, All-set, All-tail, Item, item_octets, IsInRange, Config, Card, CardsStaySound, Event, IsSound, IsSoundPort, IsAtLine, AreAtLines, OctetCard, Port, after, after_all, card_after, fresh, fresh_port, given_in, is_due, item_of, meant, port_at, pull, said, with_item, with_octet}
+use Rattle.model_card.proofs.OfPorts.Vocabulary.{◌≡◌, ℕ, ◌+◌, ◌≤◌, ◌<◌, Bool, true, false, List, [], ◌∷◌, length, Option, None, Some, IfSome, option_map, option_map_or, refl, ap, sym, ◌∙◌, subst, cond, arith, length-replicate, All, All-get_or, All-head, All-nil, All-push, All-replicate, All-set, All-tail, Item, item_octets, IsInRange, Config, Card, CardsStaySound, Event, IsSoundOctetCard, IsSoundPort, IsAtLine, AreAtLines, OctetCard, Port, after, after_all, card_after, fresh, fresh_port, given_in, is_due, item_of, meant, port_at, pull, said, with_item, with_octet}
 use Rattle.model_card.specs.Card.{line_at}
 use Rattle.model_card.specs.Event as frames
 use Rattle.model_card.specs.Sound as cards
@@ -55,14 +55,14 @@ card_sound : (card : Card) (number : ℕ) (o : Option line.Event) → cards.IsSo
 card_sound card number None s within = s
 card_sound card number (Some f) s within = after_is_sound card (frames.at number f) s within
 
-pub port_sound : (m : OctetCard) (number : ℕ) → IsSound m → number < m.card.config.lines → IsSoundPort m.card.config.n201 (port_at number m)
+pub port_sound : (m : OctetCard) (number : ℕ) → IsSoundOctetCard m → number < m.card.config.lines → IsSoundPort m.card.config.n201 (port_at number m)
 port_sound m number s within = All-get_or (IsSoundPort m.card.config.n201) m.ports number fresh_port (omega (arith, s.count, within)) s.ports
 
-own_port_sound : (m : OctetCard) (e : Event) → IsSound m → IsAtLine m e → IsSoundPort m.card.config.n201 (port.after e.what (said e m) (port_at e.line m))
+own_port_sound : (m : OctetCard) (e : Event) → IsSoundOctetCard m → IsAtLine m e → IsSoundPort m.card.config.n201 (port.after e.what (said e m) (port_at e.line m))
 unfolding meant
 own_port_sound m e s within = grind (arith, port_sound, own_port, said_is, sizes_after, asked_at, gives_short)
 
-pub octets_keep_sound : (m : OctetCard) (e : Event) → IsSound m → IsAtLine m e → IsSound (after e m)
+pub octets_keep_sound : (m : OctetCard) (e : Event) → IsSoundOctetCard m → IsAtLine m e → IsSoundOctetCard (after e m)
 unfolding after meant
 octets_keep_sound m e s within =
     let c = m.card.config in
@@ -78,7 +78,7 @@ octets_keep_sound m e s within =
 pub at_lines_after : (m : OctetCard) (e : Event) (events : List Event) → AreAtLines m events → AreAtLines (after e m) events
 at_lines_after m e events all = subst (λ (c : Config). All (λ (x : Event). x.line < c.lines) events) (sym (config_after m e)) all
 
-pub always_sound : (m : OctetCard) (events : List Event) → IsSound m → AreAtLines m events → IsSound (after_all m events)
+pub always_sound : (m : OctetCard) (events : List Event) → IsSoundOctetCard m → AreAtLines m events → IsSoundOctetCard (after_all m events)
 unfolding after_all
 always_sound m [] s within = s
 always_sound m (e ∷ events) s within =
@@ -88,7 +88,7 @@ always_sound m (e ∷ events) s within =
 fresh_port_sound : (n201 : ℕ) → IsSoundPort n201 fresh_port
 fresh_port_sound n201 = record { text = record { text = refl }; sizes = All-nil (IsShort n201) }
 
-pub fresh_octets_sound : (c : Config) → IsInRange c → IsSound (fresh c)
+pub fresh_octets_sound : (c : Config) → IsInRange c → IsSoundOctetCard (fresh c)
 fresh_octets_sound c ranged = record {
   card = fresh_is_sound c ranged;
   count = length-replicate c.lines fresh_port;

@@ -1,5 +1,5 @@
 -- The octets stored, and their limit.
-use Rattle.model_card.proofs.OfPorts.Vocabulary.{ℕ, ◌+◌, ◌*◌, ◌≤◌, List, [], ◌∷◌, length, nat_lt, subst, arith, ltb-false, All, All-head, All-tail, sum_by, sum_by-cons, Config, kept_count, room_for, item_octets, last_octets, Item, Port, OctetCard, IsSound, IsSoundPort, held_at, held_received, held_sent, limit, limit_of_port, stored, StoredWithinLimit}
+use Rattle.model_card.proofs.OfPorts.Vocabulary.{ℕ, ◌+◌, ◌*◌, ◌≤◌, List, [], ◌∷◌, length, nat_lt, subst, arith, ltb-false, All, All-head, All-tail, sum_by, sum_by-cons, Config, kept_count, room_for, item_octets, last_octets, Item, Port, OctetCard, IsSoundOctetCard, IsSoundPort, held_at, held_received, held_sent, limit, limit_of_port, stored, StoredWithinLimit}
 use Rattle.model_card.proofs.Stored as cards
 use Rattle.model_card.proofs.OfPorts.Sound.{always_sound}
 use Rattle.model_card.proofs.OfPorts.Steps.{config_stays}
@@ -28,7 +28,7 @@ held_few c (p ∷ ports) all =
     let rest = held_few c ports (All-tail (IsSoundPort c.n201) p ports all) in
     rw sum_by-cons (omega (arith, received_few c.n201 p, sent_few c.n201 p s, rest))
 
-stored_now : (m : OctetCard) → IsSound m → stored m ≤ limit m.card.config
+stored_now : (m : OctetCard) → IsSoundOctetCard m → stored m ≤ limit m.card.config
 stored_now m s =
     let c = m.card.config in
     let ports = subst (λ n. sum_by (held_at c.n201) m.ports ≤ n * limit_of_port c) s.count (held_few c m.ports s.ports) in

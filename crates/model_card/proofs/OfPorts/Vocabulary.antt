@@ -47,7 +47,7 @@ pub use Rattle.model_card.specs.ports.Laws.{CardsStaySound, DropsAreWithoutEffec
 pub use Rattle.model_card.specs.ports.Port.{Answer, Port, answer_of, fresh_port, gained, is_due, item_of, left_of, next_octet, octet, pull, told, with_item, with_octet}
 pub use Rattle.model_card.specs.ports.Run.{AreAtLines, IsAtLine, Moment, Run}
 unfoldable pub use Rattle.model_card.specs.ports.Run.{after_all, meant_all, moments}
-pub use Rattle.model_card.specs.ports.Sound.{IsSound, IsSoundPort}
+pub use Rattle.model_card.specs.ports.Sound.{IsSoundOctetCard, IsSoundPort}
 pub use Rattle.model_card.specs.ports.Stored.{held_at, held_received, held_sent, limit, limit_of_port, stored}
 pub use Rattle.model_card.specs.ports.Whole.{IsIdle, fault_octets, filled, filling, line_octets}
 pub use Rattle.model_card.specs.ports.WholeLaws.{AreHeardAs, FramesAreHeard}

@@ -9,7 +9,7 @@ use Rattle.model_card.specs.ports.Drops.{AreDropsWithoutCost, AreDropsWithoutEff
 use Rattle.model_card.specs.ports.Event.{Event}
 use Rattle.model_card.specs.ports.Promises.{IsWithinLimit, HasSixOctetsAFrame, HasSevenOctetsAReject, IsLinear, IsIsolated}
 use Rattle.model_card.specs.ports.Run.{Moment, run, moments, after_all, AreAtLines}
-use Rattle.model_card.specs.ports.Sound.{IsSound}
+use Rattle.model_card.specs.ports.Sound.{IsSoundOctetCard}
 
 -- A run as one fold is its moments.
 abbrev pub reply_of : Moment → ℕ × Answer
@@ -25,16 +25,16 @@ OctetsAreACodec = (m : OctetCard) (events : List Event) → length m.ports ≡ m
 
 -- A card of octets is sound as it begins, and stays so.
 pub record CardsStaySound : Type 0 where
-  pub begins : (c : Config) → IsInRange c → IsSound (fresh c)
-  pub always : (m : OctetCard) (events : List Event) → IsSound m → AreAtLines m events → IsSound (after_all m events)
+  pub begins : (c : Config) → IsInRange c → IsSoundOctetCard (fresh c)
+  pub always : (m : OctetCard) (events : List Event) → IsSoundOctetCard m → AreAtLines m events → IsSoundOctetCard (after_all m events)
 
 -- It never stores more octets than its limit.
 abbrev pub StoredWithinLimit : Type 0
-StoredWithinLimit = (m : OctetCard) (events : List Event) → IsSound m → AreAtLines m events → IsWithinLimit m events
+StoredWithinLimit = (m : OctetCard) (events : List Event) → IsSoundOctetCard m → AreAtLines m events → IsWithinLimit m events
 
 -- What is dropped costs nothing, is all that is told, and changes nothing but the octets received.
 pub record DropsAreWithoutEffect : Type 0 where
-  pub cost : (m : OctetCard) (events : List Event) → IsSound m → AreAtLines m events → AreDropsWithoutCost m events
+  pub cost : (m : OctetCard) (events : List Event) → IsSoundOctetCard m → AreAtLines m events → AreDropsWithoutCost m events
   pub effect : (m : OctetCard) (events : List Event) → AreDropsWithoutEffect m events
 
 -- From a fresh card on a frame has six octets of its own at least, with its check and a flag, and an REJ seven; so the frames

@@ -98,9 +98,3 @@ answer (expiry timer) said p = option_map_or answer_of said (told nothing)
 answer (request r) said p = option_map_or answer_of said (told nothing)
 answer pull said p =
     pulled (next_octet (with_item said p)) (is_some (frame_begun said)) (option_map_or orders_with (frame_begun said) [])
-
--- The timer orders in an answer.
-abbrev pub orders_in : Answer → List Order
-orders_in (told t) = t.orders
-orders_in (refused why) = []
-orders_in (pulled value begun orders) = orders

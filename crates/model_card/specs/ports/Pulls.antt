@@ -8,7 +8,7 @@ use Rattle.model_card.specs.ports.GoingOut.{OfEachLine}
 use Rattle.model_card.specs.ports.Port as port
 use Rattle.model_card.specs.ports.Port.{Port, pull, left_of}
 use Rattle.model_card.specs.ports.Run.{after_all, meant_all, AreAtLines}
-use Rattle.model_card.specs.ports.Sound.{IsSound}
+use Rattle.model_card.specs.ports.Sound.{IsSoundOctetCard}
 
 -- What happens at a line are pulls; at the others anything may. And how many they are.
 abbrev pub ArePullsAt : ℕ → List Event → Type 0
@@ -52,9 +52,9 @@ HasFewBehind c events number = (n : ℕ) → pulls_behind c.n201 (port_at number
 pub record PullsAreTakes : Type 0 where
   pub only : (m : OctetCard) (events : List Event) (number : ℕ) → ArePullsAt number events → AreTakesAt number (meant_all m events)
   pub few : (m : OctetCard) (events : List Event) (number : ℕ) → takes_at number (meant_all m events) ≤ pulls_at number events
-  pub enough : (m : OctetCard) (events : List Event) (number n : ℕ) → IsSound m → AreAtLines m events → number < m.card.config.lines → ArePullsAt number events →
+  pub enough : (m : OctetCard) (events : List Event) (number n : ℕ) → IsSoundOctetCard m → AreAtLines m events → number < m.card.config.lines → ArePullsAt number events →
       pulls_behind m.card.config.n201 (port_at number m) n ≤ pulls_at number events → n < takes_at number (meant_all m events)
-  pub meanwhile : (m : OctetCard) (events : List Event) (number n : ℕ) → IsSound m → AreAtLines m events → number < m.card.config.lines →
+  pub meanwhile : (m : OctetCard) (events : List Event) (number n : ℕ) → IsSoundOctetCard m → AreAtLines m events → number < m.card.config.lines →
       pulls_behind m.card.config.n201 (port_at number m) n ≤ pulls_of number events → n < takes_of number (meant_all m events)
   pub left : OfEachLine HasFewLeft
   pub most : OfEachLine HasFewBehind

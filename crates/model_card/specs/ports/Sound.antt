@@ -11,7 +11,7 @@ pub record IsSoundPort (n201 : ℕ) (p : Port) : Type 0 where
   pub text : IsTextOf p
   pub sizes : All (λ item. item_octets item ≤ n201 + 4) p.items
 
-pub record IsSound (m : OctetCard) : Type 0 where
+pub record IsSoundOctetCard (m : OctetCard) : Type 0 where
   pub card : cards.IsSound m.card
   pub count : length m.ports ≡ m.card.config.lines
   pub ports : All (IsSoundPort m.card.config.n201) m.ports

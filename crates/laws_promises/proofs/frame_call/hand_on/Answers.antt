@@ -1,5 +1,5 @@
 -- Hand-written answers for `hand_on`.
-use Rattle.laws_promises.proofs.Vocabulary.{◌<◌, refl, ap, arith, Card, Stands}
+use Rattle.laws_promises.proofs.Vocabulary.{◌<◌, refl, ap, arith, Card, FrameStands}
 use Rattle.std.specs.Prelude.{Result, OnOk, OnErr}
 use Rattle.lapd_card.specs.FrameCard.{Held, room_for_frames}
 use Rattle.model_line.proofs.Ranges.{ranges_of}
@@ -15,7 +15,7 @@ on_err r P p = grind arith
 pub returns-in-Err : goal.returns-in-Err
 returns-in-Err g c =
     let small : 264 < room_for_frames c.args.card.now = c.in-Err.ensures.refused.0 refl in
-    let none : (m : Card) → Stands g.S.Shelf.store c.args.card.now m → ⊥ =
+    let none : (m : Card) → FrameStands g.S.Shelf.store c.args.card.now m → ⊥ =
     λ m s. let few = (ranges_of m.config s.reached.config).n201.most in omega (arith, small, few, ap (λ d. d.n201) s.config) in
     record {
       leads = record { config = ap (λ (card : Held g.row.S.Denot). card.config) c.in-Err.ensures.unchanged; stands = λ m s. absurd (none m s); counted = λ m s. absurd (none m s) };

@@ -9,6 +9,7 @@ use Rattle.lapd_line.specs.Reports.{octets_of}
 use Rattle.lapd_line.proofs.PortSteps.{nothing_heard, is_dropped}
 use Rattle.lapd_card.specs.Card.{line_count}
 use Rattle.lapd_card.specs.FrameStands as frame
+use Rattle.lapd_card.specs.FrameStands.{FrameStands}
 use Rattle.lapd_card.proofs.OnePort.{port-there, port-in, port_put, told_if_there, seen, stood, past_after}
 use Rattle.lapd_card.proofs.OneOctet.{LeadsIfHeard, Tells, if_leads, if_tells, ended_something, octet_leads, octet_told, priced}
 use Rattle.lapd_card.proofs.card.Card.hear.Goals as goal
@@ -50,7 +51,7 @@ pub heard-requires-in-Frame : goal.heard-requires-in-Frame
 heard-requires-in-Frame g c = record { clear = c.nothing-bare-in-Frame.ensures; within = (subst (λ d. c.args.line < line_count d) (sym c.self.view_is) c.requires); something = subst (λ h. IsSome h) (sym (c.latest.ensures ∙ ap latest_in (port_put c.self.inside.ports.items c.args.line c.octet.new.self c.index.result.now (port-in g.S.Shelf.store c.self.invariant c.self.view_is c.requires) c.index.ensures))) (ended_something (latest_in c.octet.new.self) c.octet.ensures.told c.in-Frame.is) }
 
 pub returns-in-Frame-clause-told : goal.returns-in-Frame-clause-told
-returns-in-Frame-clause-told g c = λ m s. ap port.told (told_if_there c.self.inside.ports.items c.args.line c.octet.new.self (Some c.heard-in-Frame.new.report) (port-in g.S.Shelf.store c.self.invariant c.self.view_is c.requires)) ∙ octet_told g.S.Shelf.store (record { past = c.self.invariant; within = (subst (λ d. c.args.line < line_count d) (sym c.self.view_is) c.requires); is = c.index_mut.ensures.value }) c.octet.ensures.gained c.octet.ensures.after (Some c.heard-in-Frame.new.report) (if_tells g.S.Shelf.store c.args.line c.self.inside.frames c.heard-in-Frame.new.report (latest_in c.octet.new.self) (ended_something (latest_in c.octet.new.self) c.octet.ensures.told c.in-Frame.is) (subst (λ h. IfSome h (λ e. (m : Card) → frame.Stands g.S.Shelf.store c.self.inside.frames m → line.told (told_in (octets_of h) c.heard-in-Frame.new.report) ≡ answer (frames.at c.args.line (line.hears e)) m)) (c.latest.ensures ∙ ap latest_in (port_put c.self.inside.ports.items c.args.line c.octet.new.self c.index.result.now (port-in g.S.Shelf.store c.self.invariant c.self.view_is c.requires) c.index.ensures)) c.heard-in-Frame.ensures.told)) m (stood g.S.Shelf.store c.self.view_is m s)
+returns-in-Frame-clause-told g c = λ m s. ap port.told (told_if_there c.self.inside.ports.items c.args.line c.octet.new.self (Some c.heard-in-Frame.new.report) (port-in g.S.Shelf.store c.self.invariant c.self.view_is c.requires)) ∙ octet_told g.S.Shelf.store (record { past = c.self.invariant; within = (subst (λ d. c.args.line < line_count d) (sym c.self.view_is) c.requires); is = c.index_mut.ensures.value }) c.octet.ensures.gained c.octet.ensures.after (Some c.heard-in-Frame.new.report) (if_tells g.S.Shelf.store c.args.line c.self.inside.frames c.heard-in-Frame.new.report (latest_in c.octet.new.self) (ended_something (latest_in c.octet.new.self) c.octet.ensures.told c.in-Frame.is) (subst (λ h. IfSome h (λ e. (m : Card) → FrameStands g.S.Shelf.store c.self.inside.frames m → line.told (told_in (octets_of h) c.heard-in-Frame.new.report) ≡ answer (frames.at c.args.line (line.hears e)) m)) (c.latest.ensures ∙ ap latest_in (port_put c.self.inside.ports.items c.args.line c.octet.new.self c.index.result.now (port-in g.S.Shelf.store c.self.invariant c.self.view_is c.requires) c.index.ensures)) c.heard-in-Frame.ensures.told)) m (stood g.S.Shelf.store c.self.view_is m s)
 
 pub returns-in-Frame-clause-after : goal.returns-in-Frame-clause-after
 returns-in-Frame-clause-after g c = seen g.S.Shelf.store c.self.view_is (octet_leads g.S.Shelf.store (record { past = c.self.invariant; within = (subst (λ d. c.args.line < line_count d) (sym c.self.view_is) c.requires); is = c.index_mut.ensures.value }) c.octet.ensures.gained c.octet.ensures.after c.heard-in-Frame.new.self (if_leads g.S.Shelf.store c.args.line c.self.inside.frames c.heard-in-Frame.new.self (latest_in c.octet.new.self) (ended_something (latest_in c.octet.new.self) c.octet.ensures.told c.in-Frame.is) (subst (λ h. IfSome h (λ e. frame.Leads g.S.Shelf.store (frames.at c.args.line (line.hears e)) c.self.inside.frames c.heard-in-Frame.new.self)) (c.latest.ensures ∙ ap latest_in (port_put c.self.inside.ports.items c.args.line c.octet.new.self c.index.result.now (port-in g.S.Shelf.store c.self.invariant c.self.view_is c.requires) c.index.ensures)) c.heard-in-Frame.ensures.after)))

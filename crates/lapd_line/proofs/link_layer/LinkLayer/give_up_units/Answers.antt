@@ -1,5 +1,5 @@
 -- Hand-written answers for `LinkLayer::give_up_units`.
-use Rattle.lapd_line.proofs.Vocabulary.{subst, ◌∙◌, arith, drop, drop-drop, Stands}
+use Rattle.lapd_line.proofs.Vocabulary.{subst, ◌∙◌, arith, drop, drop-drop, LayerStands}
 use Rattle.lapd_line.proofs.GivingUp.{all_given_up}
 use Rattle.lapd_line.proofs.link_layer.LinkLayer.give_up_units.Goals as goal
 
@@ -15,7 +15,7 @@ loop-given_up-preserved g c =
         width = one.limits.width ∙ before.limits.width;
       };
       after = λ others m st.
-          subst (λ ds. Stands c.give_up_unit.new.self (g.S.Shelf.store c.give_up_unit.new.shelf) others (record m { units = ds })) (drop-drop 1 n m.units)
+          subst (λ ds. LayerStands c.give_up_unit.new.self (g.S.Shelf.store c.give_up_unit.new.shelf) others (record m { units = ds })) (drop-drop 1 n m.units)
           (one.after others (record m { units = drop n m.units }) (before.after others m st));
     }
 

@@ -7,14 +7,14 @@ use Rattle.lapd_frame.specs.Reading.{reading}
 use Rattle.model_line.specs.Heard.{heard_side}
 use Rattle.lapd_line.specs.LinkLayer.{aim_of_event}
 use Rattle.lapd_line.specs.Reports.{octets_of}
-use Rattle.lapd_line.proofs.Vocabulary.{◌≡◌, List, ℕ, Ok, drop, sym, ap, subst, ◌∙◌, Side, Parts, parts_of, Owned, Store, Line, Aim, aim_of_reading, message_of, at_side, LinkLayer, BareReport, Stands, Serves}
+use Rattle.lapd_line.proofs.Vocabulary.{◌≡◌, List, ℕ, Ok, drop, sym, ap, subst, ◌∙◌, Side, Parts, parts_of, Owned, Store, Line, Aim, aim_of_reading, message_of, at_side, LinkLayer, BareReport, LayerStands, Serves}
 use Rattle.model_link.specs.Events as link
 use Rattle.lapd_line.proofs.AddressSteps.{aimed, serves_as, serves_none, message_sided, managed_sapi}
 use Rattle.lapd_line.proofs.link_layer.LinkLayer.serve.Goals as goal
 
 -- what is heard is a frame, and is read so
 spelled : {aim : Line → Aim} {e new : LinkLayer} {s t : Store} {o : BareReport} (heard : Heard) (octets : Bor (List ℕ)) (side : Side) (parts : Parts) → heard ≡ Frame octets → side ≡ heard_side e.config
-    → Ok parts ≡ reading side octets.now → ((others : List Owned) (m : Line) → Stands e s others m → aim_of_reading e.config m (Ok parts) ≡ aim m)
+    → Ok parts ≡ reading side octets.now → ((others : List Owned) (m : Line) → LayerStands e s others m → aim_of_reading e.config m (Ok parts) ≡ aim m)
     → Serves aim octets.now e s new t o → Serves (aim_of_event e.config (heard_of heard)) (octets_of (heard_of heard)) e s new t o
 spelled {aim} {e} {new} {s} {t} {o} heard octets side parts is from read same served =
     subst (λ h. Serves (aim_of_event e.config (heard_of h)) (octets_of (heard_of h)) e s new t o) (sym is)

@@ -1,6 +1,6 @@
 -- Hand-written answers for `SlabShelfShelf::put`.
-use Rattle.lapd_store.proofs.Vocabulary.{◌≡◌, ◌+◌, ◌≤◌, ◌<◌, length, sym, ap, subst, ◌∙◌, arith, slab_store, IsSound, used_slots, contents_of, IsFree, with_contents}
-use Rattle.lapd_store.proofs.SlabLemmas.{octets_fit, IsFree-slab, IsSound-put, slab_store-put}
+use Rattle.lapd_store.proofs.Vocabulary.{◌≡◌, ◌+◌, ◌≤◌, ◌<◌, length, sym, ap, subst, ◌∙◌, arith, slab_store, IsSoundSlab, used_slots, contents_of, IsFree, with_contents}
+use Rattle.lapd_store.proofs.SlabLemmas.{octets_fit, IsFree-slab, IsSoundSlab-put, slab_store-put}
 use Rattle.lapd_store.proofs.StoreLemmas.{contents_of-with_contents}
 use Rattle.lapd_store.proofs.slab_shelf.SlabShelfShelf.put.Goals as goal
 
@@ -10,13 +10,13 @@ overflow_add-self c =
     omega (arith, octets_fit c.self.inside c.self.invariant (length c.args.octets.now) (omega (arith, fits, c.self.invariant.narrow)))
 
 -- the fields after the put are sound
-sound : (c : goal.After-self-1) → IsSound (record { contents = c.insert_copy-number.new.contents; octets = c.self.inside.octets + length c.args.octets.now; slots = c.self.inside.slots; width = c.self.inside.width })
+sound : (c : goal.After-self-1) → IsSoundSlab (record { contents = c.insert_copy-number.new.contents; octets = c.self.inside.octets + length c.args.octets.now; slots = c.self.inside.slots; width = c.self.inside.width })
 sound c =
     let count = subst (λ s. c.used.result ≡ used_slots s) (sym c.self.view_is) c.used.ensures.count in
     let room : used_slots (slab_store c.self.inside) < c.self.inside.slots = omega (arith, count, c.self.invariant.within.count, c.if-used-self.false) in
     let fits = subst (λ s. length c.args.octets.now ≤ s.width) (sym c.self.view_is) c.requires in
     let says = c.insert_copy-number.ensures in
-    IsSound-put c.self.inside c.self.invariant c.insert_copy-number.new.contents c.insert_copy-number.result c.args.octets.now room fits says.was_vacant says.updates says.len says.capacity
+    IsSoundSlab-put c.self.inside c.self.invariant c.insert_copy-number.new.contents c.insert_copy-number.result c.args.octets.now room fits says.was_vacant says.updates says.len says.capacity
 
 pub invariant_of-self : goal.invariant_of-self
 invariant_of-self c = sound c

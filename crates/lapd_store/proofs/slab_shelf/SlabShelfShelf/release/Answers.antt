@@ -1,6 +1,6 @@
 -- Hand-written answers for `SlabShelfShelf::release`.
-use Rattle.lapd_store.proofs.Vocabulary.{◌-◌, sym, ap, subst, ◌∙◌, arith, option_map, slab_store, IsSound, IsUsed}
-use Rattle.lapd_store.proofs.SlabLemmas.{contents_of-slab, ContainsKey-slab, IsSound-release, slab_store-release}
+use Rattle.lapd_store.proofs.Vocabulary.{◌-◌, sym, ap, subst, ◌∙◌, arith, option_map, slab_store, IsSoundSlab, IsUsed}
+use Rattle.lapd_store.proofs.SlabLemmas.{contents_of-slab, ContainsKey-slab, IsSoundSlab-release, slab_store-release}
 use Rattle.lapd_store.proofs.StoreLemmas.{stored_octets-without}
 use Rattle.lapd_store.proofs.slab_shelf.SlabShelfShelf.release.Goals as goal
 
@@ -16,12 +16,12 @@ overflow_sub-self c =
     omega (arith, less, c.len.ensures.value, c.self.invariant.measured)
 
 -- the fields after the release are sound
-sound : (c : goal.After-self-1) → IsSound (record { contents = c.remove-contents.new.self; octets = c.self.inside.octets - c.len.result; slots = c.self.inside.slots; width = c.self.inside.width })
+sound : (c : goal.After-self-1) → IsSoundSlab (record { contents = c.remove-contents.new.self; octets = c.self.inside.octets - c.len.result; slots = c.self.inside.slots; width = c.self.inside.width })
 sound c =
     let says = c.remove-contents.ensures in
     let held = contents_of-slab c.self.inside c.self.invariant c.slot.inside.number ∙ ap (option_map (λ v. v.items)) says.value in
     rw c.len.ensures.value
-    (IsSound-release c.self.inside c.self.invariant c.remove-contents.new.self c.slot.inside.number c.remove-contents.result.items held says.updates says.len says.capacity)
+    (IsSoundSlab-release c.self.inside c.self.invariant c.remove-contents.new.self c.slot.inside.number c.remove-contents.result.items held says.updates says.len says.capacity)
 
 pub invariant_of-self : goal.invariant_of-self
 invariant_of-self c = sound c

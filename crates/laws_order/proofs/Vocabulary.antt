@@ -121,7 +121,7 @@ pub use Rattle.model_card.specs.Machine.{wants_room, answer as card_answer}
 pub use Rattle.model_card.specs.ports.Card.{OctetCard, answer_to, card_after, port_at, said}
 pub use Rattle.model_card.specs.ports.Codec.{IsTextOf, frames_among, octet_pulled}
 pub use Rattle.model_card.specs.ports.GoingOut.{GoOut}
-pub use Rattle.model_card.specs.ports.HeardOctets.{HasOctets}
+pub use Rattle.model_bits.specs.StreamLaws.{HasOctets}
 pub use Rattle.model_card.specs.ports.Port.{Port, answer_of, fresh_port, gained, is_due, item_of, left_of, next_octet, with_item, with_octet, Event as PortEvent, after as port_after, expiry as port_expiry, meant as port_meant, octet as port_octet, pull as port_pull, request as port_request, told as port_told}
 pub use Rattle.model_card.specs.ports.Pulls.{longest_text}
 pub use Rattle.model_card.specs.ports.Run.{AreAtLines, IsAtLine}

@@ -171,7 +171,8 @@ unfoldable pub use Rattle.model_card.specs.ports.Card.{meant}
 pub use Rattle.model_card.specs.ports.Codec.{frame_moment, frames_among, frames_given, given_of, meant_in, octets_of}
 pub use Rattle.model_card.specs.ports.Event.{Event as PortsEvent}
 pub use Rattle.model_card.specs.ports.GoingOut.{OfEachLine, answer_of_call, as_octets, call_answered, calls_answered, frames_to_hear, octets_given}
-pub use Rattle.model_card.specs.ports.HeardOctets.{HasOctets, HearsOctets}
+pub use Rattle.model_bits.specs.StreamLaws.{HasOctets}
+pub use Rattle.model_card.specs.ports.HeardOctets.{HearsOctets}
 pub use Rattle.model_card.specs.ports.Port.{Port, answer_of, fresh_port, gained, is_due}
 pub use Rattle.model_card.specs.ports.Promises.{moments_meant}
 pub use Rattle.model_card.specs.ports.Pulls.{pulls_at, pulls_behind}

@@ -10,7 +10,7 @@ use crate::card_slot::CardSlot;
 use crate::kept::KeptCard;
 use crate::lend::or_answer;
 use crate::plain::{NO_CARD, NO_MEMORY, OK, PlainConfig, SECOND_START};
-use lapd_card::{AnyCard, Card, FrameCard, CardKind};
+use lapd_card::{AnyCard, Card, CardKind, FrameCard};
 use lapd_store::RawShelf;
 use model_line::Config;
 use std::alloc::Global;

@@ -1,5 +1,5 @@
 -- One step more of an exchange.
-use Rattle.lapd_c.proofs.Vocabulary.{◌≡◌, ℕ, suc, ◌+◌, ◌-◌, true, false, not, List, refl, sym, ap, ◌∙◌, subst, arith, meanings-count, octets-more, all_counted, moments, meant_all, Counters, Store, counters_in, OctetCard, PlainReport, ShowsReply, CardStands, shelf_of, is_quiet, step_event, steps_made, card_after, answer_after, with_step, given_after, AllQuiet}
+use Rattle.lapd_c.proofs.Vocabulary.{◌≡◌, ℕ, suc, ◌+◌, ◌-◌, true, false, not, List, refl, sym, ap, ◌∙◌, subst, arith, meanings-count, octets-more, all_counted, moments, meant_all, Counters, Store, counters_in, OctetCard, PlainReport, ShowsReply, CardStands, shelf_of, tells_nothing, step_event, steps_made, card_after, answer_after, with_step, given_after, AllQuiet}
 use Rattle.model_card.specs.ports.Card.{after, answer}
 use Rattle.model_card.specs.ports.Run.{Run}
 use Rattle.lapd_card.specs.Card.{Held}
@@ -40,7 +40,7 @@ module _ (line : ℕ) (taken : List ℕ) (from : ℕ) (m : OctetCard) where
   pub counted-to : (before after : List Counters) (n to : ℕ) → to ≡ from + n → after ≡ counted_after before n → after ≡ counted_after before (to - from)
   counted-to before after n to e counted = let less : n ≡ to - from = omega arith in counted ∙ ap (counted_after before) less
 
-  pub quiet-made : (n step : ℕ) → step ≡ from + n → AllQuiet line taken from n m → false ≡ not (is_quiet (answer (step_event line taken step) (card_after line taken from n m)))
+  pub quiet-made : (n step : ℕ) → step ≡ from + n → AllQuiet line taken from n m → false ≡ not (tells_nothing (answer (step_event line taken step) (card_after line taken from n m)))
       → AllQuiet line taken from (suc n) m
   unfolding AllQuiet
   quiet-made n step e h tells = grind arith
@@ -49,8 +49,8 @@ module _ (line : ℕ) (taken : List ℕ) (from : ℕ) (m : OctetCard) where
   unfolding AllQuiet
   quiet-none = tt
 
-  pub tells-made : (n step : ℕ) → step ≡ from + n → true ≡ not (is_quiet (answer (step_event line taken step) (card_after line taken from n m)))
-      → is_quiet (answer_after line taken from n m) ≡ false
+  pub tells-made : (n step : ℕ) → step ≡ from + n → true ≡ not (tells_nothing (answer (step_event line taken step) (card_after line taken from n m)))
+      → tells_nothing (answer_after line taken from n m) ≡ false
   tells-made n step e tells = grind arith
 
   pub shown-made : (n step : ℕ) (r : PlainReport) → step ≡ from + n → ShowsReply r (answer (step_event line taken step) (card_after line taken from n m))

@@ -19,7 +19,7 @@ pub use Rattle.core.specs.declared.alloc.Allocator.{Ghosts}
 pub use Rattle.lapd_c.specs.CardSlots.{HeldCard, card_owns, card_row}
 pub use Rattle.lapd_c.specs.Answers.{ShowsAnswer, ShowsReply}
 pub use Rattle.lapd_c.specs.ClockSlots.{HeldClock, clock_owns, heap}
-pub use Rattle.lapd_c.specs.Exchange.{answer_after, card_after, is_quiet, step_event, with_step}
+pub use Rattle.lapd_c.specs.Exchange.{answer_after, card_after, tells_nothing, step_event, with_step}
 unfoldable pub use Rattle.lapd_c.specs.Exchange.{AllQuiet, given_after, steps_made}
 pub use Rattle.lapd_c.specs.Frames.{comes, goes, next_at}
 pub use Rattle.lapd_card.specs.Kinds.{AnyStands, CardStands, FrameCardStands, Machine, alone, card_in, shelf_of, with_ports}

@@ -12,7 +12,6 @@ use Rattle.lapd_c.specs.Statuses.{ok}
 use Rattle.model_line.specs.Came.{came}
 use Rattle.model_line.specs.Event as line
 use Rattle.model_card.specs.Machine as machine
-use Rattle.model_card.specs.ports.Port as port
 use Rattle.lapd_card.specs.FrameCard as frames
 use Rattle.lapd_card.proofs.OneOctet.{none_leaves, none_counts}
 
@@ -22,7 +21,7 @@ comes_at i frame c m s = ap (λ (config : Config). at i (line.hears (came config
 
 -- what is written is the frame that is next
 pub next_is : (i : ℕ) (m : Card) (out : List ℕ) (given : Option NextFrame) → gave_in out given ≡ machine.answer (goes i) m → next_at i m ≡ option_map (next_in out) given
-next_is i m out given is = ap port.given_in (sym is)
+next_is i m out given is = ap line.given_in (sym is)
 
 -- where no frame waits, the card stays, and nothing is counted
 pub none_goes : (i : ℕ) (m : Card) (c : frames.Held Store) → next_at i m ≡ None → FrameCardStands c (machine.after (goes i) m) → FrameCardStands c m

@@ -1,5 +1,5 @@
 -- What every call of a card comes to, served or not. Its tests come in the order of the fields.
-use Rattle.std.specs.Prelude.{◌≡◌, ◌≤◌, ◌<◌, ℕ, Bool, Option, Some, None, replicate, if◌then◌else◌}
+use Rattle.std.specs.Prelude.{◌≡◌, ◌≤◌, ◌<◌, ℕ, Option, Some, None, replicate}
 use Rattle.lapd_count.specs.Counters.{none_counted}
 use Rattle.model_card.specs.Card.{Card}
 use Rattle.model_card.specs.Card as frames
@@ -9,19 +9,23 @@ use Rattle.model_line.specs.declared.config.Config.{Config}
 use Rattle.model_line.specs.Refusal.{refusal}
 use Rattle.model_line.specs.Request.{Request}
 use Rattle.lapd_frame.specs.declared.refusals.Refusal.{Refusal}
-use Rattle.lapd_card.specs.Kinds.{Machine, with_ports, alone, card_in, AnyStands, counters_of, for_octets, for_frames}
+use Rattle.lapd_card.specs.Kinds.{CardKind, Machine, with_ports, alone, card_in, AnyStands, counters_of, for_octets, for_frames}
 use Rattle.lapd_c.specs.declared.card.CardHandle.{CardHandle}
 use Rattle.lapd_c.specs.declared.kept.KeptCard.{KeptCard}
+use Rattle.lapd_c.specs.declared.plain.config.PlainConfig.{PlainConfig}
 use Rattle.lapd_c.specs.declared.plain.reports.PlainReport.{PlainReport}
 use Rattle.lapd_c.specs.CardSlots.{HeldCard}
 use Rattle.lapd_c.specs.Cards.{card_of, kind_in, marks_at, IsHandle, Stands, OctetsStand, FramesStand}
+use Rattle.lapd_c.specs.Config.{config_in}
 use Rattle.lapd_c.specs.LinkMarks.{AreUnmarked}
 use Rattle.lapd_c.specs.Reopened.{TellsReopened}
+use Rattle.lapd_c.specs.Starts.{IsStart}
 use Rattle.lapd_c.specs.Statuses as status
 
--- The machine of a card that begins, for octets or for frames.
-abbrev pub fresh : Bool → Config → Machine
-fresh of_octets c = if of_octets then with_ports (octets.fresh c) else alone (frames.fresh c)
+-- The machine of a card that begins, by its kind.
+abbrev pub fresh : CardKind → Config → Machine
+fresh for_octets c = with_ports (octets.fresh c)
+fresh for_frames c = alone (frames.fresh c)
 
 -- As a card begins, it stands for a machine, nothing is counted, and no link waits for room.
 pub record Begins (m : Machine) (kept : KeptCard) : Type 0 where
@@ -32,6 +36,12 @@ pub record Begins (m : Machine) (kept : KeptCard) : Type 0 where
 abbrev pub HasBegun : Machine → HeldCard → Type 0
 HasBegun m None = ⊥
 HasBegun m (Some kept) = Begins m kept
+
+-- What a start of a card of a kind comes to.
+pub record IsCardStart (kind : CardKind) (config : PlainConfig) (old new : CardHandle) (result : ℕ) : Type 0 where
+  pub handle : IsHandle new
+  pub start : IsStart card_of config old new result
+  pub begun : result ≡ status.ok → HasBegun (fresh kind (config_in config)) (card_of new)
 
 -- Where there is no card, this is told, and nothing changes.
 pub record IsCall (old new : CardHandle) (result : ℕ) : Type 0 where

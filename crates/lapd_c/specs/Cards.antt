@@ -7,7 +7,7 @@ use Rattle.lapd_c.specs.declared.kept.KeptCard.{KeptCard}
 use Rattle.lapd_card.specs.declared.kinds.AnyCard.{AnyCard}
 use Rattle.lapd_c.specs.declared.link_marks.LinkMarks.{LinkMarks}
 use Rattle.lapd_c.specs.CardSlots.{HeldCard}
-use Rattle.lapd_card.specs.Kinds.{Kind, kind_of, Machine, with_ports, alone, AnyStands}
+use Rattle.lapd_card.specs.Kinds.{CardKind, kind_of, Machine, with_ports, alone, AnyStands}
 
 -- The card that is there, with the marks of its links that wait for room, or none; that card alone; and its kind.
 abbrev pub card_of : CardHandle → HeldCard
@@ -19,7 +19,7 @@ without_marks kept = kept.card
 abbrev pub served_card : CardHandle → Option AnyCard
 served_card h = option_map without_marks (card_of h)
 
-abbrev pub kind_in : CardHandle → Option Kind
+abbrev pub kind_in : CardHandle → Option CardKind
 kind_in h = option_map kind_of (served_card h)
 
 -- The marks, line by line; of no card, none.

@@ -15,10 +15,10 @@ use Rattle.lapd_c.specs.CardSlots.{HeldCard}
 use Rattle.lapd_card.specs.Kinds.{CardStands}
 
 -- An answer has nothing to tell.
-abbrev pub is_quiet : Answer → Bool
-is_quiet (told t) = (length t.notes == 0) && (length t.orders == 0) && is_none t.cause && (t.lost == 0) && is_none t.contents
-is_quiet (refused why) = false
-is_quiet (pulled value begun orders) = not begun && (length orders == 0)
+abbrev pub tells_nothing : Answer → Bool
+tells_nothing (told t) = (length t.notes == 0) && (length t.orders == 0) && is_none t.cause && (t.lost == 0) && is_none t.contents
+tells_nothing (refused why) = false
+tells_nothing (pulled value begun orders) = not begun && (length orders == 0)
 
 -- As many octets are given as are taken, and the step from which to go on is within them.
 abbrev pub is_exchange : List ℕ → List ℕ → ℕ → Bool
@@ -52,7 +52,7 @@ given_after line taken from (suc n) m given =
 -- All of the first steps have nothing to tell.
 unfoldable pub AllQuiet : ℕ → List ℕ → ℕ → ℕ → OctetCard → Type 0
 AllQuiet line taken from zero m = Unit {0}
-AllQuiet line taken from (suc n) m = AllQuiet line taken from n m × (is_quiet (answer_after line taken from n m) ≡ true)
+AllQuiet line taken from (suc n) m = AllQuiet line taken from n m × (tells_nothing (answer_after line taken from n m) ≡ true)
 
 -- All steps were made, and none had anything to tell.
 pub record IsThrough (line : ℕ) (taken : List ℕ) (from n : ℕ) (m : OctetCard) (to : ℕ) (r : PlainReport) : Type 0 where
@@ -67,7 +67,7 @@ pub record IsTold (line : ℕ) (taken : List ℕ) (from n : ℕ) (m : OctetCard)
   pub last : n ≡ before + 1
   pub made : to ≡ from + n
   pub quiet : AllQuiet line taken from before m
-  pub tells : is_quiet (answer_after line taken from before m) ≡ false
+  pub tells : tells_nothing (answer_after line taken from before m) ≡ false
   pub report : ShowsReply r (answer_after line taken from before m)
 
 -- So many steps were made of the machine, and the card stands for it after them.

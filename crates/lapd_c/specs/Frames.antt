@@ -3,11 +3,10 @@ use Rattle.std.specs.Prelude.{◌≡◌, ℕ, List, length, take, drop, Option}
 use Rattle.model_bits.specs.Stream.{dropped}
 use Rattle.model_line.specs.declared.faults.Fault.{Fault}
 use Rattle.model_line.specs.Came.{came, cause_of}
-use Rattle.model_line.specs.Event.{NextFrame, hears, next}
+use Rattle.model_line.specs.Event.{NextFrame, hears, next, given_in}
 use Rattle.model_card.specs.Card.{Card}
 use Rattle.model_card.specs.Event.{Event, at}
 use Rattle.model_card.specs.Machine.{answer}
-use Rattle.model_card.specs.ports.Port.{given_in}
 
 -- At a line of a card a frame comes; a fault is told in place of one; the next frame is called for.
 abbrev pub comes : ℕ → List ℕ → Card → Event

@@ -3,16 +3,14 @@
 ghost use Rattle.std.specs.Borrow.{sem};
 ghost use Rattle.std.specs.Option.{option_copied_mut};
 ghost use Rattle.std.specs.Prelude.{◌≡◌, Some, None, IfSome, IfNone, option_map};
-ghost use Rattle.lapd_c.specs.{first_fault, config_in, with_ports, alone, fresh, Begins, HasBegun, IsCall, IsStart, card_of, IsHandle};
-ghost use Rattle.model_card.specs.Card as frames;
-ghost use Rattle.model_card.specs.ports.Card as octets;
+ghost use Rattle.lapd_c.specs.{first_fault, for_octets, for_frames, fresh, Begins, IsCall, IsCardStart, card_of, IsHandle};
 ghost use Rattle.lapd_c.specs.Statuses as status;
 
 use crate::card_slot::CardSlot;
 use crate::kept::KeptCard;
 use crate::lend::or_answer;
 use crate::plain::{NO_CARD, NO_MEMORY, OK, PlainConfig, SECOND_START};
-use lapd_card::{AnyCard, Card, FrameCard};
+use lapd_card::{AnyCard, Card, CardKind, FrameCard};
 use lapd_store::RawShelf;
 use model_line::Config;
 use std::alloc::Global;
@@ -77,11 +75,9 @@ pub extern "C" fn lapd_card_start(
     config: &PlainConfig,
 ) -> u32
     requires { IsHandle handle.old }
-    ensures handle { IsHandle handle.new }
-    ensures start { IsStart card_of config.now handle.old handle.new result }
-    ensures begun { result ≡ status.ok → HasBegun (with_ports (octets.fresh (config_in config.now))) (card_of handle.new) }
+    ensures { IsCardStart for_octets config.now handle.old handle.new result }
 {
-    start(alloc, handle, config, true)
+    start(alloc, handle, config, CardKind::Octets)
 }
 
 /// Starts a card for frames, on which no TEI is on any line.
@@ -92,41 +88,41 @@ pub extern "C" fn lapd_card_start_frames(
     config: &PlainConfig,
 ) -> u32
     requires { IsHandle handle.old }
-    ensures handle { IsHandle handle.new }
-    ensures start { IsStart card_of config.now handle.old handle.new result }
-    ensures begun { result ≡ status.ok → HasBegun (alone (frames.fresh (config_in config.now))) (card_of handle.new) }
+    ensures { IsCardStart for_frames config.now handle.old handle.new result }
 {
-    start(alloc, handle, config, false)
+    start(alloc, handle, config, CardKind::Frames)
 }
 
-// Starts a card for octets, or one for frames.
-fn start(alloc: Global, handle: &mut CardHandle, config: &PlainConfig, of_octets: bool) -> u32
+// Starts a card of a kind.
+fn start(alloc: Global, handle: &mut CardHandle, config: &PlainConfig, kind: CardKind) -> u32
     requires { IsHandle handle.old }
-    ensures handle { IsHandle handle.new }
-    ensures start { IsStart card_of config.now handle.old handle.new result }
-    ensures begun { result ≡ status.ok → HasBegun (fresh of_octets (config_in config.now)) (card_of handle.new) }
+    ensures { IsCardStart kind config.now handle.old handle.new result }
 {
     if handle.started {
         return SECOND_START;
     }
     let config = or_answer!(config.read());
-    let kept = or_answer!(started(alloc, config, of_octets), NO_MEMORY);
+    let kept = or_answer!(started(alloc, config, kind), NO_MEMORY);
     handle.put(kept);
     OK
 }
 
 // Such a card of a configuration that is in range, if there is memory for it.
-fn started(alloc: Global, config: Config, of_octets: bool) -> Option<Box<KeptCard>>
+fn started(alloc: Global, config: Config, kind: CardKind) -> Option<Box<KeptCard>>
     requires { first_fault config ≡ None }
-    ensures { IfSome result (λ kept. Begins (fresh of_octets config) kept.value) }
+    ensures { IfSome result (λ kept. Begins (fresh kind config) kept.value) }
 {
     let shelf = RawShelf::start(alloc, u32::from(config.slots), config.n201).ok()?;
-    if of_octets {
-        let card = Card::start(alloc, config, shelf).ok()?;
-        return KeptCard::begin(alloc, AnyCard::Octets(card), config);
+    match kind {
+        CardKind::Octets => {
+            let card = Card::start(alloc, config, shelf).ok()?;
+            KeptCard::begin(alloc, AnyCard::Octets(card), config)
+        }
+        CardKind::Frames => {
+            let card = FrameCard::start(alloc, config, shelf).ok()?;
+            KeptCard::begin(alloc, AnyCard::Frames(card), config)
+        }
     }
-    let card = FrameCard::start(alloc, config, shelf).ok()?;
-    KeptCard::begin(alloc, AnyCard::Frames(card), config)
 }
 
 /// Ends a card, and gives back its memory.

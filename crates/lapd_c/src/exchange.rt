@@ -2,7 +2,7 @@
 
 ghost use Rattle.std.specs.Prelude.{◌≡◌, ◌≢◌, ◌≤◌, ◌<◌, ◌*◌, ◌-◌, true, false, not, length};
 ghost use Rattle.std.specs.Option.{option_copied};
-ghost use Rattle.lapd_c.specs.{OctetsWithLine, meant_all, told_at, Leads, told_beside, IsOctetsCall, IsReopened, ShowsReply, octet_of, Shows, contents_or_none, card_of, IsHandle, CardStands, shelf_of, counters_at, is_quiet, is_exchange, step_event, steps_made, with_step, Exchanged, ExchangedIn, counters_in, all_counted, moments};
+ghost use Rattle.lapd_c.specs.{OctetsWithLine, meant_all, told_at, Leads, told_beside, IsOctetsCall, IsReopened, ShowsReply, octet_of, Shows, contents_or_none, card_of, IsHandle, CardStands, shelf_of, counters_at, tells_nothing, is_exchange, step_event, steps_made, with_step, Exchanged, ExchangedIn, counters_in, all_counted, moments};
 ghost use Rattle.model_card.specs.ports.Card as machine;
 ghost use Rattle.model_card.specs.ports.Card.{answer};
 ghost use Rattle.model_card.specs.ports.Event.{at};
@@ -92,7 +92,7 @@ fn make_step(
         → given.new ≡ with_step step (answer (step_event line taken.now step) m) given.old }
     ensures length { length given.new ≡ length given.old }
     ensures tells { (m : machine.OctetCard) → CardStands card.old m
-        → result ≡ not (is_quiet (answer (step_event line taken.now step) m)) }
+        → result ≡ not (tells_nothing (answer (step_event line taken.now step) m)) }
     ensures shown { (m : machine.OctetCard) → CardStands card.old m → result ≡ true
         → ShowsReply report.new (answer (step_event line taken.now step) m) }
 {
@@ -107,7 +107,7 @@ fn tells_taken(card: &mut Card<RawShelf>, line: usize, octet: u8, report: &mut P
     requires { line < line_count card.old }
     ensures leads { Leads shelf_of (at line (port.octet octet)) card.old card.new }
     ensures tells { (m : machine.OctetCard) → CardStands card.old m
-        → result ≡ not (is_quiet (answer (at line (port.octet octet)) m)) }
+        → result ≡ not (tells_nothing (answer (at line (port.octet octet)) m)) }
     ensures shown { (m : machine.OctetCard) → CardStands card.old m → result ≡ true
         → ShowsReply report.new (answer (at line (port.octet octet)) m) }
     ensures unchanged { result ≡ false → report.new ≡ report.old }
@@ -127,13 +127,13 @@ fn tells_ended(
     report: &mut PlainReport,
 ) -> bool
     requires { line < line_count card.now }
-    ensures tells { result ≡ not (is_quiet (port.told (told_at card.now.ports line told.now))) }
+    ensures tells { result ≡ not (tells_nothing (port.told (told_at card.now.ports line told.now))) }
     ensures shown { length (contents_or_none (told_at card.now.ports line told.now).contents) ≤ 260 → result ≡ true
         → Shows report.new (told_at card.now.ports line told.now) }
     ensures unchanged { result ≡ false → report.new ≡ report.old }
 {
     let contents = card.contents(line, told);
-    if is_quiet(told, contents) {
+    if tells_nothing(told, contents) {
         return false;
     }
     report.show(told, contents);
@@ -152,7 +152,7 @@ fn tells_given(
     ensures octet { (m : machine.OctetCard) → CardStands card.old m
         → octet.new ≡ octet_of (answer (at line port.pull) m) }
     ensures tells { (m : machine.OctetCard) → CardStands card.old m
-        → result ≡ not (is_quiet (answer (at line port.pull) m)) }
+        → result ≡ not (tells_nothing (answer (at line port.pull) m)) }
     ensures shown { (m : machine.OctetCard) → CardStands card.old m → result ≡ true
         → ShowsReply report.new (answer (at line port.pull) m) }
     ensures unchanged { result ≡ false → report.new ≡ report.old }
@@ -166,8 +166,8 @@ fn tells_given(
     true
 }
 
-fn is_quiet(told: &BareReport, delivered: Option<&[u8]>) -> bool
-    ensures { result ≡ is_quiet (port.told (told_beside (option_copied delivered.entry) told.now)) }
+fn tells_nothing(told: &BareReport, delivered: Option<&[u8]>) -> bool
+    ensures { result ≡ tells_nothing (port.told (told_beside (option_copied delivered.entry) told.now)) }
 {
     told.notes().is_empty()
         && told.orders().is_empty()

@@ -2,18 +2,16 @@
 //! lines one waits.
 
 ghost use Rattle.std.specs.Prelude.{◌≡◌, ◌≢◌, ◌==◌, if◌then◌else◌, ◌+◌, ◌≤◌, ◌<◌, true, length, Some, None, IfSome, IfOk, IfErr};
-ghost use Rattle.lapd_c.specs.{FramesWithLine, moment_counted, moment_of, counters_in, IsFirstWaiting, has_next, next_waiting, IsCall, IsFramesCall, IsReopened, ShowsAnswer, ShowsPull, card_of, kind_in, marks_at, IsHandle, FramesStand, Counts, counters_at, for_octets, FrameCardStands, comes, fails, goes, next_at, IsGiven};
+ghost use Rattle.lapd_c.specs.{FramesWithLine, IsFirstWaiting, has_next, next_waiting, IsCall, IsFramesCall, IsReopened, ShowsAnswer, ShowsPull, card_of, kind_in, marks_at, IsHandle, FramesStand, Counts, counters_at, for_octets, comes, fails, goes, next_at, IsGiven};
 ghost use Rattle.model_card.specs.Card as machine;
 ghost use Rattle.model_card.specs.Machine.{after, answer};
-ghost use Rattle.lapd_card.specs.FrameCard.{line_count};
 ghost use Rattle.lapd_c.specs.Faults.{fault_in};
 ghost use Rattle.lapd_c.specs.Statuses as status;
 
 use crate::card::CardHandle;
 use crate::lend::{lend, or_answer};
 use crate::plain::{NO_FRAME, OK, PlainReport, WRONG_LENGTH, fault_in};
-use lapd_card::{BareReport, FrameCard};
-use lapd_store::RawShelf;
+use lapd_card::BareReport;
 
 /// Takes a frame that came from a line, from its address to its information, without its check.
 #[unsafe(no_mangle)]
@@ -33,27 +31,16 @@ pub extern "C" fn lapd_frame(
     ensures reopened { IsReopened line handle.old handle.new result report.new }
 {
     lend!(kept of handle, Frames(card), line);
-    hear(card, line, octets, report);
-    kept.tell_reopened(line, report);
-    OK
-}
-
-// Hears a frame at a line that the card has. Mostly it leads to nothing but orders, and then nothing else is looked for.
-#[inline(always)]
-fn hear(card: &mut FrameCard<RawShelf>, line: usize, octets: &[u8], report: &mut PlainReport)
-    requires { line < line_count card.old }
-    ensures shows { (m : machine.Card) → FrameCardStands card.old m
-        → ShowsAnswer report.new (answer (comes line octets.now m) m) }
-    ensures stands { (m : machine.Card) → FrameCardStands card.old m
-        → FrameCardStands card.new (after (comes line octets.now m) m) }
-    ensures counted { (m : machine.Card) → FrameCardStands card.old m
-        → counters_in card.new.lines ≡ moment_counted (counters_in card.old.lines) (moment_of m (comes line octets.now m)) }
-{
     let mut told = BareReport::nothing();
     if card.frame(line, octets, &mut told) {
-        return report.show_orders(false, false, &told.orders);
+        // Mostly it leads to nothing but orders, and then nothing else is looked for.
+        report.show_orders(false, false, &told.orders);
+        kept.tell_reopened(line, report);
+        return OK;
     }
     report.show(&told, card.contents(line, octets, &told));
+    kept.tell_reopened(line, report);
+    OK
 }
 
 /// The controller of a line told a fault in place of a frame, by its cause: an abort, bits that are no whole octets, a

@@ -6,6 +6,7 @@ use Rattle.lapd_bits.specs.declared.ended.Ended.{Ended}
 use Rattle.lapd_bits.specs.declared.ended.Ended.TheVariants as ended
 use Rattle.model_bits.specs.Stream as stream
 use Rattle.model_line.specs.Event as line
+use Rattle.model_line.specs.Event.{given_in}
 unfoldable use Rattle.model_line.specs.Machine.{after as line_after, answer as line_answer, takes_slot}
 use Rattle.model_line.specs.Taken.{Taken, taken, next_of}
 use Rattle.model_card.specs.ByEvent as by_event
@@ -17,7 +18,7 @@ use Rattle.model_card.specs.ports.Codec.{frame_moment}
 use Rattle.model_card.specs.ports.Drops as drops
 use Rattle.model_card.specs.ports.Event.{Event, at}
 use Rattle.model_card.specs.ports.Port as port
-use Rattle.model_card.specs.ports.Port.{gained, is_due, frame_begun, given_in, answer_of}
+use Rattle.model_card.specs.ports.Port.{gained, is_due, frame_begun, answer_of}
 use Rattle.model_card.specs.ports.Reached.{IsReached}
 unfoldable use Rattle.model_card.specs.ports.Run.{meant_all, moments}
 use Rattle.model_card.proofs.OfPorts.Codec.{refines}

@@ -17,11 +17,6 @@ next-one f (y ∷ ys) (suc at) x is = ap (λ l. f y ∷ l) (next-one f ys at x i
 pub one-more : {X Y : Type 0} (f : X → Y) (xs : List X) (at : ℕ) (x : X) → slice_get xs at ≡ Some x → take (at + 1) (map f xs) ≡ take at (map f xs) ++ f x ∷ []
 one-more f xs at x is = grind (arith, next-one)
 
-pub one-at : {X Y : Type 0} (f : X → Y) (xs : List X) (at : ℕ) (x : X) → slice_get xs at ≡ Some x → slice_get (map f xs) at ≡ Some (f x)
-one-at f [] at x is = absurd (none-some x is)
-one-at f (y ∷ ys) zero x is = ap (λ z. Some (f z)) (same_Some y x is)
-one-at f (y ∷ ys) (suc at) x is = one-at f ys at x is
-
 -- so what is said of a list goes one further
 pub one-further : {X Y Z : Type 0} (of : X → Y) (f : List Y → Z) (step : List Y → Y → Z) → ((ys : List Y) (y : Y) → f (ys ++ y ∷ []) ≡ step ys y)
     → (xs : List X) (at : ℕ) (x : X) → slice_get xs at ≡ Some x → f (take (at + 1) (map of xs)) ≡ step (take at (map of xs)) (of x)

@@ -1,6 +1,6 @@
--- Whole lists of events at a card of octets, and what a sink takes of them. What is promised of frames is said of what the
--- events mean to the card of frames inside (`Codec` of `model_card::ports`); here are the words of what is left.
-use Rattle.std.specs.Prelude.{◌≡◌, ◌↔◌, ℕ, ◌<◌, List, map, take, slice_get, Option, Some, None, IsSome, Result, OnOk, OnErr}
+-- Whole lists of events at a card of octets. What is promised of frames is said of what the events mean to the card of frames
+-- inside (`Codec` of `model_card::ports`); here are the words of what is left.
+use Rattle.std.specs.Prelude.{◌≡◌, ◌↔◌, ℕ, ◌<◌, List, map, Option, Some, None, IsSome}
 use Rattle.lapd_frame.specs.declared.refusals.Refusal.{Refusal}
 use Rattle.model_card.specs.Card as frames
 use Rattle.model_card.specs.ByEvent as frames_by
@@ -13,37 +13,14 @@ use Rattle.model_card.specs.declared.ports.events.Event as rust
 use Rattle.model_card.specs.ports.Card.{OctetCard, port_at, meant, after, answer}
 use Rattle.model_card.specs.ports.Codec.{IsTextOf, PortGoesOn}
 use Rattle.model_card.specs.ports.Event.{Event, at, event_of}
-use Rattle.model_card.specs.ports.Port.{Answer, request, refused}
-use Rattle.model_card.specs.ports.Run.{run, after_all}
-use Rattle.lapd_card.specs.Card.{Held}
-use Rattle.lapd_card.specs.Sink.{Taken, one_failure_more}
-use Rattle.lapd_card.specs.Stands.{Stands, Leads}
-use Rattle.lapd_store.specs.Store.{Store}
+use Rattle.model_card.specs.ports.Port.{request, refused}
+use Rattle.model_card.specs.ports.Run.{after_all}
 
 abbrev pub line_of : rust.Event → ℕ
 line_of event = (event_of event).line
 
 abbrev pub events_of : List rust.Event → List Event
 events_of events = map event_of events
-
--- It has taken the replies to the events before one, and has missed the reply to that event.
-abbrev pub MissesReply : {K : Type 0} → (K → ℕ → Answer → K → Type 0) → OctetCard → Option Event → K → K → Type 0
-MissesReply misses m None old new = ⊥
-MissesReply misses m (Some event) old new = misses old event.line (answer event m) new
-
-pub record MissesAt {K : Type 0} (takes misses : K → ℕ → Answer → K → Type 0) (m : OctetCard) (events : List Event) (at : ℕ) (old new : K) : Type 0 where
-  pub before : K
-  pub taken : Taken takes old (run m (take at events)).replies before
-  pub missed : MissesReply misses (run m (take at events)).card (slice_get events at) before new
-
--- An event is served: the card is led on by it, and the sink has taken the reply, or has missed it and counts one failure more.
-pub record Hands {S K E : Type 0} (store : S → Store) (takes misses : K → ℕ → Answer → K → Type 0) (failures : K → ℕ) (event : Event)
-    (old new : Held S) (before after : K) (result : Result Unit E) : Type 0 where
-  pub failed : OnErr result (failures after ≡ one_failure_more (failures before))
-  pub not_failed : OnOk result (failures after ≡ failures before)
-  pub leads : Leads store event old new
-  pub taken : OnOk result ((m : OctetCard) → Stands store old m → takes before event.line (answer event m) after)
-  pub not_taken : OnErr result ((m : OctetCard) → Stands store old m → misses before event.line (answer event m) after)
 
 -- An event costs what its meaning does (`IsPriced` of `model_card`); what means nothing costs nothing.
 abbrev pub CostsAs : Event → OctetCard → Option frame_event.Event → Type 0

@@ -18,12 +18,10 @@ use Rattle.lapd_card.specs.FrameStands.{FrameStands}
 use Rattle.lapd_card.specs.Stands.{Stands}
 use Rattle.lapd_card.specs.declared.kinds.AnyCard.{AnyCard}
 use Rattle.lapd_card.specs.declared.kinds.AnyCard.TheVariants.{Octets, Frames}
+pub use Rattle.lapd_card.specs.declared.kinds.CardKind.{CardKind}
+pub use Rattle.lapd_card.specs.declared.kinds.CardKind.TheVariants.{Octets as for_octets, Frames as for_frames}
 
-pub data Kind : Type 0 where
-  for_octets : Kind
-  for_frames : Kind
-
-abbrev pub kind_of : AnyCard → Kind
+abbrev pub kind_of : AnyCard → CardKind
 kind_of (Octets card) = for_octets
 kind_of (Frames card) = for_frames
 

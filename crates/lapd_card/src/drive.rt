@@ -7,6 +7,7 @@ ghost use Rattle.model_card.specs.Promises.{IsAmortised, IsAmortisedFromZero, Is
 ghost use Rattle.model_card.specs.Run.{moments};
 ghost use Rattle.model_line.specs.Request.{request_of};
 ghost use Rattle.model_card.specs.ports.Card as machine;
+ghost use Rattle.model_card.specs.ports.Card.{answer};
 ghost use Rattle.model_card.specs.ports.Codec.{Refines};
 ghost use Rattle.model_card.specs.ports.Drops.{AreDropsWithoutCost, AreDropsWithoutEffect};
 ghost use Rattle.model_card.specs.ports.Event.{at, event_of};
@@ -16,9 +17,9 @@ ghost use Rattle.model_card.specs.ports.Promises.{IsWithinLimit, HasSixOctetsAFr
 ghost use Rattle.model_card.specs.ports.Run.{run, meant_all};
 ghost use Rattle.lapd_card.specs.Card.{line_count};
 ghost use Rattle.lapd_card.specs.Counted.{counters_in};
-ghost use Rattle.lapd_card.specs.Drive.{line_of, events_of, Hands, MissesAt, RefusedByTheTable, IsTextual};
-ghost use Rattle.lapd_card.specs.Sink.{Taken, one_failure_more};
-ghost use Rattle.lapd_card.specs.Stands.{Stands};
+ghost use Rattle.lapd_card.specs.Drive.{line_of, events_of, RefusedByTheTable, IsTextual};
+ghost use Rattle.lapd_card.specs.Sink.{Hands, MissesNext, Taken, one_failure_more};
+ghost use Rattle.lapd_card.specs.Stands.{Stands, Leads};
 
 use crate::card::Card;
 use crate::replies::Reply;
@@ -105,7 +106,8 @@ impl<S: Shelf> Card<S> {
         ensures stopped { IfErr result (λ fault. (m : machine.OctetCard) → Stands S.store self.old m
             → Stands S.store self.new (run m (take (fault.at + 1) (events_of events.now))).card) }
         ensures taken_before { IfErr result (λ fault. (m : machine.OctetCard) → Stands S.store self.old m
-            → MissesAt K.takes K.misses m (events_of events.now) fault.at sink.old sink.new) }
+            → MissesNext K.takes K.misses (run m (take fault.at (events_of events.now))).replies
+            (run m (take (fault.at + 1) (events_of events.now))).replies sink.old sink.new) }
         ensures counters_before { IfErr result (λ fault. (m : machine.OctetCard) → Stands S.store self.old m
             → counters_in self.new.frames.lines ≡ all_counted (counters_in self.old.frames.lines) (moments m.card (meant_all m (take (fault.at + 1) (events_of events.now))))) }
 
@@ -158,7 +160,9 @@ impl<S: Shelf> Card<S> {
     /// Serves one event, and hands its reply to the sink.
     fn answer<K: Sink>(&mut self, event: Event<'_>, sink: &mut K) -> Result<(), SinkFailed>
         requires { line_of event < line_count self.old }
-        ensures { Hands S.store K.takes K.misses K.failures (event_of event.entry) self.old self.new sink.old sink.new result }
+        ensures leads { Leads S.store (event_of event.entry) self.old self.new }
+        ensures hands { Hands K.takes K.misses K.failures (Stands S.store self.old) (line_of event.entry)
+            (answer (event_of event.entry)) sink.old sink.new result }
     {
         match event {
             Event::Octet(line, octet) => sink.take(line, &Reply::Report(self.octet(line, octet))),
@@ -175,7 +179,9 @@ impl<S: Shelf> Card<S> {
         sink: &mut K,
     ) -> Result<(), SinkFailed>
         requires { line < line_count self.old }
-        ensures { Hands S.store K.takes K.misses K.failures (at line (port.request (request_of request.entry))) self.old self.new sink.old sink.new result }
+        ensures leads { Leads S.store (at line (port.request (request_of request.entry))) self.old self.new }
+        ensures hands { Hands K.takes K.misses K.failures (Stands S.store self.old) line
+            (answer (at line (port.request (request_of request.entry)))) sink.old sink.new result }
     {
         match self.request(line, request) {
             Ok(report) => sink.take(line, &Reply::Report(report)),

@@ -60,7 +60,7 @@ pub use card::Card;
 pub use fault::CardFault;
 pub use frame_card::{FrameCard, RoomTooSmall};
 pub use kept::{Kept, KeptReply};
-pub use kinds::AnyCard;
+pub use kinds::{AnyCard, CardKind};
 pub use lapd_count::{Counter, Counters, Kind, Way};
 pub use lapd_frame::Side;
 pub use lapd_line::{BareReport, Config, Field, NextFrame, Pulled, Report, Request, Room};

@@ -2,9 +2,8 @@
 //! errors were told, how many frames found no room to wait.
 //!
 //! [`Counters`] has a number of 64 bits for each [`Counter`], which stays at its greatest value. What is counted is what a
-//! moment of a line shows: of an octet the frame that is heard with it, of a pull the frame that it begins, and of an answer
-//! what it tells (`specs/Shown.antt`). So each counter is the number of what its name says, from the start of the line on
-//! (`counters_are_numbers`).
+//! moment of a line shows: the frame that is heard, the frame that is given, and what an answer tells (`specs/Shown.antt`). So
+//! each counter is the number of what its name says, from the start of the line on (`counters_are_numbers`).
 //!
 //! - `kinds`: the kinds of frames, by their control fields; `messages`: the messages of TEI management, by their types;
 //!   `counter`: the names of the counters; `counters`: their values.

@@ -4,11 +4,11 @@ use Rattle.lapd_bits.specs.declared.ended.Ended.{Ended}
 use Rattle.lapd_bits.specs.declared.ended.Ended.TheVariants as ended
 use Rattle.model_bits.specs.Framer as framer
 use Rattle.model_bits.specs.Stream as stream
-use Rattle.model_line.specs.Event.{Answer, NextFrame}
+use Rattle.model_line.specs.Event.{Answer, NextFrame, given_in}
 use Rattle.model_line.specs.Line as lines
 use Rattle.model_card.specs.ports.Codec.{IsTextOf}
 use Rattle.model_card.specs.ports.Port as machine
-use Rattle.model_card.specs.ports.Port.{gained, is_due, next_octet, with_item, given_in, frame_begun, orders_with, pull, pulled}
+use Rattle.model_card.specs.ports.Port.{gained, is_due, next_octet, with_item, frame_begun, orders_with, pull, pulled}
 use Rattle.lapd_line.specs.Stands.{Stands}
 use Rattle.lapd_line.specs.declared.port.Port.{Port}
 use Rattle.lapd_line.proofs.MessageSteps.{head_and_message, type_counted}

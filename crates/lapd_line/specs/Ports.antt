@@ -8,11 +8,11 @@ use Rattle.model_bits.specs.Framer as framer
 use Rattle.model_bits.specs.Sent.{frame}
 use Rattle.model_bits.specs.Stream as stream
 use Rattle.lapd_frame.specs.declared.timers.Order.{Order}
-use Rattle.model_line.specs.Event.{Answer, NextFrame}
+use Rattle.model_line.specs.Event.{Answer, NextFrame, given_in}
 use Rattle.model_card.specs.ports.Codec.{IsTextOf}
 use Rattle.model_card.specs.ports.HeadHeard.{head_heard, or_heard}
 use Rattle.model_card.specs.ports.Port as machine
-use Rattle.model_card.specs.ports.Port.{is_due, given_in, frame_begun, orders_with, after, answer, pull}
+use Rattle.model_card.specs.ports.Port.{is_due, frame_begun, orders_with, after, answer, pull}
 use Rattle.lapd_line.specs.declared.port.Port.{Port}
 use Rattle.lapd_line.specs.declared.pulled.Pulled.{Pulled}
 use Rattle.lapd_line.specs.Reports.{octets_of, pulled_of}

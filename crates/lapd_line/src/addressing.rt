@@ -1,4 +1,4 @@
-//! What is heard in a line's octets, and which of its entities it is for.
+//! What a line hears, and which of its entities it is for.
 
 ghost use Rattle.std.specs.Prelude.{◌≡◌, ℕ, ◌≤◌, List, [], drop, length, Ok, Err};
 ghost use Rattle.lapd_line.specs.{heard_of, parts_of, long_reading, start_of, Unserved, dropped, addressed, aim_of_long, aim_of_reading, drop_for, heard_side, unless_at_link, has_management, told_at, is_ui, received_of, info_of, addressee, group_service, message_at, IsAtPlace, Standing, Serves, always, aim_of_event, octets_of, told_in, IsClear};
@@ -45,7 +45,7 @@ pub(crate) fn has_management(side: Side) -> bool
 }
 
 impl LinkLayer {
-    /// Serves what the octets of the line have brought.
+    /// Serves what is heard.
     // A program with both kinds of cards calls it from two places, and would keep it apart.
     #[inline(always)]
     pub(crate) fn serve<S: Shelf>(
@@ -209,8 +209,7 @@ impl LinkLayer {
         }
     }
 
-    /// A frame of layer 2 management.
-    /// UI alone is served, on the network's side.
+    /// A frame of layer 2 management. UI alone is served, on the network's side.
     #[cold]
     fn message<S: Shelf>(
         &mut self,

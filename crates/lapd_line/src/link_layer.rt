@@ -14,7 +14,7 @@ use lapd_store::Shelf;
 use lapd_tei::Teis;
 use model_line::Config;
 
-/// What a line has beside its bits.
+/// What a line has beside its counters.
 #[derive(Debug, Drop)]
 pub(crate) struct LinkLayer {
     pub(crate) config: Config,

@@ -9,7 +9,7 @@ use Rattle.lapd_script.specs.declared.command.CardKind.TheVariants as kind
 use Rattle.lapd_sim.specs.machine.Board as machine
 use Rattle.lapd_sim.specs.machine.Board.{Event, after, counted}
 
-abbrev pub named : kinds.Kind → CardKind
+abbrev pub named : kinds.CardKind → CardKind
 named kinds.for_octets = kind.Octets
 named kinds.for_frames = kind.Frames
 

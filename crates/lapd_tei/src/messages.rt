@@ -82,13 +82,12 @@ impl Message {
         requires { action_of self < 128 }
         ensures { result ≡ information_of self }
     {
-        let (ri, kind, action) = match self {
-            Message::IdentityAssigned { ri, tei } => (ri, 2, tei),
-            Message::IdentityDenied { ri } => (ri, 3, NO_TEI),
-            Message::IdentityCheckRequest { tei } => (0, 4, tei),
-            Message::IdentityRemove { tei } => (0, 6, tei),
+        let (ri, action) = match self {
+            Message::IdentityAssigned { ri, tei } => (ri, tei),
+            Message::IdentityDenied { ri } => (ri, NO_TEI),
+            Message::IdentityCheckRequest { tei } | Message::IdentityRemove { tei } => (0, tei),
         };
         let [high, low] = ri.to_be_bytes();
-        [ENTITY, high, low, kind, 2 * action + 1]
+        [ENTITY, high, low, self.kind(), 2 * action + 1]
     }
 }

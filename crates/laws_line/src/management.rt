@@ -11,9 +11,10 @@ ghost use Rattle.laws_line.specs.Unmanaged.{UsersManageNothing};
 /// request assigns nothing. Else the first answer of a period is noted with its check; T201 at the end of the second
 /// period ends the check, and takes the TEI off the line where no terminal answered; a granted assignment puts its TEI on
 /// the line; where the line is down, the messages that wait are given up, and the check ends; and a call for the next frame
-/// takes the message that has waited longest. Nothing else changes anything of TEI management. A TEI that comes to wait to be told to a terminal is on the line (`there`). And a note of a TEI has
-/// its reason: that it was assigned, an identity request; that it was removed, the expiry of T201; that two terminals
-/// have it, an answer to its check (`reasons`; Q.921 clauses 4.1.1.5 and 5.3.2 to 5.3.5).
+/// takes the message that has waited longest. Nothing else changes anything of TEI management. A TEI that comes to wait to
+/// be told to a terminal is on the line (`there`). And a note of a TEI has its reason: that it was assigned, an identity
+/// request; that it was removed, the expiry of T201; that two terminals have it, an answer to its check (`reasons`; Q.921
+/// clauses 4.1.1.5 and 5.3.2 to 5.3.5).
 pub fn messages_have_causes()
     ensures { MessagesHaveCauses }
 {}

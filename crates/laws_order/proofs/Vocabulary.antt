@@ -121,8 +121,8 @@ pub use Rattle.model_card.specs.Machine.{wants_room, answer as card_answer}
 pub use Rattle.model_card.specs.ports.Card.{OctetCard, answer_to, card_after, port_at, said}
 pub use Rattle.model_card.specs.ports.Codec.{IsTextOf, frames_among, octet_pulled}
 pub use Rattle.model_card.specs.ports.GoingOut.{GoOut}
-pub use Rattle.model_card.specs.ports.HeardOctets.{HasOctets}
-pub use Rattle.model_card.specs.ports.Port.{Port, answer_of, fresh_port, gained, given_in, is_due, item_of, left_of, next_octet, with_item, with_octet, Event as PortEvent, after as port_after, expiry as port_expiry, meant as port_meant, octet as port_octet, pull as port_pull, request as port_request, told as port_told}
+pub use Rattle.model_bits.specs.StreamLaws.{HasOctets}
+pub use Rattle.model_card.specs.ports.Port.{Port, answer_of, fresh_port, gained, is_due, item_of, left_of, next_octet, with_item, with_octet, Event as PortEvent, after as port_after, expiry as port_expiry, meant as port_meant, octet as port_octet, pull as port_pull, request as port_request, told as port_told}
 pub use Rattle.model_card.specs.ports.Pulls.{longest_text}
 pub use Rattle.model_card.specs.ports.Run.{AreAtLines, IsAtLine}
 pub use Rattle.model_card.specs.ports.Sound.{IsSoundPort}
@@ -131,7 +131,7 @@ pub use Rattle.model_line.proofs.NotShort.{IsNotShort}
 pub use Rattle.model_line.proofs.Ranges.{terms_in_range}
 pub use Rattle.model_line.specs.Came.{came, is_too_short}
 pub use Rattle.model_line.specs.Effect.{Effect}
-pub use Rattle.model_line.specs.Event.{Answer, Event, LineTold, NextFrame, expiry, gave, hears, next, nothing, refused, request}
+pub use Rattle.model_line.specs.Event.{Answer, Event, LineTold, NextFrame, expiry, gave, hears, next, nothing, refused, request, given_in}
 pub use Rattle.model_line.specs.Heard.{heard_side}
 pub use Rattle.model_line.specs.Line.{Line, fresh_line, has_tei, link_in, link_of, place_in, terms, link_number, state_in, window}
 pub use Rattle.model_line.specs.Machine.{aim_of}

@@ -76,8 +76,8 @@ pub record Past (s : Station) : Type 0 where
   pub is : s.card ≡ after_all (fresh s.card.config) events
   pub line : IsLineOf s.card.config s.line
 
--- How many contents of a link the other end has acknowledged since the numbers began: V(A), counted on beyond 127. They begin anew by SABME,
--- and where the link leaves states 7 and 8 (Q.921 clauses 3.5.2.3, 5.5.1.2 and 5.7).
+-- How many contents of a link the other end has acknowledged since the numbers began: V(A), counted on beyond 127. They begin
+-- anew by SABME, and where the link leaves states 7 and 8 (Q.921 clauses 3.5.2.3, 5.5.1.2 and 5.7).
 pub record Tally : Type 0 where
   pub view : View
   pub acknowledged : ℕ

@@ -13,8 +13,8 @@ ghost use Rattle.model_card.specs.ports.Promises.{IsWithinLimit, HasSixOctetsAFr
 ghost use Rattle.model_card.specs.ports.Run.{run, meant_all};
 ghost use Rattle.lapd_card.specs.Card.{line_count};
 ghost use Rattle.lapd_card.specs.Counted.{counters_in};
-ghost use Rattle.lapd_card.specs.Drive.{line_of, events_of, MissesAt, RefusedByTheTable, IsTextual};
-ghost use Rattle.lapd_card.specs.Sink.{Taken, one_failure_more};
+ghost use Rattle.lapd_card.specs.Drive.{line_of, events_of, RefusedByTheTable, IsTextual};
+ghost use Rattle.lapd_card.specs.Sink.{MissesNext, Taken, one_failure_more};
 ghost use Rattle.lapd_card.specs.Stands.{Stands};
 ghost use Rattle.laws_promises.specs.Promises.{Promises};
 ghost use Rattle.laws_promises.specs.PromisesOfOctets.{PromisesOfOctets};
@@ -48,7 +48,8 @@ pub fn drive<S: Shelf, K: Sink>(
     ensures stopped { IfErr result (λ fault. (m : machine.OctetCard) → Stands S.store card.old m
         → Stands S.store card.new (run m (take (fault.at + 1) (events_of events.now))).card) }
     ensures taken_before { IfErr result (λ fault. (m : machine.OctetCard) → Stands S.store card.old m
-        → MissesAt K.takes K.misses m (events_of events.now) fault.at sink.old sink.new) }
+        → MissesNext K.takes K.misses (run m (take fault.at (events_of events.now))).replies
+        (run m (take (fault.at + 1) (events_of events.now))).replies sink.old sink.new) }
     ensures counters_before { IfErr result (λ fault. (m : machine.OctetCard) → Stands S.store card.old m
         → counters_in card.new.frames.lines ≡ all_counted (counters_in card.old.frames.lines) (moments m.card (meant_all m (take (fault.at + 1) (events_of events.now))))) }
     ensures moments { RunIsMoments }

@@ -8,14 +8,15 @@ ghost use Rattle.model_card.specs.Drops.{AreDropsWithoutCost, AreDropsWithoutEff
 ghost use Rattle.model_card.specs.Event.{at};
 ghost use Rattle.model_card.specs.Laws.{RefusedByTheTable, RunIsMoments};
 ghost use Rattle.model_card.specs.Promises.{IsWithinLimit, IsAmortised, IsAmortisedFromZero, AreRejectsLong, IsIsolated, IsNeverFull, IsNumbered, IsNumberedFromZero};
+ghost use Rattle.model_card.specs.Machine.{answer};
 ghost use Rattle.model_card.specs.Run.{run, moments};
 ghost use Rattle.model_line.specs.Event as line_event;
 ghost use Rattle.model_line.specs.Request.{request_of};
 ghost use Rattle.lapd_card.specs.Counted.{counters_in};
 ghost use Rattle.lapd_card.specs.FrameCard.{line_count};
-ghost use Rattle.lapd_card.specs.FrameStands.{FrameStands};
-ghost use Rattle.lapd_card.specs.Sink.{Taken, one_failure_more};
-ghost use Rattle.laws_promises.specs.FrameDrive.{event_of, line_of, events_of, Hands, MissesAt};
+ghost use Rattle.lapd_card.specs.FrameStands.{FrameStands, Leads};
+ghost use Rattle.lapd_card.specs.Sink.{Hands, MissesNext, Taken, one_failure_more};
+ghost use Rattle.laws_promises.specs.FrameDrive.{event_of, line_of, events_of};
 ghost use Rattle.laws_promises.specs.Linear.{IsLinear};
 ghost use Rattle.laws_promises.specs.Promises.{Promises};
 
@@ -60,7 +61,8 @@ pub fn drive_frames<S: Shelf, K: FrameSink>(
     ensures stopped { IfErr result (λ fault. (m : machine.Card) → FrameStands S.store card.old m
         → FrameStands S.store card.new (run m (take (fault.at + 1) (events_of card.old.config.n201 events.now))).card) }
     ensures taken_before { IfErr result (λ fault. (m : machine.Card) → FrameStands S.store card.old m
-        → MissesAt K.takes K.misses m (events_of card.old.config.n201 events.now) fault.at sink.old sink.new) }
+        → MissesNext K.takes K.misses (run m (take fault.at (events_of card.old.config.n201 events.now))).replies
+        (run m (take (fault.at + 1) (events_of card.old.config.n201 events.now))).replies sink.old sink.new) }
     ensures counters_before { IfErr result (λ fault. (m : machine.Card) → FrameStands S.store card.old m
         → counters_in card.new.lines ≡ all_counted (counters_in card.old.lines) (moments m (take (fault.at + 1) (events_of card.old.config.n201 events.now)))) }
     ensures moments { RunIsMoments }
@@ -104,7 +106,9 @@ fn answer<S: Shelf, K: FrameSink>(
     sink: &mut K,
 ) -> Result<(), SinkFailed>
     requires { line_of event < line_count card.old }
-    ensures { Hands S.store K.takes K.misses K.failures (event_of card.old.config.n201 event.entry) card.old card.new sink.old sink.new result }
+    ensures leads { Leads S.store (event_of card.old.config.n201 event.entry) card.old card.new }
+    ensures hands { Hands K.takes K.misses K.failures (FrameStands S.store card.old) (line_of event.entry)
+        (answer (event_of card.old.config.n201 event.entry)) sink.old sink.new result }
 {
     let mut report = BareReport::nothing();
     match event {
@@ -132,7 +136,9 @@ fn hand_on<S: Shelf, K: FrameSink>(
     sink: &mut K,
 ) -> Result<(), SinkFailed>
     requires { line < line_count card.old }
-    ensures { Hands S.store K.takes K.misses K.failures (at line line_event.next) card.old card.new sink.old sink.new result }
+    ensures leads { Leads S.store (at line line_event.next) card.old card.new }
+    ensures hands { Hands K.takes K.misses K.failures (FrameStands S.store card.old) line
+        (answer (at line line_event.next)) sink.old sink.new result }
 {
     let mut octets = [0; LONGEST];
     match card.next_frame(line, &mut octets) {
@@ -156,7 +162,9 @@ fn grant<S: Shelf, K: FrameSink>(
     sink: &mut K,
 ) -> Result<(), SinkFailed>
     requires { line < line_count card.old }
-    ensures { Hands S.store K.takes K.misses K.failures (at line (line_event.request (request_of request.entry))) card.old card.new sink.old sink.new result }
+    ensures leads { Leads S.store (at line (line_event.request (request_of request.entry))) card.old card.new }
+    ensures hands { Hands K.takes K.misses K.failures (FrameStands S.store card.old) line
+        (answer (at line (line_event.request (request_of request.entry)))) sink.old sink.new result }
 {
     let mut report = BareReport::nothing();
     match card.request(line, request, &mut report) {

@@ -169,8 +169,9 @@ unfoldable pub use Rattle.model_card.specs.ports.Card.{meant}
 pub use Rattle.model_card.specs.ports.Codec.{frame_moment, frames_among, frames_given, given_of, meant_in, octets_of}
 pub use Rattle.model_card.specs.ports.Event.{Event as PortsEvent}
 pub use Rattle.model_card.specs.ports.GoingOut.{OfEachLine, answer_of_call, as_octets, call_answered, calls_answered, frames_to_hear, octets_given}
-pub use Rattle.model_card.specs.ports.HeardOctets.{HasOctets, HearsOctets}
-pub use Rattle.model_card.specs.ports.Port.{Port, answer_of, fresh_port, gained, given_in, is_due}
+pub use Rattle.model_bits.specs.StreamLaws.{HasOctets}
+pub use Rattle.model_card.specs.ports.HeardOctets.{HearsOctets}
+pub use Rattle.model_card.specs.ports.Port.{Port, answer_of, fresh_port, gained, is_due}
 pub use Rattle.model_card.specs.ports.Promises.{moments_meant}
 pub use Rattle.model_card.specs.ports.Pulls.{pulls_at, pulls_behind}
 pub use Rattle.model_card.specs.ports.Run.{AreAtLines as PortsAreAtLines}
@@ -186,7 +187,7 @@ pub use Rattle.model_line.proofs.TakenWalk.{round_below}
 pub use Rattle.model_line.specs.Config.{first_fault, is_within}
 pub use Rattle.model_line.specs.Counted.{answer_shown, shown}
 pub use Rattle.model_line.specs.Effect.{Aim, Effect, at_link, at_management, at_no_link, at_none, at_units, of_aim, of_change, of_link as line_of_link, told_of_management}
-pub use Rattle.model_line.specs.Event.{Answer, Event, LineTold, NextFrame, dropped, expiry, gave, hears, next, refused, request, told}
+pub use Rattle.model_line.specs.Event.{Answer, Event, LineTold, NextFrame, dropped, expiry, gave, hears, next, refused, request, told, given_in}
 pub use Rattle.model_line.specs.Expiry.{aim_of_expiry, at_timer}
 pub use Rattle.model_line.specs.Heard.{addressed, aim_of_heard, aim_of_long, aim_of_reading, at_place, drop_for, group_tei, heard_side, management_sapi, message_of, to_service, unless_at_link}
 pub use Rattle.model_line.specs.Laws.{orders_in}

@@ -1,5 +1,6 @@
 -- What begins on a line are frames.
 use Rattle.std.specs.Prelude.{◌≡◌, ℕ, ◌==◌, ◌||◌, Bool, true, List, [], All, is_some}
+use Rattle.model_bits.specs.StreamLaws.{HasOctets}
 use Rattle.model_bits.specs.StuffingLaws.{AreOctets}
 use Rattle.lapd_frame.specs.Grammar.{Parts, Spells}
 use Rattle.lapd_frame.specs.Services.{service_of}
@@ -7,7 +8,6 @@ use Rattle.model_line.specs.declared.config.Config.{Config}
 use Rattle.model_line.specs.Request as asked
 use Rattle.model_line.specs.Request.{Request}
 use Rattle.model_card.specs.Event.{Event}
-use Rattle.model_card.specs.ports.HeardOctets.{HasOctets}
 use Rattle.laws_trace.specs.Trace.{Seen, heard, granted, trace_of, frames_begun}
 
 -- Each is one that the grammar has, as that of the card's side, of a service or of TEI management (Q.921 clauses 2, 3

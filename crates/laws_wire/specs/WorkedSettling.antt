@@ -85,8 +85,8 @@ settled_stops : (runs_t200 Call 0 settled.near ≡ false) × (runs_t200 Call 0 s
 unfolding lines.after lines.answer lines.takes_slot reading header_of control_of unnumbered_of supervisory_of teis.course teis.refusal seq distance_of named doing_all rounds
 settled_stops = (refl, refl)
 
--- Nothing is lost here, but the far end drops an I-frame while it is busy; RNR is heard, and RR. No turn is left, and neither end is busy: the
--- I-frame goes again only once T200 of the near end expires, which runs.
+-- Nothing is lost here, but the far end drops an I-frame while it is busy; RNR is heard, and RR. No turn is left, and neither
+-- end is busy: the I-frame goes again only once T200 of the near end expires, which runs.
 abbrev pub drops_one : List Doing
 drops_one =
     establishes ++ at_far (requests (SetBusy Call 0)) ∷ at_near (requests (Data Call 0 (1 ∷ []))) ∷ at_near gives ∷ at_far takes

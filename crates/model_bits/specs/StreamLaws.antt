@@ -1,6 +1,12 @@
 -- Laws of what is heard in a stream.
 use Rattle.std.specs.Prelude.{◌≡◌, ℕ, ◌+◌, ◌≤◌, List, [], ◌∷◌, ◌++◌, length, sum_by, All, Option, option_to_list}
 use Rattle.model_bits.specs.Stream.{Event, frame, overlong, dropped, room_for, heard_in}
+use Rattle.model_bits.specs.StuffingLaws.{AreOctets}
+
+-- A frame that is heard consists of octets, each 0 to 255.
+abbrev pub HasOctets : Event → Type 0
+HasOctets (frame octets) = AreOctets octets
+HasOctets other = Unit {0}
 
 -- An octet ends one gap at most that is an event: after any octets, what is heard with one octet more is what
 -- was heard without it, and at most one event after that.

@@ -36,6 +36,12 @@ pub data Answer : Type 0 where
   refused : Refusal → Answer
   gave : Option NextFrame → Answer
 
+-- The frame that it gives, if it gives one.
+abbrev pub given_in : Answer → Option NextFrame
+given_in (told t) = None
+given_in (refused why) = None
+given_in (gave frame) = frame
+
 -- Nothing happened.
 abbrev pub nothing : LineTold
 nothing = record { notes = []; contents = None; cause = None; orders = []; lost = 0 }

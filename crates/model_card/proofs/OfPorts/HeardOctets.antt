@@ -4,7 +4,8 @@ use Rattle.model_bits.specs.Stream as stream
 use Rattle.model_bits.specs.Stream.{ends_flag, has_abort, since_flag, text_event, gap_event, closed_by_flag, given_up, heard_at, heard_until, heard_in, room_for}
 use Rattle.model_line.specs.Event as line
 use Rattle.model_card.specs.Event as frames
-use Rattle.model_card.specs.ports.HeardOctets.{HasOctets, HearsOctets, HeardFramesAreOctets}
+use Rattle.model_bits.specs.StreamLaws.{HasOctets}
+use Rattle.model_card.specs.ports.HeardOctets.{HearsOctets, HeardFramesAreOctets}
 use Rattle.model_card.specs.ports.Port as port
 use Rattle.model_card.proofs.OfPorts.Gains.{heard_with}
 

@@ -35,6 +35,7 @@ pub use Rattle.model_bits.specs.declared.heard.Cause.{Cause}
 pub use Rattle.model_card.specs.Card.{Card}
 pub use Rattle.model_line.specs.Came.{came, cause_of, is_too_short}
 pub use Rattle.model_line.specs.Counts.{is_frame, is_long_frame}
+pub use Rattle.model_line.specs.Event.{given_in}
 pub use Rattle.model_line.specs.Sound.{IsInRange}
 pub use Rattle.model_line.specs.declared.config.Config.{Config}
 pub use Rattle.model_line.specs.declared.faults.Fault.{Fault}
@@ -43,7 +44,7 @@ unfoldable pub use Rattle.model_card.specs.ports.Card.{after, answer, meant}
 pub use Rattle.model_card.specs.ports.Codec.{GoesOn, IsTextOf, PortGoesOn, Refines, come_of, frame_moment, frames_among, frames_given, given_of, heard_by, heard_of, meant_in, octet_come, octet_pulled, octets_come, octets_of, octets_pulled, pulled_of}
 pub use Rattle.model_card.specs.ports.Event.{Event}
 pub use Rattle.model_card.specs.ports.Laws.{CardsStaySound, DropsAreWithoutEffect, FramesLinear, LinesIsolated, OctetsAreACodec, RunIsMoments, StoredWithinLimit, reply_of}
-pub use Rattle.model_card.specs.ports.Port.{Answer, Port, answer_of, fresh_port, gained, given_in, is_due, item_of, left_of, next_octet, octet, pull, told, with_item, with_octet}
+pub use Rattle.model_card.specs.ports.Port.{Answer, Port, answer_of, fresh_port, gained, is_due, item_of, left_of, next_octet, octet, pull, told, with_item, with_octet}
 pub use Rattle.model_card.specs.ports.Run.{AreAtLines, IsAtLine, Moment, Run}
 unfoldable pub use Rattle.model_card.specs.ports.Run.{after_all, meant_all, moments}
 pub use Rattle.model_card.specs.ports.Sound.{IsSoundOctetCard, IsSoundPort}

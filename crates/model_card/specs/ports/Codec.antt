@@ -1,18 +1,18 @@
 -- The law of the codec: a run of octets is, at the card of frames inside, the run of the frame events that it means, moment
--- by moment, and its answers are made of those of the card of frames. What is heard is exactly what stands in the octets received, and what is given is exactly what stands in the
--- octets put on the line.
+-- by moment, and its answers are made of those of the card of frames. What is heard is exactly what stands in the octets
+-- received, and what is given is exactly what stands in the octets put on the line.
 use Rattle.std.specs.Prelude.{◌≡◌, ℕ, ◌==◌, ◌<◌, true, false, List, [], ◌∷◌, ◌++◌, map, flat_map, All, Option, Some, None, option_map, option_to_list, if◌then◌else◌}
 use Rattle.model_bits.specs.Bits.{bits}
 use Rattle.model_bits.specs.Sent.{Item, idle, frame, line_text}
 use Rattle.model_bits.specs.Stream as stream
 use Rattle.model_line.specs.Event as line
-use Rattle.model_line.specs.Event.{NextFrame, nothing}
+use Rattle.model_line.specs.Event.{NextFrame, nothing, given_in}
 use Rattle.model_card.specs.Event as frames
 use Rattle.model_card.specs.Machine as machine
 use Rattle.model_card.specs.Run as runs
 use Rattle.model_card.specs.ports.Event.{Event}
 use Rattle.model_card.specs.ports.Port as port
-use Rattle.model_card.specs.ports.Port.{Answer, Port, given_in, left_of}
+use Rattle.model_card.specs.ports.Port.{Answer, Port, left_of}
 use Rattle.model_card.specs.ports.Card.{OctetCard, meant, said, port_at}
 use Rattle.model_card.specs.ports.Run.{Moment, moments, after_all, meant_all, AreAtLines}
 

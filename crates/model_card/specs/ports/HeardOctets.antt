@@ -1,18 +1,12 @@
 -- What a card of octets hears are octets (Q.921 clauses 2.6 to 2.9).
 use Rattle.std.specs.Prelude.{List, All}
-use Rattle.model_bits.specs.Stream as stream
-use Rattle.model_bits.specs.StuffingLaws.{AreOctets}
+use Rattle.model_bits.specs.StreamLaws.{HasOctets}
 use Rattle.model_line.specs.Event as line
 use Rattle.model_card.specs.ports.Card.{OctetCard}
 use Rattle.model_card.specs.ports.Event.{Event}
 use Rattle.model_card.specs.ports.Run.{meant_all}
 
--- A frame that is heard consists of octets, each 0 to 255.
-abbrev pub HasOctets : stream.Event → Type 0
-HasOctets (stream.frame octets) = AreOctets octets
-HasOctets other = Unit {0}
-
--- So does the frame that an event of a line of frames hears, if it hears one.
+-- The frame that an event of a line of frames hears, if it hears one, consists of octets, each 0 to 255.
 abbrev pub HearsOctets : line.Event → Type 0
 HearsOctets (line.hears e) = HasOctets e
 HearsOctets other = Unit {0}

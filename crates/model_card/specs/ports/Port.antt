@@ -9,7 +9,7 @@ use Rattle.lapd_frame.specs.declared.refusals.Refusal.{Refusal}
 use Rattle.lapd_frame.specs.declared.timers.Order.{Order}
 use Rattle.lapd_frame.specs.declared.timers.Timer.{Timer}
 use Rattle.model_line.specs.Event as line
-use Rattle.model_line.specs.Event.{LineTold, NextFrame, nothing}
+use Rattle.model_line.specs.Event.{LineTold, NextFrame, given_in, nothing}
 use Rattle.model_line.specs.Request.{Request}
 
 -- An octet comes from the line; a timer expires; layer 3 or management asks for something; the line asks for the next octet
@@ -58,11 +58,6 @@ meant n201 (request r) p = Some (line.request r)
 meant n201 pull p = if is_due p then Some line.next else None
 
 -- The frame that the line gave, if it gave one.
-abbrev pub given_in : line.Answer → Option NextFrame
-given_in (line.told t) = None
-given_in (line.refused why) = None
-given_in (line.gave next) = next
-
 abbrev pub frame_begun : Option line.Answer → Option NextFrame
 frame_begun said = option_and_then given_in said
 

@@ -10,7 +10,7 @@ use Rattle.model_card.specs.Event as frames
 use Rattle.model_card.specs.ports.Card.{fresh, after, meant}
 use Rattle.model_card.specs.ports.Event.{Event, at}
 use Rattle.model_card.specs.ports.HeadHeard.{head_heard}
-use Rattle.model_card.specs.ports.HeardOctets.{HasOctets}
+use Rattle.model_bits.specs.StreamLaws.{HasOctets}
 use Rattle.model_card.specs.ports.Port.{Port, fresh_port, octet}
 use Rattle.model_card.specs.ports.Run.{meant_all}
 

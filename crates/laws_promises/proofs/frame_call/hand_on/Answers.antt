@@ -18,9 +18,11 @@ returns-in-Err g c =
     let none : (m : Card) → FrameStands g.S.Shelf.store c.args.card.now m → ⊥ =
     λ m s. let few = (ranges_of m.config s.reached.config).n201.most in omega (arith, small, few, ap (λ d. d.n201) s.config) in
     record {
-      failed = c.take-in-Err.ensures.failed;
-      not_failed = c.take-in-Err.ensures.none_failed;
       leads = record { config = ap (λ (card : Held g.row.S.Denot). card.config) c.in-Err.ensures.unchanged; stands = λ m s. absurd (none m s); counted = λ m s. absurd (none m s) };
-      taken = on_ok c.take-in-Err.result _ (λ m s. absurd (none m s));
-      not_taken = on_err c.take-in-Err.result _ (λ m s. absurd (none m s));
+      hands = record {
+        failed = c.take-in-Err.ensures.failed;
+        not_failed = c.take-in-Err.ensures.none_failed;
+        taken = on_ok c.take-in-Err.result _ (λ m s. absurd (none m s));
+        not_taken = on_err c.take-in-Err.result _ (λ m s. absurd (none m s));
+      };
     }

@@ -7,4 +7,4 @@ pub returns-clause-all : goal.returns-clause-all
 returns-clause-all g c = on_ok_weaker c.drive.result (λ taken m s. keeps_moments c.drive.ensures.moments c.args.sink.now c.drive.new.sink m _ (taken m s)) c.drive.ensures.taken
 
 pub returns-clause-before : goal.returns-clause-before
-returns-clause-before g c = IfErr-weaker c.drive.result _ _ (λ fault missed m s. keeps_before c.drive.ensures.moments c.args.sink.now c.drive.new.sink m _ fault.at (missed m s)) c.drive.ensures.taken_before
+returns-clause-before g c = IfErr-weaker c.drive.result _ _ (λ fault missed m s. keeps_before c.drive.ensures.moments c.args.sink.now c.drive.new.sink m _ _ (missed m s)) c.drive.ensures.taken_before

@@ -1,13 +1,14 @@
 -- Hand-written answers for `Card::drive`.
 use Rattle.lapd_card.proofs.Vocabulary.{◌≡◌, ◌+◌, rules, refl, sym, ap, subst, arith, ◌∙◌, take, get_or, take_all, length-map, slice_get-get_or, moments, all_counted, counters_in, Taken, OctetCard}
 use Rattle.model_card.specs.ports.Event.{event_of}
-use Rattle.model_card.specs.ports.Run.{one_more, run}
+use Rattle.model_card.specs.ports.Run.{Run, one_more, run}
 unfoldable use Rattle.model_card.specs.ports.Run.{meant_all}
 use Rattle.model_card.specs.declared.ports.events.Event.TheVariants.{Octet}
 use Rattle.model_card.proofs.OfPorts.Fold.{run_is_moments}
-use Rattle.lapd_card.specs.Drive.{events_of, MissesReply, MissesAt}
+use Rattle.lapd_card.specs.Drive.{events_of}
+use Rattle.lapd_card.specs.Sink.{MissesNext}
 use Rattle.lapd_card.specs.Stands.{Stands, meaning_counted}
-use Rattle.lapd_card.proofs.Taken.{Taken-more, one-further, one-at, at_ok, at_err}
+use Rattle.lapd_card.proofs.Taken.{Taken-more, one-further, at_ok, at_err}
 use Rattle.lapd_card.proofs.OctetsTaken.{octets-more, meanings-count}
 use Rattle.lapd_card.proofs.Counting.{numbers_in_runs}
 use Rattle.lapd_card.proofs.OctetHeadline.{events_at_lines, laws, refused_by_table}
@@ -23,10 +24,10 @@ loop-at-preserved g c =
     let no = sym c.is_err.ensures.value ∙ c.if-is_err.false in
     record {
       config = c.answer.ensures.leads.config ∙ c.loop-at.invariant.config;
-      none_failed = at_ok c.answer.result _ no c.answer.ensures.not_failed ∙ c.loop-at.invariant.none_failed;
+      none_failed = at_ok c.answer.result _ no c.answer.ensures.hands.not_failed ∙ c.loop-at.invariant.none_failed;
       ran = λ m s. subst (λ r. Stands g.S.Shelf.store c.answer.new.self r.card) (sym (one-further event_of (run m) (λ es e. one_more (run m es) e) (octets-more m) c.args.events.now c.loop-at.at _ is)) (c.answer.ensures.leads.stands _ (c.loop-at.invariant.ran m s));
       counted = λ m s. c.answer.ensures.leads.counted _ (c.loop-at.invariant.ran m s) ∙ ap (λ k. meaning_counted k (run m (take c.loop-at.at (events_of c.args.events.now))).card (event_of (get_or c.args.events.now c.loop-at.at (Octet 0 0)))) (c.loop-at.invariant.counted m s) ∙ (sym (one-further event_of (λ es. all_counted (counters_in c.args.self.now.frames.lines) (moments m.card (meant_all m es))) (λ es e. meaning_counted (all_counted (counters_in c.args.self.now.frames.lines) (moments m.card (meant_all m es))) (run m es).card e) (meanings-count (counters_in c.args.self.now.frames.lines) m) c.args.events.now c.loop-at.at _ is));
-      taken = λ m s. subst (λ r. Taken g.K.Sink.takes c.args.sink.now r.replies c.answer.new.sink) (sym (one-further event_of (run m) (λ es e. one_more (run m es) e) (octets-more m) c.args.events.now c.loop-at.at _ is)) (Taken-more g.K.Sink.takes c.args.sink.now c.loop-at.sink c.answer.new.sink _ _ _ (c.loop-at.invariant.taken m s) (at_ok c.answer.result _ no c.answer.ensures.taken _ (c.loop-at.invariant.ran m s)));
+      taken = λ m s. subst (λ r. Taken g.K.Sink.takes c.args.sink.now r.replies c.answer.new.sink) (sym (one-further event_of (run m) (λ es e. one_more (run m es) e) (octets-more m) c.args.events.now c.loop-at.at _ is)) (Taken-more g.K.Sink.takes c.args.sink.now c.loop-at.sink c.answer.new.sink _ _ _ (c.loop-at.invariant.taken m s) (at_ok c.answer.result _ no c.answer.ensures.hands.taken _ (c.loop-at.invariant.ran m s)));
     }
 
 pub returns-then-is_err : goal.returns-then-is_err
@@ -34,7 +35,7 @@ returns-then-is_err g c =
     let is = slice_get-get_or c.args.events.now c.loop-at.at (Octet 0 0) c.loop-at-test.true in
     let yes = sym c.is_err.ensures.value ∙ c.if-is_err.true in
     let stopped : (m : OctetCard) → Stands g.S.Shelf.store c.args.self.now m → Stands g.S.Shelf.store c.answer.new.self (run m (take (c.loop-at.at + 1) (events_of c.args.events.now))).card = λ m s. subst (λ r. Stands g.S.Shelf.store c.answer.new.self r.card) (sym (one-further event_of (run m) (λ es e. one_more (run m es) e) (octets-more m) c.args.events.now c.loop-at.at _ is)) (c.answer.ensures.leads.stands _ (c.loop-at.invariant.ran m s)) in
-    let missed : (m : OctetCard) → Stands g.S.Shelf.store c.args.self.now m → MissesAt g.K.Sink.takes g.K.Sink.misses m (events_of c.args.events.now) c.loop-at.at c.args.sink.now c.answer.new.sink = λ m s. record { before = c.loop-at.sink; taken = c.loop-at.invariant.taken m s; missed = subst (λ o. MissesReply g.K.Sink.misses (run m (take c.loop-at.at (events_of c.args.events.now))).card o c.loop-at.sink c.answer.new.sink) (sym (one-at event_of c.args.events.now c.loop-at.at _ is)) (at_err c.answer.result _ yes c.answer.ensures.not_taken _ (c.loop-at.invariant.ran m s)) } in
+    let missed : (m : OctetCard) → Stands g.S.Shelf.store c.args.self.now m → MissesNext g.K.Sink.takes g.K.Sink.misses (run m (take c.loop-at.at (events_of c.args.events.now))).replies (run m (take (c.loop-at.at + 1) (events_of c.args.events.now))).replies c.args.sink.now c.answer.new.sink = λ m s. record { line = _; reply = _; next = ap (λ (r : Run). r.replies) (one-further event_of (run m) (λ es e. one_more (run m es) e) (octets-more m) c.args.events.now c.loop-at.at _ is); before = c.loop-at.sink; taken = c.loop-at.invariant.taken m s; missed = at_err c.answer.result _ yes c.answer.ensures.hands.not_taken _ (c.loop-at.invariant.ran m s) } in
     let counters : (m : OctetCard) → Stands g.S.Shelf.store c.args.self.now m → counters_in c.answer.new.self.frames.lines ≡ all_counted (counters_in c.args.self.now.frames.lines) (moments m.card (meant_all m (take (c.loop-at.at + 1) (events_of c.args.events.now)))) = λ m s. c.answer.ensures.leads.counted _ (c.loop-at.invariant.ran m s) ∙ ap (λ k. meaning_counted k (run m (take c.loop-at.at (events_of c.args.events.now))).card (event_of (get_or c.args.events.now c.loop-at.at (Octet 0 0)))) (c.loop-at.invariant.counted m s) ∙ (sym (one-further event_of (λ es. all_counted (counters_in c.args.self.now.frames.lines) (moments m.card (meant_all m es))) (λ es e. meaning_counted (all_counted (counters_in c.args.self.now.frames.lines) (moments m.card (meant_all m es))) (run m es).card e) (meanings-count (counters_in c.args.self.now.frames.lines) m) c.args.events.now c.loop-at.at _ is)) in
     search (rules, laws g.S.Shelf.store c.args.self.now (events_of c.args.events.now) (events_at_lines g.S.Shelf.store c.args.self.now c.args.events.now c.requires), stopped, missed, counters, run_is_moments, refused_by_table, numbers_in_runs)
 

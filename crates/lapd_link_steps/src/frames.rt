@@ -29,8 +29,8 @@ impl Entity {
             State::TeiAssigned => self.frame_in_4(terms, told, control, octets),
             State::AwaitingEstablishment => self.frame_in_5(terms, told, control, octets),
             State::AwaitingRelease => self.frame_in_6(terms, told, control, octets),
-            State::Established => self.frame_in_7_8(terms, told, false, command, control, octets),
-            State::TimerRecovery => self.frame_in_7_8(terms, told, true, command, control, octets),
+            State::Established => self.frame_in_7(terms, told, command, control, octets),
+            State::TimerRecovery => self.frame_in_8(terms, told, command, control, octets),
         }
     }
 

@@ -111,15 +111,10 @@ impl BareReport {
     pub fn is_quiet(&self) -> bool
         ensures { result ≡ true → IsQuiet self.now }
     {
-        if !matches!(self.notes, ShortList::None) {
-            return false;
-        }
-        if self.unserved || self.delivered || self.unit {
-            return false;
-        }
-        if self.cause.is_some() {
-            return false;
-        }
-        self.lost == 0
+        matches!(self.notes, ShortList::None)
+            && !self.unserved
+            && !self.has_contents()
+            && self.cause.is_none()
+            && self.lost == 0
     }
 }

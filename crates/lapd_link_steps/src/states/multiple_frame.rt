@@ -42,8 +42,9 @@ impl Entity {
                 if usize::from(terms.n201) < octets {
                     return self.failed(terms, told, ErrorCode::O);
                 }
+                let last = false;
                 self.contents_in_7_8(terms, told, ns, pf);
-                self.number(terms, told, recovering, nr, Bearer::Information, false);
+                self.number(terms, told, recovering, nr, Bearer::Information, last);
             }
             Control::ReceiveReady { nr, pf } => {
                 self.peer_busy = false;

@@ -100,13 +100,13 @@ pub mod OwedAtLine
 pub mod LossesAtLine
 pub mod FramesOfLink
 pub mod NoLossInVain
+pub mod RoomsAreTold
+pub mod UnitsAreTold
 pub mod SlotsSummed
 pub mod SlotsTaken
 pub mod NoSlotIsLost
 pub mod UnitsAreGranted
 pub mod AnswersAreGiven
-pub mod RoomsAreTold
-pub mod UnitsAreTold
 pub mod CountersCount
 pub mod SeenAs
 pub mod KeptOfLink

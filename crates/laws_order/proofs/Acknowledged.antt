@@ -1,7 +1,6 @@
 -- How many contents an observer has counted as acknowledged is V(A) of the link, while that is in state 7 or 8.
-use Rattle.laws_order.proofs.Vocabulary.{◌≡◌, ℕ, ◌+◌, ◌%◌, ◌<◌, ◌≤◌, ◌==◌, ◌&&◌, ◌||◌, not, Bool, true, false, cond, List, [], ◌∷◌, ◌++◌, get_or, Option, Some, None, refl, sym, ap, ◌∙◌, subst, arith, eq-eqb, eqb-true, and_parts, append-nil, append_assoc, true≢false, all-left, nowhere, get_or-replicate, ◌⊎◌, inl, inr, fold, list_any, get_or-set_same, fold-append, Control, Service, place_of-is, State, AwaitingEstablishment, Terms, Link, is_multiple_frame, Config, IsInRange, Answer, refused, PoolFull, Line, fresh_line, link_of, place_in, terms_in_range, line_at, has_lines, by_room, by_frame, event-follows, after, Goes, event-goes, off-fresh, fresh, at, Tally, no_tally, tallies, tally_of, LinkEvent, its, comes, here-at, IsSeenAs, seen-before, number-up, config-now, sound-now, moments-both, after_all-append, View, steps, views, view_of}
+use Rattle.laws_order.proofs.Vocabulary.{◌≡◌, ℕ, ◌+◌, ◌%◌, ◌<◌, ◌≤◌, ◌==◌, ◌&&◌, ◌||◌, not, Bool, true, false, cond, List, [], ◌∷◌, ◌++◌, get_or, Option, Some, None, refl, sym, ap, ◌∙◌, subst, arith, eq-eqb, eqb-true, and_parts, append-nil, append_assoc, true≢false, all-left, nowhere, get_or-replicate, ◌⊎◌, inl, inr, fold, list_any, get_or-set_same, fold-append, Service, place_of-is, State, Terms, Link, is_multiple_frame, Config, IsInRange, Answer, refused, PoolFull, Line, fresh_line, link_of, place_in, terms_in_range, line_at, has_lines, by_room, event-follows, after, Goes, event-goes, off-fresh, fresh, at, Tally, no_tally, tallies, tally_of, LinkEvent, its, comes, here-at, IsSeenAs, seen-before, number-up, config-now, sound-now, moments-both, after_all-append, View, steps, views, view_of}
 use Rattle.model_link.specs.Deliveries.{restarts}
-use Rattle.model_link.specs.Link.{state_number}
 use Rattle.model_link.specs.Sound.{IsSound}
 use Rattle.model_line.specs.Event as line_event
 use Rattle.model_line.specs.Machine as lines
@@ -17,7 +16,6 @@ use Rattle.laws_link.proofs.Keeping.{event-done}
 use Rattle.laws_link.proofs.Restarts.{establishes}
 use Rattle.laws_link.specs.Accepted.{acknowledged, empties}
 use Rattle.laws_link.specs.History.{share, with_share}
-use Rattle.laws_link.specs.States as states
 use Rattle.laws_trace.proofs.DataOfLink.{acknowledged-went}
 use Rattle.laws_trace.proofs.LineAtEnd.{link-at-end}
 use Rattle.laws_trace.proofs.NewsRows.{sabme_of}
@@ -33,15 +31,6 @@ up_in s = is_multiple_frame s
 
 -- ---- a link
 
--- A frame that leaves a link in state 7 or 8 begins its numbers anew if it was in another, or the frame is SABME.
-abbrev Begins : State → Control → State → Type 0
-Begins here ct to =
-    up_in to ≡ true →
-    ((states.is_sabme ct && state_number to == 7) || ((states.is_agreement ct && states.comes_to 7 here to) || false)) ≡ (not (up_in here) || is_sabme ct)
-
-by-frame : (here : State) (command : Bool) (ct : Control) → Begins here ct (by_frame here command ct)
-by-frame here command ct up = grind arith
-
 -- V(A) goes on in states 7 and 8, and else begins with 0.
 abbrev pub gone_on : Bool → Link → Link → ℕ
 gone_on anew k x = cond (up_in k.state && not anew) (k.a + steps (k.a % 128) (x.a % 128)) 0
@@ -50,20 +39,8 @@ stepped : (a n more : ℕ) → n ≡ a + more → more ≤ 127 → n ≡ a + ste
 stepped a n more is few = is ∙ ap (λ m. a + m) (sym (omega (arith, is, few)))
 
 module _ (t : Terms) (k : Link) where
-  abbrev Stays : LinkEvent → Type 0
-  Stays e = up_in (after t e k).state ≡ true → restarts t e k ≡ (not (up_in k.state) || sabme_of e)
-
-  too-long : (u : Bool) → up_in k.state ≡ u → up_in (cond (u && true) AwaitingEstablishment k.state) ≡ true → ⊥
-  too-long u was up = grind arith
-
-  other-begins : (e : LinkEvent) → (up_in k.state ≡ false → up_in (after t e k).state ≡ false) → (restarts t e k ≡ true → ⊥) → sabme_of e ≡ false → Stays e
-  other-begins e down never none up = go (up_in k.state) refl (restarts t e k) refl
-    where
-      go : (u : Bool) → up_in k.state ≡ u → (b : Bool) → restarts t e k ≡ b → b ≡ (not u || sabme_of e)
-      go u was b is = grind arith
-
-  begins : (e : LinkEvent) → Stays e
-  begins e up = grind (arith, by-frame, too-long, event-follows, k, other-begins, stays-down, establishes)
+  begins : (e : LinkEvent) → (up_in (after t e k).state ≡ true → restarts t e k ≡ (not (up_in k.state) || sabme_of e))
+  begins e up = grind (arith, event-follows, k, sabme_of, stays-down, establishes)
 
   module _ (s : IsSound t k) (small : t.k ≤ 127) (e : LinkEvent) where
     abbrev next : Link
@@ -94,10 +71,7 @@ same-goes k x anew is none up = grind (arith, stepped)
 -- ---- a line, and a card
 
 pub place-of : (service : Service) (tei : ℕ) (l : Line) → up_in (link_of service tei l).state ≡ true → (place : ℕ) × (place_in l tei ≡ Some place)
-place-of service tei l up = go (place_in l tei) refl
-  where
-    go : (o : Option ℕ) → place_in l tei ≡ o → (place : ℕ) × (place_in l tei ≡ Some place)
-    go o off = grind (arith, off-fresh)
+place-of service tei l up = grind (arith, off-fresh)
 
 module _ (service : Service) (tei : ℕ) where
   abbrev GoesOn : Config → line_event.Event → Line → Line → Type 0
@@ -243,11 +217,7 @@ module _ (c : Config) (number : ℕ) (ranged : IsInRange c) (within : number < c
 
           by-state : (u : Bool) → up_in k.state ≡ u
               → cond (u && true && not (anew_by e)) (counted before + steps was.link.acknowledged now.link.acknowledged) 0 ≡ cond (u && not (anew_by e)) (k.a + steps (k.a % 128) (x.a % 128)) 0
-          by-state false down = refl
-          by-state true was-up =
-              ap (λ n. cond (not (anew_by e)) (n + steps was.link.acknowledged now.link.acknowledged) 0) (has was-up)
-              ∙ ap (λ n. cond (not (anew_by e)) (k.a + steps n now.link.acknowledged) 0) (seen-k.acknowledged_is was-up)
-              ∙ ap (λ n. cond (not (anew_by e)) (k.a + steps (k.a % 128) n) 0) (seen-x.acknowledged_is up)
+          by-state o down = grind (arith, was, now, k, seen-k, seen-x)
 
   run : (before rest : List Event) → AreAtLines (cards.fresh c) (before ++ rest) → Has before → Has (before ++ rest)
   run before [] all has = subst Has (sym (append-nil before)) has

@@ -1,14 +1,12 @@
 -- Two ends that are in step to whoever watches them face each other as links do.
-use Rattle.laws_order.proofs.Vocabulary.{is_some, has_tei, on-line, LineTold, ◌≡◌, ℕ, zero, suc, ◌+◌, ◌-◌, ◌<◌, ◌≤◌, ◌==◌, true, false, IsTrue, List, [], ◌∷◌, ◌++◌, map, length, take, drop, slice_get, Option, Some, None, refl, sym, ap, ◌∙◌, subst, arith, length-drop, true≢false, All-append, All-cons, All-nil, option_map, option_map_or, unwrap_or, Service, Parts, ControlFrame, TeiAssigned, AwaitingRelease, Terms, T200, Link, is_multiple_frame, frame_of, state_number, Direction, frames_of, Carried, Rising, Config, IsInRange, Line, link_in, link_of, place_in, terms, line_at, fresh_is_sound, frames_always_sound, Station, Wire, Act, requests, turned, happens, Doing, station, assigned, calling, came, hears, request, Assign, Event, at, state_here, of_link_on, Past, Known, known, said_by, AreOfStep, IsInStep, FaceInStep, kept_by, FramesEvent, its, here-at, view-is, kept-now, seen-before, number-up, timely-now, after_all-append, length-take, link_number, state_in, window, Establish}
+use Rattle.laws_order.proofs.Vocabulary.{is_some, has_tei, on-line, LineTold, ◌≡◌, ℕ, zero, suc, ◌+◌, ◌-◌, ◌<◌, ◌≤◌, true, false, IsTrue, List, [], ◌∷◌, ◌++◌, map, length, take, drop, slice_get, Option, Some, None, refl, sym, ap, ◌∙◌, subst, arith, length-drop, true≢false, All-append, All-cons, All-nil, option_map, option_map_or, unwrap_or, Service, Parts, ControlFrame, TeiAssigned, AwaitingRelease, Terms, T200, Link, is_multiple_frame, frame_of, Direction, frames_of, Carried, Rising, Config, IsInRange, Line, link_in, link_of, place_in, line_at, fresh_is_sound, frames_always_sound, Station, Wire, Act, requests, turned, happens, Doing, station, assigned, calling, came, hears, request, Assign, Event, at, state_here, of_link_on, Past, Known, known, AreOfStep, IsInStep, FaceInStep, kept_by, FramesEvent, its, here-at, view-is, kept-now, seen-before, number-up, timely-now, after_all-append, length-take, state_in, window, Establish}
 use Rattle.std.specs.Prelude.{min}
 use Rattle.std.proofs.lemmas.List.{drop-drop}
 use Rattle.model_link.specs.Link.{fresh as fresh_link}
-use Rattle.model_link.proofs.Direction.{line_of}
 use Rattle.model_card.specs.Card.{fresh}
 use Rattle.model_card.specs.Machine as machine
 use Rattle.model_card.specs.Run.{after_all, IsAtLine}
 use Rattle.model_card.specs.Sound as card_sound
-use Rattle.laws_link.specs.two.Needed.{needed_in}
 use Rattle.laws_line.specs.Timers.{HaveTheirTimers}
 use Rattle.laws_trace.proofs.DeliveriesKept.{run-stands}
 use Rattle.laws_trace.proofs.ObservedAcknowledged.{agrees-now}
@@ -120,23 +118,13 @@ module _ (service : Service) (tei : ℕ) where
 
   -- what `Card::state` tells
   pub up-here : (s : Station) → option_map_or is_up (state_here service tei s) false ≡ is_multiple_frame (link_here service tei s).state
-  up-here s = go (place_in (line_at s.line s.card) tei)
-    where
-      go : (o : Option ℕ) → let l = line_at s.line s.card in
-          option_map_or is_up (option_map (state_in l service) o) false ≡ is_multiple_frame (option_map_or (link_in l service) o fresh_link).state
-      go o = grind (arith, number-up)
+  up-here s = grind (arith, number-up)
 
   pub six-here : (s : Station) → state_here service tei s ≡ Some 6 → (link_here service tei s).state ≡ AwaitingRelease
-  six-here s = go (place_in (line_at s.line s.card) tei)
-    where
-      go : (o : Option ℕ) → let l = line_at s.line s.card in option_map (state_in l service) o ≡ Some 6 → (option_map_or (link_in l service) o fresh_link).state ≡ AwaitingRelease
-      go o e = grind arith
+  six-here s = grind arith
 
   pub four-here : (s : Station) → unwrap_or (state_here service tei s) 4 ≡ 4 → (link_here service tei s).state ≡ TeiAssigned
-  four-here s = go (place_in (line_at s.line s.card) tei)
-    where
-      go : (o : Option ℕ) → let l = line_at s.line s.card in unwrap_or (option_map (state_in l service) o) 4 ≡ 4 → (option_map_or (link_in l service) o fresh_link).state ≡ TeiAssigned
-      go o e = grind arith
+  four-here s = grind arith
 
   pub on-here : (s : Station) → is_some (state_here service tei s) ≡ true → has_tei tei (line_at s.line s.card) ≡ true
   on-here s = go (place_in (line_at s.line s.card) tei) refl
@@ -156,8 +144,7 @@ module _ (service : Service) (tei : ℕ) where
           (here-at s.card.config s.line p.line.0 p.line.1 service tei p.events p.at_lines))
 
       go : (o : Option ℕ) → let l = option_map_or (link_in (line_at s.line s.card) service) o fresh_link in l.state ≡ AwaitingRelease → l.running ≡ Some T200
-      go None is = absurd (true≢false (sym (ap (λ x. state_number x == 6) is)))
-      go (Some place) is = (timed.links (link_number place service)).running ∙ ap (λ x. needed_in x (link_in (line_at s.line s.card) service place)) is
+      go o is = grind (arith, timed)
 
 -- ---- what is in step is what two links that face each other have on the line
 
@@ -194,9 +181,6 @@ module _ (service : Service) (tei : ℕ) where
   abbrev pub had : Station → Station → List (List ℕ)
   had s u = take (link_here service tei u).r (link_here service tei s).contents
 
-  line-is : (s : Station) (ds : List (List ℕ)) → said_by service tei s (link_known s) ≡ line_of (facing service tei s ds)
-  line-is s ds = ap (λ fs. of_link_on service tei s.card.config.side s.way ++ fs) (sym (frames-mapped (terms s.card.config service tei) (link_here service tei s).waiting))
-
   begins-one : (s u : Station) → IsWell s → IsInStep service tei s (link_known s) (link_known u) → IsInStep service tei u (link_known u) (link_known s) → (ds : List (List ℕ))
       → Direction (facing service tei s ds) (facing service tei u (had s u))
   begins-one s u well b d ds =
@@ -205,12 +189,7 @@ module _ (service : Service) (tei : ℕ) where
       let k = window s.card.config service in
       let its = proper service tei s well (sym (up-here service tei s) ∙ b.up) in
       let both = some-kept r l.a k (drop l.a l.contents) b.kept in
-      let all = both.0 in
-      let most = both.1 in
-      let few : length (drop l.a l.contents) ≡ length l.contents - l.a = length-drop l.a l.contents in
-      let low : l.a ≤ l.s = its.sound.ordered in
-      let high : l.s ≤ length l.contents = its.sound.accepted in
-      grind (arith, line-is, carried-of, link_here, rising-of)
+      grind (arith, length-drop, of_link_on, frames-mapped, carried-of, link_here, rising-of)
 
   -- what is known of two ends is what their links have
   pub from-links : (w : Wire) (p : Past w.near) (q : Past w.far) → IsTrue (is_multiple_frame (link_here service tei w.near).state)

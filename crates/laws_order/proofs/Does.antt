@@ -1,5 +1,5 @@
 -- What an event of a line is to the link of a service with a TEI that is in state 7 or 8.
-use Rattle.laws_order.proofs.Vocabulary.{arith, ◌≡◌, ℕ, ◌==◌, ◌&&◌, ◌||◌, not, Bool, true, false, cond, IsTrue, List, [], ◌∷◌, ◌++◌, Option, Ok, refl, sym, ap, ◌∙◌, subst, eq-eqb, true≢false, ◌⊎◌, inl, inr, All, fold, option_to_list, unwrap_or, list_any, option_map_or, All-head, All-tail, Ui, Note, Service, Parts, reading, sapi_of, information_of, State, Terms, Link, is_multiple_frame, address_at, Config, hears, expiry, request, next, Answer, heard_side, Line, link_in, link_of, terms, aim_of, accepted, is_up_in, notes_of, contents_in, up_by_note, link_is_up, is_up_of, of_link, is_granted, IsBy, timer_of, link-grants, not-refused, same-sapi, sapi-is, known-up, frame_in, is_own, seen, is_ui, unless, granted-data, data-noted, no-data, frames_given, is_at_link, HasOne, IsForeign, HasNone, event-goes, read-again, frames_by, fresh, Event, is_of_link, of_link_in, data_noted, data_granted, ends_by_note, ends_by, of_link_on, stream_frame, link_frame, LinkEvent, Release, cleared, requested, overlong, undefined, wrong_size, offer, expired, received, NoteEstablishIndication, NoteData, NoteReleaseIndication, NoteRemoved, NoteEstablishConfirm, NoteError, NoteXid, NoteAssigned, NoteReleaseConfirm, NoteDoubled, NoteUnit, or-true, event-follows}
+use Rattle.laws_order.proofs.Vocabulary.{arith, ◌≡◌, ℕ, ◌==◌, ◌&&◌, ◌||◌, not, Bool, true, false, cond, IsTrue, List, [], ◌∷◌, ◌++◌, Ok, refl, sym, ap, ◌∙◌, subst, eq-eqb, true≢false, ◌⊎◌, inl, inr, All, fold, option_to_list, unwrap_or, list_any, All-head, All-tail, Ui, Note, Service, Parts, reading, sapi_of, information_of, State, Terms, Link, is_multiple_frame, address_at, Config, hears, expiry, request, next, Answer, heard_side, Line, link_of, terms, aim_of, accepted, is_up_in, notes_of, contents_in, up_by_note, is_up_of, of_link, is_granted, IsBy, timer_of, link-grants, not-refused, same-sapi, sapi-is, known-up, frame_in, is_own, seen, is_ui, unless, granted-data, data-noted, no-data, frames_given, is_at_link, HasOne, IsForeign, HasNone, event-goes, read-again, frames_by, fresh, Event, is_of_link, of_link_in, data_noted, data_granted, ends_by_note, ends_by, of_link_on, stream_frame, link_frame, LinkEvent, Release, cleared, requested, overlong, undefined, wrong_size, offer, expired, received, NoteEstablishIndication, NoteData, NoteReleaseIndication, NoteRemoved, NoteEstablishConfirm, NoteError, NoteXid, NoteAssigned, NoteReleaseConfirm, NoteDoubled, NoteUnit, or-true, event-follows}
 use Rattle.laws_trace.proofs.DataAsked.{elsewhere}
 use Rattle.model_link.specs.Machine as links
 use Rattle.model_line.specs.Machine as lines
@@ -39,12 +39,9 @@ module _ (service : Service) (tei : ℕ) where
   state-up : (state : State) (k : Link) → is_multiple_frame state ≡ true → is_up_in state k ≡ true
   state-up state k up = grind arith
 
-  is-down : (l : Line) (o : Option ℕ) → option_map_or (link_in l service) o fresh ≡ fresh → option_map_or (link_is_up service l) o false ≡ false
-  is-down l o new = grind arith
-
   pub fresh-ends : (l l' : Line) (ns : List Note) → is_multiple_frame (link_of service tei l).state ≡ true → link_of service tei l' ≡ fresh
       → fold (up_by_note service tei) (is_up_of service tei l) ns ≡ is_up_of service tei l' → list_any (ends_by_note service tei) ns ≡ true
-  fresh-ends l l' ns up new known = grind (arith, falls, state-up, is-down)
+  fresh-ends l l' ns up new known = grind (arith, falls, state-up)
 
 module _ (c : Config) (service : Service) (tei : ℕ) where
   abbrev pub Own : Terms

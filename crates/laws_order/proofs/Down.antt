@@ -1,5 +1,5 @@
 -- A link in states 4 to 6 stays there, whatever happens, as long as it hears I-frames, supervisory frames and unit data.
-use Rattle.laws_order.proofs.Vocabulary.{arith, ◌≡◌, ◌&&◌, Bool, false, cond, ap, ◌∙◌, Control, Information, ReceiveReady, ReceiveNotReady, Reject, Ui, Parts, State, AwaitingEstablishment, LinkTimer, Terms, received, overlong, Link, is_multiple_frame, is_faulty, by_frame, by_received, by_expiry, by_request, event-follows, after}
+use Rattle.laws_order.proofs.Vocabulary.{arith, ◌≡◌, ◌&&◌, Bool, false, cond, ap, ◌∙◌, Control, Information, ReceiveReady, ReceiveNotReady, Reject, Ui, State, AwaitingEstablishment, Terms, received, Link, is_multiple_frame, by_request, event-follows, after}
 use Rattle.model_link.specs.Events.{Event, frame, Request}
 
 -- I-frames and supervisory frames; and what leaves such a link where it is.
@@ -25,25 +25,12 @@ UnheededAt other = Unit {0}
 abbrev Stays : State → Type 0
 Stays to = is_multiple_frame to ≡ false
 
-by-control : (here : State) → Stays here → (command : Bool) (control : Control) → Unheeded control → Stays (by_frame here command control)
-by-control here down command control h = grind arith
-
-either : (b : Bool) (to from : State) → Stays to → Stays from → Stays (cond b to from)
-either b to from x y = grind arith
-
 faulty : (up b : Bool) (x : State) → up ≡ false → Stays x → Stays (cond (up && b) AwaitingEstablishment x)
 faulty up b x down h = ap (λ a. is_multiple_frame (cond (a && b) AwaitingEstablishment x)) down ∙ h
-
-by-timer : (here : State) → Stays here → (timer : LinkTimer) (again : Bool) → Stays (by_expiry here timer again)
-by-timer here down timer again = grind arith
 
 asked : (here : State) → Stays here → (request : Request) → Stays (by_request here request)
 asked here down request = grind arith
 
 module _ (t : Terms) (l : Link) (down : Stays l.state) where
-  heard : (f : Parts) (long : Bool) → Unheeded f.control
-      → let r = cond long overlong (frame f) in Stays (cond (is_multiple_frame l.state && is_faulty r l) AwaitingEstablishment (by_received l.state r))
-  heard f long h = grind (arith, faulty, by-control)
-
   pub stays-down : (e : Event) → UnheededAt e → Stays (after t e l).state
-  stays-down e h = grind (arith, event-follows, heard, either, by-timer, asked, faulty)
+  stays-down e h = grind (arith, event-follows, faulty, asked)

@@ -9,7 +9,7 @@ use Rattle.laws_order.proofs.Ordered.{turned-pair, pair-lasts, both-stay, other-
 use Rattle.laws_order.proofs.Pairs.{link_here, Pair, Led, Falls, IsWell}
 use Rattle.laws_order.proofs.Putting.{Each}
 use Rattle.laws_order.proofs.Released.{Occurs, then-well, step-six, StepSix, events_at, occurs, later, releases-end}
-use Rattle.laws_order.proofs.ReleasedAt.{Confirm, GivenUp, Confirmless}
+use Rattle.laws_order.proofs.ReleasedAt.{Confirm, Confirmless}
 use Rattle.laws_order.proofs.Saying.{on_line}
 use Rattle.laws_order.proofs.ReleaseCounted.{Bounded, run-counts}
 
@@ -149,8 +149,7 @@ module _ (service : Service) (tei : ℕ) where
           (ap (λ ns. ns ++ news service tei (seen_near hs w')) (sym x.0) ∙ split)
       go o behind (inr (to, inl (x, may))) =
           may (all-confirmless w (line_of w'.near) (there-first hs w' there.1) h (All-head (IsOpen w) h hs all) (All-head (IsNotDeactivated service tei) h hs active) over)
-      go o behind (inr (to, inr x)) =
-          let wrong : GivenUp service tei ++ news service tei (seen_near hs w') ≡ Confirm service tei = ap (λ ns. ns ++ news service tei (seen_near hs w')) (sym x.0) ∙ split in cc wrong
+      go o behind (inr (to, inr x)) = grind (arith, w', split)
 
 pub releases-are-told : ReleasesAreTold
 releases-are-told service tei w hs p is all quiet many = go (releases-end service tei w hs p is all quiet).0

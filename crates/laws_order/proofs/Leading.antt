@@ -38,11 +38,7 @@ module _ (service : Service) (tei : ℕ) where
 
     by-kind : (x : Has s.card.config service tei (link_here service tei s) (link_here service tei (happens e s)) e (answered e s))
         → NotHeard s.card.config e → (ev : LinkEvent) → x.event ≡ ev → IsKind s.card.config service tei e ev → Led service tei w w' dn dm t
-    by-kind x none (received (link_frame f)) is kind =
-        let read : of_link_at service tei (heard_side s.card.config) kind.0 ≡ f ∷ [] =
-        ap (of_link_in service tei) kind.2 ∙ ap (λ b. cond {A = List Parts} b (f ∷ []) []) kind.3 in
-        let wrong : [] ≡ f ∷ [] = sym (none kind.0 kind.1) ∙ read in
-        absurd (cc wrong)
+    by-kind x none (received (link_frame f)) is kind = grind arith
     by-kind x none (expired timer) is kind = led (expired-still service tei s h.near h.joined.near_up e x dn m h.joined timer is)
     by-kind x none (requested asked full) is kind = led (asked-still service tei s h.near h.joined.near_up e x dn m h.joined asked full is)
     by-kind x none offer is kind = led (offer-still service tei s h.near h.joined.near_up e x dn m h.joined is)
@@ -151,7 +147,6 @@ module _ (service : Service) (tei : ℕ) where
       by-it : (x : Has near.card.config service tei (link_here service tei near) (link_here service tei (comes octets near)) heard (answered heard near))
           → (ev : LinkEvent) → x.event ≡ ev → IsKind near.card.config service tei heard ev → Led service tei before later dn dm shown
       by-it x (received (link_frame f)) is kind =
-          let whole : came near.card.config.n201 octets ≡ stream_frame kind.0 = cc kind.1 in
           let same : kind.0 ≡ octets = grind (arith, nat_lt) in
           let read-so : reading far.card.config.side octets ≡ Ok f =
           ap (λ side. reading side octets) h.sides ∙ ap (reading (other_side near.card.config.side)) (sym same) ∙ kind.2 in

@@ -1,7 +1,7 @@
 -- An event of a link in state 7 or 8 leaves it there, or a note ends the establishment or renews it.
-use Rattle.laws_order.proofs.Vocabulary.{arith, ◌≡◌, ℕ, ◌==◌, ◌&&◌, ◌||◌, Bool, true, false, cond, IsTrue, List, [], ◌∷◌, ◌++◌, None, refl, sym, ap, ◌∙◌, subst, eq-eqb, ◌⊎◌, nat_lt, list_any, list_any-append, Control, Information, ReceiveNotReady, Sabme, Disc, ErrorCode, Note, Parts, Seq, State, AwaitingEstablishment, Established, TimerRecovery, LinkTimer, Terms, Link, is_multiple_frame, Received, received, undefined, wrong_size, overlong, requested, Release, Course, as_heard, is_invalid, receipt_of, is_faulty, by_frame, by_received, by_expiry, by_request, state_after, is_anew, error, numbered_as, told_by, told_by_frame, told_malformed, told_expired, told_cleared, event-follows, service-same, is_own, is_ui, after, told, ends_by_note, NoteError, or-true}
+use Rattle.laws_order.proofs.Vocabulary.{arith, ◌≡◌, ℕ, ◌==◌, ◌&&◌, ◌||◌, Bool, true, false, cond, IsTrue, List, [], ◌∷◌, ◌++◌, None, refl, sym, ap, ◌∙◌, subst, eq-eqb, ◌⊎◌, nat_lt, list_any, list_any-append, Control, Information, Sabme, Disc, ErrorCode, Note, Parts, Seq, State, AwaitingEstablishment, TimerRecovery, Terms, Link, is_multiple_frame, Received, received, undefined, wrong_size, overlong, requested, Release, Course, as_heard, is_invalid, receipt_of, is_faulty, by_frame, by_received, state_after, is_anew, error, told_by, told_by_frame, told_malformed, told_cleared, event-follows, service-same, is_own, is_ui, after, told, ends_by_note, NoteError, or-true}
 use Rattle.lapd_frame.specs.declared.notes.ErrorCode.TheVariants as code
-use Rattle.model_link.specs.Events.{Event, frame, Request}
+use Rattle.model_link.specs.Events.{Event, frame}
 use Rattle.model_link.specs.Machine
 
 module _ (t : Terms) where
@@ -17,19 +17,11 @@ module _ (t : Terms) where
   error-ends : (why : ErrorCode) → is_anew why ≡ true → Ended (error t why)
   error-ends why anew = one-ends (NoteError t.service t.tei why) (ap (λ b. b && is_anew why) own ∙ anew)
 
-  behind : (xs ys : List Note) → Ended ys → Ended (xs ++ ys)
-  behind xs ys h = grind (arith, list_any-append, or-true)
-
   before : (xs ys : List Note) → Ended xs → Ended (xs ++ ys)
   before xs ys h = list_any-append (ends_by_note t.service t.tei) xs ys ∙ ap (λ b. b || list_any (ends_by_note t.service t.tei) ys) h
 
   abbrev pub Leaves : List Note → State → Type 0
   Leaves ns to = Ended ns ⊎ IsTrue (is_multiple_frame to)
-
-  -- an invalid N(R) is an error
-  numbered : (xs : List Note) (to : State) (b : Bool) → IsTrue (is_multiple_frame to)
-      → let now = cond b AwaitingEstablishment to in Leaves (xs ++ numbered_as t now) now
-  numbered xs to b up = grind (arith, behind, error-ends)
 
   module _ (l : Link) (octets : List ℕ) (taken : Bool) where
     abbrev By : State → Bool → Control → Type 0
@@ -37,36 +29,16 @@ module _ (t : Terms) where
         let now = cond (is_multiple_frame here && is_invalid l (receipt_of control)) AwaitingEstablishment (by_frame here command control) in
         Leaves (told_by_frame here t command octets control taken l now) now
 
-    in-7 : (command : Bool) (control : Control) → By Established command control
-    in-7 command control = grind (arith, numbered, before, error-ends, one-ends, own)
-
     -- in state 8 a response with F=1 leads back to state 7
     information-up : (command : Bool) (ns nr : Seq) (p : Bool) → IsTrue (is_multiple_frame (by_frame TimerRecovery command (Information ns nr p)))
     information-up command ns nr p = grind arith
 
-    busy-up : (command pf : Bool) (nr : Seq) → IsTrue (is_multiple_frame (by_frame TimerRecovery command (ReceiveNotReady nr pf)))
-    busy-up command pf nr = grind arith
-
-    in-8 : (command : Bool) (control : Control) → By TimerRecovery command control
-    in-8 command control = grind (arith, numbered, information-up, busy-up, before, error-ends, one-ends, own)
-
     in-state : (here : State) → IsTrue (is_multiple_frame here) → (command : Bool) (control : Control) → By here command control
-    in-state here up command control = grind (arith, in-7, in-8)
-
-  malformed : (here : State) → IsTrue (is_multiple_frame here) → (why : ErrorCode) → is_anew why ≡ true → Ended (told_malformed here t why)
-  malformed here up why anew = grind (arith, error-ends)
-
-  expires : (here : State) → IsTrue (is_multiple_frame here) → (timer : LinkTimer) (again ran : Bool)
-      → let now = cond ran (by_expiry here timer again) here in Leaves (told_expired here t now) now
-  expires here up timer again ran = grind (arith, error-ends)
+    in-state here up command control = grind (arith, list_any-append, or-true, before, error-ends, one-ends, own, information-up)
 
   abbrev pub IsNoRelease : Event → Type 0
   IsNoRelease (requested Release full) = ⊥
   IsNoRelease other = Unit {0}
-
-  asked : (here : State) → IsTrue (is_multiple_frame here) → (request : Request) (full : Bool) → IsNoRelease (requested request full)
-      → IsTrue (is_multiple_frame (by_request here request))
-  asked here up request full other = grind arith
 
   clears : (here : State) → IsTrue (is_multiple_frame here) → Ended (told_cleared here t)
   clears here up = grind (arith, one-ends, own)
@@ -79,11 +51,8 @@ module _ (t : Terms) where
     abbrev Goes : Event → Type 0
     Goes e = Leaves (told_by t e l (state_after t e l)) (state_after t e l)
 
-    heard : (f : Parts) (long : Bool) → Goes (received (cond long overlong (frame f)))
-    heard f long = grind (arith, malformed, in-state)
-
     by-event : (e : Event) → IsNoRelease e → Goes (as_heard t e)
-    by-event e may = grind (arith, heard, malformed, expires, asked, clears)
+    by-event e may = grind (arith, in-state, error-ends, clears)
 
     pub event-leaves : (e : Event) → IsNoRelease e → Leaves (told t e l).notes (after t e l).state
     event-leaves e may = grind (arith, event-follows, by-event)
@@ -93,7 +62,7 @@ module _ (t : Terms) where
         → told_by t (received r) l (after t (received r) l).state ≡ told_malformed l.state t why → Fallen (received r) l
     malformed-falls r why anew same faulty tells =
         let x = (event-follows t (received r) l).leaves in (
-          subst Ended (sym (x.tells ∙ ap (λ e. told_by t e l (after t (received r) l).state) same ∙ tells)) (malformed l.state up why anew),
+          subst Ended (sym (x.tells ∙ ap (λ e. told_by t e l (after t (received r) l).state) same ∙ tells)) (grind (arith, error-ends)),
           ap is_multiple_frame (x.state ∙ ap (λ e. state_after t e l) same) ∙ ap (λ b. is_multiple_frame (cond b AwaitingEstablishment (by_received l.state r))) (both-are (is_multiple_frame l.state) (is_faulty r l) up faulty),
         )
       where
@@ -117,20 +86,13 @@ module _ (t : Terms) where
     pub sabme-ends : (f : Parts) (p : Bool) → Ended (told t (received (frame (record f { control = Sabme p }))) l).notes
     sabme-ends f p = grind (arith, event-follows, by-sabme)
 
-    by-disc : (here : State) → IsTrue (is_multiple_frame here) → (command : Bool) (octets : List ℕ) (p taken : Bool) (to : State)
-        → Ended (told_by_frame here t command octets (Disc p) taken l to)
-    by-disc here up command octets p taken to = grind (arith, one-ends, own)
-
     pub disc-ends : (f : Parts) (p : Bool) → Ended (told t (received (frame (record f { control = Disc p }))) l).notes
-    disc-ends f p = grind (arith, event-follows, by-disc)
+    disc-ends f p = grind (arith, event-follows, one-ends, own)
 
   -- UI leaves a link as it was, and delivers no contents of an I-frame.
   module _ (l : Link) where
     abbrev pub Same : Course → Type 0
     Same c = (c.link ≡ l) × (c.delivered ≡ None)
 
-    either : (b : Bool) (u v : Course) → Same u → Same v → Same (cond b u v)
-    either b u v x y = grind arith
-
     pub unit-data-stays : (f : Parts) → is_ui f.control ≡ true → Same (Machine.course t (received (frame f)) l)
-    unit-data-stays f is = grind (arith, either, nat_lt)
+    unit-data-stays f is = grind (arith, nat_lt)

@@ -1,5 +1,5 @@
 -- The far end lasts in its establishment, and that of the near end is over: what happens at the near end.
-use Rattle.laws_order.proofs.Vocabulary.{arith, ◌≡◌, ℕ, ◌+◌, ◌≤◌, false, IsTrue, List, [], ◌∷◌, ◌++◌, length, take, sym, ap, ◌∙◌, subst, true≢false, ◌⊎◌, Control, Service, Parts, other_side, reading, State, Link, is_multiple_frame, frames_of, came, Config, hears, expiry, request, next, heard_side, link_of, terms, after_is_sound, Station, Wire, requests, times_out, gives, takes, loses, happens, Event, of_link_at, Deed, acts, disturbed, elsewhere, IsElsewhere, IsPossibleAt, elsewhere_on, befalling, of_link_on, stream_frame, FramesEvent, nat_lt, at}
+use Rattle.laws_order.proofs.Vocabulary.{arith, ◌≡◌, ℕ, ◌+◌, ◌≤◌, false, IsTrue, List, [], ◌∷◌, ◌++◌, length, take, sym, ap, ◌∙◌, subst, true≢false, ◌⊎◌, Control, Service, Parts, other_side, reading, State, Link, is_multiple_frame, frames_of, came, Config, hears, expiry, request, next, heard_side, link_of, terms, after_is_sound, Station, Wire, requests, times_out, gives, takes, loses, happens, Event, of_link_at, Deed, acts, disturbed, elsewhere, IsElsewhere, IsPossibleAt, elsewhere_on, befalling, of_link_on, stream_frame, FramesEvent, at}
 use Rattle.laws_order.proofs.Down.{Speaks}
 use Rattle.laws_order.proofs.Lasting.{Calls, calls-report, calls-plain, speaks-answered, speaks-unheeded, Brought, brought-tail, brought-front, brought-more, brought-plain}
 use Rattle.laws_order.proofs.Leading.{Read, read, none_of_it, one_of_it, NotHeard, not-heard, other-line}
@@ -33,10 +33,7 @@ module _ (service : Service) (tei : ℕ) where
   pub comes-so : (s u : Station) → u.card.config.side ≡ other_side s.card.config.side → (octets octets' : List ℕ) (f : Parts)
       → hears (came s.card.config.n201 octets) ≡ hears (stream_frame octets') → of_link_at service tei (heard_side s.card.config) octets' ≡ f ∷ []
       → of_link_at service tei u.card.config.side octets ≡ f ∷ []
-  comes-so s u sides octets octets' f is its =
-      let whole : came s.card.config.n201 octets ≡ stream_frame octets' = cc is in
-      let same : octets' ≡ octets = grind (arith, nat_lt) in
-      ap (λ side. of_link_at service tei side octets) sides ∙ ap (of_link_at service tei (other_side s.card.config.side)) (sym same) ∙ its
+  comes-so s u sides octets octets' f is its = grind arith
 
   pub none-heard : (c : Config) (Q : Control → Type 0) (e : Event) → NotHeard service tei c e → HeardIs c service tei Q e
   none-heard c Q e none octets f is its = let wrong : [] ≡ f ∷ [] = sym (none octets is) ∙ its in absurd (cc wrong)
@@ -119,12 +116,9 @@ module _ (service : Service) (tei : ℕ) where
         r : ℕ
         r = (link_here service tei far).r
 
-        less : Brought contents (a + k) r (line_of (record near { way = rest })) → Lasts (record { near = record near { way = rest }; far = far }) dm
-        less line = grind arith
-
         go : IsFirst near octets rest → Lasts (record { near = record near { way = rest }; far = far }) dm
-        go (other_first none same) = less (subst (Brought contents (a + k) r) same h.line)
-        go (its_first f one more) = less (brought-tail contents (a + k) r f (line_of (record near { way = rest })) (subst (Brought contents (a + k) r) more h.line))
+        go (other_first none same) = grind (arith, subst (Brought contents (a + k) r) same h.line)
+        go (its_first f one more) = grind (arith, brought-tail contents (a + k) r f (line_of (record near { way = rest })) (subst (Brought contents (a + k) r) more h.line))
 
     near-elsewhere : (w : Wire) (dm : List (List ℕ)) (e : FramesEvent) → IsElsewhere w.near e → Lasts w dm → GoesOn w (record w { near = elsewhere_on e w.near }) dm
     near-elsewhere w dm e is h =

@@ -1,7 +1,7 @@
 -- The far end lasts in its establishment, and that of the near end is over: what happens at the far end.
 use Rattle.laws_order.proofs.Vocabulary.{◌≡◌, ℕ, ◌+◌, ◌≤◌, cond, IsTrue, List, [], ◌∷◌, ◌++◌, length, take, Option, None, refl, sym, ap, ◌∙◌, subst, append-nil, true≢false, inl, inr, arith, option_to_list, Seq, seq, is_seq, Control, Information, ReceiveReady, ReceiveNotReady, Reject, Service, Parts, other_side, State, Terms, Link, is_multiple_frame, frames_of, Means, frame-taken, came, hears, expiry, request, next, link_of, terms, after_is_sound, Seen, seen, offer-tells_nothing, frames_given, Station, Wire, requests, times_out, gives, takes, loses, answered, happens, frames_by, turned, twice-other, flat_map-append, Event, of_link_in, of_link_at, Deed, acts, disturbed, elsewhere, IsElsewhere, IsPossibleAt, elsewhere_on, befalling, seen_by, data_noted, StaysEstablished, of_link_on, FramesEvent, link_frame, LinkEvent, cleared, requested, offer, expired, received, after, course, told, at, event-delivers, none-delivered}
 use Rattle.laws_wire.proofs.Joint.{timer-delivers}
-use Rattle.laws_order.proofs.Does.{Has, LeavesIt, Does, IsKind}
+use Rattle.laws_order.proofs.Does.{Has, Does, IsKind}
 use Rattle.laws_order.proofs.Down.{Speaks}
 use Rattle.laws_order.proofs.Lasting.{speaks-report, speaks-plain, speaks-answered, Brings, Brought, brought-lower, brought-tail, Takes, takes-so}
 use Rattle.laws_order.proofs.Leading.{NotHeard, not-heard, other-line}
@@ -73,12 +73,6 @@ module _ (service : Service) (tei : ℕ) where
         still : Brought contents (a + k) l.r (line_of (record near { way = way })) → l'.r ≡ l.r → After None
         still line same = record { top = l.r; took = grind (arith, option_to_list, append-nil); rest = line }
 
-        left : Brought contents (a + k) l.r (line_of (record near { way = way })) → LeavesIt far.card.config service tei l l' e (answered e far) → Last w' (dm ++ data_noted service tei t)
-        left line x =
-            then-lasts None (still line (ap (λ (y : Link). y.r) x.is)) (ap (λ (y : Link). is_multiple_frame y.state) x.is ∙ h.up)
-            (subst (Each Speaks) (sym (ap (λ w. w ++ frames_of Own l'.waiting) (way-then ∙ ap (λ fs. way_here service tei far ++ fs) x.frames ∙ append-nil (way_here service tei far))
-            ∙ ap (λ (y : Link). way_here service tei far ++ frames_of Own y.waiting) x.is)) h.speech) x.noted
-
         module _ (x : Has far.card.config service tei l l' e (answered e far)) where
           speech-then : (ev : LinkEvent) → x.event ≡ ev → (ev ≡ cleared → ⊥) → AnsweredAt Speaks ev → Each Speaks (line_of (happens e far))
           speech-then ev is other answer =
@@ -88,8 +82,7 @@ module _ (service : Service) (tei : ℕ) where
               (x.is ∙ ap (λ ev. after Own ev l) is) (x.frames ∙ ap (λ ev. frames_given far.card.config Own ev l) is) p.ranges p.sound answer
               (none-awaited l'.state x.up) (λ up ns nr p. tt)
               (each-as Speaks NotUi speaks-plain waits (each-back Speaks (way_here service tei far) waits h.speech)) in
-              subst (λ w. Each Speaks (w ++ frames_of Own l'.waiting)) (sym way-then)
-              (subst (Each Speaks) (sym g.is) (each-append Speaks (line_of far) g.news h.speech g.are))
+              grind (arith, way-then, each-append)
 
           noted-then : (ev : LinkEvent) → x.event ≡ ev → (d : Option (List ℕ)) → (course Own ev l).delivered ≡ d → data_noted service tei t ≡ option_to_list d
           noted-then ev is d delivers = x.noted ∙ ap (λ ev. option_to_list (told Own ev l).delivered) is ∙ ap option_to_list delivers
@@ -159,7 +152,7 @@ module _ (service : Service) (tei : ℕ) where
           where
             go : Does far.card.config service tei l l' e (answered e far) → Last w' (dm ++ data_noted service tei t)
             go (inl ended) = absurd (true≢false (sym ended.0 ∙ stays))
-            go (inr (inl x)) = left line x
+            go (inr (inl x)) = grind (arith, then-lasts, still, way-then, way_here, append-nil)
             go (inr (inr x)) = by-kind x first line x.event refl x.kind
 
     -- no frame of the link is heard
@@ -212,8 +205,7 @@ module _ (service : Service) (tei : ℕ) where
 
     far-loses : (near far : Station) (way : List (List ℕ)) (dm : List (List ℕ)) → Last (record { near = near; far = record far { way = way } }) dm
         → Last (turned (befalling (acts loses) (record { near = record far { way = way }; far = near }))) dm
-    far-loses near far [] dm h = h
-    far-loses near far (octets ∷ rest) dm h = grind (arith, first-is, other_first, its_first)
+    far-loses near far o dm h = grind (arith, first-is, other_first, its_first)
 
     far-elsewhere : (w : Wire) (dm : List (List ℕ)) (e : FramesEvent) → IsElsewhere w.far e → Last w dm → Last (record w { far = elsewhere_on e w.far }) dm
     far-elsewhere w dm e is h =

@@ -1,6 +1,6 @@
 -- What an event of a link puts behind the control frames that wait, and what an offer gives: of each frame a predicate holds that holds of
 -- supervisory frames, of the answers to what is heard, and of the command that the state awaits the answer to.
-use Rattle.laws_order.proofs.Vocabulary.{arith, ◌≡◌, ℕ, suc, ◌&&◌, ◌||◌, not, Bool, true, false, cond, IsTrue, List, [], ◌∷◌, ◌++◌, take, refl, ap, ◌∙◌, append-nil, append_assoc, slice_get, unwrap_or, nat_lt, length, Seq, seq, Control, Information, ReceiveReady, ReceiveNotReady, Reject, Sabme, Disc, Ua, Dm, Parts, State, AwaitingEstablishment, AwaitingRelease, ControlFrame, Terms, received, undefined, wrong_size, overlong, expired, requested, offer, cleared, Link, is_multiple_frame, frame_of, outstanding, course, given_of, Course, frame_given, frames_of, is_overlong, as_heard, moves, receipt_as, to_information, to_sabme, to_disc, answers, is_time, command_in, commands, put, room, event-follows, after, begun}
+use Rattle.laws_order.proofs.Vocabulary.{arith, ◌≡◌, ℕ, suc, Bool, true, false, cond, IsTrue, List, [], ◌∷◌, ◌++◌, take, refl, ap, ◌∙◌, append-nil, append_assoc, slice_get, unwrap_or, Seq, seq, Control, Information, ReceiveReady, ReceiveNotReady, Reject, Sabme, Disc, Ua, Dm, Parts, State, AwaitingEstablishment, AwaitingRelease, ControlFrame, Terms, received, undefined, wrong_size, overlong, expired, requested, offer, cleared, Link, is_multiple_frame, frame_of, course, given_of, Course, frame_given, frames_of, as_heard, receipt_as, answers, commands, put, room, event-follows, after, begun}
 use Rattle.model_link.specs.Events.{Event, frame}
 use Rattle.model_link.specs.Offers
 use Rattle.model_link.specs.Words
@@ -60,30 +60,18 @@ module _ (P : Control → Type 0) where
   waits-take (suc n) (w ∷ ws) h = (h.0, waits-take n ws h.1)
   waits-take other any h = tt
 
-  either : (b : Bool) (xs ys : List ControlFrame) → EachWaits P xs → EachWaits P ys → EachWaits P (cond b xs ys)
-  either b xs ys x y = grind arith
-
   module _ (reports : Reporting P) (l : Link) where
     receipt : (own : Bool) (r : ℕ) (pf : Bool) → P (receipt_as own r pf)
     receipt own r pf = grind arith
 
-    to-information : (next p : Bool) → EachWaits P (to_information next p l)
-    to-information next p = grind (arith, either, receipt)
-
     to-supervisory : (b : Bool) → EachWaits P (cond b (record { command = false; control = receipt_as l.own_busy l.r true } ∷ []) [])
-    to-supervisory b = either b _ _ (receipt l.own_busy l.r true, tt) tt
-
-    by-sabme : (here : State) (p : Bool) → P (Ua p) × P (Dm p) → P (to_sabme here p)
-    by-sabme here p h = grind arith
-
-    by-disc : (here : State) (p : Bool) → P (Ua p) × P (Dm p) → P (to_disc here p)
-    by-disc here p h = grind arith
+    to-supervisory b = grind arith
 
     its-answers : (e : Event) → AnsweredAt P e → EachWaits P (answers e l)
-    its-answers e h = grind (arith, by-sabme, by-disc, either, to-information, to-supervisory, receipt)
+    its-answers e h = grind (arith, receipt, to-supervisory)
 
     is-put : (e : Event) (to : State) → AnsweredAt P e → Awaited P to → EachWaits P (put e l to)
-    is-put e to h a = waits-append (answers e l) (commands e l to) (its-answers e h) (either (moves l.state to || is_time e l) (command_in to l) [] (grind (arith, receipt)) tt)
+    is-put e to h a = waits-append (answers e l) (commands e l to) (its-answers e h) (grind arith)
 
     -- What waits behind what waited.
     module _ (t : Terms) where
@@ -100,13 +88,10 @@ module _ (P : Control → Type 0) where
       IsPut cleared = ⊥
       IsPut other = Unit {0}
 
-      heard-so : (f : Parts) (long : Bool) → Answered P f.control → AnsweredAt P (received (cond long overlong (frame f)))
-      heard-so f long h = grind arith
-
       pub waits-more : (e : Event) → IsPut e → AnsweredAt P e → Awaited P (after t e l).state → Grows (after t e l).waiting
       waits-more (received (frame f)) is h a =
           grows (as_heard t (received (frame f))) (after t (received (frame f)) l).state (after t (received (frame f)) l).waiting
-          (event-follows t (received (frame f)) l).leaves.waiting (heard-so f (is_overlong t f.control f.info) h) a
+          (event-follows t (received (frame f)) l).leaves.waiting (grind arith) a
       waits-more (received undefined) is h a = grows (received undefined) _ _ (event-follows t (received undefined) l).leaves.waiting tt a
       waits-more (received wrong_size) is h a = grows (received wrong_size) _ _ (event-follows t (received wrong_size) l).leaves.waiting tt a
       waits-more (received overlong) is h a = grows (received overlong) _ _ (event-follows t (received overlong) l).leaves.waiting tt a
@@ -133,9 +118,6 @@ module _ (P : Control → Type 0) where
       none : Gives (begun l)
       none = grind (arith, frames_of, append-nil)
 
-      is-up : (here : State) (a b d : Bool) → (((Offers.is_established here && a) && b) && d) ≡ true → IsTrue (is_multiple_frame here)
-      is-up here a b d e = grind arith
-
       abbrev information : Parts
       information = record (frame_of t (Offers.next_information l)) { info = unwrap_or (slice_get l.contents l.s) [] }
 
@@ -144,7 +126,7 @@ module _ (P : Control → Type 0) where
       among says [] e =
           by-two (Offers.may_send_information t l) _ _
           (λ may.
-          let is = says (is-up l.state (not l.peer_busy) (nat_lt (outstanding l) t.k) (nat_lt l.s (length l.contents)) may) (seq l.s) (seq l.r) false in
+          let is = says (grind arith) (seq l.s) (seq l.r) false in
           by-two (Offers.is_awaiting_acknowledgement (Offers.with_one_sent l)) _ _ (λ b. one _ information is e refl refl) (one _ information is e refl refl))
           (by-two l.pending _ _ (λ b. one _ (frame_of t (Words.response (ReceiveReady (seq l.r) false))) (reports.ready (seq l.r) false) e refl refl) none)
       among says (f ∷ fs) e = grind (arith, append_assoc, frames_of, append-nil)

@@ -1,5 +1,5 @@
 -- An end that releases its link counts in RC the expiries of T200, until it is told.
-use Rattle.laws_order.proofs.Vocabulary.{◌≡◌, ℕ, ◌+◌, ◌≤◌, Bool, true, false, cond, List, [], ◌∷◌, ◌++◌, get_or, set, Option, Some, None, refl, sym, ap, ◌∙◌, subst, arith, ◌⊎◌, inl, inr, All, filter, length, nat_lt, ltb-true, get_or-set_same, All-head, Note, Service, TeiAssigned, AwaitingRelease, Terms, LinkTimer, T200, T203, Link, runs, Config, hears, Line, fresh_line, link_of, place_in, terms, line_at, wants_room, has_lines, by_room, event-follows, timed-after, IsBy, Seen, none-ticks, own-is, Goes, event-goes, expired_of, off-fresh, nothing_yet, Station, Wire, happens, fresh, Event, at, line_of, Happening, IsPossible, happening, seen_at_near, seen_near, is_t200, t200_by, t200s, news, stream_overlong, stream_frame, LinkEvent, expired, after, flat_map-append, news_in}
+use Rattle.laws_order.proofs.Vocabulary.{◌≡◌, ℕ, ◌+◌, ◌≤◌, Bool, true, false, cond, List, [], ◌∷◌, ◌++◌, get_or, set, Option, Some, None, refl, sym, ap, ◌∙◌, subst, arith, ◌⊎◌, inl, inr, All, filter, length, nat_lt, ltb-true, get_or-set_same, All-head, Note, Service, TeiAssigned, AwaitingRelease, Terms, LinkTimer, T200, Link, Config, Line, fresh_line, link_of, place_in, terms, line_at, wants_room, has_lines, by_room, event-follows, timed-after, Seen, none-ticks, own-is, Goes, event-goes, expired_of, off-fresh, nothing_yet, Station, Wire, happens, fresh, Event, at, line_of, Happening, IsPossible, happening, seen_at_near, seen_near, is_t200, t200_by, t200s, news, LinkEvent, expired, after, flat_map-append, news_in}
 use Rattle.model_line.specs.Machine as lines
 use Rattle.model_line.specs.Sound as line_sound
 use Rattle.model_card.proofs.Steps.{line_sound as sound_line}
@@ -12,19 +12,9 @@ pub record Counted (t : Terms) (l l' : Link) (n : ℕ) : Type 0 where
   pub repeats : l'.repeats ≡ n + l.repeats
   pub below : (n ≡ 0) ⊎ (n + l.repeats ≤ t.n200)
 
-uncounted : (t : Terms) (l l' : Link) (n : ℕ) → l.running ≡ Some T200 → l' ≡ l → n ≡ 0 → Counted t l l' n
-uncounted t l l' n runs same none = grind arith
-
-abbrev times : LinkEvent → ℕ
-times (expired T200) = 1
-times other = 0
-
 module _ (t : Terms) (l : Link) (is : l.state ≡ AwaitingRelease) (runs-on : l.running ≡ Some T200) where
   abbrev l' : LinkEvent → Link
   l' e = after t e l
-
-  abbrev left : Bool → ℕ
-  left time = cond time (l.repeats + 1) l.repeats
 
   expires : (again : Bool) → nat_lt l.repeats t.n200 ≡ again → (l' (expired T200)).state ≡ AwaitingRelease → Counted t l (l' (expired T200)) 1
   expires again few stays = grind (arith, timed-after, event-follows, nat_lt, t, ltb-true)
@@ -38,17 +28,8 @@ module _ (service : Service) (tei : ℕ) where
   its-t200 (Some T200) = true
   its-t200 other = false
 
-  by-own : (b : Bool) → b ≡ its-t200 (cond b (Some T200) None)
-  by-own b = grind arith
-
-  by-other : (b : Bool) → false ≡ its-t200 (cond b (Some T203) None)
-  by-other b = grind arith
-
-  t200-is : (e : Event) → is_t200 service tei e ≡ its-t200 (expired_of service tei e)
-  t200-is e = grind (arith, by-own, by-other)
-
   none-counted : (e : Event) → expired_of service tei e ≡ None → count_of e ≡ 0
-  none-counted e none = ap (λ b. length (cond {A = List Event} b (e ∷ []) [])) (t200-is e ∙ ap its-t200 none)
+  none-counted e none = ap (λ b. length (cond {A = List Event} b (e ∷ []) [])) (grind arith ∙ ap its-t200 none)
 
   -- One event of a line.
   module _ (c : Config) (l : Line) (s : line_sound.IsSound c l) (e : Event) where
@@ -61,12 +42,6 @@ module _ (service : Service) (tei : ℕ) where
     abbrev k' : Link
     k' = link_of service tei (lines.after c e l)
 
-    faulty : (octets : List ℕ) (A B : Type 0) → ((e ≡ hears (stream_frame octets)) × A) ⊎ ((e ≡ hears (stream_overlong octets)) × B) → count_of e ≡ 0
-    faulty octets A B o = grind arith
-
-    count-is : (ev : LinkEvent) → IsBy c e (lines.answer c e l) service tei ev → count_of e ≡ times ev
-    count-is ev by = grind (arith, own-is, faulty)
-
     line-counts : k.state ≡ AwaitingRelease → k.running ≡ Some T200 → k'.state ≡ AwaitingRelease → Counted Own k k' (count_of e)
     line-counts is runs-on stays = go (event-goes c e l service tei s)
       where
@@ -78,9 +53,9 @@ module _ (service : Service) (tei : ℕ) where
           where
             by-place : (o : Option ℕ) → place_in l tei ≡ o → (k' ≡ k) ⊎ (k' ≡ fresh) → Counted Own k k' (count_of e)
             by-place None off h = not-fresh k is (off-fresh service tei l off) (Counted Own k k' (count_of e))
-            by-place (Some place) on (inl same) = uncounted Own k k' (count_of e) runs-on same (none-counted e (none-ticks c service tei nothing_yet l place on e x.aims))
+            by-place (Some place) on (inl same) = grind (arith, none-counted e (none-ticks c service tei nothing_yet l place on e x.aims))
             by-place (Some place) on (inr new) = not-fresh k' stays new (Counted Own k k' (count_of e))
-        go (inr (inl x)) = grind (arith, count-is, timed-after, event-follows, expires, nat_lt)
+        go (inr (inl x)) = grind (arith, own-is, timed-after, event-follows, expires, nat_lt)
         go (inr (inr x)) = not-fresh k' stays x.is (Counted Own k k' (count_of e))
 
   -- At a station.
@@ -108,7 +83,7 @@ module _ (service : Service) (tei : ℕ) where
     station-counts : Was.state ≡ AwaitingRelease → Was.running ≡ Some T200 → Then (line_of (happens e s))
     station-counts is runs-on =
         by_room (λ ls a. Then (get_or ls s.line (fresh_line conf))) (at s.line e) s.card
-        (λ full stays. uncounted (terms conf service tei) Was Was (count_of e) runs-on refl (full-none e full))
+        (λ full stays. (grind (arith, full-none e full)))
         (λ room. subst Then (sym now) (line-counts conf here (sound_line s.card s.line (has_lines s.card well.sound) well.within) e is runs-on))
 
   -- Whole runs.
@@ -120,7 +95,7 @@ module _ (service : Service) (tei : ℕ) where
 
   step-counts : (w w' : Wire) (t : List Seen) (es : List Event) → IsWell w.near → (Here w).state ≡ AwaitingRelease → (Here w).running ≡ Some T200 → Occurs service tei w w' t es
       → (Here w').state ≡ AwaitingRelease → Counted (Own_ w) (Here w) (Here w') (length (filter (is_t200 service tei) es)) × (w'.near.card.config ≡ w.near.card.config)
-  step-counts w w' t es well is runs-on (nothing_there same none nil) stays = grind (arith, uncounted)
+  step-counts w w' t es well is runs-on (nothing_there same none nil) stays = grind arith
   step-counts w w' t es well is runs-on (one_there e it shown one) stays = (
     subst (λ es. Counted (Own_ w) (Here w) (Here w') (length (filter (is_t200 service tei) es))) (sym one)
         (subst (λ s. Counted (Own_ w) (Here w) (link_here service tei s) (count_of e)) (sym it)

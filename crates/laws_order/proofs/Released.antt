@@ -1,5 +1,5 @@
 -- What an end is told of its link in state 6, and in state 4, whatever happens at it and at the other end.
-use Rattle.laws_order.proofs.Vocabulary.{arith, ◌≡◌, ℕ, List, [], ◌∷◌, ◌++◌, refl, sym, ap, ◌∙◌, subst, append-nil, ◌⊎◌, inl, inr, All, list_any, All-head, All-tail, list_any-append, Note, Service, State, TeiAssigned, AwaitingRelease, Link, came, hears, expiry, request, next, after_is_sound, Seen, seen, Station, Wire, requests, times_out, gives, takes, loses, answered, happens, turned, flat_map-append, Event, line_of, Deed, acts, disturbed, elsewhere, befalling, Happening, by_near, by_far, IsPossible, happening, IsPossibleAt, events_here, seen_by, seen_at_near, seen_near, data_noted, news_in, news, begins_by, BeginsNothing, IsToldOfRelease, ReleasesEnd, ReleasedIsOver, or_parts, at}
+use Rattle.laws_order.proofs.Vocabulary.{arith, ◌≡◌, ℕ, List, [], ◌∷◌, ◌++◌, refl, sym, ap, ◌∙◌, subst, append-nil, ◌⊎◌, inl, inr, All, list_any, All-head, All-tail, list_any-append, Note, Service, TeiAssigned, AwaitingRelease, Link, came, hears, expiry, request, next, after_is_sound, Seen, seen, Station, Wire, requests, times_out, gives, takes, loses, answered, happens, turned, flat_map-append, Event, line_of, Deed, acts, disturbed, elsewhere, befalling, Happening, by_near, by_far, IsPossible, happening, IsPossibleAt, events_here, seen_by, seen_at_near, seen_near, data_noted, news, begins_by, BeginsNothing, IsToldOfRelease, ReleasesEnd, ReleasedIsOver, or_parts, at}
 use Rattle.laws_order.proofs.Beginning.{past-well, six-here, four-here}
 use Rattle.laws_order.proofs.Leading.{other-line}
 use Rattle.laws_order.proofs.Ordered.{noted-append, near-place, far-place, all-possible}
@@ -48,10 +48,7 @@ module _ (service : Service) (tei : ℕ) where
   Is t ns = (news service tei t ≡ ns) × (data_noted service tei t ≡ [])
 
   pub joins : (t u : List Seen) (ns ms : List Note) → Is t ns → Is u ms → Is (t ++ u) (ns ++ ms)
-  joins t u ns ms x y = (
-    (flat_map-append (news_in service tei) t u) ∙ ap (λ a. a ++ news service tei u) x.0 ∙ ap (λ b. ns ++ b) y.0,
-    noted-append service tei t u ∙ ap (λ a. a ++ data_noted service tei u) x.1 ∙ y.1,
-  )
+  joins t u ns ms x y = grind (arith, flat_map-append, noted-append)
 
   step-four : (w w' : Wire) (t : List Seen) (es : List Event) → IsWell w.near → (link_here service tei w.near).state ≡ TeiAssigned → BeginsNothing service tei t
       → Occurs w w' t es → ((link_here service tei w'.near).state ≡ TeiAssigned) × Is t []
@@ -73,9 +70,6 @@ module _ (service : Service) (tei : ℕ) where
   step-six w w' t es well is (nothing_there same none nil) = inl (ap (λ (y : Link). y.state) same.1 ∙ is, ((ap (news service tei) none, ap (data_noted service tei) none)))
   step-six w w' t es well is (one_there e it shown one) = go (station-six service tei w.near well e is)
     where
-      to-state : (to : State) → (link_here service tei (happens e w.near)).state ≡ to → (link_here service tei w'.near).state ≡ to
-      to-state to h = ap (λ (s : Station). (link_here service tei s).state) it ∙ h
-
       none-of : (Confirmless service tei w.near.card.config e (line_of (happens e w.near)) → ⊥) → MayConfirm w w' es
       none-of never = λ all.
           let mine : All (λ e. Confirmless service tei w.near.card.config e (line_of w'.near)) (e ∷ []) =
@@ -83,7 +77,7 @@ module _ (service : Service) (tei : ℕ) where
           never (subst (λ s. Confirmless service tei w.near.card.config e (line_of s)) it (All-head (λ e. Confirmless service tei w.near.card.config e (line_of w'.near)) e [] mine))
 
       go : SixAt service tei w.near well e (line_of (happens e w.near)) (answered e w.near) → StepSix w w' t es
-      go o = grind (arith, to-state, Confirm, none-of, GivenUp)
+      go o = grind (arith, link_here, Confirm, none-of, GivenUp)
 
   abbrev IsOpen : Wire → Happening → Type 0
   IsOpen w h = IsPossible service tei w h
@@ -121,12 +115,6 @@ module _ (service : Service) (tei : ℕ) where
   given-up-so : (t : List Seen) → Is t (GivenUp service tei) → Released t
   given-up-so t x = (inr (inr x.0), x.1)
 
-  behind-none : (t u : List Seen) → Is t [] → Released u → Released (t ++ u)
-  behind-none t u x y = (
-    subst (IsToldOfRelease service tei) (sym ((flat_map-append (news_in service tei) t u) ∙ ap (λ a. a ++ news service tei u) x.0)) y.0,
-    noted-append service tei t u ∙ ap (λ a. a ++ data_noted service tei u) x.1 ∙ y.1,
-  )
-
   run-six : (hs : List Happening) (w : Wire) → IsWell w.near → (link_here service tei w.near).state ≡ AwaitingRelease → All (IsOpen w) hs
       → BeginsNothing service tei (seen_near hs w) → Released (seen_near hs w)
   unfolding seen_near
@@ -143,9 +131,7 @@ module _ (service : Service) (tei : ℕ) where
     where
       go : (w' : Wire) (t u : List Seen) → ((link_here service tei w'.near).state ≡ AwaitingRelease → Released u) → ((link_here service tei w'.near).state ≡ TeiAssigned → Is u [])
           → StepSix w w' t (events_at h w) → Released (t ++ u)
-      go w' t u six four (inl (is, x)) = behind-none t u x (six is)
-      go w' t u six four (inr (is, inl x)) = ((inr (inl (joins t u (Confirm service tei) [] x.0 (four is)).0), (joins t u (Confirm service tei) [] x.0 (four is)).1))
-      go w' t u six four (inr (is, inr x)) = given-up-so (t ++ u) (joins t u (GivenUp service tei) [] x (four is))
+      go w' t u six four o = grind (arith, flat_map-append, noted-append, joins, given-up-so)
 
 pub releases-end : ReleasesEnd
 releases-end service tei w hs p is all quiet = run-six service tei hs w (past-well w.near p) (six-here service tei w.near is) all quiet

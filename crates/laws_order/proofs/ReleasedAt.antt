@@ -6,7 +6,7 @@ use Rattle.model_line.specs.Sound as line_sound
 use Rattle.model_card.proofs.Steps.{line_sound as sound_line}
 use Rattle.laws_trace.specs.News as trace
 use Rattle.laws_order.proofs.Down.{Speaks}
-use Rattle.laws_order.proofs.LinkReleased.{Tells, In6, In4, Begins, AsksNothing, Confirms, ConfirmsAt, in-6, in-4}
+use Rattle.laws_order.proofs.LinkReleased.{Tells, In6, In4, Begins, Confirms, ConfirmsAt, in-6, in-4}
 use Rattle.laws_order.proofs.Pairs.{link_here, IsWell}
 use Rattle.laws_order.proofs.Saying.{HeardIs, by-ui}
 use Rattle.laws_order.proofs.Shown.{Fits, fits, noted_by, noted-is, none-noted}
@@ -141,8 +141,7 @@ module _ (service : Service) (tei : ℕ) where
         where
           go : (o : Option ℕ) → place_in l tei ≡ o → (p : Option ℕ) → place_in l' tei ≡ p → Four k' a
           go None off p q = off-says off
-          go (Some place) on (Some there) still =
-              (ap (λ (y : Link). y.state) (x.stays (on-line l tei place on) (on-line l' tei there still)) ∙ is, on-says there still)
+          go (Some place) on (Some there) still = grind (arith, on-line, on-says)
           go (Some place) on None off = grind (arith, new-state, off-fresh, left-says)
 
     -- an event of it
@@ -163,29 +162,19 @@ module _ (service : Service) (tei : ℕ) where
           go (inr (to, inl y)) = inr (state-is ∙ to, inl (by-notes _ Confirm x.notes y.0, unconfirmed x.event x.by y.1))
           go (inr (to, inr y)) = inr (state-is ∙ to, inr (by-notes _ GivenUp x.notes y))
 
-      asks-nothing : Quietly → (ev : LinkEvent) → IsBy c e a service tei ev → AsksNothing Own ev
-      asks-nothing quiet ev by = grind (arith, own-is)
-
       one-four : Quietly → k.state ≡ TeiAssigned → Four k' a
-      one-four quiet is = go (in-4 Own k is x.event (asks-nothing quiet x.event x.by))
+      one-four quiet is = go (in-4 Own k is x.event (grind (arith, own-is)))
         where
           go : Begins Own (told Own x.event k).notes ⊎ In4 Own (told Own x.event k).notes (after Own x.event k).state → Four k' a
-          go (inl begun) = absurd (true≢false (sym (noted-begins e a (fits c e l) (ap (list_any (begins_by_note service tei)) x.notes ∙ begun)) ∙ quiet))
-          go (inr y) = (state-is ∙ y.0, by-notes _ [] x.notes y.1)
+          go o = grind (arith, noted-begins, fits, state-is, by-notes)
 
     -- its deactivation
     module _ (x : IsGivenUp c service tei e l l' a) where
-      deactivated : deactivates service tei e ≡ true
-      deactivated = ap (deactivates service tei) x.by.0 ∙ own-is service tei
-
       ended-six : k.state ≡ AwaitingRelease → Six Cause k' a
-      ended-six is = grind (arith, in-6, In6, ConfirmsAt, by-notes, deactivated)
+      ended-six is = grind (arith, in-6, In6, ConfirmsAt, by-notes, deactivates, own-is)
 
       ended-four : Quietly → k.state ≡ TeiAssigned → Four k' a
-      ended-four quiet is = go (in-4 Own k is cleared tt)
-        where
-          go : Begins Own (told Own cleared k).notes ⊎ In4 Own (told Own cleared k).notes (after Own cleared k).state → Four k' a
-          go o = grind (arith, noted-begins, by-notes)
+      ended-four quiet is = grind (arith, in-4, noted-begins, by-notes)
 
     pub line-six : k.state ≡ AwaitingRelease → Six Cause k' a
     line-six is = elim (event-goes c e l service tei s) [ inl x ↦ none-six x is | inr (inl x) ↦ one-six x is | inr (inr x) ↦ ended-six x is ]

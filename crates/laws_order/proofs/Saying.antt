@@ -28,14 +28,8 @@ pub each-as : (P Q : Control → Type 0) → ((control : Control) → P control 
 each-as P Q x [] h = tt
 each-as P Q x (f ∷ fs) h = (x f.control h.0, each-as P Q x fs h.1)
 
-ui-answered : (P : Control → Type 0) (control : Control) → is_ui control ≡ true → Answered P control
-ui-answered P control is = grind arith
-
 ui-unheeded : (control : Control) → is_ui control ≡ true → Unheeded control
 ui-unheeded control is = grind arith
-
-offer-stays : (t : Terms) (k : Link) → (after t offer k).state ≡ k.state
-offer-stays t k = (event-follows t offer k).leaves.state
 
 module _ (c : Config) (service : Service) (tei : ℕ) where
   abbrev Own : Terms
@@ -70,18 +64,12 @@ module _ (c : Config) (service : Service) (tei : ℕ) where
           let all = each-front NotUi news (frames_of Own (after Own offer k).waiting)
           (subst (Each NotUi) (sym (g.line [])) (each-append NotUi (frames_of Own k.waiting) g.news waits (each-as P NotUi plain g.news g.are))) in
           let again = given-again c service tei (link_given Own k) (given_is_frame Own ranges k sound) (plain-all news all) in
-          record {
-            news = g.news;
-            is = grind (arith, frames_of);
-            are = g.are;
-          }
+          grind arith
 
       pub event-grows : (ev : LinkEvent) → (ev ≡ cleared → ⊥) → k' ≡ after Own ev k → frames ≡ frames_given c Own ev k
           → link_sound.IsInRange Own → link_sound.IsSound Own k → AnsweredAt P ev → Awaited P k'.state
           → (IsTrue (is_multiple_frame k'.state) → (ns nr : Seq) (p : Bool) → P (Information ns nr p)) → Each NotUi (frames_of Own k.waiting) → Grows
-      event-grows offer other is given ranges sound answer await says waits = grind (arith, offer-grows, sound, offer-stays)
-      event-grows cleared other is given ranges sound answer await says waits = absurd (other refl)
-      event-grows any other is given ranges sound answer await says waits = put-grows any is given tt answer await
+      event-grows o x is given ranges sound answer await says waits = grind (arith, offer-grows, event-follows, offer, put-grows)
 
   -- Any event of the line.
   module _ (ranged : line_sound.IsInRange c) (l : Line) (s : line_sound.IsSound c l) (e : Event) where
@@ -113,18 +101,16 @@ module _ (c : Config) (service : Service) (tei : ℕ) where
     unheeded heard (received (link_frame f)) by = by-ui Unheeded Unheeded ui-unheeded (itself Unheeded) heard f by
     unheeded heard other by = tt
 
-    is-down : is_multiple_frame k.state ≡ false → HeardIs Unheeded e → Goes c service tei e l (lines.after c e l) a → is_multiple_frame k'.state ≡ false
-    is-down down heard o = grind (arith, stays-down, unheeded)
-
     pub line-down : is_multiple_frame k.state ≡ false → HeardIs Unheeded e → is_multiple_frame k'.state ≡ false
-    line-down down heard = is-down down heard (event-goes c e l service tei s)
+    line-down down heard = grind (arith, stays-down, unheeded, event-goes c e l service tei s)
 
     module _ (P : Control → Type 0) (reports : Reporting P) (plain : (control : Control) → P control → NotUi control) (way : List Parts) where
       abbrev Goes-on : Type 0
       Goes-on = Grown P (line_on way k) (line_on (way ++ Ours (frames_by a)) k') ⊎ (line_on (way ++ Ours (frames_by a)) k' ≡ way)
 
       answers : HeardIs (Answered P) e → (ev : LinkEvent) → IsBy c e a service tei ev → AnsweredAt P ev
-      answers heard (received (link_frame f)) by = by-ui (Answered P) (Answered P) (ui-answered P) (itself (Answered P)) heard f by
+      answers heard (received (link_frame f)) by =
+          by-ui (Answered P) (Answered P) (λ control is. grind arith) (itself (Answered P)) heard f by
       answers heard other by = tt
 
       none-cleared : (ev : LinkEvent) → IsBy c e a service tei ev → ev ≡ cleared → ⊥

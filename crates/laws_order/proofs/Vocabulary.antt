@@ -1,38 +1,19 @@
--- The words of std, of the crates below and of the statements of this crate with which its proofs speak, from where they are defined.
-pub use Rattle.std.proofs.Common.{Bool, Err, IfSome, IsTrue, List, None, Ok, Option, Result, Some, [], ap, append-nil, append_assoc, arith, cond, drop, eq-eqb, eqb-true, false, get_or, inl, inr, is_some, length, length-append, length-drop, map, nat_eq, nat_lt, not, option_and_then, option_map, option_to_list, refl, reverse, set, slice_index, subst, suc, sym, take, true, true≢false, zero, ℕ, ◌%◌, ◌&&◌, ◌*◌, ◌++◌, ◌+◌, ◌-◌, ◌<◌, ◌==◌, ◌||◌, ◌∙◌, ◌∷◌, ◌≡◌, ◌≤◌, ◌⊎◌}
-pub use Rattle.std.proofs.lemmas.Bool.{and_left, and_parts, le-ltb, leb-true, ltb-false, ltb-true, ne_eqb, or_from, or_parts}
+-- The words of std, of the crates below and of the statements of this crate with which its proofs speak: those of `laws_wire` from its own
+-- vocabulary, the others from where they are defined.
+pub use Rattle.laws_wire.proofs.Vocabulary.{All-append, All-cons, All-head, All-nil, All-tail, Assign, AwaitingEstablishment, AwaitingRelease, Call, Card, Config, Control, ControlFrame, Course, Data, End, ErrorCode, Establish, Given, Joined, LinkTimer, Note, Packet, Parts, PoolFull, Refusal, Request, Seq, Service, State, T200, TeiAssigned, Terms, TimerRecovery, and_parts, at-first, begun, came, done-at, event-delivers, event-follows, flat_map-append, frame_given, given_is_frame, heard_side, is_granted, joined-turned, le-ltb, leb-true, line_at, link-grants, list_any, list_any-append, ltb-false, ltb-true, network, next_of, offer-gave, option_map_or, or_parts, other_side, place_of-is, reading-again, sapi_of, sound_in, taken, terms_in_range, user, with_link, with_sent}
+unfoldable pub use Rattle.laws_wire.proofs.Vocabulary.{control_of, distance_of, header_of, named, reading, seq, supervisory_of, tei_course, tei_refusal, unnumbered_of}
+pub use Rattle.std.proofs.Common.{Bool, Err, IfSome, IsTrue, List, None, Ok, Option, Result, Some, [], ap, append-nil, append_assoc, arith, cond, drop, eq-eqb, eqb-true, false, get_or, inl, inr, is_some, length, length-append, length-drop, map, nat_lt, not, option_and_then, option_map, option_to_list, refl, reverse, set, subst, suc, sym, take, true, true≢false, zero, ℕ, ◌%◌, ◌&&◌, ◌*◌, ◌++◌, ◌+◌, ◌-◌, ◌<◌, ◌==◌, ◌||◌, ◌∙◌, ◌∷◌, ◌≡◌, ◌≤◌, ◌⊎◌}
 pub use Rattle.std.proofs.lemmas.List.{append_cancel_left, get_or-replicate, get_or-set_other, get_or-set_same, length-map, length-take-le, map-append, length-take}
-pub use Rattle.std.proofs.lemmas.List.Elements.{All-append, All-cons, All-head, All-nil, All-tail}
-pub use Rattle.std.proofs.lemmas.List.Folds.{list_any-append}
 pub use Rattle.std.proofs.lemmas.List.Sums.{fold-append}
 pub use Rattle.std.proofs.lemmas.Option.{slice_get_within}
-pub use Rattle.std.specs.List.{list_any}
-pub use Rattle.std.specs.Option.{option_map_or, option_or}
 pub use Rattle.std.specs.Prelude.{All, filter, flat_map, fold, if◌then◌else◌, slice_get, unwrap_or}
-pub use Rattle.lapd_frame.proofs.Spelling.{reading-again}
-pub use Rattle.lapd_frame.specs.Grammar.{Parts, other_side}
-unfoldable pub use Rattle.lapd_frame.specs.Reading.{control_of, header_of, reading, supervisory_of, unnumbered_of}
-pub use Rattle.lapd_frame.specs.Services.{sapi_of}
 pub use Rattle.lapd_frame.specs.declared.addresses.Side.TheVariants.{Network, User}
-pub use Rattle.lapd_frame.specs.declared.controls.Control.{Control}
-pub use Rattle.lapd_frame.specs.declared.controls.Control.TheVariants.{Disc, Dm, Frmr, Information, ReceiveNotReady, ReceiveReady, Reject, Sabme, Ua, Ui, Xid}
+pub use Rattle.lapd_frame.specs.declared.controls.Control.TheVariants.{Disc, Dm, Information, ReceiveNotReady, ReceiveReady, Reject, Sabme, Ua, Ui}
 pub use Rattle.lapd_frame.specs.declared.faults.ReadFault.{ReadFault}
-pub use Rattle.lapd_frame.specs.declared.notes.ErrorCode.{ErrorCode}
 pub use Rattle.lapd_frame.specs.declared.notes.ErrorCode.TheVariants.{H}
-pub use Rattle.lapd_frame.specs.declared.notes.Note.{Note}
 pub use Rattle.lapd_frame.specs.declared.notes.Note.TheVariants.{Assigned as NoteAssigned, Data as NoteData, Doubled as NoteDoubled, Error as NoteError, EstablishConfirm as NoteEstablishConfirm, EstablishIndication as NoteEstablishIndication, ReleaseConfirm as NoteReleaseConfirm, ReleaseIndication as NoteReleaseIndication, Removed as NoteRemoved, Unit as NoteUnit, Xid as NoteXid}
-pub use Rattle.lapd_frame.specs.declared.refusals.Refusal.{Refusal}
-pub use Rattle.lapd_frame.specs.declared.refusals.Refusal.TheVariants.{PoolFull}
-pub use Rattle.lapd_frame.specs.declared.services.Service.{Service}
-pub use Rattle.lapd_frame.specs.declared.services.Service.TheVariants.{Call, Packet}
 pub use Rattle.lapd_seq.proofs.Callers.{is_seq}
-unfoldable pub use Rattle.lapd_seq.specs.Circle.{distance_of, named}
-unfoldable pub use Rattle.lapd_seq.specs.Numbers.{seq}
-pub use Rattle.lapd_seq.specs.declared.numbers.Seq.{Seq}
-pub use Rattle.lapd_tei.proofs.Tables.{place_of-is}
-unfoldable pub use Rattle.lapd_tei.specs.Events.{course as tei_course, refusal as tei_refusal}
 pub use Rattle.lapd_tei.specs.Messages.{information_of}
-pub use Rattle.laws_line.proofs.Asked.{link-grants}
 pub use Rattle.laws_line.proofs.Granting.{not-refused}
 pub use Rattle.laws_line.proofs.Hearing.{same-sapi, sapi-is}
 pub use Rattle.laws_line.proofs.Knowing.{known-up}
@@ -41,21 +22,16 @@ pub use Rattle.laws_line.proofs.OfCard.Wherever.{all-left, all-right}
 pub use Rattle.laws_line.proofs.Places.{is-off}
 pub use Rattle.laws_line.proofs.TimersFollow.{nowhere}
 pub use Rattle.laws_line.specs.Heard.{contents_in, is_data_of, notes_of}
-pub use Rattle.laws_line.specs.Knowledge.{is_up_of, link_is_up, up_by_note}
+pub use Rattle.laws_line.specs.Knowledge.{is_up_of, up_by_note}
 pub use Rattle.laws_line.specs.Requests.{deactivates, of_link}
-pub use Rattle.laws_line.specs.Share.{is_granted}
 pub use Rattle.laws_line.specs.Steady.{IsBy, timer_of}
-pub use Rattle.laws_link.proofs.Follows.{event-follows}
 pub use Rattle.laws_link.proofs.TimedRows.{timed-after}
 pub use Rattle.laws_link.specs.Accepted.{accepted, contents_asked}
-pub use Rattle.laws_link.specs.Flags.{repeats_left, takes_contents}
-pub use Rattle.laws_link.specs.Known.{is_up, is_up_in}
-pub use Rattle.laws_link.specs.States.{as_heard, by_expiry, by_frame, by_received, by_request, is_clearing, is_faulty, is_invalid, is_overlong, moves, receipt_of, state_after}
+pub use Rattle.laws_link.specs.Known.{is_up_in}
+pub use Rattle.laws_link.specs.States.{as_heard, by_frame, by_received, by_request, is_faulty, is_invalid, receipt_of, state_after}
 pub use Rattle.laws_link.specs.Steady.{is_anew}
-pub use Rattle.laws_link.specs.Telling.{error, establish_indication, final_as, numbered_as, told_by, told_by_frame, told_cleared, told_expired, told_in_4, told_in_6, told_malformed, told_requested, unasked}
-pub use Rattle.laws_link.specs.Timed.{IsTimedIn}
-pub use Rattle.laws_link.specs.Waiting.{answers, answers_to, answers_up, command_in, commands, has_next_number, is_taken, is_time, put, receipt_as, room, to_disc, to_information, to_sabme}
-pub use Rattle.laws_link.specs.two.Rounds.{IsReady, IsTaken}
+pub use Rattle.laws_link.specs.Telling.{error, told_by, told_by_frame, told_cleared, told_malformed}
+pub use Rattle.laws_link.specs.Waiting.{answers, commands, put, receipt_as, room}
 pub use Rattle.laws_trace.proofs.Begins.{unless}
 pub use Rattle.laws_trace.proofs.DataAsked.{granted-data}
 pub use Rattle.laws_trace.proofs.DeliveriesRun.{data-noted, no-data}
@@ -78,7 +54,7 @@ pub use Rattle.laws_trace.proofs.Drained.{moments-both}
 pub use Rattle.laws_trace.specs.FramesAreRead.{GivesOctets, contents_given}
 pub use Rattle.laws_trace.specs.LinkFrames.{is_for}
 pub use Rattle.laws_trace.specs.Observer.{View, steps, view_of, views}
-pub use Rattle.laws_trace.specs.Trace.{IsFront, Seen, data_asked, frame_in, frames_begun, is_own, seen, seen_told, trace, trace_of}
+pub use Rattle.laws_trace.specs.Trace.{IsFront, Seen, data_asked, frame_in, frames_begun, is_own, seen, trace, trace_of}
 pub use Rattle.laws_trace.specs.Units.{is_ui}
 pub use Rattle.laws_wire.proofs.Fair.{or-true}
 pub use Rattle.laws_wire.proofs.Answered.{asks-way, gives-taken, takes-way}
@@ -86,21 +62,17 @@ pub use Rattle.laws_wire.proofs.Delivering.{calls-face}
 pub use Rattle.laws_wire.proofs.RestedRounds.{doing-append}
 pub use Rattle.laws_wire.proofs.Run.{calls-come-through, or-both}
 pub use Rattle.laws_wire.proofs.Spelled.{twice-other}
-pub use Rattle.laws_wire.specs.Call.{CanCall, IsCall, IsCallOf, assigned, calling, confirmed, data_told, station, told_first, ComesThrough as CallComesThrough}
+pub use Rattle.laws_wire.specs.Call.{CanCall, IsCall, assigned, calling, confirmed, data_told, station, told_first, ComesThrough as CallComesThrough}
 unfoldable pub use Rattle.laws_wire.specs.Call.{both_call as call_both_call}
 pub use Rattle.laws_wire.specs.Facing.{Face, Speaks, line_of}
-pub use Rattle.laws_wire.specs.Wire.{Act, Doing, IsStill, Station, Wire, answered, frames_by, gives, happens, is_any, loses, requests, takes, times_out, turned, with_first_lost, acting as wire_acting, at_far as wire_at_far, at_near as wire_at_near, doing as wire_doing, is_turn as wire_is_turn, is_turn_of as wire_is_turn_of, with_first_of as wire_with_first_of}
+pub use Rattle.laws_wire.specs.Wire.{Act, Doing, IsStill, Station, Wire, answered, frames_by, gives, happens, is_any, loses, requests, takes, times_out, turned, with_first_lost, at_far as wire_at_far, at_near as wire_at_near, doing as wire_doing, is_turn as wire_is_turn}
 unfoldable pub use Rattle.laws_wire.specs.Wire.{doing_all as wire_doing_all, turns as wire_turns}
-pub use Rattle.laws_wire.specs.Worked.{network, user}
 pub use Rattle.model_bits.specs.Bits.{bits}
 unfoldable pub use Rattle.model_bits.specs.Bits.{low_bits}
-pub use Rattle.model_bits.specs.Check.{is_good}
 pub use Rattle.model_bits.specs.Framer.{item_octets}
 pub use Rattle.model_bits.specs.Sent.{Item, idle, frame}
-pub use Rattle.model_bits.specs.Stream.{closed_by_flag, ends_abort, ends_flag, gap_event, given_up, has_abort, heard_at, heard_in, heard_until, is_short, judged, room_for, since_flag, text_event, Event as StreamEvent, frame as stream_frame, overlong as stream_overlong}
-pub use Rattle.model_bits.specs.Stuffing.{octets_sent}
+pub use Rattle.model_bits.specs.Stream.{closed_by_flag, ends_flag, given_up, heard_at, heard_in, heard_until, room_for, since_flag, text_event, Event as StreamEvent, frame as stream_frame}
 pub use Rattle.model_bits.specs.StuffingLaws.{AreOctets}
-pub use Rattle.model_bits.specs.declared.heard.Cause.TheVariants.{Abort, Fcs, Short}
 pub use Rattle.model_card.proofs.CardSound.{after_is_sound, always_sound as frames_always_sound, fresh_is_sound}
 pub use Rattle.model_card.proofs.OfPorts.AsOctets.{all_exact, cut_sent, frames_sent, heard_whole, same_text, sent}
 pub use Rattle.model_card.proofs.OfPorts.Codec.{meant_at_lines, refined_card}
@@ -111,70 +83,44 @@ pub use Rattle.model_card.proofs.OfPorts.LastItem.{IsLongItem, IsOnItsWay}
 pub use Rattle.model_card.proofs.OfPorts.LineHeard.{all_out, go_out}
 pub use Rattle.model_card.proofs.OfPorts.PortGoesOn.{ready_where}
 pub use Rattle.model_card.proofs.OfPorts.Pulls.{pulls_are_takes}
-pub use Rattle.model_card.proofs.OfPorts.Sound.{always_sound, fresh_octets_sound, port_sound}
+pub use Rattle.model_card.proofs.OfPorts.Sound.{port_sound}
 pub use Rattle.model_card.proofs.OfPorts.Steps.{config_stays, moments-append}
 pub use Rattle.model_card.proofs.OfPorts.TextGoesOn.{left_with_octet}
 pub use Rattle.model_card.proofs.Runs.{after_all-append}
 pub use Rattle.model_card.proofs.Steps.{by_room, has_lines}
-pub use Rattle.model_card.specs.Card.{Card, line_at}
 pub use Rattle.model_card.specs.Machine.{wants_room, answer as card_answer}
 pub use Rattle.model_card.specs.ports.Card.{OctetCard, answer_to, card_after, port_at, said}
-pub use Rattle.model_card.specs.ports.Codec.{IsTextOf, frames_among, octet_pulled}
+pub use Rattle.model_card.specs.ports.Codec.{frames_among, octet_pulled}
 pub use Rattle.model_card.specs.ports.GoingOut.{GoOut}
 pub use Rattle.model_bits.specs.StreamLaws.{HasOctets}
-pub use Rattle.model_card.specs.ports.Port.{Port, answer_of, fresh_port, gained, is_due, item_of, left_of, next_octet, with_item, with_octet, Event as PortEvent, after as port_after, expiry as port_expiry, meant as port_meant, octet as port_octet, pull as port_pull, request as port_request, told as port_told}
+pub use Rattle.model_card.specs.ports.Port.{Port, answer_of, fresh_port, gained, is_due, item_of, left_of, next_octet, with_item, with_octet, Event as PortEvent, after as port_after, meant as port_meant, octet as port_octet, pull as port_pull, request as port_request, told as port_told}
 pub use Rattle.model_card.specs.ports.Pulls.{longest_text}
 pub use Rattle.model_card.specs.ports.Run.{AreAtLines, IsAtLine}
 pub use Rattle.model_card.specs.ports.Sound.{IsSoundPort}
-pub use Rattle.model_line.proofs.LinksSound.{sound_in}
-pub use Rattle.model_line.proofs.NotShort.{IsNotShort}
-pub use Rattle.model_line.proofs.Ranges.{terms_in_range}
-pub use Rattle.model_line.specs.Came.{came, is_too_short}
-pub use Rattle.model_line.specs.Effect.{Effect}
-pub use Rattle.model_line.specs.Event.{Answer, Event, LineTold, NextFrame, expiry, gave, hears, next, nothing, refused, request, given_in}
-pub use Rattle.model_line.specs.Heard.{heard_side}
-pub use Rattle.model_line.specs.Line.{Line, fresh_line, has_tei, link_in, link_of, place_in, terms, link_number, state_in, window}
+pub use Rattle.model_line.specs.Event.{Answer, Event, LineTold, NextFrame, expiry, gave, hears, next, refused, request, given_in}
+pub use Rattle.model_line.specs.Line.{Line, fresh_line, has_tei, link_in, link_of, place_in, terms, state_in, window}
 pub use Rattle.model_line.specs.Machine.{aim_of}
-pub use Rattle.model_line.specs.Refusal.{refusal}
-pub use Rattle.model_line.specs.Request.{Assign, Request, Data, Establish}
-pub use Rattle.model_line.specs.Taken.{next_of, taken}
-pub use Rattle.model_line.specs.declared.config.Config.{Config}
-pub use Rattle.model_link.proofs.Delivering.{event-delivers}
 pub use Rattle.model_link.proofs.Direction.{Direction, carries-next, frames-append, frames_of}
 pub use Rattle.model_link.proofs.Facing.{Up, clear_busy_up, set_busy_up, still}
-pub use Rattle.model_link.proofs.FacingInformation.{at-first}
-pub use Rattle.model_link.proofs.Giving.{given_is_frame}
-pub use Rattle.model_link.proofs.Joined.{Joined, done-at, joined-turned}
-pub use Rattle.model_link.proofs.Lines.{Carried, Carries, Means, Piece, Rising, rising-low}
-pub use Rattle.model_link.proofs.Sending.{offer-gave}
+pub use Rattle.model_link.proofs.Lines.{Carried, Carries, Means, Rising, rising-low}
 pub use Rattle.model_link.proofs.Taking.{Advance, HasNumber, frame-taken, none-delivered}
 pub use Rattle.model_link.specs.Events.{ClearBusy, Received, Release, SetBusy, cleared, expired, offer, overlong, received, requested, undefined, wrong_size, Event as LinkEvent, Request as LinkRequest, frame as link_frame}
-pub use Rattle.model_link.specs.Link.{Link, address_at, frame_of, fresh, is_multiple_frame, may_repeat, outstanding, state_number}
+pub use Rattle.model_link.specs.Link.{Link, address_at, frame_of, fresh, is_multiple_frame, state_number}
 pub use Rattle.model_link.specs.Machine.{after, course, given_of, told, given as link_given}
-pub use Rattle.model_link.specs.Steps.{Course, begun}
-pub use Rattle.model_link.specs.Told.{Given, runs}
-pub use Rattle.model_link.specs.TwoEnds.{End, frame_given, with_link, with_sent}
-pub use Rattle.model_link.specs.declared.frames.ControlFrame.{ControlFrame}
-pub use Rattle.model_link.specs.declared.states.State.{State}
-pub use Rattle.model_link.specs.declared.states.State.TheVariants.{AwaitingEstablishment, AwaitingRelease, Established, TeiAssigned, TimerRecovery}
-pub use Rattle.model_link.specs.declared.terms.Terms.{Terms}
-pub use Rattle.model_link.specs.declared.timers.LinkTimer.{LinkTimer}
-pub use Rattle.model_link.specs.declared.timers.LinkTimer.TheVariants.{T200, T203}
 pub use Rattle.laws_order.specs.Happenings.{Deed, Happening, IsElsewhere, IsNotOf, IsPossible, IsPossibleAt, acts, befalling, by_far, by_near, disturbed, elsewhere, elsewhere_on, events_here, happening, is_of_link, of_link_at, of_link_in, seen_at_near, seen_by}
 unfoldable pub use Rattle.laws_order.specs.Happenings.{happening_all, seen_far, seen_near}
 pub use Rattle.laws_order.specs.InTheEnd.{BothAreTold, IsNotDeactivated, IsToldAtLast, ReleasesAreTold, is_t200, t200_by}
 unfoldable pub use Rattle.laws_order.specs.InTheEnd.{StaysThere, t200s}
-pub use Rattle.laws_order.specs.Order.{AreOfStep, DeliveredInOrder, FaceInStep, IsInStep, IsOfStep, IsToldInOrder, Known, Past, StaysEstablished, Tally, data_granted, data_noted, ends_by, ends_by_note, ends_by_request, granted_in, kept_by, known, no_tally, noted_in, of_link_on, said_by, state_here, tallies, tally_of}
-pub use Rattle.laws_order.specs.Release.{BeginsNothing, IsToldOfRelease, ReleasedIsOver, ReleasesEnd, begins_by, begins_by_note, begins_by_request, is_news, is_unasked, news, news_in}
+pub use Rattle.laws_order.specs.Order.{AreOfStep, DeliveredInOrder, FaceInStep, IsInStep, IsToldInOrder, Known, Past, StaysEstablished, Tally, data_granted, data_noted, ends_by, ends_by_note, ends_by_request, kept_by, known, no_tally, noted_in, of_link_on, said_by, state_here, tallies, tally_of}
+pub use Rattle.laws_order.specs.Release.{BeginsNothing, IsToldOfRelease, ReleasedIsOver, ReleasesEnd, begins_by, begins_by_note, is_news, news, news_in}
 pub use Rattle.laws_order.specs.circuit.Beats.{AllIsToldInBeats, IsToldAll, beat, enough_beats, granted_of, longest}
 unfoldable pub use Rattle.laws_order.specs.circuit.Beats.{beats}
 pub use Rattle.laws_order.specs.circuit.Circuit.{Circuit, OctetAct, OctetDoing, Termination, asks, at_far, at_near, port_of, doing}
 unfoldable pub use Rattle.laws_order.specs.circuit.Circuit.{doing_all}
 pub use Rattle.laws_order.specs.circuit.Mixed.{DeliveredBetweenKinds, Mixed}
 pub use Rattle.laws_order.specs.circuit.Resting.{AreSilent, CallsComeToRest, FaceAtRest}
-pub use Rattle.laws_order.specs.circuit.Through.{HasAllGone, IsAsked, IsTalk, IsTalkOf}
+pub use Rattle.laws_order.specs.circuit.Through.{HasAllGone, IsTalk, IsTalkOf}
 unfoldable pub use Rattle.laws_order.specs.circuit.Through.{both_call}
 pub use Rattle.laws_order.specs.circuit.WorkedCall.{begins, establishes, goes_on, sends}
 pub use Rattle.model_card.specs.Event.{at, Event as FramesEvent}
 pub use Rattle.model_line.specs.Sound.{IsInRange}
-pub use Rattle.std.proofs.lemmas.List.Concat.{flat_map-append}

@@ -1,9 +1,9 @@
 -- Where all frames that are left at a station are those of one link, nothing else waits there.
-use Rattle.laws_wire.proofs.Vocabulary.{◌≡◌, ◌≢◌, ℕ, zero, suc, ◌+◌, ◌<◌, ◌≤◌, [], length, Option, Some, None, option_map, sym, ap, ◌∙◌, arith, ⊎_elim, cases_eq, option_map_or, place_of-is, Service, fresh, given, none-waits, number_within, service_at-number, next, gave, Line, link_number, link_count, link_at, link_in, place_in, terms_at, Taken, next_of, taken, nothing-to_send, Station, answered, own_link}
+use Rattle.laws_wire.proofs.Vocabulary.{◌≡◌, ◌≢◌, ℕ, zero, suc, ◌+◌, ◌<◌, ◌≤◌, [], length, Some, None, ap, arith, ⊎_elim, cases_eq, option_map_or, place_of-is, Service, fresh, given, none-waits, number_within, service_at-number, next, gave, Line, link_number, link_count, link_at, link_in, place_in, terms_at, nothing-to_send, Station, answered, own_link}
 use Rattle.std.proofs.lemmas.List.Sums.{sum_by-cons}
 use Rattle.std.specs.List.{range_with_len, sum_by}
 use Rattle.laws_line.proofs.Exact.{exactly-none, to-nothing, empty}
-use Rattle.laws_line.specs.Drains.{frames_to_go, to_go_at_link}
+use Rattle.laws_line.specs.Drains.{to_go_at_link}
 use Rattle.laws_wire.proofs.Answered.{gives-taken}
 use Rattle.laws_wire.specs.Facing.{line_of, frames_at, own_frames_at}
 use Rattle.model_line.specs.Sound.{IsSound}
@@ -33,9 +33,6 @@ two-of f a (suc k) n j apart low high low' high' =
     (cases_eq j a))
     (cases_eq n a)
 
-none-taken : (o : Option Taken) → gave (option_map next_of o) ≡ gave None → o ≡ None
-none-taken o e = grind arith
-
 module _ (service : Service) (tei place : ℕ) (s : Station) (sound : IsSound s.card.config (line_of s)) (placed : place_in (line_of s) tei ≡ Some place) where
   abbrev l : Line
   l = line_of s
@@ -60,11 +57,7 @@ module _ (service : Service) (tei place : ℕ) (s : Station) (sound : IsSound s.
 
   -- so it is where nothing is given and nothing on its way
   pub still-alone : answered next s ≡ gave None → s.way ≡ [] → frames_at s ≡ own_frames_at service tei s
-  still-alone none way =
-      let nothing : taken s.card.config l ≡ None = none-taken _ (sym (gives-taken s) ∙ none) in
-      let all : frames_to_go s.card.config l ≡ 0 = (exactly-none s.card.config l sound).1 (none-waits s.card.config l sound nothing) in
-      let no-way : length s.way ≡ 0 = ap length way in
-      omega (arith, all, no-way, own-part, own-to-go)
+  still-alone none way = grind (arith, gives-taken, exactly-none, none-waits, own-part, own-to-go)
 
   module _ (alone : frames_at s ≡ own_frames_at service tei s) where
     pub no-way : s.way ≡ []

@@ -1,6 +1,6 @@
 -- What is awaited at a station is awaited at the end for which it stands: there a T200 that is long enough is timely, N200 is used up as
 -- its expiry tells, and it runs as its expiry is answered.
-use Rattle.laws_wire.proofs.Vocabulary.{◌≡◌, ℕ, zero, suc, ◌<◌, Bool, true, false, cond, not, ◌||◌, IsTrue, List, [], ◌∷◌, ◌++◌, length, map, Option, None, Some, option_map, refl, sym, ap, subst, ◌∙◌, true≢false, All, flat_map, list_any, option_map_or, nat_lt, ltb-true, All-nil, All-cons, All-append, All-head, All-tail, Seq, Control, Information, ReceiveReady, Service, Parts, spelling, TeiAssigned, Established, ControlFrame, LinkTimer, Terms, Link, fresh, frame_of, state_number, is_multiple_frame, course, begun, given_of, is_running, Course, T200, End, frame_given, with_sent, Config, next, link_in, state_in, state_of, terms, awaits_answer, is_enquiry, is_answer, supervisory_bit, HasNo, Station, answered, happens, told_by, expiry, is_error, TellNoError, bit_of, is_poll, is_final, giving, NoneGoes, IsNoneOpen, awaits_in, awaits_reply, IsLongEnough, MayRepeat, is_any_order, runs_t200, Answer, BadTei, NoLink, Refusal, Rests, arith, frames_by, gives_one, is_on-at, le-ltb, link_of, list_any_none, place_of-is, queue_of, told, told_of_link, of_aim, at_timer, place_in, ◌-◌, ◌≤◌, expired, timer_T200, line_answer, line_takes_slot, all-right}
+use Rattle.laws_wire.proofs.Vocabulary.{◌≡◌, ℕ, zero, suc, ◌<◌, Bool, true, false, cond, not, ◌||◌, IsTrue, List, [], ◌∷◌, ◌++◌, length, map, Option, None, Some, option_map, refl, sym, ap, subst, ◌∙◌, true≢false, All, flat_map, list_any, option_map_or, nat_lt, ltb-true, All-nil, All-cons, All-append, All-head, All-tail, Seq, Control, Information, ReceiveReady, Service, Parts, spelling, TeiAssigned, Established, ControlFrame, LinkTimer, Terms, Link, fresh, frame_of, state_number, is_multiple_frame, course, begun, given_of, is_running, Course, T200, End, frame_given, with_sent, Config, next, link_in, state_in, state_of, terms, awaits_answer, HasNo, Station, answered, happens, told_by, expiry, is_error, TellNoError, is_poll, is_final, giving, NoneGoes, IsNoneOpen, awaits_in, awaits_reply, IsLongEnough, MayRepeat, is_any_order, runs_t200, Answer, BadTei, NoLink, Refusal, Rests, arith, frames_by, gives_one, is_on-at, le-ltb, link_of, list_any_none, place_of-is, queue_of, told, told_of_link, of_aim, at_timer, place_in, ◌-◌, ◌≤◌, expired, timer_T200, line_answer, line_takes_slot, all-right}
 use Rattle.model_link.specs.Machine as links
 use Rattle.model_link.specs.Offers as offers
 use Rattle.model_link.specs.Room.{room_of}
@@ -10,32 +10,18 @@ use Rattle.model_line.specs.Room.{unless}
 use Rattle.model_card.specs.Room.{free}
 use Rattle.laws_link.specs.two.Timely as two_links
 use Rattle.laws_wire.specs.Facing.{line_of, read_as, parts_of, own_link}
-use Rattle.laws_wire.proofs.Fair.{HasError}
 use Rattle.laws_wire.proofs.Held.{error-said, tells_error}
 use Rattle.laws_wire.proofs.Speaking.{heard_by, said_by}
 use Rattle.laws_wire.proofs.Standing.{IsCarried, StationStands, link-ranges, gives-frames, gives-stands}
 
 -- ---- of two links less is asked
 
-no-bit : (control : Control) → bit_of control ≡ false → supervisory_bit control ≡ false
-no-bit control e = grind arith
-
-no-enquiry : (command : Bool) (control : Control) → is_poll command control ≡ false → is_enquiry command control ≡ false
-no-enquiry command control e = grind (arith, no-bit)
-
-no-answer : (command : Bool) (control : Control) → is_final command control ≡ false → is_answer command control ≡ false
-no-answer command control e = grind (arith, no-bit)
-
-less : (asked more : Bool → Control → Bool) → ((command : Bool) (control : Control) → more command control ≡ false → asked command control ≡ false) → (n : End) → HasNo more n
-    → HasNo asked n
-less asked more weaker n h = grind arith
-
 pub record NoneOpen (n m : End) : Type 0 where
   pub commands : HasNo is_poll n
   pub responses : HasNo is_final m
 
 pub closed : (n m : End) → NoneOpen n m → two_links.IsNoneOpen n m
-closed n m h = record { enquiries = less is_enquiry is_poll no-enquiry n h.commands; answers = less is_answer is_final no-answer m h.responses }
+closed n m h = record { enquiries = grind arith; answers = grind arith }
 
 -- ---- a link whose T200 expires
 
@@ -47,14 +33,8 @@ module _ (t : Terms) (l : Link) where
   none-ordered r = grind arith
 
   -- and tells an error where N200 is used up
-  taken : (b : Bool) (c d : Course) → b ≡ true → list_any is_error c.notes ≡ false → list_any is_error (cond b c d).notes ≡ false
-  taken b c d e h = grind arith
-
-  passed : (b : Bool) (c d : Course) → b ≡ false → HasError d.notes → HasError (cond b c d).notes
-  passed b c d e h = grind arith
-
   told-few : awaits_answer l.state ≡ true → is_running T200 l ≡ true → list_any is_error expires.notes ≡ false → l.repeats < t.n200
-  told-few awaits running fair = grind (arith, nat_lt, ltb-true, passed)
+  told-few awaits running fair = grind (arith, nat_lt, ltb-true)
 
 fair-said : (c : Course) → TellNoError (said_by c) → list_any is_error c.notes ≡ false
 fair-said c h = go (list_any is_error c.notes) refl
@@ -90,9 +70,6 @@ module _ (of : Bool → Control → Bool) (i : (ns nr : Seq) → of true (Inform
 
 two-pass : (a b : Bool) (x y : Refusal) → a ≡ false → b ≡ false → cond a (Some x) (cond b (Some y) None) ≡ None
 two-pass a b x y e e' = rw (e, e') refl
-
-none-taken : (n : ℕ) (queue : List (List ℕ)) → queue ≡ [] → n - length queue ≡ n
-none-taken n queue e = ap (λ q. n - length q) e ∙ omega arith
 
 -- its frames are read as what they are
 pub read-again : (service : Service) (tei : ℕ) (c : Config) (way : List Parts) → All (IsCarried c service tei) way → flat_map (read_as c) (map (spelling c.side) way) ≡ way
@@ -146,7 +123,6 @@ module _ (service : Service) (tei : ℕ) (s : Station) where
       go : (o : Option ℕ) → place_in (line_of s) tei ≡ o → let l = option_map_or (link_in (line_of s) service) o fresh in (l.state ≡ TeiAssigned → ⊥) → runs_t200 service tei s ≡ is_running T200 l
       go None e up = absurd (up refl)
       go (Some place) e up =
-          let l = link_in (line_of s) service place in
           ap (λ a. is_any_order (orders_in a)) (answers-t200 place e) ∙ (grind (arith, nat_lt, none-ordered))
 
 module _ (service : Service) (tei : ℕ) (c : Config) (place : ℕ) (s : Station) (n : End) (h : StationStands c service tei place s n) where
@@ -196,7 +172,7 @@ module _ (service : Service) (tei : ℕ) (c : Config) (place : ℕ) (s : Station
         state-is ∙ ap (λ here. Some (state_number here)) state,
         free_room,
         ap (λ o. unless o free_room) (two-pass _ _ BadTei NoLink (le-ltb 126 tei few) (ap not (is_on-at l.management.places place tei at))),
-        none-taken s.card.config.queue (queue_of (link_of service tei l)) kept,
+        ap (λ q. s.card.config.queue - length q) kept ∙ omega arith,
       )
 
   -- its T200 expires

@@ -153,7 +153,6 @@ module _ (service : Service) (tei : ℕ) (c : Config) (ranged : line_sound.IsInR
         let ranges = link-ranges service tei 0 s start own in
         let x = asks-granted service tei 0 s start own (Establish service tei) LinkEstablish (λ l. refl) room not-refused in
         let is : with_link (requested LinkEstablish false) start ≡ end t asked [] = ap (λ y. end t y []) (asks-establish t ranges) in
-        let same : s'.granted ≡ s.granted = x.granted ∙ append-nil s.granted in
         grind (arith, end, asked, said_by, room, append-nil, none-told, begins)
 
     pub answers : Holds c service tei 0 unheard s start

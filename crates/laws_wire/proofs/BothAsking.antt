@@ -1,6 +1,6 @@
 -- What is done in a call. Layer 3 asks for the establishment of the link: in state 4 it is granted, and in any other state it is
 -- refused, which changes nothing.
-use Rattle.laws_wire.proofs.Vocabulary.{arith, ◌≡◌, ℕ, ◌≤◌, true, false, true≢false, [], ◌∷◌, Option, None, refl, sym, ap, subst, ◌∙◌, ◌⊎◌, append-nil, nat_lt, option_map_or, le-ltb, Refusal, Service, is_on-at, place_of-is, not_not, Terms, Link, fresh, is_down, End, with_link, Config, request, Line, link_in, link_of, has_tei, terms, unless_refused_told, of_request, bad_tei, no_link, wrong_state, line_at, wants_room, is_granted, passed, Event, Establish, Station, happens, answered, requests, Doing, at_near, at_far, IsTalk, IsCall, requested, LinkEstablish, line_answer, line_takes_slot}
+use Rattle.laws_wire.proofs.Vocabulary.{arith, ◌≡◌, ℕ, ◌≤◌, true, false, [], Option, None, refl, sym, ap, subst, ◌∙◌, ◌⊎◌, append-nil, nat_lt, option_map_or, le-ltb, Refusal, Service, is_on-at, place_of-is, Terms, fresh, is_down, End, with_link, Config, request, Line, link_in, link_of, has_tei, terms, unless_refused_told, of_request, line_at, wants_room, is_granted, Event, Establish, Station, happens, answered, requests, Doing, at_near, at_far, IsTalk, IsCall, requested, LinkEstablish, line_answer, line_takes_slot}
 use Rattle.model_line.specs.Refusal.{refusal}
 use Rattle.model_card.specs.Event.{at as event_at}
 use Rattle.laws_wire.proofs.Calling.{asked, asks-establish, end}
@@ -47,22 +47,14 @@ module _ (service : Service) (tei place : ℕ) (c : Config) (first : Past) (s : 
 
   -- ---- in any other state
 
-  not-served : is_down n.link.state ≡ false → why ≡ None → ⊥
-  not-served up none =
-      let row = wrong_state service tei LinkEstablish l in
-      let there = passed (no_link tei l) (row ∷ []) (passed (bad_tei tei) (no_link tei l ∷ row ∷ []) none).1 in
-      let state = passed row [] there.1 in
-      let served : is_down n.link.state ≡ true = ap (λ (x : Link). is_down x.state) (sym link-is) ∙ not_not (is_down (link_of service tei l).state) state.0 in
-      true≢false (sym served ∙ up)
-
   pub refuses : is_down n.link.state ≡ false → Refuses service tei s
   refuses up = record { same = by-line (asks-stands service tei place s n own (Establish service tei) LinkEstablish (λ l. refl)); none = ap is_granted answer-is ∙ by-answer why refl }
     where
       by-line : (happens asks s ≡ s) ⊎ Granted service tei place s n own (Establish service tei) LinkEstablish (λ l. refl) (happens asks s) → happens asks s ≡ s
-      by-line o = grind (arith, not-served)
+      by-line o = grind (arith, link-is)
 
       by-answer : (o : Option Refusal) → why ≡ o → is_granted (unless_refused_told o (of_request s.card.config (Establish service tei) l)) ≡ false
-      by-answer o e = grind (arith, not-served)
+      by-answer o e = grind (arith, link-is)
 
 -- ---- in state 4
 
@@ -96,5 +88,4 @@ module _ (service : Service) (tei place : ℕ) (few : tei ≤ 126) (c : Config) 
       let ranges = link-ranges service tei place s n standing in
       let x = asks-granted service tei place s n standing (Establish service tei) LinkEstablish (λ l. refl) room none-refused in
       let is : with_link (requested LinkEstablish false) n ≡ end t asked [] = ap (λ y. end t y []) (asks-establish t ranges) in
-      let same : s'.granted ≡ s.granted = x.granted ∙ append-nil s.granted in
       grind (arith, end, asked, said_by, room, append-nil, answer-is, none-refused)

@@ -1,5 +1,5 @@
 -- Both ends call, and SABMEs cross: how far each call has come, and what each step does.
-use Rattle.laws_wire.proofs.Vocabulary.{◌≡◌, ℕ, ◌+◌, ◌*◌, ◌<◌, ◌≤◌, true, false, cond, List, [], ◌∷◌, ◌++◌, length, None, refl, sym, ap, subst, ◌∙◌, ◌⊎◌, inl, inr, append-nil, arith, nat_lt, if◌then◌else◌, lt-ltb, All-nil, Service, Parts, spelling, ControlFrame, Terms, received, course, given, IsInRange, begun, End, with_link, with_sent, Config, terms, Request, next, Pair, frame, after, refusal, Station, Wire, frames_by, with_first_of, with_first_lost, Act, requests, gives, takes, acting, turned, is_turn_of, answered, comes, IsTalkOf, confirmed, LinkData, two_ends_with_first_lost}
+use Rattle.laws_wire.proofs.Vocabulary.{◌≡◌, ℕ, ◌+◌, ◌*◌, ◌<◌, ◌≤◌, false, List, [], ◌∷◌, ◌++◌, length, None, refl, sym, ap, subst, ◌∙◌, ◌⊎◌, inl, inr, append-nil, arith, if◌then◌else◌, lt-ltb, Service, Parts, spelling, ControlFrame, Terms, received, course, given, IsInRange, End, with_link, with_sent, Config, terms, Request, next, Pair, frame, after, refusal, Station, Wire, frames_by, with_first_of, with_first_lost, Act, requests, gives, takes, acting, turned, is_turn_of, answered, comes, IsTalkOf, confirmed, LinkData, two_ends_with_first_lost}
 use Rattle.laws_wire.proofs.Answered.{takes-granted, gives-granted}
 use Rattle.laws_wire.proofs.BothHalf as half
 use Rattle.laws_wire.proofs.BothHalf.{lower}
@@ -67,14 +67,10 @@ turns_left returns = 1
 module _ (t : Terms) (ranges : IsInRange t) (u : Terms) where
   -- SABME: UA waits, and nothing is told
   hears-sabme : (ws : List ControlFrame) → length ws < 2 → after t (received (frame (sabme u))) (ringing 0 ws) ≡ ringing 0 (ws ++ its_ua ∷ [])
-  hears-sabme ws few =
-      let room : nat_lt (length ws) t.control ≡ true = let low = ranges.control_low in lt-ltb (length ws) t.control (omega (arith, few, low)) in
-      ap (λ b. ringing 0 (cond b (ws ++ its_ua ∷ []) ws)) room
+  hears-sabme ws few = grind (arith, lt-ltb, ringing, its_ua)
 
   told-of-crossing : (ws : List ControlFrame) → length ws < 2 → said_by (course t (received (frame (sabme u))) (ringing 0 ws)) ≡ []
-  told-of-crossing ws few =
-      let room : nat_lt (length ws) t.control ≡ true = let low = ranges.control_low in lt-ltb (length ws) t.control (omega (arith, few, low)) in
-      ap (λ b. said_by (record (begun (ringing 0 ws)) { lost = cond {A = ℕ} b 0 1 })) room
+  told-of-crossing ws few = grind (arith, lt-ltb, said_by, ringing)
 
 module _ (service : Service) (tei : ℕ) (c d : Config) (p q : ℕ) (face : Face c d) (back : Face d c) (rt : IsInRange (terms c service tei)) (ru : IsInRange (terms d service tei)) where
   abbrev t : Terms
@@ -101,13 +97,7 @@ module _ (service : Service) (tei : ℕ) (c d : Config) (p q : ℕ) (face : Face
 
   -- both are up, and have nothing to do yet
   first-pair : Pair (pair_of (end u caller []) (end t caller []))
-  first-pair =
-      record {
-        near = record { ranges = ru; sound = sound-caller u ru; state = refl; peer_busy = refl; own_busy = refl; waiting = refl };
-        far = record { ranges = rt; sound = sound-caller t rt; state = refl; peer_busy = refl; own_busy = refl; waiting = refl };
-        there = record { lane = (refl, omega arith, λ e. refl); delivered = refl; sizes = All-nil (λ octets. length octets ≤ t.n201) };
-        back = record { lane = (refl, omega arith, λ e. refl); delivered = refl; sizes = All-nil (λ octets. length octets ≤ u.n201) };
-      }
+  first-pair = grind (arith, sound-caller)
 
   module _ (w : Wire) (weight : ℕ) (own other : Place) (order : InOrder own other)
       (both : Both service tei c d p q unheard unheard w (crossing t own other) (crossing u other own)) (is : weight ≡ turns_left own + turns_left other) where
@@ -145,9 +135,7 @@ module _ (service : Service) (tei : ℕ) (c d : Config) (p q : ℕ) (face : Face
     -- ---- it takes
 
     takes-none : (crossing u other own).way ≡ [] → Crossed w (acting takes w) weight (turn_of w.far.way)
-    takes-none none =
-        let x = quiet-takes service tei c d p q unheard unheard w (crossing t own other) (crossing u other own) both none in
-        stayed (acting takes w) _ x.none x.granted x.both
+    takes-none none = grind (arith, quiet-takes, unheard, stayed)
 
     -- the first frame on the other's way
     module _ (f : Parts) (fs : List Parts) (first : (crossing u other own).way ≡ f ∷ fs) where
@@ -203,9 +191,6 @@ module _ (service : Service) (tei : ℕ) (c d : Config) (p q : ℕ) (face : Face
     abbrev far_then : Station
     far_then = with_first_lost w.far
 
-    up-lower : (b before k x g g' : ℕ) → b ≤ 1 → before ≡ 1 + k → x ≡ 0 → g' ≡ g → b + (k + x) + 4 * g ≤ before + 4 * g'
-    up-lower b before k x g g' one is none same = omega (arith, one, is, none, same)
-
     takes-ua : (k : ℕ) → (crossing u other own).way ≡ ua u ∷ [] → turns_left own + turns_left other ≡ 1 + k → (n' : End)
         → with_link (received (frame (ua u))) (crossing t own other) ≡ n' → n'.link.contents ≡ [] → n'.delivered ≡ []
         → two_ends_with_first_lost (crossing u other own) ≡ end u awaiting []
@@ -218,7 +203,7 @@ module _ (service : Service) (tei : ℕ) (c d : Config) (p q : ℕ) (face : Face
           goes =
               inr (so (subst (Holds d service tei q unheard far_then) far (holds-lost service tei q unheard d w.far (crossing u other own) both.far))
               (holds-then (ua u) [] first up_note n' near empty refl none said));
-          price = up-lower _ weight k 0 (granted_of w) _ (one-at-most w.far.way) (is ∙ less) refl (taken-count (ua u) [] first);
+          price = omega (arith, one-at-most w.far.way, is ∙ less, taken-count (ua u) [] first);
         }
 
   -- ---- every place

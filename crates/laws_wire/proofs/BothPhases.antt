@@ -1,15 +1,13 @@
 -- A call from its beginning: the near end calls, and the far one may call back before SABME comes; each step of it.
-use Rattle.laws_wire.proofs.Vocabulary.{◌≡◌, ℕ, ◌+◌, ◌*◌, ◌≤◌, Bool, true, false, cond, ◌||◌, [], ◌∷◌, ◌++◌, length, refl, sym, ap, subst, ◌∙◌, ◌⊎◌, inl, inr, arith, if◌then◌else◌, Service, spelling, Terms, fresh, course, IsInRange, with_link, Config, terms, next, Establish, Station, Wire, frames_by, with_first_of, Act, requests, gives, takes, Doing, at_near, at_far, acting, turned, doing, is_turn_of, is_turn, answered, comes, IsTalkOf, IsTalk, IsCall, calls_back, confirmed, indicated, told_first, received, frame}
+use Rattle.laws_wire.proofs.Vocabulary.{◌≡◌, ℕ, ◌+◌, ◌*◌, ◌≤◌, Bool, true, false, cond, ◌||◌, [], ◌∷◌, length, refl, sym, ap, subst, ◌∙◌, ◌⊎◌, inl, inr, arith, if◌then◌else◌, Service, spelling, Terms, fresh, IsInRange, with_link, Config, terms, next, Establish, Station, Wire, frames_by, with_first_of, Act, requests, gives, takes, Doing, at_near, at_far, acting, turned, doing, is_turn_of, is_turn, answered, comes, IsTalkOf, IsTalk, IsCall, calls_back, confirmed, indicated, told_first, received, frame}
 use Rattle.laws_wire.proofs.Answered.{takes-granted, gives-granted}
 use Rattle.laws_wire.proofs.BothAsking.{Kind, talks, near_calls, far_calls, kind, Refuses, refuses, calls}
 use Rattle.laws_wire.proofs.BothHalf as half
 use Rattle.laws_wire.proofs.BothHalf.{lower}
 use Rattle.laws_wire.proofs.BothCrossing as crossed
 use Rattle.laws_wire.proofs.BothCrossing.{waits, under_way, turned-order}
-use Rattle.laws_wire.proofs.Calling.{sabme, asked, awaiting, called, takes-sabme, told-of-sabme, end, none-granted-asked, none-granted-awaiting, none-granted-fresh, first-pair, with_ua_waiting}
-use Rattle.laws_wire.proofs.Speaking.{said_by}
-use Rattle.laws_wire.proofs.Standing.{StationStands}
-use Rattle.laws_wire.proofs.Talking.{Face, unheard, after_note, Holds, none-told, holds-given, holds-lost, takes as takes_frame, Took}
+use Rattle.laws_wire.proofs.Calling.{sabme, asked, awaiting, called, takes-sabme, end, none-granted-asked, none-granted-awaiting, none-granted-fresh, first-pair, with_ua_waiting}
+use Rattle.laws_wire.proofs.Talking.{Face, unheard, after_note, Holds, holds-given, holds-lost, takes as takes_frame, Took}
 use Rattle.laws_wire.proofs.Quiet.{one-at-most, Both, turned-both, first-way, quiet-gives, quiet-takes, quiet-requests}
 use Rattle.laws_wire.proofs.Up.{turn_of, granted_of}
 
@@ -98,14 +96,6 @@ module _ (service : Service) (tei : ℕ) where
         let same : with_first_of w.near.way s ≡ comes (spelling c.side f) s = ap (λ way. with_first_of way s) way.0 in
         let x : Took service tei q unheard d s (end u fresh []) (spelling c.side f) f = takes_frame service tei q unheard d c back s (end u fresh []) f h.both.far.stands way.1 in
         let is : with_link (received (frame f)) (end u fresh []) ≡ with_ua_waiting (end u called []) = ap (λ y. end u y []) (takes-sabme u ru t) in
-        let far : Holds d service tei q second (comes (spelling c.side f) s) (with_ua_waiting (end u called [])) =
-        record {
-          stands = subst (StationStands d service tei q (comes (spelling c.side f) s)) is x.stands;
-          granted = takes-granted (spelling c.side f) s ∙ h.both.far.granted;
-          since = [];
-          told = x.told ∙ ap (λ ts. ts ++ said_by (course u (received (frame f)) fresh)) (none-told d service tei q [] s (end u fresh []) h.both.far refl) ∙ told-of-sabme u ru t;
-          delivered = refl;
-        } in
         record {
           weight = 2 + half.one_up service tei (indicated service tei) c d p q face back rt (end u called []);
           goes = inr (inr (inl (record {
@@ -158,26 +148,8 @@ module _ (service : Service) (tei : ℕ) where
     abbrev FarFirst : Wire → ℕ → Type 0
     FarFirst v weight = crossed.NearFirst service tei d c q p back face ru rt v weight
 
-    swapped : (x y weight : ℕ) → weight ≡ x + y → weight ≡ y + x
-    swapped x y weight is = omega (arith, is)
-
-    turned-crossing : (w : Wire) (weight : ℕ) → Crossing w weight → CrossingTurned (turned w) weight
-    turned-crossing w weight h = record {
-      own = h.other;
-      other = h.own;
-      order = turned-order h.own h.other h.order;
-      both = turned-both service tei c d p q unheard unheard w _ _ h.both;
-      is = swapped (crossed.turns_left h.own) (crossed.turns_left h.other) weight h.is;
-    }
-
     crossing-back : (v : Wire) (weight : ℕ) → CrossingTurned v weight → Crossing (turned v) weight
-    crossing-back v weight h = record {
-      own = h.other;
-      other = h.own;
-      order = turned-order h.own h.other h.order;
-      both = turned-both service tei d c q p unheard unheard v _ _ h.both;
-      is = swapped (crossed.turns_left h.own) (crossed.turns_left h.other) weight h.is;
-    }
+    crossing-back v weight h = grind (arith, turned-order, turned-both, unheard)
 
     far-goes : (v : Wire) (weight : ℕ) → CrossingTurned v weight ⊎ FarFirst v weight → Goes true (turned v) weight
     far-goes v weight o = grind (arith, crossing-back)
@@ -186,7 +158,7 @@ module _ (service : Service) (tei : ℕ) where
     crossed-far act is w weight h =
         let v = turned w in
         let v' = acting act v in
-        let x = crossed.near-step service tei d c q p back face ru rt act is v weight (turned-crossing w weight h) in
+        let x = crossed.near-step service tei d c q p back face ru rt act is v weight (grind (arith, turned-order, turned-both, unheard)) in
         record {
           weight = x.weight;
           goes = far-goes v' x.weight x.goes;
@@ -197,7 +169,6 @@ module _ (service : Service) (tei : ℕ) where
 
     first-near : (act : Act) → IsTalkOf service tei act → (w : Wire) (weight : ℕ) → NearFirst w weight → Went true w (acting act w) weight (if is_turn_of act w then 1 else 0)
     first-near act is w weight h =
-        let w' = acting act w in
         let x = half.step service tei (confirmed service tei) d c q p back face ru (at_far act) is (turned w) weight h in
         record {
           weight = x.weight;
@@ -207,7 +178,6 @@ module _ (service : Service) (tei : ℕ) where
 
     first-far : (act : Act) → IsTalkOf service tei act → (w : Wire) (weight : ℕ) → NearFirst w weight → Went true w (turned (acting act (turned w))) weight (if is_turn_of act (turned w) then 1 else 0)
     first-far act is w weight h =
-        let v' = acting act (turned w) in
         let x = half.step service tei (confirmed service tei) d c q p back face ru (at_near act) is (turned w) weight h in
         record {
           weight = x.weight;
@@ -245,26 +215,17 @@ module _ (service : Service) (tei : ℕ) where
       pub goes : Goes (both || calls_back k w) (doing k w) weight
       pub price : b + weight + (4 * granted_of w + cost both) ≤ before + (4 * granted_of (doing k w) + cost (both || calls_back k w))
 
-    or-none : (both b : Bool) → b ≡ false → (both || b) ≡ both
-    or-none both b none = grind arith
-
     none-called : (both : Bool) (k : Doing) (w : Wire) (before b : ℕ) → calls_back k w ≡ false → Went both w (doing k w) before b → Stepped both k w before b
-    none-called both k w before b none x =
-        let same : both ≡ (both || calls_back k w) = sym (or-none both (calls_back k w) none) in
-        grind (arith, granted_of)
+    none-called both k w before b none x = grind (arith, granted_of)
 
     not-moved : (both : Bool) (w w' : Wire) (weight : ℕ) → w' ≡ w → Goes both w weight → Went both w w' weight 0
     not-moved both w w' weight same h = stayed both w w' weight 0 refl (ap granted_of same) (subst (λ x. Goes both x weight) (sym same) h)
 
     near-asks : (both : Bool) (w : Wire) (weight : ℕ) → Goes both w weight → Stepped both (at_near (requests (Establish service tei))) w weight 0
-    near-asks both w weight h =
-        none-called both (at_near (requests (Establish service tei))) w weight 0 refl
-        (not-moved both w (doing (at_near (requests (Establish service tei))) w) weight (ap (λ s. record w { near = s }) (near-refuses both w weight h).same) h)
+    near-asks both w weight h = grind (arith, none-called, not-moved, near-refuses)
 
     far-refused : (both : Bool) (w : Wire) (weight : ℕ) → Goes both w weight → Refuses service tei w.far → Stepped both (at_far (requests (Establish service tei))) w weight 0
-    far-refused both w weight h down =
-        none-called both (at_far (requests (Establish service tei))) w weight 0 down.none
-        (not-moved both w (doing (at_far (requests (Establish service tei))) w) weight (ap (λ s. record w { far = s }) down.same) h)
+    far-refused both w weight h down = grind (arith, none-called, not-moved)
 
     -- the far end calls back
     abbrev far_calls_back : Wire → Wire

@@ -1,5 +1,5 @@
 -- An establishment between two links, before both are up: SABME waits and goes, then UA; behind it I-frames may be on their way.
-use Rattle.laws_wire.proofs.Vocabulary.{◌≡◌, ℕ, ◌≤◌, true, false, cond, List, [], ◌∷◌, ◌++◌, length, None, Some, refl, sym, ap, subst, ◌∙◌, arith, nat_lt, lt-ltb, All-nil, Sabme, Ua, Parts, T203, ControlFrame, Terms, Link, fresh, frame_of, received, requested, offer, course, IsInRange, begun, End, with_sent, command, response, sound-after, sound-fresh, Steady, Pair, T200, after, refusal, IsSound, indicated}
+use Rattle.laws_wire.proofs.Vocabulary.{◌≡◌, ℕ, true, false, cond, List, [], ◌∷◌, ◌++◌, None, Some, ap, subst, arith, nat_lt, lt-ltb, Sabme, Ua, Parts, T203, ControlFrame, Terms, Link, fresh, frame_of, received, requested, offer, course, IsInRange, begun, End, with_sent, command, response, sound-after, sound-fresh, Steady, Pair, T200, after, refusal, IsSound, indicated}
 use Rattle.model_link.specs.declared.states.State.TheVariants as state
 use Rattle.model_link.specs.Events.{frame, Establish, Data}
 use Rattle.laws_wire.proofs.Speaking.{said_by}
@@ -68,13 +68,7 @@ none-granted-fresh t octets e = cc e
 
 -- the pair as both are up
 pub first-pair : (t u : Terms) → IsInRange t → IsInRange u → Pair (record { near = end t caller []; far = end u called [] })
-first-pair t u rt ru =
-    record {
-      near = record { ranges = rt; sound = sound-caller t rt; state = refl; peer_busy = refl; own_busy = refl; waiting = refl };
-      far = record { ranges = ru; sound = sound-called u ru; state = refl; peer_busy = refl; own_busy = refl; waiting = refl };
-      there = record { lane = (refl, omega arith, λ e. refl); delivered = refl; sizes = All-nil (λ octets. length octets ≤ u.n201) };
-      back = record { lane = (refl, omega arith, λ e. refl); delivered = refl; sizes = All-nil (λ octets. length octets ≤ t.n201) };
-    }
+first-pair t u rt ru = grind arith
 
 abbrev pub its_ua : ControlFrame
 its_ua = response (Ua true)
@@ -87,6 +81,4 @@ abbrev pub with_ua_first : End → End
 with_ua_first n = record n { way = ua n.terms ∷ n.way }
 
 pub sends-ua : (n : End) → Steady n → n.way ≡ [] → with_sent (with_ua_waiting n) ≡ with_ua_first n
-sends-ua n h none =
-    (λ i. record n { link = record n.link { waiting = sym h.waiting i }; way = n.way ++ ua n.terms ∷ [] })
-    ∙ (λ i. record n { way = none i ++ ua n.terms ∷ [] }) ∙ (λ i. record n { way = ua n.terms ∷ sym none i })
+sends-ua n h none = grind arith

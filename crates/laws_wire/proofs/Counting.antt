@@ -1,6 +1,5 @@
 -- RC is never above the number of expiries of T200 since a link was last in state 7, so no error is told while this is below N200.
-use Rattle.laws_wire.proofs.Vocabulary.{◌≡◌, ℕ, ◌+◌, ◌<◌, ◌≤◌, Bool, true, false, cond, not, ◌==◌, List, [], ◌∷◌, ◌++◌, map, refl, sym, ap, subst, ◌∙◌, inl, inr, true≢false, eqb-true, arith, All, All-nil, All-head, All-tail, All-weaker, Service, Parts, spelling, State, TeiAssigned, AwaitingEstablishment, AwaitingRelease, Established, TimerRecovery, Terms, T203, Link, state_number, IsInRange, End, Config, Line, place_in, at_requested, aim_of_request, request, terms, awaits_answer, repeats_left, as_heard, is_clearing, is_time, event-follows, T200, after, Request, Data, SetBusy, ClearBusy, Station, Wire, happens, with_first_of, Act, requests, times_out, gives, takes, Doing, at_near, at_far, acting, turned, doing, doing_all, calling, IsRoughTalk, IsFullTalkOf, IsFullTalk, own_link, IsTimelyOf, StayTimely, StayPatient, Counts, is_7, is_in_7, counted, counting, uncounted, IsCountedOf, IsCounted, StayCounted, StaySpared, ExpiriesAreCounted, LossyExpiriesAreCounted, frame, requested, offer, expired, LinkSetBusy, received, LinkClearBusy, LinkData, LinkRequest, timer_T200, timer_T203, IsPatient, Called, uncalled, seeing, seen}
-use Rattle.laws_link.specs.States.{moves}
+use Rattle.laws_wire.proofs.Vocabulary.{◌≡◌, ℕ, ◌+◌, ◌<◌, ◌≤◌, Bool, true, false, cond, ◌==◌, List, [], ◌∷◌, ◌++◌, map, refl, sym, ap, subst, ◌∙◌, inl, inr, true≢false, eqb-true, arith, All, All-nil, All-head, All-tail, Service, Parts, spelling, State, TeiAssigned, AwaitingEstablishment, AwaitingRelease, Established, TimerRecovery, Terms, T203, Link, IsInRange, End, Config, Line, place_in, at_requested, aim_of_request, request, terms, awaits_answer, as_heard, is_clearing, is_time, event-follows, T200, after, Request, Data, SetBusy, ClearBusy, Station, Wire, happens, with_first_of, Act, requests, times_out, gives, takes, Doing, at_near, at_far, acting, turned, doing, doing_all, calling, IsRoughTalk, IsFullTalkOf, IsFullTalk, own_link, IsTimelyOf, StayTimely, StayPatient, Counts, is_7, is_in_7, counted, counting, uncounted, IsCountedOf, IsCounted, StayCounted, StaySpared, ExpiriesAreCounted, LossyExpiriesAreCounted, frame, requested, offer, expired, LinkSetBusy, received, LinkClearBusy, LinkData, LinkRequest, timer_T200, timer_T203, IsPatient, Called, uncalled, seeing, seen}
 use Rattle.model_link.specs.Events.{Event}
 use Rattle.laws_wire.proofs.Awaited.{link-is, state-is, awaits-is, may-here}
 use Rattle.laws_wire.proofs.LooseUp.{for-asked}
@@ -18,44 +17,18 @@ use Rattle.laws_wire.proofs.UaTold.{patient-goes}
 abbrev from : ℕ → State
 from i = cond (i == 4) TeiAssigned (cond (i == 5) AwaitingEstablishment (cond (i == 6) AwaitingRelease (cond (i == 7) Established TimerRecovery)))
 
-from-number : (x : State) → from (state_number x) ≡ x
-from-number x = grind arith
-
-unmoved : (x y : State) → moves x y ≡ false → x ≡ y
-unmoved x y e = grind (arith, from-number, eqb-true)
-
 -- ---- an event of a link
 
 abbrev IsBelow : Link → ℕ → Type 0
 IsBelow l k = awaits_answer l.state ≡ true → l.repeats ≤ k
 
-one-more : (r k k' : ℕ) → r ≤ k → k + 1 ≤ k' → r + 1 ≤ k'
-one-more r k k' h h' = omega (arith, h, h')
-
-as-many : (r k k' : ℕ) → r ≤ k → k ≤ k' → r ≤ k'
-as-many r k k' h h' = omega (arith, h, h')
-
 module _ (t : Terms) (e : Event) (l : Link) (k k' : ℕ) where
-  abbrev to : State
-  to = (after t e l).state
-
   abbrev heard : Event
   heard = as_heard t e
 
-  abbrev last : ℕ
-  last = cond (moves l.state to) 0 (cond (is_time heard l) (l.repeats + 1) l.repeats)
-
   pub counts-on : is_clearing heard ≡ false → IsBelow l k → (awaits_answer l.state ≡ true → k ≤ k') → (awaits_answer l.state ≡ true → is_time heard l ≡ true → k + 1 ≤ k')
       → IsBelow (after t e l) k'
-  counts-on stays below keeps adds awaits = subst (λ i. i ≤ k') (sym ((event-follows t e l).leaves.repeats ∙ is)) (go (moves l.state to) (is_time heard l) refl refl)
-    where
-      is : repeats_left heard l to ≡ last
-      is = ap (λ b. cond b 0 (cond (not (awaits_answer to)) l.repeats last)) stays ∙ ap (λ b. cond (not b) l.repeats last) awaits
-
-      go : (b x : Bool) → moves l.state to ≡ b → is_time heard l ≡ x → cond b 0 (cond x (l.repeats + 1) l.repeats) ≤ k'
-      go true x e e' = omega arith
-      go false true e e' = let before = ap awaits_answer (unmoved l.state to e) ∙ awaits in one-more l.repeats k k' (below before) (adds before e')
-      go false false e e' = let before = ap awaits_answer (unmoved l.state to e) ∙ awaits in as-many l.repeats k k' (below before) (keeps before)
+  counts-on stays below keeps adds awaits = grind (arith, event-follows, eqb-true)
 
 -- ---- a station
 
@@ -93,9 +66,7 @@ module _ (service : Service) (tei : ℕ) where
         (counts-on n.terms e n.link k (cond in_7 0 k) stays own-below (keeps k (omega arith)) (λ awaits time. absurd (true≢false (sym time ∙ none))))
 
     same : Below w.near (cond in_7 0 k)
-    same awaits =
-        let up = ap (λ (l : Link). awaits_answer l.state) (sym (link-is service tei c p w.near n near)) ∙ awaits in
-        as-many (own_link service tei w.near).repeats k (cond in_7 0 k) (below awaits) (keeps k (omega arith) up)
+    same awaits = grind (arith, link-is, keeps)
 
     near-asks : (r : Request) (rq : LinkRequest) → ((l : Line) → aim_of_request r l ≡ at_requested service tei rq (place_in l tei)) → Below (happens (request r) w.near) (cond in_7 0 k)
     near-asks r rq aims =
@@ -236,6 +207,4 @@ all-timely [] w h spared = tt
 all-timely (d ∷ ds) w h spared = ((grind arith), all-timely ds (doing d w) h.1 spared.1)
 
 pub expiries-are-counted : ExpiriesAreCounted
-expiries-are-counted service c d line other tei ds can talk = λ counts spared.
-    all-timely ds (calling service tei c line d other)
-    (lossy-expiries-are-counted service c d line other tei ds can (All-weaker (IsRoughTalk service tei) (IsFullTalk service tei) (full service tei) ds talk) counts) spared
+expiries-are-counted service c d line other tei ds can talk = grind (arith, all-timely, lossy-expiries-are-counted, full)

@@ -1,28 +1,87 @@
 -- Two cards that face each other deliver what layer 3 hands over.
-use Rattle.laws_wire.proofs.Vocabulary.{◌≡◌, ℕ, ◌+◌, ◌*◌, ◌≤◌, Bool, cond, List, [], ◌++◌, length, map, take, drop, Option, Some, option_map, refl, sym, ap, subst, ◌∙◌, append-nil, append_assoc, length-append, map-append, take-append-drop, arith, All, All-nil, Service, Link, Established, other_side, End, Ends, Config, LineTold, link_in, state_in, place_in, terms, has_lines, line_sound, AreTurns, weight_at, IsReady, IsTaken, Pair, all-turns, Station, Wire, Doing, doing_all, turns, IsStill, IsBeginningOf, IsTold, calling, IsTalk, data_told, Face, Speaks, own_link, granted_of, or_parts, two_ends_doing_all, append_cancel_left}
+use Rattle.laws_wire.proofs.Vocabulary.{◌≡◌, ℕ, ◌<◌, ◌||◌, [], None, option_map, sym, ap, subst, ◌∙◌, arith, Service, Link, End, Config, has_lines, line_sound, next, gave, Steady, Station, Wire, IsStill, answered, Face, Speaks, own_link, AreOpposite, is_busy, List, ◌∷◌, ◌++◌, refl, append_assoc, LineTold, Doing, at_near, at_far, turned, doing, ◌+◌, ◌*◌, ◌≤◌, Bool, cond, length, map, take, drop, Some, append-nil, length-append, map-append, take-append-drop, All, All-nil, Established, other_side, Ends, link_in, place_in, terms, AreTurns, weight_at, IsReady, IsTaken, Pair, all-turns, doing_all, turns, IsBeginningOf, IsTold, calling, IsTalk, data_told, granted_of, or_parts, two_ends_doing_all, append_cancel_left}
+use Rattle.model_link.specs.Sound as link_sound
+use Rattle.laws_wire.proofs.Talking as talking
+use Rattle.laws_link.specs.two.Rounds.{HasArrived}
+use Rattle.laws_wire.proofs.Alone.{link-is, still-alone, no-way, no-messages, no-units, none-waiting, none-other}
+use Rattle.laws_wire.proofs.Run.{arrived, none-given, way-empty, still-up}
+use Rattle.laws_wire.proofs.Standing.{StationStands, IsCarried, link-sound, link-ranges}
+use Rattle.laws_wire.proofs.Talking.{Past, Holds}
+use Rattle.laws_wire.proofs.Up.{Talk, pair_of, talks, Acted}
 use Rattle.std.proofs.Math.Seq.{drop-append_seam}
 use Rattle.model_line.specs.Line.{Line}
 use Rattle.model_line.specs.Sound.{IsSound}
-use Rattle.model_link.specs.Sound as link_sound
 use Rattle.laws_wire.specs.Facing.{line_of, most_turns, unsent_at, due_since, IsToldSince, Delivers, CardsDeliver, CardsFaceAgain, CallsFace}
-use Rattle.laws_wire.proofs.Again.{faces-again}
-use Rattle.laws_wire.proofs.Alone.{link-is, no-way, no-messages, no-units, none-waiting, none-other}
-use Rattle.laws_wire.proofs.Logged.{logged, with_logs, run-logged, turns-logged}
-use Rattle.laws_wire.proofs.Run.{still-up, arrived, none-given, way-empty}
 use Rattle.laws_wire.proofs.Spelled.{twice-other}
-use Rattle.laws_wire.proofs.Standing.{IsCarried, StationStands, link-sound, link-ranges}
-use Rattle.laws_wire.proofs.Talking.{Past, Holds}
-use Rattle.laws_wire.proofs.Talking as talking
-use Rattle.laws_wire.proofs.Up.{pair_of, Talk, talks, Acted}
+unfoldable use Rattle.laws_wire.specs.Wire.{doing_all, turns}
+
+-- ---- where no turn is left the two cards face each other again
+
+module _ (service : Service) (tei : ℕ) where
+  -- the link of a station that stands for an end
+  its-link : (c : Config) (place : ℕ) (past : Past) (s : Station) (n : End) → Holds c service tei place past s n → own_link service tei s ≡ n.link
+  its-link c place past s n h = grind (arith, StationStands, link-is, line_sound, has_lines)
+
+  speaks : (c d : Config) (p q : ℕ) (past other : Past) (s u : Station) (n m : End) → Holds c service tei p past s n → Holds d service tei q other u m → Steady n
+      → HasArrived n.link.contents n m → answered next s ≡ gave None → s.way ≡ [] → Speaks service tei s u
+  speaks c d p q past other s u n m h k steady got none way =
+      let own : StationStands s.card.config service tei p s n = subst (λ k. StationStands k service tei p s n) (sym h.stands.config) h.stands in
+      let here = its-link c p past s n h in
+      let there = its-link d q other u m k in
+      record {
+        card = (own.sound, own.within);
+        state = grind (arith, option_map);
+        free = ap is_busy here ∙ ap (λ b. b || n.link.peer_busy) steady.own_busy ∙ steady.peer_busy;
+        alone = still-alone service tei p s (line_sound s.card s.line (has_lines s.card own.sound) own.within) own.speaks.placed none way;
+        received = ap (λ (l : Link). l.r) there ∙ got.received ∙ sym got.sent ∙ sym (ap (λ (l : Link). l.s) here);
+        owes = λ less. absurd (omega (arith, got.acknowledged, got.sent, subst (λ (l : Link). l.a < l.s) here less));
+      }
+
+  module _ (c d : Config) (p q : ℕ) (first second : Past) (w : Wire) (n m : End) (h : Talk service tei c d p q first second w n m) (still : IsStill w) (opposite : AreOpposite c d) where
+    pub faces-again : Face service tei w
+    faces-again =
+        let no-near = way-empty service tei c p first w.near n h.near still.near_way in
+        let no-far = way-empty service tei d q second w.far m h.far still.far_way in
+        let all = arrived n m h.pair (none-given service tei c p first w.near n h.near still.near) (none-given service tei d q second w.far m h.far still.far) no-near no-far in
+        let far-own = sym h.far.stands.config in (
+          speaks c d p q first second w.near w.far n m h.near h.far h.pair.near all.0 still.near still.near_way,
+          speaks d c q p second first w.far w.near m n h.far h.near h.pair.far all.1 still.far still.far_way,
+          subst (λ k. AreOpposite k w.far.card.config) (sym h.near.stands.config) (subst (AreOpposite c) far-own opposite),
+        )
+
+-- ---- what layer 3 was granted and told before changes nothing of what happens
+
+abbrev pub logged : List (List ℕ) → List LineTold → Station → Station
+logged granted told s = record s { granted = granted ++ s.granted; told = told ++ s.told }
+
+abbrev pub with_logs : List (List ℕ) → List LineTold → List (List ℕ) → List LineTold → Wire → Wire
+with_logs near_granted near_told far_granted far_told w = record { near = logged near_granted near_told w.near; far = logged far_granted far_told w.far }
+
+module _ (gn : List (List ℕ)) (tn : List LineTold) (gf : List (List ℕ)) (tf : List LineTold) where
+  abbrev L : Wire → Wire
+  L w = with_logs gn tn gf tf w
+
+  one-logged : (d : Doing) (w : Wire) → doing d (L w) ≡ L (doing d w)
+  one-logged (at_near act) w = grind (arith, append_assoc)
+  one-logged (at_far act) w = ap turned (grind (arith, append_assoc))
+
+  pub run-logged : (ds : List Doing) (w : Wire) → doing_all ds (L w) ≡ L (doing_all ds w)
+  unfolding doing_all
+  run-logged [] w = refl
+  run-logged (d ∷ ds) w = ap (doing_all ds) (one-logged d w) ∙ run-logged ds (doing d w)
+
+  pub turns-logged : (ds : List Doing) (w : Wire) → turns ds (L w) ≡ turns ds w
+  unfolding turns
+  turns-logged [] w = refl
+  turns-logged (d ∷ ds) w = grind (arith, turns-logged ds (doing d w), one-logged)
+
+-- ---- what layer 3 hands over is delivered
 
 -- `Card::state` tells 7 of a link whose TEI is on the line
 record IsUp (service : Service) (tei : ℕ) (l : Line) : Type 0 where
   place : ℕ
   placed : place_in l tei ≡ Some place
   state : (link_in l service place).state ≡ Established
-
-is-up : (service : Service) (tei : ℕ) (l : Line) → (o : Option ℕ) → place_in l tei ≡ o → option_map (state_in l service) o ≡ Some 7 → IsUp service tei l
-is-up service tei l o is e = grind arith
 
 two-owed : (b : Bool) → cond {A = ℕ} b 2 0 ≡ 2 * cond {A = ℕ} b 1 0
 two-owed b = grind arith
@@ -58,13 +117,9 @@ module _ (service : Service) (tei : ℕ) where
   abbrev past_at : Station → Station → Past
   past_at s u = record { told = []; had = take (own_link service tei s).r (own_link service tei u).contents }
 
-  -- with what its link keeps as what was granted
-  abbrev kept_at : Station → Station
-  kept_at s = logged (own_link service tei s).contents [] (bare s)
-
   module _ (s u : Station) (h : Speaks service tei s u) where
     up : IsUp service tei (line_of s)
-    up = is-up service tei (line_of s) (place_in (line_of s) tei) refl h.state
+    up = grind arith
 
     sound : IsSound s.card.config (line_of s)
     sound = line_sound s.card s.line (has_lines s.card h.card.0) h.card.1
@@ -89,22 +144,8 @@ module _ (service : Service) (tei : ℕ) where
       carried = All-nil (IsCarried s.card.config service tei);
     }
 
-    holds : Holds s.card.config service tei up.place (past_at s u) (kept_at s) (end_at s u)
-    holds = record {
-      stands = record {
-        config = refl;
-        sound = stands.sound;
-        within = stands.within;
-        speaks = stands.speaks;
-        terms = refl;
-        way = stands.way;
-        carried = stands.carried;
-      };
-      granted = append-nil (own_link service tei s).contents;
-      since = [];
-      told = refl;
-      delivered = sym (append-nil (past_at s u).had);
-    }
+    holds : Holds s.card.config service tei up.place (past_at s u) (logged (own_link service tei s).contents [] (bare s)) (end_at s u)
+    holds = grind (arith, stands, append-nil)
 
     ready : IsReady (end_at s u)
     ready =
@@ -148,13 +189,10 @@ module _ (service : Service) (tei : ℕ) where
         let is = behind (own_link service tei u).s n.link.r (own_link service tei u).contents more since (as-kept ∙ agree ∙ ap (take n.link.r) (sym kept)) in
         (data_notes rest, sym (map-append (data_told service tei) since rest) ∙ ap data_notes is)
 
-    told-then : n.delivered ≡ m.link.contents → data_notes since ≡ data_notes (unsent_at service tei u ++ more)
-    told-then all = ap data_notes (behind-all (own_link service tei u).s (own_link service tei u).contents more since (as-kept ∙ all ∙ sym kept))
-
     -- with what the other was granted before
     pub is-told : (still : Type 0) → (still → n.delivered ≡ m.link.contents) → (granted : List (List ℕ))
         → IsTold still (data_notes (unsent_at service tei u ++ drop (length granted) (granted ++ more))) (data_notes since)
-    is-told still all granted = grind (arith, drop-append_seam, told-first, told-then)
+    is-told still all granted = grind (arith, drop-append_seam, told-first, data_notes, behind-all, own_link, as-kept)
 
   -- what was granted and told is nothing to how they face each other
   first-pair : (e : Ends) → IsReady e.near → IsReady e.far → IsTaken e.near e.far → IsTaken e.far e.near → Pair e
@@ -181,11 +219,8 @@ module _ (service : Service) (tei : ℕ) where
     abbrev as_kept : Wire → Wire
     as_kept v = with_logs (own_link service tei s).contents [] (own_link service tei u).contents [] v
 
-    begins : as_is bare_wire ≡ w
-    begins = grind (arith, append-nil)
-
     pub leads : doing_all ds w ≡ as_is last
-    leads = ap (doing_all ds) (sym begins) ∙ run-logged s.granted s.told u.granted u.told ds bare_wire
+    leads = ap (doing_all ds) (sym (grind (arith, append-nil))) ∙ run-logged s.granted s.told u.granted u.told ds bare_wire
 
     ran : doing_all ds (as_kept bare_wire) ≡ as_kept last
     ran = run-logged (own_link service tei s).contents [] (own_link service tei u).contents [] ds bare_wire
@@ -193,7 +228,7 @@ module _ (service : Service) (tei : ℕ) where
     same-turns : turns ds (as_kept bare_wire) ≡ turns ds w
     same-turns =
         turns-logged (own_link service tei s).contents [] (own_link service tei u).contents [] ds bare_wire
-        ∙ sym (turns-logged s.granted s.told u.granted u.told ds bare_wire) ∙ ap (turns ds) begins
+        ∙ sym (turns-logged s.granted s.told u.granted u.told ds bare_wire) ∙ ap (turns ds) (grind (arith, append-nil))
 
     abbrev c : Config
     c = s.card.config

@@ -46,9 +46,7 @@ dense-beyond r s [] less h all = omega (arith, less, h)
 dense-beyond r s (numbered ns ∷ xs) less h all =
     let one : ns.value ≡ all.0.0 % 128 = seq-value ns all.0.0 all.0.1 in
     let two : ns.value ≡ r % 128 = seq-value ns r h.0 in
-    let low : r < all.0.0 = all.0.2 in
-    let high : all.0.0 ≤ r + 127 = all.0.3 in
-    omega (arith, one, two, low, high)
+    grind arith
 dense-beyond r s (enquiry ∷ xs) less h all = dense-beyond r s xs less h all.1
 dense-beyond r s (answer nr ∷ xs) less h all = dense-beyond r s xs less h all.1
 dense-beyond r s (report ∷ xs) less h all = dense-beyond r s xs less h all.1

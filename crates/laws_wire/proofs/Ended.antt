@@ -161,9 +161,6 @@ module _ (service : Service) (tei : ℕ) where
     open-now : (n m : End) (a b : List LineTold) (w : Wire) → Are n m a b w → awaits_answer n.link.state ≡ true → IsTimelyOf (times_out (timer_T200 service tei)) w → NoneOpen n m
     open-now n m a b w h awaits x = long-there service tei c d p q w.near w.far n m h.near.stands h.far.stands x.0 awaits
 
-    final : (b : Bool) → is_final (reply b).command (reply b).control ≡ true
-    final b = grind arith
-
     first-near : (k : ℕ) (w : Wire) → Are (N k (its_disc ∷ []) []) M hn hm w ⊎ Are (N k [] (disc t ∷ [])) M hn hm w ⊎ Are (N k [] []) M hn hm w
         → (act : Act) → IsLeaving service tei (at_near act) → IsTimelyOf act w → First (acting act w)
     first-near k w h (requests r) is x = absurd is
@@ -212,14 +209,14 @@ module _ (service : Service) (tei : ℕ) where
     told-near k b w h (requests r) is x = absurd is
     told-near k b w (inl h) (times_out timer) is x =
         each-timer service tei (λ timer. IsTimelyOf (times_out timer) w → Phase (acting (times_out timer) w))
-        (λ x. absurd (waits-first is_final (G (reply b ∷ []) []) (reply b) [] refl (final b) (open-now (N k [] []) (G (reply b ∷ []) []) hn I w h refl x).responses))
+        (λ x. absurd (waits-first is_final (G (reply b ∷ []) []) (reply b) [] refl (grind arith) (open-now (N k [] []) (G (reply b ∷ []) []) hn I w h refl x).responses))
         (λ x. inr (inl (k, b, inl (near-unmoved (N k [] []) (G (reply b ∷ []) []) hn I w h (timer_T203 service tei) T203 (λ l. refl) refl)))) timer is x
     told-near k b w (inl h) gives is x = inr (inl (k, b, inl (near-silent (N k [] []) (G (reply b ∷ []) []) hn I w h (record { waiting = refl; information = refl; pending = refl }))))
     told-near k b w (inl h) takes is x = inr (inl (k, b, inl (near-takes-none (N k [] []) (G (reply b ∷ []) []) hn I w h refl)))
     told-near k b w (inl h) loses is x = inr (inl (k, b, inl (near-loses-none (N k [] []) (G (reply b ∷ []) []) hn I w h refl)))
     told-near k b w (inr (inl h)) (times_out timer) is x =
         each-timer service tei (λ timer. IsTimelyOf (times_out timer) w → Phase (acting (times_out timer) w))
-        (λ x. absurd (goes-first is_final (G [] (frame_of u (reply b) ∷ [])) (frame_of u (reply b)) [] refl (final b) (open-now (N k [] []) (G [] (frame_of u (reply b) ∷ [])) hn I w h refl x).responses))
+        (λ x. absurd (goes-first is_final (G [] (frame_of u (reply b) ∷ [])) (frame_of u (reply b)) [] refl (grind arith) (open-now (N k [] []) (G [] (frame_of u (reply b) ∷ [])) hn I w h refl x).responses))
         (λ x. inr (inl (k, b, inr (inl (near-unmoved (N k [] []) (G [] (frame_of u (reply b) ∷ [])) hn I w h (timer_T203 service tei) T203 (λ l. refl) refl))))) timer is x
     told-near k b w (inr (inl h)) gives is x = inr (inl (k, b, inr (inl (near-silent (N k [] []) (G [] (frame_of u (reply b) ∷ [])) hn I w h (record { waiting = refl; information = refl; pending = refl })))))
     told-near k b w (inr (inl h)) takes is x = inr (inr (k, takes-reply k w b h))

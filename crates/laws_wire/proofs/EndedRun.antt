@@ -32,17 +32,7 @@ pub record BothRest (service : Service) (tei : ℕ) (c d : Config) (p q : ℕ) (
   loose : Loose n m
 
 turned-rest : (service : Service) (tei : ℕ) (c d : Config) (p q : ℕ) (w : Wire) → BothRest service tei c d p q w → BothRest service tei d c q p (turned w)
-turned-rest service tei c d p q w h = record {
-  n = h.m;
-  m = h.n;
-  near = h.far;
-  far = h.near;
-  near_hushed = h.far_hushed;
-  far_hushed = h.near_hushed;
-  near_stopped = h.far_stopped;
-  far_stopped = h.near_stopped;
-  loose = loose-turned h.n h.m h.loose;
-}
+turned-rest service tei c d p q w h = grind (arith, loose-turned)
 
 module _ (service : Service) (tei : ℕ) (few : tei ≤ 126) (c d : Config) (p q : ℕ) (face : Face c d) (back : Face d c) (rt : IsInRange (terms c service tei)) (ru : IsInRange (terms d service tei))
     (w : Wire) (h : BothRest service tei c d p q w) where
@@ -55,22 +45,17 @@ module _ (service : Service) (tei : ℕ) (few : tei ≤ 126) (c d : Config) (p q
   abbrev t : Terms
   t = terms c service tei
 
-  abbrev u : Terms
-  u = terms d service tei
-
   near-hushed : IsHushed service tei n
   near-hushed = h.near_hushed
 
-  far-quiet : HasNothingToSend u m.link
+  far-quiet : HasNothingToSend (terms d service tei) m.link
   far-quiet = subst (λ t. HasNothingToSend t m.link) h.far.terms (nothing-given m.terms m.link h.far_hushed.given)
 
   near-state : n.link.state ≡ Established
   near-state = (loose-came n m h.loose (nothing-given n.terms n.link near-hushed.given) (sym (runs-up service tei c p w.near n h.near h.loose.joined.near_up) ∙ h.near_stopped)).state
 
   far-state : m.link.state ≡ Established
-  far-state =
-      (loose-came m n (loose-turned n m h.loose) (nothing-given m.terms m.link h.far_hushed.given)
-      (sym (runs-up service tei d q w.far m h.far h.loose.joined.far_up) ∙ h.far_stopped)).state
+  far-state = grind (arith, loose-came, loose-turned, nothing-given, runs-up)
 
   -- the release is granted
   own : StationStands w.near.card.config service tei p w.near n

@@ -1,5 +1,5 @@
 -- An event of a link in states 7 and 8 tells an error; or it leaves the link there, tells what it delivers, and nothing else.
-use Rattle.laws_wire.proofs.Vocabulary.{arith, ◌≡◌, ℕ, Bool, true, false, cond, ◌||◌, IsTrue, List, [], ◌∷◌, ◌++◌, length, map, Option, None, refl, sym, ap, ◌∙◌, ◌⊎◌, inl, inr, true≢false, nat_lt, option_to_list, list_any, list_any-append, Seq, Control, Information, Sabme, ErrorCode, Note, Parts, State, Established, TimerRecovery, LinkTimer, Terms, Link, is_multiple_frame, received, expired, begun, Step, Leads, keeping_then, nothing_leads, depending_leads, bit_leads, Means, frame, Course, is_error, code_O, NoteData, NoteError}
+use Rattle.laws_wire.proofs.Vocabulary.{arith, ◌≡◌, ℕ, Bool, true, false, ◌||◌, IsTrue, List, [], ◌∷◌, ◌++◌, map, Option, None, refl, sym, ap, ◌∙◌, ◌⊎◌, inl, inr, true≢false, option_to_list, list_any, list_any-append, Seq, Control, Information, Sabme, ErrorCode, Note, Parts, State, Established, TimerRecovery, LinkTimer, Terms, Link, is_multiple_frame, received, expired, begun, Step, Leads, keeping_then, nothing_leads, depending_leads, bit_leads, Means, frame, Course, is_error, NoteData, NoteError}
 use Rattle.model_link.specs.Words
 use Rattle.model_link.specs.MultipleFrame
 use Rattle.model_link.specs.Established
@@ -63,14 +63,11 @@ module _ (t : Terms) where
   again_fair : (n : ℕ) → Leads (Fair t) (Words.send_again_from n) (Fair t)
   again_fair n = record { leads = λ c h. record { fair = h.fair } }
 
-  entered : (state to : State) (ns : List Note) (d u : Option (List ℕ)) → IsTrue (is_multiple_frame to) → HasError ns ⊎ Fine t state ns d u → HasError ns ⊎ Fine t to ns d u
-  entered state to ns d u up o = grind arith
-
   enter_fair : Leads (Fair t) (Words.enter Established) (Fair t)
-  enter_fair = record { leads = λ c h. record { fair = entered c.link.state Established c.notes c.delivered c.unit refl h.fair } }
+  enter_fair = record { leads = λ c h. record { fair = grind arith } }
 
   recover_fair : Leads (Fair t) (Words.enter TimerRecovery) (Fair t)
-  recover_fair = record { leads = λ c h. record { fair = entered c.link.state TimerRecovery c.notes c.delivered c.unit refl h.fair } }
+  recover_fair = record { leads = λ c h. record { fair = grind arith } }
 
   number_fair : {f : ℕ → Step} (nr : Seq) → ((n : ℕ) → Leads (Fair t) (f n) (Fair t)) → Leads (Fair t) (Words.by_number t nr f) (Fair t)
   number_fair {f} nr x = grind (arith, error-told)
@@ -104,20 +101,9 @@ module _ (t : Terms) where
     pub at-first : Fair t (begun l)
     at-first = record { fair = inr (record { up = up; its_notes = refl; no_unit = refl }) }
 
-    in-sequence : (p : Bool) (octets : List ℕ) → Fair t (MultipleFrame.in_sequence t p octets (begun l))
-    in-sequence p octets = grind arith
-
-    either : (b : Bool) (u v : Course) → Fair t u → Fair t v → Fair t (cond b u v)
-    either b u v x y = grind arith
-
-    contents : (ns : Seq) (p : Bool) (octets : List ℕ) → Fair t (MultipleFrame.contents_in_7_8 t ns p octets (begun l))
-    contents ns p octets = grind (arith, either, at-first, in-sequence)
-
     information : (ns nr : Seq) (p : Bool) (octets : List ℕ) (f : ℕ → Step) → ((n : ℕ) → Leads (Fair t) (f n) (Fair t))
         → Fair t (MultipleFrame.information_in_7_8 t ns nr p octets f (begun l))
-    information ns nr p octets f x =
-        either (nat_lt t.n201 (length octets)) _ _ ((failed_fair t code_O).leads (begun l) at-first)
-        ((number_fair t nr x).leads (MultipleFrame.contents_in_7_8 t ns p octets (begun l)) (contents ns p octets))
+    information ns nr p octets f x = grind (arith, failed_fair, at-first, number_fair)
 
     frames-7 : (b : Bool) (octets : List ℕ) (m : ℕ) (control : Control) → Means m control → Fair t (Established.frame_in_7 t b octets control (begun l))
     frames-7 b octets m (Information ns nr p) e = information ns nr p octets Established.acknowledged_by_information_in_7 by_information_7
@@ -141,7 +127,7 @@ module _ (t : Terms) where
     expired-in here is timer = grind (arith, at-first)
 
     pub timer-fair : (timer : LinkTimer) → Fair t (Machine.course t (expired timer) l)
-    timer-fair timer = either (Machine.is_running timer l) _ _ (expired-in l.state up timer) at-first
+    timer-fair timer = grind (arith, expired-in l.state up timer)
 
     -- SABME is an error
     pub sabme-error : (f : Parts) (p : Bool) → f.control ≡ Sabme p → HasError (Machine.course t (received (frame f)) l).notes

@@ -1,5 +1,5 @@
 -- Two ends that are up, and whose T200 is timely: they stay so, and no frame that one takes makes it tell an error.
-use Rattle.laws_wire.proofs.Vocabulary.{arith, ◌≡◌, ℕ, Bool, true, false, cond, not, ◌&&◌, IsTrue, List, [], ◌∷◌, ◌++◌, refl, sym, ap, subst, ◌∙◌, ◌⊎◌, true≢false, list_any, Seq, Control, Information, Note, Parts, State, TeiAssigned, Established, TimerRecovery, LinkTimer, Terms, Link, is_multiple_frame, received, expired, requested, offer, course, End, Ends, asks, expires, sends, receives, with_link, with_sent, IsUp, frames_of, Joined, joined-turned, done-at, Rising, frame-taken, busy_asked, flag_left, takes_contents, as_heard, is_overlong, state_after, numbered_as, told_up, told_by_frame, told_expired, event-follows, CanRepeat, IsMildAct, IsTimelyAct, is_recovering, Flow, no-answer, line, NoAlien, is-no-alien, Sane, sane-doing, Flows, acted-flows, done-up, same-after, Kind, answer, alien, kind_of, kind_of_reject, after, is_error, NoteData}
+use Rattle.laws_wire.proofs.Vocabulary.{arith, ◌≡◌, ℕ, Bool, true, false, cond, IsTrue, List, [], ◌∷◌, ◌++◌, refl, sym, ap, subst, ◌∙◌, ◌⊎◌, true≢false, list_any, Parts, State, TeiAssigned, LinkTimer, Terms, Link, is_multiple_frame, received, expired, requested, offer, course, End, Ends, asks, expires, sends, receives, with_link, with_sent, IsUp, frames_of, Joined, joined-turned, done-at, Rising, frame-taken, busy_asked, as_heard, is_overlong, state_after, told_expired, event-follows, CanRepeat, IsTimelyAct, is_recovering, Flow, no-answer, line, NoAlien, is-no-alien, Sane, sane-doing, Flows, acted-flows, done-up, same-after, Kind, answer, alien, kind_of, after, is_error}
 use Rattle.model_link.specs.TwoEnds.{Act, loses, at_near, with_first_of, with_first_lost, acting}
 use Rattle.laws_link.specs.Telling.{told_by}
 use Rattle.laws_link.specs.two.Timely.{IsTimely}
@@ -15,29 +15,7 @@ IsQuiet b (answer nr) = b ≡ true
 IsQuiet b alien = ⊥
 IsQuiet b other = Unit {0}
 
-reject-final : (b command pf : Bool) (nr : Seq) → IsQuiet b (kind_of_reject command pf nr) → (not command && pf) ≡ true → b ≡ true
-reject-final b command pf nr h e = grind arith
-
 module _ (t : Terms) where
-  numbered-none : (to : State) → IsTrue (is_multiple_frame to) → numbered_as t to ≡ []
-  numbered-none Established up = refl
-  numbered-none TimerRecovery up = refl
-  numbered-none other up = absurd (true≢false (sym up))
-
-  data-alone : (b : Bool) → list_any is_error (cond {A = List Note} b (NoteData t.service t.tei ∷ []) [] ++ []) ≡ false
-  data-alone b = grind arith
-
-  module _ (b command : Bool) (octets : List ℕ) (taken : Bool) (l : Link) (to : State) (up : IsTrue (is_multiple_frame to)) where
-    up-quiet : (control : Control) → IsQuiet b (kind_of command control) → list_any is_error (told_up b t command octets control taken l to) ≡ false
-    up-quiet (Information ns nr p) h = ap (λ more. list_any is_error (cond {A = List Note} taken (NoteData t.service t.tei ∷ []) [] ++ more)) (numbered-none to up) ∙ data-alone taken
-    up-quiet control h = grind (arith, numbered-none, up, reject-final)
-
-  frame-quiet : (here : State) → IsTrue (is_multiple_frame here) → (command : Bool) (octets : List ℕ) (control : Control) (taken : Bool) (l : Link) (to : State)
-      → IsTrue (is_multiple_frame to) → IsQuiet (is_recovering here) (kind_of command control) → list_any is_error (told_by_frame here t command octets control taken l to) ≡ false
-  frame-quiet Established is command octets control taken l to up h = up-quiet false command octets taken l to up control h
-  frame-quiet TimerRecovery is command octets control taken l to up h = up-quiet true command octets taken l to up control h
-  frame-quiet other is command octets control taken l to up h = absurd (true≢false (sym is))
-
   -- an I-frame over N201 would lead the link out
   pub no-error : (l : Link) (f : Parts) → IsTrue (is_multiple_frame l.state) → IsTrue (is_multiple_frame (after t (received (frame f)) l).state)
       → IsQuiet (is_recovering l.state) (kind_of f.address.command f.control) → list_any is_error (course t (received (frame f)) l).notes ≡ false
@@ -51,7 +29,7 @@ module _ (t : Terms) where
 
       go : (b : Bool) → to ≡ state_after t (heard b) l → (course t (received (frame f)) l).notes ≡ told_by t (heard b) l to → list_any is_error (course t (received (frame f)) l).notes ≡ false
       go true leads tells = grind (arith, up)
-      go false leads tells = ap (list_any is_error) tells ∙ frame-quiet l.state is f.address.command f.info f.control (takes_contents (heard false) l) l to up h
+      go false leads tells = ap (list_any is_error) tells ∙ grind arith
 
   -- nor does a timer tell one, where the link stays up
   expired-quiet : (here to : State) → IsTrue (is_multiple_frame here) → IsTrue (is_multiple_frame to) → list_any is_error (told_expired here t to) ≡ false
@@ -66,9 +44,7 @@ module _ (t : Terms) where
 -- ---- own busy stays off
 
 free : (t : Terms) (e : Event) (l : Link) → busy_asked (as_heard t e) false ≡ false → l.own_busy ≡ false → (after t e l).own_busy ≡ false
-free t e l asked is =
-    let to = (after t e l).state in
-    (event-follows t e l).leaves.own_busy ∙ ap (λ b. flag_left (as_heard t e) l to (busy_asked (as_heard t e) b) b) is ∙ off _ (is_multiple_frame l.state) (busy_asked (as_heard t e) false) asked
+free t e l asked is = grind (arith, event-follows, off)
 
 -- ---- two ends
 
@@ -89,13 +65,8 @@ firm-turned n m h = assumption (joined-turned n m h.joined, sym h.same)
 
 -- Two ends that are up: they stay so, and what an end takes leaves its contents, and is told as it is delivered.
 module _ (n m : End) (joined : Joined n m) (same : n.terms.n201 ≡ m.terms.n201) (there : Flows n m) (back : Flows m n) where
-  mild : (act : Act) → IsTimelyAct act n m → IsMildAct act n
-  mild (asks request full) x = x
-  mild (expires timer) x = x.0
-  mild other x = tt
-
   pub up-after : (act : Act) → IsTimelyAct act n m → IsUp (acting act (record { near = n; far = m }))
-  up-after act x = done-up (at_near act) (record { near = n; far = m }) joined same (flows-low n m there, flows-low m n back) (mild act x)
+  up-after act x = done-up (at_near act) (record { near = n; far = m }) joined same (flows-low n m there, flows-low m n back) (grind arith)
 
   module _ (f : Parts) (fs : List Parts) (first : m.way ≡ f ∷ fs) where
     abbrev rest : List Kind
@@ -111,14 +82,6 @@ module _ (n m : End) (joined : Joined n m) (same : n.terms.n201 ≡ m.terms.n201
     quiet-kind (answer nr) true known flow = refl
     quiet-kind x b known flow = grind (arith, no-answer)
 
-    quiet : IsQuiet (is_recovering n.link.state) x
-    quiet =
-        let there' : Flow n.link.s m.link.r (is_recovering n.link.state) m.link.rejecting own_line (x ∷ rest) =
-        subst (λ way. Flow n.link.s m.link.r (is_recovering n.link.state) m.link.rejecting own_line (line m.terms way m.link.waiting)) first there in
-        let back' : Flow m.link.s n.link.r (is_recovering m.link.state) n.link.rejecting (x ∷ rest) own_line =
-        subst (λ way. Flow m.link.s n.link.r (is_recovering m.link.state) n.link.rejecting (line m.terms way m.link.waiting) own_line) first back in
-        quiet-kind x (is_recovering n.link.state) (is-no-alien m.link.s n.link.r (is_recovering m.link.state) n.link.rejecting x rest own_line back') there'
-
     rising : Rising n.link.a m.link.r (f ∷ fs ++ frames_of m.terms m.link.waiting)
     rising = subst (λ way. Rising n.link.a m.link.r (way ++ frames_of m.terms m.link.waiting)) first joined.there.rising
 
@@ -127,11 +90,10 @@ module _ (n m : End) (joined : Joined n m) (same : n.terms.n201 ≡ m.terms.n201
 
     pub takes-fine : let c = course n.terms (received (frame f)) n.link in Fine n.terms c.link.state c.notes c.delivered c.unit
     takes-fine =
-        let c = course n.terms (received (frame f)) n.link in
         go (frame-fair n.terms n.link joined.near_up f rising.0 rising.2).fair
       where
         go : let c = course n.terms (received (frame f)) n.link in HasError c.notes ⊎ Fine n.terms c.link.state c.notes c.delivered c.unit → Fine n.terms c.link.state c.notes c.delivered c.unit
-        go o = grind (arith, no-error, up, quiet)
+        go o = grind (arith, no-error, up, quiet-kind, is-no-alien)
 
     pub takes-kept : (with_link (received (frame f)) n).link.contents ≡ n.link.contents
     takes-kept = ((frame-taken n.terms n.link joined.near_up f.address.command f.info rising.0 f.control rising.2).took.by.stay up).2.same
@@ -184,7 +146,6 @@ module _ (n m : End) (h : Firm n m) where
     where
       known : (f : Parts) (fs : List Parts) → m.way ≡ f ∷ fs → NoAlien (kind_of f.address.command f.control)
       known f fs first =
-          let own_line = line n.terms n.way n.link.waiting in
           grind (arith, is_recovering, kind_of, is-no-alien)
 
       own : (way : List Parts) → (with_first_of way n).link.own_busy ≡ false

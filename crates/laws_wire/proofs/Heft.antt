@@ -50,18 +50,11 @@ module _ (service : Service) (tei : ℕ) where
     pub granted : granted_of w' ≡ granted_of w + more
     pub falls : moved + heft v w' ≤ heft v w + (v + 4) * expired + (v + 6) * more + 2 * reported
 
-  swapped : (moved a b p q a' b' p' q' x y z : ℕ) → moved + ((a + b) + (p + q)) ≤ ((a' + b') + (p' + q')) + x + y + z
-      → moved + ((b + a) + (q + p)) ≤ ((b' + a') + (q' + p')) + x + y + z
-  swapped moved a b p q a' b' p' q' x y z h = omega (arith, h)
-
-  other-way : (a b c d more : ℕ) → a + b ≡ c + d + more → b + a ≡ d + c + more
-  other-way a b c d more e = omega (arith, e)
-
   abbrev its : ℕ → Station → ℕ
   its v s = load v (its_link s) + load_way v (its_way s)
 
   pub pays-turned : (v moved expired reported : ℕ) (w w' : Wire) → Pays v moved expired reported (turned w) w' → Pays v moved expired reported w (turned w')
-  pays-turned v moved expired reported w w' h = grind (arith, other-way, swapped)
+  pays-turned v moved expired reported w w' h = grind arith
 
   module _ (c d : Config) (p q : ℕ) (past_n past_m : List LineTold) (face : Face c d) (v : ℕ) (w : Wire) (n m : End) (near : Held c service tei p past_n w.near n)
       (far : Held d service tei q past_m w.far m) (low : m.link.r ≤ length n.link.contents) where
@@ -102,14 +95,11 @@ module _ (service : Service) (tei : ℕ) where
       abbrev bit : Bool
       bit = is_granted (answered (request r) w.near)
 
-      same : s' ≡ w.near → Pays v 0 0 (cond {A = ℕ} bit 1 0) w (record w { near = s' })
-      same e = grind arith
-
       reported : Granted service tei p w.near n own r rq aims s' → Pays v 0 0 (cond {A = ℕ} bit 1 0) w (record w { near = s' })
       reported g = grind (arith, append-nil, load, load_way, undelivered, heft-is, StationStands, here)
 
       busy-pays : Pays v 0 0 (cond {A = ℕ} bit 1 0) w (acting (requests r) w)
-      busy-pays = elim (asks-stands service tei p w.near n own r rq aims) [ inl e ↦ same e | inr g ↦ reported g ]
+      busy-pays = elim (asks-stands service tei p w.near n own r rq aims) [ inl e ↦ (grind arith) | inr g ↦ reported g ]
 
     asks-pays : (r : Request) → IsAsked service tei r → Pays v 0 0 (reports_of (requests r) w) w (acting (requests r) w)
     asks-pays r is =

@@ -1,5 +1,5 @@
 -- Two ends whose links are up, by what is on the line from each to the other: first what is on its way, and then what waits.
-use Rattle.laws_wire.proofs.Vocabulary.{◌≡◌, ℕ, ◌+◌, Bool, cond, IsTrue, List, [], ◌∷◌, ◌++◌, length, drop, None, refl, sym, ap, subst, ◌∙◌, append_assoc, append-nil, arith, option_to_list, front_rest, Parts, State, Established, LinkTimer, ControlFrame, Terms, received, expired, offer, Link, is_multiple_frame, course, IsInRange, begun, End, with_link, with_sent, event-delivers, frames_of, frames-append, sender-goes, receiver-goes, sender-loses, receiver-loses, Reports, Up, no-reports, any_number, still, timer_7_up, t200_8_up, at-first, sender-hears, receiver-hears, Carried, Means, Rising, Gave, offer-gave, frame-taken, none-delivered, frame, after, IsSound, Course}
+use Rattle.laws_wire.proofs.Vocabulary.{◌≡◌, ℕ, Bool, cond, IsTrue, List, [], ◌∷◌, ◌++◌, length, drop, None, refl, sym, ap, ◌∙◌, append_assoc, append-nil, arith, option_to_list, front_rest, Parts, State, Established, LinkTimer, ControlFrame, Terms, received, expired, offer, Link, is_multiple_frame, course, IsInRange, begun, End, with_link, with_sent, event-delivers, frames_of, frames-append, sender-goes, receiver-goes, sender-loses, receiver-loses, Reports, Up, no-reports, any_number, still, timer_7_up, t200_8_up, at-first, sender-hears, receiver-hears, Means, Rising, Gave, offer-gave, frame-taken, none-delivered, frame, after, IsSound, Course}
 use Rattle.model_link.specs.Machine
 use Rattle.model_link.proofs.Direction.{Direction, line_of}
 
@@ -101,10 +101,7 @@ pub gives-on : (n m : End) (first near far : List Parts) → IsInRange n.terms �
 gives-on n m first near far ranges sound e h =
     let c = course n.terms offer n.link in
     let g : Gave n.terms n.link c = offer-gave n.terms ranges n.link sound n.link.waiting refl in
-    let line = near ++ g.news in
-    let up : Carried n.link.contents (n.link.a + n.terms.k) m.link.r near = subst (Carried n.link.contents (n.link.a + n.terms.k) m.link.r) (append-nil near) h.there.carried in
-    let its : Rising m.link.a n.link.r near = subst (Rising m.link.a n.link.r) (append-nil near) h.back.rising in
-    grind (arith, append_assoc, append-nil)
+    grind (arith, append-nil, append_assoc)
 
 -- what the first on a line is
 pub record IsMeant (f : Parts) : Type 0 where

@@ -1,5 +1,5 @@
 -- How many turns and losses there are at most where both ends are up, by what waits, what is on its way, and what is still to be told.
-use Rattle.laws_wire.proofs.Vocabulary.{◌≡◌, ℕ, suc, ◌+◌, ◌-◌, ◌*◌, ◌≤◌, Bool, IsTrue, List, [], ◌∷◌, ◌++◌, length, map, take, sym, ap, subst, ◌∙◌, arith, true≢false, length-map, length-take-le, Service, Parts, Control, Information, State, Established, TimerRecovery, ControlFrame, Link, is_multiple_frame, End, Config, LineTold, carried-high, Station, Wire, confirmed, indicated, data_told, all_told, heard_in, most_frames, frames_left, notes_left, most_left}
+use Rattle.laws_wire.proofs.Vocabulary.{◌≡◌, ℕ, suc, ◌+◌, ◌-◌, ◌*◌, ◌≤◌, Bool, IsTrue, List, [], ◌∷◌, ◌++◌, length, map, take, sym, ap, subst, ◌∙◌, arith, length-map, length-take-le, Service, Parts, Control, Information, ControlFrame, Link, is_multiple_frame, End, Config, LineTold, carried-high, Station, Wire, confirmed, indicated, data_told, all_told, heard_in, most_frames, frames_left, notes_left, most_left}
 use Rattle.laws_wire.proofs.Acting.{sound}
 use Rattle.laws_wire.proofs.Awaited.{link-is}
 use Rattle.laws_wire.proofs.Held.{Held}
@@ -34,14 +34,9 @@ way-most v (f ∷ fs) =
     as-suc v (length fs) (load_way v (f ∷ fs))
     (grows v (brings v f.address.command f.control) (load_way v fs) (length fs) 1 (omega arith) (brings-most v f.address.command f.control) (way-most v fs))
 
-back-most : (v : ℕ) (here : State) → IsTrue (is_multiple_frame here) → back v here ≤ v
-back-most v Established up = omega arith
-back-most v TimerRecovery up = omega arith
-back-most v other up = absurd (true≢false (sym up))
-
 load-most : (v k : ℕ) (l : Link) (r window : ℕ) → IsTrue (is_multiple_frame l.state) → l.a ≤ l.s → r ≤ l.a + window → window ≤ k
     → load v l ≤ (v + 4) * length l.waiting + 2 * ((length l.contents - r) + k) + (2 * v + 4)
-load-most v k l r window up low high small = grind (arith, load_waiting, owes, may_reject, back, waiting-most, back-most)
+load-most v k l r window up low high small = grind (arith, load_waiting, owes, may_reject, back, waiting-most)
 
 -- ---- two ends
 
@@ -55,9 +50,6 @@ module _ (service : Service) (tei : ℕ) (c d : Config) (p q k : ℕ) (w : Wire)
 
   m : End
   m = h.m
-
-  frames : ℕ
-  frames = 4 + (length h.n.link.waiting + length h.n.way) + (length h.m.link.waiting + length h.m.way)
 
   weighs : weigh (2 * k) h.n h.m ≤ 2 * most_frames k (4 + (length h.n.link.waiting + length h.n.way) + (length h.m.link.waiting + length h.m.way)) (undelivered h.n.link h.m.link + undelivered h.m.link h.n.link)
   weighs =
@@ -74,9 +66,7 @@ module _ (service : Service) (tei : ℕ) (c d : Config) (p q k : ℕ) (w : Wire)
 
   told-left : (first : LineTold) (r : ℕ) (granted delivered : List (List ℕ)) (heard : List LineTold) → r ≤ length granted → delivered ≡ take r granted
       → heard ≡ (first ∷ []) ++ map (data_told service tei) delivered → length (first ∷ map (data_told service tei) granted) - length heard ≡ length granted - r
-  told-left first r granted delivered heard low is here =
-      ap (λ ts. length (first ∷ map (data_told service tei) granted) - length ts) here
-      ∙ (omega (arith, (length-map granted (data_told service tei)), (length-map delivered (data_told service tei)), (ap length is ∙ length-take-le r granted low)))
+  told-left first r granted delivered heard low is here = grind (arith, length-map, length-take-le)
 
   notes-are : notes_left service tei w ≡ undelivered h.n.link h.m.link + undelivered h.m.link h.n.link
   notes-are =

@@ -37,7 +37,6 @@ pub mod TimelyPhases
 pub mod TimelyRinging
 pub mod TimelyAnswered
 pub mod TimelyRun
-pub mod TimelyArrives
 pub mod Loose
 pub mod Dense
 pub mod Replying
@@ -63,8 +62,6 @@ pub mod EndedRun
 pub mod StillIsTimely
 pub mod Counting
 pub mod Alone
-pub mod Again
-pub mod Logged
 pub mod Delivering
 pub mod Loads
 pub mod LoadsHeard

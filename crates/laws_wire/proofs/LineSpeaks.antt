@@ -1,9 +1,8 @@
 -- A line on which one link alone has anything to say.
-use Rattle.laws_wire.proofs.Vocabulary.{◌≡◌, ◌≢◌, ℕ, false, ◌<◌, ◌==◌, List, [], ◌∷◌, slice_get, Option, Some, None, option_map, Ok, refl, sym, ap, subst, ◌∙◌, ◌⊎◌, inl, arith, ⊎_elim, if◌then◌else◌, All, option_map_or, option_or, cases_eq, get_or-set_same, get_or-set_other, All-head, All-tail, Service, Timer, Parts, reading, sapi_of, service_of, IsAt, place_of-is, Terms, LinkTimer, Link, Given, Config, Aim, at_link, told_of_link, of_aim, hears, expiry, request, next, at_timer, aim_of_expiry, Line, link_number, service_at, tei_at, terms, terms_at, link_at, link_in, link_count, place_in, unless_refused, of_heard, of_request, management_sapi, group_tei, drop_for, at_place, to_service, addressed, message_of, aim_of_heard, aim_of_reading, heard_side, at_side, Taken, with_given_frame, link_taken, first_taken, taken, Request, at_requested, aim_of_request, IsSoundAt, came, place_at-number, service_at-number, number_within, round_below, IsSilent, none-waits, sends-none, nothing-given, nothing-to_send, silent-stays, told, line_answer, line_after, after, link_told, given}
+use Rattle.laws_wire.proofs.Vocabulary.{◌≡◌, ◌≢◌, ℕ, false, ◌<◌, List, [], ◌∷◌, slice_get, Option, Some, None, option_map, Ok, refl, ap, subst, ◌∙◌, ◌⊎◌, inl, arith, ⊎_elim, All, option_or, cases_eq, get_or-set_same, get_or-set_other, All-head, All-tail, Service, Timer, Parts, reading, sapi_of, IsAt, place_of-is, Terms, LinkTimer, Link, Config, Aim, at_link, told_of_link, of_aim, hears, expiry, request, next, at_timer, aim_of_expiry, Line, link_number, service_at, tei_at, terms, terms_at, link_at, link_in, link_count, place_in, unless_refused, of_heard, addressed, message_of, aim_of_heard, aim_of_reading, heard_side, at_side, Taken, with_given_frame, link_taken, first_taken, taken, Request, at_requested, aim_of_request, IsSoundAt, came, place_at-number, service_at-number, number_within, round_below, IsSilent, none-waits, sends-none, nothing-given, nothing-to_send, silent-stays, told, line_answer, line_after, after, link_told, given}
 use Rattle.model_bits.specs.Stream as stream
 use Rattle.model_link.specs.Events as link
 use Rattle.model_link.specs.Sound as link_sound
-use Rattle.model_line.specs.Taken.{line_of, round}
 use Rattle.model_line.specs.Refusal.{refusal}
 use Rattle.model_line.specs.Sound.{IsSound}
 
@@ -28,9 +27,6 @@ module _ (c : Config) (service : Service) (tei place : ℕ) (l : Line) (s : IsSo
   few : number < link_count c
   few = let within = (place_of-is l.management.places tei place h.placed).0 in number_within place c.terminals service (omega (arith, within, s.places))
 
-  own-terms : terms_at c number l ≡ t
-  own-terms = grind (arith, service_at-number, place_at-number, at)
-
   -- the number leads to the link and its terms
   own : (P : Terms → Link → Type 0) → P (terms c (service_at number) tei) (link_at number l) → P t x
   own P p = subst (P t) h.link (subst (λ y. P (terms c y tei) (link_at number l)) (service_at-number place service) p)
@@ -39,9 +35,6 @@ module _ (c : Config) (service : Service) (tei place : ℕ) (l : Line) (s : IsSo
   none-given none =
       let sound = own link_sound.IsSound (subst (IsSoundAt c number (link_at number l)) (ap (λ p. tei_at p l) (place_at-number place service) ∙ at) (s.links number few)) in
       nothing-to_send t x (sends-none t x sound (own IsSilent ((none-waits c l s none).links number few tei (ap (λ p. tei_at p l) (place_at-number place service) ∙ at))))
-
-  by-round : taken c l ≡ first_taken c l (round c l)
-  by-round = grind (arith, option_map, slice_get)
 
   first-is : (ns : List ℕ) → All (λ n. n < link_count c) ns → (o : Option Taken) → link_taken c l number ≡ o → (first_taken c l ns ≡ None) ⊎ (first_taken c l ns ≡ o)
   first-is [] all o is = inl refl
@@ -62,21 +55,12 @@ module _ (c : Config) (service : Service) (tei place : ℕ) (l : Line) (s : IsSo
 
   -- so what is taken is what it gives
   pub takes-own : taken c l ≡ option_map (with_given_frame c l number t) (given t x)
-  takes-own = grind (arith, by-round, option_map, none-given, own-terms, first-is, round_below)
+  takes-own = grind (arith, slice_get, option_map, none-given, service_at-number, place_at-number, at, first-is, round_below)
 
   -- the next frame is called for
   pub goes-on : Speaks c service tei place (after t link.offer x) (line_after c next l)
   unfolding line_after
-  goes-on = go (given t x) refl
-    where
-      go : (o : Option Given) → given t x ≡ o → Speaks c service tei place (after t link.offer x) (option_map_or line_of (taken c l) l)
-      go None none = grind (arith, takes-own, option_map, silent-stays, nothing-given)
-      go (Some g) some =
-          let own = with_given_frame c l number t g in
-          let is : taken c l ≡ Some own = takes-own ∙ ap (λ o. option_map (with_given_frame c l number t) o) some in
-          subst (λ y. Speaks c service tei place y (option_map_or line_of (taken c l) l)) (ap (after t link.offer) h.link)
-          (subst (λ o. Speaks c service tei place (after t link.offer (link_at number l)) (option_map_or line_of o l)) (sym is)
-          (grind (arith, get_or-set_other, get_or-set_same, few)))
+  goes-on = grind (arith, takes-own, silent-stays, nothing-given, get_or-set_other, get_or-set_same, few)
 
   -- a frame comes that is for it
   module _ (parts : Parts) (octets : List ℕ) (whole : came c.n201 octets ≡ stream.frame octets) (read : reading (heard_side c) octets ≡ Ok parts)
@@ -84,27 +68,15 @@ module _ (c : Config) (service : Service) (tei place : ℕ) (l : Line) (s : IsSo
     abbrev event : link.Event
     event = link.received (link.frame parts)
 
-    by-sapi : (y : Service) (tei' : ℕ) (mm : Aim)
-        → (if sapi_of y == management_sapi then (if tei' == group_tei then mm else drop_for Rattle.model_bits.specs.declared.heard.Cause.TheVariants.Tei) else to_service l tei' (link.frame parts) (service_of (sapi_of y)))
-        ≡ at_place y tei' (link.frame parts) (place_in l tei')
-    by-sapi y tei' mm = grind arith
-
     its-address : (mm : Aim) → addressed l parts.address (link.frame parts) mm ≡ at_link service tei place event
-    its-address mm =
-        ap (λ n. if n == management_sapi then (if parts.address.tei == group_tei then mm else drop_for Rattle.model_bits.specs.declared.heard.Cause.TheVariants.Tei) else to_service l parts.address.tei (link.frame parts) (service_of n)) sapi
-        ∙ by-sapi service parts.address.tei mm
-        ∙ ap (λ n. at_place service n (link.frame parts) (place_in l n)) by
-        ∙ ap (at_place service tei (link.frame parts)) h.placed
+    its-address mm = grind arith
 
     aim-is : aim_of_heard c l (stream.frame octets) ≡ at_link service tei place event
     aim-is = ap (aim_of_reading c l) read ∙ ap (at_side c parts) (its-address (message_of parts.control parts.info))
 
     pub comes-on : Speaks c service tei place (after t event x) (line_after c (hears (came c.n201 octets)) l)
     unfolding line_after
-    comes-on =
-        subst (λ y. Speaks c service tei place y (of_heard c (came c.n201 octets) l).line) (ap (after t event) h.link)
-        (subst (λ e. Speaks c service tei place (after t event (link_at number l)) e.line) (sym (ap (λ e. of_heard c e l) whole ∙ ap (λ aim. of_aim c aim l) aim-is))
-        (grind (arith, get_or-set_other, get_or-set_same, few)))
+    comes-on = grind (arith, aim-is, get_or-set_other, get_or-set_same, few)
 
     pub comes-told : line_answer c (hears (came c.n201 octets)) l ≡ told (told_of_link (link_told t event x))
     unfolding line_answer
@@ -120,10 +92,7 @@ module _ (c : Config) (service : Service) (tei place : ℕ) (l : Line) (s : IsSo
 
     pub asks-on : Speaks c service tei place (after t asks x) (line_after c (request r) l)
     unfolding line_after
-    asks-on =
-        subst (λ y. Speaks c service tei place y (of_request c r l).line) (ap (after t asks) h.link)
-        (subst (λ aim. Speaks c service tei place (after t asks (link_at number l)) (of_aim c aim l).line) (sym aims-at)
-        (grind (arith, get_or-set_other, get_or-set_same, few)))
+    asks-on = grind (arith, aims-at, get_or-set_other, get_or-set_same, few)
 
     pub asks-told : line_answer c (request r) l ≡ told (told_of_link (link_told t asks x))
     unfolding line_answer
@@ -136,10 +105,7 @@ module _ (c : Config) (service : Service) (tei place : ℕ) (l : Line) (s : IsSo
 
     pub expires-on : Speaks c service tei place (after t expires x) (line_after c (expiry timer) l)
     unfolding line_after
-    expires-on =
-        subst (λ y. Speaks c service tei place y (of_aim c (aim_of_expiry timer l) l).line) (ap (after t expires) h.link)
-        (subst (λ aim. Speaks c service tei place (after t expires (link_at number l)) (of_aim c aim l).line) (sym (aims ∙ ap (at_timer service tei its) h.placed))
-        (grind (arith, get_or-set_other, get_or-set_same, few)))
+    expires-on = grind (arith, get_or-set_other, get_or-set_same, few)
 
     pub expires-told : line_answer c (expiry timer) l ≡ told (told_of_link (link_told t expires x))
     unfolding line_answer

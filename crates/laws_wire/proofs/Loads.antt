@@ -1,6 +1,6 @@
 -- What a link has to send, in turns, where w turns go again at most: what waits, what is unsent, an acknowledgement that is owed,
 -- a REJ that may still be sent, and in state 8 what the answer may bring back.
-use Rattle.laws_wire.proofs.Vocabulary.{◌≡◌, ℕ, ◌+◌, ◌*◌, ◌≤◌, Bool, true, false, cond, ◌&&◌, List, [], ◌∷◌, ◌++◌, length, refl, arith, nat_lt, and_parts, ltb-true, Control, Information, ReceiveReady, ReceiveNotReady, Reject, Sabme, Parts, State, TimerRecovery, ControlFrame, Terms, Link, unsent, offer, course, given_of, begun, frame_given, Course}
+use Rattle.laws_wire.proofs.Vocabulary.{◌≡◌, ℕ, ◌+◌, ◌*◌, ◌≤◌, Bool, cond, ◌&&◌, List, [], ◌∷◌, ◌++◌, length, refl, arith, Control, Information, ReceiveReady, ReceiveNotReady, Reject, Sabme, Parts, State, TimerRecovery, ControlFrame, Terms, Link, unsent, offer, course, given_of, begun, frame_given, Course}
 use Rattle.model_link.specs.Offers
 
 -- what a frame brings about, beyond itself
@@ -65,23 +65,8 @@ module _ (w : ℕ) (t : Terms) (l : Link) where
     pub received : c.link.r ≡ l.r
     pub falls : load w c.link + (load_way w (frame_given t (given_of t l c c.sent)) + length (frame_given t (given_of t l c c.sent))) ≤ load w l
 
-  either : (b : Bool) (u v : Course) → Gives u → Gives v → Gives (cond b u v)
-  either b u v x y = grind arith
-
-  tested : (b : Bool) (u v : Course) → (b ≡ true → Gives u) → (b ≡ false → Gives v) → Gives (cond b u v)
-  tested b u v x y = grind arith
-
-  information : Offers.may_send_information t l ≡ true → Gives (Offers.send_information (begun l))
-  information e = grind (arith, and_parts, nat_lt, ltb-true, either)
-
-  acknowledgement : l.pending ≡ true → Gives (Offers.send_acknowledgement (begun l))
-  acknowledgement e = grind arith
-
-  idle : Gives (begun l)
-  idle = record { contents = refl; received = refl; falls = omega arith }
-
   offered : (ws : List ControlFrame) → l.waiting ≡ ws → Gives (Offers.offer_among t ws (begun l))
-  offered [] e = tested (Offers.may_send_information t l) _ _ information (λ x. tested l.pending _ _ acknowledgement (λ y. idle))
+  offered [] e = grind arith
   offered (f ∷ fs) e = grind arith
 
   pub offer-gives : Gives (course t offer l)

@@ -1,6 +1,6 @@
 -- A frame that is heard in states 7 and 8 brings no more to send than it weighs, and than the contents that it delivers
 -- allow.
-use Rattle.laws_wire.proofs.Vocabulary.{◌≡◌, ℕ, ◌+◌, ◌-◌, ◌*◌, ◌≤◌, Bool, true, false, cond, ◌&&◌, IsTrue, List, length, Option, Some, None, refl, sym, ap, subst, ◌⊎◌, inl, inr, true≢false, arith, nat_lt, Seq, seq, named, Control, ReceiveReady, ReceiveNotReady, Reject, Parts, State, Established, TimerRecovery, LinkTimer, T203, Terms, Link, is_multiple_frame, received, course, begun, Step, ◌then◌, by_bit, Means, named-within, T200, frame, IsSound, code_J, code_O}
+use Rattle.laws_wire.proofs.Vocabulary.{◌≡◌, ℕ, ◌+◌, ◌*◌, ◌≤◌, Bool, true, false, cond, ◌&&◌, IsTrue, List, length, Option, Some, None, refl, sym, subst, ◌⊎◌, inl, inr, true≢false, arith, nat_lt, Seq, named, Control, ReceiveReady, ReceiveNotReady, Reject, Parts, State, Established, TimerRecovery, LinkTimer, T203, Terms, Link, is_multiple_frame, received, course, begun, Step, ◌then◌, by_bit, Means, named-within, T200, frame, IsSound, code_J, code_O}
 use Rattle.model_link.specs.Machine
 use Rattle.model_link.specs.Steps.{Course, nothing}
 use Rattle.model_link.specs.Words
@@ -8,10 +8,6 @@ use Rattle.model_link.specs.MultipleFrame
 use Rattle.model_link.specs.Established
 use Rattle.model_link.specs.TimerRecovery
 use Rattle.laws_wire.proofs.Loads.{answer_to, brings, load, may_reject, back, one-waits}
-
--- what goes again
-resent : (len a s n k w : ℕ) → a ≤ n → s ≤ a + k → s ≤ len → n ≤ s → 2 * k ≤ w → 2 * (len - n) ≤ 2 * (len - s) + w
-resent len a s n k w from within all to wide = omega arith
 
 module _ (w : ℕ) (t : Terms) (l : Link) (sound : IsSound t l) (wide : 2 * t.k ≤ w) where
   -- the numbers are as they were, except for V(R); and there is so much to send
@@ -34,10 +30,7 @@ module _ (w : ℕ) (t : Terms) (l : Link) (sound : IsSound t l) (wide : 2 * t.k 
   more g b b' c le h = let less = h.within in record { contents = h.contents; first = h.first; next = h.next; state = h.state; received = h.received; within = omega (arith, le, less) }
 
   answer_costs : (g b : ℕ) (c : Course) → Costs g b c → Costs g (b + 2) (Words.answer t c)
-  answer_costs g b c h =
-      let one = one-waits w (Words.has_room t c.link) c.link.waiting (Words.response (Words.ready_to_receive true c.link)) 0 (grind arith) in
-      let less : load w c.link ≤ b = h.within in
-      record { contents = h.contents; first = h.first; next = h.next; state = h.state; received = h.received; within = omega (arith, one, less) }
+  answer_costs g b c h = grind (arith, one-waits, load)
 
   answered : (x : Bool) (g b : ℕ) (c : Course) → Costs g b c → Costs g (b + answer_to x) (by_bit x (Words.answer t) nothing c)
   answered true g b c h = answer_costs g b c h
@@ -65,43 +58,29 @@ module _ (w : ℕ) (t : Terms) (l : Link) (sound : IsSound t l) (wide : 2 * t.k 
           let between = named-within c.link.a c.link.s n nr e in
           x n g c (subst (λ a. a ≤ n) h.first between.0) (subst (λ s. n ≤ s) h.next between.1) h
 
-  either : (g b : ℕ) (x : Bool) (u v : Course) → Ends g b u → Ends g b v → Ends g b (cond x u v)
-  either g b x u v y z = grind arith
-
   acknowledged : (n b : ℕ) → Effect n b b (Words.acknowledge n)
   unfolding Effect
   acknowledged n b g c low high h = record { ends = λ up. (h.contents, h.received, h.within) }
 
   in_7 : (n b : ℕ) → Effect n b b (Established.acknowledged_in_7 n)
   unfolding Effect
-  in_7 n b g c low high h =
-      either g b (Established.is_all_sent n c.link) _ _ (record { ends = λ up. (h.contents, h.received, h.within) })
-      (either g b (Established.is_beyond_acknowledged n c.link) _ _ (record { ends = λ up. (h.contents, h.received, h.within) })
-      (record { ends = λ up. (h.contents, h.received, h.within) }))
+  in_7 n b g c low high h = grind arith
 
   by_information_7 : (n b : ℕ) → Effect n b b (Established.acknowledged_by_information_in_7 n)
   unfolding Effect
-  by_information_7 n b g c low high h = grind (arith, either, in_7)
+  by_information_7 n b g c low high h = grind (arith, in_7)
 
   rnr_7 : (n b : ℕ) → Effect n b b (Established.acknowledged_by_rnr_in_7 n)
   unfolding Effect
   rnr_7 n b g c low high h = record { ends = λ up. (h.contents, h.received, h.within) }
 
-  again : (n b g : ℕ) (c : Course) → l.a ≤ n → n ≤ l.s → Costs g b c → 2 * (length c.link.contents - n) ≤ 2 * (length c.link.contents - c.link.s) + w
-  again n b g c low high h =
-      subst (λ s. 2 * (length c.link.contents - n) ≤ 2 * (length c.link.contents - s) + w) (sym h.next)
-      (subst (λ cs. 2 * (length cs - n) ≤ 2 * (length cs - l.s) + w) (sym h.contents)
-      (resent (length l.contents) l.a l.s n t.k w low sound.within sound.accepted high wide))
-
   rej_7 : (n b : ℕ) → Effect n b (b + w) (Established.acknowledged_by_rej_in_7 n)
   unfolding Effect
-  rej_7 n b g c low high h =
-      let less : load w c.link ≤ b = h.within in
-      record { ends = λ up. (h.contents, h.received, omega (arith, less, again n b g c low high h)) }
+  rej_7 n b g c low high h = grind (arith, load)
 
   in_8 : l.state ≡ TimerRecovery → (timer : LinkTimer) (final : Bool) (n b : ℕ) → Effect n b b (TimerRecovery.acknowledged_in_8 timer final n)
   unfolding Effect
-  in_8 here timer true n b g c low high h = grind (arith, load, back, again)
+  in_8 here timer true n b g c low high h = grind (arith, load, back)
   in_8 here timer false n b g c low high h = record { ends = λ up. (h.contents, h.received, h.within) }
 
   looser : (n b b' : ℕ) (f : Step) → b ≤ b' → Effect n b b f → Effect n b b' f
@@ -147,14 +126,7 @@ module _ (w : ℕ) (t : Terms) (l : Link) (sound : IsSound t l) (wide : 2 * t.k 
       go false = record { contents = refl; first = refl; next = refl; state = refl; received = refl; within = omega arith }
 
   out-of-sequence : (p : Bool) → Costs 0 (load w l + answer_to p) (MultipleFrame.out_of_sequence t p (begun l))
-  out-of-sequence p = go l.rejecting refl
-    where
-      go : (b : Bool) → l.rejecting ≡ b → Costs 0 (load w l + answer_to p) (cond b (by_bit p (Words.answer t) nothing (begun l)) ((Words.rejecting_is true then Words.reject t p) (begun l)))
-      go true e = answered p 0 (load w l) (begun l) at-first
-      go false e =
-          let one = one-waits w (Words.has_room t l) l.waiting (Words.response (Reject (seq l.r) p)) w (omega arith) in
-          let may : may_reject w l.rejecting ≡ w + 2 = ap (may_reject w) e in
-          record { contents = refl; first = refl; next = refl; state = refl; received = omega arith; within = omega (arith, one, may) }
+  out-of-sequence p = grind (arith, load, answer_to, answered, at-first, one-waits, may_reject)
 
   contents-cost : (ns : Seq) (p : Bool) (octets : List ℕ) → Middle (load w l + answer_to p) (MultipleFrame.contents_in_7_8 t ns p octets (begun l))
   unfolding Middle

@@ -1,5 +1,5 @@
 -- A timer that expires lets a link send w turns more, and an enquiry and its answer; or an error is told.
-use Rattle.laws_wire.proofs.Vocabulary.{◌≡◌, ℕ, ◌+◌, ◌<◌, ◌≤◌, Bool, true, cond, refl, ap, ◌∙◌, ◌⊎◌, inr, lt-ltb, arith, Sabme, State, AwaitingEstablishment, AwaitingRelease, Established, TimerRecovery, LinkTimer, Terms, Link, may_repeat, expired, course, begun, ◌then◌, awaits_answer, T200, Course}
+use Rattle.laws_wire.proofs.Vocabulary.{◌≡◌, ℕ, ◌+◌, ◌<◌, ◌≤◌, Bool, true, cond, refl, ◌⊎◌, inr, lt-ltb, arith, Sabme, State, TimerRecovery, LinkTimer, Terms, Link, expired, course, begun, ◌then◌, awaits_answer, T200, Course}
 use Rattle.model_link.specs.Machine
 use Rattle.model_link.specs.Words
 use Rattle.laws_wire.proofs.Fair.{HasError}
@@ -27,31 +27,15 @@ module _ (w : ℕ) (t : Terms) (l : Link) where
   asks-again : l.state ≡ TimerRecovery → Expires ((Words.enquire t then Words.repeated then Words.start T200) (begun l))
   asks-again at = grind (arith, one-waits, back)
 
-  by-state : (here : State) → l.state ≡ here → (timer : LinkTimer) → Fair (Machine.expired_in here timer t (begun l))
-  by-state here at timer = grind (arith, either, sabme-again, one-waits, asks-again, idle)
-
   pub timer-expires : (timer : LinkTimer) → Fair (course t (expired timer) l)
-  timer-expires timer = either (Machine.is_running timer l) _ _ (by-state l.state refl timer) (inr idle)
+  timer-expires timer = either (Machine.is_running timer l) _ _ (grind (arith, either, sabme-again, one-waits, asks-again, idle)) (inr idle)
 
   -- no error is told where it may go again
   abbrev pub May : LinkTimer → Type 0
   May timer = timer ≡ T200 → awaits_answer l.state ≡ true → Machine.is_running T200 l ≡ true → l.repeats < t.n200
 
-  first : (b : Bool) (u v : Course) → b ≡ true → Expires u → Expires (cond b u v)
-  first b u v e x = grind arith
-
-  if-runs : (b : Bool) (u v : Course) → (b ≡ true → Expires u) → Expires v → Expires (cond b u v)
-  if-runs b u v x y = grind arith
-
-  repeats : May T200 → (here : State) → l.state ≡ here → awaits_answer here ≡ true → Machine.is_running T200 l ≡ true → may_repeat t l ≡ true
-  repeats may here at awaits run = lt-ltb l.repeats t.n200 (may refl (ap awaits_answer at ∙ awaits) run)
-
   fairly-by-state : (here : State) → l.state ≡ here → (timer : LinkTimer) → May timer → Machine.is_running timer l ≡ true → Expires (Machine.expired_in here timer t (begun l))
-  fairly-by-state AwaitingEstablishment at T200 may run = first (may_repeat t l) _ _ (repeats may AwaitingEstablishment at refl run) sabme-again
-  fairly-by-state AwaitingRelease at T200 may run = first (may_repeat t l) _ _ (repeats may AwaitingRelease at refl run) (grind (arith, one-waits))
-  fairly-by-state Established at timer may run = grind (arith, one-waits)
-  fairly-by-state TimerRecovery at T200 may run = first (may_repeat t l) _ _ (repeats may TimerRecovery at refl run) (asks-again at)
-  fairly-by-state other at any may run = idle
+  fairly-by-state o at timer may run = grind (arith, lt-ltb, awaits_answer, sabme-again, one-waits, asks-again, idle)
 
   pub timer-fairly : (timer : LinkTimer) → May timer → Expires (course t (expired timer) l)
-  timer-fairly timer may = if-runs (Machine.is_running timer l) _ _ (fairly-by-state l.state refl timer may) idle
+  timer-fairly timer may = grind (arith, fairly-by-state l.state refl timer may)

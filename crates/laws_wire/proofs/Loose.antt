@@ -1,6 +1,6 @@
 -- Two ends that are up, either of which may be busy, and whose T200 is timely: they stay up, and no frame that one takes makes it tell an
 -- error.
-use Rattle.laws_wire.proofs.Vocabulary.{◌≡◌, ◌≤◌, false, length, Some, refl, sym, ap, ◌∙◌, ◌⊎◌, true≢false, arith, nat_lt, lt-ltb, ltb-false, take_all, State, Established, T203, runs, End, Ends, Joined, joined-turned, done-at, rising-low, IsTimedIn, IsTimelyAct, HasNothingToSend, Sane, sane-doing, Flows, acted-flows, same-after, T200, line_of}
+use Rattle.laws_wire.proofs.Vocabulary.{◌≡◌, false, length, true≢false, arith, nat_lt, lt-ltb, ltb-false, take_all, Established, runs, End, Ends, Joined, joined-turned, done-at, rising-low, IsTimelyAct, HasNothingToSend, Sane, sane-doing, Flows, acted-flows, same-after, T200, line_of}
 use Rattle.model_link.specs.TwoEnds.{Act, at_near, acting}
 use Rattle.laws_wire.proofs.Firm.{Firm, up-after}
 use Rattle.laws_link.proofs.OfTwo.TimelyRuns.{flows-low}
@@ -32,20 +32,11 @@ module _ (n m : End) (h : Loose n m) where
 
   -- Where T200 does not run, all that the end has has come, and it has sent all that it has: it takes the other for free then.
   module _ (quiet : HasNothingToSend n.terms n.link) (none : runs T200 n.link.running ≡ false) where
-    running : n.link.running ≡ Some T200 → ⊥
-    running e = true≢false (sym (ap (runs T200) e) ∙ none)
-
     -- It is in state 7, all that it has is acknowledged, and has come.
     pub record HasAll : Type 0 where
       pub state : n.link.state ≡ Established
       pub acknowledged : n.link.a ≡ length n.link.contents
       pub delivered : m.delivered ≡ n.link.contents
 
-    in-7 : n.link.state ≡ Established → (n.link.running ≡ Some T200) ⊎ ((n.link.running ≡ Some T203) × (n.link.s ≤ n.link.a)) → HasAll
-    in-7 e o = grind (arith, running, rising-low, line_of, flows-low, nat_lt, lt-ltb, ltb-false, take_all)
-
-    by-state : (here : State) → n.link.state ≡ here → IsTimedIn n.link.state n.link → HasAll
-    by-state here e timed = grind (arith, in-7, running)
-
     pub loose-came : HasAll
-    loose-came = by-state n.link.state refl h.near_sane.timed.timer
+    loose-came = grind (arith, true≢false, runs, rising-low, line_of, flows-low, nat_lt, lt-ltb, ltb-false, take_all)

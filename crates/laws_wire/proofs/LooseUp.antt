@@ -1,10 +1,10 @@
 -- Two stations that are up, either of which may be busy, where each timer is timely: both stay up, whatever is lost.
-use Rattle.laws_wire.proofs.Vocabulary.{arith, ◌≡◌, ℕ, Bool, false, cond, List, [], ◌∷◌, ◌++◌, length, drop, map, None, refl, sym, ap, subst, ◌∙◌, ◌⊎◌, inl, inr, append-nil, Service, Timer, TimerRecovery, Terms, LinkTimer, T203, Link, course, End, with_link, with_sent, offer-gave, Config, LineTold, request, Line, place_in, Request, at_requested, aim_of_request, awaits_answer, IsMildRequest, CanRepeat, HasNothingToSend, nothing-given, runs, T200, Course, Data, SetBusy, ClearBusy, Station, Wire, happens, Act, requests, times_out, gives, takes, loses, acting, turned, IsStill, contents_requested, data_told, heard_in, IsTimelyOf, runs_t200, IsAsked, IsFullTalkOf, Rests, requested, expired, LinkSetBusy, LinkClearBusy, LinkData, LinkRequest, timer_T200, timer_T203}
+use Rattle.laws_wire.proofs.Vocabulary.{arith, ◌≡◌, ℕ, false, List, [], ◌∷◌, ◌++◌, length, drop, map, None, refl, sym, ap, subst, ◌∙◌, ◌⊎◌, inl, inr, append-nil, Service, Timer, TimerRecovery, Terms, LinkTimer, T203, Link, course, End, with_link, with_sent, offer-gave, Config, LineTold, request, Line, place_in, Request, at_requested, aim_of_request, awaits_answer, IsMildRequest, CanRepeat, HasNothingToSend, nothing-given, runs, T200, Course, Data, SetBusy, ClearBusy, Station, Wire, happens, Act, requests, times_out, gives, takes, loses, acting, turned, IsStill, contents_requested, data_told, heard_in, IsTimelyOf, runs_t200, IsAsked, IsFullTalkOf, Rests, requested, expired, LinkSetBusy, LinkClearBusy, LinkData, LinkRequest, timer_T200, timer_T203}
 use Rattle.model_link.specs.TwoEnds as two_ends
 use Rattle.laws_link.specs.two.Timely as two_links_timely
 use Rattle.laws_wire.proofs.Asking.{with_more, asked-form}
 use Rattle.laws_wire.proofs.Awaited.{closed, may-there, long-there, runs-up, rests-here}
-use Rattle.laws_wire.proofs.Held.{TellsIt, Held, heard-then, held-given, held-lost, Grants, held-asked}
+use Rattle.laws_wire.proofs.Held.{Held, heard-then, held-given, held-lost, Grants, held-asked}
 use Rattle.laws_wire.proofs.Loose.{Loose, loose-turned, loose-after, HasAll, loose-came}
 use Rattle.laws_wire.proofs.LossyPhases.{Aims}
 use Rattle.laws_wire.proofs.Standing.{StationStands, Granted, asks-stands}
@@ -23,14 +23,11 @@ drop-all [] = refl
 drop-all (x ∷ xs) = drop-all xs
 
 module _ (t : Terms) (l : Link) where
-  either : (b : Bool) (u v : Course) → Mute l u → Mute l v → Mute l (cond b u v)
-  either b u v x y = grind arith
-
   pub busy-mute : Mute l (course t (requested LinkSetBusy false) l)
-  busy-mute = grind (arith, either)
+  busy-mute = grind arith
 
   pub ready-mute : Mute l (course t (requested LinkClearBusy false) l)
-  ready-mute = grind (arith, either)
+  ready-mute = grind arith
 
 module _ (service : Service) (tei : ℕ) where
   -- the requests of a call
@@ -99,15 +96,12 @@ module _ (service : Service) (tei : ℕ) where
         x : Course
         x = course n.terms (requested rq false) n.link
 
-        tells : TellsIt n.terms.service n.terms.tei x
-        tells = grind arith
-
         go : (s' ≡ s) ⊎ Granted service tei place s n own r rq aims s' → (s' ≡ s) ⊎ Held c service tei place past s' n'
         go (inl same) = inl same
         go (inr g) = inr (record {
           stands = subst (λ k. StationStands k service tei place s' n') h.stands.config g.stands;
           granted = g.granted ∙ ap (λ xs. s.granted ++ xs) none ∙ append-nil s.granted ∙ h.granted ∙ sym mute.contents;
-          heard = heard-then service tei place past c s n h s' x g.told tells;
+          heard = heard-then service tei place past c s n h s' x g.told (grind arith);
         })
 
   module _ (c d : Config) (p q : ℕ) (face : Face c d) (past other : List LineTold) (w : Wire) (h : LooseUp c d p q past other w) where

@@ -1,5 +1,5 @@
 -- A whole call in which frames are lost and timers expire: what layer 3 of each was told, as long as no error was.
-use Rattle.laws_wire.proofs.Vocabulary.{arith, ◌≡◌, ℕ, List, [], ◌∷◌, ◌++◌, map, take, refl, sym, ap, ◌∙◌, inl, inr, append-nil, All, flat_map, All-nil, All-cons, All-head, All-tail, Service, other_side, fresh, IsInRange, End, Config, LineTold, terms, terms_in_range, Station, Wire, Act, takes, loses, Doing, at_near, at_far, acting, doing, doing_all, calling, CanCall, confirmed, indicated, data_told, IsBeginningOf, for_layer_3, heard_in, HasNoError, IsRoughTalk, CallsAreToldInOrder, list_any-append}
+use Rattle.laws_wire.proofs.Vocabulary.{arith, ◌≡◌, ℕ, List, [], ◌∷◌, ◌++◌, map, take, refl, sym, ap, ◌∙◌, inl, inr, append-nil, All, flat_map, All-nil, All-cons, All-head, All-tail, Service, other_side, fresh, IsInRange, End, Config, LineTold, terms, terms_in_range, Station, Wire, Act, Doing, at_near, at_far, acting, doing, doing_all, calling, CanCall, confirmed, indicated, data_told, IsBeginningOf, for_layer_3, heard_in, HasNoError, IsRoughTalk, CallsAreToldInOrder, list_any-append}
 use Rattle.laws_wire.proofs.Beginning.{calls, answers}
 use Rattle.laws_wire.proofs.Calling.{asked, sabme, end}
 use Rattle.laws_wire.proofs.Held.{Held, not-erred}
@@ -18,9 +18,7 @@ pub record More (s s' : Station) : Type 0 where
   pub told : s'.told ≡ s.told ++ more
 
 pub near-more : (act : Act) (w : Wire) → More w.near (acting act w).near
-near-more takes w = grind (arith, append-nil)
-near-more loses w = record { more = []; told = sym (append-nil w.near.told) }
-near-more other w = record { more = _; told = refl }
+near-more o w = grind (arith, append-nil)
 
 module _ (service : Service) (tei : ℕ) (c d : Config) (p q : ℕ) (face : Face c d) (back : Face d c) (rt : IsInRange (terms c service tei)) (ru : IsInRange (terms d service tei)) where
   abbrev Leads : Wire → Type 0
@@ -35,10 +33,7 @@ module _ (service : Service) (tei : ℕ) (c d : Config) (p q : ℕ) (face : Face
   goes (at_far act) is w (inr (inr h)) = up-far_acts service tei c d p q face back rt ru w h act is
 
   pub errs : (k : Doing) (w : Wire) → HasErred service tei c d p q w → HasErred service tei c d p q (doing k w)
-  errs (at_near act) w (inl h) = inl (grind (arith, list_any-append))
-  errs (at_near act) w (inr h) = inr (grind (arith, list_any-append))
-  errs (at_far act) w (inl h) = inl (grind (arith, list_any-append))
-  errs (at_far act) w (inr h) = inr (grind (arith, list_any-append))
+  errs o w x = grind (arith, list_any-append)
 
   step : (k : Doing) → IsRoughTalk service tei k → (w : Wire) → Leads w → Leads (doing k w)
   step k is w (inl h) = goes k is w h
@@ -106,9 +101,7 @@ rings service c d line other tei x = record {
 
 -- As long as no error was told.
 pub no-error : (service : Service) (tei : ℕ) (c d : Config) (p q : ℕ) (w : Wire) → Went service tei c d p q w → HasNoError w.near → HasNoError w.far → Goes service tei c d p q w
-no-error service tei c d p q w (inl h) near far = h
-no-error service tei c d p q w (inr (inl h)) near far = absurd (not-erred w.near near h)
-no-error service tei c d p q w (inr (inr h)) near far = absurd (not-erred w.far far h)
+no-error service tei c d p q w o near far = grind (arith, not-erred)
 
 pub fair-goes : (service : Service) (c d : Config) (line other tei : ℕ) (ds : List Doing) → CanCall c line d other tei → All (IsRoughTalk service tei) ds
     → let w = doing_all ds (calling service tei c line d other) in HasNoError w.near → HasNoError w.far → Goes service tei c d 0 0 w

@@ -1,5 +1,5 @@
 -- What changes nothing at a station: a call for a frame where none waits, taking a frame where none is on its way, and data that is refused.
-use Rattle.laws_wire.proofs.Vocabulary.{◌≡◌, ℕ, ◌≤◌, false, List, [], ◌∷◌, map, drop, None, sym, ap, subst, ◌∙◌, ◌⊎◌, inl, inr, arith, All, All-head, Service, Parts, spelling, given, End, frame_given, Config, Request, request, next, refusal, Data, Station, Wire, happens, frames_by, with_first_of, requests, gives, takes, acting, turned, answered, IsTalkOf, LinkData, two_ends_with_first_lost}
+use Rattle.laws_wire.proofs.Vocabulary.{◌≡◌, ℕ, ◌≤◌, false, List, [], ◌∷◌, map, None, sym, ap, subst, ◌∙◌, ◌⊎◌, inl, inr, arith, All, All-head, Service, Parts, spelling, given, End, frame_given, Config, Request, request, next, refusal, Data, Station, Wire, happens, frames_by, with_first_of, requests, gives, takes, acting, turned, answered, IsTalkOf, LinkData, two_ends_with_first_lost}
 use Rattle.laws_wire.proofs.Answered.{gives-granted}
 use Rattle.laws_wire.proofs.Standing.{IsCarried, StationStands, gives-frames}
 use Rattle.laws_wire.proofs.Talking.{Past, Holds, holds-given, holds-lost, More, holds-asked}
@@ -40,11 +40,7 @@ module _ (service : Service) (tei : ℕ) where
         grind (arith, holds-given, turn_of, frames-are, gives-granted)
 
     pub quiet-takes : m.way ≡ [] → Quiet (acting takes w) (turn_of w.far.way)
-    quiet-takes e =
-        let empty : w.far.way ≡ [] = h.far.stands.way ∙ ap (map (spelling d.side)) e in
-        let same : with_first_of w.far.way w.near ≡ w.near = ap (λ way. with_first_of way w.near) empty in
-        let back : two_ends_with_first_lost m ≡ m = (λ i. record m { way = (ap (drop 1) e ∙ sym e) i }) in
-        grind (arith, holds-lost, turn_of)
+    quiet-takes e = grind (arith, spelling, with_first_of, two_ends_with_first_lost, holds-lost, turn_of)
 
     pub quiet-asks : ((octets : List ℕ) → refusal n.terms n.link false (LinkData octets) ≡ None → ⊥) → (octets : List ℕ)
         → Quiet (acting (requests (Data service tei octets)) w) 0

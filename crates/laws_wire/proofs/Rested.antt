@@ -5,7 +5,7 @@ use Rattle.laws_wire.proofs.Answered.{gives-granted, takes-granted, same-granted
 use Rattle.laws_wire.proofs.Asking.{with_more}
 use Rattle.laws_wire.proofs.Fair.{HasError}
 use Rattle.laws_wire.proofs.Held.{Held, Erred, now-erred, held-given, held-lost, taken-told, taken-stands, expired-told, Grants, held-asked}
-use Rattle.laws_wire.proofs.Loads.{load, load_way, load_waiting, owes, may_reject, back, brings, way-append, Gives, offer-gives}
+use Rattle.laws_wire.proofs.Loads.{load, load_way, load_waiting, owes, may_reject, brings, way-append, Gives, offer-gives}
 use Rattle.laws_wire.proofs.LoadsTimed.{Expires, timer-expires}
 use Rattle.laws_wire.proofs.LossyPhases.{Aims, for-data, for-timer, first-way}
 use Rattle.laws_wire.proofs.Standing.{IsCarried, StationStands, expires-stands, gives-frames}
@@ -132,15 +132,7 @@ module _ (service : Service) (tei : ℕ) (c d : Config) (p q : ℕ) (past_n past
       one-more a b x y e f = omega (arith, e, f)
 
       go : (s' ≡ w.near) ⊎ Grants service tei p past_n c w.near n near octets s' → Then (acting (requests (Data service tei octets)) w) 0 0
-      go (inl same) = record {
-        n' = n;
-        m' = m;
-        near' = subst (λ s. StationStands c service tei p s n) (sym same) near.stands;
-        far' = far.stands;
-        more = 0;
-        fell = goes_on v n m n m refl refl 0 0 refl (omega arith);
-        granted = (none-more (length s'.granted) (length w.far.granted) (length w.near.granted) (length w.far.granted) (ap length (ap (λ (s : Station). s.granted) same)) refl);
-      }
+      go (inl same) = grind (arith, goes_on, none-more, s')
       go (inr x) = record {
         n' = with_more octets n;
         m' = m;
@@ -165,21 +157,7 @@ module _ (service : Service) (tei : ℕ) (c d : Config) (p q : ℕ) (past_n past
   lost = (held-lost service tei q past_m d w.far m far).stands
 
   pub takes-nothing : m.way ≡ [] → Then (acting takes w) (moved_by takes) 0
-  takes-nothing e' = record {
-    n' = n;
-    m' = m1;
-    near' = subst (λ ways. StationStands c service tei p (with_first_of ways w.near) n) (sym e) near.stands;
-    far' = lost;
-    more = 0;
-    fell = subst (λ ways. Fell v (cond {A = ℕ} (is_any ways) 1 0) 0 0 n m n m1) (sym e) (goes_on v n m n m1 refl refl 0 0 refl (same (load_way v (drop 1 m.way)) (load_way v m.way) ((v + 4) * 0) (ap (λ way. load_way v (drop 1 way)) e' ∙ sym (ap (load_way v) e'))));
-    granted = taken-grants;
-  }
-    where
-      e : w.far.way ≡ []
-      e = far.stands.way ∙ ap (map (spelling d.side)) e'
-
-      same : (x y z : ℕ) → x ≡ y → 0 + (load v n.link + load_way v n.way) + (load v m.link + x) ≤ load v n.link + load_way v n.way + (load v m.link + y) + z
-      same x y z e = omega (arith, e)
+  takes-nothing e' = grind (arith, lost, goes_on, load_way, taken-grants)
 
   module _ (f : Parts) (fs : List Parts) (e : m.way ≡ f ∷ fs) where
     way-there : (w.far.way ≡ spelling d.side f ∷ map (spelling d.side) fs) × IsCarried d service tei f
@@ -197,21 +175,15 @@ module _ (service : Service) (tei : ℕ) (c d : Config) (p q : ℕ) (past_n past
     behind : load_way v m.way ≡ 1 + brings v f.address.command f.control + load_way v (drop 1 m.way)
     behind = ap (load_way v) e ∙ sym (ap (λ way. 1 + brings v f.address.command f.control + load_way v (drop 1 way)) e)
 
-    stays : (l' l way m' back rest b z : ℕ) → back ≡ 1 + b + rest → l' ≤ l + b → 1 + (l' + way) + (m' + rest) ≤ l + way + (m' + back) + z
-    stays l' l way m' back rest b z e less = omega (arith, e, less)
-
-    counts : (l' l way m' back rest b : ℕ) → back ≡ 1 + b + rest → l' ≤ l + b + (v + 4) → 1 + (l' + way) + (m' + rest) ≤ l + way + (m' + back) + (v + 4)
-    counts l' l way m' back rest b e less = omega (arith, e, less)
-
     fell : TakesWell v n.link x.link f → x.link.r ≤ length m.link.contents → Fell v 1 0 0 n m n1 m1
     fell y few = which y.falls
       where
         which : ((x.link.r ≡ n.link.r) × (load v x.link ≤ load v n.link + brings v f.address.command f.control))
             ⊎ ((x.link.r ≡ n.link.r + 1) × (load v x.link ≤ load v n.link + brings v f.address.command f.control + (v + 4))) → Fell v 1 0 0 n m n1 m1
-        which (inl (r, less)) = grind (arith, goes_on, stays, load, load_way, brings, behind)
+        which (inl (r, less)) = grind (arith, goes_on, load, load_way, brings, behind)
         which (inr (r, less)) =
             delivers v n m n1 m1 y.contents refl r few
-            (counts (load v x.link) (load v n.link) (load_way v n.way) (load v m.link) (load_way v m.way) (load_way v (drop 1 m.way)) (brings v f.address.command f.control) behind less)
+            (omega (arith, behind, less))
 
     pub takes-well : TakesWell v n.link x.link f → x.link.r ≤ length m.link.contents → Then (acting takes w) (moved_by takes) 0
     takes-well y few = record {

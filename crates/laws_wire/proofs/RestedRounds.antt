@@ -1,5 +1,5 @@
 -- Rounds in which no error is told lead to where no turn is left.
-use Rattle.laws_wire.proofs.Vocabulary.{◌≡◌, ℕ, zero, suc, ◌+◌, ◌*◌, ◌<◌, ◌≤◌, Bool, false, cond, List, [], ◌∷◌, ◌++◌, length, option_map, refl, sym, ap, subst, ◌∙◌, arith, All, All-nil, All-append, Service, Config, terms, Wire, Doing, at_near, at_far, acting, turned, doing, doing_all, IsStill, calling, CanCall, granted_of, IsRoughTalk, round, rounds, HasNoErrors, moves, expiries, most_frames, RoundsComeToRest}
+use Rattle.laws_wire.proofs.Vocabulary.{◌≡◌, ℕ, zero, suc, ◌+◌, ◌*◌, ◌<◌, ◌≤◌, List, [], ◌∷◌, ◌++◌, length, option_map, refl, sym, ap, subst, ◌∙◌, arith, All, All-nil, All-append, Service, Config, terms, Wire, Doing, at_near, at_far, acting, turned, doing, doing_all, IsStill, calling, CanCall, granted_of, IsRoughTalk, round, rounds, HasNoErrors, moves, expiries, most_frames, RoundsComeToRest}
 use Rattle.laws_wire.specs.Wire as wire
 use Rattle.laws_wire.proofs.Answered.{gives-taken, gives-granted, takes-granted}
 use Rattle.laws_wire.proofs.RestedRun.{moves-come-to-an-end}
@@ -77,16 +77,13 @@ none-more (suc n) w = none-more n (w4 w) ∙ near-takes (w3 w) ∙ far-gives (w2
 
 -- ---- a round without a move finds no turn left
 
-no-bit : (b : Bool) → cond {A = ℕ} b 1 0 ≡ 0 → b ≡ false
-no-bit b e = grind arith
-
 no-front : (xs ys : List (List ℕ)) → xs ++ ys ≡ [] → xs ≡ []
 no-front [] ys e = refl
 no-front (x ∷ xs) ys e = absurd (cc)
 
 still-if : (w : Wire) → moves round w ≡ 0 → IsStill w
 unfolding moves
-still-if w e = grind (arith, gives-taken, option_map, no-front, no-bit)
+still-if w e = grind (arith, gives-taken, option_map, no-front)
 
 -- So among more rounds than there are moves one finds no turn left.
 pub record Rests (n : ℕ) (w : Wire) : Type 0 where
@@ -99,18 +96,12 @@ unfolding many moves doing_all rounds
 finds zero w few = absurd (omega (arith, few))
 finds (suc n) w few = go (λ less. finds n (w4 w) less) (moves round w) refl
   where
-    both : moves (many (suc n)) w ≡ moves round w + moves (many n) (w4 w)
-    both = moves-append round (many n) w
-
-    fewer : (all first rest : ℕ) → all ≡ (suc first) + rest → all < suc n → rest < n
-    fewer all first rest e less = omega (arith, e, less)
-
     later : Rests n (w4 w) → Rests (suc n) w
     later x = record { after = suc x.after; before = let less = x.before in omega (arith, less); still = x.still }
 
     go : (moves (many n) (w4 w) < n → Rests n (w4 w)) → (k : ℕ) → moves round w ≡ k → Rests (suc n) w
     go others zero e = record { after = 0; before = omega arith; still = still-if w e }
-    go others (suc k) e = later (others (fewer (moves (many (suc n)) w) k (moves (many n) (w4 w)) (both ∙ ap (λ x. x + moves (many n) (w4 w)) e) few))
+    go others (suc k) e = later (others (omega (arith, moves-append round (many n) w ∙ ap (λ x. x + moves (many n) (w4 w)) e, few)))
 
 -- There are so few moves in rounds in which no error is told.
 pub few-moves : (service : Service) (c d : Config) (line other tei k r : ℕ) (ds : List Doing) → CanCall c line d other tei → All (IsRoughTalk service tei) ds
@@ -130,9 +121,6 @@ few-moves service c d line other tei k r ds can talk wide-near wide-far = λ fai
     expired : expiries (ds ++ many r) ≡ expiries ds
     expired = expiries-append ds (many r) ∙ (let none : expiries (many r) ≡ 0 = none-expires r in omega (arith, none))
 
-    granted : granted_of (doing_all (ds ++ many r) begun) ≡ granted_of w
-    granted = ap granted_of (doing-append ds (many r) begun) ∙ none-more r w
-
     few : (all first rest most' most : ℕ) → all ≡ first + rest → all ≤ most' → most' ≡ most → rest ≤ most
     few all first rest most' most e less same = omega (arith, e, less, same)
 
@@ -142,7 +130,7 @@ few-moves service c d line other tei k r ds can talk wide-near wide-far = λ fai
         few (moves (ds ++ many r) begun) (moves ds begun) (moves (many r) w) (2 * most_frames k (expiries (ds ++ many r)) (granted_of (doing_all (ds ++ many r) begun))) (2 * most_frames k (expiries ds) (granted_of w))
         (moves-append ds (many r) begun)
         (moves-come-to-an-end service c d line other tei k (ds ++ many r) can (All-append (IsRoughTalk service tei) ds (many r) talk (all-rough service tei r)) wide-near wide-far fair'.0 fair'.1)
-        (λ i. 2 * most_frames k (expired i) (granted i))
+        (λ i. 2 * most_frames k (expired i) ((ap granted_of (doing-append ds (many r) begun) ∙ none-more r w) i))
 
 pub rounds-come-to-rest : RoundsComeToRest
 rounds-come-to-rest service c d line other tei k ds can talk wide-near wide-far = λ fair.

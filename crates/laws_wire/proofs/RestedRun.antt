@@ -56,17 +56,7 @@ module _ (service : Service) (tei : ℕ) (c d : Config) (p q : ℕ) (face : Face
     here : n.link.r ≤ length m.link.contents
 
   seen : (w : Wire) → Goes service tei c d p q w → Seen w
-  seen w (inr (inl h)) =
-      record {
-        n = end t (ringing h.repeats h.waiting) h.way;
-        m = h.m;
-        past_n = [];
-        past_m = indicated service tei ∷ [];
-        near = h.near;
-        far = h.far.held;
-        there = h.far.joint.back.accepted;
-        here = omega arith;
-      }
+  seen w (inr (inl h)) = grind (arith, ringing)
   seen w o = grind (arith, end, ringing)
 
   -- ---- what the near end takes
@@ -87,12 +77,9 @@ module _ (service : Service) (tei : ℕ) (c d : Config) (p q : ℕ) (face : Face
   sabme-first : (way : List Parts) (waiting : List ControlFrame) (f : Parts) (fs : List Parts) → way ≡ f ∷ fs → AreSabmes t way waiting → f ≡ sabme t
   sabme-first way waiting f fs e are = All-head (IsSabme t) f (fs ++ frames_of t waiting) (subst (λ way. AreSabmes t way waiting) e are)
 
-  called : (n : End) (f : Parts) → f ≡ sabme t → Well service tei v (end u fresh []) n f
-  called n f is = grind (arith, end, TakesWell, sabme, takes-sabme)
-
   far-well : (w : Wire) (h : Goes service tei c d p q w) (f : Parts) (fs : List Parts) → (seen w h).n.way ≡ f ∷ fs → Well service tei v (seen w h).m (seen w h).n f
   unfolding seen
-  far-well w (inl h) f fs e = called (end t (ringing h.repeats h.waiting) h.way) f (sabme-first h.way h.waiting f fs e h.sabmes)
+  far-well w (inl h) f fs e = grind (arith, end, TakesWell, sabme, takes-sabme, sabme-first h.way h.waiting f fs e h.sabmes)
   far-well w (inr (inl h)) f fs e =
       inl (sabme-error h.m.terms h.m.link h.far.up f true (ap (λ y. y.control) (sabme-first h.way h.waiting f fs e h.sabmes)))
   far-well w (inr (inr h)) f fs e =
@@ -130,15 +117,7 @@ module _ (service : Service) (tei : ℕ) (c d : Config) (p q : ℕ) (face : Face
   step (at_far act) is w h =
       let x : Seen w = seen w h in
       elim (then-acts service tei d c q p x.past_m x.past_n back v (turned w) x.m x.n x.far x.near x.here act is (far-well w h)) [
-        | inl y ↦
-            inl (record {
-              n' = y.m';
-              m' = y.n';
-              near = y.far';
-              far = y.near';
-              more = y.more;
-              fell = fell-turned v (cond {A = ℕ} (is_move (at_far act) w) 1 0) (expiries_in (at_far act)) y.more x.m x.n y.n' y.m' y.fell;
-            })
+        | inl y ↦ grind (arith, fell-turned, is_move, at_far, expiries_in)
         | inr e ↦ inr (inr e)
       ]
 
@@ -162,16 +141,13 @@ module _ (service : Service) (tei : ℕ) (c d : Config) (p q : ℕ) (face : Face
       let far-way = same-way service tei d q w.far m' x.m far x.far.stands in
       (near-link, far-link, λ i. weigh_of v (near-link i) ((same-way service tei c p w.near n' x.n near x.near.stands) i) (far-link i) (far-way i))
 
-  sum : (moved rest weight weight' weight'' a b a' b' z z' : ℕ) → weight' ≡ weight'' → z ≡ a + a' → z' ≡ b + b' → moved + weight' ≤ weight + a + b → rest ≤ weight'' + a' + b' → moved + rest ≤ weight + z + z'
-  sum moved rest weight weight' weight'' a b a' b' z z' e f g first then = omega (arith, e, f, g, first, then)
-
   joins : (moved rest expired others : ℕ) (w' last : Wire) (n m : End) (y : Next w' moved expired n m) (x : Seen w') → Total rest others x.n x.m last → Total (moved + rest) (expired + others) n m last
   joins moved rest expired others w' last n m y x z =
       let same = weighs-same w' x y.n' y.m' y.near y.far in
       record {
         more = y.more + z.more;
         granted = grind arith;
-        falls = grind (arith, sum, weigh);
+        falls = grind (arith, weigh);
       }
 
   runs : (ds : List Doing) → All (IsRoughTalk service tei) ds → (w : Wire) (h : Goes service tei c d p q w)
@@ -211,25 +187,11 @@ module _ (service : Service) (tei : ℕ) (c d : Config) (p q : ℕ) (face : Face
   unfolding seen
   from-ringing ds all w h one none fair-near fair-far = go (runs ds all w (inl h))
     where
-      weight : weigh v (end t (ringing h.repeats h.waiting) h.way) (end u fresh []) ≡ 2 * v + 8
-      weight = (λ i. weigh v (end t (ringing h.repeats (one i)) (none i)) (end u fresh [])) ∙ omega arith
-
-      total : (moved x y a b g more : ℕ) → x ≡ a → g ≡ more → moved ≤ x + y + (v + 6) * more → moved ≤ a + y + (v + 6) * g
-      total moved x y a b g more e f less = subst (λ g. moved ≤ a + y + (v + 6) * g) (sym f) (subst (λ x. moved ≤ x + y + (v + 6) * more) e less)
-
-      nothing-before : (g more : ℕ) → g ≡ 0 + 0 + more → g ≡ more
-      nothing-before g more e = omega (arith, e)
-
       go : Total (moves ds w) (expiries ds) (end t (ringing h.repeats h.waiting) h.way) (end u fresh []) (doing_all ds w) ⊎ Errs (doing_all ds w)
           → moves ds w ≤ (2 * v + 8) + (v + 4) * expiries ds + (v + 6) * granted_of (doing_all ds w)
-      go (inl z) = grind (arith, total, weigh, end, ringing, weight, nothing-before)
-      go (inr (inl e)) = absurd (not-erred (doing_all ds w).near fair-near e)
-      go (inr (inr e)) = absurd (not-erred (doing_all ds w).far fair-far e)
+      go o = grind (arith, weigh, ringing, t, u, fresh, not-erred, doing_all)
 
   -- ---- from where both ends are up, as nothing more is accepted and no timer expires
-
-  none-more : (moved weight x more all a b a' b' : ℕ) → x ≡ 0 → all ≡ a + b + more → all ≡ a' + b' → a' ≡ a → b' ≡ b → moved ≤ weight + (v + 4) * x + (v + 6) * more → moved ≤ weight
-  none-more moved weight x more all a b a' b' none grown same e f less = grind arith
 
   pub from-up : (ds : List Doing) → All (IsRoughTalk service tei) ds → (w : Wire) (h : IsUp service tei c d p q w) → expiries ds ≡ 0 → granted_of (doing_all ds w) ≡ granted_of w
       → HasNoError (doing_all ds w).near → HasNoError (doing_all ds w).far → moves ds w ≤ weigh v h.n h.m
@@ -237,7 +199,7 @@ module _ (service : Service) (tei : ℕ) (c d : Config) (p q : ℕ) (face : Face
   from-up ds all w h none same fair-near fair-far = go (runs ds all w (inr (inr h)))
     where
       go : Total (moves ds w) (expiries ds) h.n h.m (doing_all ds w) ⊎ Errs (doing_all ds w) → moves ds w ≤ weigh v h.n h.m
-      go o = grind (arith, none-more, weigh, none, not-erred)
+      go o = grind (arith, weigh, none, not-erred)
 
 pub twice : (x k : ℕ) → x ≤ k → 2 * x ≤ 2 * k
 twice x k le = omega (arith, le)

@@ -41,11 +41,8 @@ module _ (t : Terms) (k : ℕ) (ws : List ControlFrame) where
   abbrev given_up : Course
   given_up = (Words.discard then Words.error t code_G then Words.release_indication t then Words.no_timer then Words.enter state.TeiAssigned) (begun l)
 
-  t200-is : course t (expired T200) l ≡ cond (nat_lt k t.n200) (again (nat_lt (length ws) t.control)) given_up
-  t200-is = refl
-
   pub t200-rings : HasError (course t (expired T200) l).notes ⊎ Rings k ws (course t (expired T200) l)
-  t200-rings = subst (λ c. HasError c.notes ⊎ Rings k ws c) (sym t200-is) (go (nat_lt k t.n200) (nat_lt (length ws) t.control))
+  t200-rings = subst (λ c. HasError c.notes ⊎ Rings k ws c) (sym refl) (go (nat_lt k t.n200) (nat_lt (length ws) t.control))
     where
       go : (b room : Bool) → HasError (cond b (again room) given_up).notes ⊎ Rings k ws (cond b (again room) given_up)
       go false room = inl refl

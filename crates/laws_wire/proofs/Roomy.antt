@@ -21,17 +21,10 @@ count-waits t (f ∷ fs) h =
     count-waits t fs (All-tail WaitsSo f fs h) in
     omega (arith, here, more)
 
-within : (one : Kind → ℕ) (n : End) → tally one (kinds_of (frames_of n.terms n.link.waiting)) ≤ tally one (kinds n)
-within one n = grind (arith, frames_of, kinds_of, kinds-append, tally-append)
-
 pub roomy : (n m : End) → Firm n m → 3 ≤ n.terms.control → tally one_enquiry (kinds n) + tally one_answer (kinds n) ≤ 1 → has_room n.terms n.link ≡ true
 roomy n m h wide few =
     let all = count-waits n.terms n.link.waiting h.near_tame.waiting in
-    let e = within one_enquiry n in
-    let a = within one_answer n in
-    let r = within one_rejection n in
-    let one : tally one_rejection (kinds n) ≤ 1 = h.back.one in
-    lt-ltb (length n.link.waiting) n.terms.control (omega (arith, all, e, a, r, one, few, wide))
+    grind (arith, frames_of, kinds_of, kinds-append, tally-append, lt-ltb)
 
 none-waits : (t : Terms) (ws : List ControlFrame) → All (λ f. is_enquiry f.command f.control ≡ false) ws → tally one_enquiry (kinds_of (frames_of t ws)) ≡ 0
 none-waits t [] h = refl

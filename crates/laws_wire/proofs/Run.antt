@@ -65,10 +65,7 @@ module _ (service : Service) (tei : ℕ) where
       let all =
       arrived h.n h.m h.talk.pair (none-given c p _ w.near h.n h.talk.near still.near) (none-given d q _ w.far h.m h.talk.far still.far)
       (way-empty c p _ w.near h.n h.talk.near still.near_way) (way-empty d q _ w.far h.m h.talk.far still.far_way) in
-      record {
-        near = all-told c service tei p (confirmed service tei ∷ []) w.near h.n h.talk.near ∙ ap (λ xs. confirmed service tei ∷ map (data_told service tei) xs) (all.1.delivered ∙ sym h.talk.far.granted);
-        far = all-told d service tei q (note ∷ []) w.far h.m h.talk.far ∙ ap (λ xs. note ∷ map (data_told service tei) xs) (all.0.delivered ∙ sym h.talk.near.granted);
-      }
+      grind (arith, all-told, confirmed, data_told)
 
   -- ---- one end is up, or both
 
@@ -114,7 +111,6 @@ module _ (service : Service) (tei : ℕ) where
         let one = step service tei few c d p q face back rt ru both x (All-head (IsCall service tei) x ds all) w k h in
         let both1 = both || calls_back x w in
         let rest = runs ds (All-tail (IsCall service tei) x ds all) both1 w1 one.weight one.goes in
-        let same = or-both both (calls_back x w) (both_call ds w1) in
         grind (arith, granted_of, cost)
 
     -- where SABMEs cross a turn is left

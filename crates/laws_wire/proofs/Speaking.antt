@@ -1,8 +1,5 @@
 -- What layer 3 is told by an event of a link.
-use Rattle.laws_wire.proofs.Vocabulary.{◌≡◌, ℕ, ◌+◌, ◌≤◌, true, false, ◌==◌, List, [], ◌∷◌, length, map, Some, sym, ap, subst, eq-eqb, arith, All, slice_get, option_to_list, if◌then◌else◌, option_or, le-ltb, seq, named, Parts, Terms, Link, received, course, begun, End, unserved_cause, LineTold, plain, information_frame, named-number, fits-at, acked, Informs, Lane, lane-low, lane-order, Steady, is-steady, unwrap_or, frame, Course, Direction, tells_nothing, data_told}
-use Rattle.model_link.specs.Established
-use Rattle.model_link.specs.MultipleFrame
-use Rattle.model_link.specs.Words
+use Rattle.laws_wire.proofs.Vocabulary.{◌≡◌, ℕ, ◌+◌, ◌≤◌, List, [], ◌∷◌, length, map, Some, sym, subst, eq-eqb, arith, All, slice_get, option_to_list, if◌then◌else◌, option_or, le-ltb, seq, named, Parts, Terms, Link, received, course, End, unserved_cause, LineTold, named-number, fits-at, Informs, Lane, lane-low, lane-order, Steady, is-steady, unwrap_or, frame, Course, Direction, tells_nothing, data_told}
 
 -- what a course tells, but orders
 abbrev pub heard_by : Course → LineTold
@@ -16,11 +13,8 @@ abbrev pub TellsData : Terms → Course → Type 0
 TellsData t c = said_by c ≡ map (data_told t.service t.tei) (option_to_list c.delivered)
 
 module _ (n m : End) (hn : Steady n) (hm : Steady m) (there : Direction n m) (back : Direction m n) where
-  high : n.link.r ≤ m.link.s
-  high = lane-order m.terms m.link.contents n.link.r m.link.s n.link.a m.link.r m.link.pending m.way back.lane
-
   names : (v : ℕ) → m.link.a ≤ v → v ≤ n.link.r → named m.link.a m.link.s (seq v) ≡ Some v
-  names v low up = grind (arith, named-number, high)
+  names v low up = grind (arith, named-number, lane-order)
 
   abbrev Tells : Parts → Link → Type 0
   Tells f l = TellsData m.terms (course m.terms (received (frame f)) l)
@@ -33,12 +27,7 @@ module _ (n m : End) (hn : Steady n) (hm : Steady m) (there : Direction n m) (ba
       let up : v ≤ n.link.r = lane-low n.terms n.link.contents (m.link.r + 1) n.link.s v n.link.r n.link.pending fs rest in
       let named-v : named m.link.a m.link.s (seq l.r) ≡ Some v = subst (λ w. named m.link.a m.link.s (seq w) ≡ Some v) (sym here.means) (names v low up) in
       let fits = le-ltb m.terms.n201 (length octets) (fits-at m.terms.n201 l.contents l.s (subst (λ cs. All (λ octets. length octets ≤ m.terms.n201) cs) (sym here.contents) there.sizes)) in
-      let next : ((seq l.s).value == (seq m.link.r).value) ≡ true = eq-eqb (seq l.s).value (seq m.link.r).value (ap (λ i. (seq i).value) here.number) in
-      let first = begun (plain m.link) in
-      let number : Course → Course = λ c. Words.by_number m.terms (seq l.r) Established.acknowledged_by_information_in_7 c in
-      let added = MultipleFrame.in_sequence m.terms false octets first in
-      let a = acked m false n.terms l v fits named-v low in
-      grind (arith, information_frame, is-steady)
+      grind (arith, eq-eqb, is-steady)
 
   pub tells-data : (f : Parts) (fs : List Parts) → n.way ≡ f ∷ fs → Tells f m.link
   tells-data f fs e = go (subst (λ way. Lane n.terms n.link.contents m.link.r n.link.s m.link.a n.link.r n.link.pending way) e there.lane)

@@ -81,11 +81,8 @@ module _ (service : Service) (tei place : ℕ) (s : Station) (n : End) (h : Stat
   gives-own : answered next s ≡ gave (option_map next_of (option_map (with_given_frame c l (link_number place service) t) (links.given t n.link)))
   gives-own = gives-taken s ∙ ap (λ o. gave (option_map next_of o)) (takes-own c service tei place l own-sound n.link h.speaks)
 
-  frames-are : (o : Option Given) → frames_by (gave (option_map next_of (option_map (with_given_frame c l (link_number place service) t) o))) ≡ map (spelling c.side) (frame_given t o)
-  frames-are o = grind arith
-
   pub gives-frames : frames_by (answered next s) ≡ map (spelling c.side) (frame_given n.terms (links.given n.terms n.link))
-  gives-frames = grind (arith, gives-own, frames-are)
+  gives-frames = grind (arith, gives-own)
 
   pub gives-stands : StationStands c service tei place (happens next s) (with_sent n)
   unfolding line_takes_slot
@@ -177,9 +174,7 @@ module _ (service : Service) (tei place : ℕ) (s : Station) (n : End) (h : Stat
         ap (λ k. line_at s.line k.card) is ∙ there (line_after c asks l) (own-card (refusal c false r l)) refl in
         record {
           none = none;
-          answer =
-              ap (λ b. is_granted (cond b (refused PoolFull) (line_answer c asks l))) room
-              ∙ ap (λ o. is_granted (unless_refused_told o (of_request c r l))) none;
+          answer = grind arith;
           stands =
               stands-then asks (with_link e n) refl
               (subst (λ u. Speaks c service tei place (links.after u e n.link) (line_at s.line (after (event_at s.line asks) m))) (sym h.terms)

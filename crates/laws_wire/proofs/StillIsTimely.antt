@@ -1,5 +1,5 @@
 -- Where T200 expires only as no turn is left it is long enough: the law with this premise follows.
-use Rattle.laws_wire.proofs.Vocabulary.{arith, ◌≡◌, ℕ, false, List, [], ◌∷◌, inl, inr, All, list_any, All-head, All-tail, Service, fresh, IsInRange, End, Config, LineTold, expiry, terms, Station, Wire, happens, Act, Doing, at_near, at_far, turned, doing, doing_all, IsStill, calling, is_error, HasNoError, answered, told_by, IsRoughTalkOf, IsRoughTalk, IsNoneOpen, MayRepeat, IsTimelyOf, IsSpared, IsTimely, StayTimely, IsStillOf, IsSparedStill, IsStillDoing, StayStill, WhatIsLostArrivesFromRest, all-right}
+use Rattle.laws_wire.proofs.Vocabulary.{arith, ◌≡◌, ℕ, false, List, [], ◌∷◌, inl, inr, All, list_any, All-head, All-tail, Service, fresh, IsInRange, End, Config, LineTold, expiry, terms, Station, Wire, happens, Act, Doing, at_near, at_far, turned, doing, doing_all, IsStill, calling, is_error, HasNoError, answered, told_by, IsRoughTalkOf, IsRoughTalk, IsNoneOpen, MayRepeat, IsTimelyOf, IsTimely, StayTimely, IsStillOf, IsStillDoing, StayStill, WhatIsLostArrivesFromRest, all-right}
 use Rattle.lapd_frame.specs.declared.timers.Timer.TheVariants.{T200}
 use Rattle.laws_wire.proofs.Awaited.{open-here}
 use Rattle.laws_wire.proofs.Calling.{end}
@@ -46,12 +46,9 @@ module _ (service : Service) (tei : ℕ) (c d : Config) (p q : ℕ) (face : Face
   near-timely : (act : Act) → IsRoughTalkOf service tei act → (w : Wire) → (IsStill w → IsNoneOpen w.near w.far) → IsStillOf act w → IsTimelyOf act w
   near-timely act is w open_ x = grind (arith, each-timer, fair-may)
 
-  spared : (act : Act) → (w : Wire) → IsSparedStill act w → IsSpared act w
-  spared act w x = grind arith
-
   one : (k : Doing) → IsRoughTalk service tei k → (w : Wire) → On w → IsStillDoing k w → IsTimely k w
   one (at_near act) is w h x = near-timely act is w (λ still. (both-open w h still).0) x
-  one (at_far act) is w h x = (near-timely act is (turned w) (λ still. (both-open w h (still-turned w still)).1) x.0, spared act w x.1)
+  one (at_far act) is w h x = (near-timely act is (turned w) (λ still. (both-open w h (still-turned w still)).1) x.0, grind arith)
 
   pub all : (ds : List Doing) → All (IsRoughTalk service tei) ds → (w : Wire) → On w → StayStill ds w → StayTimely ds w
   unfolding StayStill StayTimely

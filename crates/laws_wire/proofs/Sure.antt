@@ -1,6 +1,6 @@
 -- What an end sends arrives for sure once it has asked, where nothing more is lost: it awaits the answer, or nothing that it sent is
 -- missing. What it does itself leaves that so.
-use Rattle.laws_wire.proofs.Vocabulary.{◌≡◌, ℕ, ◌+◌, ◌≤◌, true, false, IsTrue, List, [], ◌∷◌, ◌++◌, Some, refl, sym, ap, subst, ◌∙◌, ◌⊎◌, inl, inr, true≢false, arith, Parts, Seq, seq, named, State, Established, TimerRecovery, LinkTimer, received, expired, Link, is_multiple_frame, is_running, End, with_link, with_sent, has_room, frames_of, named-means, Means, Rising, rising-low, named-within, frame-taken, named-is_seq, is_recovering, Heard, Flow, most, answer-says, no-answer, offer-goes, named-number, heard, line, Longer, line-longer, NoAlien, is-no-alien, Kind, numbered, enquiry, answer, report, rejection, alien, kind_of, kinds_of, kinds-append, tally, tally-push, one_enquiry, one_answer, Calm, T200, frame, after, line_of}
+use Rattle.laws_wire.proofs.Vocabulary.{◌≡◌, ℕ, ◌+◌, ◌≤◌, true, false, IsTrue, List, [], ◌∷◌, ◌++◌, refl, sym, ap, subst, ◌∙◌, ◌⊎◌, inl, inr, arith, Parts, Seq, seq, Established, TimerRecovery, LinkTimer, received, expired, Link, is_multiple_frame, is_running, End, with_link, with_sent, has_room, frames_of, named-means, Means, Rising, rising-low, named-within, frame-taken, named-is_seq, is_recovering, Heard, Flow, most, answer-says, no-answer, offer-goes, named-number, heard, line, Longer, line-longer, NoAlien, is-no-alien, Kind, numbered, enquiry, answer, report, rejection, alien, kind_of, kinds_of, kinds-append, tally, tally-push, one_enquiry, one_answer, Calm, T200, frame, after, line_of}
 use Rattle.laws_link.specs.two.Timely.{IsTimely}
 use Rattle.laws_wire.proofs.Dense.{Dense, dense-push, dense-next, calm-dense, dense-beyond, Reaches, reaches-low, reaches-flat, Owed}
 use Rattle.laws_wire.proofs.Firm.{Firm}
@@ -26,9 +26,6 @@ Sure n m = Asking n m ⊎ Steady n m
 pub longer-tally : (one : Kind → ℕ) (xs ys : List Kind) (x : Kind) → Longer xs ys x → tally one xs ≤ tally one ys
 longer-tally one xs ys x o = grind (arith, tally-push)
 
-one-number : (x y : ℕ) → Some x ≡ Some y → x ≡ y
-one-number x y e = cc e
-
 module _ (n m : End) (h : Firm n m) (wide : 3 ≤ n.terms.control) where
   -- what it has asked, and answered, is one frame each at most
   asked : tally one_enquiry (kinds n) + tally one_answer (kinds m) ≤ most (is_recovering n.link.state)
@@ -37,20 +34,12 @@ module _ (n m : End) (h : Firm n m) (wide : 3 ≤ n.terms.control) where
   answers-one : tally one_answer (kinds n) ≤ 1
   answers-one = grind (arith, one_enquiry, kinds, one_answer, is_recovering, one-at-most)
 
-  none-in-7 : n.link.state ≡ Established → tally one_enquiry (kinds n) ≡ 0
-  none-in-7 e = let few : tally one_enquiry (kinds n) + tally one_answer (kinds m) ≤ 0 = subst (λ s. tally one_enquiry (kinds n) + tally one_answer (kinds m) ≤ most (is_recovering s)) e asked in omega (arith, few)
-
   pub room-for : tally one_enquiry (kinds n) ≡ 0 → has_room n.terms n.link ≡ true
   room-for none = let one = answers-one in roomy n m h wide (omega (arith, none, one))
 
   -- where a timer runs out in time none of its enquiries is open
   pub none-open : (timer : LinkTimer) → IsTimely timer n m → is_running timer n.link ≡ true → tally one_enquiry (kinds n) ≡ 0
-  none-open timer timely running = go n.link.state refl h.joined.near_up
-    where
-      go : (here : State) → n.link.state ≡ here → IsTrue (is_multiple_frame here) → tally one_enquiry (kinds n) ≡ 0
-      go Established e up = none-in-7 e
-      go TimerRecovery e up = none-asked n (timely e running).enquiries
-      go other e up = absurd (true≢false (sym up))
+  none-open timer timely running = grind (arith, kinds, tally, one_enquiry, one_answer, most, is_recovering, asked, none-asked)
 
   -- an enquiry waits
   asks-now : (l' : Link) → Enquired n.terms n.link l' → 1 ≤ tally one_enquiry (line n.terms n.way l'.waiting)
@@ -151,20 +140,7 @@ module _ (n m : End) (h : Firm n m) (p : Parts) (fs : List Parts) (first : m.way
     -- an answer: nothing that it sent is on its way, and it goes back to what is missing
     recovers : (nr : Seq) → x ≡ answer nr → is_recovering n.link.state ≡ true → Heard (answer nr) true n.link l' → Sure n' m'
     recovers nr is rec k =
-        let flow : Flow n.link.s m.link.r true m.link.rejecting (kinds n) (answer nr ∷ rest) =
-        subst (λ b. Flow n.link.s m.link.r b m.link.rejecting (kinds n) (answer nr ∷ rest)) rec
-        (subst (λ y. Flow n.link.s m.link.r (is_recovering n.link.state) m.link.rejecting (kinds n) (y ∷ rest)) is there) in
-        let says : nr ≡ seq m.link.r = answer-says n.link.s m.link.r true m.link.rejecting nr (kinds n) rest flow in
-        let low : n.link.a ≤ m.link.r = rising-low n.link.a m.link.r (line_of m) h.joined.there.rising in
-        let s-is : l'.s ≡ m.link.r =
-        one-number l'.s m.link.r (sym k.s ∙ ap (named n.link.a n.link.s) says ∙ named-number n.link.a n.link.s m.link.r low high near) in
-        let a-is : l'.a ≡ m.link.r = hears-number m.link.r low (omega arith) (grind arith) in
-        let calm = calm-dense m.link.r (kinds n) (flow.answered (omega arith)).calm in
-        inr (record {
-          state = k.state;
-          dense = subst (λ s. Dense m.link.r s (kinds n')) (sym s-is) (subst (Dense m.link.r m.link.r) (ap (λ ws. line n.terms n.way ws) (sym k.waiting)) calm);
-          owed = inr (reaches-flat l'.a m.link.r (line_of m') a-is rising');
-        })
+        grind (arith, kinds, there, answer-says, rising-low, named-number, high, near, hears-number, calm-dense, reaches-flat)
 
     -- while it awaits the answer
     still-asking : (y : Kind) → l'.state ≡ n.link.state → Then y → n.link.state ≡ TimerRecovery → 1 ≤ tally one_enquiry (kinds n) + tally one_answer rest → Sure n' m'
@@ -194,8 +170,5 @@ module _ (n m : End) (h : Firm n m) (p : Parts) (fs : List Parts) (first : m.way
     in-7 (rejection nr) e known_ k q = grind (arith, kinds, is_recovering, there, dense-beyond)
     in-7 alien e known_ k q = absurd known_
 
-    its-kind : Heard x (is_recovering n.link.state) n.link l'
-    its-kind = heard n.terms n.link h.joined.near_up p.address.command p.info p.control up'
-
     pub sure-hears : Sure n m → Sure n' m'
-    sure-hears o = grind (arith, kinds, in-8, known, is_recovering, its-kind, one_enquiry, one_answer, in-7)
+    sure-hears o = grind (arith, kinds, in-8, known, is_recovering, heard, one_enquiry, one_answer, in-7)

@@ -1,7 +1,7 @@
 -- What the other end does leaves what an end sends as sure as it was, where nothing more is lost.
-use Rattle.laws_wire.proofs.Vocabulary.{◌≡◌, ℕ, ◌+◌, ◌≤◌, Bool, true, IsTrue, List, [], ◌∷◌, refl, sym, ap, subst, ◌∙◌, inl, inr, eq-eqb, arith, Control, Parts, Seq, seq, LinkTimer, Terms, received, expired, Link, is_multiple_frame, frame_of, frame_step, begun, End, with_link, has_room, ready_to_receive, response, frames_of, Rising, is_recovering, Takes, Heard, most, heard, line, Longer, line-longer, NoAlien, Kind, numbered, enquiry, answer, report, rejection, alien, kind_of, kinds_of, kinds-append, tally, tally-push, one_enquiry, one_answer, frame, after, line_of}
+use Rattle.laws_wire.proofs.Vocabulary.{◌≡◌, ℕ, ◌+◌, ◌≤◌, Bool, true, IsTrue, List, [], ◌∷◌, refl, sym, ap, subst, ◌∙◌, inl, inr, eq-eqb, arith, Control, Parts, LinkTimer, Terms, received, expired, Link, is_multiple_frame, frame_of, frame_step, begun, End, with_link, has_room, ready_to_receive, response, frames_of, Rising, is_recovering, Heard, most, heard, line, line-longer, NoAlien, Kind, numbered, enquiry, alien, kind_of, kinds_of, kinds-append, tally, tally-push, one_enquiry, one_answer, frame, after, line_of}
 use Rattle.laws_link.specs.two.Timely.{IsTimely}
-use Rattle.laws_wire.proofs.Dense.{Dense, Owed, Replies, reaches-push}
+use Rattle.laws_wire.proofs.Dense.{Replies, reaches-push}
 use Rattle.laws_wire.proofs.Firm.{Firm}
 use Rattle.laws_wire.proofs.Replying.{line-push, expires-so, ready-same, reject-same, Answers, enquiry-answered, next-taken}
 use Rattle.laws_wire.proofs.Roomy.{kinds, roomy}
@@ -21,12 +21,7 @@ module _ (n m : End) (rising : Rising m.link.a n.link.r (line_of n)) (l' : Link)
   sure-replied same says (inl q) =
       let more = replied-tally n.link.r n.link.pending l'.pending (line_of n) (line_of then) says in
       inl (record { state = q.state; open_ = omega (arith, q.open_, more) })
-  sure-replied same says (inr q) = inr (record {
-    state = q.state;
-    dense = subst (λ r. Dense r m.link.s (kinds m)) (sym same) q.dense;
-    owed = subst (λ r. Owed m.link.a r l'.pending (line_of then)) (sym same)
-        (grind (arith, reaches-push));
-  })
+  sure-replied same says (inr q) = grind (arith, kinds, reaches-push)
 
 module _ (n m : End) (h : Firm n m) (wide : 3 ≤ n.terms.control) where
   pub other-expires : (timer : LinkTimer) → IsTimely timer n m → IsTrue (is_multiple_frame (after n.terms (expired timer) n.link).state) → Sure m n → Sure m (with_link (expired timer) n)
@@ -41,12 +36,6 @@ module _ (n m : End) (h : Firm n m) (wide : 3 ≤ n.terms.control) where
 -- ---- it hears a frame
 
 -- one that asks nothing and carries nothing
-abbrev IsMere : Kind → Type 0
-IsMere (answer nr) = Unit {0}
-IsMere report = Unit {0}
-IsMere (rejection nr) = Unit {0}
-IsMere other = ⊥
-
 module _ (t : Terms) (l : Link) (before : IsTrue (is_multiple_frame l.state)) (octets : List ℕ) where
   abbrev IsUpBy : Bool → Control → Type 0
   IsUpBy b control = IsTrue (is_multiple_frame (frame_step t b octets control (begun l)).link.state)
@@ -77,23 +66,6 @@ module _ (n m : End) (h : Firm n m) (wide : 3 ≤ n.terms.control) (p : Parts) (
   less : (y : Kind) → x ≡ y → one_enquiry y ≡ 0 → Asking m n → Asking m' n
   less y e none q = grind (arith, kinds, one_enquiry, one_answer)
 
-  abbrev Rest : Kind → Type 0
-  Rest y = Dense n.link.r m.link.s (y ∷ rest)
-
-  -- a mere frame
-  by-mere : (y : Kind) → x ≡ y → IsMere y → one_enquiry y ≡ 0 → (Rest y → Dense n.link.r m.link.s rest) → Sure m n → Sure m' n'
-  by-mere y e is none behind s = grind (arith, ready-same, reject-same, sure-replied, frames_of, Sure, less)
-
-  -- an I-frame
-  abbrev Then : Kind → Type 0
-  Then y = Longer (kinds n) (line n.terms n.way l'.waiting) y
-
-  took-line : (ns : Seq) → Takes ns n.link l' → Then (rejection (seq n.link.r))
-  took-line ns o = grind (arith, line-longer)
-
-  by-numbered : (ns : Seq) → x ≡ numbered ns → Takes ns n.link l' → Sure m n → Sure m' n'
-  by-numbered ns e takes o = grind (arith, less, longer-tally, one_answer, kinds, took-line, eq-eqb, next-taken)
-
   -- an enquiry
   asked : (1 + tally one_enquiry rest) + tally one_answer (kinds n) ≤ most (is_recovering m.link.state) → tally one_enquiry (kinds n) + tally one_answer (kinds n) ≤ 1
   asked all = grind (arith, is_recovering, one-at-most, one_enquiry, kinds, one_answer)
@@ -111,10 +83,10 @@ module _ (n m : End) (h : Firm n m) (wide : 3 ≤ n.terms.control) (p : Parts) (
   by-enquiry e (inr q) = grind (arith, one_enquiry, one_answer, kinds, is_recovering, back)
 
   by-kind : (y : Kind) → x ≡ y → NoAlien y → Heard y (is_recovering n.link.state) n.link l' → Sure m n → Sure m' n'
-  by-kind (numbered ns) e known_ k s = by-numbered ns e k.takes s
+  by-kind (numbered ns) e known_ k s = grind (arith, less, longer-tally, one_answer, kinds, line-longer, eq-eqb, next-taken)
   by-kind enquiry e known_ k s = by-enquiry e s
   by-kind alien e known_ k s = absurd known_
-  by-kind other e known_ k s = by-mere other e tt refl (λ d. d) s
+  by-kind other e known_ k s = grind (arith, ready-same, reject-same, sure-replied, frames_of, Sure, less)
 
   pub other-hears : Sure m n → Sure m' n'
   other-hears s = by-kind x refl (known n m h p fs first) (heard n.terms n.link h.joined.near_up p.address.command p.info p.control up') s

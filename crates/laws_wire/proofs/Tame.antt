@@ -1,5 +1,5 @@
 -- Two ends of which neither was ever busy: no RNR is on their ways, and what waits at either is enquiries, answers and REJ.
-use Rattle.laws_wire.proofs.Vocabulary.{arith, ◌≡◌, ℕ, ◌+◌, Bool, true, false, cond, not, ◌&&◌, ◌||◌, IsTrue, List, [], ◌∷◌, ◌++◌, take, refl, sym, subst, All, All-nil, All-cons, All-head, All-append, All-take, All-drop, seq, Control, Information, Reject, Parts, State, LinkTimer, ControlFrame, Terms, Link, is_multiple_frame, undefined, wrong_size, received, expired, requested, offer, cleared, given_of, begun, End, with_link, with_sent, frame_given, busy_by, busy_heard, as_heard, is_overlong, receipt_as, as_response, answers_to, command_in, is_time, room, waiting_left, event-follows, NoAlien, Kind, kind_of, one_enquiry, one_answer, one_rejection, after, Course}
+use Rattle.laws_wire.proofs.Vocabulary.{arith, ◌≡◌, ℕ, ◌+◌, Bool, true, false, cond, not, ◌&&◌, ◌||◌, IsTrue, List, [], ◌∷◌, ◌++◌, take, refl, sym, subst, All, All-nil, All-cons, All-head, All-append, All-take, All-drop, seq, Control, Information, Reject, Parts, State, LinkTimer, ControlFrame, Terms, Link, is_multiple_frame, undefined, wrong_size, received, expired, requested, offer, cleared, given_of, begun, End, with_link, with_sent, frame_given, busy_by, busy_heard, as_heard, is_overlong, as_response, answers_to, command_in, is_time, room, waiting_left, event-follows, NoAlien, Kind, kind_of, one_enquiry, one_answer, one_rejection, after, Course}
 use Rattle.model_link.specs.TwoEnds.{with_first_of, with_first_lost}
 use Rattle.laws_link.specs.States.{moves}
 use Rattle.model_link.specs.Events.{Event, frame, overlong, Data}
@@ -47,17 +47,11 @@ module _ (t : Terms) (l : Link) (own : l.own_busy ≡ false) where
   rejects : All WaitsSo (as_response (Reject (seq l.r) false))
   rejects = All-cons WaitsSo (record { command = false; control = Reject (seq l.r) false }) [] (record { free = refl; one = refl }) none
 
-  answered : (r : ℕ) → All WaitsSo (as_response (receipt_as l.own_busy r true))
-  answered r = grind (arith, none)
-
   -- what a frame is answered by
   answers-so : (b : Bool) (control : Control) → NoAlien (kind_of b control) → All WaitsSo (answers_to b control l)
   answers-so b (Information ns nr false) h =
       either (is_multiple_frame l.state) _ _ (either (not l.own_busy && (not (has_next_number ns l) && not l.rejecting)) _ _ rejects none) none
-  answers-so b control h = grind (arith, either, answered, none)
-
-  commands-so : (to : State) → IsTrue (is_multiple_frame to) → All WaitsSo (command_in to l)
-  commands-so to up = grind (arith, none)
+  answers-so b control h = grind (arith, either, none)
 
   module _ (waits : All WaitsSo l.waiting) (to : State) (up : IsTrue (is_multiple_frame to)) where
     behind-so : (frames : List ControlFrame) (b : Bool) → All WaitsSo frames
@@ -65,7 +59,7 @@ module _ (t : Terms) (l : Link) (own : l.own_busy ≡ false) where
     behind-so frames b h =
         let more = cond b (command_in to l) [] in
         All-append WaitsSo l.waiting (take (room t l) (frames ++ more)) waits
-        (All-take WaitsSo (room t l) (frames ++ more) (All-append WaitsSo frames more h (either b (command_in to l) [] (commands-so to up) none)))
+        (All-take WaitsSo (room t l) (frames ++ more) (All-append WaitsSo frames more h (either b (command_in to l) [] (grind (arith, none)) none)))
 
     left-so : (e : Event) → Few e → All WaitsSo (waiting_left t e l to)
     left-so (received (frame f)) may = behind-so (answers_to f.address.command f.control l) (moves l.state to || false) (answers-so f.address.command f.control may.0)

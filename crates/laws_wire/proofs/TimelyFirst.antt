@@ -1,5 +1,5 @@
 -- The ends as an establishment leaves them, and what changes nothing at a station or on a wire.
-use Rattle.laws_wire.proofs.Vocabulary.{◌≡◌, ℕ, ◌≤◌, false, not, List, [], ◌∷◌, length, None, refl, sym, ap, subst, ◌∙◌, inl, inr, true≢false, arith, option_map_or, All-nil, Service, Terms, Link, fresh, given, serves, IsInRange, End, joined-first, Config, LineTold, request, next, Line, link_in, link_of, place_in, bad_tei, no_link, wrong_state, first_that_holds, Request, aim_of_request, at_requested, line_at, passed, IsReady, IsTaken, Flow, refusal, Data, SetBusy, ClearBusy, Station, Wire, happens, loses, acting, LinkClearBusy, LinkData, LinkRequest, LinkSetBusy}
+use Rattle.laws_wire.proofs.Vocabulary.{◌≡◌, ℕ, ◌≤◌, false, not, List, [], ◌∷◌, length, None, refl, sym, ap, subst, ◌∙◌, inl, inr, true≢false, arith, option_map_or, All-nil, Service, Terms, Link, fresh, given, serves, IsInRange, End, joined-first, Config, LineTold, request, next, Line, link_in, link_of, place_in, bad_tei, no_link, wrong_state, first_that_holds, Request, aim_of_request, at_requested, line_at, passed, IsReady, IsTaken, refusal, Data, SetBusy, ClearBusy, Station, Wire, happens, loses, acting, LinkClearBusy, LinkData, LinkRequest, LinkSetBusy}
 use Rattle.model_line.specs.Refusal.{refusal as refusal_on}
 use Rattle.laws_wire.proofs.Calling.{end, called, sound-called}
 use Rattle.laws_wire.proofs.Tame.{WaitsSo, IsFreeFrame}
@@ -12,9 +12,6 @@ pub use Rattle.laws_wire.proofs.Answered.{lost-none, takes-none}
 
 -- ---- the ends
 
-nothing-yet : Flow 0 0 false false [] []
-nothing-yet = grind (arith, answered)
-
 module _ (t u : Terms) (rt : IsInRange t) (ru : IsInRange u) (same : t.n201 ≡ u.n201) (k : ℕ) where
   abbrev pub near_end : End
   near_end = end t (answered k []) []
@@ -23,7 +20,7 @@ module _ (t u : Terms) (rt : IsInRange t) (ru : IsInRange u) (same : t.n201 ≡ 
   far_end = end u called []
 
   pub firm-first : Firm near_end far_end
-  firm-first = grind (arith, joined-first, sound-called, nothing-yet, WaitsSo, IsFreeFrame)
+  firm-first = grind (arith, joined-first, sound-called, answered, WaitsSo, IsFreeFrame)
 
   pub near-ready : IsReady near_end
   near-ready = record { ranges = rt; sound = grind arith; state = refl; peer_busy = refl; own_busy = refl; waiting = refl; way = refl }

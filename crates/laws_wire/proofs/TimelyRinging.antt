@@ -1,5 +1,5 @@
 -- The first phases of such a call: one end rings, and the other is down.
-use Rattle.laws_wire.proofs.Vocabulary.{◌≡◌, ℕ, ◌+◌, ◌<◌, true, List, [], ◌∷◌, map, None, refl, sym, ap, subst, ◌∙◌, inl, inr, arith, nat_lt, option_to_list, lt-ltb, Service, Timer, Parts, spelling, ControlFrame, Terms, LinkTimer, fresh, course, given, IsInRange, End, with_link, Config, expiry, terms, T200, Course, Data, Wire, happens, with_first_of, Act, requests, times_out, gives, takes, loses, acting, turned, IsStill, comes, indicated, IsRoughTalkOf, is_poll, MayRepeat, IsTimelyOf, received, frame, expired, timer_T200, timer_T203, NoteData}
+use Rattle.laws_wire.proofs.Vocabulary.{◌≡◌, ℕ, ◌+◌, ◌<◌, true, List, [], ◌∷◌, map, None, refl, sym, ap, subst, ◌∙◌, inl, inr, arith, nat_lt, option_to_list, lt-ltb, Service, Timer, Parts, spelling, ControlFrame, Terms, LinkTimer, fresh, course, given, IsInRange, End, with_link, Config, expiry, terms, T200, Course, Data, Wire, happens, Act, requests, times_out, gives, takes, loses, acting, turned, IsStill, comes, indicated, IsRoughTalkOf, is_poll, MayRepeat, IsTimelyOf, received, frame, expired, timer_T200, timer_T203, NoteData}
 use Rattle.laws_wire.proofs.Answered.{takes-granted}
 use Rattle.laws_wire.proofs.Awaited.{may-there, waits-first, goes-first}
 use Rattle.laws_wire.proofs.Calling.{sabme, end, answering, called, takes-sabme, told-of-sabme}
@@ -22,9 +22,6 @@ module _ (service : Service) (tei : ℕ) (c d : Config) (p q : ℕ) (face : Face
 
   abbrev Rings : List ControlFrame → List Parts → Wire → Type 0
   Rings ws way w = phases.Rings service tei c d p q ws way w
-
-  abbrev UaWaits : End → Wire → Type 0
-  UaWaits m w = phases.UaWaits service tei c d p q m w
 
   abbrev Goes : Wire → Type 0
   Goes w = phases.Goes service tei c d p q w
@@ -141,7 +138,7 @@ module _ (service : Service) (tei : ℕ) (c d : Config) (p q : ℕ) (face : Face
     called-near loses is x = inl (record { repeats = h.repeats; near = held-lost service tei p [] c w.near caller_end h.near; far = h.far })
 
     -- the other takes it
-    pub answers : UaWaits (end u called []) (turned (acting takes (turned w)))
+    pub answers : (phases.UaWaits service tei c d p q (end u called []) (turned (acting takes (turned w))))
     answers =
         let f = sabme t in
         let way = first-way service tei c p [] w.near caller_end f [] refl h.near in
@@ -151,14 +148,7 @@ module _ (service : Service) (tei : ℕ) (c d : Config) (p q : ℕ) (face : Face
         held-first service tei q [] d w.far (end u fresh []) h.far (indicated service tei) reached (end u answering []) (course u (received (frame f)) fresh) refl refl refl
         (subst (StationStands d service tei q reached) becomes (taken-stands service tei q [] d w.far (end u fresh []) h.far c back f way.1)) (takes-granted (spelling c.side f) w.far) refl
         (taken-told service tei q [] d w.far (end u fresh []) h.far c back f way.1) (told-of-sabme u ru t) refl in
-        record {
-          repeats = h.repeats;
-          waiting = refl;
-          way = refl;
-          near = held-lost service tei p [] c w.near caller_end h.near;
-          far = subst (λ ways. Held d service tei q (indicated service tei ∷ []) (with_first_of ways w.far) (end u answering [])) (sym way.0) held;
-          firm = firm-first t u rt ru face.n201 h.repeats;
-        }
+        grind (arith, held-lost, answering, firm-first)
 
     pub called-far : (act : Act) → IsRoughTalkOf service tei act → Goes (turned (acting act (turned w)))
     called-far (requests r) is =

@@ -1,17 +1,19 @@
 -- A whole call in which timers are timely: both ends stay up, and what was lost arrives.
-use Rattle.laws_wire.proofs.Vocabulary.{◌≡◌, ℕ, suc, ◌+◌, ◌<◌, Bool, true, false, ◌==◌, List, [], ◌∷◌, length, map, is_some, refl, sym, ap, ◌∙◌, inl, inr, eqb-true, arith, All, flat_map, list_any, and_parts, or_parts, All-nil, All-cons, All-head, All-tail, list_any-append, Note, Service, Timer, Parts, ControlFrame, fresh, IsInRange, Ends, Config, LineTold, terms, all-arrived, T200, Station, Wire, Act, gives, takes, times_out, Doing, at_near, at_far, acting, turned, doing, doing_all, IsStill, calling, confirmed, indicated, data_told, for_layer_3, heard_in, is_error, HasNoError, IsRoughTalkOf, IsRoughTalk, is_poll, is_final, IsTimelyOf, IsSpared, IsTimely, StayTimely, both_expire, round, rounds, HasNoErrors, BothMayRepeat, HasMissing, HasArrived, with_t200_expired, WhatIsLostArrives, is_ua, frames_by, timer_T200, read_as}
+use Rattle.laws_wire.proofs.Vocabulary.{◌≡◌, ℕ, suc, ◌+◌, ◌<◌, Bool, true, false, ◌==◌, List, [], ◌∷◌, length, map, is_some, refl, sym, ap, ◌∙◌, inl, inr, eqb-true, arith, All, flat_map, list_any, and_parts, or_parts, All-nil, All-cons, All-head, All-tail, list_any-append, Note, Service, Timer, Parts, ControlFrame, fresh, IsInRange, Ends, Config, LineTold, terms, all-arrived, T200, Station, Wire, Act, gives, takes, times_out, Doing, at_near, at_far, acting, turned, doing, doing_all, IsStill, calling, confirmed, indicated, data_told, for_layer_3, heard_in, is_error, HasNoError, IsRoughTalkOf, IsRoughTalk, is_poll, is_final, IsTimelyOf, IsSpared, IsTimely, StayTimely, both_expire, round, rounds, HasNoErrors, BothMayRepeat, HasMissing, HasArrived, with_t200_expired, WhatIsLostArrives, is_ua, frames_by, timer_T200, read_as, StayPatient, TwoLinksHasArrived, nothing-to_send, spelling, ◌++◌, End}
 use Rattle.laws_wire.proofs.Awaited.{NoneOpen, open-here}
 use Rattle.laws_wire.proofs.Calling.{end, called}
 use Rattle.laws_wire.proofs.LossyRun.{Setting, setting}
 use Rattle.laws_wire.proofs.Ringing.{answered, its_sabme}
 use Rattle.laws_wire.proofs.Ringing.{ringing as ringing_as}
 use Rattle.laws_wire.proofs.Talking.{Face}
-use Rattle.laws_wire.proofs.TimelyArrives.{arrived, up-goes_on, up-arrives}
 use Rattle.laws_wire.proofs.TimelyFirst.{near-ready, far-ready, there-taken, back-taken}
 use Rattle.laws_wire.proofs.TimelyAnswered.{gives-ua, confirms, waits-still, waits-near, waits-far, comes-still, comes-near, comes-far}
 use Rattle.laws_wire.proofs.TimelyPhases.{Rings, UaWaits, UaGoes, Goes}
 use Rattle.laws_wire.proofs.TimelyRinging as ringing
 use Rattle.laws_wire.proofs.TimelyRinging.{down-expires, down-acts, repeats-sabme, few-repeats, silent-near, gives-sabme, not-still, asking-near, called-still, called-near, called-far}
+use Rattle.laws_wire.proofs.UaSettled.{nothing-said, loose-goes_on, loose-settles}
+use Rattle.laws_wire.proofs.LooseUp.{LooseAt}
+use Rattle.laws_wire.proofs.Loose.{as-loose}
 use Rattle.laws_wire.proofs.TimelyUp.{hushed, none-of, none-open, BothUp, turned-are, up-acts, rounds-up}
 
 -- ---- what layer 3 heard has the errors that were told
@@ -85,10 +87,48 @@ module _ (service : Service) (tei : ℕ) (c d : Config) (p q : ℕ) (face : Face
   fair w (inr (inr (inl h))) = ((nothing-heard w.near h.near.heard, nothing-heard w.far h.far.heard))
   fair w (inr (inr (inr (inl h)))) = (nothing-heard w.near h.is.near.heard, (grind (arith, all-fair, data-fair)))
   fair w (inr (inr (inr (inr (inl h))))) = (nothing-heard w.near h.is.near.heard, (grind (arith, all-fair, data-fair)))
-  fair w (inr (inr (inr (inr (inr h))))) = (
-    (grind (arith, all-fair, data-fair)),
-    (grind (arith, all-fair, data-fair)),
+  fair w (inr (inr (inr (inr (inr h))))) = grind (arith, all-fair, data-fair)
+
+  -- ---- where both ends are up
+
+  abbrev Up : Wire → End → End → Type 0
+  Up w n m = BothUp service tei c d p q (confirmed service tei ∷ []) (indicated service tei ∷ []) w n m
+
+  -- what has arrived at the links has arrived
+  arrived : (before w : Wire) (e : Ends) (cn cm : List (List ℕ)) → Up w e.near e.far → TwoLinksHasArrived cn e.near e.far → TwoLinksHasArrived cm e.far e.near
+      → before.near.granted ≡ cn → before.far.granted ≡ cm → HasArrived service tei before w
+  arrived before w e cn cm h x y near far = (
+    h.near.heard ∙ ap (λ xs. (confirmed service tei ∷ []) ++ map (data_told service tei) xs) (y.delivered ∙ sym far),
+    h.far.heard ∙ ap (λ xs. (indicated service tei ∷ []) ++ map (data_told service tei) xs) (x.delivered ∙ sym near),
+    record {
+      near = nothing-said service tei c p (confirmed service tei ∷ []) w.near e.near h.near (nothing-to_send e.near.terms e.near.link x.nothing);
+      far = nothing-said service tei d q (indicated service tei ∷ []) w.far e.far h.far (nothing-to_send e.far.terms e.far.link y.nothing);
+      near_way = h.near.stands.way ∙ ap (map (spelling c.side)) x.way;
+      far_way = h.far.stands.way ∙ ap (map (spelling d.side)) y.way;
+    },
   )
+
+  module _ (w : Wire) (n m : End) (h : Up w n m) (still : IsStill w) (may : BothMayRepeat service tei w) where
+    loose : LooseAt service tei c d p q (confirmed service tei ∷ []) (indicated service tei ∷ []) w n m
+    loose = record { near = h.near; far = h.far; loose = as-loose n m h.firm }
+
+    -- T200 is timely at both ends
+    up-goes_on : StayTimely (both_expire service tei) w
+    unfolding StayTimely StayPatient
+    up-goes_on =
+        let patient =
+        loose-goes_on service tei c d p q face back (confirmed service tei ∷ []) (indicated service tei ∷ []) w n m loose still may h.firm.near_free
+        h.firm.far_free in (
+          patient.0,
+          ((patient.1.0, λ none. ap (λ a. list_any (λ (x : Parts). is_ua x.control) (flat_map (read_as w.far.card.config) (frames_by a))) still.far), tt),
+        )
+
+    up-arrives : (u : ℕ) → HasMissing service tei u w → HasArrived service tei w (rounds (u + 3) (with_t200_expired service tei w))
+    up-arrives u few =
+        let x =
+        loose-settles service tei c d p q face back (confirmed service tei ∷ []) (indicated service tei ∷ []) w n m loose still may h.firm.near_free
+        h.firm.far_free u few.0 few.1 in
+        (x.near, x.far, x.rests)
 
   -- SABME was lost: it goes again, and both are up
   module _ (w : Wire) (h : Rings service tei c d p q [] [] w) (may : BothMayRepeat service tei w) where
@@ -170,7 +210,7 @@ module _ (service : Service) (tei : ℕ) (c d : Config) (p q : ℕ) (face : Face
   arrives w (inr (inr (inl h))) u still missing may = absurd (called-still service tei c d p q face back rt ru w h still)
   arrives w (inr (inr (inr (inl h)))) u still missing may = absurd (waits-still service tei c d p q face back rt ru w h.m h.is still)
   arrives w (inr (inr (inr (inr (inl h))))) u still missing may = absurd (comes-still service tei c d p q face back rt ru w h.m h.is still)
-  arrives w (inr (inr (inr (inr (inr h))))) u still missing may = up-arrives service tei c d p q face back w h.n h.m h.up still may u missing
+  arrives w (inr (inr (inr (inr (inr h))))) u still missing may = up-arrives w h.n h.m h.up still may u missing
 
   -- and there T200 of both ends is timely
   pub goes-on : (w : Wire) → On w → IsStill w → BothMayRepeat service tei w → StayTimely (both_expire service tei) w
@@ -179,7 +219,7 @@ module _ (service : Service) (tei : ℕ) (c d : Config) (p q : ℕ) (face : Face
   goes-on w (inr (inr (inl h))) still may = absurd (called-still service tei c d p q face back rt ru w h still)
   goes-on w (inr (inr (inr (inl h)))) still may = absurd (waits-still service tei c d p q face back rt ru w h.m h.is still)
   goes-on w (inr (inr (inr (inr (inl h))))) still may = absurd (comes-still service tei c d p q face back rt ru w h.m h.is still)
-  goes-on w (inr (inr (inr (inr (inr h))))) still may = up-goes_on service tei c d p q face back w h.n h.m h.up still may
+  goes-on w (inr (inr (inr (inr (inr h))))) still may = up-goes_on w h.n h.m h.up still may
 
 -- a call as it begins
 pub starts : (service : Service) (c d : Config) (line other tei : ℕ) → Setting service c d line other tei → Goes service tei c d 0 0 (calling service tei c line d other)

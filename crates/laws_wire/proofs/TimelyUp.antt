@@ -1,5 +1,5 @@
 -- Two stations whose links are up, where each timer is timely: both stay up, whatever is lost.
-use Rattle.laws_wire.proofs.Vocabulary.{arith, ◌≡◌, ℕ, Bool, true, IsTrue, List, [], ◌∷◌, map, Some, None, refl, sym, ap, subst, ◌∙◌, ◌⊎◌, inl, inr, append-nil, true≢false, All, All-head, Control, Service, Timer, Parts, spelling, TimerRecovery, LinkTimer, T203, is_multiple_frame, course, given, is_running, awaits_answer, IsTimed, IsTimedIn, runs, End, Ends, with_link, with_sent, offer-gave, Config, LineTold, expiry, request, next, gave, CanRepeat, nothing-given, T200, Data, Station, Wire, happens, with_first_of, Act, requests, times_out, gives, takes, loses, acting, turned, answered, IsOfLink, IsRoughTalkOf, is_poll, is_final, IsTimelyOf, rounds, Joined, Flows, expired, timer_T201, timer_T200, timer_T203, two_ends_with_first_of, two_ends_with_first_lost, two_links_rounds}
+use Rattle.laws_wire.proofs.Vocabulary.{arith, ◌≡◌, ℕ, Bool, true, IsTrue, List, [], ◌∷◌, map, Some, None, refl, sym, ap, subst, ◌∙◌, ◌⊎◌, inl, inr, append-nil, true≢false, All, All-head, Control, Service, Timer, Parts, spelling, TimerRecovery, LinkTimer, T203, is_multiple_frame, course, given, is_running, awaits_answer, IsTimed, IsTimedIn, runs, End, Ends, with_link, with_sent, offer-gave, Config, LineTold, expiry, request, next, gave, CanRepeat, nothing-given, T200, Data, Station, Wire, happens, with_first_of, Act, requests, times_out, gives, takes, loses, acting, turned, answered, IsOfLink, IsRoughTalkOf, is_poll, is_final, IsTimelyOf, rounds, Joined, Flows, expired, timer_T200, timer_T203, two_ends_with_first_of, two_ends_with_first_lost, two_links_rounds}
 use Rattle.laws_link.specs.two.Timely as two_links_timely
 use Rattle.laws_wire.proofs.Asking.{with_more, asked-form}
 use Rattle.laws_wire.proofs.Awaited.{NoneOpen, closed, may-there, long-there}
@@ -15,9 +15,7 @@ use Rattle.laws_wire.proofs.Talking.{Face, no-way}
 module _ (service : Service) (tei : ℕ) where
   -- the timers of a call
   pub each-timer : (P : Timer → Type 0) → P (timer_T200 service tei) → P (timer_T203 service tei) → (timer : Timer) → IsOfLink service tei timer → P timer
-  each-timer P x y (timer_T200 s t) is = subst (λ s'. P (timer_T200 s' t)) (sym is.0) (subst (λ t'. P (timer_T200 service t')) (sym is.1) x)
-  each-timer P x y (timer_T203 s t) is = subst (λ s'. P (timer_T203 s' t)) (sym is.0) (subst (λ t'. P (timer_T203 service t')) (sym is.1) y)
-  each-timer P x y timer_T201 is = absurd is
+  each-timer o x y z is = grind arith
 
   -- where no turn is left
   pub record IsHushed (n : End) : Type 0 where

@@ -7,9 +7,6 @@ use Rattle.laws_wire.proofs.TimelyRun.{what-is-lost-arrives}
 
 -- ---- one turn
 
-of-link : (service : Service) (tei : ℕ) (d : Doing) → GivesOrTakes d → IsRoughTalk service tei d
-of-link service tei d t = grind arith
-
 loses-none : (d : Doing) → GivesOrTakes d → LosesNothing d
 loses-none d t = grind arith
 
@@ -28,7 +25,7 @@ is-move d w t = grind arith
 -- ---- and many
 
 pub all-of_link : (service : Service) (tei : ℕ) (es : List Doing) → All GivesOrTakes es → All (IsRoughTalk service tei) es
-all-of_link service tei es all = All-weaker GivesOrTakes (IsRoughTalk service tei) (of-link service tei) es all
+all-of_link service tei es all = All-weaker GivesOrTakes (IsRoughTalk service tei) (λ d t. grind arith) es all
 
 pub all-lose_none : (es : List Doing) → All GivesOrTakes es → All LosesNothing es
 all-lose_none es all = All-weaker GivesOrTakes LosesNothing loses-none es all
@@ -73,9 +70,6 @@ module _ (service : Service) (c d : Config) (line other tei k : ℕ) (ds es : Li
       subst HasNoErrors (doing-append ds es begun)
       (what-is-lost-arrives service c d line other tei (ds ++ es) can whole (behind-timely ds es begun timely all)).no_error
 
-  few : (all first rest most' most : ℕ) → all ≡ first + rest → all ≤ most' → most' ≡ most → rest ≤ most
-  few all first rest most' most e less same = omega (arith, e, less, same)
-
   -- so they are as few as the bound of the whole call says
   pub few-turns : (terms c service tei).k ≤ k → (terms d service tei).k ≤ k → StayTimely ds begun
       → let w = doing_all ds begun in moves es w ≤ 2 * most_frames k (expiries ds) (granted_of w)
@@ -84,4 +78,4 @@ module _ (service : Service) (c d : Config) (line other tei k : ℕ) (ds es : Li
       let fair : HasNoErrors (doing_all (ds ++ es) begun) = subst HasNoErrors (sym (doing-append ds es begun)) (turns-fair timely) in
       let expired : expiries (ds ++ es) ≡ expiries ds = expiries-append ds es ∙ (let none = no-expiries es all in omega (arith, none)) in
       let granted : granted_of (doing_all (ds ++ es) begun) ≡ granted_of w = ap granted_of (doing-append ds es begun) ∙ no-grants es w all in
-      grind (arith, few, moves-append, moves-come-to-an-end, whole)
+      grind (arith, moves-append, moves-come-to-an-end, whole)

@@ -1,5 +1,5 @@
 -- The link of the end that is called, before its caller is up: it has received nothing but SABME.
-use Rattle.laws_wire.proofs.Vocabulary.{◌≡◌, ℕ, ◌+◌, ◌<◌, ◌≤◌, Bool, true, false, cond, ◌||◌, IsTrue, List, [], ◌∷◌, ◌++◌, Option, None, Some, refl, sym, ap, subst, ◌∙◌, ◌⊎◌, inl, inr, append_assoc, eqb-true, ne_eqb, arith, flat_map, list_any, All, All-head, front_rest, Refusal, Parts, State, TeiAssigned, AwaitingEstablishment, AwaitingRelease, Established, TimerRecovery, Sabme, LinkTimer, T203, ControlFrame, Terms, Link, is_multiple_frame, has_outstanding, received, requested, expired, offer, course, given, given_of, is_running, begun, frame_given, IsInRange, IsWaitingFrame, End, frame_of, frames_of, frames-append, kinds-append, has_room, Reports, still, at-first, offer-gave, Calm, Kind, enquiry, report, kind_of, kinds_of, tally, tally-push, one_enquiry, one_answer, one_rejection, line, most, is_recovering, Sane, frame, after, Course, ◌then◌, for_layer_3, LinkClearBusy, LinkEvent, LinkRequest, LinkSetBusy, F, granted, refusal, error_f, renewed, carried-reports, rising-reports, timer-stays}
+use Rattle.laws_wire.proofs.Vocabulary.{◌≡◌, ℕ, ◌+◌, ◌<◌, ◌≤◌, Bool, true, false, cond, ◌||◌, IsTrue, List, [], ◌∷◌, ◌++◌, Option, None, Some, refl, sym, ap, subst, ◌∙◌, ◌⊎◌, inl, inr, append_assoc, eqb-true, ne_eqb, arith, flat_map, list_any, All, All-head, front_rest, Refusal, Parts, State, Established, TimerRecovery, Sabme, LinkTimer, T203, ControlFrame, Terms, Link, is_multiple_frame, has_outstanding, received, requested, expired, offer, course, given, given_of, is_running, begun, frame_given, IsInRange, IsWaitingFrame, End, frame_of, frames_of, frames-append, kinds-append, has_room, Reports, still, at-first, offer-gave, Calm, Kind, enquiry, report, kind_of, kinds_of, tally, tally-push, one_enquiry, one_answer, one_rejection, line, most, is_recovering, Sane, frame, after, Course, ◌then◌, for_layer_3, LinkClearBusy, LinkEvent, LinkRequest, LinkSetBusy, F, granted, refusal, error_f, renewed, carried-reports, rising-reports, timer-stays}
 use Rattle.model_link.specs.Machine
 use Rattle.model_link.specs.Offers
 use Rattle.model_link.specs.Sound.{IsSound, is_information}
@@ -122,11 +122,7 @@ module _ (t : Terms) (l l' : Link) (first post : List ControlFrame) (Free : Type
       (subst (λ z. tally one_enquiry ks + 1 ≤ most (is_recovering z)) (sym state) (let nothing : tally one_enquiry ks ≡ 0 = open-none l.state refl in omega (arith, nothing)))
     where
       open-none : (here : State) → l.state ≡ here → tally one_enquiry ks ≡ 0
-      open-none TimerRecovery e = none (free e)
-      open-none Established e = let one : tally one_enquiry ks ≤ 0 = subst (λ z. tally one_enquiry ks ≤ most (is_recovering z)) e h.one in omega (arith, one)
-      open-none TeiAssigned e = let one : tally one_enquiry ks ≤ 0 = subst (λ z. tally one_enquiry ks ≤ most (is_recovering z)) e h.one in omega (arith, one)
-      open-none AwaitingEstablishment e = let one : tally one_enquiry ks ≤ 0 = subst (λ z. tally one_enquiry ks ≤ most (is_recovering z)) e h.one in omega (arith, one)
-      open-none AwaitingRelease e = let one : tally one_enquiry ks ≤ 0 = subst (λ z. tally one_enquiry ks ≤ most (is_recovering z)) e h.one in omega (arith, one)
+      open-none o e = grind arith
 
   pub poised-on : PoisedOn t l' first
   poised-on = by-grown x.grown
@@ -150,20 +146,13 @@ module _ (t u : Terms) (rt : IsInRange t) (ru : IsInRange u) (same : t.n201 ≡ 
   abbrev n : End
   n = end t (answered k []) []
 
-  abbrev plain : Link
-  plain = record l { a = 0; s = 0; r = 0; rejecting = false; waiting = post }
-
-  abbrev m : End
-  m = end u plain []
-
   abbrev kinds : List Kind
   kinds = line u [] post
 
-  pub loose-plain : Loose n m
+  pub loose-plain : Loose n (end u (record l { a = 0; s = 0; r = 0; rejecting = false; waiting = post }) [])
   loose-plain =
       let others = no-others kinds h.idle in
       let calm = all-calm kinds h.idle in
-      let one : tally one_enquiry kinds ≤ most (is_recovering l.state) = h.one in
       record {
         joined = record {
           near_ranges = rt;
@@ -177,14 +166,7 @@ module _ (t u : Terms) (rt : IsInRange t) (ru : IsInRange u) (same : t.n201 ≡ 
         };
         same = same;
         there = grind (arith, answered);
-        back = record {
-          order = calm-rise 0 kinds calm;
-          one = omega arith;
-          rejected = λ some. absurd (omega (arith, some));
-          asked = omega (arith, one);
-          last = λ some. behind-calm kinds calm;
-          answered = λ some. absurd (omega (arith, some));
-        };
+        back = grind (arith, calm-rise, behind-calm);
         near_sane = (firm-first t u rt ru same k).near_sane;
         far_sane = subst Sane (sym (λ i. record l { a = sym h.a i; s = sym h.s i; r = sym h.r i; rejecting = sym h.rejecting i; waiting = sym waits i })) h.sane;
       }
@@ -233,9 +215,6 @@ module _ (t u : Terms) (l : Link) (up : IsTrue (is_multiple_frame l.state)) (zer
 abbrev pub informs : List Parts → Bool
 informs fs = list_any (λ (f : Parts). is_information f.control) fs
 
-or-false : (b : Bool) → (b || false) ≡ b
-or-false b = grind arith
-
 module _ (t : Terms) (l : Link) (sound : IsSound t l) where
   abbrev Informs : Course → Type 0
   Informs c =
@@ -254,4 +233,4 @@ module _ (t : Terms) (l : Link) (sound : IsSound t l) where
       kept = (offer-gave t ranges l sound l.waiting refl).acknowledged
 
       go : Informs (course t offer l) → (b || informs (frame_given t (given t l))) ≡ has_outstanding (after t offer l)
-      go o = grind (arith, or-false, kept, or-true, ne_eqb)
+      go o = grind (arith, kept, or-true, ne_eqb)

@@ -1,5 +1,5 @@
 -- The station of the end that is called, whose link is up: what requests, timers and calls for the next frame do there.
-use Rattle.laws_wire.proofs.Vocabulary.{◌≡◌, ℕ, ◌==◌, Bool, true, false, not, ◌||◌, IsTrue, List, [], ◌∷◌, ◌++◌, None, refl, sym, ap, subst, ◌∙◌, ◌⊎◌, inl, inr, arith, Service, Timer, TimerRecovery, LinkTimer, T203, Terms, Link, Course, after, is_multiple_frame, has_outstanding, given, is_running, awaits_answer, no-reports, End, with_link, frame_given, Config, LineTold, expiry, request, Line, place_in, Request, at_requested, aim_of_request, IsMildRequest, CanRepeat, HasNo, Sane, T200, Data, SetBusy, ClearBusy, Station, Wire, happens, times_out, contents_requested, IsOfLink, is_poll, IsTimelyOf, requested, LinkEvent, offer, LinkSetBusy, expired, LinkClearBusy, LinkData, LinkRequest, timer_T200, timer_T203, course, IsAsked, gives_information, timer-stays, request-stays, is_recovering}
+use Rattle.laws_wire.proofs.Vocabulary.{◌≡◌, ℕ, ◌==◌, Bool, true, false, not, ◌||◌, IsTrue, List, [], ◌∷◌, ◌++◌, None, refl, sym, ap, subst, ◌∙◌, ◌⊎◌, inl, inr, arith, Service, Timer, TimerRecovery, LinkTimer, T203, Terms, Link, after, is_multiple_frame, has_outstanding, given, is_running, awaits_answer, no-reports, End, with_link, frame_given, Config, LineTold, expiry, request, Line, place_in, Request, at_requested, aim_of_request, IsMildRequest, CanRepeat, HasNo, Sane, T200, Data, SetBusy, ClearBusy, Station, Wire, happens, times_out, contents_requested, IsOfLink, is_poll, IsTimelyOf, requested, LinkEvent, offer, LinkSetBusy, expired, LinkClearBusy, LinkData, LinkRequest, timer_T200, timer_T203, course, IsAsked, gives_information, timer-stays, request-stays, is_recovering}
 use Rattle.laws_wire.proofs.Acting.{ranges, sound}
 use Rattle.laws_wire.proofs.Asking.{asked-form}
 use Rattle.laws_wire.proofs.Awaited.{awaits-is, may-there, none-there, gives-reads}
@@ -17,9 +17,6 @@ same-flag b l l' s a e = e ∙ (λ i. not (sym s i == sym a i))
 
 -- As it gives, a link awaits what REJ asked for as before.
 module _ (t : Terms) (l : Link) where
-  abbrev Keeps : Course → Type 0
-  Keeps c = c.link.rejecting ≡ l.rejecting
-
   pub offer-rejecting : (after t offer l).rejecting ≡ l.rejecting
   offer-rejecting = grind arith
 

@@ -1,5 +1,5 @@
 -- A call in which UA may be lost and an end may be busy comes to rest, from any time of it on.
-use Rattle.laws_wire.proofs.Vocabulary.{◌≡◌, ◌≢◌, ℕ, zero, suc, ◌+◌, ◌-◌, ◌*◌, ◌≤◌, List, [], ◌∷◌, ◌++◌, length, refl, sym, ap, subst, ◌∙◌, arith, length-append, length-map, All, All-cons, All-nil, All-append, Service, IsInRange, Config, LineTold, terms, Wire, times_out, gives, takes, at_near, at_far, Doing, doing, doing_all, IsStill, calling, CanCall, granted_of, confirmed, heard_in, IsFullTalk, StayPatient, MayRepeat, BothMayRepeat, with_t200_expired, rounds, expiries, most_frames, expiry, timer_T200, IsAtRest, Called, uncalled, seen, all_of_calls, ToldSo, length-drop, reports, most_moves, none_busy, Busy, busy, busy_behind, HasLeft, near_expires, LossyCallsComeToRest}
+use Rattle.laws_wire.proofs.Vocabulary.{◌≡◌, ◌≢◌, ℕ, zero, suc, ◌+◌, ◌*◌, ◌≤◌, List, [], ◌∷◌, ◌++◌, length, refl, sym, ap, subst, ◌∙◌, arith, length-append, length-map, All, All-cons, All-nil, All-append, Service, IsInRange, Config, LineTold, terms, Wire, times_out, gives, takes, at_near, at_far, Doing, doing, doing_all, IsStill, calling, CanCall, granted_of, confirmed, heard_in, IsFullTalk, StayPatient, MayRepeat, BothMayRepeat, with_t200_expired, rounds, expiries, most_frames, expiry, timer_T200, IsAtRest, Called, uncalled, seen, ToldSo, length-drop, reports, most_moves, none_busy, Busy, busy, busy_behind, HasLeft, near_expires, LossyCallsComeToRest}
 use Rattle.laws_wire.proofs.Answered.{same-granted}
 use Rattle.laws_wire.proofs.Awaited.{open-here}
 use Rattle.laws_wire.proofs.LossyRun.{setting}
@@ -59,10 +59,6 @@ module _ (service : Service) (c d : Config) (line other tei k : ℕ) (can : CanC
       goes-long service tei c d 0 0 s.face s.back s.near s.far (2 * (terms c service tei).k + 2 * (terms d service tei).k) less.0 less.1 (seen service tei ds begun uncalled) (doing_all ds begun)
       (patient-goes service c d line other tei ds can talk patient)
 
-  -- of what is told no more is missing than was granted
-  few-left : (a b g kept heard : ℕ) → kept ≡ suc (a - b) → a ≤ g → 1 ≤ heard → kept ≤ heard + g
-  few-left a b g kept heard e le some = omega (arith, e, le, some)
-
   module _ (ds : List Doing) (talk : All (IsFullTalk service tei) ds) (patient : StayPatient ds begun) (told : heard_in (doing_all ds begun).near ≢ []) where
     abbrev x : Called
     x = seen service tei ds begun uncalled
@@ -77,15 +73,8 @@ module _ (service : Service) (c d : Config) (line other tei k : ℕ) (can : CanC
     law : ToldSo service tei x w
     law = lossy-calls-come-through service c d line other tei ds can talk patient
 
-    far-left : length (all_of_calls service tei x w.near) ≤ length (heard_in w.far) + granted_of w
-    far-left =
-        let at-once = law.far_at_once in
-        let rest : List LineTold = at-once.0 in
-        let all : length (heard_in w.far) ≡ length x.told + length rest = sym (ap length at-once.1) ∙ length-append x.told rest in
-        grind (arith, long, length-append, length-map)
-
     left : HasLeft service tei (granted_of w) x w
-    left = ((grind (arith, few-left, length-map, length-drop, some-heard)), far-left)
+    left = (grind (arith, length-map, length-drop, some-heard), grind (arith, law, length-append, long, length-map))
 
     rest : busy ds begun none_busy ≡ none_busy → IsStill w → BothMayRepeat service tei w → IsAtRest service tei (rounds (granted_of w + 3) (with_t200_expired service tei w))
     rest free still may = ((lossy-calls-settle service c d line other tei ds can talk patient free).settles (granted_of w) (still, told, may) left).1

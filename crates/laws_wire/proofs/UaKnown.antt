@@ -1,5 +1,5 @@
 -- What is known of the links of a call in which UA may be lost: each runs the timer that it needs, and is busy only as it was asked.
-use Rattle.laws_wire.proofs.Vocabulary.{arith, ◌≡◌, ℕ, ◌*◌, ◌≤◌, Bool, true, false, cond, not, ◌&&◌, ◌||◌, IsTrue, List, [], ◌∷◌, ◌++◌, map, refl, sym, ap, subst, ◌∙◌, ◌⊎◌, inl, inr, true≢false, All, All-head, All-tail, Service, Timer, Parts, spelling, LinkTimer, is_multiple_frame, after, IsInRange, End, with_link, Config, expiry, request, terms, next, Line, place_in, Request, Data, SetBusy, ClearBusy, at_requested, aim_of_request, sound-after, Station, Wire, happens, comes, with_first_of, Act, requests, times_out, gives, takes, loses, acting, turned, Doing, at_near, at_far, doing, doing_all, link_of, is_granted, answered, IsAsked, IsFullTalkOf, IsFullTalk, StayPatient, or_parts, frame, requested, LinkEvent, offer, expired, LinkSetBusy, received, LinkClearBusy, LinkData, LinkRequest, Called, seeing, HasItsTimer, timely-after}
+use Rattle.laws_wire.proofs.Vocabulary.{arith, ◌≡◌, ℕ, ◌*◌, ◌≤◌, Bool, true, false, not, ◌&&◌, ◌||◌, IsTrue, List, [], ◌∷◌, ◌++◌, map, refl, sym, ap, subst, ◌∙◌, ◌⊎◌, inl, inr, true≢false, All, All-head, All-tail, Service, Timer, Parts, spelling, LinkTimer, is_multiple_frame, after, IsInRange, End, with_link, Config, expiry, request, terms, next, Line, place_in, Request, Data, SetBusy, ClearBusy, at_requested, aim_of_request, sound-after, Station, Wire, happens, comes, with_first_of, Act, requests, times_out, gives, takes, loses, acting, turned, Doing, at_near, at_far, doing, doing_all, link_of, is_granted, answered, IsAsked, IsFullTalkOf, IsFullTalk, StayPatient, or_parts, frame, requested, LinkEvent, offer, expired, LinkSetBusy, received, LinkClearBusy, LinkData, LinkRequest, Called, seeing, HasItsTimer, timely-after}
 use Rattle.laws_link.specs.Flags.{busy_asked}
 use Rattle.laws_link.specs.States.{as_heard}
 use Rattle.laws_link.proofs.EachRow.{each-row}
@@ -15,9 +15,6 @@ use Rattle.laws_wire.proofs.UaLostRun.{Goes, step}
 use Rattle.laws_wire.proofs.UaWeighs.{seen-in}
 
 -- ---- own busy of a link
-
-flag-up : (anew y : Bool) → cond anew false (cond true false y) ≡ false
-flag-up anew y = grind arith
 
 module _ (service : Service) (tei : ℕ) where
   pub record Known (b : Bool) (s : Station) : Type 0 where
@@ -87,7 +84,7 @@ module _ (service : Service) (tei : ℕ) where
 
     module _ (up : IsTrue (is_multiple_frame n.link.state) ⊎ (n.link.own_busy ≡ false)) where
       ready : (after n.terms (requested LinkClearBusy false) n.link).own_busy ≡ false
-      ready = elim up [ inl x ↦ (grind (arith, each-row, flag-up)) | inr none ↦ (grind (arith, each-row)) ]
+      ready = elim up [ inl x ↦ (grind (arith, each-row)) | inr none ↦ (grind (arith, each-row)) ]
 
       known-ready : Known (b && not (is_granted (answered (request (ClearBusy service tei)) s))) (happens (request (ClearBusy service tei)) s)
       known-ready = go (is_granted (answered (request (ClearBusy service tei)) s)) refl

@@ -37,9 +37,6 @@ module _ (service : Service) (tei : ℕ) (c d : Config) (p q : ℕ) (face : Face
   abbrev t : Terms
   t = terms c service tei
 
-  abbrev u : Terms
-  u = terms d service tei
-
   abbrev pub first_near : List LineTold
   first_near = confirmed service tei ∷ []
 

@@ -128,9 +128,7 @@ module _ (service : Service) (tei : ℕ) (c d : Config) (p q : ℕ) (face : Face
     stays A none h = subst A (sym (ap turned (takes-none (turned w) none))) h
 
     told-no : (n : End) → Held c service tei p its_near w.near n → takes_sabme w ≡ false
-    told-no n h =
-        ap (λ ts. is_any w.near.way && length ts == 0) h.heard
-        ∙ ap (λ b. is_any w.near.way && b) (grind (arith, eqb-true)) ∙ and-false (is_any w.near.way)
+    told-no n h = grind (arith, eqb-true, and-false)
 
   -- it is asked, or a timer expires
   module _ (past : List LineTold) (b : Bool) (w : Wire) (act : Act) (untaken : act ≡ takes → ⊥) (not : act ≡ gives → ⊥) (nor : act ≡ loses → ⊥) (is : IsFullTalkOf service tei act)
@@ -203,9 +201,7 @@ module _ (service : Service) (tei : ℕ) (c d : Config) (p q : ℕ) (face : Face
     down-far h act not is = all-far Down Down w (done act w) (grind arith) (λ y. down-acts y act not is) h
 
     there : (P : Station → Type 0) → Rs P w → P w.far
-    there P (inl h) = h.far
-    there P (inr (inl h)) = h.far
-    there P (inr (inr h)) = h.far
+    there o x = grind arith
 
     down-takes : Rs Down w → ((takes_sabme w ≡ false) × Rs Down (done takes w)) ⊎ ((takes_sabme w ≡ true) × R (Waiting (indicated service tei ∷ []) false) [] [] (done takes w))
     down-takes (inl h) =

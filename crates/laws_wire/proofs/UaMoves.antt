@@ -17,10 +17,7 @@ module _ (service : Service) (tei v : ℕ) where
 
   -- what was granted before stays so
   pays-before : (moved expired reported : ℕ) (g : List (List ℕ)) (w w' : Wire) → P moved expired reported w w' → P moved expired reported (with_before g w) (with_before g w')
-  pays-before moved expired reported g w w' h = grind (arith, sum, length-append)
-    where
-      sum : (a b a' b' g gb gb' more : ℕ) → gb ≡ g + b → gb' ≡ g + b' → a' + b' ≡ a + b + more → a' + gb' ≡ a + gb + more
-      sum a b a' b' g gb gb' more e f h = omega (arith, e, f, h)
+  pays-before moved expired reported g w w' h = grind (arith, length-append)
 
   -- and what was granted does not matter to what is done
   module _ (g : List (List ℕ)) (w a b : Wire) where

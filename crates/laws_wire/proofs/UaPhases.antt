@@ -142,17 +142,7 @@ module _ (service : Service) (tei : ℕ) (c d : Config) (p q : ℕ) (face : Face
         let on : PoisedOn u x.left first =
         poised-on u M'.link x.left first h.post (HasNo is_poll M') h.waits h.poised x.stirs
         (λ free. none-asked u h.post (all-right IsNoPoll first h.post (subst (All IsNoPoll) h.waits free.waiting))) in
-        record {
-          M = record M' { link = x.left };
-          old = h.old;
-          post = on.post;
-          held = x.held;
-          waits = on.waiting;
-          delivered = h.delivered;
-          rising = h.rising;
-          poised = on.poised;
-          flag = same-flag b M'.link x.left x.stirs.s x.stirs.a h.flag;
-        }
+        grind (arith, same-flag)
 
     pub waiting-loses : IsWaiting b (with_first_lost v.near)
     waiting-loses = record {

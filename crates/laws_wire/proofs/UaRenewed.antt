@@ -1,5 +1,5 @@
 -- SABME comes again to the end that is called, whose UA was lost: UA waits again, where there is room, and what it had sent is given up.
-use Rattle.laws_wire.proofs.Vocabulary.{◌≡◌, ℕ, Bool, true, false, cond, List, [], ◌∷◌, ◌++◌, map, refl, sym, ap, subst, ◌∙◌, ◌⊎◌, inl, inr, append-nil, arith, flat_map, option_to_list, Service, spelling, Terms, has_outstanding, has_room, frames_of, course, IsInRange, End, with_link, Config, LineTold, terms, Rising, Sane, flat_map-append, Course, line_of, Station, Wire, comes, with_first_of, with_first_lost, takes, acting, turned, data_told, for_layer_3, heard_in, received, LinkEvent, frame, error_f, renewed}
+use Rattle.laws_wire.proofs.Vocabulary.{◌≡◌, ℕ, Bool, true, false, cond, List, [], ◌∷◌, ◌++◌, map, refl, sym, ap, subst, ◌∙◌, ◌⊎◌, inl, inr, append-nil, arith, flat_map, Service, spelling, Terms, has_outstanding, has_room, frames_of, course, IsInRange, End, with_link, Config, LineTold, terms, Rising, Sane, flat_map-append, Course, line_of, Station, Wire, comes, with_first_of, with_first_lost, takes, acting, turned, data_told, for_layer_3, heard_in, received, LinkEvent, frame, error_f, renewed}
 use Rattle.laws_wire.proofs.Answered.{takes-granted}
 use Rattle.laws_wire.proofs.Calling.{its_ua, sabme, end}
 use Rattle.laws_wire.proofs.Held.{Held, held-lost, taken-told, taken-stands}
@@ -15,9 +15,6 @@ use Rattle.laws_wire.proofs.UaPhases.{IsAway, IsWaiting}
 module _ (service : Service) (tei : ℕ) (c d : Config) (p q : ℕ) (face : Face c d) (back : Face d c) (rt : IsInRange (terms c service tei)) (ru : IsInRange (terms d service tei)) where
   abbrev t : Terms
   t = terms c service tei
-
-  abbrev u : Terms
-  u = terms d service tei
 
   abbrev pub more_told : Bool → List LineTold → List LineTold
   more_told b past = past ++ cond b (renewed service tei) (error_f service tei) ∷ []
@@ -53,17 +50,11 @@ module _ (service : Service) (tei : ℕ) (c d : Config) (p q : ℕ) (face : Face
     its_way : (w.near.way ≡ spelling c.side (sabme t) ∷ []) × IsCarried c service tei (sabme t)
     its_way = first-way service tei c p [] w.near caller_end (sabme t) [] refl near
 
-    abbrev kept : List (List ℕ)
-    kept = cond b [] M.link.contents
-
     abbrev left : Bool → End
-    left room = record { terms = M.terms; link = again room kept M.link; way = M.way; delivered = [] }
+    left room = record { terms = M.terms; link = again room (cond b [] M.link.contents) M.link; way = M.way; delivered = [] }
 
     becomes : with_link event M ≡ left (has_room M.terms M.link)
-    becomes = λ i. record M {
-      link = (renews M.terms t M.link h.up h.a).link i;
-      delivered = (ap (λ o. M.delivered ++ option_to_list o) (renews M.terms t M.link h.up h.a).delivered ∙ append-nil M.delivered ∙ h.delivered) i;
-    }
+    becomes = grind (arith, renews, append-nil)
 
     abbrev s' : Station
     s' = record reached { granted = cond b [] w.far.granted }

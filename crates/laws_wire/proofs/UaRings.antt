@@ -1,5 +1,5 @@
 -- Where one end rings, no turn is left and its T200 expires, one round is enough for it to be told of the establishment.
-use Rattle.laws_wire.proofs.Vocabulary.{◌≡◌, ℕ, ◌<◌, ◌≤◌, IsTrue, true, List, [], ◌∷◌, map, refl, sym, ap, subst, ◌∙◌, nat_lt, lt-ltb, arith, All, All-head, Service, Timer, Parts, spelling, ControlFrame, Terms, Link, fresh, is_multiple_frame, frame_of, after, course, given, frame_given, IsInRange, End, with_link, with_sent, Config, LineTold, next, terms, Station, Wire, happens, comes, with_first_of, with_first_lost, times_out, gives, takes, acting, turned, doing_all, confirmed, heard_in, MayRepeat, rounds, timer_T200}
+use Rattle.laws_wire.proofs.Vocabulary.{◌≡◌, ℕ, ◌<◌, IsTrue, List, [], ◌∷◌, refl, sym, ap, subst, nat_lt, lt-ltb, arith, All, All-head, Service, Timer, Parts, spelling, ControlFrame, Terms, Link, fresh, is_multiple_frame, after, course, IsInRange, End, with_link, with_sent, Config, LineTold, next, terms, Station, Wire, happens, comes, with_first_of, with_first_lost, times_out, gives, acting, doing_all, confirmed, heard_in, MayRepeat, rounds, timer_T200}
 use Rattle.model_link.specs.Events as link
 use Rattle.laws_wire.proofs.Acting.{ranges}
 use Rattle.laws_wire.proofs.Answered.{takes-granted}
@@ -12,10 +12,6 @@ use Rattle.laws_wire.proofs.Standing.{IsCarried, StationStands, gives-stands}
 use Rattle.laws_wire.proofs.Talking.{Face}
 use Rattle.laws_wire.proofs.UaCalled.{renews}
 use Rattle.laws_wire.proofs.UaLost.{Rings, repeats-sabme}
-
--- the frame that waits goes
-pub gives-waiting : (t : Terms) (l : Link) (f : ControlFrame) (fs : List ControlFrame) → l.waiting ≡ f ∷ fs → frame_given t (given t l) ≡ frame_of t f ∷ []
-gives-waiting t l f fs e = grind arith
 
 module _ (service : Service) (tei : ℕ) (c d : Config) (p q : ℕ) (face : Face c d) (back : Face d c) (rt : IsInRange (terms c service tei)) (ru : IsInRange (terms d service tei)) where
   abbrev t : Terms
@@ -32,11 +28,8 @@ module _ (service : Service) (tei : ℕ) (c d : Config) (p q : ℕ) (face : Face
 
   -- ---- the other end answers SABME
 
-  room : (control : ℕ) → 2 ≤ control → nat_lt 0 control ≡ true
-  room control low = lt-ltb 0 control (omega (arith, low))
-
   pub answers-again : (l : Link) (s : Terms) → IsInRange s → IsTrue (is_multiple_frame l.state) → l.a ≡ 0 → l.waiting ≡ [] → (after s event l).waiting ≡ its_ua ∷ []
-  answers-again l s ranges up o quiet = grind (arith, renews, nat_lt, its_ua, room)
+  answers-again l s ranges up o quiet = grind (arith, renews, nat_lt, its_ua, lt-ltb)
 
   pub answers-first : (after u event fresh).waiting ≡ its_ua ∷ []
   answers-first = ap (λ l. l.waiting) (takes-sabme u ru t)
@@ -59,9 +52,6 @@ module _ (service : Service) (tei : ℕ) (c d : Config) (p q : ℕ) (face : Face
     abbrev w2 : Wire
     w2 = record { near = with_first_lost w1.near; far = reached }
 
-    taken : turned (acting takes (turned w1)) ≡ w2
-    taken = ap (λ ways. record { near = with_first_lost w1.near; far = with_first_of ways w.far }) way1.0
-
     near2 : Rung k [] [] w2.near
     near2 = held-lost service tei p [] c w1.near (end t (ringing k []) (sabme t ∷ [])) (held-given service tei p [] c w.near (end t (ringing k (its_sabme ∷ [])) []) near refl)
 
@@ -79,7 +69,7 @@ module _ (service : Service) (tei : ℕ) (c d : Config) (p q : ℕ) (face : Face
     far3 = gives-stands service tei q reached m (subst (λ k. StationStands k service tei q reached m) (sym far2.config) far2)
 
     gone : (with_sent m).way ≡ ua u ∷ []
-    gone = grind (arith, gives-waiting, its_ua)
+    gone = grind (arith, its_ua)
 
     carried : IsCarried d service tei (ua u)
     carried =
@@ -99,9 +89,7 @@ module _ (service : Service) (tei : ℕ) (c d : Config) (p q : ℕ) (face : Face
 
     pub round-tells : heard_in (rounds 1 w).near ≡ confirmed service tei ∷ []
     unfolding rounds doing_all
-    round-tells =
-        ap (λ y. heard_in (acting takes (turned (acting gives (turned y)))).near) taken
-        ∙ ap (λ ways. heard_in (with_first_of ways w2.near)) (far3.way ∙ (λ i. map (spelling (far2.config i).side) (gone i))) ∙ near4.heard
+    round-tells = grind (arith, with_first_lost, w1, with_first_of, way1, far3, far2, gone, near4)
 
   -- ---- T200 expires before it
 

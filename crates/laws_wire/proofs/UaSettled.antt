@@ -1,26 +1,34 @@
 -- Where both ends are up, neither is busy and no turn is left: once T200 expires, so many rounds are enough for all that is missing, and it stops.
-use Rattle.laws_wire.proofs.Vocabulary.{◌≡◌, ℕ, ◌+◌, ◌≤◌, false, List, ◌++◌, length, map, take, None, refl, sym, ap, subst, arith, length-map, length-append, length-take-le, eq-eqb, Service, Timer, Established, T200, Link, given, End, Ends, with_link, Config, LineTold, next, gave, runs, is_running, IsCutOff, all-recovered, nothing-to_send, awaits_answer, Station, Wire, times_out, acting, turned, answered, IsStill, link_of, data_told, heard_in, is_poll, runs_t200, rounds, with_t200_expired, both_expire, BothMayRepeat, StayPatient, expired, timer_T200, two_links_rounds, TwoLinksHasArrived, HasItsTimer}
+use Rattle.laws_wire.proofs.Vocabulary.{◌≡◌, ℕ, ◌+◌, ◌≤◌, false, List, ◌++◌, length, map, take, None, refl, sym, ap, subst, arith, length-map, length-append, length-take-le, eq-eqb, Service, Timer, Established, T200, Link, given, End, Ends, with_link, Config, LineTold, next, gave, runs, is_running, IsCutOff, all-recovered, nothing-to_send, awaits_answer, Station, Wire, times_out, acting, turned, answered, IsStill, link_of, data_told, heard_in, is_poll, runs_t200, rounds, with_t200_expired, both_expire, BothMayRepeat, StayPatient, expired, timer_T200, two_links_rounds, TwoLinksHasArrived, HasItsTimer, HasNo, TimerRecovery, enquiry_with, expires-one, is_final, rising-low, ◌<◌, []}
 use Rattle.laws_link.specs.two.CutOff as cut_off
 use Rattle.laws_link.proofs.OfTwo.Arriving.{AreFree}
 use Rattle.laws_link.proofs.OfTwo.Recovery.{free-recovered}
+use Rattle.laws_link.proofs.OfTwo.TimelyRuns.{flows-low}
 use Rattle.laws_wire.specs.Facing.{line_of}
 use Rattle.laws_wire.proofs.Awaited.{NoneOpen, closed, may-there, open-here, link-is, runs-up}
 use Rattle.laws_wire.proofs.Held.{Held}
-use Rattle.laws_wire.proofs.Loose.{loose-turned}
+use Rattle.laws_wire.proofs.Loose.{Loose, loose-turned}
 use Rattle.laws_wire.proofs.LooseUp.{LooseAt, at-turned, at-expires, at-gives, at-takes}
 use Rattle.laws_wire.proofs.RoundsKeep.{rounds-keep}
 use Rattle.laws_wire.proofs.Standing.{StationStands, gives-none}
 use Rattle.laws_wire.proofs.Talking.{Face}
-use Rattle.laws_wire.proofs.TimelyArrives.{cut-off, no-answer}
 use Rattle.laws_wire.proofs.TimelyUp.{IsHushed, hushed, none-waits, none-of, none-open, timed-8}
 
--- what is missing at layer 3 is missing at the link
-fewer : (told granted delivered r all u : ℕ) → all ≡ told + granted → delivered ≡ r → all ≤ told + delivered + u → granted ≤ r + u
-fewer told granted delivered r all u e f less = omega (arith, e, f, less)
+-- all frames on the way were lost
+cut-off : (n m : End) → Loose n m → n.link.own_busy ≡ false → n.link.waiting ≡ [] → n.way ≡ [] → (n.link.state ≡ TimerRecovery → n.link.repeats < n.terms.n200) → IsCutOff n m
+cut-off n m h free waiting way repeats = grind (arith, rising-low, line_of, flows-low)
+
+-- once it expires nothing waits but an enquiry
+no-answer : (n m : End) → IsCutOff n m → HasNo is_final (with_link (expired T200) n)
+no-answer n m h = grind (arith, expires-one, enquiry_with)
 
 -- a link that has had all acknowledged, and takes the other for free, does not run T200
 stops : (l : Link) → HasItsTimer l → l.state ≡ Established → l.s ≡ l.a → l.peer_busy ≡ false → is_running T200 l ≡ false
 stops l h state all free = grind (arith, eq-eqb)
+
+pub nothing-said : (service : Service) (tei : ℕ) (k : Config) (place : ℕ) (its : List LineTold) (s : Station) (n : End) → Held k service tei place its s n → given n.terms n.link ≡ None
+    → answered next s ≡ gave None
+nothing-said service tei k place its s n h none = gives-none service tei place s n (subst (λ k. StationStands k service tei place s n) (sym h.stands.config) h.stands) none
 
 module _ (service : Service) (tei : ℕ) (c d : Config) (p q : ℕ) (face : Face c d) (back : Face d c) (past other : List LineTold) where
   abbrev At : Wire → End → End → Type 0
@@ -36,11 +44,7 @@ module _ (service : Service) (tei : ℕ) (c d : Config) (p q : ℕ) (face : Face
 
   missing : (told : List LineTold) (r u : ℕ) (granted delivered : List (List ℕ)) (heard : List LineTold) → r ≤ length granted → delivered ≡ take r granted
       → heard ≡ told ++ map (data_told service tei) delivered → length (told ++ map (data_told service tei) granted) ≤ length heard + u → length granted ≤ r + u
-  missing told r u granted delivered heard low is here h = grind (arith, fewer, length-append, length-map, length-take-le)
-
-  nothing-said : (k : Config) (place : ℕ) (its : List LineTold) (s : Station) (n : End) → Held k service tei place its s n → given n.terms n.link ≡ None
-      → answered next s ≡ gave None
-  nothing-said k place its s n h none = gives-none service tei place s n (subst (λ k. StationStands k service tei place s n) (sym h.stands.config) h.stands) none
+  missing told r u granted delivered heard low is here h = grind (arith, length-append, length-map, length-take-le)
 
   module _ (w : Wire) (n m : End) (h : At w n m) (still : IsStill w) (may : BothMayRepeat service tei w) (near_free : n.link.own_busy ≡ false) (far_free : m.link.own_busy ≡ false) where
     abbrev timer : Timer

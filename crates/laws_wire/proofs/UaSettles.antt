@@ -199,21 +199,14 @@ module _ (service : Service) (c d : Config) (line other tei : ℕ) (ds : List Do
     abbrev Both : Wire → Type 0
     Both w = BothKnown service tei none_busy w
 
-    less : (a b : ℕ) → (2 * a ≤ 2 * a + 2 * b) × (2 * b ≤ 2 * a + 2 * b)
-    less a b = (omega arith, omega arith)
-
     near-first : Known service tei false begun.near
-    near-first =
-        let is = link-is service tei c 0 begun.near (end (terms c service tei) asked []) s.near_held.stands in
-        record { timed = subst HasItsTimer (sym is) (record { running = refl; calm = refl }); free = λ off. ap (λ l. l.own_busy) is }
+    near-first = grind (arith, link-is, asked)
 
     far-first : Known service tei false begun.far
-    far-first =
-        let is = link-is service tei d 0 begun.far (end (terms d service tei) fresh []) s.far_held.stands in
-        record { timed = subst HasItsTimer (sym is) timely-fresh; free = λ off. ap (λ l. l.own_busy) is }
+    far-first = grind (arith, link-is, timely-fresh)
 
     abbrev narrow : (2 * (terms c service tei).k ≤ wide) × (2 * (terms d service tei).k ≤ wide)
-    narrow = less (terms c service tei).k (terms d service tei).k
+    narrow = (omega arith, omega arith)
 
     known : Both w
     known =
@@ -223,14 +216,11 @@ module _ (service : Service) (c d : Config) (line other tei : ℕ) (ds : List Do
     abbrev expires : List Doing
     expires = both_expire service tei
 
-    full : All (IsFullTalk service tei) expires
-    full = grind arith
-
     timed : StayPatient expires w → (u : ℕ) → HasItsTimer (link_of service tei (line_of (rounds (u + 3) (with_t200_expired service tei w)).near)) × HasItsTimer (link_of service tei (line_of (rounds (u + 3) (with_t200_expired service tei w)).far))
     unfolding doing_all
     timed goes-on u =
         let es = expires ++ many (u + 3) in
-        let k = runs-known service tei c d 0 0 s.face s.back s.near s.far wide narrow.0 narrow.1 es (All-append (IsFullTalk service tei) expires (many (u + 3)) full (many-full service tei (u + 3))) w
+        let k = runs-known service tei c d 0 0 s.face s.back s.near s.far wide narrow.0 narrow.1 es (All-append (IsFullTalk service tei) expires (many (u + 3)) (grind arith) (many-full service tei (u + 3))) w
         (both-patient expires (many (u + 3)) w goes-on (many-patient (u + 3) (doing_all expires w))) x on none_busy known in
         let same : doing_all es w ≡ rounds (u + 3) (with_t200_expired service tei w) = doing-append expires (many (u + 3)) w ∙ many-rounds (u + 3) (with_t200_expired service tei w) in
         subst (λ y. HasItsTimer (link_of service tei (line_of y.near)) × HasItsTimer (link_of service tei (line_of y.far))) same (k.0.timed, k.1.timed)

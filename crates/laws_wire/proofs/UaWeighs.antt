@@ -148,15 +148,12 @@ module _ (service : Service) (tei : ℕ) (c d : Config) (p q : ℕ) (face : Face
       low : m.link.r ≤ length n.link.contents
       low = h.joined.there.accepted
 
-      wide-here : 2 * n.terms.k ≤ v
-      wide-here = subst (λ t. 2 * t.k ≤ v) (sym near.stands.terms) wide
-
       go : (way : List Parts) → m.way ≡ way → P (moved_by takes w) 0 0 w (acting takes w)
       go [] e =
           from-then service tei a b p q past_n past_m face v w n m near far low (acting takes w) (moved_by takes w) 0
           (takes-nothing service tei a b p q past_n past_m face v w n m near far low e)
       go (f ∷ fs) e =
-          let well = loose-well n m h wide-here f fs e in
+          let well = loose-well n m h (subst (λ t. 2 * t.k ≤ v) (sym near.stands.terms) wide) f fs e in
           from-then service tei a b p q past_n past_m face v w n m near far low (acting takes w) (moved_by takes w) 0
           (takes-well service tei a b p q past_n past_m face v w n m near far low f fs e well.0 well.1)
 
@@ -179,11 +176,8 @@ module _ (service : Service) (tei : ℕ) (c d : Config) (p q : ℕ) (face : Face
 
   -- ---- the far end takes
 
-  abbrev done : Act → Wire → Wire
-  done act w = turned (acting act (turned w))
-
   abbrev FarTakes : Wire → Type 0
-  FarTakes w = P (moved_by takes (turned w)) 0 0 w (done takes w)
+  FarTakes w = P (moved_by takes (turned w)) 0 0 w (turned (acting takes (turned w)))
 
   far-takes-nothing : (k : ℕ) (ws : List ControlFrame) (w : Wire) → Rung k ws [] w.near → FarEnd w.far → FarTakes w
   far-takes-nothing k ws w near f =
@@ -225,14 +219,11 @@ module _ (service : Service) (tei : ℕ) (c d : Config) (p q : ℕ) (face : Face
     abbrev m' : End
     m' = with_link (link.received (link.frame (sabme t))) M
 
-    abbrev room : Bool
-    room = has_room M.terms l
-
     stands : StationStands d service tei q reached m'
     stands = taken-stands service tei q past d w.far M h.held c back (sabme t) (first-way service tei c p [] w.near n (sabme t) [] refl near).1
 
     abbrev kept : Bool → Link
-    kept o = again room (cond o [] l.contents) l
+    kept o = again (has_room M.terms l) (cond o [] l.contents) l
 
     becomes : m'.link ≡ kept (has_outstanding l)
     becomes = (renews M.terms t l h.up h.a).link

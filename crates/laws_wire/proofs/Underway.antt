@@ -1,5 +1,5 @@
 -- Two stations that are up, nothing is lost, and T200 expires at either: what is then sure to arrive, and that it has, where no turn is left.
-use Rattle.laws_wire.proofs.Vocabulary.{◌≡◌, ℕ, ◌≤◌, Bool, true, false, ◌&&◌, ◌||◌, IsTrue, List, [], ◌∷◌, ◌++◌, map, drop, refl, sym, ap, subst, ◌∙◌, ◌⊎◌, inl, inr, true≢false, arith, All, take_all, All-head, All-tail, Service, Timer, Parts, TimerRecovery, LinkTimer, T203, is_multiple_frame, End, with_link, with_sent, frames_of, Config, LineTold, request, awaits_answer, CanRepeat, HasNothingToSend, line, one_enquiry, one_answer, nothing-given, T200, line_of, Data, Station, Wire, happens, Act, requests, times_out, gives, takes, loses, acting, turned, Doing, at_near, at_far, doing, doing_all, IsStill, confirmed, indicated, data_told, heard_in, IsRoughTalkOf, IsRoughTalk, IsTimelyOf, IsTimely, StayTimely, LosesNothing, runs_t200, is_t200, near_asks, far_asks, ever, lt-ltb, ltb-false, nat_lt, offer-goes, expired, timer_T200, timer_T203, two_ends_with_first_of, two_ends_with_first_lost}
+use Rattle.laws_wire.proofs.Vocabulary.{◌≡◌, ℕ, ◌≤◌, true, false, ◌&&◌, IsTrue, List, [], ◌∷◌, ◌++◌, map, drop, refl, sym, ap, subst, ◌∙◌, ◌⊎◌, inl, inr, true≢false, arith, All, take_all, All-head, All-tail, Service, Timer, Parts, TimerRecovery, LinkTimer, T203, is_multiple_frame, End, with_link, with_sent, frames_of, Config, LineTold, request, awaits_answer, CanRepeat, HasNothingToSend, line, one_enquiry, one_answer, nothing-given, T200, line_of, Data, Station, Wire, happens, Act, requests, times_out, gives, takes, loses, acting, turned, Doing, at_near, at_far, doing, doing_all, IsStill, confirmed, indicated, data_told, heard_in, IsRoughTalkOf, IsRoughTalk, IsTimelyOf, IsTimely, StayTimely, LosesNothing, runs_t200, is_t200, near_asks, far_asks, ever, lt-ltb, ltb-false, nat_lt, offer-goes, expired, timer_T200, timer_T203, two_ends_with_first_of, two_ends_with_first_lost}
 use Rattle.laws_link.specs.two.Timely as two_links
 use Rattle.laws_wire.proofs.Asking.{with_more, asked-form}
 use Rattle.laws_wire.proofs.Awaited.{closed, may-there, long-there, runs-up}
@@ -18,14 +18,8 @@ use Rattle.laws_wire.proofs.Replying.{offer-says}
 -- ---- where no turn is left
 
 module _ (n m : End) (h : Firm n m) (quiet : HasNothingToSend n.terms n.link) (way : n.way ≡ []) where
-  abbrev HasAll : Type 0
-  HasAll = m.delivered ≡ n.link.contents
-
-  no-kinds : (n : End) → n.link.waiting ≡ [] → n.way ≡ [] → kinds n ≡ []
-  no-kinds n waiting way = (λ i. line n.terms (way i) (waiting i))
-
-  pub sure-came : HasNothingToSend m.terms m.link → m.way ≡ [] → Sure n m → HasAll
-  sure-came other away o = grind (arith, one_enquiry, kinds, no-kinds, one_answer, line_of, frames_of, take_all, nat_lt, lt-ltb, ltb-false, as-loose)
+  pub sure-came : HasNothingToSend m.terms m.link → m.way ≡ [] → Sure n m → (m.delivered ≡ n.link.contents)
+  sure-came other away o = grind (arith, one_enquiry, kinds, line, one_answer, line_of, frames_of, take_all, nat_lt, lt-ltb, ltb-false, as-loose)
 
 -- ---- while turns come
 
@@ -164,11 +158,6 @@ module _ (service : Service) (tei : ℕ) where
         no (inl a) = a
         no (inr e) = absurd (true≢false (sym e))
 
-    first-or : (A : Type 0) (a b : Bool) → A ⊎ ((a || b) ≡ true) → (A ⊎ (a ≡ true)) ⊎ (b ≡ true)
-    first-or A a b (inl x) = inl (inl x)
-    first-or A true b (inr e) = inl (inr refl)
-    first-or A false b (inr e) = inr e
-
     pub sure-runs : (A B : Type 0) (ds : List Doing) (w : Wire) → All (IsRoughTalk service tei) ds → All LosesNothing ds → StayTimely ds w → Up A B w
         → Up (A ⊎ (ever (near_asks service tei) ds w ≡ true)) (B ⊎ (ever (far_asks service tei) ds w ≡ true)) (doing_all ds w)
     unfolding doing_all StayTimely ever
@@ -179,7 +168,7 @@ module _ (service : Service) (tei : ℕ) where
         let w' = doing k w in
         let now = step A B k w (All-head (IsRoughTalk service tei) k ds all) (All-head LosesNothing k ds kept) x.0 h in
         sure-by c d p q (confirmed service tei ∷ []) (indicated service tei ∷ []) _ _ _ _ (doing_all ds w')
-        (first-or A asks (ever (near_asks service tei) ds w')) (first-or B asks' (ever (far_asks service tei) ds w'))
+        (λ x. grind arith) (λ x. grind arith)
         (sure-runs (A ⊎ (asks ≡ true)) (B ⊎ (asks' ≡ true)) ds w' (All-tail (IsRoughTalk service tei) k ds all) (All-tail LosesNothing k ds kept) x.1 now)
 
   -- what has come at the link is told
@@ -193,10 +182,5 @@ module _ (service : Service) (tei : ℕ) where
     abbrev HasHeard : Type 0
     HasHeard = heard_in w.far ≡ other ++ map (data_told service tei) w.near.granted
 
-    told-all : m.delivered ≡ n.link.contents → HasHeard
-    told-all e = h.far.heard ∙ ap (λ xs. other ++ map (data_told service tei) xs) (e ∙ sym h.near.granted)
-
     pub has-come : Sure n m ⊎ (runs_t200 service tei w.near ≡ false) → HasHeard
-    has-come (inl s) = told-all (sure-came n m h.firm (nothing-given n.terms n.link near-hushed.given) near-hushed.way (nothing-given m.terms m.link far-hushed.given) far-hushed.way s)
-    has-come (inr none) =
-        told-all (loose-came n m (as-loose n m h.firm) (nothing-given n.terms n.link near-hushed.given) (sym (runs-up service tei c p w.near n h.near.stands h.firm.joined.near_up) ∙ none)).delivered
+    has-come o = grind (arith, data_told, sure-came, n, m, nothing-given, near-hushed, far-hushed, loose-came, as-loose, runs-up)

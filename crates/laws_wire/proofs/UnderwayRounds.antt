@@ -1,5 +1,5 @@
 -- Turns, in any order or in rounds, lead to where all has arrived whose T200 has expired.
-use Rattle.laws_wire.proofs.Vocabulary.{◌≡◌, ℕ, zero, suc, ◌+◌, ◌*◌, ◌<◌, ◌≤◌, Bool, true, false, ◌||◌, List, [], ◌∷◌, ◌++◌, refl, sym, ap, subst, ◌∙◌, ◌⊎◌, inl, inr, arith, nat_lt, ltb-true, ltb-false, true≢false, flat_map, All, All-nil, All-cons, All-append, Service, Config, LineTold, terms, flat_map-append, Station, Wire, gives, takes, Doing, at_near, at_far, acting, turned, doing, doing_all, IsStill, calling, CanCall, granted_of, for_layer_3, heard_in, IsRoughTalk, rounds, HasNoErrors, moves, expiries, most_frames, StayTimely, LosesNothing, near_asks, far_asks, ever, HasCome, GoesOn, GivesOrTakes, most_left, ArrivesInRounds, ArrivesInTurns, append-nil}
+use Rattle.laws_wire.proofs.Vocabulary.{◌≡◌, ℕ, zero, suc, ◌+◌, ◌*◌, ◌<◌, ◌≤◌, Bool, true, false, ◌||◌, List, [], ◌∷◌, ◌++◌, refl, sym, ap, subst, ◌∙◌, inl, inr, arith, nat_lt, ltb-true, ltb-false, true≢false, flat_map, All, All-nil, All-cons, All-append, Service, Config, LineTold, terms, flat_map-append, Station, Wire, gives, takes, Doing, at_near, at_far, acting, turned, doing, doing_all, IsStill, calling, CanCall, granted_of, for_layer_3, heard_in, IsRoughTalk, rounds, HasNoErrors, moves, expiries, most_frames, StayTimely, LosesNothing, ever, HasCome, GoesOn, GivesOrTakes, most_left, ArrivesInRounds, ArrivesInTurns, append-nil}
 use Rattle.laws_wire.proofs.LeftToDo.{weighs-left}
 use Rattle.laws_wire.proofs.LossyPhases.{IsUp, Goes as Phases}
 use Rattle.laws_wire.proofs.LossyRun.{More, near-more, Setting, setting, fair-goes}
@@ -32,13 +32,7 @@ ever-append asks [] es w e = absurd (true≢false (sym e))
 ever-append asks (d ∷ ds) es w e = or-first (asks d w) (ever asks ds (doing d w)) (ever asks (ds ++ es) (doing d w)) (ever-append asks ds es (doing d w)) e
 
 come-sooner : (service : Service) (tei : ℕ) (since es : List Doing) (w last : Wire) → HasCome service tei (since ++ es) w last → HasCome service tei since w last
-come-sooner service tei since es w last h = record { near = λ x. h.near (near x); far = λ x. h.far (far x) }
-  where
-    near : {A : Type 0} → (ever (near_asks service tei) since w ≡ true) ⊎ A → (ever (near_asks service tei) (since ++ es) w ≡ true) ⊎ A
-    near o = grind (arith, ever-append)
-
-    far : {A : Type 0} → (ever (far_asks service tei) since w ≡ true) ⊎ A → (ever (far_asks service tei) (since ++ es) w ≡ true) ⊎ A
-    far o = grind (arith, ever-append)
+come-sooner service tei since es w last h = grind (arith, ever-append)
 
 -- ---- what was told stays told
 

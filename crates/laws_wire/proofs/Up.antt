@@ -19,11 +19,7 @@ turn_of frames = if is_any frames then 1 else 0
 
 -- an end with nothing to give stays
 pub stays : (n : End) → given n.terms n.link ≡ None → with_sent n ≡ n
-stays n e =
-    λ i. record n {
-      link = silent-stays n.terms n.link (nothing-given n.terms n.link e) i;
-      way = (ap (λ o. n.way ++ frame_given n.terms o) e ∙ append-nil n.way) i;
-    }
+stays n e = grind (arith, silent-stays, nothing-given, append-nil)
 
 some-given : (t : Terms) (l : Link) (g : Given) → given t l ≡ Some g → HasNothingToSend t l → ⊥
 some-given t l g is none = let wrong : None ≡ Some g = sym (nothing-to_send t l none) ∙ is in absurd (cc)
@@ -40,11 +36,7 @@ end-gives f n m h = go (given n.terms n.link) refl
     go None is = grind (arith, stays)
     go (Some g) is =
         let x = any_order.gives n m h.near h.there h.back (some-given n.terms n.link g is) in
-        record {
-          pair = record { near = x.steady; far = h.far; there = x.there; back = x.back };
-          price = (omega (arith, (ap (λ o. turn_of (map f (frame_given n.terms o))) is), x.lighter));
-          kept = x.kept;
-        }
+        grind arith
 
 abbrev pub granted_of : Wire → ℕ
 granted_of w = length w.near.granted + length w.far.granted
@@ -96,12 +88,6 @@ module _ (service : Service) (tei : ℕ) where
       none-lost : (m' : End) → m'.way ≡ [] → two_ends_with_first_lost m' ≡ m'
       none-lost m' e = λ i. record m' { way = (ap (drop 1) e ∙ sym e) i }
 
-      takes-none : m.way ≡ [] → Acted w (acting takes w) n m (turn_of w.far.way)
-      takes-none e =
-          let empty : w.far.way ≡ [] = h.far.stands.way ∙ ap (map (spelling d.side)) e in
-          let same : with_first_of w.far.way w.near ≡ w.near = ap (λ way. with_first_of way w.near) empty in
-          grind (arith, none-lost, holds-lost)
-
       takes-some : (f : Parts) (fs : List Parts) → m.way ≡ f ∷ fs → Acted w (acting takes w) n m (turn_of w.far.way)
       takes-some f fs e =
           let way : w.far.way ≡ spelling d.side f ∷ map (spelling d.side) fs = h.far.stands.way ∙ ap (map (spelling d.side)) e in
@@ -131,7 +117,7 @@ module _ (service : Service) (tei : ℕ) where
       acts-takes = go m.way refl
         where
           go : (way : List Parts) → m.way ≡ way → Acted w (acting takes w) n m (turn_of w.far.way)
-          go [] e = takes-none e
+          go [] e = grind (arith, none-lost, holds-lost)
           go (f ∷ fs) e = takes-some f fs e
 
       acts-asks : (octets : List ℕ) → Acted w (acting (requests (Data service tei octets)) w) n m 0
@@ -146,13 +132,7 @@ module _ (service : Service) (tei : ℕ) where
               let own : n.terms.n201 ≡ m.terms.n201 = ap (λ t. t.n201) h.near.stands.terms ∙ face.n201 ∙ ap (λ t. t.n201) (sym h.far.stands.terms) in
               let small : length octets ≤ m.terms.n201 = subst (λ k. length octets ≤ k) own (fits service tei p first n.terms n.link octets x.none) in
               let y = more-pair octets n m h.pair small x.none in
-              record {
-                n' = with_more octets n;
-                m' = m;
-                talk = record { near = x.holds; far = h.far; pair = y.pair };
-                price =
-                    (omega (arith, y.heavier, (ap length x.granted ∙ one-longer w.near.granted octets)));
-              }
+              grind (arith, with_more, one-longer)
 
       acts-request : (r : Request) → IsTalkOf service tei (requests r) → Acted w (acting (requests r) w) n m 0
       acts-request (Data s t octets) is = grind (arith, acts-asks)
@@ -181,9 +161,6 @@ module _ (service : Service) (tei : ℕ) where
             (length w'.far.granted) (length w'.near.granted) x.price;
       }
 
-  joined : (b k w w1 w2 g g1 g2 : ℕ) → b + w1 + 4 * g ≤ w + 4 * g1 → k + w2 + 4 * g1 ≤ w1 + 4 * g2 → (b + k) + w2 + 4 * g ≤ w + 4 * g2
-  joined b k w w1 w2 g g1 g2 h i = omega (arith, h, i)
-
   -- and a whole run
   pub talks : (c d : Config) (p q : ℕ) (face : Face c d) (back : Face d c) (first second : Past) (ds : List Doing) → All (IsTalk service tei) ds → (w : Wire) (n m : End)
       → Talk c d p q first second w n m → Acted c d p q face back first second w (doing_all ds w) n m (turns ds w)
@@ -192,4 +169,4 @@ module _ (service : Service) (tei : ℕ) where
   talks c d p q face back first second (k ∷ ds) all w n m h =
       let one = does c d p q face back first second k (All-head (IsTalk service tei) k ds all) w n m h in
       let rest = talks c d p q face back first second ds (All-tail (IsTalk service tei) k ds all) (doing k w) one.n' one.m' one.talk in
-      grind (arith, joined)
+      grind arith

@@ -11,13 +11,12 @@ pub use Rattle.std.specs.Prelude.{All, option_to_list, unwrap_or}
 pub use Rattle.lapd_frame.proofs.Spelling.{reading-again}
 pub use Rattle.lapd_frame.specs.Grammar.{IsFrame, Parts, other_side, spelling}
 unfoldable pub use Rattle.lapd_frame.specs.Reading.{control_of, header_of, reading, supervisory_of, unnumbered_of}
-pub use Rattle.lapd_frame.specs.Services.{sapi_of, service_of}
+pub use Rattle.lapd_frame.specs.Services.{sapi_of}
 pub use Rattle.lapd_frame.specs.declared.addresses.Side.{Side}
-pub use Rattle.lapd_frame.specs.declared.addresses.Side.TheVariants.{Network, User}
 pub use Rattle.lapd_frame.specs.declared.controls.Control.{Control}
-pub use Rattle.lapd_frame.specs.declared.controls.Control.TheVariants.{Disc, Dm, Frmr, Information, ReceiveNotReady, ReceiveReady, Reject, Sabme, Ua, Ui, Xid}
+pub use Rattle.lapd_frame.specs.declared.controls.Control.TheVariants.{Disc, Dm, Information, ReceiveNotReady, ReceiveReady, Reject, Sabme, Ua}
 pub use Rattle.lapd_frame.specs.declared.notes.ErrorCode.{ErrorCode}
-pub use Rattle.lapd_frame.specs.declared.notes.ErrorCode.TheVariants.{F, G as code_G, H as code_H, I as code_I, J as code_J, O as code_O}
+pub use Rattle.lapd_frame.specs.declared.notes.ErrorCode.TheVariants.{F, G as code_G, H as code_H, J as code_J, O as code_O}
 pub use Rattle.lapd_frame.specs.declared.notes.Note.{Note}
 pub use Rattle.lapd_frame.specs.declared.notes.Note.TheVariants.{Data as NoteData, Error as NoteError}
 pub use Rattle.lapd_frame.specs.declared.refusals.Refusal.{Refusal}
@@ -31,7 +30,7 @@ unfoldable pub use Rattle.lapd_seq.specs.Circle.{distance_of, named}
 unfoldable pub use Rattle.lapd_seq.specs.Numbers.{seq}
 pub use Rattle.lapd_seq.specs.declared.numbers.Seq.{Seq}
 pub use Rattle.lapd_tei.proofs.SoundWords.{table-empty}
-pub use Rattle.lapd_tei.proofs.Tables.{is_on-at, not_not, place_of-is, table-put}
+pub use Rattle.lapd_tei.proofs.Tables.{is_on-at, place_of-is, table-put}
 unfoldable pub use Rattle.lapd_tei.specs.Events.{course as tei_course, refusal as tei_refusal}
 pub use Rattle.lapd_tei.specs.Events.{assign as tei_assign, unless_refused as tei_unless_refused}
 pub use Rattle.lapd_tei.specs.Machine.{empty}
@@ -41,7 +40,6 @@ pub use Rattle.lapd_tei.specs.Table.{Places, free_place, is_on}
 pub use Rattle.lapd_tei.specs.Words.{join}
 pub use Rattle.laws_line.proofs.Asked.{link-grants}
 pub use Rattle.laws_line.proofs.Managing.{by-two}
-pub use Rattle.laws_line.proofs.Obeyed.{service-same}
 pub use Rattle.laws_line.proofs.OfCard.Spelling.{IsNotShort, not-short}
 pub use Rattle.laws_line.proofs.OfCard.Wherever.{all-right}
 pub use Rattle.laws_line.proofs.Places.{has-place}
@@ -50,48 +48,43 @@ pub use Rattle.laws_line.proofs.Silence.{sends-none}
 pub use Rattle.laws_line.specs.Served.{IsSilent}
 pub use Rattle.laws_line.specs.Share.{is_granted}
 pub use Rattle.laws_link.proofs.Follows.{event-follows}
-pub use Rattle.laws_link.proofs.OfTwo.AnyOrder.{Direction, Informs, Lane, Notes, Steady, is-steady, lane-low, lane-order, takes-first}
+pub use Rattle.laws_link.proofs.OfTwo.AnyOrder.{Direction, Informs, Lane, Steady, is-steady, lane-low, lane-order, takes-first}
 pub use Rattle.laws_link.proofs.OfTwo.AnyOrderRuns.{Pair, all-there, all-turns}
 pub use Rattle.laws_link.proofs.OfTwo.Arriving.{all-arrived}
-pub use Rattle.laws_link.proofs.OfTwo.BusyMoves.{acked, noted}
-pub use Rattle.laws_link.proofs.OfTwo.Effects.{Heard, Takes, c-7, c-8, is_recovering}
-pub use Rattle.laws_link.proofs.OfTwo.Expiring.{Asking, Resting, expires-one}
-pub use Rattle.laws_link.proofs.OfTwo.Flow.{Flow, flow-low, most}
+pub use Rattle.laws_link.proofs.OfTwo.Effects.{Heard, c-7, c-8, is_recovering}
+pub use Rattle.laws_link.proofs.OfTwo.Expiring.{expires-one}
+pub use Rattle.laws_link.proofs.OfTwo.Flow.{Flow, most}
 pub use Rattle.laws_link.proofs.OfTwo.Flowing.{answer-says, no-answer}
-pub use Rattle.laws_link.proofs.OfTwo.Going.{Gives, offer-goes}
+pub use Rattle.laws_link.proofs.OfTwo.Going.{offer-goes}
 pub use Rattle.laws_link.proofs.OfTwo.Halves.{fits-at, named-number}
 pub use Rattle.laws_link.proofs.OfTwo.HeardRows.{heard}
 pub use Rattle.laws_link.proofs.OfTwo.Meeting.{Longer, NoAlien, is-no-alien, line, line-longer}
 pub use Rattle.laws_link.proofs.OfTwo.Needing.{timely-after, timely-fresh}
-pub use Rattle.laws_link.proofs.OfTwo.Plain.{information_frame, plain}
 pub use Rattle.laws_link.proofs.OfTwo.Reached.{Sane, sane-doing}
 pub use Rattle.laws_link.proofs.OfTwo.Recovery.{all-recovered}
 pub use Rattle.laws_link.proofs.OfTwo.Shapes.{enquiry_with}
 pub use Rattle.laws_link.proofs.OfTwo.Staying.{offer-stays, request-stays, timer-stays}
 pub use Rattle.laws_link.proofs.OfTwo.StayingUp.{Flows, acted-flows}
 pub use Rattle.laws_link.proofs.OfTwo.Together.{done-up, same-after}
-pub use Rattle.laws_link.proofs.OfTwo.Trains.{Beyond, Calm, Every, Kind, alien, answer, enquiry, kind_of, kind_of_ready, kind_of_reject, kinds-append, kinds_of, numbered, one_answer, one_enquiry, one_rejection, rejection, report, tally, tally-push}
+pub use Rattle.laws_link.proofs.OfTwo.Trains.{Beyond, Calm, Every, Kind, alien, answer, enquiry, kind_of, kinds-append, kinds_of, numbered, one_answer, one_enquiry, one_rejection, rejection, report, tally, tally-push}
 pub use Rattle.laws_link.proofs.OfTwo.Waiting.{nothing-given, nothing-to_send, silent-stays}
-pub use Rattle.laws_link.specs.Flags.{awaits_answer, busy_asked, busy_by, busy_heard, flag_left, repeats_left, takes_contents}
+pub use Rattle.laws_link.specs.Flags.{awaits_answer, busy_asked, busy_by, busy_heard}
 pub use Rattle.laws_link.specs.States.{as_heard, is_clearing, is_overlong, state_after}
-pub use Rattle.laws_link.specs.Telling.{final_as, numbered_as, told_by_frame, told_expired, told_up}
+pub use Rattle.laws_link.specs.Telling.{told_expired}
 pub use Rattle.laws_link.specs.Timed.{IsTimed, IsTimedIn}
-pub use Rattle.laws_link.specs.Waiting.{answers_to, as_response, command_in, is_time, receipt_as, room, waiting_left}
-pub use Rattle.laws_link.specs.two.Ahead.{CanRepeat, IsMildAct, IsMildRequest}
-pub use Rattle.laws_link.specs.two.AnyOrder.{load, weight_at}
+pub use Rattle.laws_link.specs.Waiting.{answers_to, as_response, command_in, is_time, room, waiting_left}
+pub use Rattle.laws_link.specs.two.Ahead.{CanRepeat, IsMildRequest}
+pub use Rattle.laws_link.specs.two.AnyOrder.{weight_at}
 unfoldable pub use Rattle.laws_link.specs.two.AnyOrder.{AreTurns}
 pub use Rattle.laws_link.specs.two.CutOff.{IsCutOff}
-pub use Rattle.laws_link.specs.two.Heeds.{HeedsIn}
 pub use Rattle.laws_link.specs.two.Needed.{HasItsTimer}
 pub use Rattle.laws_link.specs.two.Rounds.{IsReady, IsTaken, HasArrived as TwoLinksHasArrived, round as two_links_round}
 unfoldable pub use Rattle.laws_link.specs.two.Rounds.{rounds as two_links_rounds}
-pub use Rattle.laws_link.specs.two.Timely.{HasNo, IsTimelyAct, is_answer, is_enquiry, supervisory_bit}
+pub use Rattle.laws_link.specs.two.Timely.{HasNo, IsTimelyAct, is_enquiry}
 pub use Rattle.laws_link.specs.two.Waits.{HasNothingToSend}
-pub use Rattle.model_bits.specs.Stream.{dropped}
 pub use Rattle.model_card.proofs.CardSound.{after_is_sound, fresh_is_sound}
 pub use Rattle.model_card.proofs.Steps.{has_lines, line_sound}
 pub use Rattle.model_card.specs.Card.{Card, line_at}
-pub use Rattle.model_card.specs.Event.{at}
 pub use Rattle.model_card.specs.Machine.{wants_room}
 pub use Rattle.model_line.proofs.RoomForAll.{passed}
 pub use Rattle.model_line.proofs.LinksSound.{sound_in}
@@ -100,19 +93,19 @@ pub use Rattle.model_line.proofs.Offered.{fresh_gives_nothing, given_short}
 pub use Rattle.model_line.proofs.Ranges.{ranges_of, terms_in_range}
 pub use Rattle.model_line.proofs.TakenSound.{round_below}
 pub use Rattle.model_line.specs.Came.{came}
-pub use Rattle.model_line.specs.Effect.{Aim, Effect, at_link, at_management, of_aim, of_change, told_of_link, told_of_management, unserved_cause}
-pub use Rattle.model_line.specs.Event.{Answer, Event, LineTold, NextFrame, expiry, gave, hears, next, nothing, refused, request, told}
+pub use Rattle.model_line.specs.Effect.{Aim, Effect, at_link, of_aim, of_change, told_of_link, told_of_management, unserved_cause}
+pub use Rattle.model_line.specs.Event.{Answer, Event, LineTold, expiry, gave, hears, next, nothing, refused, request, told}
 pub use Rattle.model_line.specs.Expiry.{aim_of_expiry, at_timer}
-pub use Rattle.model_line.specs.Heard.{addressed, aim_of_heard, aim_of_reading, at_place, drop_for, group_tei, heard_side, management_sapi, message_of, to_service}
-pub use Rattle.model_line.specs.Line.{Line, fresh_line, has_tei, link_at, link_count, link_in, link_number, link_of, place_at, place_in, service_at, state_in, state_of, tei_at, terms, terms_at}
+pub use Rattle.model_line.specs.Heard.{addressed, aim_of_heard, aim_of_reading, heard_side, message_of}
+pub use Rattle.model_line.specs.Line.{Line, fresh_line, has_tei, link_at, link_count, link_in, link_number, link_of, place_in, service_at, state_in, state_of, tei_at, terms, terms_at}
 pub use Rattle.model_line.specs.Machine.{of_heard, of_request, unless_refused, unless_refused_told}
 unfoldable pub use Rattle.model_line.specs.Machine.{after as line_after, answer as line_answer, takes_slot as line_takes_slot}
 pub use Rattle.model_line.specs.Refusal.{bad_tei, first_that_holds, no_link, wrong_state}
-pub use Rattle.model_line.specs.Request.{Assign, Check, ClearBusy, Data, Deactivate, Establish, Release, Remove, Request, SetBusy}
+pub use Rattle.model_line.specs.Request.{Assign, ClearBusy, Data, Establish, Release, Request, SetBusy}
 pub use Rattle.model_line.specs.Requested.{aim_of_request, at_requested}
 pub use Rattle.model_line.specs.Sides.{at_side}
 pub use Rattle.model_line.specs.Sound.{IsSoundAt}
-pub use Rattle.model_line.specs.Taken.{Taken, first_taken, link_taken, next_of, taken, unit_taken, with_given_frame, with_message, with_unit}
+pub use Rattle.model_line.specs.Taken.{Taken, first_taken, link_taken, next_of, taken, with_given_frame}
 pub use Rattle.model_line.specs.declared.config.Config.{Config}
 pub use Rattle.model_link.proofs.Delivering.{event-delivers}
 pub use Rattle.model_link.proofs.Direction.{frames-append, frames_of, line_of, named-means, receiver-goes, receiver-loses, sender-goes, sender-loses, carried-reports, line-grows, rising-reports}
@@ -122,20 +115,19 @@ pub use Rattle.model_link.proofs.Giving.{given_is_frame}
 pub use Rattle.model_link.proofs.Hearing.{receiver-hears, sender-hears}
 pub use Rattle.model_link.proofs.Joined.{Joined, done-at, joined-first, joined-turned}
 pub use Rattle.model_link.proofs.Leads.{Leads, bit_leads, depending_leads, keeping_then, nothing_leads}
-pub use Rattle.model_link.proofs.Lines.{Carried, Means, Rising, carried-high, rising-low, rising-lower}
+pub use Rattle.model_link.proofs.Lines.{Means, Rising, carried-high, rising-low, rising-lower}
 pub use Rattle.model_link.proofs.Sending.{Gave, offer-gave}
 pub use Rattle.model_link.proofs.SoundEvents.{sound-after, sound-fresh}
 pub use Rattle.model_link.proofs.SoundRows.{named-within}
 pub use Rattle.model_link.proofs.Taking.{frame-taken, named-is_seq, none-delivered}
 pub use Rattle.model_link.specs.Events.{cleared, expired, frame, offer, received, requested, undefined, wrong_size, ClearBusy as LinkClearBusy, Data as LinkData, Establish as LinkEstablish, Event as LinkEvent, Release as LinkRelease, Request as LinkRequest, SetBusy as LinkSetBusy}
-pub use Rattle.model_link.specs.Link.{Link, frame_of, fresh, has_outstanding, is_multiple_frame, may_repeat, queue_of, state_number, unsent}
+pub use Rattle.model_link.specs.Link.{Link, frame_of, fresh, has_outstanding, is_multiple_frame, queue_of, state_number, unsent}
 pub use Rattle.model_link.specs.Machine.{after, course, frame_step, given, given_of, is_running, told as link_told}
-pub use Rattle.model_link.specs.Offers.{is_established}
 pub use Rattle.model_link.specs.Requests.{granted, is_down, refusal, serves}
-pub use Rattle.model_link.specs.Sound.{IsInRange, IsSettledIn, IsSound, IsWaitingFrame}
+pub use Rattle.model_link.specs.Sound.{IsInRange, IsSound, IsWaitingFrame}
 pub use Rattle.model_link.specs.Steps.{Course, Step, begun, by_bit, ◌then◌}
 pub use Rattle.model_link.specs.Told.{Given, runs}
-pub use Rattle.model_link.specs.TwoEnds.{Begins, End, Ends, IsUp, asks, expires, frame_given, receives, sends, with_link, with_sent, Act as TwoEndsAct, acting as two_ends_acting, at_near as two_ends_at_near, doing as two_ends_doing, with_first_lost as two_ends_with_first_lost, with_first_of as two_ends_with_first_of}
+pub use Rattle.model_link.specs.TwoEnds.{End, Ends, IsUp, asks, expires, frame_given, receives, sends, with_link, with_sent, Act as TwoEndsAct, acting as two_ends_acting, at_near as two_ends_at_near, doing as two_ends_doing, with_first_lost as two_ends_with_first_lost, with_first_of as two_ends_with_first_of}
 unfoldable pub use Rattle.model_link.specs.TwoEnds.{doing_all as two_ends_doing_all}
 pub use Rattle.model_link.specs.Words.{command, has_room, ready_to_receive, response}
 pub use Rattle.model_link.specs.declared.frames.ControlFrame.{ControlFrame}
@@ -144,13 +136,13 @@ pub use Rattle.model_link.specs.declared.states.State.TheVariants.{AwaitingEstab
 pub use Rattle.model_link.specs.declared.terms.Terms.{Terms}
 pub use Rattle.model_link.specs.declared.timers.LinkTimer.{LinkTimer}
 pub use Rattle.model_link.specs.declared.timers.LinkTimer.TheVariants.{T200, T203}
-pub use Rattle.laws_wire.specs.Answering.{IsAsked, IsFullTalk, IsFullTalkOf, Rests, error_f, Called, IsAtRest, IsPatient, LossyCallsComeThrough, ToldSo, all_kept, all_of_calls, gives_information, renewed, seeing, takes_sabme, told_of_sabme, uncalled, with_sabme}
+pub use Rattle.laws_wire.specs.Answering.{IsAsked, IsFullTalk, IsFullTalkOf, Rests, error_f, Called, IsAtRest, IsPatient, LossyCallsComeThrough, ToldSo, all_kept, gives_information, renewed, seeing, takes_sabme, told_of_sabme, uncalled, with_sabme}
 unfoldable pub use Rattle.laws_wire.specs.Answering.{StayPatient, seen}
 pub use Rattle.laws_wire.specs.Arriving.{ArrivesInRounds, ArrivesInTurns, ArrivesUnderTraffic, GivesOrTakes, GoesOn, HasCome, LosesNothing, far_asks, frames_left, is_any_order, is_t200, most_left, near_asks, notes_left, runs_t200}
 unfoldable pub use Rattle.laws_wire.specs.Arriving.{ever}
-pub use Rattle.laws_wire.specs.Call.{AreOpposite, CallsComeThrough, CanCall, ComesThrough, IsBeginningOf, IsCall, IsCallOf, IsTalk, IsTalkOf, IsTold, all_told, assigned, calling, calls_back, confirmed, data_told, indicated, station, told_first}
+pub use Rattle.laws_wire.specs.Call.{AreOpposite, CallsComeThrough, CanCall, ComesThrough, IsBeginningOf, IsCall, IsTalk, IsTalkOf, IsTold, all_told, assigned, calling, calls_back, confirmed, data_told, indicated, station, told_first}
 unfoldable pub use Rattle.laws_wire.specs.Call.{both_call}
-pub use Rattle.laws_wire.specs.Counted.{Counts, ExpiriesAreCounted, IsBelow, IsCounted, IsCountedOf, IsSparedIn, LossyExpiriesAreCounted, counted, counting, is_7, is_in_7, uncounted}
+pub use Rattle.laws_wire.specs.Counted.{Counts, ExpiriesAreCounted, IsBelow, IsCounted, IsCountedOf, LossyExpiriesAreCounted, counted, counting, is_7, is_in_7, uncounted}
 unfoldable pub use Rattle.laws_wire.specs.Counted.{StayCounted, StaySpared}
 pub use Rattle.laws_wire.specs.Ending.{CallsEnd, EndsSo, IsLeaving, IsTimelyThere, release_confirmed, release_indicated}
 unfoldable pub use Rattle.laws_wire.specs.Ending.{StayTimelyThere}
@@ -162,9 +154,9 @@ pub use Rattle.laws_wire.specs.Resting.{MovesComeToAnEnd, RoundsComeToRest, Time
 unfoldable pub use Rattle.laws_wire.specs.Resting.{expiries, moves}
 unfoldable pub use Rattle.laws_wire.specs.Settling.{busy, reports}
 pub use Rattle.laws_wire.specs.Settling.{Busy, HasLeft, HasTold, LossyCallsAreAnswered, LossyCallsComeToRest, LossyCallsSettle, LossyMovesComeToAnEnd, LossyRoundsComeToRest, Settles, busy_behind, most_moves, near_expires, none_busy, reports_in, reports_of}
-pub use Rattle.laws_wire.specs.StillTimely.{IsSparedStill, IsStillDoing, IsStillOf, WhatIsLostArrivesFromRest}
+pub use Rattle.laws_wire.specs.StillTimely.{IsStillDoing, IsStillOf, WhatIsLostArrivesFromRest}
 unfoldable pub use Rattle.laws_wire.specs.StillTimely.{StayStill}
-pub use Rattle.laws_wire.specs.Timely.{IsLongEnough, IsNoneOpen, IsSpared, IsTimely, IsTimelyOf, MayRepeat, NoneGoes, awaits_in, awaits_reply, bit_of, gives_one, is_final, is_poll, is_ua}
+pub use Rattle.laws_wire.specs.Timely.{IsLongEnough, IsNoneOpen, IsSpared, IsTimely, IsTimelyOf, MayRepeat, NoneGoes, awaits_in, awaits_reply, gives_one, is_final, is_poll, is_ua}
 unfoldable pub use Rattle.laws_wire.specs.Timely.{StayTimely, giving}
 pub use Rattle.laws_wire.specs.Wire.{Act, Doing, IsStill, Station, Wire, acting, answered, at_far, at_near, comes, contents_requested, doing, frames_by, gives, happens, is_any, is_turn, is_turn_of, loses, requests, takes, tells_nothing, times_out, told_by, turned, with_first_lost, with_first_of}
 unfoldable pub use Rattle.laws_wire.specs.Wire.{doing_all, turns}

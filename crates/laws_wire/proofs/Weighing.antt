@@ -1,6 +1,6 @@
 -- What two ends still have to do, where v turns go again at most: what their links have to send, what is on their ways, and for
 -- each contents that are not delivered yet a REJ, v turns, and an acknowledgement.
-use Rattle.laws_wire.proofs.Vocabulary.{◌≡◌, ℕ, ◌+◌, ◌-◌, ◌*◌, ◌≤◌, List, [], ◌∷◌, length, map, refl, sym, ap, ◌∙◌, arith, All, All-head, All-tail, Service, Parts, spelling, reading, Link, End, Config, Station}
+use Rattle.laws_wire.proofs.Vocabulary.{◌≡◌, ℕ, ◌+◌, ◌-◌, ◌*◌, ◌≤◌, List, [], ◌∷◌, length, map, refl, sym, ap, ◌∙◌, arith, All, All-head, All-tail, Service, Parts, spelling, Link, End, Config, Station}
 use Rattle.laws_wire.proofs.Loads.{load, load_way}
 use Rattle.laws_wire.proofs.Standing.{IsCarried, StationStands}
 
@@ -14,7 +14,6 @@ module _ (service : Service) (tei : ℕ) (c : Config) where
       let rest : map (spelling c.side) xs ≡ map (spelling c.side) ys = cc in
       let here = All-head (IsCarried c service tei) x xs h in
       let there = All-head (IsCarried c service tei) y ys g in
-      let read = sym here.carried.read ∙ ap (reading c.side) first ∙ there.carried.read in
       let same : x ≡ y = cc in
       let others = spelled-same xs ys (All-tail (IsCarried c service tei) x xs h) (All-tail (IsCarried c service tei) y ys g) rest in
       λ i. same i ∷ others i
@@ -40,20 +39,14 @@ pub record Fell (v moved expired more : ℕ) (n m n' m' : End) : Type 0 where
   pub grown : length n'.link.contents + length m'.link.contents ≡ length n.link.contents + length m.link.contents + more
   pub falls : moved + weigh v n' m' ≤ weigh v n m + (v + 4) * expired + (v + 6) * more
 
-swapped : (moved a b p q a' b' p' q' x y : ℕ) → moved + ((a + b) + (p + q)) ≤ ((a' + b') + (p' + q')) + x + y → moved + ((b + a) + (q + p)) ≤ ((b' + a') + (q' + p')) + x + y
-swapped moved a b p q a' b' p' q' x y h = omega (arith, h)
-
 pub fell-turned : (v moved expired more : ℕ) (n m n' m' : End) → Fell v moved expired more n m n' m' → Fell v moved expired more m n m' n'
-fell-turned v moved expired more n m n' m' h = grind (arith, swapped, load, load_way)
+fell-turned v moved expired more n m n' m' h = grind (arith, load, load_way)
 
 -- ---- what becomes of the weight of one end, while the other stays
 
 -- a product grows with what is accepted, and falls with what is delivered
 pub accepts-more : (d len r : ℕ) → r ≤ len → d * (len + 1 - r) ≡ d * (len - r) + d
 accepts-more d len r low = let e : len + 1 - r ≡ (len - r) + 1 = omega (arith, low) in ap (λ x. d * x) e ∙ (omega arith)
-
-sum : (a b c d : ℕ) → a ≡ c → b ≡ d → a + b ≡ c + d + 0
-sum a b c d e f = omega (arith, e, f)
 
 module _ (v : ℕ) (n m n' m' : End) (same : n'.link.contents ≡ n.link.contents) (kept : m'.link ≡ m.link) where
   -- nothing is accepted or delivered
@@ -64,8 +57,8 @@ module _ (v : ℕ) (n m n' m' : End) (same : n'.link.contents ≡ n.link.content
   there e = grind arith
 
   pub goes : (moved expired : ℕ) → n'.link.r ≡ n.link.r → moved + its n' + its m' ≤ its n + its m + (v + 4) * expired → Fell v moved expired 0 n m n' m'
-  goes moved expired e less = grind (arith, sum, there)
+  goes moved expired e less = grind (arith, there)
 
   -- one contents are delivered
   pub delivers : n'.link.r ≡ n.link.r + 1 → n'.link.r ≤ length m.link.contents → 1 + its n' + its m' ≤ its n + its m + (v + 4) → Fell v 1 0 0 n m n' m'
-  delivers e low less = grind (arith, sum)
+  delivers e low less = grind arith

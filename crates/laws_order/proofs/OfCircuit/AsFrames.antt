@@ -1,7 +1,6 @@
 -- What happens at an end of a circuit, as the card of frames inside has it.
-use Rattle.laws_order.proofs.Vocabulary.{arith, ◌≡◌, ℕ, Bool, cond, List, [], Option, None, Some, option_map, append-nil, Refusal, PoolFull, Effect, answer_of, Station, Request, port_pull, port_request, PortEvent, port_octet, port_meant, card_answer}
+use Rattle.laws_order.proofs.Vocabulary.{arith, ◌≡◌, ℕ, List, [], Option, None, Some, option_map, append-nil, answer_of, Station, Request, port_pull, port_request, PortEvent, port_octet, port_meant, card_answer}
 use Rattle.model_line.specs.Event as line
-use Rattle.model_line.specs.Machine as lines
 unfoldable use Rattle.model_line.specs.Machine.{answer as line_answer, takes_slot}
 use Rattle.model_card.specs.Event as frames
 unfoldable use Rattle.model_card.specs.ports.Card.{after, answer, meant}
@@ -40,12 +39,9 @@ IsReply a =
     (wire.frames_by a ≡ []) × ((contents : List (List ℕ)) → unless_refused (answer_of a) contents ≡ wire.unless_refused a contents)
     × (is_granted (answer_of a) ≡ share.is_granted a)
 
-replies : (full : Bool) (why : Option Refusal) (t : Effect) → IsReply (cond full (line.refused PoolFull) (lines.unless_refused_told why t))
-replies full why t = grind arith
-
 replied : (s : Termination) (r : Request) → IsReply (card_answer (frames.at s.line (line.request r)) s.card.card)
 unfolding line_answer
-replied s r = grind (arith, replies)
+replied s r = grind arith
 
 pub asked-as : (r : Request) (s : Termination) (way : List (List ℕ)) → as_station way (happens (port_request r) s) ≡ wire.happens (line.request r) (as_station way s)
 unfolding after answer meant

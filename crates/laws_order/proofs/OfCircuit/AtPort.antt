@@ -1,5 +1,5 @@
 -- An end, as its octets are pulled, and as octets are heard there that end nothing.
-use Rattle.laws_order.proofs.Vocabulary.{◌≡◌, ℕ, ◌+◌, Bool, true, false, cond, [], ◌∷◌, ◌++◌, length, Option, None, Some, option_map, ap, ◌∙◌, arith, length-drop, Config, Card, answer_to, IsTextOf, Port, given_in, is_due, item_of, left_of, gained, with_item, with_octet, ready_where, left_with_octet, Station, at, port_pull, port_octet, card_answer}
+use Rattle.laws_order.proofs.Vocabulary.{◌≡◌, ℕ, ◌+◌, Bool, true, false, cond, [], ◌∷◌, ◌++◌, length, Option, None, Some, option_map, ap, ◌∙◌, arith, length-drop, Config, Card, answer_to, Port, given_in, is_due, item_of, left_of, gained, with_item, with_octet, ready_where, left_with_octet, Station, at, port_pull, port_octet, card_answer}
 use Rattle.model_line.specs.Event as line
 unfoldable use Rattle.model_card.specs.ports.Card.{meant}
 use Rattle.laws_order.specs.circuit.Circuit.{Termination, port_of, happens}
@@ -34,14 +34,11 @@ module _ (n201 : ℕ) (c : Config) (fits : Fits n201 c) (s : Termination) (ran :
   unfolding meant
   port-pulled = port-after s port_pull (within-ports c fits.ranged s ran)
 
-  text-is : IsTextOf (port_of s)
-  text-is = (sound-port c fits.ranged s ran).text
-
   -- where none is due, the octet is one of those that are left
   pub pull-between : is_due (port_of s) ≡ false → (after_pull.card.card ≡ s.card.card) × ((port_of after_pull).items ≡ (port_of s).items)
       × (length (left_of (port_of after_pull)) + 8 ≡ length (left_of (port_of s)))
   pull-between none =
-      let ready = ready_where (port_of s) text-is none in
+      let ready = ready_where (port_of s) (sound-port c fits.ranged s ran).text none in
       let same = port-pulled ∙ ap (λ due. pulled_port due s) none in
       let left = ap length (left_with_octet (port_of s) ready) in
       let fewer = length-drop 8 (left_of (port_of s)) in
@@ -52,17 +49,11 @@ module _ (n201 : ℕ) (c : Config) (fits : Fits n201 c) (s : Termination) (ran :
   pull-put due = ap (λ (p : Port). p.items) (port-pulled ∙ ap (λ due. pulled_port due s) due)
 
   pub pull-received : (port_of after_pull).received ≡ (port_of s).received
-  pull-received = ap (λ (p : Port). p.received) port-pulled ∙ go (is_due (port_of s))
-    where
-      go : (due : Bool) → (pulled_port due s).received ≡ (port_of s).received
-      go due = grind arith
+  pull-received = grind (arith, port-pulled)
 
   -- one octet more is given
   pub pull-given : (value : ℕ) × ((port_of after_pull).given ≡ (port_of s).given ++ value ∷ [])
-  pull-given = go (is_due (port_of s)) port-pulled
-    where
-      go : (due : Bool) → port_of after_pull ≡ pulled_port due s → (value : ℕ) × ((port_of after_pull).given ≡ (port_of s).given ++ value ∷ [])
-      go due e = grind arith
+  pull-given = grind (arith, port-pulled)
 
 -- ---- an octet that ends nothing is heard
 

@@ -49,18 +49,15 @@ module _ (n201 way : ℕ) (service : Service) (tei : ℕ) (c d : Config) (fits :
       w' : Circuit
       w' = doing_all (many size_of) w
 
-      one-more : suc k * size_of ≡ size_of + k * size_of
-      one-more = omega arith
-
       both : taken (size_of + k * size_of) w f0 ≡ taken size_of w f0 + taken (k * size_of) w' (led size_of w f0)
       both = takings-many n201 way size_of (k * size_of) w f0
 
       less : taken (size_of + k * size_of) w f0 < suc k
-      less = subst (λ n. taken n w f0 < suc k) one-more few
+      less = subst (λ n. taken n w f0 < suc k) (omega arith) few
 
       go : ((v : Circuit) (there' back' : List (List ℕ)) → Follows n201 c d v there' back' → IsShort n201 way v → taken (k * size_of) v (as_wire there' back' v) < k → Rests k v (as_wire there' back' v))
           → (t : ℕ) → taken size_of w f0 ≡ t → Rests (suc k) w f0
-      go others zero e = record { after = 0; before = omega (arith, one-more); still = subst IsStill (sym (led-none w f0)) (still-before n201 way service tei c d fits fits_far w there back h short e) }
+      go others zero e = record { after = 0; before = omega arith; still = subst IsStill (sym (led-none w f0)) (still-before n201 way service tei c d fits fits_far w there back h short e) }
       go others (suc t) e =
           let on = all-done n201 service tei c d fits fits_far (many size_of) (all-talk service tei (many size_of) (many-mute size_of)) w there back h in
           let rest : taken (k * size_of) w' (led size_of w f0) < k =
@@ -68,7 +65,7 @@ module _ (n201 way : ℕ) (service : Service) (tei : ℕ) (c d : Config) (fits :
           let x = others w' on.there' on.back' on.follows (still-short n201 way size_of w short) (subst (λ f. taken (k * size_of) w' f < k) on.same rest) in
           record {
             after = size_of + x.after;
-            before = (let b = x.before in omega (arith, b, one-more));
+            before = (let b = x.before in omega (arith, b));
             still = subst IsStill (sym ((grind (arith, doings_meant, many-append, meant-append, many, doing-append)) ∙ ap (led x.after w') on.same)) x.still;
           }
 
@@ -167,10 +164,7 @@ module _ (service : Service) (c d : Config) (line other tei way n : ℕ) (ds : L
       let all =
       halved both (takings whole start) (wire_turns whole start) (on_ways (wire_doing_all whole start)) (on_ways start) (granted_of w) paid
       (subst (λ g. wire_turns whole start ≤ (if both then 8 else 4) + 4 * g) (same-granted m) turns) none-yet in
-      let sum : takings whole start ≡ takings (doings_meant ds begun) start + takings (doings_meant (many m) w) f =
-      ap (λ l. takings l start) (meant-append ds (many m) begun) ∙ takings-append (doings_meant ds begun) (doings_meant (many m) w) start
-      ∙ ap (λ f. takings (doings_meant ds begun) start + takings (doings_meant (many m) w) f) (through.led service c d line other tei ds can talk) in
-      omega (arith, all, sum)
+      grind (arith, takings, start, begun, w, meant-append, takings-append, through.led)
 
   -- where no turn is left after so many beats, all was told
   still-at : (m : ℕ) → IsStill (wire_doing_all (doings_meant (many m) w) f) → IsStill (wire_at m)
@@ -220,10 +214,7 @@ module _ (service : Service) (c d : Config) (line other tei way n : ℕ) (ds : L
       front-is-all (all_told service tei (confirmed service tei) w.far) (now j).near.told (now (j + m)).near.told x.near.more begins.0.0 at-j.0 (ap (λ (v : Circuit). v.near.told) same ∙ x.near.told) begins.0.1 in
       let far =
       front-is-all (all_told service tei first w.near) (now j).far.told (now (j + m)).far.told x.far.more begins.1.0 at-j.1 (ap (λ (v : Circuit). v.far.told) same ∙ x.far.told) begins.1.1 in
-      record {
-        near = near ∙ ap (λ granted. confirmed service tei ∷ map (data_told service tei) granted) (sym all.far.granted);
-        far = far ∙ ap (λ granted. first ∷ map (data_told service tei) granted) (sym all.near.granted);
-      }
+      grind arith
 
   apart : (j n : ℕ) → j ≤ n → (m : ℕ) × (j + m ≡ n)
   apart j n less = (n - j, omega (arith, less))

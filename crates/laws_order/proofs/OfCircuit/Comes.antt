@@ -1,5 +1,5 @@
 -- Where no frame comes in so many beats, no turn was left before them.
-use Rattle.laws_order.proofs.Vocabulary.{◌≡◌, ℕ, ◌+◌, ◌*◌, ◌≤◌, ◌<◌, ◌⊎◌, inl, inr, Bool, true, false, List, [], ◌∷◌, ◌++◌, length, Option, None, Some, option_map, refl, sym, ap, ◌∙◌, subst, arith, append-nil, length-append, Service, heard_in, Item, Config, NextFrame, gave, taken, next_of, line_at, frames_among, left_of, longest_text, Wire, IsStill, gives-taken, longest, Termination, port_of, Circuit, doing_all, wire_doing_all, stream_frame, length-map}
+use Rattle.laws_order.proofs.Vocabulary.{◌≡◌, ℕ, ◌+◌, ◌*◌, ◌≤◌, ◌<◌, ◌⊎◌, inl, inr, Bool, true, false, List, [], ◌∷◌, ◌++◌, length, Option, None, Some, option_map, refl, sym, ap, ◌∙◌, subst, arith, append-nil, length-append, Service, heard_in, Item, Config, NextFrame, gave, taken, next_of, line_at, left_of, longest_text, Wire, IsStill, gives-taken, longest, Termination, port_of, Circuit, doing_all, wire_doing_all, stream_frame, length-map}
 use Rattle.laws_order.proofs.OfCircuit.AsFrames.{as_station}
 use Rattle.laws_order.proofs.OfCircuit.Coming.{Kept, from-near, from-far, frames_of, Puts, putting, GoesOn, going, all-out, Hears, hearing, IsBehind}
 use Rattle.laws_order.proofs.OfCircuit.AtPort.{next_of_card}
@@ -78,16 +78,12 @@ module _ (n201 way : ℕ) where
         → Carries n201 (port_of (sender b w)) (sender b w).way (port_of (receiver b w)).received (its_frames b there back)
     its-carries b w there back h = grind arith
 
-    from-none : (x n : ℕ) → x ≡ n → 0 + x ≡ n
-    from-none x n e = omega (arith, e)
-
     from : (b : Bool) (R : Termination → Termination → ℕ → ℕ → Type 0) → Kept n201 R → (n : ℕ) (w : Circuit) (there back : List (List ℕ)) → Follows n201 c d w there back
         → takings (doings_meant (many n) w) (as_wire there back w) ≡ 0 → R (sender b w) (receiver b w) 0 0 → R (sender b (doing_all (many n) w)) (receiver b (doing_all (many n) w)) n n
-    from false R kept n w there back h none p = grind (arith, from-near, many, many-mute, from-none, pulls-near, count_near, one_pull, hearings-far)
+    from false R kept n w there back h none p = grind (arith, from-near, many, many-mute, pulls-near, count_near, one_pull, hearings-far)
     from true R kept n w there back h none p =
         let x = from-far n201 R kept service tei c d fits fits_far (many n) (many-mute n) w there back h none p in
-        let w' = doing_all (many n) w in
-        subst (λ a. R w'.far w'.near a n) (from-none _ n (pulls-far n)) (subst (λ b. R w'.far w'.near (0 + count_far one_pull (many n)) b) (from-none _ n (hearings-near n)) x)
+        grind (arith, many, pulls-far, count_far, one_pull, hearings-near)
 
     few-bits : (b : Bool) (w : Circuit) (there back : List (List ℕ)) → Follows n201 c d w there back → length (left_of (port_of (sender b w))) ≤ longest_text n201
     few-bits b w there back h =
@@ -136,8 +132,7 @@ module _ (n201 way : ℕ) where
         let all = all-come way (length given) (length received) way (omega arith) x2.1 in
         let front = front-of given x2.0.0 received (sender b w2).way (sym x2.0.1 ∙ (its-carries b w2 second.there' second.back' second.follows).given) all in
         let beyond = heard-beyond n201 given front.rest in
-        no-more (length (frames_among items)) (length events) (length (heard_in n201 received)) (length (heard_in n201 given)) (length beyond.0)
-        (ap (λ l. length (heard_in n201 l)) front.is ∙ ap length beyond.1 ∙ length-append (heard_in n201 given) beyond.0) out (ap length (sym x2.2)) more
+        grind (arith, no-more, length-append)
 
     -- what is among the items of a port is heard, or on its way
     carried-so : (b : Bool) (w : Circuit) (there back : List (List ℕ)) → Follows n201 c d w there back
@@ -146,8 +141,7 @@ module _ (n201 way : ℕ) where
         let heard = heard_in n201 (port_of (receiver b w)).received in
         let frames = its_frames b there back in
         let sum = sym (length-map (frames_of n201 (sender b w)) (λ octets. stream_frame octets)) ∙ ap length (its-carries b w there back h).are ∙ length-append heard (framed frames) in
-        let last = (length-map frames (λ octets. stream_frame octets)) in
-        omega (arith, sum, last)
+        grind (arith, length-map)
 
     -- ---- so nothing was left
 

@@ -1,5 +1,5 @@
 -- A frame that an end has to give, or that is on its way, comes in so many beats, whatever else is given meanwhile.
-use Rattle.laws_order.proofs.Vocabulary.{◌≡◌, ℕ, ◌+◌, ◌*◌, ◌≤◌, ◌<◌, ◌⊎◌, inl, inr, Bool, true, false, cond, List, [], ◌∷◌, ◌++◌, length, drop, Option, None, Some, is_some, option_map, option_to_list, refl, sym, ap, ◌∙◌, subst, arith, append-nil, append_assoc, length-append, All, length-map, All-head, All-tail, Service, Item, idle, heard_in, Config, NextFrame, gave, frames_among, Port, gained, given_in, is_due, item_of, left_of, IsSoundPort, heard_with, Wire, is_any, stream_frame, StreamEvent, port_pull, port_octet, frame}
+use Rattle.laws_order.proofs.Vocabulary.{◌≡◌, ℕ, ◌+◌, ◌*◌, ◌≤◌, ◌<◌, ◌⊎◌, inl, inr, Bool, true, false, cond, List, [], ◌∷◌, ◌++◌, length, drop, Option, None, Some, is_some, option_map, option_to_list, refl, sym, ap, ◌∙◌, subst, arith, append-nil, append_assoc, length-append, All, length-map, All-head, All-tail, Service, Item, idle, heard_in, Config, NextFrame, gave, frames_among, Port, gained, given_in, is_due, item_of, left_of, IsSoundPort, heard_with, Wire, stream_frame, StreamEvent, port_pull, port_octet, frame}
 use Rattle.laws_wire.specs.Wire as wire
 use Rattle.laws_order.specs.circuit.Circuit.{Termination, port_of, happens, with_first_of, Circuit, OctetAct, hears, OctetDoing, at_near, at_far, acting, turned, doing}
 unfoldable use Rattle.laws_order.specs.circuit.Circuit.{doing_all}
@@ -17,16 +17,13 @@ abbrev pub IsDeaf : Option wire.Act → Wire → Type 0
 IsDeaf None f = Unit {0}
 IsDeaf (Some act) f = is_taking_of act f ≡ false
 
-no-bit : (b : Bool) → cond {A = ℕ} b 1 0 + 0 ≡ 0 → b ≡ false
-no-bit b e = grind arith
-
 deaf-near : (o : Option wire.Act) (f : Wire) → takings (option_to_list (option_map wire.at_near o)) f ≡ 0 → IsDeaf o f
 unfolding takings
-deaf-near o f e = grind (arith, no-bit, is_taking_of)
+deaf-near o f e = grind (arith, is_taking_of)
 
 deaf-far : (o : Option wire.Act) (f : Wire) → takings (option_to_list (option_map wire.at_far o)) f ≡ 0 → IsDeaf o (wire.turned f)
 unfolding takings
-deaf-far o f e = grind (arith, no-bit, is_taking_of)
+deaf-far o f e = grind (arith, is_taking_of)
 
 module _ (n201 : ℕ) where
   -- an octet that is heard there ends nothing
@@ -43,8 +40,7 @@ module _ (n201 : ℕ) where
           let x =
           one-heard n201 (port_of w.far) w.far.way (port_of w.near).received back h.comes (subst (λ n. IsSoundPort n (port_of w.far)) fits_far.size (sound-port d fits_far.ranged w.far h.far))
           (on-line d fits_far.ranged w.far h.far) value more event is e in
-          let none : is_any (x.first ∷ x.rest) ≡ false = subst (λ fs. is_any fs ≡ false) x.frames_are deaf in
-          absurd (cc none)
+          grind arith
 
   -- What each act at either end keeps, so does a list of them in which no frame is taken; what is done is counted.
   module _ (P : Circuit → ℕ → ℕ → Type 0) (one two : OctetAct → ℕ)
@@ -203,11 +199,8 @@ module _ (n201 : ℕ) where
     puts-heard : (c : Config) (fits : Fits n201 c) (s : Termination) → Ran c s → (value : ℕ) → gained n201 (port_of s).received value ≡ None → (a : ℕ) → Puts s a → Puts (happens (port_octet value) s) a
     puts-heard c fits s ran value none a p = grind (arith, port-heard, next_of_card, card-heard)
 
-    puts-way : (s : Termination) (way : List ℕ) (a : ℕ) → Puts s a → Puts (record s { way = way }) a
-    puts-way s way a p = p
-
     pub putting : (events : List StreamEvent) → Kept (λ s r a b. Puts s a × (heard_in n201 (port_of r).received ≡ events))
-    putting events = sending events Puts puts-pulled puts-heard puts-way
+    putting events = sending events Puts puts-pulled puts-heard (λ s way a p. p)
 
   -- ---- something is put on the line behind what is there
 
@@ -242,11 +235,8 @@ module _ (n201 : ℕ) where
     goes-heard : (c : Config) (fits : Fits n201 c) (s : Termination) → Ran c s → (value : ℕ) → gained n201 (port_of s).received value ≡ None → (a : ℕ) → GoesOn s a → GoesOn (happens (port_octet value) s) a
     goes-heard c fits s ran value none a p = grind (arith, port-heard)
 
-    goes-way : (s : Termination) (way : List ℕ) (a : ℕ) → GoesOn s a → GoesOn (record s { way = way }) a
-    goes-way s way a p = p
-
     pub going : (events : List StreamEvent) → Kept (λ s r a b. GoesOn s a × (heard_in n201 (port_of r).received ≡ events))
-    going events = sending events GoesOn goes-pulled goes-heard goes-way
+    going events = sending events GoesOn goes-pulled goes-heard (λ s way a p. p)
 
   -- then all frames that were there have been given, to the last bit
   all-idle : (i : Item) (more : List Item) → frames_among (i ∷ more) ≡ [] → (front : List Item) × ((i ∷ more) ≡ front ++ idle ∷ [])
@@ -282,8 +272,7 @@ module _ (n201 : ℕ) where
             let one = x.one in
             let few = ap length some in
             let long = sym (length-map (frames_of s) (λ octets. stream_frame octets)) ∙ ap length x.heard ∙ length-append (heard_in n201 (port_of s).given) (framed x.on_its_way) in
-            let last = (length-map x.on_its_way (λ octets. stream_frame octets)) in
-            omega (arith, one, few, long, last, sum)
+            grind (arith, length-map, sum)
 
   -- ---- what was given is heard
 
@@ -313,6 +302,4 @@ module _ (n201 : ℕ) where
 
         all-there : (s r : Termination) (frames : List (List ℕ)) → Carries n201 (port_of s) s.way (port_of r).received frames → s.way ≡ [] → (more : List ℕ) → (port_of s).given ≡ first ++ more
             → length first ≤ length (port_of r).received
-        all-there s r frames carries empty more given =
-            let sum = length-append first more in
-            omega (arith, (ap length (sym given ∙ carries.given ∙ ap (λ left. (port_of r).received ++ left) empty ∙ append-nil (port_of r).received)), sum)
+        all-there s r frames carries empty more given = grind (arith, length-append, append-nil)

@@ -121,10 +121,7 @@ module _ (service : Service) (tei : ℕ) (s : Socket) (y : Station) (g : List (L
       record {
         granted = then_granted e;
         told = then_told e;
-        same =
-            ap (λ fs. with_near (wire.with_first_of fs (station g t s)) (drop 1 y.way)) way
-            ∙ ap (λ e. with_near (wire.happens (line.hears e) (station g t s)) (drop 1 y.way)) whole
-            ∙ ap (λ z. with_near z (drop 1 y.way)) (happened e);
+        same = grind (arith, happened);
         shown =
             ap (λ fs. flat_map (order.shown_by (station g t s)) (order.first_heard card.config.n201 fs)) way
             ∙ ap (λ e. flat_map (order.shown_by (station g t s)) (line.hears e ∷ [])) whole;
@@ -134,10 +131,7 @@ module _ (service : Service) (tei : ℕ) (s : Socket) (y : Station) (g : List (L
 
   by-event : (what : PortEvent) → IsPossibleAt service tei (happens what) s y.way → Done service tei s (with_deed (happens what) s) y y.way g t (seen_by (happens what) s)
   unfolding after meant
-  by-event what other =
-      let o = meaning what s in
-      let one = led o other in
-      record { deed = deed_meant o; granted = one.granted; told = one.told; same = one.same; shown = one.shown; can = one.can }
+  by-event what other = grind (arith, led)
 
   by-frame : (value : ℕ) → IsPossibleAt service tei (completes value) s y.way → Done service tei s (with_deed (completes value) s) y (drop 1 y.way) g t (seen_by (completes value) s)
   unfolding after meant
@@ -202,9 +196,6 @@ stays v = record { near = record { config = refl; line = refl }; far = record { 
 back-at : (a b : Station) → StaysAt a b → StaysAt b a
 back-at a b x = record { config = sym x.config; line = sym x.line }
 
-stays-on : (first v : Wire) → Stay first v → (h : order.Happening) → Stay first (order.happening h v)
-stays-on first v x h = grind (arith, near-place, far-place)
-
 module _ (service : Service) (tei : ℕ) (first : Wire) where
   pub none-ran : (v : Wire) → Ran service tei first v [] []
   unfolding frames_near frames_far
@@ -218,7 +209,7 @@ module _ (service : Service) (tei : ℕ) (first : Wire) where
       go : (o : Option order.Happening) → if_happens o v ≡ v' → CanHappen service tei v o → if_near o v ≡ near → if_far o v ≡ far → Ran service tei first v (near ++ near') (far ++ far')
       go None same can near-is far-is = grind arith
       go (Some h) same can near-is far-is =
-          let rest = others (subst (Stay first) same (stays-on first v stay h)) in
+          let rest = others (subst (Stay first) same (grind (arith, near-place, far-place))) in
           record {
             run = h ∷ rest.run;
             can = All-cons (order.IsPossible service tei first) h rest.run

@@ -1,7 +1,6 @@
 -- What is done between a card of frames and one for octets is, at the card of frames inside, done on a wire of frames.
-use Rattle.laws_order.proofs.Vocabulary.{arith, ◌≡◌, ℕ, Bool, true, false, cond, List, [], ◌∷◌, ◌++◌, drop, flat_map, Option, None, Some, option_map, option_to_list, refl, sym, ap, ◌∙◌, subst, append-nil, All, All-nil, All-cons, All-head, All-tail, All-append, Service, Config, answer_to, is_due, Station, Wire, CanCall, calling, calls-come-through, twice-other, doing-append, IsCall, stream_frame, port_octet, call_both_call, CallComesThrough, assigned, Establish, Assign, Termination, port_of}
+use Rattle.laws_order.proofs.Vocabulary.{arith, ◌≡◌, ℕ, Bool, true, false, cond, List, [], ◌∷◌, ◌++◌, drop, Option, None, Some, refl, sym, ap, ◌∙◌, subst, append-nil, All, All-nil, All-cons, All-head, All-tail, All-append, Service, Config, is_due, Station, Wire, CanCall, calling, calls-come-through, twice-other, doing-append, IsCall, stream_frame, port_octet, call_both_call, CallComesThrough, assigned, Establish, Assign, port_of}
 use Rattle.model_line.specs.Event as line
-use Rattle.model_card.specs.Event as frame_events
 unfoldable use Rattle.model_card.specs.ports.Card.{meant}
 use Rattle.laws_wire.specs.Wire as frames
 unfoldable use Rattle.laws_wire.specs.Wire.{doing_all as frames_done}
@@ -35,15 +34,8 @@ module _ (service : Service) (tei : ℕ) where
   unfolding meant
   pulled-led w = go (is_due (port_of w.far)) refl
     where
-      s : Termination
-      s = w.far
-
-      back : (due : Bool) → let o : Option line.Event = cond due (Some line.next) None in
-          w.back ++ flat_map frames.frames_by (option_to_list (option_map (answer_to w.far.card.card) (option_map (frame_events.at w.far.line) o))) ≡ (if_meant o (as_station w.back w.far)).way
-      back due = grind (arith, append-nil)
-
       there : (due : Bool) → is_due (port_of w.far) ≡ due → as_wire (doing pulls w) ≡ ends w.near (if_meant (cond due (Some line.next) None) (as_station w.back w.far))
-      there due e = grind (arith, as_station, back, pulled-as, if_meant)
+      there due e = grind (arith, as_station, append-nil, pulled-as, if_meant)
 
       go : (due : Bool) → is_due (port_of w.far) ≡ due → Led (as_wire w) (as_wire (doing pulls w))
       go true e = one-led (as_wire w) (as_wire (doing pulls w)) (frames.at_far frames.gives) tt (sym (there true e))

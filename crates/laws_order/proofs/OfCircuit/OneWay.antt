@@ -60,9 +60,7 @@ module _ (n201 : ℕ) (p : Port) (way received : List ℕ) (frames : List (List 
       let all : frames_among (p.items ++ item ∷ []) ≡ frames_among p.items ++ new = frames_among-append p.items (item ∷ []) in
       record {
         given = h.given;
-        are =
-            ap framed all ∙ map-append stream_frame (frames_among p.items) new ∙ ap (λ l. l ++ framed new) h.are
-            ∙ append_assoc (heard_in n201 received) (framed frames) (framed new) ∙ ap (λ l. heard_in n201 received ++ l) (sym (map-append stream_frame frames new));
+        are = grind (arith, framed, map-append, stream_frame, frames_among, append_assoc, heard_in);
         octets = subst (All AreOctets) (sym all) (All-append AreOctets (frames_among p.items) new h.octets octets);
       }
 

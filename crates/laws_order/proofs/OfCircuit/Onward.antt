@@ -1,10 +1,9 @@
 -- Beats as a list: what they leave, and what they add to what was told.
-use Rattle.laws_order.proofs.Vocabulary.{◌≡◌, ℕ, zero, suc, ◌+◌, List, [], ◌∷◌, ◌++◌, length, drop, Option, option_to_list, refl, sym, ap, ◌∙◌, arith, append-nil, append_assoc, length-append, All, option_map_or, All-cons, All-nil, LineTold, said, answer_of, next_octet, with_item, beat, port_pull, port_octet, port_told}
-use Rattle.model_line.specs.Event as line
+use Rattle.laws_order.proofs.Vocabulary.{◌≡◌, ℕ, zero, suc, ◌+◌, List, [], ◌∷◌, ◌++◌, length, drop, option_to_list, refl, sym, ap, ◌∙◌, arith, append-nil, append_assoc, length-append, All, All-cons, All-nil, LineTold, said, next_octet, with_item, beat, port_pull, port_octet}
 unfoldable use Rattle.model_card.specs.ports.Card.{answer}
 use Rattle.model_card.specs.ports.Event.{at}
 unfoldable use Rattle.laws_order.specs.circuit.Beats.{beats}
-use Rattle.laws_order.specs.circuit.Circuit.{Termination, port_of, happens, unless_refused, with_first_of, Circuit, pulls, hears, OctetDoing, at_near, at_far, doing}
+use Rattle.laws_order.specs.circuit.Circuit.{Termination, port_of, happens, with_first_of, Circuit, pulls, hears, OctetDoing, at_near, at_far, doing}
 unfoldable use Rattle.laws_order.specs.circuit.Circuit.{doing_all}
 use Rattle.laws_order.proofs.OfCircuit.Projected.{doing_meant, heard-way}
 unfoldable use Rattle.laws_order.proofs.OfCircuit.Projected.{doings_meant}
@@ -89,11 +88,8 @@ pub record StayAsLong (w w' : Circuit) : Type 0 where
 beat-stays : (w : Circuit) → StayAsLong w (doing_all beat w)
 unfolding doing_all
 beat-stays w =
-    let far = happens port_pull w.far in
     let x = pulled-way w.near in
     let y = pulled-way w.far in
-    let near-heard = with_first_of far.way (happens port_pull w.near) in
-    let far-left : Termination = record far { way = drop 1 far.way } in
     grind (arith, first-way, one-off)
 
 pub many-stay : (n : ℕ) (w : Circuit) → StayAsLong w (doing_all (many n) w)
@@ -114,20 +110,16 @@ pub record Adds (s t : Termination) : Type 0 where
 then-adds : (s t u : Termination) → Adds s t → Adds t u → Adds s u
 then-adds s t u h k = grind (arith, append_assoc)
 
-none-granted : (o : Option line.Answer) → unless_refused (option_map_or answer_of o (port_told line.nothing)) [] ≡ []
-none-granted o = grind arith
-
 pull-adds : (s : Termination) → Adds s (happens port_pull s)
 unfolding answer
 pull-adds s = record { granted = append-nil s.granted; more = []; told = refl }
 
 octet-adds : (value : ℕ) (s : Termination) → Adds s (happens (port_octet value) s)
 unfolding answer
-octet-adds value s = grind (arith, none-granted, append-nil)
+octet-adds value s = grind (arith, append-nil)
 
 first-adds : (way : List ℕ) (s : Termination) → Adds s (with_first_of way s)
-first-adds [] s = (record { granted = refl; more = []; told = sym (append-nil s.told) })
-first-adds (value ∷ more) s = octet-adds value s
+first-adds o s = grind (arith, append-nil, octet-adds)
 
 on-way : (s t : Termination) (way : List ℕ) → Adds s t → Adds s (record t { way = way })
 on-way s t way h = record { granted = h.granted; more = h.more; told = h.told }

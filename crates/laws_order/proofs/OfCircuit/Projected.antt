@@ -1,8 +1,7 @@
 -- What is done on a circuit of octets is, at the cards of frames inside, done on a wire of frames.
-use Rattle.laws_order.proofs.Vocabulary.{arith, ◌≡◌, ℕ, ◌<◌, Bool, true, false, cond, List, [], ◌∷◌, ◌++◌, length, drop, Option, None, Some, is_some, option_map, option_to_list, refl, sym, ap, ◌∙◌, subst, append-nil, All, option_map_or, get_or-set_same, All-append, All-head, All-nil, All-tail, Service, AreOctets, Config, came, NextFrame, said, answer_to, frames_among, octet_pulled, Port, fresh_port, answer_of, gained, given_in, is_due, item_of, next_octet, with_item, with_octet, IsSoundPort, contents_given, Station, Wire, doing-append, Request, IsInRange, IsTalkOf, IsTalk, IsAsked, StreamEvent, port_pull, port_request, PortEvent, port_octet, port_after, port_told, card_answer, IsCall}
+use Rattle.laws_order.proofs.Vocabulary.{arith, ◌≡◌, ℕ, ◌<◌, Bool, true, false, cond, List, [], ◌∷◌, ◌++◌, length, drop, Option, None, Some, is_some, option_map, option_to_list, refl, sym, ap, ◌∙◌, subst, append-nil, All, option_map_or, get_or-set_same, All-append, All-head, All-nil, All-tail, Service, AreOctets, Config, came, NextFrame, said, answer_to, frames_among, octet_pulled, Port, fresh_port, answer_of, gained, given_in, is_due, item_of, next_octet, with_item, with_octet, IsSoundPort, contents_given, Station, Wire, doing-append, Request, IsInRange, IsTalkOf, IsTalk, StreamEvent, port_pull, port_request, PortEvent, port_octet, port_after, port_told, card_answer, IsCall}
 use Rattle.model_line.specs.Event as line
 unfoldable use Rattle.model_line.specs.Machine.{answer as line_answer, takes_slot}
-use Rattle.model_line.specs.Request as asked
 use Rattle.model_card.specs.Event as frames
 unfoldable use Rattle.model_card.specs.ports.Card.{after, answer, meant}
 use Rattle.model_card.specs.ports.Event.{at}
@@ -61,13 +60,6 @@ heard-way value s = same-way s.way (said (at s.line (port_octet value)) s.card)
 
 same-received : (o : Option line.Answer) (p : Port) → (with_octet (with_item o p)).received ≡ p.received
 same-received o p = grind arith
-
--- ---- what layer 3 asks
-
-asked-octets : (service : Service) (tei : ℕ) (r : Request) → IsAsked service tei r → AreOctets (contents_given r)
-asked-octets service tei (asked.Data s t contents) is = is.2
-asked-octets service tei (asked.Establish s t) is = All-nil (λ octet. octet < 256)
-asked-octets service tei other is = absurd is
 
 -- ---- one way, where ports stay in part
 
@@ -171,9 +163,7 @@ module _ (n201 : ℕ) where
             near = goes-on c near port_pull tt h.near;
             far = h.far;
             goes = subst (λ p. Carries n201 p s.way (port_of far).received x.way) (sym after-it) (pulled-goes (is_due (port_of near)));
-            comes =
-                moved (port_of far) (port_of far) far.way far.way (port_of s).received (port_of near).received back refl refl
-                (ap (λ (p : Port). p.received) after-it ∙ same-received (said (at near.line port_pull) near.card) (port_of near)) h.comes;
+            comes = grind (arith, moved, same-received);
           };
           same = pulled-meant (is_due (port_of near)) ∙ ap with-near (sym (pulled-as near there));
         }
@@ -184,13 +174,7 @@ module _ (n201 : ℕ) where
     hearing way = record { near = with_first_of way near; far = record far { way = drop 1 way } }
 
     heard-none : far.way ≡ [] → Acted None (hearing [])
-    heard-none empty =
-        record {
-          there' = there;
-          back' = back;
-          follows = grind arith;
-          same = refl;
-        }
+    heard-none empty = grind arith
 
     heard-one : (value : ℕ) (more : List ℕ) (o : Option StreamEvent) → far.way ≡ value ∷ more → gained n201 (port_of near).received value ≡ o
         → Acted (cond (is_some o) (Some wire.takes) None) (hearing (value ∷ more))
@@ -220,12 +204,7 @@ module _ (n201 : ℕ) where
         go None e = record {
           there' = there;
           back' = back;
-          follows = record {
-            near = ran;
-            far = (record { within = h.far.within; events = h.far.events; at_lines = h.far.at_lines; is = h.far.is; exact = h.far.exact });
-            goes = goes;
-            comes = comes back (none-heard n201 (port_of far) far.way (port_of near).received back h.comes value more is e);
-          };
+          follows = grind (arith, ran, goes, comes, none-heard);
           same = ap with-near (sym (as-heard None e));
         }
         go (Some event) e =
@@ -243,7 +222,7 @@ module _ (n201 : ℕ) where
             }
 
     pub one-act : (service : Service) (tei : ℕ) (act : OctetAct) → IsTalkOf service tei act → Acted (act_meant act w) (acting act w)
-    one-act service tei (asks r) is = asked-one r (asked-octets service tei r is)
+    one-act service tei (asks r) is = asked-one r (grind arith)
     one-act service tei pulls is = pulled-one
     one-act service tei hears is = grind (arith, heard-none, is_some, n201-is, heard-one)
 

@@ -1,10 +1,9 @@
 -- What a run keeps at one end of a circuit.
-use Rattle.laws_order.proofs.Vocabulary.{◌≡◌, ℕ, ◌<◌, ◌≤◌, ◌==◌, Bool, cond, List, [], ◌∷◌, ◌++◌, length, append_assoc, Option, None, Some, option_map, option_to_list, refl, sym, ap, ◌∙◌, subst, arith, append-nil, eq-eqb, All, All-append, All-cons, All-head, All-nil, AreOctets, Config, NextFrame, OctetCard, port_at, gained, is_due, left_of, longest_text, IsAtLine, AreAtLines, IsSoundPort, meant_at_lines, refined_card, on_its_way, heard_frames_are_octets, IsOnItsWay, pulls_are_takes, port_sound, config_stays, moments-append, all-right, contents_given, HasOctets, GivesOctets, seen, seen_told, trace, trace_of, frames_begun, frames-are-octets, IsInRange, StreamEvent, port_pull, port_request, PortEvent, port_octet, port_meant, port_expiry, card_answer}
+use Rattle.laws_order.proofs.Vocabulary.{◌≡◌, ℕ, ◌<◌, ◌≤◌, cond, List, [], ◌∷◌, ◌++◌, length, append_assoc, Option, None, Some, option_map, option_to_list, refl, sym, ap, ◌∙◌, subst, arith, append-nil, eq-eqb, All, All-append, All-cons, All-head, All-nil, AreOctets, Config, NextFrame, OctetCard, port_at, gained, left_of, longest_text, IsAtLine, AreAtLines, IsSoundPort, meant_at_lines, refined_card, on_its_way, heard_frames_are_octets, IsOnItsWay, pulls_are_takes, port_sound, config_stays, moments-append, all-right, contents_given, HasOctets, GivesOctets, seen, trace, trace_of, frames_begun, frames-are-octets, IsInRange, StreamEvent, port_request, PortEvent, port_octet, port_meant, card_answer}
 use Rattle.model_card.specs.ports.Reached.{IsReached}
 use Rattle.model_card.proofs.OfPorts.Reaching.{reached_after_all, reached_fresh, reached_sound}
 use Rattle.std.proofs.lemmas.Grind.{flat_map-append}
 use Rattle.model_line.specs.Event as line
-use Rattle.model_line.specs.Request as asked
 use Rattle.model_card.specs.Card as cards
 use Rattle.model_card.specs.Event as frames
 use Rattle.model_card.specs.Run as runs
@@ -60,17 +59,10 @@ meaning-exact m number (port_octet value) h =
     heard-exact number (gained m.card.config.n201 (port_at number m).received value) (heard_frames_are_octets m (at number (port_octet value) ∷ []))
 meaning-exact m number what h = grind arith
 
-seen-exact : (f : line.Event) (a : line.Answer) → IsExact f → All GivesOctets (seen f a)
-seen-exact f a h = grind arith
-
 moment-exact : (card : cards.Card) (number : ℕ) (o : Option line.Event) → All IsExact (option_to_list o)
     → All GivesOctets (trace number (runs.moments card (option_to_list (option_map (frames.at number) o))))
 unfolding frame_moments
-moment-exact card number None h = All-nil GivesOctets
-moment-exact card number (Some f) h = go (number == number)
-  where
-    go : (b : Bool) → All GivesOctets (cond b (seen f (card_answer (frames.at number f) card)) [] ++ [])
-    go b = grind (arith, append-nil, seen-exact)
+moment-exact card number o h = grind (arith, append-nil)
 
 -- ---- an end that came about by events at lines of a card that had just begun, and octets alone were asked to be sent there
 

@@ -1,5 +1,5 @@
 -- How often a frame is taken: at most half as often as there are turns, since each was given first.
-use Rattle.laws_order.proofs.Vocabulary.{◌≡◌, ℕ, ◌+◌, ◌*◌, ◌≤◌, Bool, false, List, [], ◌∷◌, ◌++◌, length, drop, arith, length-append, All, if◌then◌else◌, All-head, All-tail, Service, Station, Wire, Act, Doing, is_any, asks-way, takes-way, All-cons, All-nil, IsTalk, wire_with_first_of, wire_at_near, wire_is_turn, turned, wire_doing, wire_doing_all, wire_turns, wire_at_far, takes, IsCall}
+use Rattle.laws_order.proofs.Vocabulary.{◌≡◌, ℕ, ◌+◌, ◌*◌, ◌≤◌, Bool, false, List, [], ◌∷◌, ◌++◌, length, arith, length-append, All, if◌then◌else◌, All-head, All-tail, Service, Wire, Act, Doing, is_any, asks-way, takes-way, All-cons, All-nil, IsTalk, wire_at_near, wire_is_turn, turned, wire_doing, wire_doing_all, wire_turns, wire_at_far, takes, IsCall}
 unfoldable use Rattle.laws_wire.specs.Wire.{doing_all, turns}
 use Rattle.laws_order.specs.circuit.Circuit.{OctetAct, asks, pulls, hears, OctetDoing, at_near, at_far}
 
@@ -30,18 +30,9 @@ on_ways f = length f.near.way + length f.far.way
 record Paid (taking turn : Bool) (before after : ℕ) : Type 0 where
   paid : 2 * (if taking then 1 else 0) + after ≤ (if turn then 1 else 0) + before
 
-first-way : (way : List (List ℕ)) (s : Station) → (wire_with_first_of way s).way ≡ s.way
-first-way way s = grind (arith, takes-way)
-
-one-less : (way : List (List ℕ)) → 2 * (if is_any way then 1 else 0) + length (drop 1 way) ≤ (if is_any way then 1 else 0) + length way
-one-less way = grind arith
-
 module _ (service : Service) (tei : ℕ) where
-  swapped : (t k x y x' y' : ℕ) → 2 * t + (y' + x') ≤ k + (y + x) → 2 * t + (x' + y') ≤ k + (x + y)
-  swapped t k x y x' y' h = omega (arith, h)
-
   one-paid : (d : Doing) → IsCall service tei d → (f : Wire) → Paid (is_taking d f) (wire_is_turn d f) (on_ways f) (on_ways (wire_doing d f))
-  one-paid d is f = grind (arith, asks-way, length-append, first-way, one-less, swapped)
+  one-paid d is f = grind (arith, asks-way, length-append, takes-way)
 
   joined : (t t' k k' a b c : ℕ) → 2 * t + b ≤ k + a → 2 * t' + c ≤ k' + b → 2 * (t + t') + c ≤ (k + k') + a
   joined t t' k k' a b c h h' = omega (arith, h, h')

@@ -11,11 +11,10 @@ use Rattle.laws_order.proofs.OfCircuit.AsFrames.{asked-as}
 use Rattle.laws_order.proofs.OfCircuit.OneWay.{Carries, all-given, framed}
 use Rattle.laws_order.proofs.OfCircuit.Projected.{as_wire, doings_meant, port-after, asked-way, Fits, Follows, Done, all-done}
 use Rattle.laws_order.proofs.OfCircuit.Ran.{Ran, goes-on, within-ports, sound-port, on-line}
-use Rattle.laws_line.specs.Share as share
 unfoldable use Rattle.laws_wire.specs.Call.{both_call as frames_both}
 unfoldable use Rattle.laws_wire.specs.Wire.{doing_all as frames_done}
-use Rattle.laws_order.specs.circuit.Circuit.{Termination, port_of, Circuit, answered, asks, pulls, hears, OctetDoing, at_near, at_far, doing}
-use Rattle.laws_order.specs.circuit.Through.{IsTalk, is_granted, calls_back}
+use Rattle.laws_order.specs.circuit.Circuit.{Termination, port_of, Circuit, asks, pulls, hears, OctetDoing, at_near, at_far, doing}
+use Rattle.laws_order.specs.circuit.Through.{IsTalk, calls_back}
 unfoldable use Rattle.laws_order.specs.circuit.Through.{both_call}
 use Rattle.laws_order.proofs.OfCircuit.AsFrames.{granted-as}
 use Rattle.laws_order.proofs.OfCircuit.Projected.{as_wire, hearing_means, act_meant, doing_meant, Fits, Follows, one-done}
@@ -23,9 +22,6 @@ unfoldable use Rattle.laws_order.proofs.OfCircuit.Projected.{doings_meant}
 
 pub or-none : (b : Bool) → (b || false) ≡ b
 or-none b = grind arith
-
-none-far : (r : Request) (w : Circuit) (f : Wire) → is_granted (answered (port_request r) w.far) ≡ share.is_granted (wire.answered (request r) f.far) → call.calls_back (wire.at_far (wire.requests r)) f ≡ calls_back (at_far (asks r)) w
-none-far r w f same = grind arith
 
 one-near : (o : Option wire.Act) (f : Wire) → call.both_call (option_to_list (option_map wire.at_near o)) f ≡ false
 unfolding frames_both
@@ -46,7 +42,7 @@ hears-far way s f = grind (arith, ends-far, is_some)
 one-calls : (x : OctetDoing) (w : Circuit) (there back : List (List ℕ)) → call.both_call (option_to_list (doing_meant x w)) (as_wire there back w) ≡ calls_back x w
 unfolding frames_both
 one-calls (at_near act) w there back = one-near (act_meant act w) (as_wire there back w)
-one-calls (at_far (asks r)) w there back = or-none (call.calls_back (wire.at_far (wire.requests r)) (as_wire there back w)) ∙ none-far r w (as_wire there back w) (granted-as r w.far back)
+one-calls (at_far (asks r)) w there back = or-none (call.calls_back (wire.at_far (wire.requests r)) (as_wire there back w)) ∙ grind (arith, granted-as r w.far back)
 one-calls (at_far pulls) w there back = pulls-far (is_due (port_of w.far)) (as_wire there back w)
 one-calls (at_far hears) w there back = hears-far w.near.way w.far (as_wire there back w)
 
@@ -154,26 +150,13 @@ module _ (service : Service) (c d : Config) (line other tei : ℕ) (ds : List Oc
   same-both = ap (call.both_call (doings_meant ds begun)) (sym begins) ∙ same-calls size service tei c d fits fits-far ds talk begun [] [] follows
 
   pub on-wire : call.ComesThrough service tei (wire.turns (doings_meant ds begun) wire_begun) (both_call ds begun) (as_wire done.there' done.back' last)
-  on-wire =
-      subst (λ both. call.ComesThrough service tei (wire.turns (doings_meant ds begun) wire_begun) both (as_wire done.there' done.back' last)) same-both
-      (subst (call.ComesThrough service tei (wire.turns (doings_meant ds begun) wire_begun) (call.both_call (doings_meant ds begun) wire_begun)) led
-      (calls-come-through service c d line other tei (doings_meant ds begun) can done.talk))
+  on-wire = grind (arith, doings_meant, as_wire, done, same-both, led, calls-come-through)
 
   pub still : HasAllGone last → IsStill (as_wire done.there' done.back' last)
-  still gone =
-      let f = done.follows in
-      record {
-        near = gone.0.none;
-        far = gone.1.none;
-        near_way = grind (arith, append-nil, all-heard, flag-ends);
-        far_way = grind (arith, append-nil, all-heard, flag-ends);
-      }
+  still gone = grind (arith, done, append-nil, all-heard, flag-ends)
 
   comes-through : ComesThrough service tei (both_call ds begun) last
-  comes-through = record {
-    near = (on-wire.near.0, λ gone. on-wire.near.1 (still gone));
-    far = (on-wire.far.0, λ gone. on-wire.far.1 (still gone));
-  }
+  comes-through = grind (arith, on-wire, still)
 
 pub calls-come-through-in-octets : CallsComeThroughInOctets
 calls-come-through-in-octets service c d line other tei ds can talk = comes-through service c d line other tei ds can talk

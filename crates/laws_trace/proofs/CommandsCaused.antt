@@ -1,5 +1,5 @@
 -- What puts an enquiry: nothing but the expiry of a timer leads a link to state 8.
-use Rattle.laws_trace.proofs.Vocabulary.{arith, ◌≡◌, ◌&&◌, ◌||◌, Bool, true, false, cond, State, TeiAssigned, AwaitingEstablishment, AwaitingRelease, Established, TimerRecovery, Terms, Link, is_multiple_frame, Received, received, requested, offer, cleared, moves, by_frame, by_request, state_after, Control, LinkEvent as Event, LinkRequest as Request}
+use Rattle.laws_trace.proofs.Vocabulary.{arith, ◌≡◌, ◌&&◌, ◌||◌, Bool, true, false, cond, State, TeiAssigned, AwaitingEstablishment, TimerRecovery, Terms, Link, is_multiple_frame, Received, received, requested, offer, cleared, moves, by_frame, by_request, state_after, Control, LinkEvent as Event, LinkRequest as Request}
 
 -- State 8 puts an enquiry where the link comes to it.
 abbrev pub enquires : State → Bool
@@ -13,21 +13,9 @@ Still s to = (moves s to || false) ≡ true → enquires to ≡ true → ⊥
 in-4 : (command : Bool) (control : Control) → Still TeiAssigned (by_frame TeiAssigned command control)
 in-4 command control m h = grind arith
 
-in-5 : (command : Bool) (control : Control) → Still AwaitingEstablishment (by_frame AwaitingEstablishment command control)
-in-5 command control m h = grind arith
-
-in-6 : (command : Bool) (control : Control) → Still AwaitingRelease (by_frame AwaitingRelease command control)
-in-6 command control m h = grind arith
-
-in-7 : (command : Bool) (control : Control) → Still Established (by_frame Established command control)
-in-7 command control m h = grind arith
-
-in-8 : (command : Bool) (control : Control) → Still TimerRecovery (by_frame TimerRecovery command control)
-in-8 command control m h = grind arith
-
 -- An N(R) that is invalid leads to state 5.
 by-state : (s : State) (command : Bool) (control : Control) → Still s (by_frame s command control)
-by-state s command control = grind (arith, in-4, in-5, in-6, in-7, in-8)
+by-state s command control = grind (arith, in-4)
 
 -- What the grammar does not have.
 malformed : (s : State) → Still s (cond (is_multiple_frame s && true) AwaitingEstablishment s)

@@ -232,10 +232,10 @@ module _ (service : Service) (tei : ℕ) where
       given-here : x.event ≡ link.offer → e ≡ next → Here
       given-here offer is was-on is-on =
           let there = at-some-place new tei is-on in
-          ap (λ (k : Link). controls k.waiting) later-is ∙ offer-leaves c service tei own range sound
+          ap (λ (k : Link). controls k.waiting) (x.is ∙ ap (λ e. links.after t e own) offer) ∙ offer-leaves c service tei own range sound
           ∙ sym (ap (λ b. cond b [] (drop (length begins) (waits l) ++ Due)) (not-ended x.event x.by)
           ∙ ap (λ xs. drop (length begins) (waits l) ++ xs) (none-put (none-due offer there.0 there.1)) ∙ append-nil (drop (length begins) (waits l))
-          ∙ ap (λ xs. drop (length xs) (waits l)) begins-given)
+          ∙ ap (λ xs. drop (length xs) (waits l)) (begun-is c service tei e l ∙ ap (flat_map (begun_of c service tei)) frames))
         where
           given : List (List ℕ)
           given = map (frame_of c t) (option_to_list (links.given t own))
@@ -243,19 +243,11 @@ module _ (service : Service) (tei : ℕ) where
           frames : frame_in a ≡ given
           frames = x.begins ∙ ap (λ e. frames_given c t e own) offer
 
-          begins-given : begins ≡ flat_map (begun_of c service tei) given
-          begins-given = begun-is c service tei e l ∙ ap (flat_map (begun_of c service tei)) frames
-
-          later-is : link_of service tei new ≡ links.after t link.offer own
-          later-is = x.is ∙ ap (λ e. links.after t e own) offer
-
           range : link_sound.IsInRange t
           range = terms_in_range c ranged service tei (s.management.table.range x.place tei (place_of-is l.management.places tei x.place x.placed).1)
 
       by-event : (event : link.Event) → x.event ≡ event → IsBy c e a service tei event → Here
-      by-event link.offer is by = given-here is by
-      by-event link.cleared is by = absurd by
-      by-event other is by = quiet (subst IsNoOther (sym is) tt) (ap (λ e. frames_given c t e own) is)
+      by-event event is by = grind (arith, given-here, quiet)
 
     -- Its deactivation.
     module _ (x : IsGivenUp c service tei e l new a) where

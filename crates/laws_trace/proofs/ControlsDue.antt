@@ -1,6 +1,6 @@
 -- What an event of a link makes due are control frames.
-use Rattle.laws_trace.proofs.Vocabulary.{arith, ◌≡◌, ℕ, ◌==◌, ◌||◌, Bool, cond, List, [], ◌∷◌, ◌++◌, Some, refl, ap, ◌∙◌, flat_map, All, nat_lt, length, All-nil, All-cons, All-append, All-head, All-tail, State, ControlFrame, received, requested, state_number, moves, Control, LinkEvent as Event, frame}
-use Rattle.laws_trace.proofs.ControlsWatched.{control_in, receipt, polled, to_information, while_up, answer_to, changed, command_of}
+use Rattle.laws_trace.proofs.Vocabulary.{arith, ◌≡◌, ℕ, ◌==◌, ◌||◌, cond, List, [], ◌∷◌, ◌++◌, Some, refl, ap, ◌∙◌, flat_map, All, nat_lt, length, All-nil, All-cons, All-append, All-head, All-tail, State, ControlFrame, received, requested, state_number, moves, LinkEvent as Event, frame}
+use Rattle.laws_trace.proofs.ControlsWatched.{control_in, receipt, while_up, answer_to, changed, command_of}
 use Rattle.laws_trace.proofs.DeliveriesWatched.{Standing}
 use Rattle.laws_trace.proofs.MovesOfLink.{ticks}
 
@@ -17,23 +17,8 @@ answers_of n201 was now state other = []
 abbrev pub IsControl : ControlFrame → Type 0
 IsControl f = control_in f.command f.control ≡ f ∷ []
 
-one : (f : ControlFrame) → IsControl f → All IsControl (f ∷ [])
-one f h = All-cons IsControl f [] h (All-nil IsControl)
-
-none-at-all : All IsControl []
-none-at-all = All-nil IsControl
-
-all-polled : (now : Standing) (p : Bool) → All IsControl (polled now p)
-all-polled now p = grind arith
-
-all-up : (state : ℕ) (xs : List ControlFrame) → All IsControl xs → All IsControl (while_up state xs)
-all-up state xs h = grind arith
-
-all-answers : (was now : Standing) (state : ℕ) (command too_long : Bool) (control : Control) → All IsControl (answer_to was now state command too_long control)
-all-answers was now state command too_long control = grind (arith, one, all-up, to_information, polled, all-polled)
-
 all-answers-of : (n201 : ℕ) (was now : Standing) (state : ℕ) (e : Event) → All IsControl (answers_of n201 was now state e)
-all-answers-of n201 was now state e = grind (arith, all-answers, none-at-all, changed, receipt, one)
+all-answers-of n201 was now state e = grind (arith, changed, receipt, All-cons, All-nil)
 
 -- What an event puts.
 abbrev pub put_by : ℕ → Standing → Standing → Event → State → State → List ControlFrame
@@ -41,8 +26,7 @@ put_by n201 was now e from to = answers_of n201 was now (state_number from) e ++
 
 pub all-put : (n201 : ℕ) (was now : Standing) (e : Event) (from to : State) → All IsControl (put_by n201 was now e from to)
 all-put n201 was now e from to =
-    All-append IsControl (answers_of n201 was now (state_number from) e) _ (all-answers-of n201 was now (state_number from) e)
-    (grind arith)
+    All-append IsControl (answers_of n201 was now (state_number from) e) _ (all-answers-of n201 was now (state_number from) e) (grind arith)
 
 pub all-controls : (frames : List ControlFrame) → All IsControl frames → controls frames ≡ frames
 all-controls [] h = refl

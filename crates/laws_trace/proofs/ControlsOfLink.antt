@@ -1,7 +1,7 @@
 -- What an event of a link puts is what it makes due.
-use Rattle.laws_trace.proofs.Vocabulary.{◌≡◌, ℕ, ◌+◌, ◌-◌, ◌≤◌, ◌==◌, ◌||◌, Bool, true, false, cond, List, [], ◌∷◌, ◌++◌, length, take, drop, zero, suc, Some, refl, sym, ap, ◌∙◌, subst, arith, nat_lt, flat_map-append, All-take, Information, Ua, Dm, Parts, HasItsTimer, needed_in, State, ControlFrame, Terms, LinkTimer, restarts, overlong, received, expired, requested, Link, is_multiple_frame, state_number, busy_asked, takes_contents, as_heard, moves, state_after, receipt_as, as_command, has_next_number, to_sabme, to_disc, answers, commands, put, behind, waiting_left, event-follows, Seq, length-drop, Control, T200, LinkEvent as Event, frame, LinkRequest as Request, room, link_after as after, link_told as told, false_from_ne_true}
+use Rattle.laws_trace.proofs.Vocabulary.{◌≡◌, ℕ, ◌+◌, ◌-◌, ◌≤◌, ◌==◌, ◌||◌, Bool, true, false, cond, List, [], ◌∷◌, ◌++◌, length, take, drop, zero, suc, Some, refl, sym, ap, ◌∙◌, subst, arith, nat_lt, flat_map-append, All-take, Information, Ua, Dm, Parts, HasItsTimer, State, ControlFrame, Terms, LinkTimer, restarts, overlong, received, expired, Link, is_multiple_frame, state_number, busy_asked, takes_contents, as_heard, moves, state_after, receipt_as, as_command, to_sabme, answers, commands, put, event-follows, Seq, length-drop, Control, T200, LinkEvent as Event, frame, room, link_after as after, link_told as told, false_from_ne_true}
 use Rattle.laws_link.specs.Waiting as waiting
-use Rattle.laws_trace.proofs.ControlsWatched.{control_in, receipt, polled, to_information, while_up, answer_to, changed, command_of}
+use Rattle.laws_trace.proofs.ControlsWatched.{control_in, receipt, polled, while_up, answer_to, command_of}
 use Rattle.laws_trace.proofs.DeliveriesWatched.{Standing}
 use Rattle.laws_trace.proofs.CommandsCaused.{enquires, IsNoOther, none-heard, none-asked}
 use Rattle.laws_trace.proofs.ControlsDue.{controls, answers_of, put_by, IsControl, all-put, all-controls}
@@ -21,15 +21,9 @@ pub record IsNumbered (t : Terms) (e : Event) (l : Link) (m : ℕ) (busy rejecte
   pub busy_on : is_multiple_frame l.state ≡ true → restarts t e l ≡ false → busy_asked e busy ≡ busy_now
   pub rejected_on : is_multiple_frame l.state ≡ true → restarts t e l ≡ false → rejected_behind false (takes_contents (as_heard t e) l) e busy rejected ≡ rejected_now
 
-by-none : (busy rejected : Bool) (r : ℕ) → [] ≡ changed (calm r busy rejected) (calm r busy rejected)
-by-none busy rejected r = grind arith
-
 -- SABME and DISC.
 by-sabme : (s : State) (p : Bool) → to_sabme s p ≡ cond (state_number s == 6) (Dm p) (Ua p)
 by-sabme s p = grind arith
-
-by-disc : (s : State) (p : Bool) → to_disc s p ≡ cond (state_number s == 4 || state_number s == 5) (Dm p) (Ua p)
-by-disc s p = grind arith
 
 -- States 7 and 8 are those of multiple-frame operation.
 pub both-up : (s : State) (xs ys : List ControlFrame) → (is_multiple_frame s ≡ true → xs ≡ ys) → cond (is_multiple_frame s) xs [] ≡ while_up (state_number s) ys
@@ -56,24 +50,15 @@ module _ (t : Terms) (l : Link) (m : ℕ) (busy rejected : Bool) (n : ℕ) (busy
   by-size : (f : Parts) (ns nr : Seq) (p long : Bool) → nat_lt t.n201 (length f.info) ≡ long → let e = received (frame (record f { control = Information ns nr p })) in
       Seen e → answers (received (cond long overlong (frame (record f { control = Information ns nr p })))) l
       ≡ answer_to was now (state_number l.state) f.address.command long (Information ns nr p)
-  by-size f ns nr p true is h = refl
-  by-size f ns nr p false is h =
-      let e = received (frame (record f { control = Information ns nr p })) in
-      both-up l.state (waiting.to_information (has_next_number ns l) p l) (to_information p was now)
-      (λ up. grind (arith, was, calm, rejected_behind))
+  by-size f ns nr p long is h = grind (arith, both-up)
 
   by-frame : (f : Parts) (control : Control) → let e = received (frame (record f { control = control })) in
       Seen e → answers (as_heard t e) l ≡ answer_to was now (state_number l.state) f.address.command (nat_lt t.n201 (length f.info)) control
-  by-frame f control h = grind (arith, by-size, both-up, calm, rejected_behind, polled, goes-on, by-sabme, by-disc, either-none)
-
-  by-request : (r : Request) (full : Bool) → let e = requested r full in
-      (xs : List ControlFrame) → Seen e → xs ≡ changed (calm l.r l.own_busy l.rejecting) (calm l.r (busy_asked e l.own_busy) l.rejecting)
-      → cond (is_multiple_frame l.state) xs [] ≡ while_up (state_number l.state) (changed was now)
-  by-request r full xs h due = grind (arith, both-up, changed, calm, rejected_behind, goes-on)
+  by-frame f control h = grind (arith, by-size, both-up, calm, rejected_behind, polled, goes-on, by-sabme, either-none)
 
   answers-are : (e : Event) → IsNoOther e → Seen e → answers (as_heard t e) l ≡ Answers e
   answers-are (received (frame f)) other h = by-frame f f.control h
-  answers-are e other h = grind (arith, either-none, by-request, by-none)
+  answers-are e other h = grind (arith, either-none, both-up, goes-on)
 
   -- Commands: those of a state that awaits an answer, where T200 expires, or the link comes there.
   enquired : (e : Event) (timer : LinkTimer) → e ≡ expired timer → Seen e → enquires (state_after t e l) ≡ true
@@ -83,27 +68,17 @@ module _ (t : Terms) (l : Link) (m : ℕ) (busy rejected : Bool) (n : ℕ) (busy
   abbrev Timed : Event → Type 0
   Timed e = let to = state_after t e l in commands e l to ≡ cond (moves l.state to || waiting.is_time e l) (command_of now (Some (state_number to))) []
 
-  commands-are : (e : Event) → IsNoOther e → Seen e → Timed e
-  commands-are e other h = grind (arith, command_of, none-heard, none-asked, enquired)
-
   -- What is heard in place of a frame leads to no enquiry.
   heard-times : (e : Event) → IsNoOther e → Seen e → Timed (as_heard t e)
   heard-times (received overlong) other h = grind (arith, command_of, now, none-heard)
-  heard-times e other h = grind (arith, command_of, none-heard, commands-are)
+  heard-times e other h = grind (arith, command_of, none-heard, none-asked, enquired)
 
   -- Where a command is due by the timer, T200 runs.
   again : (e : Event) → l.running ≡ Some T200 → waiting.is_time e l ≡ (ticks e == 1)
   again e is = grind arith
 
-  abbrev Whenever : Event → State → State → Type 0
-  Whenever e from to =
-      cond (moves from to || waiting.is_time e l) (command_of now (Some (state_number to))) [] ≡ cond (moves from to || ticks e == 1) (command_of now (Some (state_number to))) []
-
-  whenever : (e : Event) (from to : State) → l.running ≡ needed_in from l → Whenever e from to
-  whenever e from to is = grind (arith, either-none, ticks, to, is, command_of, now, again)
-
   pub put-is : (e : Event) → IsNoOther e → HasItsTimer l → Seen e → let to = state_after t (as_heard t e) l in put (as_heard t e) l to ≡ put_by t.n201 was now e l.state to
-  put-is e other timed h = grind (arith, answers-are, heard-times, whenever, command_of)
+  put-is e other timed h = grind (arith, answers-are, heard-times, either-none, again, command_of)
 
 -- Of those that are put as many wait as there is room for.
 as-many : (n : ℕ) (xs : List ControlFrame) → take n xs ≡ take (length xs - length (drop n xs)) xs
@@ -127,7 +102,7 @@ pub puts : (t : Terms) (e : Event) (l : Link) (m : ℕ) (busy rejected : Bool) (
 puts t e l m busy rejected n busy_now rejected_now other timed h =
     ap controls waits ∙ flat_map-append (λ (f : ControlFrame). control_in f.command f.control) l.waiting (take (room t l) due)
     ∙ ap (λ xs. controls l.waiting ++ xs) (all-controls (take (room t l) due) (All-take IsControl (room t l) due (all-put t.n201 was now e l.state to)) ∙ as-many (room t l) due
-    ∙ ap (λ k. take (length due - k) due) (sym lost-is))
+    ∙ ap (λ k. take (length due - k) due) (sym ((event-follows t e l).leaves.lost_is ∙ ap (λ fs. length (drop (room t l) fs)) is)))
   where
     was : Standing
     was = calm m busy rejected
@@ -150,11 +125,5 @@ puts t e l m busy rejected n busy_now rejected_now other timed h =
     is : put heard l to ≡ due
     is = subst (λ s. put heard l s ≡ put_by t.n201 was now e l.state s) (sym to-is) (put-is t l m busy rejected n busy_now rejected_now e other timed h)
 
-    others : (e : Event) → IsNoOther e → waiting_left t (as_heard t e) l to ≡ behind t l (put (as_heard t e) l to)
-    others e other = grind arith
-
     waits : (after t e l).waiting ≡ l.waiting ++ take (room t l) due
-    waits = (event-follows t e l).leaves.waiting ∙ others e other ∙ ap (λ fs. l.waiting ++ take (room t l) fs) is
-
-    lost-is : (told t e l).lost ≡ length (drop (room t l) due)
-    lost-is = (event-follows t e l).leaves.lost_is ∙ ap (λ fs. length (drop (room t l) fs)) is
+    waits = (event-follows t e l).leaves.waiting ∙ (grind arith) ∙ ap (λ fs. l.waiting ++ take (room t l) fs) is

@@ -1,5 +1,5 @@
 -- What is seen of the control frames of a link, and which are due by it.
-use Rattle.laws_trace.proofs.Vocabulary.{arith, ◌≡◌, ℕ, ◌==◌, ◌&&◌, Bool, true, false, cond, List, [], ◌∷◌, ◌++◌, map, drop, Option, Some, None, refl, sym, ap, ◌∙◌, inl, inr, eq-eqb, append-nil, Result, Ok, Err, All, IfSome, flat_map, option_to_list, nat_lt, length, All-head, All-tail, Ui, ReadFault, Service, Parts, reading, sapi_of, reading-again, event-follows, ControlFrame, Terms, Link, address_at, IsGiven, Given, orders_for, given_is_frame, Config, Effect, hears, Answer, Line, place_in, terms, aim_of, unless_refused_told, message_of, aim_of_reading, aim_of_heard, at_side, is_granted, IsBy, Brings, sapi-is, same-sapi, both-true, Refusal, eqb-true, unwrap_or, information_of, begun as course_begun, Event, answer, line_frame_of as frame_of, Request, trace_frame_in as frame_in, Seen, heard, seen, seen_told, seen_granted, drop-nil, link_after as after, link_given_of as given_of, offer_among, LinkIsInRange as IsInRange, LinkIsSound as IsSound, trace_begun as begun, service-same, StreamEvent}
+use Rattle.laws_trace.proofs.Vocabulary.{arith, ◌≡◌, ℕ, ◌==◌, ◌&&◌, true, false, cond, List, [], ◌∷◌, ◌++◌, map, drop, Some, None, refl, sym, ap, ◌∙◌, inl, inr, eq-eqb, append-nil, Result, Ok, Err, All, IfSome, flat_map, option_to_list, nat_lt, length, All-head, All-tail, Ui, ReadFault, Service, Parts, reading, sapi_of, reading-again, event-follows, ControlFrame, Terms, Link, address_at, IsGiven, Given, orders_for, given_is_frame, Config, hears, Answer, Line, place_in, terms, aim_of, message_of, aim_of_reading, at_side, is_granted, IsBy, Brings, sapi-is, same-sapi, both-true, eqb-true, unwrap_or, information_of, begun as course_begun, Event, answer, line_frame_of as frame_of, Request, trace_frame_in as frame_in, Seen, heard, seen, seen_told, seen_granted, drop-nil, link_after as after, link_given_of as given_of, offer_among, LinkIsInRange as IsInRange, LinkIsSound as IsSound, trace_begun as begun, service-same, StreamEvent}
 use Rattle.model_link.specs.Events as link
 use Rattle.laws_trace.proofs.ControlsWatched.{of_link, control_in, controls_at, while_up, answer_to, changed, answers_at, answers_to_frame}
 use Rattle.laws_trace.proofs.DeliveriesWatched.{Standing}
@@ -24,15 +24,9 @@ module _ (c : Config) (service : Service) (tei : ℕ) where
   none-told : (a : Answer) → controls_begun (seen_told a) ≡ []
   none-told a = grind arith
 
-  none-given : (o : Option Refusal) (x : Effect) → [] ≡ flat_map begun_of (frame_in (unless_refused_told o x))
-  none-given o x = grind arith
-
-  none-granted : (r : Request) (a : Answer) → controls_begun (seen_granted r a ++ seen_told a) ≡ []
-  none-granted r a = grind arith
-
   pub begun-is : (e : Event) (l : Line) → controls_begun (seen e (answer c e l)) ≡ flat_map begun_of (frame_in (answer c e l))
   unfolding answer
-  begun-is e l = grind (arith, none-granted, none-given, none-told)
+  begun-is e l = grind (arith, none-told)
 
   -- Frames of others are no control frames of this link.
   foreign : (frame : List ℕ) → IsForeign c service tei frame → begun_of frame ≡ []
@@ -48,8 +42,7 @@ module _ (c : Config) (service : Service) (tei : ℕ) where
       let t = x.0 in
       let g = x.1 in
       let away : (sapi_of t.service == sapi_of service && t.tei == tei) ≡ false = ap (λ b. b && t.tei == tei) (same-sapi t.service service) ∙ x.3 in
-      ap begun_of x.2
-      ∙ read-again c.side (λ r. of_link service tei control_in r ≡ []) (address_at t g.frame.command) g.frame.control
+      ap begun_of x.2 ∙ read-again c.side (λ r. of_link service tei control_in r ≡ []) (address_at t g.frame.command) g.frame.control
       (λ info. ap (λ b. cond b (control_of g.frame) []) away) (λ fault. refl) (unwrap_or g.contents [])
 
   pub all-foreign : (frames : List (List ℕ)) → All (IsForeign c service tei) frames → flat_map begun_of frames ≡ []
@@ -82,8 +75,7 @@ module _ (c : Config) (service : Service) (tei : ℕ) where
       go (x ∷ xs) is h =
           let under = offer_among its (x ∷ xs) (course_begun l) in
           let g : Given = record { frame = x; contents = None; orders = orders_for its l.running under.started under.link.running } in
-          let same : x ≡ f = cc is in
-          append-nil (begun_of (frame_of c its g)) ∙ given-read g h ∙ ap control_of same
+          append-nil (begun_of (frame_of c its g)) ∙ given-read g h ∙ ap control_of (cc is)
 
   pub offer-leaves : (l : Link) → IsInRange its → IsSound its l
       → controls (after its link.offer l).waiting ≡ drop (length (flat_map begun_of (frames_given c its link.offer l))) (controls l.waiting)
@@ -117,10 +109,7 @@ module _ (c : Config) (service : Service) (tei : ℕ) where
     -- by an event of the link
     frame-answers : (e : Event) (a : Answer) (frame : Parts) → Brings c e service tei frame
         → answers_seen (seen e a) ≡ answer_to was now state frame.address.command (nat_lt c.n201 (length frame.info)) frame.control
-    frame-answers e a frame x = grind (arith, heard-answers, answer_to, here)
-      where
-        here : (frame.address.sapi == sapi_of service && frame.address.tei == tei) ≡ true
-        here = grind (arith, eq-eqb, sapi-is)
+    frame-answers e a frame x = grind (arith, heard-answers, answer_to, eq-eqb, sapi-is)
 
     pub asked-answers : (r : Request) (a : Answer) → is_granted a ≡ true → answers_seen (seen_granted r a ++ seen_told a) ≡ while_up state (changed was now)
     asked-answers r a is = grind (arith, append-nil, while_up, changed)
@@ -132,7 +121,7 @@ module _ (c : Config) (service : Service) (tei : ℕ) where
     module _ (l : Line) (place : ℕ) (on : place_in l tei ≡ Some place) where
       read-none : (r : Result Parts ReadFault) → is_at_link service tei (aim_of_reading c l r) ≡ false → To r ≡ []
       read-none (Err fault) aims = refl
-      read-none (Ok frame) aims = go (frame.address.sapi == sapi_of service && frame.address.tei == tei) refl
+      read-none (Ok frame) aims = grind (arith, aimed)
         where
           aimed : (frame.address.sapi == sapi_of service && frame.address.tei == tei) ≡ true → is_at_link service tei (aim_of_reading c l (Ok frame)) ≡ true
           aimed is =
@@ -142,11 +131,5 @@ module _ (c : Config) (service : Service) (tei : ℕ) where
               (eqb-true frame.address.sapi (sapi_of service) two.0) (eqb-true frame.address.tei tei two.1) on)
               ∙ ap (λ b. b && tei == tei) (service-same service) ∙ eq-eqb tei tei refl
 
-          go : (b : Bool) → (frame.address.sapi == sapi_of service && frame.address.tei == tei) ≡ b → cond b (answer_to was now state frame.address.command (nat_lt c.n201 (length frame.info)) frame.control) [] ≡ []
-          go b is = grind (arith, aimed)
-
-      heard-none : (e : StreamEvent) → is_at_link service tei (aim_of_heard c l e) ≡ false → answers_at c service tei was now state (heard e) ≡ []
-      heard-none e aims = grind (arith, read-none)
-
       pub none-answered : (e : Event) (a : Answer) → while_up state (changed was now) ≡ [] → is_at_link service tei (aim_of c e l) ≡ false → answers_seen (seen e a) ≡ []
-      none-answered e a same aims = grind (arith, heard-answers, heard-none, append-nil, while_up, changed, begun-none)
+      none-answered e a same aims = grind (arith, heard-answers, read-none, append-nil, while_up, changed, begun-none)

@@ -14,8 +14,7 @@ module _ (c : Config) (service : Service) (tei : ℕ) where
 
   pub foreign : (frame : List ℕ) → IsForeign c service tei frame → sent_of frame ≡ None
   foreign frame (inl x) =
-      ap sent_of x.1
-      ∙ read-again c.side (λ r. sent_in service tei r ≡ None) (record { sapi = 63; command = true; tei = 127 }) (Ui false)
+      ap sent_of x.1 ∙ read-again c.side (λ r. sent_in service tei r ≡ None) (record { sapi = 63; command = true; tei = 127 }) (Ui false)
       (λ info. grind arith) (λ fault. refl) (information_of x.0)
   foreign frame (inr (inl x)) =
       ap sent_of x.1
@@ -25,8 +24,7 @@ module _ (c : Config) (service : Service) (tei : ℕ) where
       let t = x.0 in
       let g = x.1 in
       let away : (sapi_of t.service == sapi_of service && t.tei == tei) ≡ false = ap (λ b. b && t.tei == tei) (same-sapi t.service service) ∙ x.3 in
-      ap sent_of x.2
-      ∙ read-again c.side (λ r. sent_in service tei r ≡ None) (address_at t g.frame.command) g.frame.control
+      ap sent_of x.2 ∙ read-again c.side (λ r. sent_in service tei r ≡ None) (address_at t g.frame.command) g.frame.control
       (λ info. ap (λ b. cond b (sent_by g.frame.control info) None) away) (λ fault. refl) (unwrap_or g.contents [])
 
   pub own-sent : (k : Link) → IsInRange (terms c service tei) → IsSound (terms c service tei) k → (g : Given) → given (terms c service tei) k ≡ Some g

@@ -1,9 +1,9 @@
 -- What is told is what was heard.
-use Rattle.laws_trace.proofs.Vocabulary.{◌≡◌, ℕ, ◌%◌, ◌≤◌, ◌==◌, ◌&&◌, Bool, true, false, cond, List, [], ◌∷◌, length, Option, Some, None, refl, sym, ap, ◌∙◌, arith, eq-eqb, inl, inr, true≢false, All, ◌||◌, not, nat_le, count_by, list_any, and_parts, All-head, All-tail, sum_by-cons, none-some, Seq, Note, Service, Parts, service_of, same_service, Terms, Arrived, restarts, eligible, eligible_of, is_eligible, Link, is_multiple_frame, notes-own, unit_heard, Config, hears, Answer, Line, link_in, terms, aim_of, group_tei, IsInRange, notes_of, contents_in, is_data_of, is_unit_of, tells_contents, IsBy, Brings, BringsMalformed, contents-heard, sapi-is, read-aim, read-event, told-once, group-read, Control, link_information_of as information_of, IsOwn, Event, answer, IsSound, result_ok, frame_of, is_for, is_ui, Information, Unit, IsHeard, IsHeardAtLink, IsHeardByGroup, stream_frame, StreamEvent, link_told}
+use Rattle.laws_trace.proofs.Vocabulary.{◌≡◌, ℕ, ◌%◌, ◌≤◌, ◌==◌, ◌&&◌, Bool, true, false, cond, List, [], ◌∷◌, Option, Some, None, refl, sym, ap, ◌∙◌, arith, eq-eqb, inl, inr, true≢false, All, ◌||◌, count_by, list_any, All-head, All-tail, sum_by-cons, none-some, Seq, Note, Service, Parts, same_service, Terms, Arrived, restarts, eligible, Link, is_multiple_frame, notes-own, unit_heard, Config, hears, Answer, Line, link_in, terms, aim_of, group_tei, IsInRange, notes_of, contents_in, is_data_of, is_unit_of, tells_contents, IsBy, Brings, BringsMalformed, contents-heard, sapi-is, read-aim, read-event, told-once, group-read, Control, IsOwn, Event, answer, IsSound, result_ok, frame_of, is_for, is_ui, Information, Unit, IsHeard, IsHeardAtLink, IsHeardByGroup, stream_frame, StreamEvent, link_told}
 use Rattle.model_link.specs.Events as link
 use Rattle.laws_trace.proofs.Counting.{begins_by, begins}
 use Rattle.laws_trace.proofs.DeliveriesWatched.{number_in, IsOfFrame}
-use Rattle.laws_trace.proofs.Begins.{unless, begins-is}
+use Rattle.laws_trace.proofs.Begins.{begins-is}
 use Rattle.laws_trace.proofs.OneLink.{is_at_link}
 
 -- The frame that an event brings, as the grammar reads it.
@@ -41,14 +41,11 @@ module _ (service : Service) (tei : ℕ) where
     abbrev pub IsIts : Type 0
     IsIts = (same_service t.service service && t.tei == tei) ≡ true
 
-    its : (s : Service) (n : ℕ) → (s ≡ t.service) × (n ≡ t.tei) → (same_service s service && n == tei) ≡ true → IsIts
-    its s n own e = ap (λ z. same_service z service && t.tei == tei) (sym own.0) ∙ ap (λ m. same_service s service && m == tei) (sym own.1) ∙ e
-
     pub data-own : (n : Note) → IsOwn t n → is_data_of service tei n ≡ true → IsIts
-    data-own n own e = grind (arith, its)
+    data-own n own e = grind arith
 
     pub unit-own : (n : Note) → IsOwn t n → is_unit_of service tei n ≡ true → IsIts
-    unit-own n own e = grind (arith, its)
+    unit-own n own e = grind arith
 
 -- An event that is none of the link notes no contents of it.
 module _ (c : Config) (ranged : IsInRange c) (l : Line) (s : IsSound c l) (e : Event) (service : Service) (tei : ℕ) where
@@ -87,16 +84,12 @@ module _ (c : Config) (ranged : IsInRange c) (l : Line) (s : IsSound c l) (e : E
   -- the notes of the group's unit data
   pub group-notes : (contents : List ℕ) (x : IsHeardByGroup c e a contents) → notes_of a ≡ Unit x.service group_tei ∷ []
   group-notes contents x =
-      ap (λ e. notes_of (answer c e l)) x.by
-      ∙ ap notes_of (group-read c l x.parts x.octets x.service s x.read x.whose).answer_is
+      ap (λ e. notes_of (answer c e l)) x.by ∙ ap notes_of (group-read c l x.parts x.octets x.service s x.read x.whose).answer_is
 
 -- The frame that an event of the link brings.
 module _ (c : Config) (e : Event) (a : Answer) (service : Service) (tei : ℕ) where
-  its-address : (f : Parts) → service_of f.address.sapi ≡ Some service → f.address.tei ≡ tei → is_for service tei f.address ≡ true
-  its-address f sapi is = grind (arith, eq-eqb, sapi-is)
-
   pub brings-frame : (f : Parts) → Brings c e service tei f → (frame_by c e ≡ Some f) × (is_for service tei f.address ≡ true)
-  brings-frame f x = (ap (frame_by c) x.by ∙ ap result_ok x.read, its-address f x.sapi x.tei_is)
+  brings-frame f x = (ap (frame_by c) x.by ∙ ap result_ok x.read, grind (arith, eq-eqb, sapi-is))
 
   pub brings-none : (what : link.Received) → BringsMalformed c e service tei what → frame_by c e ≡ None
   brings-none what x = grind arith
@@ -104,15 +97,11 @@ module _ (c : Config) (e : Event) (a : Answer) (service : Service) (tei : ℕ) w
   pub heard-by : (what : link.Received) → BringsMalformed c e service tei what → (heard : StreamEvent) × (e ≡ hears heard)
   heard-by what x = grind arith
 
-  none-begins : (le : link.Event) (k : Link) → ((restarts (terms c service tei) le k ≡ true) → ⊥) → (ns : List Note) → frame_by c e ≡ None
-      → begins service tei (frame_by c e) ns ≡ restarts (terms c service tei) le k
-  none-begins le k never ns none = ap (λ o. begins service tei o ns) none ∙ unless (restarts (terms c service tei) le k) never
-
   -- whether the numbers begin with it
   pub one-begins : (le : link.Event) → IsBy c e a service tei le → (k : Link)
       → begins service tei (frame_by c e) (link_told (terms c service tei) le k).notes ≡ restarts (terms c service tei) le k
   one-begins (link.received (link.frame f)) by k = grind (arith, brings-frame, begins, begins_by, begins-is)
-  one-begins le by k = grind (arith, none-begins, brings-none)
+  one-begins le by k = grind (arith, brings-none)
 
   -- an I-frame that is delivered
   record Carried (t : Terms) (k : Link) (ct : Control) (octets : List ℕ) (i : Arrived) : Type 0 where
@@ -124,31 +113,10 @@ module _ (c : Config) (e : Event) (a : Answer) (service : Service) (tei : ℕ) w
     contents : i.contents ≡ octets
     up : is_multiple_frame k.state ≡ true
 
-  carried : (t : Terms) (k : Link) (ct : Control) (octets : List ℕ) (i : Arrived) → eligible_of t k (information_of ct octets) ≡ Some i → Carried t k ct octets i
-  carried t k (Information ns nr p) octets i h = go (is_eligible t k (record { ns = ns; contents = octets })) refl h
-    where
-      go : (b : Bool) → is_eligible t k (record { ns = ns; contents = octets }) ≡ b → cond b (Some (record { ns = ns; contents = octets })) None ≡ Some i
-          → Carried t k (Information ns nr p) octets i
-      go true fits e =
-          let same : record { ns = ns; contents = octets } ≡ i = cc e in
-          record {
-            ns = ns;
-            nr = nr;
-            p = p;
-            is = refl;
-            number = ap (λ (j : Arrived). j.ns) (sym same);
-            contents = ap (λ (j : Arrived). j.contents) (sym same);
-            up =
-                (and_parts (nat_le (length octets) t.n201) (is_multiple_frame k.state)
-                (and_parts (nat_le (length octets) t.n201 && is_multiple_frame k.state) (not k.own_busy) fits).0).1;
-          }
-      go false fits e = absurd (none-some i e)
-  carried t k other octets i h = absurd (none-some i h)
-
   pub data-of : (le : link.Event) → IsBy c e a service tei le → (k : Link) (n : ℕ) → (is_multiple_frame k.state ≡ true → k.r ≡ n) → (contents : List ℕ)
       → (i : Arrived) → eligible (terms c service tei) le k ≡ Some i → i.contents ≡ contents → i.ns.value ≡ k.r % 128
       → IsOfFrame service tei (record { frame = frame_by c e; count = n }) (λ control. number_in control ≡ Some (n % 128)) (Some contents)
-  data-of le by k n up contents i h same number = grind (arith, brings-frame, carried, number_in, none-some)
+  data-of le by k n up contents i h same number = grind (arith, brings-frame, number_in, none-some)
 
   -- a UI that is told
   pub unit-of : (le : link.Event) → IsBy c e a service tei le → (n : ℕ) (contents : List ℕ) → unit_heard le ≡ Some contents

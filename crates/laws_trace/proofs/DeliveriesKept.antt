@@ -39,8 +39,7 @@ rests c l service tei m busy rejected count stands = (refl, count, stands)
 joins : (c : Config) (k l m : Line) (t u : List Seen) → Shows c k t l → Shows c l u m → Shows c k (t ++ u) m
 joins c k l m t u h i service tei n busy rejected count stands =
     let first = h service tei n busy rejected count stands in
-    let was = calm n busy rejected in
-    let w = standing service tei c was t in
+    let w = standing service tei c (calm n busy rejected) t in
     let kept : calm w.told.count w.busy w.rejected ≡ w = ap (λ o. record { told = record { frame = o; count = w.told.count }; busy = w.busy; rejected = w.rejected }) (sym first.0) in
     grind (arith, standing, fold-append, stand)
 

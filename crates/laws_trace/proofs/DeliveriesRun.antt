@@ -1,5 +1,5 @@
 -- What is told is what was heard: over runs.
-use Rattle.laws_trace.proofs.Vocabulary.{arith, length, nat_le, le-leb, within, ◌≡◌, ℕ, ◌%◌, ◌&&◌, Bool, true, false, List, Option, Some, None, refl, sym, ap, ◌∙◌, subst, eq-eqb, ◌==◌, Result, Ok, Err, true≢false, ◌⊎◌, inl, inr, is_some, Note, list_any, option_or, option_map_or, none-some, ReadFault, reading, sapi_of, same_service, Service, Parts, Terms, Link, is_multiple_frame, event-delivers, delivered-at_once, notes-own, event-tells, unit_heard, event-unit, within-is, Config, hears, Answer, Line, place_in, link_in, link_of, terms, aim_of, aim_of_heard, aim_of_reading, message_of, heard_side, group_tei, IsInRange, at_side, notes_of, contents_in, is_data_of, is_unit_of, own-all, addressed-is, sapi-is, same-sapi, service-same, both-true, told-once, eqb-true, fresh_link as fresh, Event, line_after as after, answer, IsSound, result_ok, frame_of, is_for, is_ui, ReleaseConfirm, ReleaseIndication, stream_frame, StreamEvent, link_told}
+use Rattle.laws_trace.proofs.Vocabulary.{arith, length, nat_le, le-leb, within, ◌≡◌, ℕ, ◌%◌, ◌&&◌, Bool, true, false, List, Option, Some, None, refl, sym, ap, ◌∙◌, subst, eq-eqb, ◌==◌, Result, Ok, Err, true≢false, inl, inr, is_some, Note, list_any, option_or, option_map_or, none-some, ReadFault, reading, sapi_of, same_service, Service, Parts, Terms, Link, is_multiple_frame, event-delivers, delivered-at_once, notes-own, event-tells, unit_heard, event-unit, within-is, Config, hears, Answer, Line, place_in, link_in, link_of, terms, aim_of, aim_of_heard, aim_of_reading, message_of, heard_side, group_tei, IsInRange, at_side, notes_of, contents_in, is_data_of, is_unit_of, own-all, addressed-is, sapi-is, same-sapi, service-same, both-true, told-once, eqb-true, fresh_link as fresh, Event, line_after as after, answer, IsSound, result_ok, frame_of, is_for, is_ui, ReleaseConfirm, ReleaseIndication, stream_frame, StreamEvent, link_told}
 use Rattle.model_link.specs.Events as link
 use Rattle.model_link.specs.Sound as link_sound
 use Rattle.laws_trace.proofs.Counting.{Watched, begins, counted}
@@ -99,9 +99,6 @@ module _ (c : Config) (ranged : IsInRange c) (l : Line) (s : IsSound c l) (e : E
     one-small : list_any (is_unit_of service tei) (notes_of a) ≡ true → IsSmall c.n201 (contents_in a)
     one-small = unit-by (IsSmall c.n201) (within-small t.n201 (unit_heard x.event))
 
-    one-counts : IsCount (link_of service tei (after c e l)) (counted service tei w (notes_of a))
-    one-counts up = grind (arith, begins, frame_by, one-begins, counted, is_some, data-noted, event-delivers, up-before)
-
   -- None of it.
   module _ (x : HasNone c service tei e l (after c e l) a) where
     pub no-data : list_any (is_data_of service tei) (notes_of a) ≡ true → ⊥
@@ -119,8 +116,7 @@ module _ (c : Config) (ranged : IsInRange c) (l : Line) (s : IsSound c l) (e : E
         only (same_service h.service service && group_tei == tei) (sym (ap (list_any (is_unit_of service tei)) (group-notes c ranged l s e service tei y.0 h)) ∙ some) in
         record {
           frame = f;
-          heard =
-              ap (frame_by c) h.by ∙ ap result_ok h.read;
+          heard = ap (frame_by c) h.by ∙ ap result_ok h.read;
           whose =
               ap (λ n. n == sapi_of service && f.address.tei == tei) (sapi-is f.address.sapi h.service h.whose.sapi)
               ∙ ap (λ n. sapi_of h.service == sapi_of service && n == tei) h.whose.group
@@ -136,7 +132,7 @@ module _ (c : Config) (ranged : IsInRange c) (l : Line) (s : IsSound c l) (e : E
         subst (IsSmall c.n201) (sym (y.1 ∙ ap (λ octets. Some octets) (sym h.contents_are))) (le-leb (length h.parts.info) c.n201 h.whose.size)
 
     none-counts : IsCount (link_of service tei (after c e l)) (counted service tei w (notes_of a))
-    none-counts up = go x.is
+    none-counts up = grind (arith, by-frame, frame_by, begins, unless, no-data)
       where
         fresh-down : (p : Option ℕ) → place_in l tei ≡ p → is_multiple_frame k.state ≡ true → (f : Parts) → frame_by c e ≡ Some f
             → is_for service tei f.address ≡ true → ⊥
@@ -147,10 +143,6 @@ module _ (c : Config) (ranged : IsInRange c) (l : Line) (s : IsSound c l) (e : E
         by-frame None is up = refl
         by-frame (Some f) is up = and-false (is_for service tei f.address) _ (λ for. fresh-down (place_in l tei) refl up f is for)
 
-        go : (link_of service tei (after c e l) ≡ k) ⊎ (link_of service tei (after c e l) ≡ fresh)
-            → (link_of service tei (after c e l)).r ≡ counted service tei w (notes_of a)
-        go o = grind (arith, by-frame, frame_by, begins, unless, no-data)
-
   -- Its deactivation.
   pub ended-notes : (q : Note → Bool) → ((s : Service) (n : ℕ) → q (ReleaseIndication s n) ≡ false) → ((s : Service) (n : ℕ) → q (ReleaseConfirm s n) ≡ false)
       → IsGivenUp c service tei e l (after c e l) a → list_any q (notes_of a) ≡ false
@@ -158,12 +150,7 @@ module _ (c : Config) (ranged : IsInRange c) (l : Line) (s : IsSound c l) (e : E
 
   -- Unit data that is told has at most N201 octets.
   pub event-small : list_any (is_unit_of service tei) (notes_of a) ≡ true → IsSmall c.n201 (contents_in a)
-  event-small some = go (event-goes c e l service tei s)
-    where
-      go : Goes c service tei e l (after c e l) a → IsSmall c.n201 (contents_in a)
-      go (inl x) = group-small x some
-      go (inr (inr x)) = absurd (true≢false (sym some ∙ ended-notes (is_unit_of service tei) (λ s n. refl) (λ s n. refl) x))
-      go (inr (inl x)) = one-small x some
+  event-small some = grind (arith, group-small, ended-notes, one-small, event-goes)
 
   -- So of every event.
   pub event-told : IsHeard service tei w (notes_of a) (contents_in a) × IsCount (link_of service tei (after c e l)) (counted service tei w (notes_of a))
@@ -172,4 +159,4 @@ module _ (c : Config) (ranged : IsInRange c) (l : Line) (s : IsSound c l) (e : E
       go : Goes c service tei e l (after c e l) a → IsHeard service tei w (notes_of a) (contents_in a) × IsCount (link_of service tei (after c e l)) (counted service tei w (notes_of a))
       go (inl x) = grind (arith, no-data, group-told, told-once, none-counts)
       go (inr (inr x)) = grind (arith, ended-notes, told-once)
-      go (inr (inl x)) = grind (arith, one-data, one-unit, told-once, one-counts)
+      go (inr (inl x)) = grind (arith, one-data, one-unit, told-once, one-begins, data-noted, event-delivers, up-before)

@@ -11,14 +11,11 @@ module _ (c : Config) (events : List Event) (number : ℕ) (ranged : IsInRange c
   these : AreAtLines (fresh c) (before ++ calls)
   these = subst (AreAtLines (fresh c)) split all
 
-  first : AreAtLines (fresh c) before
-  first = all-left (IsAtLine (fresh c)) before calls these
-
   pub kept : card.config ≡ c
   kept = config-stays (fresh c) before
 
   pub sound : IsSound card
-  sound = always_sound (fresh c) before (fresh_is_sound c ranged) first
+  sound = always_sound (fresh c) before (fresh_is_sound c ranged) (all-left (IsAtLine (fresh c)) before calls these)
 
   pub few : number < card.config.lines
   few = subst (λ (c : Config). number < c.lines) (sym kept) within

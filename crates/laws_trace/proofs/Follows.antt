@@ -1,5 +1,5 @@
 -- What the observer of a line knows of its TEIs is what TEI management has, and what is due by an event is what that tells.
-use Rattle.laws_trace.proofs.Vocabulary.{◌≡◌, ℕ, ◌+◌, ◌*◌, ◌/◌, ◌%◌, ◌==◌, ◌&&◌, Bool, true, false, cond, not, List, [], ◌∷◌, length, drop, ◌++◌, length-append, Option, Some, None, IfSome, option_map, option_map_or, refl, sym, ap, ◌∙◌, subst, arith, eq-eqb, filter, is_some, nat_le, nat_lt, find, range_with_len, leb-true, leb-false, Management, Remembered, Period, First, Second, Message, IdentityAssigned, IdentityDenied, IdentityRemove, heard_of_type, heard_in, IsSoundCheck, free_place, free_tei-is, Config, eqb-true, ltb-true, ltb-false, Removed, Doubled, Check, TeiCourse as Course, tei_begun as begun, by_message, Checked, Managed, nothing_due, owes, gives, asked, leaves, over, checks, may_check, responded, ran_out, managing_is_on as is_on, is_of_teis, is_of_t201, begin_check, end_check, leave, lose_one, no_room, send, unserved, tei_with_message as with_message, false_from_ne_true}
+use Rattle.laws_trace.proofs.Vocabulary.{◌≡◌, ℕ, ◌+◌, ◌*◌, ◌/◌, ◌%◌, ◌==◌, ◌&&◌, Bool, true, false, cond, not, List, [], ◌∷◌, length, drop, ◌++◌, length-append, Option, Some, None, IfSome, option_map, option_map_or, refl, sym, ap, ◌∙◌, subst, arith, eq-eqb, filter, is_some, nat_lt, find, range_with_len, leb-true, leb-false, Management, Remembered, Period, First, Second, Message, IdentityAssigned, IdentityDenied, IdentityRemove, heard_of_type, heard_in, IsSoundCheck, free_place, free_tei-is, Config, eqb-true, ltb-true, ltb-false, Removed, Doubled, Check, TeiCourse as Course, tei_begun as begun, by_message, Checked, Managed, nothing_due, owes, gives, asked, leaves, over, checks, may_check, responded, ran_out, managing_is_on as is_on, is_of_teis, is_of_t201, begin_check, end_check, leave, lose_one, no_room, send, unserved, tei_with_message as with_message, false_from_ne_true}
 use Rattle.lapd_tei.specs.Rows as rows
 use Rattle.lapd_tei.specs.Sound.{IsSound}
 use Rattle.lapd_tei.specs.Table as table
@@ -74,9 +74,6 @@ module _ (on : List ℕ) (m : Management) (h : AreOn on m.places) (order : IfSom
   pub there : (check : Check) → m.check ≡ Some check → IsSoundCheck m.places check
   there check is = subst (λ o. IfSome o (IsSoundCheck m.places)) is s.checked
 
-  in-order : (check : Check) → m.check ≡ Some check → InOrder check
-  in-order check is = subst (λ o. IfSome o InOrder) is order
-
   -- A response to a check: the second one of a period has the TEI leave.
   module _ (tei : ℕ) (check : Check) (is : m.check ≡ Some check) where
     abbrev doubling : Managed
@@ -90,26 +87,13 @@ module _ (on : List ℕ) (m : Management) (h : AreOn on m.places) (order : IfSom
         subst (λ b. Leads (record (owes (IdentityRemove tei) (left b tei)) { notes = Doubled tei ∷ [] }) (rows.doubled tei (begun m))) (sym (own-check tei check is own))
         (record { notes = refl; orders = refl; lost = refl; begins = refl; granted = refl; follows = record { is = refl; on = leaves-on on m.places h tei s.table; order = tt } })
 
-    one-more : (p : Period) → let k = record check { period = p } in
-        Some (record { tei = k.tei; answered = true; before = earlier p k.first }) ≡ Some (seen_check (rows.counted k))
-    one-more p = grind (arith, eqb-true)
-
-    counts : (check.tei == tei) ≡ true → Leads (cond (not (rows.responses check == 0)) doubling answered) (rows.count tei (rows.counted check) (begun m))
-    counts own = grind (arith, there, nat_le, eqb-true, leb-true, leb-false, eq-eqb, doubles, one-more, in-order)
-
     responds-so : Leads (responded tei w (seen_check check)) (rows.respond tei (Some check) (begun m))
-    responds-so = grind (arith, counts, none-due)
+    responds-so = grind (arith, there, eqb-true, leb-true, leb-false, eq-eqb, doubles, none-due)
 
   -- T201 runs out.
   module _ (check : Check) (is : m.check ≡ Some check) where
     abbrev unanswered : Managed
     unanswered = record (leaves check.tei w) { notes = Removed check.tei ∷ [] }
-
-    asks-again : check.second ≡ 0 → Leads (checks check.tei (Some (not (check.first == 0))) w) (rows.expire_period check First (begun m))
-    asks-again none = grind arith
-
-    ends : Leads (over w) (end_check (begun m))
-    ends = record { notes = refl; orders = refl; lost = refl; begins = refl; granted = refl; follows = record { is = refl; on = h; order = tt } }
 
     removes : Leads unanswered (rows.removed check.tei (begun m))
     removes =
@@ -118,7 +102,7 @@ module _ (on : List ℕ) (m : Management) (h : AreOn on m.places) (order : IfSom
 
     by-period : (p : Period) → check.period ≡ p
         → Leads (ran_out w (record { tei = check.tei; answered = not (rows.responses (record check { period = p }) == 0); before = earlier p check.first })) (rows.expire_period check p (begun m))
-    by-period p at = grind (arith, asks-again, in-order, removes, ends)
+    by-period p at = grind (arith, removes)
 
   pub expire-leads : Leads (option_map_or (ran_out w) w.check w) (rows.expire (begun m))
   expire-leads = go m.check refl

@@ -1,8 +1,8 @@
 -- What is due of TEI management by one event of a line is what its answer shows, and the observer follows it.
-use Rattle.laws_trace.proofs.Vocabulary.{◌≡◌, ℕ, ◌==◌, Bool, true, false, cond, List, [], ◌∷◌, map, take, drop, slice_get, filter, Option, Some, None, IfSome, option_map, refl, sym, ap, ◌∙◌, subst, append-nil, true≢false, ◌⊎◌, inl, inr, arith, option_map_or, none-some, filter-append, Ui, Service, Timer, Parts, reading, Result, ReadFault, sapi_of, reading-again, Management, Message, Config, Aim, at_none, at_link, at_management, of_aim, hears, expiry, next, Answer, LineTold, gave, orders_in, Line, link_in, link_at, terms, service_at, aim_of, aim_of_heard, management_sapi, Taken, taken, next_of, line_of, at_requested, at_deactivated, heard_aims, lost_in, IsOwed, IsIdle, contents_of_link, IsOne, taken-one, served, unwrap_or, TimerT200 as T200, message_frame as frame_of, information_of, Event, told, line_after as after, answer, IsSound, result_ok, Managed, by_message, managing_by_event as by_event, is_of_teis, is_of_t201, IsAsDue, trace_frame_in as frame_in, offer, LinkEvent, LinkRequest, received, StreamEvent, link_told, tei_message, TeiEvent, tei_refusal, tei_course}
-use Rattle.laws_trace.proofs.Follows.{Follows, Leads, InOrder, as_seen, here, serve-leads, expire-leads}
+use Rattle.laws_trace.proofs.Vocabulary.{◌≡◌, ℕ, ◌==◌, Bool, true, false, cond, List, [], ◌∷◌, map, take, drop, slice_get, filter, Option, Some, None, IfSome, option_map, refl, sym, ap, ◌∙◌, subst, append-nil, true≢false, ◌⊎◌, inl, inr, arith, option_map_or, none-some, filter-append, Ui, Service, Timer, Parts, reading, Result, ReadFault, sapi_of, reading-again, Management, Message, Config, Aim, at_none, at_link, at_management, of_aim, hears, expiry, next, Answer, LineTold, gave, orders_in, Line, link_at, terms, service_at, aim_of, aim_of_heard, management_sapi, Taken, taken, next_of, line_of, at_requested, at_deactivated, heard_aims, lost_in, IsOwed, IsIdle, contents_of_link, IsOne, taken-one, served, unwrap_or, TimerT200 as T200, message_frame as frame_of, information_of, Event, told, line_after as after, answer, IsSound, result_ok, Managed, by_message, managing_by_event as by_event, is_of_teis, is_of_t201, IsAsDue, trace_frame_in as frame_in, offer, LinkEvent, LinkRequest, received, StreamEvent, link_told, tei_message, TeiEvent, tei_refusal, tei_course}
+use Rattle.laws_trace.proofs.Follows.{Follows, Leads, InOrder, as_seen, serve-leads, expire-leads}
 use Rattle.laws_trace.proofs.ManagingTables.{AreOn}
-use Rattle.laws_trace.proofs.ManagingNotes.{none-of-teis, link-others, told-orders, behind, Cases, is_management, message_in, message-is-read, heard-cases}
+use Rattle.laws_trace.proofs.ManagingNotes.{none-of-teis, link-others, told-orders, Cases, is_management, message_in, message-is-read, heard-cases}
 use Rattle.laws_trace.proofs.OneLink.{given-orders}
 use Rattle.laws_trace.proofs.ReadAgain.{read-again}
 
@@ -28,12 +28,6 @@ pub record Comes (d : Managed) (t : LineTold) (new : Management) : Type 0 where
   pub follows : Follows d new
 
 module _ (c : Config) (l : Line) where
-  managed : (me : TeiEvent) (d : Managed) → Leads d (tei_course me l.management) → let y = of_aim c (at_management me) l in Comes d y.told y.line.management
-  managed me d h =
-      let x = tei_course me l.management in
-      let b = behind c x.told (record l { management = x.now }) x.told.change in
-      grind (arith, filter-append, none-of-teis, append-nil)
-
   -- No event of it.
   pub record IsUnmanaged (aim : Aim) : Type 0 where
     pub stays : (of_aim c aim l).line.management ≡ l.management
@@ -45,10 +39,7 @@ module _ (c : Config) (l : Line) where
   none-aims t notes orders = record { stays = refl; others = notes; orders = ap (filter is_of_t201) orders; none = refl }
 
   link-aims : (service : Service) (tei place : ℕ) (event : LinkEvent) → IsUnmanaged (at_link service tei place event)
-  link-aims service tei place event =
-      let t = terms c service tei in
-      let x = link_in l service place in
-      record { stays = refl; others = none-of-teis (link_told t event x).notes (link-others t event x); orders = told-orders t event x; none = refl }
+  link-aims service tei place event = grind (arith, none-of-teis, link_told, link-others, told-orders)
 
   pub asked-aims : (service : Service) (tei : ℕ) (asked : LinkRequest) (o : Option ℕ) → IsUnmanaged (at_requested service tei asked o)
   asked-aims service tei asked o = grind (arith, none-aims, link-aims)
@@ -71,15 +62,12 @@ module _ (c : Config) (l : Line) (s : IsSound c l) (on : List ℕ) (h : AreOn on
   abbrev w : Managed
   w = as_seen on m
 
-  known : Follows w m
-  known = here on m h order s.management
-
   pub managed-shows : (e : Event) (d : Managed) (me : TeiEvent) → Leads d (tei_course me m) → let y = of_aim c (at_management me) l in Shows c l e d (told y.told) y.line.management
-  managed-shows e d me leads = grind (arith, managed, none-granted)
+  managed-shows e d me leads = grind (arith, filter-append, none-of-teis, append-nil, none-granted)
 
   pub unmanaged-shows : (e : Event) (aim : Aim) → is_management (aim_of c e l) ≡ false → IsUnmanaged c l aim
       → let y = of_aim c aim l in Shows c l e w (told y.told) y.line.management
-  unmanaged-shows e aim none x = grind (arith, none-granted, Follows, known)
+  unmanaged-shows e aim none x = grind (arith, none-granted, Follows)
 
   -- What is heard.
   abbrev Heard : StreamEvent → Aim → Option (List ℕ) → Type 0
@@ -147,13 +135,10 @@ module _ (c : Config) (l : Line) (s : IsSound c l) (on : List ℕ) (h : AreOn on
   goes new (Some t) (inr (inr x)) = (
     (ap (λ false. cond false (t.frame ∷ []) []) (ap (is_message c) x.spelled
         ∙ read-again c.side (λ r. of_management r ≡ false) (record { sapi = sapi_of (service_at x.number); command = x.command; tei = x.tei }) x.control (λ info. grind arith) (λ fault. refl)
-        (unwrap_or x.information [])))
-        ∙ none-goes x.its_turn.no_message,
+        (unwrap_or x.information []))) ∙ none-goes x.its_turn.no_message,
     stays new (ap (λ (l : Line). l.management) x.line) x.its_turn.no_message,
   )
 
   pub next-shows : Shows c l next (by_event c next w) (answer c next l) (after c next l).management
   unfolding after answer
-  next-shows =
-      let x = goes (option_map_or line_of (taken c l) l) (taken c l) (served c l s) in
-      grind (arith, next-orders, taken-one, none-granted)
+  next-shows = grind (arith, next-orders, taken-one, none-granted, goes (option_map_or line_of (taken c l) l) (taken c l) (served c l s))

@@ -1,6 +1,6 @@
 -- What is due of TEI management by a request, and by any event of a line, is what its answer shows.
-use Rattle.laws_trace.proofs.Vocabulary.{IdentityRemove, ◌≡◌, ℕ, ◌==◌, ◌&&◌, Bool, true, false, cond, not, List, [], ◌∷◌, length, Option, Some, None, IfSome, is_some, refl, sym, ap, subst, inl, arith, leb-true, leb-false, nat_le, nat_lt, list_any, Refusal, Management, free_place, on-range, Config, at_management, of_aim, hears, expiry, request, next, Line, place_in, has_tei, unless_refused, unless_refused_told, wrong_side, bad_tei, no_link, tei_taken, table_full, check_running, control_full, Assign, Remove, Deactivate, aim_of_request, has_management, passed, Down, at_no_link, filter, option_map, Stop, T201, ltb-true, ltb-false, tei_begun as begun, Event, told, line_after as after, answer, refusal, Request, Establish, Release, Data, Checking, SetBusy, ClearBusy, IsSound, Managed, owes, leaves, checks, may_check, grants, managing_by_event as by_event, due, is_of_t201, by-down, stop_of, Check, false_from_ne_true, LinkEstablish, LinkSetBusy, LinkClearBusy, LinkRelease, tei_check, tei_unless_refused, tei_course, tei_remove, tei_refusal_if, TeiEvent, tei_refusal, tei_assign, tei_step}
-use Rattle.laws_trace.proofs.Follows.{Follows, Leads, InOrder, seen_check, as_seen, here, assign-leads, remove-leads, begins-check, fewer-on, all-on}
+use Rattle.laws_trace.proofs.Vocabulary.{IdentityRemove, ◌≡◌, ℕ, ◌==◌, ◌&&◌, Bool, true, false, cond, not, List, [], ◌∷◌, length, Option, Some, None, IfSome, is_some, refl, sym, ap, subst, inl, arith, leb-true, leb-false, nat_le, nat_lt, list_any, Refusal, Management, free_place, on-range, Config, at_management, of_aim, hears, expiry, request, next, Line, place_in, has_tei, unless_refused, unless_refused_told, wrong_side, bad_tei, no_link, tei_taken, table_full, check_running, control_full, Assign, Remove, Deactivate, aim_of_request, has_management, passed, Down, at_no_link, filter, option_map, Stop, T201, ltb-true, ltb-false, tei_begun as begun, Event, told, line_after as after, answer, refusal, Request, Checking, SetBusy, ClearBusy, IsSound, Managed, owes, leaves, checks, may_check, grants, managing_by_event as by_event, due, is_of_t201, by-down, stop_of, Check, false_from_ne_true, LinkSetBusy, LinkClearBusy, tei_check, tei_unless_refused, tei_course, tei_remove, tei_refusal_if, TeiEvent, tei_refusal, tei_assign, tei_step}
+use Rattle.laws_trace.proofs.Follows.{Follows, Leads, InOrder, seen_check, as_seen, assign-leads, remove-leads, begins-check, fewer-on, all-on}
 use Rattle.laws_trace.proofs.ManagingTables.{AreOn}
 use Rattle.laws_trace.proofs.ManagingNotes.{is_management}
 use Rattle.laws_trace.proofs.FollowsLine.{Shows, IsUnmanaged, none-granted, asked-aims, deactivated-aims, managed-shows, unmanaged-shows, hears-shows, expiry-shows, next-shows}
@@ -13,9 +13,6 @@ module _ (c : Config) (l : Line) (s : IsSound c l) (on : List ℕ) (h : AreOn on
   abbrev w : Managed
   w = as_seen on m
 
-  known : Follows w m
-  known = here on m h order s.management
-
   -- A request.
   abbrev Answers : Request → Managed → Option Refusal → Type 0
   Answers r d o = let x = of_aim c (unless_refused o (aim_of_request r l)) l in Shows c l (request r) d (unless_refused_told o x) x.line.management
@@ -24,10 +21,7 @@ module _ (c : Config) (l : Line) (s : IsSound c l) (on : List ℕ) (h : AreOn on
   granted-so so is = cc is
 
   by-grant : (r : Request) (after : Managed) (may : Bool) → is_some (refusal c false r l) ≡ not may → (refusal c false r l ≡ None → Answers r (grants true after w) None) → Answers r (grants may after w) (refusal c false r l)
-  by-grant r after may same granted = go (refusal c false r l) refl may same
-    where
-      go : (o : Option Refusal) → refusal c false r l ≡ o → (g : Bool) → is_some o ≡ not g → Answers r (grants g after w) o
-      go o is g same = grind (arith, granted)
+  by-grant r after may same granted = grind (arith, granted)
 
   course-is : (e : TeiEvent) → tei_refusal e m ≡ None → tei_course e m ≡ tei_step e (begun m)
   unfolding tei_course
@@ -56,15 +50,12 @@ module _ (c : Config) (l : Line) (s : IsSound c l) (on : List ℕ) (h : AreOn on
   on-low tei there =
       false_from_ne_true (nat_lt 126 tei) (λ high. let x = ltb-true 126 tei high in let y = on-range m.places tei s.management.table there in omega (arith, x, y))
 
-  room-is : nat_lt (length on) c.terminals ≡ not (not (is_some (free_place m.places)))
-  room-is = grind (arith, is_some, all-on, fewer-on)
-
   assign-shows : (tei : ℕ) → Answers (Assign tei) (by_event c (request (Assign tei)) w) (refusal c false (Assign tei) l)
   unfolding tei_refusal
   assign-shows tei = by-grant (Assign tei) (record w { on = tei ∷ on }) (nat_le tei 126 && not (list_any (λ y. y == tei) on) && nat_lt (length on) c.terminals) same granted
     where
       same : is_some (refusal c false (Assign tei) l) ≡ not (nat_le tei 126 && not (list_any (λ y. y == tei) on) && nat_lt (length on) c.terminals)
-      same = grind (arith, is_some, nat_le, leb-true, ltb-true, leb-false, ltb-false, room-is)
+      same = grind (arith, is_some, nat_le, leb-true, ltb-true, leb-false, ltb-false, all-on, fewer-on)
 
       granted : refusal c false (Assign tei) l ≡ None → Answers (Assign tei) (grants true (record w { on = tei ∷ on }) w) None
       granted none =
@@ -103,7 +94,7 @@ module _ (c : Config) (l : Line) (s : IsSound c l) (on : List ℕ) (h : AreOn on
           granted-shows (Checking tei) (checks tei None w) (tei_check tei) refl (three _ _ _ _ _ _ unknown.0 running.0 full.0) (begins-check on m h order s.management tei)
 
   link-shows : (r : Request) → IsUnmanaged c l (aim_of_request r l) → (o : Option Refusal) → refusal c false r l ≡ o → Answers r w o
-  link-shows r x o is = grind (arith, none-granted, known, unmanaged-shows, is_management)
+  link-shows r x o is = grind (arith, none-granted, unmanaged-shows, is_management)
 
   -- That the line is down.
   stopped : (o : Option Check) → filter is_of_t201 (stop_of o) ≡ cond (is_some (option_map seen_check o)) (Stop T201 ∷ []) []
@@ -127,10 +118,6 @@ module _ (c : Config) (l : Line) (s : IsSound c l) (on : List ℕ) (h : AreOn on
 
   request-shows : (r : Request) → Requested r
   unfolding after answer
-  request-shows (Establish service tei) = link-shows (Establish service tei) (asked-aims c l service tei LinkEstablish (place_in l tei)) (refusal c false (Establish service tei) l) refl
-  request-shows (Release service tei) = link-shows (Release service tei) (asked-aims c l service tei LinkRelease (place_in l tei)) (refusal c false (Release service tei) l) refl
-  request-shows (Data service tei contents) = grind (arith, link-shows, asked-aims)
-  request-shows (Request.Unit service tei contents) = grind (arith, link-shows)
   request-shows (SetBusy service tei) = link-shows (SetBusy service tei) (asked-aims c l service tei LinkSetBusy (place_in l tei)) (refusal c false (SetBusy service tei) l) refl
   request-shows (ClearBusy service tei) = link-shows (ClearBusy service tei) (asked-aims c l service tei LinkClearBusy (place_in l tei)) (refusal c false (ClearBusy service tei) l) refl
   request-shows (Deactivate service tei) = link-shows (Deactivate service tei) (deactivated-aims c l service tei (place_in l tei)) (refusal c false (Deactivate service tei) l) refl
@@ -138,6 +125,7 @@ module _ (c : Config) (l : Line) (s : IsSound c l) (on : List ℕ) (h : AreOn on
   request-shows (Remove tei) = remove-shows tei
   request-shows (Checking tei) = check-shows tei
   request-shows Down = down-shows
+  request-shows other = grind (arith, link-shows, asked-aims)
 
   seen-shows : (e : Event) → Shows c l e (by_event c e w) (answer c e l) (after c e l).management
   seen-shows (hears e) = hears-shows c l s on h order e

@@ -1,5 +1,5 @@
 -- What an event of a line leaves of the contents that a link keeps.
-use Rattle.laws_trace.proofs.Vocabulary.{◌≡◌, ℕ, ◌%◌, Bool, true, false, cond, not, List, [], ◌∷◌, ◌++◌, ◌&&◌, ◌||◌, drop, Some, None, refl, sym, ap, ◌∙◌, subst, ◌⊎◌, inl, inr, arith, append-nil, All, is_some, list_any, All-head, All-tail, none-some, Note, Service, place_of-is, is_on-at, not_not, accepted, ends, is_release, tells_loss, empties, Terms, Link, is_multiple_frame, queue_of, state_number, notes-own, Config, at_link, Answer, request, next, Line, has_tei, link_of, place_in, terms, aim_of, bad_tei, no_link, wrong_state, Deactivate, at_requested, at_deactivated, aim_of_request, IsInRange, terms_in_range, notes_of, is_loss_of, is_granted, IsBy, link-grants, passed, not-refused, fresh_link, refusal, Request, Release, IsSound, of_link, brings, is_news, is_sabme, steps, seen, is_up, link_after as after, link_told as told, Event, cond_both, LinkRequest, requested, LinkEvent, LinkRelease, LinkData, cleared, line_after, answer}
+use Rattle.laws_trace.proofs.Vocabulary.{◌≡◌, ℕ, ◌%◌, Bool, true, false, cond, not, List, [], ◌∷◌, ◌++◌, ◌&&◌, ◌||◌, drop, Some, None, refl, sym, ap, ◌∙◌, subst, ◌⊎◌, inr, arith, append-nil, All, is_some, list_any, All-head, All-tail, none-some, Note, Service, place_of-is, is_on-at, not_not, accepted, ends, is_release, tells_loss, empties, Terms, Link, is_multiple_frame, queue_of, state_number, notes-own, Config, at_link, Answer, request, next, Line, has_tei, link_of, place_in, terms, aim_of, Deactivate, at_requested, at_deactivated, aim_of_request, IsInRange, terms_in_range, notes_of, is_loss_of, is_granted, link-grants, not-refused, fresh_link, refusal, Request, Release, IsSound, of_link, brings, is_news, is_sabme, steps, seen, is_up, link_after as after, link_told as told, Event, cond_both, LinkRequest, requested, LinkRelease, LinkData, cleared, line_after, answer}
 use Rattle.model_link.specs.Requests as requests
 use Rattle.model_link.specs.Sound as link_sound
 use Rattle.laws_trace.proofs.LineAtEnd.{link-at-end}
@@ -49,22 +49,13 @@ module _ (c : Config) (ranged : IsInRange c) (l : Line) (s : IsSound c l) (servi
       not-full what full contents is event asked g o = grind (arith, not-refused, link-grants)
   accepted-asked e x = grind (arith, only-offered, no-data, told-grants)
 
-  no-end : (e : Event) → ((r : Request) → e ≡ request r → ⊥) → (le : LinkEvent) → IsBy c e (answer c e l) service tei le → ends own_terms le own ≡ false
-  no-end e never le by = grind arith
-
   noted : (e : Event) → (x : One e) → list_any (is_loss_of service tei) (notes_of (answer c e l)) ≡ tells_loss (told own_terms x.event own).notes
   noted e x =
       ap (list_any (is_loss_of service tei)) x.notes ∙ sym (own-losses own_terms (told own_terms x.event own).notes (notes-own own_terms x.event own))
 
-  by-notes : (e : Event) → (x : One e) → ends own_terms x.event own ≡ false → list_any (is_loss_of service tei) (notes_of (answer c e l)) ≡ empties own_terms x.event own
-  by-notes e x none = noted e x ∙ sym (ap (λ b. b || tells_loss (told own_terms x.event own).notes) none)
-
   -- a release that the line grants its link does not refuse
   served : (place : ℕ) → place_in l tei ≡ Some place → refusal c false (Release service tei) l ≡ None → (full : Bool) → requests.refusal own_terms own full LinkRelease ≡ None
-  served place on none full =
-      let state = wrong_state service tei LinkRelease l in
-      let bad = passed (bad_tei tei) (no_link tei l ∷ state ∷ []) none in
-      grind (arith, not_not)
+  served place on none full = grind (arith, not_not)
 
   released : (what : LinkRequest) (full : Bool) → (what ≡ LinkRelease → requests.refusal own_terms own full LinkRelease ≡ None)
       → is_release what ≡ ends own_terms (requested what full) own
@@ -79,9 +70,8 @@ module _ (c : Config) (ranged : IsInRange c) (l : Line) (s : IsSound c l) (servi
       ∙ ap (λ b. b || list_any (is_loss_of service tei) ns)
       (ap (is_release_of service tei) y.3 ∙ own-release service tei y.0
       ∙ released y.0 y.1 (λ is. served x.place x.placed (subst (λ r. refusal c false r l ≡ None) (y.3 ∙ ap (of_link service tei) is) (not-refused c r l y.4)) y.1)
-      ∙ sym (ap (λ le. ends own_terms le own) y.2))
-      ∙ ap (λ b. ends own_terms x.event own || b) (noted (request r) x)
-  lost-is e x = grind (arith, heard-loses, by-notes, no-end, expiry-loses, only-offered, offer-tells_nothing)
+      ∙ sym (ap (λ le. ends own_terms le own) y.2)) ∙ ap (λ b. ends own_terms x.event own || b) (noted (request r) x)
+  lost-is e x = grind (arith, heard-loses, noted, told, expiry-loses, only-offered, offer-tells_nothing)
 
   -- No event of the link grants it data.
   pub none-granted : (e : Event) → HasNone c service tei e l (line_after c e l) (answer c e l) → granted_in service tei (seen e (answer c e l)) ≡ []
@@ -183,9 +173,7 @@ module _ (c : Config) (ranged : IsInRange c) (l : Line) (s : IsSound c l) (servi
   left-so p q on there = go (event-goes c e l service tei s)
     where
       go : Goes c service tei e l new a → Left
-      go (inl x) = none-left-so x p q on there
-      go (inr (inl x)) = one-left x
-      go (inr (inr x)) = grind (arith, granted_in, lost_in, asked-loses, own-is)
+      go other = grind (arith, none-left-so, one-left, granted_in, lost_in, asked-loses, own-is)
 
   -- A TEI that comes to the line has a link that begins.
   pub comes-so : place_in l tei ≡ None → k' ≡ fresh_link

@@ -1,5 +1,5 @@
 -- What an event of a link leaves of the contents that it keeps, and how far V(A) goes on.
-use Rattle.laws_trace.proofs.Vocabulary.{◌≡◌, ℕ, ◌+◌, ◌-◌, ◌%◌, ◌≤◌, Bool, true, false, cond, not, List, [], ◌∷◌, ◌++◌, ◌&&◌, ◌||◌, ◌==◌, drop, Some, is_some, refl, sym, ap, ◌∙◌, arith, eq-eqb, All, list_any, All-head, All-tail, none-some, Note, Service, Parts, same_service, Seq, Terms, restarts, received, Link, is_multiple_frame, queue_of, state_number, accepted, acknowledged_by, ends, empties, is_loss, as_heard, is_overlong, receipt_of, event-follows, event-done, is_loss_of, service-same, Control, LinkEvent as Event, frame, link_after as after, IsOwn, LinkIsSound as IsSound, acknowledged, is_sabme, steps, is_up, cond_both}
+use Rattle.laws_trace.proofs.Vocabulary.{◌≡◌, ℕ, ◌%◌, ◌≤◌, Bool, true, false, cond, not, List, [], ◌∷◌, ◌++◌, ◌&&◌, ◌||◌, drop, refl, sym, ap, ◌∙◌, arith, eq-eqb, All, list_any, All-head, All-tail, none-some, Note, Parts, Terms, restarts, received, Link, is_multiple_frame, queue_of, state_number, accepted, ends, empties, is_loss, event-follows, event-done, is_loss_of, service-same, Control, LinkEvent as Event, frame, link_after as after, IsOwn, LinkIsSound as IsSound, acknowledged, is_sabme, steps, is_up, cond_both}
 use Rattle.laws_trace.proofs.DataOfLink.{acknowledged-went}
 use Rattle.laws_trace.proofs.NewsRows.{sabme_of}
 use Rattle.laws_trace.proofs.Facts.{number-up}
@@ -7,15 +7,8 @@ use Rattle.laws_trace.proofs.Facts.{number-up}
 -- In states 7 and 8, and behind what leaves a link there, V(A) goes on by what is acknowledged; otherwise nothing is.
 module _ (t : Terms) (k : Link) where
   -- where it goes down
-  module _ (f : Parts) (goes : is_multiple_frame (after t (received (frame f)) k).state ≡ false) where
-    by-number : (ct : Control) → f.control ≡ ct → (nr : Seq) → receipt_of ct ≡ Some nr → as_heard t (received (frame f)) ≡ received (frame f) → acknowledged_by (Some nr) k ≡ 0
-    by-number ct is nr its heard = grind (arith, event-follows, is_some, none-some)
-
-    supervised : (ct : Control) → f.control ≡ ct → is_overlong t ct f.info ≡ false → (nr : Seq) → receipt_of ct ≡ Some nr → acknowledged_by (Some nr) k ≡ 0
-    supervised ct is short nr its = grind (arith, by-number)
-
   going-acked : (e : Event) → is_multiple_frame (after t e k).state ≡ false → acknowledged t e k ≡ 0
-  going-acked e goes = grind (arith, cond_both, supervised)
+  going-acked e goes = grind (arith, cond_both, event-follows, none-some)
 
   -- by SABME
   anew-acked : (e : Event) → sabme_of e ≡ true → acknowledged t e k ≡ 0
@@ -32,9 +25,6 @@ module _ (t : Terms) (k : Link) where
 abbrev pub went_by : Bool → Link → Link → ℕ
 went_by anew k x = cond (is_up (state_number k.state) && is_up (state_number x.state) && not anew) (steps (k.a % 128) (x.a % 128)) 0
 
-stepped : (a n more : ℕ) → n ≡ a + more → more ≤ 127 → (128 + n % 128 - a % 128) % 128 ≡ more
-stepped a n more is few = omega (arith, is, few)
-
 module _ (t : Terms) (k : Link) (s : IsSound t k) (small : t.k ≤ 127) (e : Event) where
   abbrev next : Link
   next = after t e k
@@ -45,9 +35,6 @@ module _ (t : Terms) (k : Link) (s : IsSound t k) (small : t.k ≤ 127) (e : Eve
   abbrev gone : ℕ
   gone = acknowledged t e k
 
-  a-is : restarts t e k ≡ false → empties t e k ≡ false → next.a ≡ k.a + gone
-  a-is on some = grind (arith, event-done)
-
   -- What is left.
   pub none-left : empties t e k ≡ true → queue_of next ≡ []
   none-left all = (event-done t k s e).comes.kept ∙ ap (λ true. cond {A = List (List ℕ)} true [] (drop gone (queue_of k) ++ more)) all
@@ -56,18 +43,12 @@ module _ (t : Terms) (k : Link) (s : IsSound t k) (small : t.k ≤ 127) (e : Eve
   some-left some =
       ((event-done t k s e).comes.kept ∙ ap (λ false. cond {A = List (List ℕ)} false [] (drop gone (queue_of k) ++ more)) some)
       ∙ ap (λ n. drop n (queue_of k) ++ more)
-      (sym (grind (arith, number-up, going-acked, anew-acked, goes-on, acknowledged-went, stepped, a-is)))
+      (sym (grind (arith, number-up, going-acked, anew-acked, goes-on, acknowledged-went, event-done)))
 
 -- A note of a link of a loss is one of this link.
 module _ (t : Terms) where
-  its-own : (service : Service) (tei : ℕ) → service ≡ t.service → tei ≡ t.tei → true ≡ (same_service service t.service && tei == t.tei)
-  its-own service tei same is = grind (arith, service-same, eq-eqb)
-
-  own-loss : (n : Note) → IsOwn t n → is_loss n ≡ is_loss_of t.service t.tei n
-  own-loss n own = grind (arith, its-own)
-
   pub own-losses : (ns : List Note) → All (IsOwn t) ns → list_any is_loss ns ≡ list_any (is_loss_of t.service t.tei) ns
   own-losses [] all = refl
   own-losses (n ∷ ns) all =
-      ap (λ b. b || list_any is_loss ns) (own-loss n (All-head (IsOwn t) n ns all))
+      ap (λ b. b || list_any is_loss ns) (grind (arith, service-same, eq-eqb, All-head))
       ∙ ap (λ b. is_loss_of t.service t.tei n || b) (own-losses ns (All-tail (IsOwn t) n ns all))

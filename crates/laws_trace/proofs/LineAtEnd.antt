@@ -1,5 +1,5 @@
 -- The line and a link of it behind a list of events; and a link that has nothing to send, where nothing of its line does.
-use Rattle.laws_trace.proofs.Vocabulary.{◌≡◌, ℕ, ◌<◌, List, get_or, Option, Some, None, sym, ap, ◌∙◌, subst, arith, option_map_or, Service, place_of-is, Config, Line, link_in, link_of, link_number, place_at, place_in, tei_at, terms, IsInRange, sound_in, place_at-number, service_at-number, HasNothing, IsSilent, line_at, fresh_is_sound, line-sound, config-stays, [], gave, next, next_of, Taken, taken, at, option_map, fresh_link as fresh, IsSound, CardEvent as Event, after_all, AreAtLines, always_sound, none-waits, trace_frame_in as frame_in, card_answer as answer}
+use Rattle.laws_trace.proofs.Vocabulary.{◌≡◌, ℕ, ◌<◌, List, get_or, Option, Some, None, sym, ap, ◌∙◌, subst, arith, option_map_or, Service, place_of-is, Config, Line, link_in, link_of, place_in, terms, IsInRange, sound_in, place_at-number, service_at-number, HasNothing, IsSilent, line_at, fresh_is_sound, line-sound, config-stays, [], gave, next, next_of, Taken, taken, at, option_map, fresh_link as fresh, IsSound, CardEvent as Event, after_all, AreAtLines, always_sound, none-waits, trace_frame_in as frame_in, card_answer as answer}
 use Rattle.model_link.specs.Sound as link_sound
 use Rattle.model_card.specs.Card as cards
 use Rattle.model_line.specs.Machine as lines
@@ -9,9 +9,7 @@ pub silent-there : (c : Config) (l : Line) → IsSound c l → HasNothing c l �
     → IsSilent (terms c service tei) (link_of service tei l)
 silent-there c l s h service tei place is =
     let found = place_of-is l.management.places tei place is in
-    let number = link_number place service in
-    let there : tei_at (place_at number) l ≡ Some tei = ap (λ p. get_or l.management.places p None) (place_at-number place service) ∙ found.1 in
-    grind (arith, service_at-number)
+    grind (arith, service_at-number, ap (λ p. get_or l.management.places p None) (place_at-number place service) ∙ found.1)
 
 -- The line at the end, and a link of it.
 pub line-at-end : (c : Config) (events : List Event) (number : ℕ) → IsInRange c → AreAtLines (cards.fresh c) events → number < c.lines

@@ -1,5 +1,5 @@
 -- Which state a link moves to: one event of a line, by what is seen of it.
-use Rattle.laws_trace.proofs.Vocabulary.{arith, ◌≡◌, ℕ, ◌==◌, ◌&&◌, Bool, true, false, cond, List, [], ◌∷◌, length, map, Option, Some, None, Result, Ok, refl, sym, ap, ◌∙◌, eq-eqb, true≢false, fold, is_some, nat_lt, option_map_or, Address, ReadFault, ErrorCode, L, Service, Timer, Parts, sapi_of, service_of, same_service, place_of-is, is_on-at, LinkTimer, Config, Aim, at_link, expiry, Answer, aim_of_expiry, at_timer, Line, has_tei, place_in, terms, aim_of, addressed, aim_of_heard, aim_of_reading, message_of, Deactivate, aim_of_request, at_requested, at_deactivated, at_side, IsBy, BringsMalformed, timer_of, IsDeactivated, addressed-is, sapi-is, service-same, both-true, eqb-true, T200, T203, Event, answer, Request, Establish, Release, option_and_then, result_ok, result_err, is_for, fault_of, is_own, seen, seen_told, is_up, and-false, and-true, Seen, trace_begun as begun, heard, not-refused, StreamEvent, T201, TimerT203, TimerT200}
+use Rattle.laws_trace.proofs.Vocabulary.{arith, ◌≡◌, ℕ, ◌==◌, ◌&&◌, Bool, true, false, cond, List, [], ◌∷◌, length, map, Option, Some, None, Result, Ok, refl, sym, ap, ◌∙◌, eq-eqb, true≢false, fold, is_some, nat_lt, option_map_or, Address, ReadFault, ErrorCode, L, Service, Timer, Parts, sapi_of, service_of, same_service, place_of-is, is_on-at, Config, Aim, at_link, expiry, Answer, aim_of_expiry, at_timer, Line, has_tei, place_in, terms, aim_of, addressed, aim_of_heard, aim_of_reading, message_of, Deactivate, aim_of_request, at_requested, at_deactivated, at_side, IsBy, IsDeactivated, addressed-is, sapi-is, service-same, both-true, eqb-true, T200, T203, Event, answer, Request, Establish, Release, option_and_then, result_ok, result_err, is_for, fault_of, is_own, seen, is_up, and-false, and-true, Seen, trace_begun as begun, heard, not-refused, StreamEvent, T201, TimerT203, TimerT200}
 use Rattle.model_link.specs.Events as link
 use Rattle.laws_trace.proofs.MovesWatched.{by_frame, by_parts, by_request, by_seen, by_expiry, led}
 use Rattle.laws_trace.proofs.States.{expired_of, one_more}
@@ -23,9 +23,6 @@ module _ (c : Config) (service : Service) (tei : ℕ) (k : Known) where
   abbrev by_heard : ℕ → StreamEvent → ℕ
   by_heard x e = by_seen c service tei k x (heard e)
 
-  told-leads : (x : ℕ) (a : Answer) → by_all x (seen_told a) ≡ x
-  told-leads x a = grind arith
-
   begun-leads : (x : ℕ) (frames : List (List ℕ)) → by_all x (map begun frames) ≡ x
   begun-leads x [] = refl
   begun-leads x (f ∷ frames) = begun-leads x frames
@@ -36,9 +33,6 @@ module _ (c : Config) (service : Service) (tei : ℕ) (k : Known) where
 
   no-fault : (x y : ℕ) (b : Bool) (code : ErrorCode) → b ≡ false → cond (is_up x && is_some (cond b (Some code) None)) 5 y ≡ y
   no-fault x y b code none = ap (λ b. cond (is_up x && is_some (cond b (Some code) None)) 5 y) none ∙ ap (λ b. cond b 5 y) (and-false (is_up x))
-
-  own-frame : (x : ℕ) (f : Parts) → is_for service tei f.address ≡ true → by_reading x (Ok f) ≡ by_frame k x f.address.command (nat_lt c.n201 (length f.info)) f.control
-  own-frame x f for = grind (arith, no-fault, by_parts, by_frame)
 
   -- No event of the link.
   module _ (l : Line) (place : ℕ) (on : place_in l tei ≡ Some place) where
@@ -91,15 +85,14 @@ module _ (c : Config) (service : Service) (tei : ℕ) (k : Known) where
         ap (λ b. cond (b && x == 4) 5 x) (elsewhere its by (link.requested link.Establish false) (at_requested its by link.Establish) (λ p. refl) aims)
     none-asked x (Release its by) aims =
         ap (λ b. cond (b && is_up x) 6 x) (elsewhere its by (link.requested link.Release false) (at_requested its by link.Release) (λ p. refl) aims)
-    none-asked x (Deactivate its by) aims =
-        ap (λ b. cond b 4 x) (elsewhere its by link.cleared (at_deactivated its by) (λ p. refl) aims)
+    none-asked x (Deactivate its by) aims = ap (λ b. cond b 4 x) (elsewhere its by link.cleared (at_deactivated its by) (λ p. refl) aims)
     none-asked x other aims = refl
 
     pub none-ticks : (e : Event) → is_at_link service tei (aim_of c e l) ≡ false → expired_of service tei e ≡ None
     none-ticks e aims = grind (arith, none-expired)
 
     pub none-led : (n x : ℕ) (e : Event) → is_at_link service tei (aim_of c e l) ≡ false → led c service tei k n e (seen e (answer c e l)) x ≡ x
-    none-led n x e aims = grind (arith, told-leads, heard-none, by_expiry, expired_of, none-expired, none-asked, is_at_link, not-refused, begun-leads)
+    none-led n x e aims = grind (arith, heard-none, by_expiry, expired_of, none-expired, none-asked, is_at_link, not-refused, begun-leads)
 
   -- One event of the link.
   module _ (a : Answer) where
@@ -113,14 +106,8 @@ module _ (c : Config) (service : Service) (tei : ℕ) (k : Known) where
     abbrev Leads : ℕ → ℕ → Event → link.Event → Type 0
     Leads n x e event = led c service tei k n e (seen e a) x ≡ expected (terms c service tei) k n event x
 
-    brings-malformed : (n x : ℕ) (e : Event) (what : link.Received) → BringsMalformed c e service tei what → led c service tei k n e (seen e a) x ≡ cond (is_up x) 5 x
-    brings-malformed n x e what y = grind (arith, led, told-leads, is_some, and-true)
-
-    ticked : (timer : LinkTimer) → expired_of service tei (expiry (timer_of service tei timer)) ≡ Some timer
-    ticked timer = grind (arith, own-is)
-
     pub one-led : (n x : ℕ) (e : Event) (event : link.Event) → IsBy c e a service tei event → Leads n x e event
-    one-led n x e event y = grind (arith, led, told-leads, own-frame, own-address, brings-malformed, by_expiry, expired_of, ticked, own-is)
+    one-led n x e event y = grind (arith, led, no-fault, own-address, and-true, by_expiry, expired_of, own-is)
 
     pub one-ticks : (e : Event) (event : link.Event) → IsBy c e a service tei event → option_map_or one_more (expired_of service tei e) 0 ≡ ticks event
-    one-ticks e event y = grind (arith, one_more, expired_of, heard-by, ticked)
+    one-ticks e event y = grind (arith, one_more, expired_of, heard-by, own-is)

@@ -1,5 +1,5 @@
 -- Which state a link moves to: the law.
-use Rattle.laws_trace.proofs.Vocabulary.{◌≡◌, ℕ, ◌+◌, ◌<◌, ◌≤◌, ◌==◌, not, Bool, true, false, cond, List, [], get_or, set, Option, Some, None, refl, sym, ap, ◌∙◌, subst, arith, eq-eqb, true≢false, inl, inr, IfSome, option_map_or, and_parts, get_or-set_same, get_or-replicate, PoolFull, Service, State, Terms, Link, state_number, Config, Answer, refused, Line, fresh_line, link_of, link_in, place_in, state_of, terms, IsInRange, Card, line_at, is_full, has_lines, by_room, line_sound, AllHaveTheirTimers, IsBy, HaveTheirTimers, nowhere, moves, eqb-true, fresh_link, IsSound, fresh, CardEvent as Event, after, card_answer as answer, IsAtLine, AreAtLines, seen, LinkEvent, cleared}
+use Rattle.laws_trace.proofs.Vocabulary.{◌≡◌, ℕ, ◌+◌, ◌≤◌, ◌==◌, not, Bool, true, false, cond, get_or, set, Option, Some, None, refl, sym, ap, ◌∙◌, subst, arith, eq-eqb, true≢false, inl, inr, IfSome, option_map_or, and_parts, get_or-set_same, Service, State, Terms, Link, state_number, Config, Answer, Line, fresh_line, link_of, place_in, state_of, terms, IsInRange, Card, line_at, is_full, has_lines, by_room, line_sound, AllHaveTheirTimers, IsBy, HaveTheirTimers, moves, eqb-true, IsSound, CardEvent as Event, after, card_answer as answer, IsAtLine, seen, LinkEvent, cleared}
 use Rattle.model_line.specs.Event as line_event
 use Rattle.model_line.specs.Machine as lines
 use Rattle.model_card.specs.Sound as card_sound
@@ -63,12 +63,10 @@ module _ (c : Config) (ranged : IsInRange c) (l : Line) (s : IsSound c l) (timed
     one-leads x =
         let sound = events.sound c ranged l s timed service tei k agrees e x in
         let ordered : own.a ≤ own.s = sound.ordered in
-        let window : own.s ≤ own.a + t.k = sound.within in
         let small : t.k ≤ 127 = (events.range c ranged l s timed service tei k agrees e x).k_high in
         ap (λ (y : Link). state_number y.state) x.is
-        ∙ event-leads t k own n ordered (omega (arith, window, small)) (events.own-timed c ranged l s timed service tei k agrees e x.place x.placed) agrees counts x.event
-        (no-event x.event c e a service tei x.by)
-        ∙ sym (one-led c service tei k a n (state_number own.state) e x.event x.by)
+        ∙ event-leads t k own n ordered (omega (arith, small)) (events.own-timed c ranged l s timed service tei k agrees e x.place x.placed) agrees counts x.event
+        (no-event x.event c e a service tei x.by) ∙ sym (one-led c service tei k a n (state_number own.state) e x.event x.by)
 
     leads : Leads
     leads = go (event-goes c e l service tei s)
@@ -89,9 +87,8 @@ module _ (c : Config) (ranged : IsInRange c) (l : Line) (s : IsSound c l) (timed
     stays-counted = go (event-goes c e l service tei s)
       where
         go : Goes c service tei e l (lines.after c e l) a → Counts next.state (counted (told_state own.state) (told_state next.state)) next.repeats
-        go (inl x) = none-counted x
-        go (inr (inl x)) = grind (arith, told_state, one_more, expired_of, differs, one-ticks, event-counted, no-event, events.own-timed)
-        go (inr (inr x)) = subst (λ (y : Link). Counts y.state (counted (told_state own.state) (told_state y.state)) y.repeats) (sym x.is) tt
+        go other =
+            grind (arith, none-counted, told_state, one_more, expired_of, differs, one-ticks, event-counted, no-event, events.own-timed)
 
   pub event-counts : IsCountOf service tei (counted (state_of service tei l) (state_of service tei (lines.after c e l))) (lines.after c e l)
   event-counts = go (place_in l tei) refl (place_in (lines.after c e l) tei) refl
@@ -163,16 +160,12 @@ module _ (service : Service) (tei number : ℕ) where
         IfSome (state_of service tei x)
         (λ state. state ≡ option_map_or (led card.config service tei k n e.what (seen e.what b)) (state_of service tei l) 4)
 
-    unmoved : (o : Option ℕ) → expired_of service tei e.what ≡ None → (b : Answer) → seen e.what b ≡ []
-        → IfSome o (λ state. state ≡ option_map_or (led card.config service tei k n e.what (seen e.what b)) o 4)
-    unmoved o none b nothing = grind (arith, led, by_expiry)
-
     pub own-led : IsLed (line_at e.line (after e card)) (answer e card)
     own-led =
         by_room (λ ls b. IsLed (get_or ls e.line (fresh_line card.config)) b) e card
         (λ full.
         let takes = (and_parts (lines.takes_slot card.config e.what l) (is_full card) full).0 in
-        unmoved (state_of service tei l) (none-expires card.config service tei e.what l takes) (refused PoolFull) (nothing-seen card.config e.what l takes))
+        grind (arith, led, by_expiry, none-expires, nothing-seen))
         (λ room.
         subst (λ x. IsLed x (lines.answer card.config e.what l)) (sym now)
         (event-led card.config s.config l (line_sound card e.line (has_lines card s) here) (timely.lines e.line here) service tei k agrees n counts e.what))
@@ -188,11 +181,3 @@ module _ (service : Service) (tei number : ℕ) where
       go true is = grind (arith, eqb-true, differ, one_more, expired_of, own-counted)
       go false other =
           subst (IsCountOf service tei n) (sym (apart card e number (λ same. true≢false (sym (eq-eqb e.line number (sym same)) ∙ other)))) counts
-
--- From a fresh card on.
-module _ (c : Config) (events : List Event) (number : ℕ) (ranged : IsInRange c) (all : AreAtLines (fresh c) events) (within : number < c.lines) (service : Service) (tei : ℕ) where
-  start : line_at number (fresh c) ≡ fresh_line c
-  start = get_or-replicate c.lines number (fresh_line c) (fresh_line c) within
-
-  off : link_of service tei (line_at number (fresh c)) ≡ fresh_link
-  off = ap (link_of service tei) start ∙ ap (λ o. option_map_or (link_in (fresh_line c) service) o fresh_link) (nowhere c tei)

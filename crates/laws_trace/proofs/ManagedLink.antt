@@ -109,11 +109,8 @@ module _ (c : Config) (l : Line) (s : IsSound c l) (service : Service) (tei : �
           ++ its_orders service tei (orders_for (terms c Packet n) second_link.running None None)
       split n = grind (arith, filter-append, its_orders, own-orders-none, append-nil)
 
-      second-is : second_link ≡ link_in l Packet place
-      second-is = get_or-set_other l.links (link_number place Call) (link_number place Packet) fresh fresh (λ e. omega (arith, e))
-
       its-left : (z : Service) → service ≡ z → its_orders service tei (of_both tei) ≡ orders_for its (link_in l service place).running None None
-      its-left z is = grind (arith, split, its_orders, of-event, its-own, append-nil, second-is)
+      its-left z is = grind (arith, split, its_orders, of-event, its-own, append-nil, get_or-set_other)
 
     leaves-ordered : (by place : ℕ) → HasLeft l.management.places m.places by place → (b : Bool) → (by == tei) ≡ b → Ordered (Some (Left by place))
     leaves-ordered by place gone false other = (grind (arith, split, its_orders, of-event, and-false)) ∙ as-before (Some (Left by place)) (left-elsewhere by place gone other)
@@ -123,9 +120,7 @@ module _ (c : Config) (l : Line) (s : IsSound c l) (service : Service) (tei : �
     management-ordered = go (tei_told me l.management).change (changes_are_told me l.management fits s.management)
       where
         go : (o : Option Change) → Moves l.management.places o m.places → Ordered o
-        go None moves = own-orders-none ∙ as-before None (alike l (next None) moves refl)
-        go (Some (Gained by place)) joined = grind (arith, own-orders-none, as-before, gained-elsewhere, comes, eqb-true, fresh-off)
-        go (Some (Left by place)) gone = leaves-ordered by place gone (by == tei) refl
+        go o moves = grind (arith, own-orders-none, as-before, alike, gained-elsewhere, comes, eqb-true, fresh-off, leaves-ordered)
 
     pub managed : Stays (tei_told me l.management).change
     managed = by-change (tei_told me l.management).change (changes_are_told me l.management fits s.management)

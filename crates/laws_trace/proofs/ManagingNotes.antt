@@ -1,5 +1,5 @@
 -- Which aims of a line are none of TEI management, and that what a line tells behind what TEI management tells changes nothing.
-use Rattle.laws_trace.proofs.Vocabulary.{arith, ◌≡◌, ℕ, ◌==◌, ◌&&◌, Bool, true, false, cond, List, [], ◌∷◌, ◌++◌, Option, Some, None, refl, sym, ap, ◌∙◌, append-nil, append_assoc, option_map_or, ◌⊎◌, All, filter, Result, Ok, All-nil, All-cons, All-head, All-tail, All-append, filter-append, ReadFault, Note, Service, Call, Packet, Parts, TeiTold, Change, Left, Link, Terms, notes-own, Config, Aim, at_management, told_of_management, of_change, Line, link_in, terms, management_sapi, group_tei, at_place, message_of, aim_of_reading, aim_of_heard, manages, Control, line_of_link as of_link, result_ok, frame_of, Managed, by_message, is_of_teis, is_of_t201, is_ui, link_told as told, LinkEvent, Received, cleared, StreamEvent, tei_message}
+use Rattle.laws_trace.proofs.Vocabulary.{arith, ◌≡◌, ℕ, ◌==◌, ◌&&◌, Bool, true, false, cond, List, [], ◌∷◌, ◌++◌, Option, Some, None, refl, sym, ap, ◌∙◌, append-nil, append_assoc, option_map_or, ◌⊎◌, All, filter, Result, Ok, All-nil, All-cons, All-head, All-tail, All-append, filter-append, ReadFault, Note, Call, Packet, Parts, TeiTold, Change, Left, Link, Terms, notes-own, Config, Aim, at_management, told_of_management, of_change, Line, link_in, terms, management_sapi, group_tei, aim_of_reading, aim_of_heard, manages, line_of_link as of_link, result_ok, frame_of, Managed, by_message, is_of_teis, is_of_t201, is_ui, link_told as told, LinkEvent, cleared, StreamEvent, tei_message}
 use Rattle.model_link.proofs.OwnNotes.{IsOwn}
 use Rattle.laws_trace.specs.Managing.{by_frame}
 
@@ -7,12 +7,9 @@ use Rattle.laws_trace.specs.Managing.{by_frame}
 abbrev pub IsOther : Note → Type 0
 IsOther n = is_of_teis n ≡ false
 
-own-other : (t : Terms) (n : Note) → IsOwn t n → IsOther n
-own-other t n own = grind arith
-
 others-own : (t : Terms) (ns : List Note) → All (IsOwn t) ns → All IsOther ns
 others-own t [] h = All-nil IsOther
-others-own t (n ∷ ns) h = All-cons IsOther n ns (own-other t n (All-head (IsOwn t) n ns h)) (others-own t ns (All-tail (IsOwn t) n ns h))
+others-own t (n ∷ ns) h = All-cons IsOther n ns (grind (arith, All-head)) (others-own t ns (All-tail (IsOwn t) n ns h))
 
 pub link-others : (t : Terms) (e : LinkEvent) (l : Link) → All IsOther (told t e l).notes
 link-others t e l = others-own t (told t e l).notes (notes-own t e l)
@@ -46,8 +43,7 @@ module _ (c : Config) (t : TeiTold) (l : Line) where
             (link-others (terms c Packet tei) cleared (link_in call.line Packet place));
         notes = append_assoc t.notes call.told.notes packet.told.notes;
         orders =
-            filter-append is_of_t201 (call.told.orders ++ packet.told.orders) t.orders
-            ∙ ap (λ xs. xs ++ filter is_of_t201 t.orders)
+            filter-append is_of_t201 (call.told.orders ++ packet.told.orders) t.orders ∙ ap (λ xs. xs ++ filter is_of_t201 t.orders)
             (filter-append is_of_t201 call.told.orders packet.told.orders
             ∙ ap (λ xs. xs ++ filter is_of_t201 packet.told.orders) (told-orders (terms c Call tei) cleared (link_in l Call place))
             ∙ told-orders (terms c Packet tei) cleared (link_in call.line Packet place));
@@ -73,13 +69,10 @@ abbrev pub message_in : Config → StreamEvent → Option (List ℕ)
 message_in c e = message_by c (frame_of c e)
 
 pub message-is-read : (c : Config) (w : Managed) (e : StreamEvent) → option_map_or (by_frame c w) (frame_of c e) w ≡ option_map_or (by_message c w) (message_in c e) w
-message-is-read c w e = go (frame_of c e)
+message-is-read c w e = grind (arith, by-test)
   where
     by-test : (b : Bool) (info : List ℕ) → cond b (by_message c w info) w ≡ option_map_or (by_message c w) (cond b (Some info) None) w
     by-test b info = grind arith
-
-    go : (o : Option Parts) → option_map_or (by_frame c w) o w ≡ option_map_or (by_message c w) (message_by c o) w
-    go o = grind (arith, by-test)
 
 pub record OfMessage (aim : Aim) (said : Option (List ℕ)) : Type 0 where
   pub info : List ℕ
@@ -93,16 +86,10 @@ pub record OfOther (aim : Aim) (said : Option (List ℕ)) : Type 0 where
 abbrev pub Cases : Aim → Option (List ℕ) → Type 0
 Cases aim said = OfMessage aim said ⊎ OfOther aim said
 
-no-place : (service : Service) (tei : ℕ) (what : Received) (o : Option ℕ) → is_management (at_place service tei what o) ≡ false
-no-place service tei what o = grind arith
-
 module _ (c : Config) (l : Line) where
-  by-control : (control : Control) (info : List ℕ) → Cases (message_of control info) (cond (is_ui control) (Some info) None)
-  by-control control info = grind arith
-
   by-reading : (r : Result Parts ReadFault) → Cases (aim_of_reading c l r) (message_by c (result_ok r))
-  by-reading (Ok f) = grind (arith, by-control, no-place)
-  by-reading r = grind (arith, no-place)
+  by-reading (Ok f) = grind arith
+  by-reading r = grind arith
 
   pub heard-cases : (e : StreamEvent) → Cases (aim_of_heard c l e) (message_in c e)
-  heard-cases e = grind (arith, by-reading, no-place)
+  heard-cases e = grind (arith, by-reading)

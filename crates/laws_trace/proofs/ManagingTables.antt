@@ -158,23 +158,14 @@ none-on n = record { same = λ x. sym (nowhere x n); size = sym (empty n); once 
 
 module _ (on : List ℕ) (places : Places) (h : AreOn on places) where
   pub comes-on : (place tei : ℕ) → free_place places ≡ Some place → is_on tei places ≡ false → AreOn (tei ∷ on) (set places place (Some tei))
-  comes-on place tei free off = grind (arith, on-coming, free_place-is, taken-coming, go)
-    where
-      go : (x : ℕ) (b : Bool) → (tei == x) ≡ b → cond b (times x on + 1) (times x on) ≤ 1
-      go x b is = grind (arith, none-times, eqb-true)
+  comes-on place tei free off = grind (arith, on-coming, free_place-is, taken-coming, none-times, eqb-true)
 
   size-leaving : (tei : ℕ) (o : Option ℕ) → place_of tei places ≡ o → length (others tei on) ≡ taken (freed places o)
-  size-leaving tei None is =
-      let none : times tei on ≡ 0 = none-times tei on (h.same tei ∙ is-off places tei is) in
-      let all = others-length tei on in
-      omega (arith, none, all, h.size)
+  size-leaving tei None is = omega (arith, none-times tei on (h.same tei ∙ is-off places tei is), others-length tei on, h.size)
   size-leaving tei (Some place) is =
       let at = place_of-is places tei place is in
       let some : 1 ≤ times tei on = some-times tei on (h.same tei ∙ is_on-at places place tei at.1) in
-      let most = h.once tei in
-      let all = others-length tei on in
-      let less = taken-leaving places place tei at.0 at.1 in
-      omega (arith, some, most, all, less, h.size)
+      let less = taken-leaving places place tei at.0 at.1 in omega (arith, some, h.once tei, others-length tei on, less, h.size)
 
   pub leaves-on : (tei : ℕ) → IsSoundTable places → AreOn (others tei on) (freed places (place_of tei places))
   leaves-on tei sound = grind (arith, on-filtered, on-leaving, size-leaving, fewer-times)

@@ -1,5 +1,5 @@
 -- Frames of a link, and their names.
-use Rattle.laws_trace.proofs.Vocabulary.{arith, ◌≡◌, ℕ, ◌==◌, ◌&&◌, ◌||◌, not, Bool, true, false, cond, List, [], ◌∷◌, ◌++◌, map, filter, list_any, Some, None, refl, ap, ◌∙◌, eq-eqb, option_map_or, and_parts, map-append, filter-append, All, All-head, All-tail, Parts, Service, reading-again, sapi_of, Config, eqb-true, result_ok, IsSpelled, its_frame, is_frame_of, is_ui, or-true}
+use Rattle.laws_trace.proofs.Vocabulary.{arith, ◌≡◌, ℕ, ◌||◌, Bool, true, false, cond, List, [], ◌∷◌, ◌++◌, map, filter, list_any, refl, ap, ◌∙◌, eq-eqb, and_parts, map-append, filter-append, All, All-head, All-tail, Service, reading-again, sapi_of, Config, eqb-true, IsSpelled, is_frame_of, or-true}
 use Rattle.laws_trace.proofs.LinkNames.{LinkName, named_in, is_of_a_link}
 use Rattle.laws_trace.proofs.Turns.{name-is}
 
@@ -14,28 +14,13 @@ module _ (c : Config) where
     abbrev pub name : LinkName
     name = record { sapi = sapi_of service; tei = tei }
 
-    abbrev is-its : Parts → Bool
-    is-its f = f.address.sapi == sapi_of service && f.address.tei == tei
-
     -- A frame is read as what it spells.
     module _ (f : List ℕ) (h : IsSpelled c f) where
-      abbrev parts : Parts
-      parts = h.0
-
-      read : is_frame_of c service tei f ≡ option_map_or (λ (f : Parts). not (is_ui f.control)) (cond (is-its parts) (Some parts) None) false
-      read = ap (λ r. option_map_or (λ (f : Parts). not (is_ui f.control)) (its_frame service tei (result_ok r)) false) (reading-again c.side parts f h.1)
-
-      kind : is_of_a_link c.side f ≡ not (is_ui parts.control)
-      kind = ap (λ r. not (option_map_or (λ (f : Parts). is_ui f.control) (result_ok r) false)) (reading-again c.side parts f h.1)
-
-      named : named_in f ≡ record { sapi = parts.address.sapi; tei = parts.address.tei }
-      named = ap named_in h.1.octets_are ∙ name-is c.side parts.address parts.control parts.info
-
       pub own-name : is_frame_of c service tei f ≡ true → (is_of_a_link c.side f ≡ true) × (named_in f ≡ name)
-      own-name is = grind (arith, read, is_of_a_link, named_in, and_parts, eqb-true, kind, named)
+      own-name is = grind (arith, reading-again, is_of_a_link, named_in, and_parts, eqb-true, name-is)
 
       pub name-own : is_of_a_link c.side f ≡ true → named_in f ≡ name → is_frame_of c service tei f ≡ true
-      name-own is its = grind (arith, named, LinkName, read, eq-eqb, kind)
+      name-own is its = grind (arith, name-is, LinkName, reading-again, eq-eqb)
 
     -- A frame of the link among others has its name among theirs, and so the other way round.
     pub its-name : (a : List ℕ) (behind : List (List ℕ)) → IsSpelled c a → is_frame_of c service tei a ≡ true → names (a ∷ behind) ≡ name ∷ names behind

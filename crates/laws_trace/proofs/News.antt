@@ -29,13 +29,10 @@ module _ (service : Service) (tei number : ℕ) where
     abbrev asked_then : Option ℕ → Answer → Bool
     asked_then to b = cond (is_state 5 to && differ (state_of service tei l) to) (establishes service tei e.what b) was
 
-    still : (o : Option ℕ) (b : Answer) → cond (is_state 5 o && differ o o) (establishes service tei e.what b) was ≡ was
-    still o b = grind (arith, is_state, establishes, differ-self, and-false)
-
     pub own-asked : IsAskedOf service tei (asked_then (state_of service tei (line_at e.line (after e card))) (answer e card)) (line_at e.line (after e card))
     own-asked =
         by_room (λ ls b. let x = get_or ls e.line (fresh_line card.config) in IsAskedOf service tei (asked_then (state_of service tei x) b) x) e card
-        (λ full. subst (λ b. IsAskedOf service tei b l) (sym (still (state_of service tei l) (refused PoolFull))) asks)
+        (λ full. subst (λ b. IsAskedOf service tei b l) (sym (grind (arith, is_state, establishes, differ-self, and-false))) asks)
         (λ room.
         subst (λ x. IsAskedOf service tei (asked_then (state_of service tei x) (lines.answer card.config e.what l)) x) (sym now)
         (event-asks card.config l (line_sound card e.line (has_lines card s) here) service tei was asks outstanding owes e.what))

@@ -1,5 +1,5 @@
 -- What layer 3 is told of the establishment and release of a link: one event of its line.
-use Rattle.laws_trace.proofs.Vocabulary.{arith, ◌≡◌, ℕ, ◌==◌, ◌&&◌, Bool, false, cond, List, [], Option, Some, None, refl, sym, ap, ◌∙◌, subst, true≢false, inl, inr, filter, list_any, none-some, ErrorCode, Service, State, Terms, Link, state_number, Config, Answer, Line, has_tei, link_of, place_in, state_of, terms, notes_of, is-off, moves, unwrap_or, Control, fresh_link, IsSound, is_news, is_sabme, is_xid, releases, wrong, seen, cleared, link_after as after, Event, and-false, line_after, answer, event-follows}
+use Rattle.laws_trace.proofs.Vocabulary.{arith, ◌≡◌, ℕ, ◌==◌, ◌&&◌, Bool, false, cond, List, [], Option, Some, None, refl, sym, ap, ◌∙◌, subst, true≢false, inl, inr, filter, list_any, none-some, ErrorCode, Service, State, Link, state_number, Config, Answer, Line, has_tei, link_of, place_in, state_of, notes_of, is-off, moves, unwrap_or, Control, fresh_link, IsSound, is_news, is_sabme, is_xid, releases, wrong, seen, Event, and-false, line_after, answer, event-follows}
 use Rattle.laws_trace.proofs.NewsWatched.{establishes, due}
 use Rattle.laws_trace.proofs.TimersWatched.{brings, control_in}
 use Rattle.laws_trace.proofs.States.{is_state, differ}
@@ -27,9 +27,6 @@ module _ (c : Config) (l : Line) (s : IsSound c l) (service : Service) (tei : �
     (e : Event) where
   abbrev a : Answer
   a = answer c e l
-
-  abbrev t : Terms
-  t = terms c service tei
 
   abbrev own : Link
   own = link_of service tei l
@@ -83,26 +80,14 @@ module _ (c : Config) (l : Line) (s : IsSound c l) (service : Service) (tei : �
           ∙ ap (λ b. due service tei [] was false false b outstanding (state_number own.state) (state_number own.state)) (none-releases c service tei is_sabme l place on e x.aims)
           ∙ unmoved own.state outstanding)
 
-      none-asked : Asks next.state (then_asked (told_state own.state) (told_state next.state)) next.asked
-      none-asked =
-          subst (λ (y : Link). Asks y.state (then_asked (told_state own.state) (told_state y.state)) y.asked) (sym same)
-          (subst (λ b. Asks own.state b own.asked)
-          (sym (asked-in own.state own.state ∙ ap (λ b. cond ((state_number own.state == 5) && b) (establishes service tei e a) was) (same-state own.state)
-          ∙ ap (λ d. cond d (establishes service tei e a) was) (and-false (state_number own.state == 5)))) asks)
-
     -- one event of the link
     module _ (x : HasOne c service tei e l (line_after c e l) a) where
-      some : x.event ≡ cleared → ⊥
-      some = no-event x.event c e a service tei x.by
-
       asked-now : (state : State) → Asks state was own.asked → (errors : List ErrorCode) (xid sabme released outstanding : Bool) (to : ℕ)
           → due service tei errors own.asked xid sabme released outstanding (state_number state) to ≡ due service tei errors was xid sabme released outstanding (state_number state) to
       asked-now state is errors xid sabme released outstanding to = grind (arith, due)
 
       one-due : Due (state_number own.state) (state_number next.state) (state_number next.state)
-      one-due =
-          let later = after t x.event own in
-          grind (arith, event-news, some, due, xid_of, sabme_of, released_of, asked-now, one-begins, heard-by, own-is, one-wrong)
+      one-due = grind (arith, event-news, no-event, due, xid_of, sabme_of, released_of, asked-now, one-begins, heard-by, own-is, one-wrong)
 
     -- its deactivation
     ended-due : IsGivenUp c service tei e l (line_after c e l) a → Due (state_number own.state) (state_number next.state) (state_number next.state)
@@ -126,9 +111,7 @@ module _ (c : Config) (l : Line) (s : IsSound c l) (service : Service) (tei : �
     stays-asked = go (event-goes c e l service tei s)
       where
         go : Goes c service tei e l (line_after c e l) a → Asks next.state (then_asked (told_state own.state) (told_state next.state)) next.asked
-        go (inl x) = none-asked x
-        go (inr (inl x)) = grind (arith, told_state, asked-in, one-establishes, event-asking, some)
-        go (inr (inr x)) = subst (λ (y : Link). Asks y.state (then_asked (told_state own.state) (told_state next.state)) y.asked) (sym x.is) tt
+        go other = grind (arith, same, same-state, and-false, told_state, asked-in, one-establishes, event-asking, no-event)
 
   begins-asked : (b : Bool) → next ≡ fresh_link → Asks next.state b next.asked
   begins-asked b is = subst (λ (y : Link). Asks y.state b y.asked) (sym is) tt
@@ -183,15 +166,9 @@ module _ (c : Config) (l : Line) (s : IsSound c l) (service : Service) (tei : �
   pub event-due : (from : ℕ) → state_of service tei l ≡ Some from → Due from (unwrap_or (state_of service tei (line_after c e l)) 4) (unwrap_or (state_of service tei (line_after c e l)) 1)
   event-due from was-in = go (state_of service tei (line_after c e l)) refl
     where
-      number : (n m : ℕ) → Some n ≡ Some m → n ≡ m
-      number n m is = cc is
-
-      left-line : (o : Option ℕ) → place_in (line_after c e l) tei ≡ o → state_of service tei (line_after c e l) ≡ None → place_in (line_after c e l) tei ≡ None
-      left-line o off none = grind (arith, none-some, state-on)
-
       by-place : (o : Option ℕ) → place_in l tei ≡ o → state_of service tei (line_after c e l) ≡ None → Due from 4 1
       by-place None off none = absurd (none-some from (sym (off-state service tei l off) ∙ was-in))
-      by-place (Some place) on none = grind (arith, number, state-on, gone-due, left-line)
+      by-place (Some place) on none = grind (arith, state-on, gone-due, none-some)
 
       go : (o : Option ℕ) → state_of service tei (line_after c e l) ≡ o → Due from (unwrap_or o 4) (unwrap_or o 1)
       go (Some to) is-in = both-due from to was-in is-in

@@ -1,5 +1,5 @@
 -- Where the TEI of a link leaves its line, what is told of the link is what the end of the TEI tells.
-use Rattle.laws_trace.proofs.Vocabulary.{◌≡◌, ℕ, ◌==◌, ◌&&◌, ◌||◌, not, Bool, true, false, List, [], ◌++◌, Option, Some, None, refl, sym, ap, ◌∙◌, subst, arith, eq-eqb, true≢false, ◌⊎◌, inl, inr, append-nil, filter, option_map_or, get_or-set_other, filter-append, Note, Refusal, Service, Call, Packet, Timer, same_service, Management, is_on, Change, Gained, Left, place_of-is, is_on-at, event-follows, Link, state_number, Config, Aim, at_none, at_link, at_management, of_aim, of_change, told_of_management, Answer, hears, expiry, request, next, dropped, aim_of_expiry, Line, has_tei, link_in, link_of, link_number, place_in, terms, aim_of, unless_refused, unless_refused_told, aim_of_heard, Assign, Remove, Deactivate, aim_of_request, group_told, IsProper, heard_aims, request_proper, notes_of, has-place, ByChange, noted, Down, at_no_link, IfSome, line_of, Taken, taken, IsOne, taken-one, eqb-true, fresh_link as fresh, line_of_link as of_link, Event, line_after as after, answer, refusal, Request, Establish, Release, Data, Checking as Check, SetBusy, ClearBusy, IsSound, is_news, releases, by-down, or-true, HasLeft, TeiIsInRange as IsInRange, Moves, changes_are_told, link_told as told, false_from_ne_true, received, LinkEvent, cleared, StreamEvent, tei_check, tei_remove, tei_told, TeiEvent, tei_assign, tei_message, tei_after}
+use Rattle.laws_trace.proofs.Vocabulary.{◌≡◌, ℕ, ◌==◌, ◌&&◌, ◌||◌, not, Bool, true, false, List, [], ◌++◌, Option, Some, None, refl, sym, ap, ◌∙◌, subst, arith, eq-eqb, true≢false, ◌⊎◌, inl, inr, append-nil, filter, option_map_or, get_or-set_other, filter-append, Note, Refusal, Service, Call, Packet, Timer, same_service, Management, is_on, Change, Gained, Left, place_of-is, is_on-at, event-follows, Link, state_number, Config, Aim, at_none, at_link, at_management, of_aim, of_change, told_of_management, Answer, hears, expiry, request, next, dropped, aim_of_expiry, Line, has_tei, link_in, link_of, link_number, place_in, terms, aim_of, unless_refused, unless_refused_told, aim_of_heard, aim_of_request, group_told, IsProper, heard_aims, request_proper, notes_of, has-place, ByChange, noted, Down, at_no_link, IfSome, line_of, Taken, taken, IsOne, taken-one, eqb-true, fresh_link as fresh, line_of_link as of_link, Event, line_after as after, answer, refusal, Request, Checking as Check, IsSound, is_news, releases, by-down, or-true, HasLeft, TeiIsInRange as IsInRange, Moves, changes_are_told, link_told as told, false_from_ne_true, received, LinkEvent, cleared, StreamEvent, tei_check, tei_told, TeiEvent, tei_message, tei_after}
 use Rattle.laws_trace.proofs.NewsWatched.{due}
 use Rattle.laws_trace.proofs.LinkLed.{own-is}
 use Rattle.laws_trace.proofs.ManagingTables.{on-coming, on-leaving}
@@ -75,14 +75,12 @@ module _ (service : Service) (tei : ℕ) (c : Config) (l : Line) (s : IsSound c 
 
         by-service : (z : Service) → service ≡ z → Leaves ((ns ++ call) ++ packet)
         by-service Call same =
-            three ns call packet
-            ∙ first-only (news ns) (news call) (news packet) (none-news (Some (Left tei place')) is)
+            three ns call packet ∙ first-only (news ns) (news call) (news packet) (none-news (Some (Left tei place')) is)
             (none-filtered service tei packet (other-link service tei (terms c Packet tei) (ap (λ z. same_service Packet z && tei == tei) same) cleared (link_in (of_link c Call tei place' cleared at).line Packet place')))
             ∙ ap (λ z. news (told (terms c z tei) cleared (link_in l z place')).notes) (sym same)
             ∙ ap (λ o. news (told (terms c service tei) cleared (option_map_or (link_in l service) o fresh)).notes) (sym placed)
         by-service Packet same =
-            three ns call packet
-            ∙ last-only (news ns) (news call) (news packet) (none-news (Some (Left tei place')) is)
+            three ns call packet ∙ last-only (news ns) (news call) (news packet) (none-news (Some (Left tei place')) is)
             (none-filtered service tei call (other-link service tei (terms c Call tei) (ap (λ z. same_service Call z && tei == tei) same) cleared (link_in at Call place')))
             ∙ ap (λ x. news (told (terms c Packet tei) cleared x).notes) second
             ∙ ap (λ z. news (told (terms c z tei) cleared (link_in l z place')).notes) (sym same)
@@ -114,17 +112,10 @@ module _ (service : Service) (tei : ℕ) (c : Config) (l : Line) (s : IsSound c 
   expiry-gone timer = grind (arith, stays, managed)
 
   pub request-gone : (r : Request) → IsProper c l (aim_of_request r l) → Gone (aim_of_request r l)
-  request-gone (Establish its by) proper = grind (arith, stays)
-  request-gone (Release its by) proper = grind (arith, stays)
-  request-gone (Data its by contents) proper = grind (arith, stays)
   request-gone (Request.Unit its by contents) proper = stays (aim_of_request (Request.Unit its by contents) l) refl
-  request-gone (Assign by) proper = managed (tei_assign by) proper
-  request-gone (Remove by) proper = managed (tei_remove by) proper
   request-gone (Check by) proper = managed (tei_check by) proper
-  request-gone (SetBusy its by) proper = grind (arith, stays)
-  request-gone (ClearBusy its by) proper = grind (arith, stays)
-  request-gone (Deactivate its by) proper = grind (arith, stays)
   request-gone Down proper = stays at_no_link (by-down c l (λ f. has_tei tei f.line ≡ has_tei tei l) refl)
+  request-gone other proper = grind (arith, stays, managed)
 
 -- Any event of a line.
 leaves : (service : Service) (tei : ℕ) (c : Config) (e : Event) (l : Line) → IsSound c l → (place : ℕ) → place_in l tei ≡ Some place → has_tei tei (after c e l) ≡ false

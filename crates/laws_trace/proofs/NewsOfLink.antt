@@ -1,25 +1,16 @@
 -- What a link tells of establishments and releases: each event of it; and who asked for the establishment that it awaits.
-use Rattle.laws_trace.proofs.Vocabulary.{arith, ◌≡◌, ◌==◌, ◌&&◌, not, Bool, false, cond, List, sym, ◌∙◌, subst, filter, Parts, State, AwaitingEstablishment, Terms, LinkTimer, Received, received, requested, cleared, Link, state_number, runs, notes-own, asks_establishment, as_heard, state_after, moves, by_expiry, told_by, told_expired, event-follows, Note, LinkEvent as Event, LinkRequest as Request, frame, is_news, given_up, link_told, link_after}
+use Rattle.laws_trace.proofs.Vocabulary.{arith, ◌≡◌, ◌==◌, ◌&&◌, not, Bool, cond, List, sym, ◌∙◌, subst, filter, State, AwaitingEstablishment, Terms, received, requested, cleared, Link, state_number, notes-own, asks_establishment, as_heard, state_after, moves, told_by, event-follows, Note, LinkEvent as Event, LinkRequest as Request, frame, is_news, link_told, link_after}
 use Rattle.laws_trace.proofs.NewsWatched.{due}
 use Rattle.laws_trace.proofs.NewsRows.{all-news, errors_of, xid_of, sabme_of, released_of, Fits, Told, nothing-fits, by-control}
 
 module _ (t : Terms) (l : Link) where
-  malformed : (here : State) (what : Received) → ((f : Parts) → what ≡ frame f → ⊥) → Told t l here (received what)
-  malformed here what none = grind arith
-
-  abbrev Expires : State → LinkTimer → Bool → Bool → Type 0
-  Expires here timer runs again = let to = cond runs (by_expiry here timer again) here in Fits t l (given_up (state_number here) (state_number to)) false false false here to (told_expired here t to)
-
-  expires : (here : State) (timer : LinkTimer) (runs again : Bool) → Expires here timer runs again
-  expires here timer runs again = grind arith
-
   asks : (here : State) (r : Request) (full : Bool) → Told t l here (requested r full)
   asks here r full = grind arith
 
   told : (e : Event) → (e ≡ cleared → ⊥) → let to = state_after t (as_heard t e) l in
       Fits t l (errors_of t e (state_number l.state) (state_number to)) (xid_of e) (sabme_of e) (released_of e) l.state to (told_by t (as_heard t e) l to)
   told (received (frame f)) some = by-control t l l.state f.address f.control f.info
-  told e some = grind (arith, malformed, expires, asks, nothing-fits)
+  told e some = grind (arith, asks, nothing-fits)
 
   -- The notes of an event of a link.
   pub event-news : (e : Event) → (e ≡ cleared → ⊥) → let ns = (link_told t e l).notes in let to = (link_after t e l).state in
@@ -38,13 +29,6 @@ Asks AwaitingEstablishment was asked = was ≡ asked
 Asks other was asked = Unit {0}
 
 module _ (t : Terms) (l : Link) (was : Bool) where
-  abbrev left : State → Event → State → Bool
-  left from e to = cond (moves from to && (state_number to == 5)) (asks_establishment e) l.asked
-
-  asking : (e : Event) (from to : State) → Asks from was l.asked
-      → Asks to (cond ((state_number to == 5) && moves from to) (asks_establishment e) was) (left from e to)
-  asking e from to asks = grind arith
-
   pub event-asking : (e : Event) → (e ≡ cleared → ⊥) → Asks l.state was l.asked
       → let y = link_after t e l in Asks y.state (cond ((state_number y.state == 5) && moves l.state y.state) (asks_establishment e) was) y.asked
-  event-asking e some asks = grind (arith, event-follows, asking)
+  event-asking e some asks = grind (arith, event-follows)

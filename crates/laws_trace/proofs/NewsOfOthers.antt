@@ -1,5 +1,5 @@
 -- Where no event is one of a link, and its TEI stays on the line, nothing is told of its establishment or its release.
-use Rattle.laws_trace.proofs.Vocabulary.{arith, ◌≡◌, ℕ, ◌==◌, Bool, true, false, cond, List, [], ◌∷◌, Option, Some, None, refl, sym, ap, ◌∙◌, true≢false, ◌⊎◌, inl, inr, All, filter, All-nil, All-cons, All-head, All-tail, All-weaker, Note, Service, Call, Timer, is_on-at, Management, IsAt, IsSoundTable, Change, Left, Terms, LinkTimer, Link, notes-own, Config, Aim, at_link, at_management, of_aim, of_change, told_of_management, at_timer, aim_of_expiry, Line, has_tei, link_in, place_in, terms, aim_of, aim_of_heard, group_tei, Assign, Remove, Deactivate, at_requested, at_deactivated, aim_of_request, IsProper, heard_aims, request_proper, notes_of, is-off, has-no-place, ByChange, noted, Down, eqb-true, IsOwn, fresh_link as fresh, line_of_link as of_link, Event, line_after as after, answer, Request, Establish, Release, Data, Checking as Check, SetBusy, ClearBusy, IsSound, is_own, is_news, by-down, Unit, changes_are_told, sound-after, HasLeft, TeiIsInRange as IsInRange, Moves, link_told as told, emptied, StreamEvent, tei_check, tei_remove, tei_told, TeiEvent, tei_assign, tei_message, tei_after}
+use Rattle.laws_trace.proofs.Vocabulary.{arith, ◌≡◌, ℕ, ◌==◌, Bool, true, false, cond, List, [], ◌∷◌, Option, Some, None, refl, sym, ap, ◌∙◌, true≢false, ◌⊎◌, inl, inr, All, filter, All-nil, All-cons, All-head, All-tail, All-weaker, Note, Service, Call, Timer, is_on-at, Management, IsAt, IsSoundTable, Change, Left, Terms, Link, notes-own, Config, Aim, at_link, at_management, of_aim, of_change, told_of_management, aim_of_expiry, Line, has_tei, link_in, place_in, terms, aim_of, aim_of_heard, group_tei, Assign, Remove, Deactivate, at_requested, at_deactivated, aim_of_request, IsProper, heard_aims, request_proper, notes_of, is-off, has-no-place, ByChange, noted, Down, eqb-true, IsOwn, fresh_link as fresh, line_of_link as of_link, Event, line_after as after, answer, Request, Establish, Release, Data, Checking as Check, SetBusy, ClearBusy, IsSound, is_own, is_news, by-down, Unit, changes_are_told, sound-after, HasLeft, TeiIsInRange as IsInRange, Moves, link_told as told, emptied, StreamEvent, tei_check, tei_remove, tei_told, TeiEvent, tei_assign, tei_message, tei_after}
 use Rattle.model_link.specs.Events as link
 use Rattle.laws_trace.proofs.OneLink.{is_at_link}
 
@@ -12,11 +12,8 @@ module _ (service : Service) (tei : ℕ) where
   none-filtered (n ∷ ns) all =
       ap (λ b. cond b (n ∷ filter (is_news service tei) ns) (filter (is_news service tei) ns)) (All-head No n ns all) ∙ none-filtered ns (All-tail No n ns all)
 
-  away : (t : Terms) → is_own service tei t.service t.tei ≡ false → (s : Service) (n : ℕ) → (s ≡ t.service) × (n ≡ t.tei) → is_own service tei s n ≡ false
-  away t other s n own = ap (λ z. is_own service tei z n) own.0 ∙ ap (λ m. is_own service tei t.service m) own.1 ∙ other
-
   other-note : (t : Terms) → is_own service tei t.service t.tei ≡ false → (n : Note) → IsOwn t n → No n
-  other-note t other n own = grind (arith, away)
+  other-note t other n own = grind arith
 
   pub other-link : (t : Terms) → is_own service tei t.service t.tei ≡ false → (what : link.Event) (x : Link) → All No (told t what x).notes
   other-link t other what x = All-weaker (IsOwn t) No (other-note t other) (told t what x).notes (notes-own t what x)
@@ -65,9 +62,7 @@ module _ (service : Service) (tei : ℕ) where
       changed : (o : Option Change) → Moves l.management.places o m.places → ByChange me o ns
           → Stays (of_change c o (told_of_management (tei_told me l.management)) at).line → All No (of_change c o (told_of_management (tei_told me l.management)) at).told.notes
       changed (Some (Left by place)) gone is there =
-          let call = of_link c Call by place link.cleared at in
-          let other = gone-off by place gone (by == tei) refl there in
-          grind (arith, tei-note, other-link)
+          grind (arith, tei-note, other-link, gone-off by place gone (by == tei) refl there, of_link c Call by place link.cleared at)
       changed other moves is there = tei-note me other ns is
 
       managed : Silent (at_management me)
@@ -76,9 +71,6 @@ module _ (service : Service) (tei : ℕ) where
 
     of-link : (its : Service) (by place : ℕ) (what : link.Event) → Silent (at_link its by place what)
     of-link its by place what aims there = other-link (terms c its by) aims what (link_in l its place)
-
-    timer-silent : (its : Service) (by : ℕ) (timer : LinkTimer) (o : Option ℕ) → Silent (at_timer its by timer o)
-    timer-silent its by timer o aims there = grind (arith, of-link)
 
     asked-silent : (its : Service) (by : ℕ) (what : link.Request) (o : Option ℕ) → Silent (at_requested its by what o)
     asked-silent its by what o aims there = grind (arith, of-link)
@@ -92,7 +84,7 @@ module _ (service : Service) (tei : ℕ) where
         (λ parts its to aims there. All-cons No (Unit its group_tei) [] refl (All-nil No)) e
 
     pub expiry-silent : (timer : Timer) → Silent (aim_of_expiry timer l)
-    expiry-silent timer = grind (arith, timer-silent, managed)
+    expiry-silent timer = grind (arith, of-link, managed)
 
     pub request-silent : (r : Request) → IsProper c l (aim_of_request r l) → Silent (aim_of_request r l)
     request-silent (Establish its by) proper = asked-silent its by link.Establish (place_in l by)

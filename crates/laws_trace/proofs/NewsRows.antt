@@ -1,5 +1,5 @@
 -- What a link tells of establishments, releases and errors, by each frame that it hears.
-use Rattle.laws_trace.proofs.Vocabulary.{arith, ◌≡◌, ℕ, ◌==◌, ◌&&◌, not, Bool, true, false, cond, List, [], ◌∷◌, ◌++◌, length, refl, sym, ap, ◌∙◌, All, filter, nat_lt, is_some, All-head, All-tail, Address, Information, ReceiveNotReady, Reject, ErrorCode, Note, Service, Seq, named, State, AwaitingEstablishment, Established, TimerRecovery, Terms, undefined, wrong_size, overlong, received, expired, requested, Link, state_number, as_heard, state_after, by_frame, told_by, numbered_as, final_as, Control, NoteXid as Xid, LinkEvent as Event, frame, LinkRelease as Release, IsOwn, is_own, is_up, is_news, is_sabme, is_xid, wrong_number, wrong_frame, given_up, F, L, N, O, NoteData as Data, Error, EstablishConfirm, EstablishIndication, ReleaseConfirm, ReleaseIndication}
+use Rattle.laws_trace.proofs.Vocabulary.{arith, ◌≡◌, ℕ, ◌==◌, not, Bool, true, false, cond, List, [], ◌∷◌, ◌++◌, length, refl, sym, ap, ◌∙◌, All, filter, nat_lt, is_some, All-head, All-tail, Address, ErrorCode, Note, State, AwaitingEstablishment, Established, Terms, undefined, wrong_size, overlong, received, expired, requested, Link, state_number, as_heard, state_after, told_by, numbered_as, Control, NoteXid as Xid, LinkEvent as Event, frame, LinkRelease as Release, IsOwn, is_up, is_news, is_sabme, is_xid, wrong_number, wrong_frame, given_up, F, L, N, O, NoteData as Data, Error, EstablishConfirm, EstablishIndication, ReleaseConfirm, ReleaseIndication}
 use Rattle.laws_trace.proofs.NewsWatched.{due}
 use Rattle.laws_trace.proofs.LinkLed.{own-is}
 use Rattle.laws_trace.proofs.TimerRows.{in_state}
@@ -14,16 +14,10 @@ is_kind (Xid s n) = true
 is_kind (Error s n k) = true
 is_kind other = false
 
-its : (t : Terms) (s : Service) (n : ℕ) → (s ≡ t.service) × (n ≡ t.tei) → is_own t.service t.tei s n ≡ true
-its t s n own = ap (λ z. is_own t.service t.tei z n) own.0 ∙ ap (λ m. is_own t.service t.tei t.service m) own.1 ∙ own-is t.service t.tei
-
-own-news : (t : Terms) (n : Note) → IsOwn t n → is_news t.service t.tei n ≡ is_kind n
-own-news t n own = grind (arith, its)
-
 pub all-news : (t : Terms) (ns : List Note) → All (IsOwn t) ns → filter (is_news t.service t.tei) ns ≡ filter is_kind ns
 all-news t [] all = refl
 all-news t (n ∷ ns) all =
-    ap (λ b. cond b (n ∷ filter (is_news t.service t.tei) ns) (filter (is_news t.service t.tei) ns)) (own-news t n (All-head (IsOwn t) n ns all))
+    ap (λ b. cond b (n ∷ filter (is_news t.service t.tei) ns) (filter (is_news t.service t.tei) ns)) (grind (arith, own-is, All-head))
     ∙ ap (λ ms. cond (is_kind n) (n ∷ ms) ms) (all-news t ns (All-tail (IsOwn t) n ns all))
 
 abbrev pub heard_of : (Control → Bool) → Event → Bool
@@ -54,11 +48,8 @@ module _ (t : Terms) (l : Link) where
   abbrev pub Fits : List ErrorCode → Bool → Bool → Bool → State → State → List Note → Type 0
   Fits errors xid sabme released from to ns = filter is_kind ns ≡ due t.service t.tei errors l.asked xid sabme released (not (l.s == l.a)) (state_number from) (state_number to)
 
-  stays : (here : State) (outstanding : Bool) → due t.service t.tei [] l.asked false false false outstanding (state_number here) (state_number here) ≡ []
-  stays here outstanding = grind arith
-
   pub nothing-fits : (here : State) (ns : List Note) → filter is_kind ns ≡ [] → Fits [] false false false here here ns
-  nothing-fits here ns none = none ∙ sym (stays here (not (l.s == l.a)))
+  nothing-fits here ns none = none ∙ sym (grind arith)
 
   -- An N(R) in state 7 or 8, behind what else is told.
   information-7 : (invalid taken : Bool) → let to = cond invalid AwaitingEstablishment Established in
@@ -77,22 +68,5 @@ module _ (t : Terms) (l : Link) where
   abbrev part : Address → Control → List ℕ → Event
   part address control info = received (frame (record { address = address; control = control; info = info }))
 
-  abbrev Informed : State → Bool → Address → Seq → Seq → Bool → List ℕ → Type 0
-  Informed here too_long address ns nr p info =
-      let e : Event = received (cond too_long overlong (frame (record { address = address; control = Information ns nr p; info = info }))) in
-      let to = state_after t e (in_state here l) in
-      Fits (wrong_frame too_long address.command (Information ns nr p) (state_number here) (state_number to)) false false false here to (told_by t e (in_state here l) to)
-
-  information : (here : State) (too_long : Bool) (address : Address) (ns nr : Seq) (p : Bool) (info : List ℕ) → Informed here too_long address ns nr p info
-  information here too_long address ns nr p info = grind (arith, information-7, is_some, in_state)
-
-  by-ReceiveNotReady : (command f : Bool) (nr : Seq) → let to = cond (not (is_some (named l.a l.s nr))) AwaitingEstablishment (by_frame TimerRecovery command (ReceiveNotReady nr f)) in
-      Fits (wrong_number (not command && f) 8 (state_number to)) false false false TimerRecovery to (final_as t true (not command && f) ++ numbered_as t to)
-  by-ReceiveNotReady command f nr = grind (arith, is_some)
-
-  by-Reject : (command f : Bool) (nr : Seq) → let to = cond (not (is_some (named l.a l.s nr))) AwaitingEstablishment (by_frame TimerRecovery command (Reject nr f)) in
-      Fits (wrong_number (not command && f) 8 (state_number to)) false false false TimerRecovery to (final_as t true (not command && f) ++ numbered_as t to)
-  by-Reject command f nr = grind (arith, is_some)
-
   pub by-control : (here : State) (address : Address) (control : Control) (info : List ℕ) → Told here (part address control info)
-  by-control here address control info = grind (arith, information, is_some, by-ReceiveNotReady, by-Reject, anew-7)
+  by-control here address control info = grind (arith, information-7, is_some, anew-7)

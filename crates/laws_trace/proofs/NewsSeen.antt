@@ -1,5 +1,5 @@
 -- What is seen of a link: SABME, and requests that are granted.
-use Rattle.laws_trace.proofs.Vocabulary.{arith, ◌≡◌, ℕ, ◌&&◌, Bool, false, cond, Option, Some, None, refl, ap, ◌∙◌, list_any, option_map_or, Service, Config, request, Answer, Line, place_in, at_requested, aim_of_request, is_granted, IsBy, asks_establishment, Parts, Control, Request, Release, is_for, releases, seen, and-false, Event, aim_of, answer, not-refused, requested, LinkEvent, LinkRelease}
+use Rattle.laws_trace.proofs.Vocabulary.{arith, ◌≡◌, ℕ, ◌&&◌, Bool, false, Some, refl, ap, ◌∙◌, list_any, Service, Config, request, Answer, Line, place_in, at_requested, aim_of_request, is_granted, IsBy, asks_establishment, Control, Request, Release, releases, seen, and-false, Event, aim_of, answer, not-refused, requested, LinkEvent, LinkRelease}
 use Rattle.laws_trace.proofs.NewsWatched.{establishes}
 use Rattle.laws_trace.proofs.TimersWatched.{nothing_yet, control_in, brings}
 use Rattle.laws_trace.proofs.Deliveries.{frame_by, brings-frame, brings-none, heard-by}
@@ -21,13 +21,7 @@ module _ (c : Config) (service : Service) (tei : ℕ) (which : Control → Bool)
   -- and none
   module _ (l : Line) (place : ℕ) (on : place_in l tei ≡ Some place) where
     pub none-begins : (e : Event) → is_at_link service tei (aim_of c e l) ≡ false → (a : Answer) → list_any (brings which c service tei) (seen e a) ≡ false
-    none-begins e aims a = seen-brings c service tei which e a ∙ go (frame_by c e) refl
-      where
-        by-whom : (f : Parts) → frame_by c e ≡ Some f → (b : Bool) → is_for service tei f.address ≡ b → option_map_or which (cond b (Some f.control) None) false ≡ false
-        by-whom f is b for = grind (arith, event-aims)
-
-        go : (o : Option Parts) → frame_by c e ≡ o → option_map_or which (control_in service tei o) false ≡ false
-        go o is = grind (arith, by-whom)
+    none-begins e aims a = seen-brings c service tei which e a ∙ (grind (arith, event-aims))
 
     not-own : (r : Request) (a : Answer) → is_at_link service tei (aim_of_request r l) ≡ false → releases service tei (request r) a ≡ false
     not-own (Release its by) a aims =

@@ -227,8 +227,7 @@ module _ (c : Config) (events : List CardEvent) (number : ℕ) (ranged : IsInRan
               let s = run-stands c events number ranged all within service tei in
               let exact = subst (λ (d : Config). is_empty (Its d) ≡ false → lost_in its-answer ≡ length (link_of service tei l).waiting + length (Its d) - d.control) kept
               (own-loses service tei w.told.count w.busy w.rejected k number what sound timely here s.1 s.2 on on-then stays) in
-              exact (ap is_empty its-puts ∙ some)
-              ∙ ap (λ fs. length (link_of service tei l).waiting + length fs - c.control) its-puts
+              exact (ap is_empty its-puts ∙ some) ∙ ap (λ fs. length (link_of service tei l).waiting + length fs - c.control) its-puts
               ∙ ap (λ ws. length ws + length (puts_by c number events what service tei) - c.control) (sym waits-are)
 
     of-link : is_empty (puts_by c number events what service tei) ≡ false
@@ -252,10 +251,9 @@ module _ (c : Config) (events : List CardEvent) (number : ℕ) (ranged : IsInRan
           let own = link_of service tei l in
           let exact : lost_in its-answer ≡ length own.waiting + length (Its service tei c) - c.control =
           subst (λ (d : Config). lost_in its-answer ≡ length own.waiting + length (Its service tei d) - d.control) kept (y.exact w.told.count w.busy w.rejected s.1 s.2) in
-          let puts : length (Its service tei c) ≡ 0 = ap length (its-puts service tei y.was_on y.is_on ∙ none service tei) in
           let p = at-some-place l tei y.was_on in
           let few : length own.waiting ≤ c.control = (link-at-end c l ranged (line-at-end c events number ranged all within) service tei p.0 p.1).ring in
-          omega (arith, exact, puts, few, some)
+          omega (arith, exact, ap length (its-puts service tei y.was_on y.is_on ∙ none service tei), few, some)
 
       go : (lost_in its-answer ≡ messages) ⊎ ((messages ≡ 0) × (is_management (aim_of c what l) ≡ false)) → lost_in its-answer ≡ messages
       go o = grind (arith, some-lost, is_management, kept)

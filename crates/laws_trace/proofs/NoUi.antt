@@ -1,5 +1,5 @@
 -- No UI waits on a link: what a link gives is no unit data.
-use Rattle.laws_trace.proofs.Vocabulary.{arith, ◌≡◌, ℕ, ◌&&◌, ◌||◌, Bool, true, false, cond, List, [], ◌∷◌, take, All, All-nil, All-cons, All-append, All-take, All-drop, State, ControlFrame, Terms, Link, offer, cleared, moves, receipt_as, to_information, to_supervisory, answers_up, answers, command_in, is_time, commands, put, waiting_left, Control, LinkEvent as Event, room, is_ui}
+use Rattle.laws_trace.proofs.Vocabulary.{arith, ◌≡◌, ◌||◌, Bool, false, cond, List, [], take, All, All-nil, All-cons, All-append, All-take, All-drop, State, ControlFrame, Terms, Link, offer, cleared, moves, answers_up, answers, command_in, is_time, commands, put, waiting_left, Control, LinkEvent as Event, room, is_ui}
 
 abbrev pub IsPlain : ControlFrame → Type 0
 IsPlain f = is_ui f.control ≡ false
@@ -10,28 +10,16 @@ ArePlain frames = All IsPlain frames
 none : ArePlain []
 none = All-nil IsPlain
 
-one : (f : ControlFrame) → IsPlain f → ArePlain (f ∷ [])
-one f h = All-cons IsPlain f [] h none
-
 either : (b : Bool) (xs ys : List ControlFrame) → ArePlain xs → ArePlain ys → ArePlain (cond b xs ys)
 either b xs ys h k = grind arith
 
-receipt : (command own_busy : Bool) (r : ℕ) (pf : Bool) → IsPlain (record { command = command; control = receipt_as own_busy r pf })
-receipt command own_busy r pf = grind arith
-
-information : (next p : Bool) (l : Link) → ArePlain (to_information next p l)
-information next p l = grind (arith, either, one, receipt, none)
-
-supervisory : (command p : Bool) (l : Link) → ArePlain (to_supervisory command p l)
-supervisory command p l = either (command && p) _ [] (one _ (receipt false l.own_busy l.r true)) none
-
 up : (command : Bool) (c : Control) (l : Link) → ArePlain (answers_up command c l)
-up command c l = grind (arith, information, supervisory, none)
+up command c l = grind (arith, either, All-cons, none)
 
 all-put : (e : Event) (l : Link) (to : State) → ArePlain (put e l to)
 all-put e l to =
-    All-append IsPlain (answers e l) (commands e l to) (grind (arith, one, either, up, none))
-    (either (moves l.state to || is_time e l) (command_in to l) [] (grind (arith, one, receipt, none)) none)
+    All-append IsPlain (answers e l) (commands e l to) (grind (arith, All-cons, either, up, none))
+    (either (moves l.state to || is_time e l) (command_in to l) [] (grind (arith, All-cons, none)) none)
 
 -- What an event leaves of those that wait.
 pub all-left : (t : Terms) (e : Event) (l : Link) (to : State) → ArePlain l.waiting → ArePlain (waiting_left t e l to)

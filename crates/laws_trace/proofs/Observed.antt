@@ -23,29 +23,15 @@ abbrev pub IsSeen : Option ℕ → Known → Bool → Bool → ℕ → Observed 
 IsSeen None k asked owed n o = o ≡ in_state 1
 IsSeen (Some s) k asked owed n o = IsObserved s k asked owed n o
 
-abbrev is_counted : ℕ → Bool
-is_counted s = s == 5 || (s == 6 || s == 8)
-
 -- One step behind what was known.
 module _ (s to : ℕ) (k l : Known) (new asked owed : Bool) (more : ℕ → ℕ) (n : ℕ) (p q : Observed) (m : Moved s to l new more p q) (h : IsObserved s k asked owed n p) where
-  asks-on : (a : Bool) → (to == 5) ≡ a → (b : Bool) → (s == 5) ≡ b → (d : Bool) → (to == s) ≡ d → When a (q.asked ≡ cond b p.asked new) → When b (p.asked ≡ asked)
-      → When a (q.asked ≡ cond (a && not d) new asked)
-  asks-on a t b u d e x y = grind (arith, eq-eqb, eqb-true)
-
-  counts-on : (d : Bool) → (s == to) ≡ d → (e : Bool) → (to == s) ≡ e → (a : Bool) → is_counted to ≡ a → When a (q.expiries ≡ cond d (more p.expiries) 0)
-      → When (is_counted s) (p.expiries ≡ n) → When a (q.expiries ≡ cond (not e) 0 (more n))
-  counts-on d x e y a z u v = grind (arith, eqb-true, eq-eqb)
-
   joined : IsObserved to l (cond (to == 5 && not (to == s)) new asked) (cond (to == 5) owed (not (l.next == l.acknowledged))) (cond (not (to == s)) 0 (more n)) q
-  joined = grind (arith, asks-on, Known, counts-on)
+  joined = grind (arith, eq-eqb, eqb-true, Known)
 
 module _ (c : Config) (service : Service) (tei : ℕ) where
   -- How often T200 expired counts in states 5, 6 and 8 alone.
   abbrev pub counted_by : Event → ℕ
   counted_by what = option_map_or states.one_more (states.expired_of service tei what) 0
-
-  nothing-more : (n : ℕ) → n ≡ n + 0
-  nothing-more n = omega arith
 
   -- An event of the line, where the TEI is on it before and behind.
   module _ (x : State) (k : Known) (shape : Shape x k) (asked owed : Bool) (n : ℕ) (o : Observed) (h : IsObserved (state_number x) k asked owed n o) (what : Event) (a : Answer) where
@@ -71,7 +57,7 @@ module _ (c : Config) (service : Service) (tei : ℕ) where
         let whole = joined s to k l (news.establishes service tei what a) asked owed (grown c service tei what) n p (by_event c service tei what a p)
         (event-moves c service tei x k shape o what a) (subst (IsObserved s k asked owed n) same h) in
         subst (λ to. Follows to (n + counted_by what) (by_event c service tei what a o)) (sym (ap (λ m. fold (moves.by_seen c service tei k) m (seen what a)) (grind (arith, moves.by_expiry))))
-        (subst (λ m. Follows to m (by_event c service tei what a o)) (grind (arith, one_more, none_more, states.one_more, nothing-more, cond_both))
+        (subst (λ m. Follows to m (by_event c service tei what a o)) (grind (arith, one_more, none_more, states.one_more, cond_both))
         (subst (λ p. Follows to (grown c service tei what n) (by_event c service tei what a p)) (sym same) whole))
 
     -- from a state to one, or off the line

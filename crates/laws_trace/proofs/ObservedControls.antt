@@ -1,5 +1,5 @@
 -- The control frames of a link that are due by what the observer knows are those that are due by how the link stands.
-use Rattle.laws_trace.proofs.Vocabulary.{arith, ◌≡◌, ℕ, ◌&&◌, not, Bool, true, false, cond, length, List, [], ◌++◌, Option, Some, None, is_some, refl, ap, nat_lt, Result, Ok, Err, option_map_or, seq, Reject, ReadFault, Service, Timer, Parts, reading, Config, request, Answer, heard_side, as_response, is_granted, Control, Request, SetBusy, ClearBusy, result_ok, brought, frame_of, its_frame, is_for, Managed, due, Observed, observer_by_expiry as by_expiry, observer_by_request as by_request, by_event, sends, is_up, heard, seen_told, seen_granted, TimerT200 as T200, T201, TimerT203 as T203, cond_both, stream_frame, StreamEvent}
+use Rattle.laws_trace.proofs.Vocabulary.{arith, ◌≡◌, ℕ, ◌&&◌, not, Bool, true, false, cond, length, List, [], ◌++◌, Some, None, is_some, refl, ap, nat_lt, Result, Ok, Err, option_map_or, seq, Reject, ReadFault, Service, Timer, Parts, reading, Config, request, Answer, heard_side, as_response, is_granted, Request, SetBusy, ClearBusy, result_ok, brought, frame_of, its_frame, is_for, Managed, due, Observed, observer_by_expiry as by_expiry, observer_by_request as by_request, by_event, is_up, heard, seen_told, seen_granted, T201, cond_both, stream_frame, StreamEvent}
 use Rattle.model_line.specs.Event as line_event
 use Rattle.laws_trace.specs.ControlFrames as now_due
 use Rattle.laws_trace.proofs.ControlsSeen.{answers_seen, asked-answers}
@@ -11,21 +11,11 @@ use Rattle.laws_trace.proofs.Facts.{either-none, as-busy}
 
 -- What the link says, by the observer and by how it stands.
 module _ (c : Config) (service : Service) (tei : ℕ) (o q : Observed) (w u : Standing) (before : is_up o.state ≡ true → Same o w.told.count w.busy w.rejected) where
-  abbrev Answered : Parts → Control → Type 0
-  Answered f control =
-      old.answer_to w u o.state f.address.command (nat_lt c.n201 (length f.info)) control ≡ now_due.answer_to c o q f control
-
   -- An I-frame, and RR, RNR and REJ.
   informed : (p long up : Bool) → is_up o.state ≡ up → (up ≡ true → long ≡ false → Same q u.told.count u.busy u.rejected)
       → cond long [] (cond up (old.to_information p w u) [])
       ≡ cond up (cond long [] (cond (q.rejected && not o.rejected) (as_response (Reject (seq q.count) p)) (now_due.polled q p))) []
   informed p long up is behind = grind (arith, old.polled)
-
-  received : (p up : Bool) → (up ≡ true → Same q u.told.count u.busy u.rejected) → cond up (old.polled u p) [] ≡ cond up (now_due.polled q p) []
-  received p up behind = grind arith
-
-  by-control : (f : Parts) (control : Control) → (is_up o.state ≡ true → is_answered (nat_lt c.n201 (length f.info)) control ≡ true → Same q u.told.count u.busy u.rejected) → Answered f control
-  by-control f control behind = grind (arith, informed, received, either-none)
 
   -- A frame that comes.
   abbrev Behind : StreamEvent → Type 0
@@ -49,7 +39,7 @@ module _ (c : Config) (service : Service) (tei : ℕ) (o q : Observed) (w u : St
               → (b ≡ true → is_up o.state ≡ true → is_answered (nat_lt c.n201 (length f.info)) f.control ≡ true → Same q u.told.count u.busy u.rejected)
               → cond b (old.answer_to w u o.state f.address.command (nat_lt c.n201 (length f.info)) f.control) []
               ≡ option_map_or (λ (f : Parts). now_due.answer_to c o q f f.control) (cond b (Some f) None) []
-          on b behind = grind (arith, by-control)
+          on b behind = grind (arith, informed, either-none)
 
   pub by-heard : (e : StreamEvent) → Behind e → Answers e
   by-heard e behind = grind (arith, by-frame)
@@ -87,12 +77,8 @@ unchanged o q same = grind (arith, as-busy)
 module _ (c : Config) (service : Service) (tei : ℕ) (o : Observed) where
   ran-out : (timer : Timer) → AsBusy o (by_expiry c service tei timer o)
   ran-out T201 = λ up. refl
-  ran-out (T203 of by) = grind arith
-  ran-out (T200 of by) = grind arith
-
-  sent-so : (f : Option Parts) → AsBusy o (option_map_or (λ (f : Parts). sends o f.control) f o)
-  sent-so f = grind arith
+  ran-out other = grind arith
 
   pub as-busy-before : (what : line_event.Event) (a : Answer) → brought c service tei what ≡ None → ((r : Request) → what ≡ request r → is_granted a ≡ false)
       → AsBusy o (by_event c service tei what a o)
-  as-busy-before what a none idle = grind (arith, is_some, ran-out, sent-so)
+  as-busy-before what a none idle = grind (arith, is_some, ran-out)

@@ -146,8 +146,7 @@ module _ (service : Service) (tei number : ℕ) where
           go None off = absurd (none-some (state_number x) (sym (off-state service tei (line_at number card) off) ∙ there))
           go (Some place) on =
               let l = link_of service tei (line_at number card) in
-              let some : Some (state_number x) ≡ Some (state_number l.state) = sym there ∙ state-on service tei (line_at number card) place on in
-              let inner : state_number x ≡ state_number l.state = cc some in
+              let inner : state_number x ≡ state_number l.state = cc (sym there ∙ state-on service tei (line_at number card) place on) in
               subst (λ (p : Observed). Same p u'.told.count u'.busy u'.rejected) (sym q-now)
               (subst (λ (z : Event). let u = standing service tei c (calm n busy rejected) (seen z.what (answer z card)) in Same (by_heard c service tei e' o) u.told.count u.busy u.rejected) is-at
               (card-answered card s number e' (subst (λ i. i < c.lines) (sym same-line) here) service tei place on n stands.0 busy rejected stands.1 o (state ∙ inner) up (agree up) f frame answered))
@@ -219,17 +218,11 @@ module _ (service : Service) (tei number : ℕ) where
       count-is : (o.state == q.state) ≡ true → m' ≡ m + again
       count-is same = ap (λ b. cond (not b) m (cond (differ from to) 0 (m + again))) mine ∙ ap (λ b. cond b 0 (m + again)) (differs same)
 
-      silent : C ≡ [] → Commands
-      silent none = grind (arith, either-none)
-
-      counted : (s : ℕ) → q.state ≡ s → (s == 5 || (s == 6 || s == 8)) ≡ true → q.expiries ≡ m' → Commands
-      counted s is awaiting then = grind (arith, eqb-true, count-is, lt-ltb, le-ltb, expired_of)
-
       by-state : (y : State) → IsObserved (state_number y) l' asks' owes' m' q → Commands
-      by-state y i = grind (arith, counted, silent)
+      by-state y i = grind (arith, eqb-true, count-is, lt-ltb, le-ltb, either-none)
 
       commands-so : Facts to l' asks' owes' m' q → Commands
-      commands-so o = grind (arith, silent, by-state)
+      commands-so o = grind (arith, either-none, by-state)
 
       command-so : old.command_of u' to ≡ now_due.command_of q
       command-so = grind (arith, is_state, old.receipt, state-is, behind, agrees, eqb-true)

@@ -64,9 +64,6 @@ module _ (service : Service) (tei : ℕ) (c : Config) (ranged : IsInRange c) (l 
       (subst (λ b'. Stood u b' (taken_by c service tei o f) (informs c service tei f) b o q) (sym (begins-so c ranged l s e service tei place on))
       (grind arith)))
 
-  still-busy : (e : Event) (b : Bool) → (brings_information service tei (frame_by c e) && not (asked_busy service tei e a b)) ≡ (brings_information service tei (frame_by c e) && not b)
-  still-busy e b = grind arith
-
   pub stands-behind : is_up q.state ≡ true → Same q now.told.count now.busy now.rejected
   stands-behind up = go (is_up (state_number its)) refl
     where
@@ -80,7 +77,7 @@ module _ (service : Service) (tei : ℕ) (c : Config) (ranged : IsInRange c) (l 
             count_is = h.count_is ∙ ap (λ m. cond B 0 (cond D (m + 1) m)) same.count_is;
             busy_is = h.busy_is ∙ ap (λ b. cond B false (asked_busy service tei e a b)) same.busy_is;
             rejected_is =
-                h.rejected_is ∙ ap (λ b. cond (B || D) false (cond b true o.rejected)) (still-busy e o.own_busy)
+                h.rejected_is ∙ ap (λ b. cond (B || D) false (cond b true o.rejected)) (grind arith)
                 ∙ ap (λ b. cond (B || D) false (cond (I && not b) true o.rejected)) same.busy_is ∙ ap (λ r. cond (B || D) false (cond (I && not busy) true r)) same.rejected_is;
           }
       go false before =

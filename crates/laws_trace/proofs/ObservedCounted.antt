@@ -56,11 +56,9 @@ module _ (service : Service) (tei number : ℕ) where
         Agree (cond (not is) (in_state 1) (cond was (cond b (by_event c service tei e.what (answer e card) v.link) v.link) (in_state 4)))
         (standing service tei c (calm n busy rejected) (cond b (seen e.what (answer e card)) []))
 
-    before : Facts (state_of service tei (line_at number card)) k asked w.outstanding m v.link
-    before = facts service tei k asked w.outstanding m (line_at number card) v h
-
     by-line : (b : Bool) → (e.line == number) ≡ b → (is was : Bool) → was ≡ is_some (state_of service tei (line_at number card)) → Next b is was
-    by-line true eq true true on = go (place_in (line_at number card) tei) refl before
+    by-line true eq true true on =
+        go (place_in (line_at number card) tei) refl (facts service tei k asked w.outstanding m (line_at number card) v h)
       where
         go : (p : Option ℕ) → place_in (line_at number card) tei ≡ p → Facts (state_of service tei (line_at number card)) k asked w.outstanding m v.link → Next true true true
         go None off facts = absurd (true≢false (on ∙ ap is_some (off-state service tei (line_at number card) off)))
@@ -69,10 +67,8 @@ module _ (service : Service) (tei number : ℕ) where
             let same : number ≡ e.line = sym (eqb-true e.line number eq) in
             let l = link_of service tei (line_at number card) in
             let some : Some (state_number y.0) ≡ Some (state_number l.state) = sym y.1 ∙ state-on service tei (line_at number card) place at in
-            let inner : state_number y.0 ≡ state_number l.state = cc some in
-            let is : v.link.state ≡ state_number l.state = y.2.state_is ∙ inner in
             own-behind card s e here n busy rejected (subst (λ i. StandsCalm n busy rejected (line_at i card)) same stands) place (subst (λ i. place_in (line_at i card) tei ≡ Some place) same at) v.link
-            (subst (λ i. v.link.state ≡ state_number (link_of service tei (line_at i card)).state) same is) agree
+            (subst (λ i. v.link.state ≡ state_number (link_of service tei (line_at i card)).state) same (y.2.state_is ∙ (cc some))) agree
     by-line b eq is was on = grind arith
 
     pub agrees-then : Agree (views c service tei number v its).link (standing service tei c (calm n busy rejected) (seen_in number its))

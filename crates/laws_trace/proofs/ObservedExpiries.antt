@@ -1,5 +1,5 @@
 -- How often T200 of a link expired, to an observer: it rises by an expiry of it alone.
-use Rattle.laws_trace.proofs.Vocabulary.{◌≡◌, ℕ, ◌==◌, ◌&&◌, ◌||◌, not, Bool, true, false, cond, Option, refl, ap, ◌∙◌, arith, is_some, nat_lt, le-ltb, option_map_or, Service, Parts, Seq, Config, expiry, Answer, Deactivate, eqb-true, lt-ltb, Control, Event, Request, Establish, Release, SetBusy, ClearBusy, Observed, in_state, awaits, receipt, while_up, while_down, observer_by_frame as by_frame, observer_by_request as by_request, by_t200, enquires, enters, sends, by_event, is_own, is_up, or-true, TimerT200 as T200}
+use Rattle.laws_trace.proofs.Vocabulary.{◌≡◌, ℕ, ◌==◌, ◌&&◌, ◌||◌, not, Bool, true, false, cond, refl, ap, ◌∙◌, arith, is_some, nat_lt, le-ltb, Service, Config, expiry, Answer, Deactivate, eqb-true, lt-ltb, Event, Request, Establish, Release, SetBusy, ClearBusy, Observed, in_state, awaits, observer_by_request as by_request, by_t200, enquires, enters, by_event, is_own, is_up, or-true, TimerT200 as T200}
 
 abbrev pub IsNoMore : Observed → Observed → Type 0
 IsNoMore o q = nat_lt o.expiries q.expiries ≡ false
@@ -14,25 +14,7 @@ pub either : (o : Observed) (b : Bool) (p q : Observed) → IsNoMore o p → IsN
 either o b p q h i = grind arith
 
 module _ (o : Observed) where
-  received : (final again busy : Bool) (nr : Seq) → IsNoMore o (receipt final again busy nr o)
-  received final again busy nr = grind (arith, either, same)
-
-  up : (long command : Bool) (control : Control) → IsNoMore o (while_up long command control o)
-  up long command control = grind (arith, either, same, received)
-
-  down : (control : Control) → IsNoMore o (while_down control o)
-  down control = grind (arith, either, same)
-
-  sent : (control : Control) → IsNoMore o (sends o control)
-  sent control = grind (arith, either, same)
-
   module _ (c : Config) (service : Service) (tei : ℕ) where
-    framed : (f : Option Parts) → IsNoMore o (option_map_or (by_frame c o) f o)
-    framed f = grind (arith, same, either, up, down)
-
-    begun : (f : Option Parts) → IsNoMore o (option_map_or (λ (f : Parts). sends o f.control) f o)
-    begun f = grind (arith, same, sent)
-
     asked : (r : Request) → IsNoMore o (by_request service tei r o)
     asked (Establish of by) = either o (is_own service tei of by && o.state == 4) (record (in_state 5) { asked = true }) o (zero o) (same o)
     asked (Release of by) = either o (is_own service tei of by && is_up o.state) (in_state 6) o (zero o) (same o)
@@ -43,7 +25,7 @@ module _ (o : Observed) where
 
     -- by another event than an expiry of T200
     pub no-more : (what : Event) (a : Answer) → ((of : Service) (by : ℕ) → what ≡ expiry (T200 of by) → is_own service tei of by ≡ false) → IsNoMore o (by_event c service tei what a o)
-    no-more what a other = grind (arith, either, is_some, framed, asked, same, begun)
+    no-more what a other = grind (arith, either, is_some, asked, same)
 
   -- An expiry of the timer that runs leads on, or is counted.
   moved : (n : ℕ) (q : Observed) → o.state ≡ n → (n == q.state) ≡ false → enters o q ≡ true

@@ -1,5 +1,5 @@
 -- What the observer knows of a link gives the laws of it, by what follows its parts.
-use Rattle.laws_trace.proofs.Vocabulary.{arith, lt-ltb, config-stays, ◌≡◌, ℕ, ◌<◌, ◌==◌, ◌&&◌, ◌||◌, inl, inr, not, Bool, false, cond, List, [], ◌∷◌, ◌++◌, map, Option, Some, None, is_some, refl, sym, ap, ◌∙◌, subst, fold, filter, nat_le, if◌then◌else◌, list_any, Note, EstablishIndication, EstablishConfirm, ReleaseIndication, ReleaseConfirm, Error, Service, State, LinkTimer, state_number, Config, orders_in, Line, state_of, IsInRange, obeyed, notes_of, timer_of, left_by, runs_at_callers, line_at, at, moments, unwrap_or, NoteXid as Xid, fresh, CardEvent as Event, after, Moment, after_all, AreAtLines, managing_is_on as is_on, NewsIsTold, Observed, View, view_of, moment_of, view_behind, TimersRun, Seen, seen, Always, renews}
+use Rattle.laws_trace.proofs.Vocabulary.{arith, ◌≡◌, ℕ, ◌<◌, ◌==◌, ◌&&◌, ◌||◌, inl, inr, not, Bool, false, cond, List, [], ◌∷◌, ◌++◌, map, Option, Some, None, is_some, refl, sym, ap, ◌∙◌, subst, fold, filter, nat_le, list_any, Note, Error, Service, State, LinkTimer, state_number, Config, orders_in, Line, state_of, IsInRange, obeyed, notes_of, timer_of, left_by, runs_at_callers, line_at, at, moments, unwrap_or, fresh, CardEvent as Event, after, Moment, after_all, AreAtLines, managing_is_on as is_on, NewsIsTold, Observed, View, view_of, moment_of, view_behind, TimersRun, Seen, seen, Always, renews}
 use Rattle.model_line.specs.Event as line_event
 use Rattle.laws_trace.specs.LinksMove.{LinksMove}
 use Rattle.laws_trace.proofs.MovesWatched.{repeated}
@@ -92,9 +92,7 @@ pub timers-run-so : Always TimersRun
 timers-run-so c events number ranged all within service tei =
     let is = known-now c events number ranged all within service tei in
     let h = timers-run c events number ranged all within service tei in
-    let st = state_of service tei (line_at number (after_all (fresh c) events)) in
-    let o = (view_of c service tei number events).link in
-    grind (arith, known.awaits, state-is, is_state)
+    let o = (view_of c service tei number events).link in grind (arith, known.awaits, state-is, is_state)
 
 -- Behind an event of the line.
 module _ (c : Config) (before : List Event) (number : ℕ) (ranged : IsInRange c) (all : AreAtLines (fresh c) before) (within : number < c.lines) (service : Service) (tei : ℕ) (what : line_event.Event) where
@@ -138,21 +136,6 @@ module _ (c : Config) (before : List Event) (number : ℕ) (ranged : IsInRange c
       ∙ ap (λ (z : Known). differ from to || (is_state 7 from && now_news.brings (renews timer z.acknowledged z.busy) c service tei what)) (numbers-are from its_numbers its_asked its_owed its_count was is-before)
       ∙ ap (λ b. differ from to || (is_state 7 from && b)) (sym (brings-is c service tei (known.renews timer its_numbers) what its_moment.answer))
 
-  -- what is due of news
-  abbrev Due : ℕ → Bool → Bool → Bool → Bool → List Note
-  Due seen up down asked outstanding =
-      let xid = now_news.brings now_news.is_xid c service tei what in
-      let sabme = now_news.brings now_news.is_sabme c service tei what in
-      let released = now_news.releases service tei what its_moment.answer in
-      map (Error service tei) (now_news.wrong c service tei what was.state seen)
-      ++ (if xid then Xid service tei ∷ []
-      else if up then
-      (if was.state == 4 then EstablishIndication service tei ∷ [] else if asked then EstablishConfirm service tei ∷ []
-      else if (was.state == 5 || sabme) && outstanding then EstablishIndication service tei ∷ [] else [])
-      else if down then
-      (if was.state == 6 || (was.state == 4 && released) then ReleaseConfirm service tei ∷ [] else if was.state == 4 then [] else ReleaseIndication service tei ∷ [])
-      else [])
-
   abbrev old_due : List Seen → List Note
   old_due t =
       news.due service tei (now_news.wrong c service tei what was.state (unwrap_or to 1)) its_asked
@@ -163,14 +146,7 @@ module _ (c : Config) (before : List Event) (number : ℕ) (ranged : IsInRange c
       → map (Error service tei) (now_news.wrong c service tei what was.state now.state)
       ++ now_news.due service tei (now_news.brings now_news.is_xid c service tei what) (now_news.brings now_news.is_sabme c service tei what) (now_news.releases service tei what its_moment.answer) was now.state
       ≡ old_due (seen what its_moment.answer)
-  due-is x h =
-      let z = known-then c before number ranged all within service tei what in
-      let l = watch c service tei number its_numbers its_moment in
-      let asked = news.asked service tei number its_asked its_moment in
-      let owed = (owing c service tei number (fold (owing c service tei number) none_owed (moments (fresh c) before)) its_moment).outstanding in
-      let n = repeated service tei number its_count its_moment in
-      let errors = now_news.wrong c service tei what was.state (unwrap_or to 1) in
-      grind (arith, nat_le, seen-is, down-is, asked-is, owed-is, news.due, brings-is, known.brings)
+  due-is x h = grind (arith, nat_le, seen-is, down-is, asked-is, owed-is, news.due, brings-is, known.brings, known-then)
 
 -- when a timer is started
 pub started-so : (c : Config) (before : List Event) (number : ℕ) (ranged : IsInRange c) (all : AreAtLines (fresh c) before) (within : number < c.lines) (service : Service) (tei : ℕ) (timer : LinkTimer) (what : line_event.Event) →
@@ -181,8 +157,6 @@ pub started-so : (c : Config) (before : List Event) (number : ℕ) (ranged : IsI
     && (not ran || moved_or_renewed c service tei timer (view_of c service tei number before).link (view_behind c service tei number before what).link what))
 started-so c before number ranged all within service tei timer what =
     let its = timer_of service tei timer in
-    let m = moment_of c before number what in
-    let ran = left_by what its (runs_at_callers number its false (moments (fresh c) before)) in
     let here : number < (after_all (fresh c) before).config.lines = subst (λ (c : Config). number < c.lines) (sym (config-now c before number ranged all within service tei)) within in
     grind (arith, started-law, anew-is)
 

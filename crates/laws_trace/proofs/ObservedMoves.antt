@@ -1,11 +1,11 @@
 -- How an event moves what an observer knows of a link: the state, the numbers, what layer 3 asked and how often T200 expired.
-use Rattle.laws_trace.proofs.Vocabulary.{arith, ◌≡◌, ℕ, ◌+◌, ◌==◌, ◌&&◌, ◌||◌, Bool, true, false, cond, length, Option, Some, None, is_some, nat_lt, option_map_or, Service, Timer, Parts, State, TeiAssigned, AwaitingEstablishment, AwaitingRelease, Established, TimerRecovery, LinkTimer, state_number, Config, expiry, request, Answer, LineTold, Control, T200, Event, told, Request, its_frame, Observed, in_state, anew, while_up, while_down, observer_by_frame as by_frame, by_t200, observer_by_expiry as by_expiry, enquires, by_event, is_own, is_up, seen, TimerT200}
-use Rattle.laws_trace.proofs.TimersWatched.{Sent, sent_by, sent_in, Known, nothing_yet}
+use Rattle.laws_trace.proofs.Vocabulary.{arith, ℕ, ◌==◌, ◌&&◌, ◌||◌, Bool, false, cond, length, Option, Some, None, is_some, nat_lt, option_map_or, Service, Timer, Parts, State, TeiAssigned, AwaitingEstablishment, AwaitingRelease, Established, TimerRecovery, LinkTimer, state_number, Config, expiry, request, Answer, LineTold, Control, T200, Event, told, Request, its_frame, Observed, anew, while_up, while_down, observer_by_frame as by_frame, by_t200, observer_by_expiry as by_expiry, enquires, by_event, is_own, is_up, seen, TimerT200}
+use Rattle.laws_trace.proofs.TimersWatched.{sent_by, Known, nothing_yet}
 use Rattle.laws_trace.proofs.States as states
 use Rattle.laws_trace.proofs.MovesWatched as moves
 use Rattle.laws_trace.proofs.TimersWatched as known
 use Rattle.laws_trace.proofs.NewsWatched as news
-use Rattle.laws_trace.proofs.ObservedShape.{When, at_state, Shape, Moved, none_more, one_more}
+use Rattle.laws_trace.proofs.ObservedShape.{at_state, Shape, Moved, none_more, one_more}
 
 -- The numbers behind a control field.
 abbrev heard_known : ℕ → ℕ → Known → Option Control → Known
@@ -60,29 +60,10 @@ module _ (c : Config) (service : Service) (tei : ℕ) where
       Moved s to (heard_known s to k (cond b (Some f.control) None)) false none_more p (option_map_or (by_frame c p) (cond b (Some f) None) p)
   of-frame x k shape o f b = grind (arith, in_4, in_5, in_6, in_7, in_8, stays)
 
-  parts : (x : State) (k : Known) → Shape x k → (o : Observed) (f : Option Parts) → let s = state_number x in let p = at_state s k o in
-      let to = moves.by_parts c service tei k s f in
-      Moved s to (heard_known s to k (known.control_in service tei f)) false none_more p (option_map_or (by_frame c p) (its_frame service tei f) p)
-  parts x k shape o f = grind (arith, stays, of-frame)
-
   heard-moves : (x : State) (k : Known) → Shape x k → (o : Observed) (m : Bool) (f : Option Parts) → Heard x k o m f
-  heard-moves x k shape o m f = grind (arith, parts)
+  heard-moves x k shape o m f = grind (arith, stays, of-frame)
 
   -- What runs out.
-  abbrev Expires : LinkTimer → State → Known → (ℕ → ℕ) → Observed → Observed → Type 0
-  Expires timer x k more p q =
-      let s = state_number x in let to = moves.by_expiry c.n200 k p.expiries s timer in Moved s to (cond (to == 7 || to == 8) k nothing_yet) false more p q
-
-  repeated : (x : State) (k : Known) → Shape x k → (o : Observed) (again : Bool) → let s = state_number x in let p = at_state s k o in
-      let to = cond {A = ℕ} again s (cond {A = ℕ} (s == 8) 5 4) in
-      When (s == 5 || (s == 6 || s == 8)) (Moved s to (cond (to == 7 || to == 8) k nothing_yet) false one_more p
-      (cond again (record p { expiries = p.expiries + 1 }) (cond (s == 8) (anew p) (in_state 4))))
-  repeated x k shape o again = grind (arith, at_state, Moved, nothing_yet, one_more)
-
-  not_counted : (k : Known) → k ≡ nothing_yet → (o : Observed) (again : Bool) → let p = at_state 4 k o in let to = cond {A = ℕ} again 4 4 in
-      Moved 4 to (cond (to == 7 || to == 8) k nothing_yet) false one_more p p
-  not_counted k shape o again = grind (arith, at_state, Moved, nothing_yet, one_more)
-
   enquiry : (k : Known) (o : Observed) (more : ℕ → ℕ) (b : Bool) → let p = at_state 7 k o in let to = cond {A = ℕ} b 8 7 in
       Moved 7 to (cond (to == 7 || to == 8) k nothing_yet) false more p (cond b (enquires p) p)
   enquiry k o more b = grind arith
@@ -104,39 +85,17 @@ module _ (c : Config) (service : Service) (tei : ℕ) where
 
   by-t200 : (x : State) (k : Known) → Shape x k → (o : Observed) (b : Bool) → let p = at_state (state_number x) k o in
       Timed x k (cond b one_more none_more) (cond b (Some T200) None) p (cond b (by_t200 c.n200 p) p)
-  by-t200 x k shape o b = grind (arith, not_counted, enquiry, one_more, known.awaits, repeated, stays)
+  by-t200 x k shape o b = grind (arith, enquiry, one_more, known.awaits, stays)
 
   timer-moves : (x : State) (k : Known) → Shape x k → (o : Observed) (timer : Timer) → let p = at_state (state_number x) k o in
       Timed x k (grown (expiry timer)) (states.expired_of service tei (expiry timer)) p (by_expiry c service tei timer p)
   timer-moves x k shape o timer = grind (arith, by-t200, enquiry, none_more, known.awaits, stays)
 
   -- What is asked.
-  abbrev Asked : State → Known → Bool → ℕ → Observed → Observed → Type 0
-  Asked x k new to p q = Moved (state_number x) to (cond (to == 7 || to == 8) k nothing_yet) new none_more p q
-
-  establish : (x : State) (k : Known) → Shape x k → (o : Observed) (b : Bool) → let s = state_number x in let p = at_state s k o in
-      Asked x k b (cond {A = ℕ} (b && s == 4) 5 s) p (cond (b && p.state == 4) (record (in_state 5) { asked = true }) p)
-  establish x k shape o b = grind (arith, stays, at_state, Moved, nothing_yet, none_more)
-
-  release : (x : State) (k : Known) → Shape x k → (o : Observed) (b : Bool) → let s = state_number x in let p = at_state s k o in
-      Asked x k false (cond {A = ℕ} (b && is_up s) 6 s) p (cond (b && is_up p.state) (in_state 6) p)
-  release x k shape o b = grind (arith, stays)
-
-  deactivate : (x : State) (k : Known) → Shape x k → (o : Observed) (b : Bool) → let s = state_number x in let p = at_state s k o in
-      Asked x k false (cond {A = ℕ} b 4 s) p (cond b (in_state 4) p)
-  deactivate x k shape o b = grind (arith, stays)
-
-  busy : (x : State) (k : Known) → Shape x k → (o : Observed) (now b : Bool) → let s = state_number x in let p = at_state s k o in
-      Asked x k false s p (cond b (record p { own_busy = now }) p)
-  busy x k shape o now b = grind (arith, stays)
-
   asked-moves : (x : State) (k : Known) → Shape x k → (o : Observed) (r : Request) (t : LineTold) → EventMoves x k o (request r) (told t)
-  asked-moves x k shape o r t = grind (arith, establish, release, deactivate, busy, stays)
+  asked-moves x k shape o r t = grind (arith, stays)
 
-  -- What is sent.
-  abbrev Sends : State → Known → Observed → Option Sent → Observed → Type 0
-  Sends x k p sent q = let s = state_number x in Moved s s (cond (s == 7 || s == 8) (option_map_or (known.sends k) sent k) nothing_yet) false none_more p q
-
+  -- Any event of the line.
   pub event-moves : (x : State) (k : Known) → Shape x k → (o : Observed) (what : Event) (a : Answer) → EventMoves x k o what a
   event-moves x k shape o (request r) (told t) = asked-moves x k shape o r t
   event-moves x k shape o what a = grind (arith, heard-moves, is_some, timer-moves, stays, news.establishes, at_state, sent_by)

@@ -25,10 +25,7 @@ IsFrom from k = ((from ≡ None) × (k ≡ nothing_yet)) ⊎ ((x : State) × (fr
 
 module _ (service : Service) (tei : ℕ) where
   pub from-is : (l : Line) (k : Known) → IsTrueOf service tei k l → IsFrom (state_of service tei l) k
-  from-is l k h = go (place_in l tei) refl
-    where
-      go : (o : Option ℕ) → place_in l tei ≡ o → IsFrom (state_of service tei l) k
-      go o off = grind (arith, off-state, Agrees, off-fresh, state-on)
+  from-is l k h = grind (arith, off-state, Agrees, off-fresh, state-on)
 
   pub is-told : (l : Line) → has_tei tei l ≡ is_some (state_of service tei l)
   is-told l = go (place_in l tei) refl

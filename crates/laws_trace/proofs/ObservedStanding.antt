@@ -1,6 +1,6 @@
 -- How an event of a line moves what an observer knows of this side of a link: how many contents were told, whether layer 3
 -- is busy, and whether an I-frame is rejected.
-use Rattle.laws_trace.proofs.Vocabulary.{arith, ◌≡◌, ℕ, ◌+◌, ◌==◌, ◌&&◌, ◌||◌, not, Bool, true, false, cond, Option, is_some, option_map_or, Sabme, Ua, Service, Timer, Parts, State, TeiAssigned, AwaitingEstablishment, AwaitingRelease, Established, TimerRecovery, state_number, Config, Answer, Control, Event, brings_next, brought, Observed, in_state, awaits, anew, while_up, while_down, observer_by_frame as by_frame, by_t200, observer_by_expiry as by_expiry, enquires, by_event, is_up}
+use Rattle.laws_trace.proofs.Vocabulary.{arith, ◌≡◌, ℕ, ◌+◌, ◌==◌, ◌&&◌, ◌||◌, not, Bool, true, false, cond, Option, is_some, option_map_or, Sabme, Ua, Service, Parts, State, Established, TimerRecovery, state_number, Config, Answer, Control, Event, brings_next, brought, Observed, anew, while_up, while_down, observer_by_frame as by_frame, by_event, is_up}
 use Rattle.laws_trace.specs.Deliveries.{is_taken}
 use Rattle.laws_trace.proofs.ObservedShape.{When}
 use Rattle.laws_trace.proofs.Standing.{asked_busy}
@@ -26,15 +26,6 @@ abbrev Frame : State → Bool → Bool → Control → Type 0
 Frame x long command control =
     (o : Observed) → let s = state_number x in let p = in_number s o in let q = cond (is_up s) (while_up long command control p) (while_down control p) in
     When (is_up q.state) (Stood (is_up s) (begun_by s control) (is_up s && (not long && brings_next p control)) (is_information control) p.own_busy p q)
-
-in_4 : (long command : Bool) (control : Control) → Frame TeiAssigned long command control
-in_4 long command control o = grind arith
-
-in_5 : (long command : Bool) (control : Control) → Frame AwaitingEstablishment long command control
-in_5 long command control o = grind arith
-
-in_6 : (long command : Bool) (control : Control) → Frame AwaitingRelease long command control
-in_6 long command control o = grind arith
 
 -- An N(R) in states 7 and 8, by whether it is invalid.
 in_7 : (long command : Bool) (control : Control) → Frame Established long command control
@@ -63,40 +54,8 @@ module _ (c : Config) (service : Service) (tei : ℕ) where
       let q = cond (is_up s && m) (anew p) (option_map_or (by_frame c p) f p) in
       When (is_up q.state) (Stood (is_up (state_number x)) (begins_by x f) (taken_by p f) (informs f) p.own_busy p q)
 
-  parts : (x : State) (o : Observed) (f : Option Parts) → let p = in_number (state_number x) o in let q = option_map_or (by_frame c p) f p in
-      When (is_up q.state) (Stood (is_up (state_number x)) (begins_by x f) (taken_by p f) (informs f) p.own_busy p q)
-  parts x o f = grind (arith, rests, in_4, in_5, in_6, in_7, in_8)
-
   heard-stands : (x : State) (o : Observed) (m : Bool) (f : Option Parts) → Heard x o m f
-  heard-stands x o m f = grind (arith, parts)
-
-  abbrev Quiet : State → Observed → Observed → Type 0
-  Quiet x o q = let p = in_number (state_number x) o in When (is_up q.state) (Stood (is_up (state_number x)) false false false p.own_busy p q)
-
-  enquiry : (o : Observed) (b : Bool) → let p = in_number 7 o in Quiet Established o (cond b (enquires p) p)
-  enquiry o b = grind arith
-
-  again : (x : State) (o : Observed) (b : Bool) → let s = state_number x in let p = in_number s o in
-      Quiet x o (cond b (record p { expiries = p.expiries + 1 }) (cond (s == 8) (anew p) (in_state 4)))
-  again x o b = grind arith
-
-  t200 : (x : State) (o : Observed) (b : Bool) → let p = in_number (state_number x) o in Quiet x o (cond b (by_t200 c.n200 p) p)
-  t200 x o b = grind (arith, rests, enquiry, again)
-
-  t203 : (x : State) (o : Observed) (b : Bool) → let p = in_number (state_number x) o in Quiet x o (cond (b && (p.state == 7 && not (awaits p))) (enquires p) p)
-  t203 x o b = grind (arith, rests, enquiry)
-
-  timer-stands : (x : State) (o : Observed) (timer : Timer) → Quiet x o (by_expiry c service tei timer (in_number (state_number x) o))
-  timer-stands x o timer = grind (arith, t200, t203, rests)
-
-  establish : (x : State) (o : Observed) (b : Bool) → let p = in_number (state_number x) o in Quiet x o (cond (b && p.state == 4) (record (in_state 5) { asked = true }) p)
-  establish x o b = grind (arith, rests)
-
-  release : (x : State) (o : Observed) (b : Bool) → let p = in_number (state_number x) o in Quiet x o (cond (b && is_up p.state) (in_state 6) p)
-  release x o b = grind (arith, rests)
-
-  deactivate : (x : State) (o : Observed) (b : Bool) → let p = in_number (state_number x) o in Quiet x o (cond b (in_state 4) p)
-  deactivate x o b = grind (arith, rests)
+  heard-stands x o m f = grind (arith, rests, in_7, in_8)
 
   abbrev Busied : State → Observed → Bool → Observed → Type 0
   Busied x o busy q = let p = in_number (state_number x) o in When (is_up q.state) (Stood (is_up (state_number x)) false false false busy p q)
@@ -111,4 +70,4 @@ module _ (c : Config) (service : Service) (tei : ℕ) where
       When (is_up q.state) (Stood (is_up (state_number x)) (begins_by x f) (taken_by p f) (informs f) (asked_busy service tei what a p.own_busy) p q)
 
   pub event-stands-so : (x : State) (o : Observed) (what : Event) (a : Answer) → EventStands x o what a
-  event-stands-so x o what a = grind (arith, heard-stands, is_some, timer-stands, establish, release, deactivate, rests, ends-busy)
+  event-stands-so x o what a = grind (arith, heard-stands, is_some, rests, ends-busy)

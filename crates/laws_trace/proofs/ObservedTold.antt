@@ -1,6 +1,5 @@
 -- What an event of a line tells of data, by what an observer knows of the link; and when the numbers begin.
-use Rattle.laws_trace.proofs.Vocabulary.{◌≡◌, ℕ, ◌%◌, ◌==◌, ◌&&◌, not, Bool, true, false, cond, List, length, Option, Some, None, refl, sym, ap, ◌∙◌, arith, inl, inr, true≢false, nat_lt, nat_le, is_some, list_any, option_map_or, leb-true, leb-false, none-some, Sabme, Ua, Service, Parts, Seq, State, Terms, restarts, eligible, eligible_of, Link, is_multiple_frame, state_number, in_sequence, as_heard, state_after, numbers_begin, event-follows, data-is, establishes, Config, Answer, Line, link_of, place_in, terms, IsInRange, notes_of, is_data_of, IsBy, ltb-true, ltb-false, Control, link_information_of as information_of, Event, IsSound, brings_next, brought, its_frame, is_for, Observed, is_up, link_after as after, undefined, received, cleared, requested, LinkEvent, overlong, frame, wrong_size, line_after, answer}
-use Rattle.laws_trace.proofs.Counting as counting
+use Rattle.laws_trace.proofs.Vocabulary.{◌≡◌, ℕ, ◌&&◌, not, Bool, true, false, cond, List, length, Option, Some, None, refl, sym, ap, ◌∙◌, arith, inl, inr, true≢false, nat_lt, nat_le, is_some, list_any, option_map_or, leb-true, leb-false, none-some, Service, Parts, Terms, restarts, eligible, eligible_of, Link, is_multiple_frame, state_number, in_sequence, event-follows, data-is, establishes, Config, Answer, Line, link_of, place_in, terms, IsInRange, notes_of, is_data_of, IsBy, ltb-true, ltb-false, Control, link_information_of as information_of, Event, IsSound, brings_next, brought, is_for, Observed, is_up, undefined, received, cleared, requested, LinkEvent, overlong, frame, wrong_size, line_after, answer}
 use Rattle.laws_trace.proofs.Counting.{begins}
 use Rattle.laws_trace.proofs.Begins.{in-state, unless}
 use Rattle.laws_trace.proofs.Deliveries.{frame_by, brings-frame, brings-none, one-begins}
@@ -13,31 +12,8 @@ use Rattle.laws_trace.proofs.Facts.{number-up}
 
 -- The numbers begin anew, by the state before.
 module _ (t : Terms) (f : Parts) where
-  abbrev Restarts : Control → Link → Type 0
-  Restarts control l = restarts t (received (frame (record f { control = control }))) l ≡ begun_by (state_number l.state) control
-
-  abbrev Numbers : Control → Link → Type 0
-  Numbers control l =
-      let e = received (frame (record f { control = control })) in numbers_begin e l.state (state_after t e l) ≡ begun_by (state_number l.state) control
-
-  by-sabme : (p : Bool) (here : State) (l : Link) → Numbers (Sabme p) (record l { state = here })
-  by-sabme p here l = grind arith
-
-  by-ua : (here : State) (l : Link) → Numbers (Ua true) (record l { state = here })
-  by-ua here l = grind arith
-
-  followed : (control : Control) (l : Link) → let e = received (frame (record f { control = control })) in as_heard t e ≡ e → Numbers control l → Restarts control l
-  followed control l heard is =
-      let e = received (frame (record f { control = control })) in
-      let x = event-follows t e l in
-      let state : (after t e l).state ≡ state_after t e l = x.leaves.state ∙ ap (λ e. state_after t e l) heard in
-      x.numbers ∙ ap (λ e. numbers_begin e l.state (after t (received (frame (record f { control = control }))) l).state) heard ∙ ap (numbers_begin e l.state) state ∙ is
-
-  by-control : (control : Control) (l : Link) → Restarts control l
-  by-control control l = grind (arith, followed, in-state, by-sabme, by-ua, unless)
-
   pub restarts-so : (l : Link) → restarts t (received (frame f)) l ≡ begun_by (state_number l.state) f.control
-  restarts-so l = by-control f.control l
+  restarts-so l = grind (arith, event-follows, in-state, unless)
 
 -- What is due to be delivered, by what an observer knows.
 module _ (t : Terms) (own : Link) (p : Observed) (is : p.state ≡ state_number own.state) (count_is : is_multiple_frame own.state ≡ true → own.r ≡ p.count)
@@ -47,11 +23,8 @@ module _ (t : Terms) (own : Link) (p : Observed) (is : p.state ≡ state_number 
       is_some (in_sequence own.r (eligible_of t own (information_of control info)))
       ≡ (is_up p.state && (not (nat_lt t.n201 (length info)) && brings_next p control))
 
-  by-up : (up : Bool) → is_multiple_frame own.state ≡ up → (ns : Seq) (fit : Bool) → (up && (fit && (not own.own_busy && ns.value == own.r % 128))) ≡ (up && (fit && (not p.own_busy && ns.value == p.count % 128)))
-  by-up up down ns fit = grind arith
-
   due-so : (control : Control) (info : List ℕ) → Due control info
-  due-so control info = grind (arith, is_some, nat_le, by-up, leb-true, ltb-true, leb-false, ltb-false, number-up)
+  due-so control info = grind (arith, is_some, nat_le, leb-true, ltb-true, leb-false, ltb-false, number-up)
 
 -- One event of a line, where the TEI is on it.
 module _ (c : Config) (ranged : IsInRange c) (l : Line) (s : IsSound c l) (e : Event) (service : Service) (tei place : ℕ) (on : place_in l tei ≡ Some place) where
@@ -84,9 +57,6 @@ module _ (c : Config) (ranged : IsInRange c) (l : Line) (s : IsSound c l) (e : E
   abbrev Begins : Type 0
   Begins = begins service tei (frame_by c e) (notes_of a) ≡ begins_by c service tei own.state its
 
-  none-begins : (x : HasNone c service tei e l (line_after c e l) a) → (o : Option Parts) → frame_by c e ≡ o → begins service tei o (notes_of a) ≡ false
-  none-begins x o is = grind (arith, counting.begins_by, not-for)
-
   no-restart : (event : LinkEvent) → (restarts t event own ≡ true → ⊥) → frame_by c e ≡ None → restarts t event own ≡ begins_by c service tei own.state its
   no-restart event never none = sym (unless (restarts t event own) never) ∙ sym (ap (begins_by c service tei own.state) (none-brought e none))
 
@@ -102,25 +72,14 @@ module _ (c : Config) (ranged : IsInRange c) (l : Line) (s : IsSound c l) (e : E
   one-restarts other by = no-restart other (λ is. establishes t own other is) (ap (frame_by c) by)
 
   pub begins-so : Begins
-  begins-so = go (event-goes c e l service tei s)
-    where
-      go : Goes c service tei e l (line_after c e l) a → Begins
-      go (inl x) = none-begins x (frame_by c e) refl ∙ sym (ap (begins_by c service tei own.state) (none-of-it x (frame_by c e) refl))
-      go (inr (inl x)) = ap (begins service tei (frame_by c e)) x.notes ∙ one-begins c e a service tei x.event x.by own ∙ one-restarts x.event x.by
-      go (inr (inr x)) = ap (λ e. begins service tei (frame_by c e) (notes_of a)) x.by.0 ∙ sym (ap (λ e. begins_by c service tei own.state (brought c service tei e)) x.by.0)
+  begins-so = grind (arith, not-for, none-of-it, one-begins, one-restarts, event-goes)
 
   -- whether an I-frame comes
   pub informs-so : brings_information service tei (frame_by c e) ≡ informs c service tei its
-  informs-so = by-event e
+  informs-so = grind (arith, by-address)
     where
       by-address : (f : Parts) (b : Bool) → (b && is_information f.control) ≡ option_map_or (λ (f : Parts). is_information f.control) (cond b (Some f) None) false
       by-address f b = grind arith
-
-      by-frame : (o : Option Parts) → brings_information service tei o ≡ option_map_or (λ (f : Parts). is_information f.control) (its_frame service tei o) false
-      by-frame o = grind (arith, by-address)
-
-      by-event : (e : Event) → brings_information service tei (frame_by c e) ≡ informs c service tei (brought c service tei e)
-      by-event e = grind (arith, by-frame)
 
   -- what is told of data
   module _ (p : Observed) (n : ℕ) (count : IsCount own n) (is : p.state ≡ state_number own.state) (count_is : is_multiple_frame own.state ≡ true → own.r ≡ p.count)

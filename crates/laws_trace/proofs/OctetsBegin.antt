@@ -1,6 +1,6 @@
 -- Where the contents that are granted, and the frames that are heard, are octets, so are those of each frame that
 -- begins: the law.
-use Rattle.laws_trace.proofs.Vocabulary.{◌≡◌, ℕ, zero, suc, ◌<◌, ◌≤◌, Bool, true, false, cond, List, [], ◌∷◌, ◌++◌, drop, get_or, replicate, slice_get, Option, Some, None, IfSome, option_map, refl, sym, ap, ◌∙◌, subst, arith, ◌⊎◌, inl, inr, All, is_some, option_or, option_map_or, flat_map-append, get_or-replicate, All-nil, All-head, All-tail, All-append, All-drop, AreOctets, Address, Side, Refusal, Service, action_of, Message, accepted, share, IsOffered, Carries, number_sent, kept-after, given-is-offered, Seq, Link, queue_of, address_at, Given, Terms, Config, request, next, Answer, gave, Line, UnitData, service_at, place_at, place_in, tei_at, link_at, link_in, link_of, terms, fresh_line, Taken, with_unit, unit_frame, first_taken, round, taken, next_of, line_of, IsInRange, IsSoundAt, IsUnitData, round_below, units_asked, is_granted, IsBy, OfLink, of-links, IsOne, taken-one, has-place, units-wait, number-is, fresh_is_sound, head, unwrap_or, Control, head_of, message_frame, fresh_link, Event, line_after as after, answer, with_message, Request, IsSound, fresh, all-left as all-front, all-right as all-back, contents_given, GivesOctets, FramesAreOctets, trace_frame_in as frame_in, Seen, seen_told, seen, frames_begun, Always, units_left, link_refusal as refusal, Data, frame_begun, seen_granted, requested, LinkData, LinkEvent, sapi-small}
+use Rattle.laws_trace.proofs.Vocabulary.{◌≡◌, ℕ, zero, suc, ◌<◌, ◌≤◌, Bool, true, false, cond, List, [], ◌∷◌, ◌++◌, drop, get_or, replicate, slice_get, Option, Some, None, IfSome, option_map, refl, sym, ap, ◌∙◌, subst, arith, ◌⊎◌, inl, inr, All, option_or, option_map_or, flat_map-append, get_or-replicate, All-nil, All-head, All-tail, All-append, All-drop, AreOctets, Address, Side, Service, action_of, Message, accepted, share, IsOffered, Carries, number_sent, kept-after, given-is-offered, Seq, Link, queue_of, address_at, Given, Terms, Config, request, next, Answer, gave, Line, UnitData, service_at, place_at, place_in, tei_at, link_at, link_in, link_of, terms, fresh_line, Taken, with_unit, unit_frame, first_taken, round, taken, next_of, line_of, IsInRange, IsSoundAt, IsUnitData, round_below, units_asked, is_granted, IsBy, OfLink, of-links, IsOne, taken-one, has-place, units-wait, number-is, fresh_is_sound, head, unwrap_or, Control, head_of, message_frame, fresh_link, Event, line_after as after, answer, with_message, Request, IsSound, fresh, all-left as all-front, all-right as all-back, contents_given, GivesOctets, FramesAreOctets, trace_frame_in as frame_in, Seen, seen_told, seen, frames_begun, Always, units_left, frame_begun, seen_granted, LinkEvent, sapi-small}
 use Rattle.model_link.specs.Machine as links
 use Rattle.model_link.specs.Sound as link_sound
 use Rattle.laws_trace.proofs.OneLink.{Goes, event-goes}
@@ -94,14 +94,8 @@ granted-seen : (r : Request) (a : Answer) → is_granted a ≡ true → All Give
 granted-seen r a is h = grind arith
 
 module _ (c : Config) (e : Event) (l : Line) (s : IsSound c l) (ranged : IsInRange c) (k : AreKept l) (gives : All GivesOctets (seen e (answer c e l))) (service : Service) (tei : ℕ) where
-  by-refusal : (o : Option Refusal) (contents : List ℕ) → AreOctets contents → All AreOctets (cond (is_some o) [] (contents ∷ []))
-  by-refusal o contents h = grind arith
-
   accepted-octets : (t : Terms) (x : Link) (event : LinkEvent) → IsBy c e (answer c e l) service tei event → All AreOctets (accepted t event x)
-  accepted-octets t x (requested (LinkData contents) full) by =
-      by-refusal (refusal t x full (LinkData contents)) contents
-      (granted-seen (Data service tei contents) (answer c e l) by.1 (subst (λ event. All GivesOctets (seen event (answer c e l))) by.0 gives))
-  accepted-octets t x event by = grind arith
+  accepted-octets t x event by = grind (arith, granted-seen)
 
   left-octets : (b : Bool) (n : ℕ) (kept more : List (List ℕ)) → All AreOctets kept → All AreOctets more → All AreOctets (cond b [] (drop n kept ++ more))
   left-octets true n kept more h i = All-nil AreOctets
@@ -109,9 +103,6 @@ module _ (c : Config) (e : Event) (l : Line) (s : IsSound c l) (ranged : IsInRan
 
   abbrev own : Link
   own = link_of service tei l
-
-  sound : (place : ℕ) → place_in l tei ≡ Some place → link_sound.IsSound (terms c service tei) own
-  sound place is = link-at-end c l ranged s service tei place is
 
   stays : (link_of service tei (after c e l) ≡ own) ⊎ (link_of service tei (after c e l) ≡ fresh_link) → All AreOctets (queue_of (link_of service tei (after c e l)))
   stays (inl same) = subst (λ (x : Link). All AreOctets (queue_of x)) (sym same) (k.links service tei)
@@ -123,7 +114,7 @@ module _ (c : Config) (e : Event) (l : Line) (s : IsSound c l) (ranged : IsInRan
   link-after (inr (inl x)) =
       let t = terms c service tei in
       subst (λ (y : Link). All AreOctets (queue_of y)) (sym x.is)
-      (subst (All AreOctets) (sym (kept-after t x.event own (sound x.place x.placed)))
+      (subst (All AreOctets) (sym (kept-after t x.event own (link-at-end c l ranged s service tei x.place x.placed)))
       (left-octets (share t x.event own).empties (share t x.event own).acknowledged (queue_of own) (accepted t x.event own) (k.links service tei) (accepted-octets t own x.event x.by)))
 
 -- The unit data that waits then.

@@ -1,5 +1,5 @@
 -- What a link gives next is what an observer has it offer.
-use Rattle.laws_trace.proofs.Vocabulary.{◌≡◌, ℕ, zero, suc, ◌+◌, ◌%◌, ◌<◌, ◌≤◌, ◌==◌, Bool, true, false, cond, List, [], ◌∷◌, drop, length, slice_get, Option, Some, None, refl, sym, ap, ◌∙◌, inl, inr, arith, and_parts, fold, Service, place_of-is, Information, ReceiveReady, seq, given-in-order, given-is-offered, IsInOrder, IsOffered, State, Established, ControlFrame, Terms, Link, is_multiple_frame, is_information, state_number, Given, Config, Line, link_of, place_in, terms, IsInRange, IsSilent, terms_in_range, line_at, moments, take, map, ◌++◌, ltb-true, lt-ltb, line_frame_of as frame_of, IsSound, fresh, CardEvent as Event, after_all, AreAtLines, is_seq, text, may_go, offers, View, steps, view_of, Outgoing, outgoing_of, is_up, offer, link_after as after, given}
+use Rattle.laws_trace.proofs.Vocabulary.{◌≡◌, ℕ, zero, suc, ◌+◌, ◌%◌, ◌<◌, ◌≤◌, ◌==◌, Bool, true, false, cond, List, [], ◌∷◌, drop, length, slice_get, Some, None, refl, sym, ap, ◌∙◌, inl, inr, arith, and_parts, fold, Service, place_of-is, Information, ReceiveReady, seq, given-in-order, given-is-offered, IsInOrder, IsOffered, State, Established, ControlFrame, Terms, Link, is_multiple_frame, state_number, Given, Config, Line, link_of, place_in, terms, IsInRange, IsSilent, terms_in_range, line_at, moments, ltb-true, lt-ltb, line_frame_of as frame_of, IsSound, fresh, CardEvent as Event, after_all, AreAtLines, is_seq, text, may_go, offers, View, steps, view_of, Outgoing, outgoing_of, is_up, offer, link_after as after, given}
 use Rattle.model_link.specs.Sound as link_sound
 use Rattle.laws_link.specs.Sending.{MayGo}
 use Rattle.laws_trace.proofs.LineAtEnd.{line-at-end, link-at-end}
@@ -34,14 +34,8 @@ offers_behind c service tei o (f ∷ fs) = text c service tei f.command f.contro
 offers_behind c service tei o [] = sends c service tei o (unsent o)
 
 module _ (c : Config) (service : Service) (tei : ℕ) (o : Outgoing) where
-  abbrev information : List ℕ → List ℕ
-  information contents = text c service tei true (Information (seq o.view.link.next) (seq o.view.link.count) false) contents
-
-  by-left : (left : List (List ℕ)) (b : Bool) → may_go c service o.view.link ≡ b → take 1 (map information (cond b left []) ++ by_itself c service tei o) ≡ sends c service tei o left
-  by-left left b may = grind arith
-
   offers-are : offers c service tei o ≡ offers_behind c service tei o o.waiting
-  offers-are = grind (arith, by-left)
+  offers-are = grind arith
 
 -- Lists.
 drop-none : (n : ℕ) → drop {A = List ℕ} n [] ≡ []
@@ -55,19 +49,13 @@ drop-twice (x ∷ xs) (suc a) (suc n) m is = drop-twice xs a n m (omega (arith, 
 
 at-front : (xs : List (List ℕ)) (n : ℕ) (x : List ℕ) → slice_get xs n ≡ Some x → (rest : List (List ℕ)) × (drop n xs ≡ x ∷ rest)
 at-front [] n x is = absurd (cc is)
-at-front (y ∷ xs) zero x is = (xs, ap (λ z. z ∷ xs) (some-same is))
-  where
-    some-same : {a b : List ℕ} → Some a ≡ Some b → a ≡ b
-    some-same e = cc e
+at-front (y ∷ xs) zero x is = (xs, ap (λ z. z ∷ xs) (cc is))
 at-front (y ∷ xs) (suc n) x is = at-front xs n x is
 
 some-left : (xs : List (List ℕ)) (n : ℕ) (x : List ℕ) (rest : List (List ℕ)) → drop n xs ≡ x ∷ rest → n < length xs
 some-left [] n x rest is = grind (arith, drop-none)
 some-left (y ∷ xs) zero x rest is = omega arith
 some-left (y ∷ xs) (suc n) x rest is = let few = some-left xs n x rest is in omega (arith, few)
-
-bare-contents : (all : List (List ℕ)) (j : ℕ) (f : ControlFrame) (contents : Option (List ℕ)) → link_sound.is_information f.control ≡ false → IsOffered all j f contents → contents ≡ None
-bare-contents all j f contents bare offered = grind arith
 
 seven : (s : State) → (state_number s == 7) ≡ true → s ≡ Established
 seven s is = grind arith
@@ -135,11 +123,9 @@ module _ (c : Config) (events : List Event) (number : ℕ) (ranged : IsInRange c
 
     steps-are : own.a + steps o.view.link.acknowledged o.view.link.next ≡ own.s
     steps-are =
-        let n = next-is in
         let low : own.a ≤ own.s = (link-at-end c line ranged line_sound service tei place on).ordered in
         let high : own.s ≤ own.a + t.k = (link-at-end c line ranged line_sound service tei place on).within in
-        let small : t.k ≤ 127 = range.k_high in
-        omega (arith, acknowledged-is, n, low, high, small)
+        let small : t.k ≤ 127 = range.k_high in omega (arith, acknowledged-is, next-is, low, high, small)
 
     unsent-is : unsent o ≡ drop own.s own.contents
     unsent-is =
@@ -174,19 +160,14 @@ module _ (c : Config) (events : List Event) (number : ℕ) (ranged : IsInRange c
 
   in-order : (g : Given) → IsInOrder t own (after t offer own) g.frame → IsOffered own.contents own.s g.frame g.contents → Offers g
   in-order g (inl oldest) offered =
-      offers-are c service tei o ∙ ap (offers_behind c service tei o) (waits-are ∙ oldest.waited)
-      ∙ ap (λ f. f ∷ []) (sym (grind arith))
+      offers-are c service tei o ∙ ap (offers_behind c service tei o) (waits-are ∙ oldest.waited) ∙ ap (λ f. f ∷ []) (sym (grind arith))
   in-order g (inr (inl x)) offered = grind (arith, at-front, behind-none, unsent-is, may-so, next-is, seq-again, count-is)
   in-order g (inr (inr x)) offered =
-      let up : is_multiple_frame own.state ≡ true = pends-up-now x.was_owed in
-      let bare : g.contents ≡ None = bare-contents own.contents own.s g.frame g.contents (ap (λ (f : ControlFrame). link_sound.is_information f.control) x.is) offered in
+      let up : is_multiple_frame own.state ≡ true = ((run-stands c events number ranged all within service tei).2.pends_up) x.was_owed in
+      let bare : g.contents ≡ None = grind arith in
       behind-none x.none ∙ none-sent x.may_not
       ∙ ap (λ b. cond b (text c service tei false (ReceiveReady (seq o.view.link.count) false) [] ∷ []) []) (owes-are ∙ x.was_owed)
-      ∙ ap (λ n. text c service tei false (ReceiveReady (seq n) false) [] ∷ []) (count-is up)
-      ∙ ap (λ f. f ∷ []) (sym (grind arith))
-    where
-      pends-up-now : own.pending ≡ true → is_multiple_frame own.state ≡ true
-      pends-up-now = (run-stands c events number ranged all within service tei).2.pends_up
+      ∙ ap (λ n. text c service tei false (ReceiveReady (seq n) false) [] ∷ []) (count-is up) ∙ ap (λ f. f ∷ []) (sym (grind arith))
 
   pub given-is-offered-so : (g : Given) → given t own ≡ Some g → Offers g
   given-is-offered-so g some =

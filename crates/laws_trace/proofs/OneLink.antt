@@ -1,6 +1,6 @@
 -- What an event of a line is to the link of a service with a TEI, at whatever place the TEI is: one event of this link,
 -- its deactivation, or none.
-use Rattle.laws_trace.proofs.Vocabulary.{arith, ◌≡◌, ℕ, ◌==◌, ◌&&◌, Bool, true, false, List, [], ◌∷◌, map, slice_get, Option, Some, None, IfSome, option_map, refl, sym, ap, ◌∙◌, subst, ◌⊎◌, inl, inr, All, option_to_list, option_or, option_map_or, All-nil, All-cons, none-some, Refusal, Service, Order, same_service, IsAt, Message, Terms, Link, Given, Config, hears, expiry, request, next, Answer, gave, Aim, at_none, at_link, at_management, at_units, of_aim, aim_of_expiry, orders_in, Line, UnitData, link_number, service_at, place_at, place_in, has_tei, link_at, link_in, link_of, terms, with_link, aim_of, unless_refused, unless_refused_told, aim_of_heard, Taken, with_unit, unit_frame, with_given_frame, first_taken, round, next_of, line_of, aim_of_request, IsProper, heard_proper, expiry_proper, request_proper, round_below, lost_in, notes_of, contents_in, IsBy, IsDeactivated, IsOf, by-or-down, OfLink, of-links, services-equal, both-true, has-place, Ties, heard-ties, expiry-ties, request-ties, number-is, at_no_link, orders_for, eqb-true, message_frame, fresh_link as fresh, Event, told, line_after as after, answer, with_message, line_frame_of as frame_of, refusal, IsSound, trace_frame_in as frame_in, by-down, Timer, LinkTimer, at_timer, at_requested, at_deactivated, heard_aims, Request, given, StreamEvent, link_told, link_after, none-ordered}
+use Rattle.laws_trace.proofs.Vocabulary.{arith, ◌≡◌, ℕ, ◌==◌, ◌&&◌, Bool, true, false, List, [], ◌∷◌, map, slice_get, Option, Some, None, IfSome, option_map, refl, sym, ap, ◌∙◌, subst, ◌⊎◌, inl, inr, All, option_to_list, option_or, option_map_or, All-nil, All-cons, none-some, Refusal, Service, Order, same_service, IsAt, Message, Terms, Link, Given, Config, hears, expiry, request, next, Answer, gave, Aim, at_none, at_link, at_management, at_units, of_aim, aim_of_expiry, orders_in, Line, UnitData, link_number, service_at, place_at, place_in, has_tei, link_at, link_in, link_of, terms, with_link, aim_of, unless_refused, unless_refused_told, aim_of_heard, Taken, unit_frame, with_given_frame, next_of, line_of, aim_of_request, IsProper, heard_proper, expiry_proper, request_proper, round_below, lost_in, notes_of, contents_in, IsBy, IsDeactivated, IsOf, by-or-down, OfLink, of-links, services-equal, both-true, has-place, Ties, heard-ties, expiry-ties, request-ties, number-is, at_no_link, orders_for, eqb-true, message_frame, fresh_link as fresh, Event, told, line_after as after, answer, line_frame_of as frame_of, refusal, IsSound, trace_frame_in as frame_in, by-down, Timer, heard_aims, Request, given, StreamEvent, link_told, link_after, none-ordered}
 use Rattle.model_link.specs.Events as link
 use Rattle.laws_line.proofs.Readings as read
 use Rattle.laws_trace.proofs.ClearedTells.{none-delivered, none-lost}
@@ -25,20 +25,11 @@ module _ (c : Config) (l : Line) where
   pub heard-silent : (what : StreamEvent) → Silent (aim_of_heard c l what)
   heard-silent what = heard_aims c l Silent (λ cause. refl) (λ its by place what at. refl) (λ info. tt) (λ parts service to. refl) what
 
-  timer-silent : (its : Service) (by : ℕ) (k : LinkTimer) (o : Option ℕ) → Silent (at_timer its by k o)
-  timer-silent its by k o = grind arith
-
   pub expiry-silent : (timer : Timer) → Silent (aim_of_expiry timer l)
-  expiry-silent timer = grind (arith, timer-silent)
-
-  asked-silent : (its : Service) (by : ℕ) (asked : link.Request) (o : Option ℕ) → Silent (at_requested its by asked o)
-  asked-silent its by asked o = grind arith
-
-  deactivated-silent : (its : Service) (by : ℕ) (o : Option ℕ) → Silent (at_deactivated its by o)
-  deactivated-silent its by o = grind arith
+  expiry-silent timer = grind arith
 
   pub request-silent : (r : Request) → Silent (aim_of_request r l)
-  request-silent r = grind (arith, asked-silent, deactivated-silent)
+  request-silent r = grind arith
 
 -- Whether an event of the line is one at this link.
 abbrev pub is_at_link : Service → ℕ → Aim → Bool
@@ -155,9 +146,7 @@ module _ (c : Config) (l : Line) (s : IsSound c l) (service : Service) (tei : �
     at-one its by place event is at ties tells silent true same = grind (arith, both-true, services-equal, eqb-true, one, ended, by-or-down)
       where
         ended : event ≡ link.cleared → IsDeactivated e a its by → IsGivenUp c its by e l (of_aim c (at_link its by place event) l).line a
-        ended cleared down =
-            let before = sym (own-before its by place event at) in
-            grind (arith, has-place, read.same-read, own-after, none-delivered, none-lost)
+        ended cleared down = grind (arith, own-before, has-place, read.same-read, own-after, none-delivered, none-lost)
 
         one : IsBy c e a its by event → HasOne c its by e l (of_aim c (at_link its by place event) l).line a
         one own =
@@ -253,12 +242,6 @@ module _ (c : Config) (l : Line) (s : IsSound c l) (service : Service) (tei : �
   took-first : (o : Option Taken) → IfSome o (OfLink c l) → IfSome o Took
   took-first o x = grind (arith, took-one)
 
-  took-any : (m : Option Message) (u : Option UnitData)
-      → IfSome (option_or (option_map (with_message l) (option_map (message_frame c.side) m)) (option_or (option_map (with_unit c l) u) (first_taken c l (round c l)))) Took
-  took-any (Some message) u = inl (alike c l s service tei l (with_message l (message_frame c.side message)).line refl refl, inl (message, refl), refl)
-  took-any None (Some unit) = inl (alike c l s service tei l (with_unit c l unit).line refl refl, inr (inl (unit, refl)), refl)
-  took-any None None = took-first (first_taken c l (round c l)) (of-links c l s (round c l) (round_below c l))
-
   -- A call for the next frame.
   abbrev Gave : Line → List (List ℕ) → List Order → Type 0
   Gave new frames orders =
@@ -267,13 +250,11 @@ module _ (c : Config) (l : Line) (s : IsSound c l) (service : Service) (tei : �
       × (frames ≡ frames_given c Own link.offer (link_of service tei l)) × (orders ≡ (link_told Own link.offer (link_of service tei l)).orders))
 
   gave-it : (o : Option Taken) → IfSome o Took → let a = gave (option_map next_of o) in Gave (option_map_or line_of o l) (frame_in a) (orders_in a)
-  gave-it None h = inl (refl, All-nil (IsForeign c service tei), refl)
-  gave-it (Some t) (inl x) = inl (x.0, All-cons (IsForeign c service tei) t.frame [] x.1 (All-nil (IsForeign c service tei)), x.2)
-  gave-it (Some t) (inr x) = inr (x.place, x.placed, x.is, x.begins, x.orders)
+  gave-it o h = grind (arith, All-nil, All-cons)
 
   next-goes : Goes c service tei next l (after c next l) (answer c next l)
   unfolding after answer
-  next-goes = grind (arith, gave-it, took-any, slice_get, option_map, stays, quiet, offer-tells_nothing)
+  next-goes = grind (arith, gave-it, took-first, of-links, round_below, slice_get, option_map, stays, quiet, offer-tells_nothing)
 
 pub event-goes : (c : Config) (e : Event) (l : Line) (service : Service) (tei : ℕ) → IsSound c l → Goes c service tei e l (after c e l) (answer c e l)
 unfolding after answer

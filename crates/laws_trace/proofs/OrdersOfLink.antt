@@ -1,18 +1,15 @@
 -- The orders of a link, among those of an answer.
-use Rattle.laws_trace.proofs.Vocabulary.{arith, ◌≡◌, ℕ, ◌==◌, ◌&&◌, Bool, true, false, cond, not, List, [], ◌∷◌, Option, refl, filter, filter-append, Service, Order, Start, Stop, Timer, same_service, Follows, Terms, LinkTimer, Link, obeyed, runs, timer_at, orders_for, timer_of, obeyed-append, stop_of, Check, obey, is_timer_of, is_order_of, LinkEvent as Event, course, link_told as told, cond_both}
+use Rattle.laws_trace.proofs.Vocabulary.{arith, ◌≡◌, ℕ, ◌==◌, ◌&&◌, Bool, true, false, cond, not, List, [], ◌∷◌, Option, refl, filter, filter-append, Service, Order, Start, Stop, Timer, same_service, Follows, Terms, LinkTimer, Link, obeyed, runs, timer_at, orders_for, timer_of, obeyed-append, stop_of, Check, obey, is_order_of, LinkEvent as Event, course, link_told as told, cond_both}
 use Rattle.laws_trace.proofs.Facts.{its-own}
 
 -- Its orders among others, or none.
 abbrev pub its_orders : Service → ℕ → List Order → List Order
 its_orders service tei orders = filter (is_order_of service tei) orders
 
-one-order : (t : Terms) (service : Service) (tei : ℕ) (timer : LinkTimer) → is_timer_of service tei (timer_at t timer) ≡ (same_service t.service service && t.tei == tei)
-one-order t service tei timer = grind arith
-
 -- Those of an event of a link are its own, or of another one.
 pub of-event : (t : Terms) (service : Service) (tei : ℕ) (d : Bool) → (same_service t.service service && t.tei == tei) ≡ d → (before started after : Option LinkTimer)
     → its_orders service tei (orders_for t before started after) ≡ cond d (orders_for t before started after) []
-of-event t service tei d is before started after = grind (arith, filter-append, one-order)
+of-event t service tei d is before started after = grind (arith, filter-append)
 
 pub other-ordered : (t : Terms) (e : Event) (x : Link) (service : Service) (tei : ℕ) → (same_service t.service service && t.tei == tei) ≡ false → its_orders service tei (told t e x).orders ≡ []
 other-ordered t e x service tei other = let c = course t e x in of-event t service tei false other x.running c.started c.link.running
@@ -41,11 +38,8 @@ obeys-its service tei timer running (o ∷ orders) = go o (is_order_of service t
         → obeyed its (obey its running o) orders ≡ obeyed its running (cond (is_order_of service tei o) (o ∷ its_orders service tei orders) (its_orders service tei orders))
     go o b is more = grind (arith, its)
 
-alone : (p q : Bool) → cond p true (cond q false false) ≡ p
-alone p q = grind arith
-
 pub starts-own : (t : Terms) (timer : LinkTimer) (before started after : Option LinkTimer) → obeyed (timer_at t timer) false (orders_for t before started after) ≡ (runs timer started && runs timer after)
-starts-own t timer before started after = grind (arith, obeyed-append, its-own, cond_both, alone)
+starts-own t timer before started after = grind (arith, obeyed-append, its-own, cond_both)
 
 -- A timer's orders, by whether they start it, whether it ran before, and whether it runs then.
 abbrev pub order_by : Bool → Bool → Bool → Timer → List Order

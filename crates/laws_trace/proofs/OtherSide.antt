@@ -1,5 +1,5 @@
 -- Whose frames a card hears, and whose it sends: the law.
-use Rattle.laws_trace.proofs.Vocabulary.{arith, ◌≡◌, ℕ, ◌==◌, Bool, true, cond, List, slice_index, Option, Result, Ok, Err, ap, ◌∙◌, subst, IfOk, Address, Side, Network, User, ReadFault, Undefined, Parts, cr_bit, other_side, checked, header_of, completed, reading, heard_side, Control}
+use Rattle.laws_trace.proofs.Vocabulary.{arith, ◌≡◌, ℕ, ◌==◌, true, List, slice_index, Result, Ok, ap, ◌∙◌, subst, IfOk, Address, Side, Network, User, ReadFault, Parts, cr_bit, other_side, header_of, completed, reading, heard_side, Control}
 use Rattle.laws_trace.specs.OtherSide.{bit_in, TheOtherSideIsHeard}
 
 -- A frame that is read is a command by its C/R bit.
@@ -19,15 +19,9 @@ module _ (side : Side) (octets : List ℕ) where
   whole : (r : Result (Address × Control) ReadFault) → Begins r → Reads (completed octets r)
   whole r told = grind arith
 
-  allowed : (b : Bool) (a : Address) (control : Control) → IsTold a → Begins (cond b (Ok (a, control)) (Err (Undefined a)))
-  allowed b a control h = grind arith
-
-  begun : (a : Address) (o : Option Control) → IsTold a → Begins (checked a o)
-  begun a o h = grind (arith, allowed)
-
   header-told : (second third fourth : ℕ) → Begins (header_of side first second third fourth)
   unfolding header_of
-  header-told second third fourth = grind (arith, begun)
+  header-told second third fourth = grind arith
 
   told : Reads (reading side octets)
   unfolding reading

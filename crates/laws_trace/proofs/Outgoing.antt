@@ -22,9 +22,6 @@ module _ (card : Card) (number : ℕ) (what : line_event.Event) (s : IsSound car
   abbrev own : Link
   own = link_of service tei l
 
-  either : (b : Bool) → cond b (queue_of own) (queue_of own) ≡ queue_of own
-  either b = grind arith
-
   abbrev Left : Line → Answer → Type 0
   Left m a =
       (p q : ℕ) → place_in l tei ≡ Some p → place_in m tei ≡ Some q →
@@ -37,7 +34,7 @@ module _ (card : Card) (number : ℕ) (what : line_event.Event) (s : IsSound car
       let anew = brings is_sabme card.config service tei what in
       sym (ap (λ t. left (lost_in service tei t) anew own own (granted_in service tei t)) (nothing-seen card.config what l (and_parts (lines.takes_slot card.config what l) (is_full card) full).0)
       ∙ ap (λ xs. cond (is_up (state_number own.state)) xs (queue_of own)) (append-nil (drop (went_by anew own own) (queue_of own)) ∙ ap (λ n. drop n (queue_of own)) (still anew own))
-      ∙ either (is_up (state_number own.state))))
+      ∙ (grind arith)))
       (λ room.
       subst (λ (m : Line). Left m (lines.answer card.config what l))
       (sym (get_or-set_same card.lines number (lines.after card.config what l) (fresh_line card.config) (omega (arith, s.count, here))))
@@ -96,8 +93,7 @@ module _ (c : Config) (number : ℕ) (ranged : IsInRange c) (within : number < c
   module _ {X : Type 0} (none : X) (field : Outgoing → X) (by : View → View → Moment → X → X)
       (field-is : (o : Outgoing) (m : Moment) → field (watches c service tei number o m)
       ≡ cond (is_on tei (views c service tei number o.view m).teis && is_on tei o.view.teis)
-      (cond (m.event.line == number) (by o.view (views c service tei number o.view m) m (field o)) (field o)) none)
-      (of_line : Line → X)
+      (cond (m.event.line == number) (by o.view (views c service tei number o.view m) m (field o)) (field o)) none) (of_line : Line → X)
       (comes : (before : List Event) → AreAtLines (fresh c) before → (what : line_event.Event) → place_in (its before) tei ≡ None → of_line (behind_of before what) ≡ none)
       (stays : (before : List Event) → AreAtLines (fresh c) before → (what : line_event.Event) (p q : ℕ) → place_in (its before) tei ≡ Some p → place_in (behind_of before what) tei ≡ Some q
       → by (view_of c service tei number before) (view_behind c service tei number before what) (moment_of c before number what) (of_line (its before)) ≡ of_line (behind_of before what)) where

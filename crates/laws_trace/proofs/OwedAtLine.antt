@@ -122,9 +122,6 @@ module _ (service : Service) (tei : ℕ) (c : Config) (ranged : IsInRange c) (e 
         some-begins : Bool
         some-begins = list_any (is_frame_of c service tei) (frame_in (answer c e l))
 
-        later-is : later ≡ link_after t link.offer own
-        later-is = ap (λ e. link_after t e own) offer
-
         no-told : told ≡ false
         no-told = ap (λ e. list_any (is_data_of service tei) (notes_of (answer c e l))) is ∙ none-noted c l service tei
 
@@ -132,7 +129,7 @@ module _ (service : Service) (tei : ℕ) (c : Config) (ranged : IsInRange c) (e 
         none-put there on = none-due service tei c ranged e l s timed m busy rejected count stands x offer there on
 
         pends-is : later.pending ≡ owed_behind own.waiting own.pending
-        pends-is = ap (λ (k : Link). k.pending) later-is ∙ (event-follows t link.offer own).leaves.pending
+        pends-is = ap (λ (k : Link). k.pending) (ap (λ e. link_after t e own) offer) ∙ (event-follows t link.offer own).leaves.pending
 
         frames-are : frame_in a ≡ map (frame_of c t) (option_to_list (given t own))
         frames-are = x.begins ∙ ap (λ e. frames_given c t e own) offer
@@ -152,9 +149,7 @@ module _ (service : Service) (tei : ℕ) (c : Config) (ranged : IsInRange c) (e 
             never-begun (up own) (up later) [] (own.pending || false) ∙ ap (λ b. Owed (up own) (up later) [] b (own.pending || false)) (sym begins-so)
           where
             plain : IsInOrder t own (link_after t link.offer own) g.frame → is_ui g.frame.control ≡ false
-            plain (inl oldest) = grind arith
-            plain (inr (inl information)) = ap (λ (f : ControlFrame). is_ui f.control) information.is
-            plain (inr (inr acknowledgement)) = ap (λ (f : ControlFrame). is_ui f.control) acknowledgement.is
+            plain other = grind arith
 
             begins-so : some-begins ≡ true
             begins-so =

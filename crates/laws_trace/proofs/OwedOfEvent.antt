@@ -1,6 +1,5 @@
 -- Whether I-frames are outstanding, as an observer knows it: one event of a line.
-use Rattle.laws_trace.proofs.Vocabulary.{◌≡◌, ℕ, ◌+◌, ◌≤◌, ◌==◌, not, Bool, true, false, length, Option, Some, None, refl, sym, ap, ◌∙◌, subst, arith, eq-eqb, true≢false, inl, inr, Service, place_of-is, State, Link, Config, Line, link_of, place_in, state_of, terms, IsInRange, terms_in_range, HaveTheirTimers, Event, line_after as after, answer, IsSound, offer, begun, link_after, course, eqb-true}
-use Rattle.model_link.specs.Sound as link_sound
+use Rattle.laws_trace.proofs.Vocabulary.{◌≡◌, ℕ, ◌==◌, not, Bool, true, false, Option, Some, None, refl, sym, ap, ◌∙◌, subst, arith, eq-eqb, true≢false, Service, place_of-is, State, Link, Config, Line, link_of, place_in, state_of, terms, IsInRange, terms_in_range, HaveTheirTimers, Event, line_after as after, answer, IsSound, offer, begun, link_after, course, eqb-true}
 use Rattle.laws_trace.proofs.TimersWatched.{Known}
 use Rattle.laws_trace.proofs.States.{is_state}
 use Rattle.laws_trace.proofs.OneLink.{HasOne, Goes, event-goes}
@@ -19,23 +18,13 @@ module _ (c : Config) (ranged : IsInRange c) (l : Line) (s : IsSound c l) (servi
   abbrev own : Link
   own = link_of service tei l
 
-  settled : link_sound.IsSound (terms c service tei) own → length own.contents ≡ own.a → own.s ≡ own.a
-  settled sound all = let low : own.a ≤ own.s = sound.ordered in let high : own.s ≤ length own.contents = sound.accepted in omega (arith, low, high, all)
-
-  by-state : (here : State) → is_state 5 (told_state here) ≡ false → Agrees here k own.a own.s own.peer_busy → link_sound.IsSettledIn here own
-      → link_sound.IsSound (terms c service tei) own → own.s ≤ own.a + 127 → not (k.next == k.acknowledged) ≡ not (own.s == own.a)
-  by-state here off known rest sound within = grind (arith, eq-eqb, eqb-true, settled)
-
   pub known-owes : is_state 5 (state_of service tei l) ≡ false → IsOwed service tei (not (k.next == k.acknowledged)) l
   known-owes off = go (place_in l tei) refl
     where
       go : (o : Option ℕ) → place_in l tei ≡ o → not (k.next == k.acknowledged) ≡ not (own.s == own.a)
       go None gone = grind (arith, off-fresh, eq-eqb, Agrees)
       go (Some place) on =
-          let sound : link_sound.IsSound (terms c service tei) own = link-at-end c l ranged s service tei place on in
-          let high : own.s ≤ own.a + (terms c service tei).k = sound.within in
-          let small : (terms c service tei).k ≤ 127 = (terms_in_range c ranged service tei (s.management.table.range place tei ((place_of-is l.management.places tei place on).1))).k_high in
-          by-state own.state (sym (ap (is_state 5) (state-on service tei l place on)) ∙ off) agrees sound.settled sound (omega (arith, high, small))
+          grind (arith, eq-eqb, eqb-true, state-on, terms_in_range, place_of-is, link-at-end c l ranged s service tei place on)
 
 -- In state 5 nothing changes.
 module _ (c : Config) (ranged : IsInRange c) (l : Line) (s : IsSound c l) (timed : HaveTheirTimers l) (service : Service) (tei : ℕ) (k : Known) (agrees : IsTrueOf service tei k l) (e : Event) where
@@ -81,6 +70,4 @@ module _ (c : Config) (ranged : IsInRange c) (l : Line) (s : IsSound c l) (timed
               (shape (link_after t offer was).state (timing (course t offer was)) (events.offers c ranged l s timed service tei k agrees e x).kept))))
 
           by-goes : Goes c service tei e l (after c e l) (answer c e l) → Same next
-          by-goes (inr (inl x)) = by-one x
-          by-goes (inr (inr x)) = absurd (true≢false (sym now ∙ ap (λ (y : Link). is_state 5 (told_state y.state)) x.is))
-          by-goes (inl x) = grind (arith, now, is_state, told_state)
+          by-goes other = grind (arith, by-one, now, is_state, told_state)

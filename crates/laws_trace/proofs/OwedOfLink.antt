@@ -1,5 +1,5 @@
 -- Whether a link owes an acknowledgement behind one of its events.
-use Rattle.laws_trace.proofs.Vocabulary.{arith, ◌≡◌, ◌&&◌, ◌||◌, Bool, true, false, List, refl, sym, ap, ◌∙◌, true≢false, is_some, flag_left, takes_contents, unless_put, owed_in, pending_left, as_heard, numbers_begin, state_after, put, event-follows, State, ControlFrame, Terms, restarts, Link, is_multiple_frame, event-delivers, LinkEvent as Event, is_empty, or_comm, link_after as after, link_told as told, cond_both, false_from_ne_true}
+use Rattle.laws_trace.proofs.Vocabulary.{arith, ◌≡◌, ◌&&◌, ◌||◌, Bool, true, false, refl, sym, ap, ◌∙◌, true≢false, is_some, flag_left, takes_contents, unless_put, owed_in, pending_left, as_heard, numbers_begin, state_after, put, event-follows, State, Terms, restarts, Link, is_multiple_frame, event-delivers, LinkEvent as Event, is_empty, or_comm, link_after as after, link_told as told, cond_both, false_from_ne_true}
 use Rattle.laws_trace.proofs.Begins.{in-state, up-before}
 use Rattle.laws_trace.proofs.CommandsCaused.{IsNoOther}
 use Rattle.laws_trace.proofs.ReceiptsNumbered.{PendsUp, pends-up, taken-is}
@@ -13,9 +13,6 @@ module _ (t : Terms) where
 
   puts-begun : (e : Event) (l : Link) → IsNoOther e → Puts (as_heard t e) l
   puts-begun e l other = grind (arith, cond_both, never, in-state)
-
-unless-empty : (frames : List ControlFrame) (owed : Bool) → unless_put frames owed ≡ (is_empty frames && owed)
-unless-empty frames owed = grind arith
 
 module _ (t : Terms) (e : Event) (l : Link) (other : IsNoOther e) (owed : PendsUp l) where
   abbrev next : Link
@@ -39,11 +36,8 @@ module _ (t : Terms) (e : Event) (l : Link) (other : IsNoOther e) (owed : PendsU
   begin-is : restarts t e l ≡ numbers_begin heard l.state to
   begin-is = (event-follows t e l).numbers ∙ ap (numbers_begin heard l.state) state-is
 
-  left-so : (e : Event) (to : State) → IsNoOther e → let h = as_heard t e in pending_left h l to ≡ flag_left h l to (owed_in to (unless_put (put h l to) (takes_contents h l || l.pending))) l.pending
-  left-so e to other = grind arith
-
   left-is : next.pending ≡ flag_left heard l to (owed_in to owes) l.pending
-  left-is = (event-follows t e l).leaves.pending ∙ ap (pending_left heard l) state-is ∙ left-so e to other
+  left-is = (event-follows t e l).leaves.pending ∙ ap (pending_left heard l) state-is ∙ (grind arith)
 
   -- it is false
   none-down : (k : Link) → PendsUp k → is_multiple_frame k.state ≡ false → k.pending ≡ false
@@ -51,9 +45,6 @@ module _ (t : Terms) (e : Event) (l : Link) (other : IsNoOther e) (owed : PendsU
 
   none-begun : restarts t e l ≡ true → next.pending ≡ false
   none-begun begins = left-is ∙ off-where-begun t (owed_in to owes) l.pending heard l (sym begin-is ∙ begins) (λ waits. none-down l owed (grind (arith, never)))
-
-  takes : is_multiple_frame l.state ≡ true → restarts t e l ≡ false → takes_contents heard l ≡ delivers
-  takes up on = grind (arith, taken-is, is_some, event-delivers)
 
   pub pends-then : next.pending ≡ ((is_multiple_frame l.state && is_multiple_frame next.state && is_empty (put heard l to)) && (l.pending || delivers))
   pends-then = go (is_multiple_frame l.state) refl (is_multiple_frame next.state) refl (restarts t e l) refl
@@ -65,4 +56,4 @@ module _ (t : Terms) (e : Event) (l : Link) (other : IsNoOther e) (owed : PendsU
       go false was true up true begins = none-begun begins
       go true was true up true begins = none-begun begins ∙ sym (ap (λ b. b && (l.pending || delivers)) (puts-begun t e l other was (sym begin-is ∙ begins)))
       go false was true up false on = absurd (true≢false (sym (up-before t e l up on) ∙ was))
-      go true was true up false on = grind (arith, state-is, left-is, as-left, begin-is, unless-empty, takes, or_comm)
+      go true was true up false on = grind (arith, state-is, left-is, as-left, begin-is, taken-is, event-delivers, or_comm)

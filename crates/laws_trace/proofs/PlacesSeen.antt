@@ -51,17 +51,8 @@ module _ (service : Service) (tei : ℕ) where
   granted-is : (r : Request) (t : LineTold) → data_asked service tei r ≡ outgoing.data_granted service tei (request r) (told t)
   granted-is r t = grind arith
 
-  none-granted : (r : Request) (a : Answer) → is_granted a ≡ false → outgoing.data_granted service tei (request r) a ≡ []
-  none-granted r a none = grind arith
-
   pub granted-so : (what : Event) (a : Answer) → granted_in (seen what a) ≡ outgoing.data_granted service tei what a
-  granted-so what a = grind (arith, asked-grants, granted-is, none-granted, told-grants)
-
-  group : (a b d : Bool) → ((a || b) || d) ≡ (a || b || d)
-  group a b d = grind arith
-
-  untold : (r : Request) (a : Answer) → is_granted a ≡ false → list_any (is_loss_of service tei) (notes_of a) ≡ false → outgoing.loses service tei (request r) a ≡ false
-  untold r a none quiet = grind (arith, and-false)
+  granted-so what a = grind (arith, asked-grants, granted-is, told-grants)
 
   pub lost-so : (what : Event) (a : Answer) → (what ≡ next → notes_of a ≡ []) → lost_in (seen what a) ≡ outgoing.loses service tei what a
-  lost-so what a quiet = grind (arith, heard-loses, expiry-loses, asked-loses, or-false, and-true, group, untold)
+  lost-so what a quiet = grind (arith, heard-loses, expiry-loses, asked-loses, or-false, and-true, and-false)

@@ -1,5 +1,5 @@
 -- V(R) of a link behind an event, and when an acknowledgement is owed.
-use Rattle.laws_trace.proofs.Vocabulary.{◌≡◌, ℕ, ◌%◌, ◌==◌, ◌&&◌, Bool, true, false, cond, length, Some, None, arith, is_some, nat_le, nat_lt, leb-true, leb-false, Information, Parts, Seq, seq, State, Terms, Arrived, eligible, received, Link, is_multiple_frame, delivery, takes_contents, owed_in, as_heard, event-follows, ltb-true, ltb-false, Control, LinkEvent as Event, frame, link_after as after}
+use Rattle.laws_trace.proofs.Vocabulary.{◌≡◌, ℕ, ◌%◌, ◌==◌, ◌&&◌, Bool, true, cond, length, Some, None, arith, is_some, nat_le, nat_lt, leb-true, leb-false, Information, Parts, Seq, seq, Terms, Arrived, eligible, received, Link, is_multiple_frame, delivery, takes_contents, as_heard, event-follows, ltb-true, ltb-false, Control, LinkEvent as Event, frame, link_after as after}
 
 -- Contents that are next are delivered.
 next-one : (b : Bool) (r : ℕ) (i : Arrived) → is_some (delivery r (cond b (Some i) None)) ≡ (b && (i.ns.value == r % 128))
@@ -23,9 +23,5 @@ module _ (t : Terms) (l : Link) (up : is_multiple_frame l.state ≡ true) where
 abbrev pub PendsUp : Link → Type 0
 PendsUp l = l.pending ≡ true → is_multiple_frame l.state ≡ true
 
-flag-up : (anew up : Bool) (to : State) (owed pending : Bool) → (pending ≡ true → up ≡ true) → cond anew false (cond up (owed_in to owed) pending) ≡ true
-    → is_multiple_frame to ≡ true
-flag-up anew up to owed pending h is = grind arith
-
 pub pends-up : (t : Terms) (e : Event) (l : Link) → PendsUp l → PendsUp (after t e l)
-pends-up t e l h is = grind (arith, event-follows, flag-up)
+pends-up t e l h is = grind (arith, event-follows)

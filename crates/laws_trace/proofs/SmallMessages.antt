@@ -1,5 +1,5 @@
 -- The Ri of each message of TEI management that waits on a line has two octets.
-use Rattle.laws_trace.proofs.Vocabulary.{ℕ, ◌+◌, ◌*◌, ◌/◌, ◌%◌, ◌<◌, ◌≤◌, ◌==◌, ◌&&◌, Bool, cond, List, [], ◌∷◌, ◌++◌, nat_le, Option, arith, All, All-nil, All-cons, All-head, All-tail, All-append, AreOctets, Management, Message, IdentityAssigned, IdentityDenied, heard_of_type, heard_in, no_room, TeiCourse as Course, lose_one, cond_both, tei_after, tei_message, TeiEvent, tei_course}
+use Rattle.laws_trace.proofs.Vocabulary.{ℕ, ◌%◌, ◌<◌, ◌==◌, ◌&&◌, Bool, cond, List, [], ◌∷◌, ◌++◌, Option, arith, All, All-nil, All-cons, All-head, All-tail, All-append, AreOctets, Management, Message, IdentityAssigned, IdentityDenied, heard_in, no_room, TeiCourse as Course, cond_both, tei_after, tei_message, TeiEvent, tei_course}
 use Rattle.lapd_tei.specs.Rows as rows
 use Rattle.lapd_tei.specs.Words.{with_message}
 
@@ -20,43 +20,22 @@ sent m waiting small h =
 
 -- The rows.
 request-small : (ri : ℕ) (c : Course) → ri < 65536 → AreSmall c → AreSmall (rows.request ri c)
-request-small ri c small h = go (no_room c.now.waiting)
+request-small ri c small h = grind (arith, sent, new)
   where
     new : (place tei : Option ℕ) → AreSmall (rows.assign_new ri place tei c)
     new place tei = grind (arith, sent)
 
-    known : (o : Option ℕ) → AreSmall (rows.assign ri o c)
-    known o = grind (arith, sent, new)
-
-    go : (b : Bool) → AreSmall ((cond b lose_one (rows.assign ri (rows.remembered_in ri c.now.remembered))) c)
-    go b = grind (arith, known)
-
-none : 0 < 65536
-none = omega arith
-
 -- A message that is served, and what octets say.
 either-served : {X : Type 0} (f : X → Course) (b : Bool) (u v : X) → AreSmall (f u) → AreSmall (f v) → AreSmall (f (cond b u v))
 either-served f b u v h k = grind arith
-
-of-type : (type ri action : ℕ) (c : Course) → ri < 65536 → AreSmall c → AreSmall (rows.serve (heard_of_type type ri action) c)
-of-type type ri action c small h =
-    either-served (λ o. rows.serve o c) (type == 1 && action == 127) _ _ (request-small ri c small h)
-    (either-served (λ o. rows.serve o c) (type == 5) _ _ (grind (arith, nat_le, sent, none))
-    (either-served (λ o. rows.serve o c) (type == 7) _ _ (grind (arith, sent, none)) h))
 
 served : (info : List ℕ) (c : Course) → AreOctets info → AreSmall c → AreSmall (rows.serve (heard_in info) c)
 served (a ∷ high ∷ low ∷ type ∷ last ∷ []) c octets h =
     let behind = All-tail (λ octet. octet < 256) a (high ∷ low ∷ type ∷ last ∷ []) octets in
     let first : high < 256 = All-head (λ octet. octet < 256) high (low ∷ type ∷ last ∷ []) behind in
     let second : low < 256 = All-head (λ octet. octet < 256) low (type ∷ last ∷ []) (All-tail (λ octet. octet < 256) high (low ∷ type ∷ last ∷ []) behind) in
-    either-served (λ o. rows.serve o c) (a == 0x0F && last % 2 == 1) _ _ (of-type type (256 * high + low) (last / 2) c (omega (arith, first, second)) h) h
+    either-served (λ o. rows.serve o c) (a == 0x0F && last % 2 == 1) _ _ (grind (arith, either-served, request-small, sent)) h
 served info c octets h = grind arith
-
-put-small : (tei : ℕ) (o : Option ℕ) (c : Course) → AreSmall c → AreSmall (rows.join_at tei o c)
-put-small tei o c h = grind arith
-
-take-small : (tei : ℕ) (c : Course) → AreSmall c → AreSmall (rows.take_off tei c)
-take-small tei c h = grind (arith, sent, none)
 
 -- An event of TEI management: a message is of octets.
 abbrev pub IsOfOctets : TeiEvent → Type 0
@@ -65,8 +44,4 @@ IsOfOctets other = Unit {0}
 
 pub after-small : (e : TeiEvent) (m : Management) → IsOfOctets e → All IsSmall m.waiting → All IsSmall (tei_after e m).waiting
 unfolding tei_course
-after-small e m o h = grind (arith, served, sent, none, put-small, take-small)
-
--- So a message is of octets.
-five : (ri type action : ℕ) → ri < 65536 → type < 256 → action ≤ 127 → AreOctets (0x0F ∷ (ri / 256) ∷ (ri % 256) ∷ type ∷ (2 * action + 1) ∷ [])
-five ri type action small few low = grind arith
+after-small e m o h = grind (arith, served, sent)

@@ -1,5 +1,5 @@
 -- How a link stands, to whoever watches it: over runs.
-use Rattle.laws_trace.proofs.Vocabulary.{arith, ◌≡◌, ℕ, ◌==◌, ◌&&◌, ◌||◌, Bool, true, false, cond, List, Option, Some, None, refl, sym, ap, ◌∙◌, subst, eq-eqb, inl, inr, true≢false, fold, not, is_some, list_any, and_parts, Service, Parts, same_service, Terms, restarts, Link, is_multiple_frame, Config, request, Answer, Line, place_in, link_of, terms, aim_of, unless_refused, at_requested, IsInRange, notes_of, is_data_of, is_granted, IsBy, not-refused, eqb-true, fresh_link as fresh, Event, told, line_after as after, answer, Request, SetBusy, ClearBusy, IsSound, is_own, Seen, seen, is_for, service-same, link_told}
+use Rattle.laws_trace.proofs.Vocabulary.{arith, ◌≡◌, ℕ, ◌&&◌, ◌||◌, Bool, true, false, cond, List, Option, Some, None, refl, sym, ap, ◌∙◌, subst, eq-eqb, inl, inr, true≢false, fold, not, is_some, list_any, Service, Parts, Terms, restarts, Link, is_multiple_frame, Config, request, Answer, Line, place_in, link_of, terms, aim_of, IsInRange, notes_of, is_data_of, IsBy, not-refused, eqb-true, fresh_link as fresh, Event, told, line_after as after, answer, Request, IsSound, Seen, seen, is_for, service-same, link_told}
 use Rattle.laws_link.specs.Flags as flags
 use Rattle.model_link.specs.Events as link
 use Rattle.laws_trace.proofs.DeliveriesWatched.{Standing, busy_asked, brings_information, stand}
@@ -51,28 +51,8 @@ module _ (service : Service) (tei : ℕ) where
 
   -- A request for a link that is on the line is an event of this link.
   module _ (c : Config) (l : Line) (place : ℕ) (on : place_in l tei ≡ Some place) where
-    aimed : (r : Request) (its : Service) (by : ℕ) (what : link.Request) → unless_refused None (at_requested its by what (place_in l by)) ≡ aim_of c (request r) l
-        → is_at_link service tei (aim_of c (request r) l) ≡ false → is_own service tei its by ≡ false
-    aimed r its by what is away = go (same_service its service && by == tei) refl
-      where
-        go : (b : Bool) → (same_service its service && by == tei) ≡ b → (same_service its service && by == tei) ≡ false
-        go false other = other
-        go true same =
-            let n : by ≡ tei = eqb-true by tei (and_parts (same_service its service) (by == tei) same).1 in
-            let here : place_in l by ≡ Some place = ap (place_in l) n ∙ on in
-            ap (λ o. is_at_link service tei (at_requested its by what o)) (sym here) ∙ ap (is_at_link service tei) is ∙ away
-
-    busy-elsewhere : (r : Request) (busy : Bool) → is_granted (answer c (request r) l) ≡ true → is_at_link service tei (aim_of c (request r) l) ≡ false → busy_asked service tei busy r ≡ busy
-    busy-elsewhere (SetBusy its by) busy g away =
-        ap (λ b. b || busy)
-        (aimed (SetBusy its by) its by link.SetBusy (ap (λ o. unless_refused o (at_requested its by link.SetBusy (place_in l by))) (sym (not-refused c (SetBusy its by) l g))) away)
-    busy-elsewhere (ClearBusy its by) busy g away =
-        ap (λ b. not b && busy)
-        (aimed (ClearBusy its by) its by link.ClearBusy (ap (λ o. unless_refused o (at_requested its by link.ClearBusy (place_in l by))) (sym (not-refused c (ClearBusy its by) l g))) away)
-    busy-elsewhere other busy g away = refl
-
     asked-elsewhere : (e : Event) (busy : Bool) → is_at_link service tei (aim_of c e l) ≡ false → asked_busy e (answer c e l) busy ≡ busy
-    asked-elsewhere e busy away = grind (arith, busy-elsewhere)
+    asked-elsewhere e busy away = grind (arith, eqb-true, not-refused)
 
   -- One event of a line.
   module _ (c : Config) (ranged : IsInRange c) (l : Line) (s : IsSound c l) (e : Event) (m : ℕ) (count : IsCount (link_of service tei l) m)
@@ -91,9 +71,6 @@ module _ (service : Service) (tei : ℕ) where
 
     abbrev t : Terms
     t = terms c service tei
-
-    both-are : (k : Link) (b d : Bool) → now.busy ≡ b → now.rejected ≡ d → IsStanding k b d → StandsNow k
-    both-are k b d is too h = subst (λ b. IsStanding k b now.rejected) (sym is) (subst (λ d. IsStanding k b d) (sym too) h)
 
     module _ (x : HasOne c service tei e l (after c e l) a) where
       pub one-restarts : begins service tei (frame_by c e) (notes_of a) ≡ restarts t x.event own
@@ -114,7 +91,7 @@ module _ (service : Service) (tei : ℕ) where
           ∙ ap (λ b. cond (restarts t x.event own || delivers) false (cond (b && not busy) true rejected)) (brings-is c e a x.event x.by)
 
       one-stands : StandsNow (link_of service tei (after c e l))
-      one-stands = grind (arith, both-are, busy_behind, rejected_behind, busy-is, rejected-is, link-stands)
+      one-stands = grind (arith, busy_behind, rejected_behind, busy-is, rejected-is, link-stands)
 
       one-free : list_any (is_data_of service tei) (notes_of a) ≡ true → asked_busy e a busy ≡ false
       one-free some = go (link_told t x.event own).delivered refl

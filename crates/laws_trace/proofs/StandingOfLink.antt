@@ -1,5 +1,5 @@
 -- How a link stands behind an event: own busy, and whether REJ stands.
-use Rattle.laws_trace.proofs.Vocabulary.{arith, ◌≡◌, ℕ, ◌&&◌, ◌||◌, Bool, true, false, cond, List, [], Some, None, refl, sym, ap, ◌∙◌, not, is_some, nat_le, and_parts, and_right, or_parts, or_from, or_right, none-some, Parts, State, AwaitingEstablishment, ControlFrame, Terms, Arrived, is_eligible, restarts, eligible, Received, received, Link, is_multiple_frame, event-delivers, delivered-at_once, flag_left, busy_asked, own_busy_left, rejecting_heard, takes_contents, unless_put, owed_in, pending_left, as_heard, is_anew, is_clearing, leads_by_sabme, leads_by_agreement, comes_to, numbers_begin, state_after, put, event-follows, Control, LinkEvent as Event, frame, link_told, link_after}
+use Rattle.laws_trace.proofs.Vocabulary.{arith, ◌≡◌, ℕ, ◌&&◌, ◌||◌, Bool, true, false, cond, List, Some, None, sym, ap, ◌∙◌, not, is_some, and_right, or_parts, or_from, or_right, none-some, State, AwaitingEstablishment, Terms, restarts, received, Link, is_multiple_frame, event-delivers, delivered-at_once, flag_left, busy_asked, own_busy_left, rejecting_heard, pending_left, as_heard, is_anew, is_clearing, leads_by_sabme, leads_by_agreement, comes_to, numbers_begin, state_after, event-follows, LinkEvent as Event, frame, link_told, link_after}
 use Rattle.laws_trace.proofs.Counting.{Watched}
 use Rattle.laws_trace.proofs.DeliveriesWatched.{Standing}
 use Rattle.model_link.specs.Sound.{is_information}
@@ -48,26 +48,11 @@ free : (anew up owed pending x busy : Bool) → (up ≡ true → owed ≡ true �
 free anew up owed pending x busy h k is = grind arith
 
 module _ (t : Terms) (l : Link) (to : State) (pends : l.pending ≡ true → l.own_busy ≡ false) where
-  abbrev Owed : Event → Bool
-  Owed e = owed_in to (unless_put (put e l to) (takes_contents e l || l.pending))
-
-  second : (a b : Bool) → (a && b) ≡ true → b ≡ true
-  second a b is = (and_parts a b is).1
-
-  unput : (frames : List ControlFrame) (owed : Bool) → unless_put frames owed ≡ true → (frames ≡ []) × (owed ≡ true)
-  unput frames owed is = grind (arith, never)
-
-  owed-so : (e : Event) → Owed e ≡ true → (put e l to ≡ []) × ((takes_contents e l || l.pending) ≡ true)
-  owed-so e is = unput (put e l to) (takes_contents e l || l.pending) (second (is_multiple_frame to) (unless_put (put e l to) (takes_contents e l || l.pending)) is)
-
-  by-either : (r : Received) (b : Bool) → takes_contents (received r) l ≡ b → (b || l.pending) ≡ true → l.own_busy ≡ false
-  by-either r b is any = grind (arith, never)
-
   off-all : (anew up busy : Bool) → busy ≡ false → cond anew false (cond up busy busy) ≡ false
   off-all anew up busy off = grind arith
 
   still-free : (e : Event) → pending_left e l to ≡ true → own_busy_left e l to ≡ false
-  still-free e is = grind (arith, free, by-either, owed-so, off-all, never)
+  still-free e is = grind (arith, free, off-all, never)
 
 -- What whoever watches the link has in mind of it.
 pub record IsStanding (k : Link) (busy rejected : Bool) : Type 0 where
@@ -88,19 +73,6 @@ busy_behind anew e busy = cond anew false (busy_asked e busy)
 
 abbrev pub rejected_behind : Bool → Bool → Event → Bool → Bool → Bool
 rejected_behind anew delivers e busy rejected = cond (anew || delivers) false (cond (brings e && not busy) true rejected)
-
--- REJ stands from an I-frame out of sequence on.
-module _ (t : Terms) (l : Link) (up : is_multiple_frame l.state ≡ true) where
-  abbrev Same : Event → Type 0
-  Same e =
-      is_multiple_frame (state_after t (as_heard t e) l) ≡ true
-      → rejecting_heard (as_heard t e) l ≡ rejected_behind false (takes_contents (as_heard t e) l) e l.own_busy l.rejecting
-
-  by-control : (f : Parts) (control : Control) → Same (received (frame (record f { control = control })))
-  by-control f control = grind (arith, never)
-
-  rejecting-same : (e : Event) → Same e
-  rejecting-same e = grind (arith, by-control)
 
 module _ (t : Terms) (e : Event) (l : Link) (busy rejected : Bool) (stands : IsStanding l busy rejected) where
   abbrev next : Link
@@ -127,13 +99,10 @@ module _ (t : Terms) (e : Event) (l : Link) (busy rejected : Bool) (stands : IsS
   rejecting-is : next.rejecting ≡ flag_left heard l to (rejecting_heard heard l) l.rejecting
   rejecting-is = (event-follows t e l).leaves.rejecting ∙ ap (λ s. flag_left heard l s (rejecting_heard heard l) l.rejecting) state-is
 
-  busy-behind : is_multiple_frame next.state ≡ true → (b : Bool) → restarts t e l ≡ b → next.own_busy ≡ busy_behind b e busy
-  busy-behind up b is = grind (arith, own-is, off-where-begun, begin-is, up-before, as-left, state-is)
-
   pub link-stands : IsStanding next (busy_behind (restarts t e l) e busy) (rejected_behind (restarts t e l) delivers e busy rejected)
   link-stands = record {
-    busy_is = λ up. busy-behind up (restarts t e l) refl;
-    rejected_is = λ up. grind (arith, rejecting-is, off-where-begun, begin-is, up-before, taken-is, as-left, state-is, rejecting-same, is_some, event-delivers);
+    busy_is = λ up. grind (arith, own-is, off-where-begun, begin-is, up-before, as-left, state-is);
+    rejected_is = λ up. grind (arith, rejecting-is, off-where-begun, begin-is, up-before, taken-is, as-left, state-is, is_some, event-delivers);
     not_busy = λ at. own-is ∙ off-awaiting t (busy_asked heard l.own_busy) l.own_busy heard l.state to l (ap is_awaiting (sym state-is) ∙ at) stands.not_busy;
     not_rejecting = λ at. rejecting-is ∙ off-awaiting t (rejecting_heard heard l) l.rejecting heard l.state to l (ap is_awaiting (sym state-is) ∙ at) stands.not_rejecting;
     pends_up = pends-up t e l stands.pends_up;
@@ -145,11 +114,5 @@ module _ (t : Terms) (l : Link) (busy : Bool) where
   abbrev Free : Event → Type 0
   Free e = (is_multiple_frame l.state ≡ true) × (l.own_busy ≡ false) × (busy_asked e busy ≡ busy)
 
-  fits : (b : Bool) (j i : Arrived) → is_eligible t l j ≡ b → cond b (Some j) None ≡ Some i → (is_multiple_frame l.state ≡ true) × (l.own_busy ≡ false)
-  fits b j i is e = grind (arith, none-some, and_parts, nat_le, never)
-
-  by-event : (e : Event) (i : Arrived) → eligible t e l ≡ Some i → Free e
-  by-event e i is = grind (arith, none-some)
-
   pub delivers-free : (e : Event) (contents : List ℕ) → (link_told t e l).delivered ≡ Some contents → Free e
-  delivers-free e contents is = let x = delivered-at_once t e l contents is in by-event e x.0 x.1
+  delivers-free e contents is = let x = delivered-at_once t e l contents is in grind (arith, none-some)

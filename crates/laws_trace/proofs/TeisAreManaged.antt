@@ -1,5 +1,5 @@
 -- TEIs are managed as the procedures say: runs of a card, and the law.
-use Rattle.laws_trace.proofs.Vocabulary.{◌≡◌, ℕ, ◌<◌, ◌==◌, Bool, true, false, cond, List, [], ◌∷◌, get_or, refl, sym, ◌∙◌, subst, arith, eq-eqb, true≢false, inl, fold, and_parts, get_or-replicate, get_or-set_same, All-head, All-tail, PoolFull, Config, Answer, refused, Line, fresh_line, IsInRange, Card, line_at, is_full, at, after_is_sound, fresh_is_sound, has_lines, by_room, config-stays, eqb-true, Data, fresh, CardEvent as Event, after, card_answer as answer, after_all, IsAtLine, AreAtLines, always_sound, line_sound as sound-at, Managed, none_on, nothing_due, due, led, managed_after, TeisAreManaged, Always, LineUnit as Unit, CardIsSound as IsSound}
+use Rattle.laws_trace.proofs.Vocabulary.{◌≡◌, ℕ, ◌<◌, ◌==◌, Bool, true, false, cond, List, [], ◌∷◌, get_or, refl, sym, ◌∙◌, subst, arith, eq-eqb, true≢false, fold, and_parts, get_or-replicate, get_or-set_same, All-head, All-tail, PoolFull, Config, Answer, refused, Line, fresh_line, IsInRange, Card, line_at, is_full, at, after_is_sound, fresh_is_sound, has_lines, by_room, config-stays, eqb-true, fresh, CardEvent as Event, after, card_answer as answer, after_all, IsAtLine, AreAtLines, always_sound, line_sound as sound-at, Managed, none_on, due, led, managed_after, TeisAreManaged, Always, CardIsSound as IsSound}
 use Rattle.model_line.specs.Event as line_event
 use Rattle.model_line.specs.Machine as lines
 use Rattle.laws_trace.proofs.Follows.{Follows}
@@ -14,9 +14,7 @@ Answers c l w e a new = Shows c l e (due c e w) a new.management
 
 refused-shows : (c : Config) (e : line_event.Event) (l : Line) (w : Managed) → lines.takes_slot c e l ≡ true → Follows w l.management → Answers c l w e (refused PoolFull) l
 unfolding lines.takes_slot
-refused-shows c (line_event.request (Data service tei contents)) l w takes h = record { as_due = record { notes = refl; orders = refl; begins = refl; granted = none-granted (nothing_due w) refl false }; lost = inl refl; follows = record { is = h.is; on = h.on; order = h.order } }
-refused-shows c (line_event.request (Unit service tei contents)) l w takes h = record { as_due = record { notes = refl; orders = refl; begins = refl; granted = none-granted (nothing_due w) refl false }; lost = inl refl; follows = record { is = h.is; on = h.on; order = h.order } }
-refused-shows c other l w takes h = absurd (true≢false (sym takes))
+refused-shows c e l w takes h = grind (arith, none-granted)
 
 pub own-shows : (k : Card) (e : Event) (w : Managed) → IsSound k → IsAtLine k e → Follows w (line_at e.line k).management
     → Answers k.config (line_at e.line k) w e.what (answer e k) (line_at e.line (after e k))
@@ -69,5 +67,4 @@ shows-behind c events number ranged all within what =
     (follows-now c events number ranged all within))
 
 pub teis-are-managed : Always TeisAreManaged
-teis-are-managed c events number ranged all within what =
-    (shows-behind c events number ranged all within what).as_due
+teis-are-managed c events number ranged all within what = (shows-behind c events number ranged all within what).as_due

@@ -57,16 +57,10 @@ module _ (k : Known) (ran : LinkTimer → Bool) (a s : ℕ) (busy : Bool) (r : O
   stopped from o = record { agrees = refl; anew = λ timer was now. not-both false refl now; kept = tt }
 
   pub released-7 : Good k ran (at Established) (record (awaits AwaitingRelease (at Established)) { s = a }) None
-  released-7 = record { agrees = refl; anew = go; kept = tt }
-    where
-      go : (timer : LinkTimer) → ran timer ≡ true → runs timer (Some T200) ≡ true → runs timer (Some T200) ≡ anew_by timer Established AwaitingRelease k None
-      go timer was now = grind arith
+  released-7 = grind arith
 
   pub released-8 : Good k ran (at TimerRecovery) (record (awaits AwaitingRelease (at TimerRecovery)) { s = a }) None
-  released-8 = record { agrees = refl; anew = go; kept = tt }
-    where
-      go : (timer : LinkTimer) → ran timer ≡ true → runs timer (Some T200) ≡ true → runs timer (Some T200) ≡ anew_by timer TimerRecovery AwaitingRelease k None
-      go timer was now = grind arith
+  released-8 = grind arith
 
   -- The link is down: no timer ran.
   module _ (none : (timer : LinkTimer) → ran timer ≡ false) where
@@ -123,11 +117,8 @@ module _ (k : Known) (ran : LinkTimer → Bool) (a s : ℕ) (busy : Bool) (r : O
         → Good k ran (at Established) (at Established) o
     same-7 o same none = record { agrees = subst (λ k. IsKnown k a s busy) (sym same) known; anew = λ timer was now. sym (none timer); kept = tt }
 
-    failing : (b : Bool) (o : Option Control) (timer : LinkTimer) → runs timer (Some T200) ≡ true → runs timer (Some T200) ≡ anew_by timer Established AwaitingEstablishment k o
-    failing b o timer now = grind arith
-
     pub failed-7 : (b : Bool) (o : Option Control) → Good k ran (at Established) (fails (with_busy b (at Established))) o
-    failed-7 b o = record { agrees = refl; anew = λ timer was now. failing b o timer now; kept = (refl, refl) }
+    failed-7 b o = record { agrees = refl; anew = λ timer was now. grind arith; kept = (refl, refl) }
 
     by-t200-7 : (o : Option Control) (timer : LinkTimer) → option_map_or (renews T200 k) o false ≡ true → runs timer (Some T200) ≡ true
         → runs timer (Some T200) ≡ anew_by timer Established Established k o
@@ -145,20 +136,11 @@ module _ (k : Known) (ran : LinkTimer → Bool) (a s : ℕ) (busy : Bool) (r : O
       where
         go : (b : Bool) → (nr.value == k.acknowledged) ≡ b → not b ≡ true
         go false e = refl
-        go true e =
-            let same : n % 128 ≡ a % 128 = sym (value-7 nr n is) ∙ eqb-true nr.value k.acknowledged e ∙ known.acknowledged in
-            let high : n ≤ s = (named-within a s n nr is).1 in
-            absurd (omega (arith, same, more, high, within))
-
-    same-number : (nr : Seq) (n : ℕ) → named a s nr ≡ Some n → n ≡ a → not (nr.value == k.acknowledged) ≡ false
-    same-number nr n is same = grind (arith, eq-eqb, value-7)
+        go true e = absurd (omega (arith, value-7, eqb-true, more, named-within, within))
 
     -- RR, and I while the terminal is not busy
     module _ (o : Option Control) (nr : Seq) (again : Bool) (heard : option_map_or (listens false true k) o k ≡ number_heard nr.value false again k)
         (t200_by : option_map_or (renews T200 k) o false ≡ not (nr.value == k.acknowledged)) (t203_by : option_map_or (renews T203 k) o false ≡ true) where
-      quiet-now : (n : ℕ) → named a s nr ≡ Some n → n ≡ a → (n == s) ≡ false → (timer : LinkTimer) → ran timer ≡ true → false ≡ option_map_or (renews timer k) o false
-      quiet-now n is same other timer was = grind (arith, same-number, eq-eqb)
-
       pub acknowledged-7 : (n : ℕ) → named a s nr ≡ Some n → Good k ran (at Established) (acts.acknowledged n (with_busy again (at Established))) o
       acknowledged-7 n is = go (n == s) refl (nat_lt a n) refl
         where
@@ -177,10 +159,8 @@ module _ (k : Known) (ran : LinkTimer → Bool) (a s : ℕ) (busy : Bool) (r : O
             kept = tt;
           }
           go false e false f =
-              let low : a ≤ n = (named-within a s n nr is).0 in
-              let high : n ≤ a = ltb-false a n f in
-              let same : n ≡ a = omega (arith, low, high) in
-              record { agrees = numbers a same; anew = λ timer was now. quiet-now n is same e timer was; kept = tt }
+              let same : n ≡ a = omega (arith, named-within, ltb-false) in
+              record { agrees = numbers a same; anew = λ timer was now. grind (arith, value-7, eq-eqb); kept = tt }
 
     pub ready-7 : (nr : Seq) (p : Bool) → Good k ran (at Established) (supervises false nr acts.acknowledged (at Established)) (Some (ReceiveReady nr p))
     ready-7 nr p = go (named a s nr) refl
@@ -195,15 +175,11 @@ module _ (k : Known) (ran : LinkTimer → Bool) (a s : ℕ) (busy : Bool) (r : O
 
     pub reject-7 : (nr : Seq) (p : Bool)
         → Good k ran (at Established) (supervises false nr (λ n x. record (starts T203 x) { a = n; s = n }) (at Established)) (Some (Reject nr p))
-    reject-7 nr p = go (named a s nr) refl
-      where
-        go : (o : Option ℕ) → named a s nr ≡ o
-            → Good k ran (at Established) (by_name o fails (λ n x. record (starts T203 x) { a = n; s = n }) (with_busy false (at Established))) (Some (Reject nr p))
-        go o is = grind (arith, failed-7, value-7, not-t200)
+    reject-7 nr p = grind (arith, failed-7, value-7, not-t200)
 
     pub informed-7 : (over : Bool) (ns nr : Seq) (p : Bool) → Good k ran (at Established) (informs over nr informed (at Established)) (Some (Information ns nr p))
     informed-7 true ns nr p = failed-7 busy (Some (Information ns nr p))
-    informed-7 false ns nr p = go (named a s nr) refl
+    informed-7 false ns nr p = grind (arith, failed-7, o, by-busy)
       where
         o : Option Control
         o = Some (Information ns nr p)
@@ -217,6 +193,3 @@ module _ (k : Known) (ran : LinkTimer → Bool) (a s : ℕ) (busy : Bool) (r : O
         by-busy false is n names =
             acknowledged-7 o nr busy (ap (λ b. number_heard nr.value false b k) known.busy_is)
             (ap (λ b. not b && not (nr.value == k.acknowledged)) (known.busy_is ∙ is)) refl n names
-
-        go : (m : Option ℕ) → named a s nr ≡ m → Good k ran (at Established) (by_name m fails informed (at Established)) o
-        go m is = grind (arith, failed-7, o, by-busy)

@@ -1,8 +1,8 @@
 -- What is known of a link, and when its timers are started anew: any event of a link but an offer.
-use Rattle.laws_trace.proofs.Vocabulary.{◌≡◌, ℕ, ◌≤◌, ◌+◌, Bool, true, false, List, Option, Some, None, refl, sym, subst, arith, if◌then◌else◌, HasItsTimer, needed_in, State, TeiAssigned, AwaitingEstablishment, Established, TimerRecovery, Terms, LinkTimer, received, expired, offer, cleared, Link, is_own_busy, course, ◌then◌, runs, is_timer, eqb-true, Control, T200, T203, LinkEvent as Event, frame, LinkIsSound as IsSound, Step, begun, nothing, LinkData as Data, LinkRequest as Request, expired_step, clear_busy_in_7_8, set_busy_in_7_8, request_step}
+use Rattle.laws_trace.proofs.Vocabulary.{◌≡◌, ◌≤◌, Bool, true, false, Option, Some, None, refl, arith, if◌then◌else◌, HasItsTimer, needed_in, State, AwaitingEstablishment, Established, TimerRecovery, Terms, LinkTimer, received, expired, offer, cleared, Link, course, ◌then◌, runs, is_timer, eqb-true, Control, T200, T203, LinkEvent as Event, frame, LinkIsSound as IsSound, Step, begun, LinkRequest as Request, expired_step, request_step}
 use Rattle.laws_trace.proofs.TimersWatched.{Known}
-use Rattle.laws_trace.proofs.TimerActs.{timing, Acts, itself, whichever}
-use Rattle.laws_trace.proofs.TimerClaims.{IsKnown, Agrees, Good, asked-4, ended, failed-8, released-7, released-8, same-4, same-5, same-6, same-7, same-8, stopped}
+use Rattle.laws_trace.proofs.TimerActs.{timing, whichever}
+use Rattle.laws_trace.proofs.TimerClaims.{IsKnown, Agrees, Good, asked-4, ended, failed-8, released-7, released-8, same-4, same-5, same-6, same-7, same-8}
 use Rattle.laws_trace.proofs.TimerRows.{in_state}
 use Rattle.laws_trace.proofs.TimerRows as rows
 
@@ -29,17 +29,8 @@ module _ (t : Terms) (k : Known) (l : Link) where
   refused : (ran : LinkTimer → Bool) (here : State) → Facts ran here → Row ran here (λ c. c) None
   refused ran here facts = rows.unchanged t k ran l here facts (λ c. c) (record { acts = λ c. refl })
 
-  content : (ran : LinkTimer → Bool) (octets : List ℕ) (full : Bool) (here : State) → Facts ran here → Row ran here (request_step t (Data octets) full) None
-  content ran octets full here facts = grind (arith, Good, timing, in_state, refused)
-
-  sets-busy : Acts (set_busy_in_7_8 t) itself
-  sets-busy = whichever is_own_busy nothing _ itself (record { acts = λ c. refl }) (record { acts = λ c. refl })
-
-  clears-busy : Acts (clear_busy_in_7_8 t) itself
-  clears-busy = whichever is_own_busy _ nothing itself (record { acts = λ c. refl }) (record { acts = λ c. refl })
-
   asked : (ran : LinkTimer → Bool) (asks : Request) (full : Bool) (here : State) → Facts ran here → Row ran here (request_step t asks full) None
-  asked ran asks full here facts = grind (arith, facts, asked-4, refused, released-7, released-8, content, rows.unchanged, sets-busy, clears-busy)
+  asked ran asks full here facts = grind (arith, facts, asked-4, refused, released-7, released-8, rows.unchanged, whichever)
 
   -- Expiries, by the timer that runs.
   abbrev with_running : State → Option LinkTimer → Link
@@ -49,12 +40,6 @@ module _ (t : Terms) (k : Known) (l : Link) where
   Expires timer here r =
       let c = begun (with_running here r) in
       Good k (ran_before (expired timer) r) (timing c) (timing (expired_step t timer c)) None
-
-  none-runs : (timer other : LinkTimer) → ran_before (expired timer) None other ≡ false
-  none-runs timer other = grind arith
-
-  expires-4 : (timer : LinkTimer) → Expires timer TeiAssigned None
-  expires-4 timer = grind (arith, same-4, none-runs)
 
   -- T200 in states 5 and 6
   expires-5 : (timer : LinkTimer) → Expires timer AwaitingEstablishment (Some T200)
@@ -66,22 +51,15 @@ module _ (t : Terms) (k : Known) (l : Link) where
 
 -- A link that runs the timer that it needs.
 module _ (t : Terms) (k : Known) (l : Link) (s : IsSound t l) (small : t.k ≤ 127) (timed : HasItsTimer l) (agrees : Agrees l.state k l.a l.s l.peer_busy) where
-  within : l.s ≤ l.a + 127
-  within = let h = s.within in omega (arith, h, small)
-
   -- T203 runs in state 7 where nothing is outstanding, and the terminal is not busy
   idle : (r : Option LinkTimer) → r ≡ needed_in Established l → runs T203 r ≡ true → (l.s ≡ l.a) × (l.peer_busy ≡ false)
   idle r is now = grind (arith, eqb-true)
 
   facts : rows.Facts t k (ran_with l.running) l l.state
-  facts = grind (arith, within, idle)
-
-  expires-in : (timer : LinkTimer) (here : State) → l.running ≡ needed_in here l → Agrees here k l.a l.s l.peer_busy → Expires t k l timer here l.running
-  expires-in timer TeiAssigned is known = subst (Expires t k l timer TeiAssigned) (sym is) (expires-4 t k l timer)
-  expires-in timer here is known = grind (arith, expires-5, same-6, timing, stopped, expires-8, same-7, within, idle)
+  facts = grind (arith, idle)
 
   -- Any event but an offer, and the end of the TEI.
   pub event-good : (e : Event) → (e ≡ offer → ⊥) → (e ≡ cleared → ⊥)
       → Good k (ran_before e l.running) (timing (begun l)) (timing (course t e l)) (control_of e)
   event-good (received (frame f)) a b = rows.by-frame t k (ran_with l.running) l l.state facts f.address.command f.info f.control
-  event-good e a b = grind (arith, rows.malformed, facts, expires-in, asked)
+  event-good e a b = grind (arith, rows.malformed, facts, same-4, expires-5, same-6, expires-8, same-7, idle, asked)

@@ -1,5 +1,5 @@
 -- What is known of a link, and its timers, over an offer; and what its orders start.
-use Rattle.laws_trace.proofs.Vocabulary.{◌≡◌, ℕ, ◌+◌, ◌%◌, ◌&&◌, ◌||◌, Bool, true, false, cond, List, [], ◌∷◌, Option, Some, None, refl, arith, All, option_map_or, All-head, seq, ControlFrame, State, Terms, LinkTimer, Link, is_established, IsWaitingFrame, Given, runs, unwrap_or, LinkIsSound as IsSound, Course, begun, offer, course, given, link_given_of as given_of, give_waiting, offer_among}
+use Rattle.laws_trace.proofs.Vocabulary.{◌≡◌, ◌||◌, true, false, cond, List, [], ◌∷◌, Option, None, refl, arith, All, option_map_or, All-head, seq, ControlFrame, State, Terms, LinkTimer, Link, IsWaitingFrame, Given, runs, unwrap_or, LinkIsSound as IsSound, Course, begun, offer, course, given, link_given_of as given_of, give_waiting, offer_among}
 use Rattle.laws_trace.proofs.TimersWatched.{Sent, sent_by, Known, nothing_yet, sends}
 use Rattle.laws_trace.proofs.States.{is_state}
 use Rattle.laws_trace.proofs.DataGoesOut.{none-sent}
@@ -19,13 +19,6 @@ pub record Offered (k : Known) (l : Link) (y : Timing) (o : Option Sent) : Type 
 abbrev pub given_sent : Given → Option Sent
 given_sent g = sent_by g.frame.control (unwrap_or g.contents [])
 
-one-more : (here : State) (k : Known) (a s : ℕ) (busy : Bool) (sent : Sent) → is_established here ≡ true → sent.ns ≡ s % 128 → Agrees here k a s busy
-    → Agrees here (sent_known here k (Some sent)) a (s + 1) busy
-one-more here k a s busy sent up ns h = grind arith
-
-first-of : (a b c d : Bool) → (a && b && c && d) ≡ true → a ≡ true
-first-of a b c d e = grind arith
-
 module _ (t : Terms) (k : Known) (l : Link) (s : IsSound t l) (agrees : Agrees l.state k l.a l.s l.peer_busy) where
   abbrev Claim : Course → Type 0
   Claim c = Offered k l (timing c) (option_map_or given_sent (given_of t l c c.sent) None)
@@ -38,7 +31,7 @@ module _ (t : Terms) (k : Known) (l : Link) (s : IsSound t l) (agrees : Agrees l
   unfolding seq
   by-waiting (f ∷ fs) all =
       stays (give_waiting f fs (begun l)) refl (none-sent f.control [] (All-head (IsWaitingFrame t) f fs all).without_contents)
-  by-waiting [] all = grind (arith, one-more, timing, first-of, stays)
+  by-waiting [] all = grind (arith, timing, stays)
 
   pub offer-good : Offered k l (timing (course t offer l)) (option_map_or given_sent (given t l) None)
   offer-good = by-waiting l.waiting s.frames

@@ -1,16 +1,12 @@
 -- What is known of a link, and when its timers are started anew: each row of the tables, except for offers.
-use Rattle.laws_trace.proofs.Vocabulary.{arith, ◌≡◌, ℕ, ◌≤◌, ◌+◌, Bool, true, false, List, Option, Some, None, refl, sym, subst, nat_lt, length, option_map_or, Information, ReceiveReady, ReceiveNotReady, Reject, Sabme, Ua, ErrorCode, State, TeiAssigned, AwaitingEstablishment, AwaitingRelease, Established, TimerRecovery, Terms, LinkTimer, Link, Control, T200, T203, Step, begun, nothing, A, frame_in, malformed_in, is_final, error, unit_data}
-use Rattle.model_link.specs.Established as seven
-use Rattle.laws_trace.proofs.TimersWatched.{Known, nothing_yet, listens, renews}
-use Rattle.laws_trace.proofs.TimerActs.{Timing, timing, Acts, itself, either-bit, acknowledged, acknowledges, begins, fails, informed, informs, recovers, sabme-acts, starts, supervises, with_busy, both, by-number, answers, by-bit, whichever}
+use Rattle.laws_trace.proofs.Vocabulary.{arith, ◌≡◌, ℕ, ◌≤◌, ◌+◌, Bool, true, false, List, Option, Some, None, refl, sym, subst, nat_lt, length, Information, ReceiveReady, ReceiveNotReady, Reject, Sabme, ErrorCode, State, TeiAssigned, AwaitingEstablishment, AwaitingRelease, Established, TimerRecovery, Terms, LinkTimer, Link, Control, T200, T203, Step, begun, frame_in, malformed_in, is_final, unit_data}
+use Rattle.laws_trace.proofs.TimersWatched.{Known, nothing_yet}
+use Rattle.laws_trace.proofs.TimerActs.{Timing, timing, Acts, itself, either-bit, acknowledged, acknowledges, begins, informed, informs, recovers, sabme-acts, starts, supervises, with_busy, both, by-number, answers, by-bit, whichever}
 use Rattle.laws_trace.proofs.TimerClaims.{IsKnown, Good}
 use Rattle.laws_trace.proofs.TimerClaims as claims
 
 abbrev pub in_state : State → Link → Link
 in_state here l = record l { state = here }
-
-each-timer : (P : LinkTimer → Type 0) → P T200 → P T203 → (timer : LinkTimer) → P timer
-each-timer P x y timer = grind arith
 
 -- UI in any state
 unit-acts : (t : Terms) (octets : List ℕ) → Acts (unit_data t octets) itself
@@ -47,21 +43,8 @@ module _ (t : Terms) (k : Known) (ran : LinkTimer → Bool) (l : Link) where
   same-6 : ran T203 ≡ false → (o : Option Control) → Good k ran (at AwaitingRelease) (at AwaitingRelease) o
   same-6 only o = claims.same-6 k ran l.a l.s l.peer_busy l.running only o
 
-  in-6 : ran T203 ≡ false → (b : Bool) (octets : List ℕ) (control : Control) → Row AwaitingRelease (frame_in AwaitingRelease t b octets control) (Some control)
-  in-6 only b octets control = grind (arith, claims.stopped, moved, itself, unit-acts, same-6)
-
   -- State 7.
   module _ (facts : Facts Established) where
-    same-7 : (o : Option Control) → option_map_or (listens false true k) o k ≡ k
-        → option_map_or (renews T200 k) o false ≡ false → option_map_or (renews T203 k) o false ≡ false → Good k ran (at Established) (at Established) o
-    same-7 o same one two = grind (arith, claims.same-7, each-timer, renews)
-
-    failed-7 : (o : Option Control) → Good k ran (at Established) (fails (at Established)) o
-    failed-7 o = claims.failed-7 k ran l.a l.s l.peer_busy l.running facts.1 facts.2 facts.0 facts.3 l.peer_busy o
-
-    unsolicited : (b : Bool) → Acts (seven.unsolicited t b) itself
-    unsolicited b = either-bit b (error t A) nothing itself (record { acts = λ c. refl }) (record { acts = λ c. refl })
-
     in-7 : (b : Bool) (octets : List ℕ) (control : Control) → Row Established (frame_in Established t b octets control) (Some control)
     in-7 b octets (Information ns nr p) =
         moved Established (Some (Information ns nr p)) (frame_in Established t b octets (Information ns nr p)) (informs (nat_lt t.n201 (length octets)) nr informed)
@@ -69,36 +52,25 @@ module _ (t : Terms) (k : Known) (ran : LinkTimer → Bool) (l : Link) where
         (claims.informed-7 k ran l.a l.s l.peer_busy l.running facts.1 facts.2 facts.0 facts.3 (nat_lt t.n201 (length octets)) ns nr p)
     in-7 b octets (ReceiveReady nr p) =
         moved Established (Some (ReceiveReady nr p)) (frame_in Established t b octets (ReceiveReady nr p)) (supervises false nr acknowledged)
-        (grind (arith, both, answers, by-number))
-        (claims.ready-7 k ran l.a l.s l.peer_busy l.running facts.1 facts.2 facts.0 facts.3 nr p)
+        (grind (arith, both, answers, by-number)) (claims.ready-7 k ran l.a l.s l.peer_busy l.running facts.1 facts.2 facts.0 facts.3 nr p)
     in-7 b octets (ReceiveNotReady nr p) =
         moved Established (Some (ReceiveNotReady nr p)) (frame_in Established t b octets (ReceiveNotReady nr p))
-        (supervises true nr (λ n x. starts T200 (acknowledges n x)))
-        (grind (arith, both, answers, by-number))
+        (supervises true nr (λ n x. starts T200 (acknowledges n x))) (grind (arith, both, answers, by-number))
         (claims.not-ready-7 k ran l.a l.s l.peer_busy l.running facts.1 facts.2 facts.0 facts.3 nr p)
     in-7 b octets (Reject nr p) =
         moved Established (Some (Reject nr p)) (frame_in Established t b octets (Reject nr p)) (supervises false nr (λ n x. record (starts T203 x) { a = n; s = n }))
-        (grind (arith, both, answers, by-number))
-        (claims.reject-7 k ran l.a l.s l.peer_busy l.running facts.1 facts.2 facts.0 facts.3 nr p)
+        (grind (arith, both, answers, by-number)) (claims.reject-7 k ran l.a l.s l.peer_busy l.running facts.1 facts.2 facts.0 facts.3 nr p)
     in-7 b octets (Sabme p) =
         moved Established (Some (Sabme p)) (frame_in Established t b octets (Sabme p)) (λ x. with_busy false (begins x)) (sabme-acts t p)
         (claims.sabme-7 k ran l.a l.s l.peer_busy l.running facts.1 facts.2 facts.0 facts.3 p)
-    in-7 b octets (Ua f) = grind (arith, moved, itself, either-bit, same-7)
-    in-7 b octets control = grind (arith, claims.ended, failed-7, moved, itself, unit-acts, same-7)
+    in-7 b octets other = grind (arith, moved, itself, either-bit, claims.same-7, claims.ended, claims.failed-7, unit-acts)
 
   -- State 8.
   module _ (facts : Facts TimerRecovery) where
-    same-8 : (o : Option Control) → option_map_or (listens false false k) o k ≡ k → Good k ran (at TimerRecovery) (at TimerRecovery) o
-    same-8 o same = claims.same-8 k ran l.a l.s l.peer_busy l.running facts.0 facts.1 o same
-
-    failed-8 : (o : Option Control) → Good k ran (at TimerRecovery) (fails (at TimerRecovery)) o
-    failed-8 o = claims.failed-8 k ran l.a l.s l.peer_busy l.running facts.0 facts.1 l.peer_busy o
-
     in-8 : (b : Bool) (octets : List ℕ) (control : Control) → Row TimerRecovery (frame_in TimerRecovery t b octets control) (Some control)
     in-8 b octets (Information ns nr p) =
         moved TimerRecovery (Some (Information ns nr p)) (frame_in TimerRecovery t b octets (Information ns nr p))
-        (informs (nat_lt t.n201 (length octets)) nr acknowledges)
-        (grind (arith, by-bit, both, whichever, answers, either-bit, by-number))
+        (informs (nat_lt t.n201 (length octets)) nr acknowledges) (grind (arith, by-bit, both, whichever, answers, either-bit, by-number))
         (claims.informed-8 k ran l.a l.s l.peer_busy l.running facts.0 facts.1 (nat_lt t.n201 (length octets)) ns nr p)
     in-8 b octets (ReceiveReady nr p) =
         let final = is_final b p in
@@ -118,20 +90,17 @@ module _ (t : Terms) (k : Known) (ran : LinkTimer → Bool) (l : Link) where
     in-8 b octets (Sabme p) =
         moved TimerRecovery (Some (Sabme p)) (frame_in TimerRecovery t b octets (Sabme p)) (λ x. with_busy false (begins x)) (sabme-acts t p)
         (claims.sabme-8 k ran l.a l.s l.peer_busy l.running facts.0 facts.1 p)
-    in-8 b octets (Ua f) = grind (arith, moved, itself, either-bit, same-8)
-    in-8 b octets control = grind (arith, claims.ended, failed-8, moved, itself, unit-acts, same-8)
+    in-8 b octets other = grind (arith, moved, itself, either-bit, claims.same-8, claims.ended, claims.failed-8, unit-acts)
 
   -- Any frame, and what the grammar does not have.
   pub by-frame : (here : State) → Facts here → (b : Bool) (octets : List ℕ) (control : Control) → Row here (frame_in here t b octets control) (Some control)
-  by-frame TeiAssigned facts b octets control = in-4 facts b octets control
-  by-frame AwaitingEstablishment facts b octets control = in-5 facts b octets control
-  by-frame AwaitingRelease facts b octets control = in-6 facts b octets control
   by-frame Established facts b octets control = in-7 facts b octets control
   by-frame TimerRecovery facts b octets control = in-8 facts b octets control
+  by-frame other facts b octets control = grind (arith, claims.stopped, moved, itself, unit-acts, same-6, in-4, in-5)
 
   pub malformed : (here : State) → Facts here → (e : ErrorCode) → Row here (malformed_in here t e) None
-  malformed here facts e = grind (arith, claims.same-4, claims.same-5, same-6, failed-7, failed-8)
+  malformed here facts e = grind (arith, claims.same-4, claims.same-5, same-6, claims.failed-7, claims.failed-8)
 
   -- Nothing of it changes.
   pub unchanged : (here : State) → Facts here → (f : Step) → Acts f itself → Row here f None
-  unchanged here facts f h = grind (arith, moved, itself, claims.same-4, claims.same-5, same-6, same-7, same-8)
+  unchanged here facts f h = grind (arith, moved, itself, claims.same-4, claims.same-5, same-6, claims.same-7, claims.same-8)

@@ -196,12 +196,11 @@ module _ (c : Config) (events : List Event) (number : ℕ) (ranged : IsInRange c
       let sound : link_sound.IsSound t its_link =
       subst (link_sound.IsSound t) (sym (ap (λ o. option_map_or (link_in its_line service) o fresh_link) on)) (sound_in at_end.config s.config its_line sound_line service tei place placed) in
       let ordered : its_link.a ≤ its_link.s = sound.ordered in
-      let window : its_link.s ≤ its_link.a + t.k = sound.within in
       let small : t.k ≤ 127 = (terms_in_range at_end.config s.config service tei (sound_line.management.table.range place tei placed)).k_high in
       let timed : HasItsTimer its_link = subst HasItsTimer (sym (ap (λ o. option_map_or (link_in its_line service) o fresh_link) on)) (its-timers.links (link_number place service)) in
       subst (λ state. Run service tei is_known state its_link.running) (sym (state-on service tei its_line place on))
       (subst (λ r. Run service tei is_known (told_state its_link.state) r) (sym timed.running)
-      (by-state service tei is_known its_link.state its_link (true-now c events number ranged all within service tei) ordered (omega (arith, window, small))))
+      (by-state service tei is_known its_link.state its_link (true-now c events number ranged all within service tei) ordered (omega (arith, small))))
 
   pub run-law : (runs_at_callers number (timer_of service tei T200) false (moments (fresh c) events) ≡ awaits is_known (state_of service tei its_line))
       × (runs_at_callers number (timer_of service tei T203) false (moments (fresh c) events) ≡ (is_state 7 (state_of service tei its_line) && not (awaits is_known (state_of service tei its_line))))

@@ -1,5 +1,5 @@
 -- What is known of a link stays true: each event of a line.
-use Rattle.laws_trace.proofs.Vocabulary.{arith, ◌≡◌, ℕ, ◌&&◌, ◌||◌, Bool, cond, [], map, Option, Some, None, option_map, refl, sym, ap, ◌∙◌, subst, ◌⊎◌, inl, inr, All, option_to_list, option_map_or, All-head, Service, Parts, place_of-is, HasItsTimer, State, Terms, LinkTimer, Link, Given, runs, Config, hears, next, Answer, NextFrame, gave, Line, link_in, link_of, link_number, place_in, state_of, state_in, terms, taken, next_of, IsInRange, terms_in_range, IsBy, timer_of, is_needed, left_by, HaveTheirTimers, T200, T203, fresh_link as fresh, Event, line_after as after, answer, line_frame_of as frame_of, IsSound, is_for, trace_frame_in as frame_in, seen, none-some, StreamEvent, link_after, given, course}
+use Rattle.laws_trace.proofs.Vocabulary.{arith, ◌≡◌, ℕ, ◌&&◌, ◌||◌, Bool, cond, [], map, Option, Some, None, option_map, refl, sym, ap, ◌∙◌, subst, ◌⊎◌, inl, inr, All, option_to_list, option_map_or, All-head, Service, Parts, place_of-is, HasItsTimer, State, Terms, LinkTimer, Link, Given, runs, Config, next, Answer, NextFrame, gave, Line, link_in, link_of, link_number, place_in, state_of, state_in, terms, taken, next_of, IsInRange, terms_in_range, IsBy, timer_of, is_needed, left_by, HaveTheirTimers, T200, T203, fresh_link as fresh, Event, line_after as after, answer, line_frame_of as frame_of, IsSound, is_for, trace_frame_in as frame_in, seen, none-some, link_after, given, course}
 use Rattle.model_link.specs.Events as link
 use Rattle.model_link.specs.Sound as link_sound
 use Rattle.laws_trace.proofs.TimersWatched.{Known, nothing_yet, listens, sends, control_in, learned}
@@ -57,9 +57,6 @@ module _ (c : Config) (ranged : IsInRange c) (l : Line) (s : IsSound c l) (timed
   abbrev new : Link
   new = link_of service tei (after c e l)
 
-  own-sound : (place : ℕ) → place_in l tei ≡ Some place → link_sound.IsSound t own
-  own-sound place is = link-at-end c l ranged s service tei place is
-
   pub own-timed : (place : ℕ) → place_in l tei ≡ Some place → HasItsTimer own
   own-timed place is = subst HasItsTimer (sym (ap (λ o. option_map_or (link_in l service) o fresh) is)) (timed.links (link_number place service))
 
@@ -86,13 +83,10 @@ module _ (c : Config) (ranged : IsInRange c) (l : Line) (s : IsSound c l) (timed
   -- What is heard or begins is none of the link's.
   module _ (x : HasNone c service tei e l (after c e l) a) where
     pub no-control : (place : ℕ) → place_in l tei ≡ Some place → control_in service tei (frame_by c e) ≡ None
-    no-control place on = go (frame_by c e) refl
+    no-control place on = grind (arith, by-whom)
       where
         by-whom : (f : Parts) → frame_by c e ≡ Some f → (b : Bool) → is_for service tei f.address ≡ b → cond b (Some f.control) None ≡ None
         by-whom f is b for = grind (arith, event-aims)
-
-        go : (o : Option Parts) → frame_by c e ≡ o → control_in service tei o ≡ None
-        go o is = grind (arith, by-whom)
 
     none-goes : (e : Event) → All (IsForeign c service tei) (frame_in (answer c e l)) → sent_at c service tei k e l ≡ None
     unfolding answer
@@ -137,20 +131,14 @@ module _ (c : Config) (ranged : IsInRange c) (l : Line) (s : IsSound c l) (timed
     pub sent : sent_at c service tei k e l ≡ None
     pub left : (timer : LinkTimer) → left_by e (timer_of service tei timer) (runs timer own.running) ≡ ran_before event own.running timer
 
-  bare : (what : link.Received) → (link.received what ≡ link.offer → ⊥) → (link.received what ≡ link.cleared → ⊥) → control_of (link.received what) ≡ None
-      → (heard : StreamEvent) → e ≡ hears heard → frame_by c e ≡ None → ((timer : LinkTimer) → ran_before (link.received what) own.running timer ≡ runs timer own.running)
-      → IsOther (link.received what)
-  bare what no-offer no-cleared none heard by without same = grind (arith, control_in, sent_at)
-
   other : (event : link.Event) → (event ≡ link.offer → ⊥) → IsBy c e a service tei event → IsOther event
   other (link.received (link.frame f)) not_offer by =
-      let x = brings-frame c e a service tei f by in
-      grind (arith, control_in, sent_at)
-  other event not_offer by = grind (arith, heard-by, bare, brings-none, control_in, frame_by, sent_at, its-own)
+      let x = brings-frame c e a service tei f by in grind (arith, control_in, sent_at)
+  other event not_offer by = grind (arith, heard-by, brings-none, control_in, frame_by, sent_at, its-own)
 
   module _ (x : HasOne c service tei e l (after c e l) a) where
     pub sound : link_sound.IsSound t own
-    sound = own-sound x.place x.placed
+    sound = link-at-end c l ranged s service tei x.place x.placed
 
     pub range : link_sound.IsInRange t
     range = terms_in_range c ranged service tei (s.management.table.range x.place tei (place_of-is l.management.places tei x.place x.placed).1)
@@ -168,7 +156,6 @@ module _ (c : Config) (ranged : IsInRange c) (l : Line) (s : IsSound c l) (timed
     by-good : IsOther x.event → (there : ℕ) → place_in (after c e l) tei ≡ Some there → IsTrueOf service tei now_known (after c e l)
     by-good o there on =
         let g = event-good t k own sound range.k_high (own-timed x.place x.placed) agrees x.event o.no_offer o.no_cleared in
-        let i = is_state 7 (told_state later.state) in
         grind (arith, heard_by, control_of, known-so, is_state, told_state, sends, listens, control_in, frame_by, nothing_yet)
 
     -- an offer
@@ -214,7 +201,4 @@ module _ (c : Config) (ranged : IsInRange c) (l : Line) (s : IsSound c l) (timed
         go (Some there) on = either (λ o. by-good o there on) (λ is offered. by-offer is offered there on)
 
   pub event-known : IsTrueOf service tei now_known (after c e l)
-  event-known = go (event-goes c e l service tei s)
-    where
-      go : Goes c service tei e l (after c e l) a → IsTrueOf service tei now_known (after c e l)
-      go o = grind (arith, none-known, one-known, off-known, fresh-known)
+  event-known = grind (arith, none-known, one-known, off-known, fresh-known, event-goes)

@@ -10,8 +10,7 @@ module _ (c : Config) (service : Service) (tei : ℕ) (k : Known) where
   sent_at next l = sent_with c service tei (option_map next_of (taken c l))
   sent_at other l = None
 
-  pub seen-learns : (e : Event) (l : Line) (r i : Bool)
-      → fold (learns c service tei r i) k (seen e (answer c e l))
+  pub seen-learns : (e : Event) (l : Line) (r i : Bool) → fold (learns c service tei r i) k (seen e (answer c e l))
       ≡ option_map_or (sends k) (sent_at e l) (option_map_or (listens r i k) (control_in service tei (frame_by c e)) k)
   unfolding answer
   seen-learns e l r i = grind (arith, listens, control_in, option_map)

@@ -62,9 +62,6 @@ module _ (c : Config) (events : List Event) (number : ℕ) (ranged : IsInRange c
     abbrev ran : Bool
     ran = runs_at_callers number its false (moments (fresh c) events)
 
-    needs : is_needed its (line_at number card) ≡ timely.runs timer o
-    needs = sym (callers-run c events number ranged all within service tei timer) ∙ its-run timer
-
     needs-then : is_needed its (line_at number (after (at number what) card)) ≡ timely.runs timer q
     needs-then = ap (is_needed its) (sym line-then) ∙ sym (callers-run c longer number ranged all-then within service tei timer) ∙ its-run-then timer
 
@@ -73,8 +70,7 @@ module _ (c : Config) (events : List Event) (number : ℕ) (ranged : IsInRange c
     obeys-then =
         sym (ap (fold (one_more number its) false) (moments-both (fresh c) events (at number what ∷ []))
         ∙ fold-append (one_more number its) false (moments (fresh c) events) (m ∷ [])
-        ∙ ap (λ b. cond b (runs_then its ran what m.answer) ran) (eq-eqb number number refl))
-        ∙ its-run-then timer
+        ∙ ap (λ b. cond b (runs_then its ran what m.answer) ran) (eq-eqb number number refl)) ∙ its-run-then timer
 
   -- What is known then, where the event is one of the link.
   abbrev then-on : Bool
@@ -86,17 +82,11 @@ module _ (c : Config) (events : List Event) (number : ℕ) (ranged : IsInRange c
       (either o (is_on tei v.teis) (cond (number == number) (by_event c service tei what m.answer o) o) (in_state 4)
       (either o (number == number) (by_event c service tei what m.answer o) o h (same o)) (zero o))
 
-  stays-on : is_on tei v.teis ≡ true → then-on ≡ true → q ≡ by_event c service tei what m.answer o
-  stays-on before then = grind (arith, eq-eqb)
-
   -- a timer runs only of a TEI on the line
   there : (timer : LinkTimer) → timely.runs timer o ≡ true → is_on tei v.teis ≡ true
   there timer runs =
-      ⊎_elim (λ y. absurd (true≢false (sym runs ∙ ap (timely.runs timer) y.2 ∙ off timer)))
+      ⊎_elim (λ y. absurd (true≢false (sym runs ∙ ap (timely.runs timer) y.2 ∙ (grind arith))))
       (λ y. on-line-now c events number ranged all within service tei ∙ ap is_some y.1) (known-now c events number ranged all within service tei)
-    where
-      off : (timer : LinkTimer) → timely.runs timer (in_state 1) ≡ false
-      off timer = grind arith
 
 -- Whether one is started, by the event.
 module _ (c : Config) (events : List Event) (number : ℕ) (ranged : IsInRange c) (all : AreAtLines (fresh c) events) (within : number < c.lines) (service : Service) (tei : ℕ) where
@@ -115,16 +105,13 @@ module _ (c : Config) (events : List Event) (number : ℕ) (ranged : IsInRange c
       (not (timely.runs timer was) || moved_or_renewed c service tei timer was q what) ≡ (not (timely.runs timer was) || timely.is_anew c service tei timer was q what)
   by-plain timer what none = grind (arith, plain)
 
-  other-event : (what : line_event.Event) → ((of : Service) (by : ℕ) → what ≡ expiry (TimerT200 of by) → is_own service tei of by ≡ false) → IsNoMore was (view_behind c service tei number events what).link
-  other-event what other = grind (arith, no-rise, no-more)
-
   abbrev then_of : line_event.Event → Observed
   then_of what = (view_behind c service tei number events what).link
 
   -- what a timer that ran leads to as one of the link expires
   on-then : (timer : LinkTimer) (what : line_event.Event) → ((w : Managed) → is_on tei (due c what w) ≡ is_on tei w) → timely.runs timer was ≡ true
       → then_of what ≡ by_event c service tei what (moment_of c events number what).answer was
-  on-then timer what keeps runs = grind (arith, there, stays-on, eq-eqb)
+  on-then timer what keeps runs = grind (arith, there, eq-eqb)
 
   abbrev renewed : LinkTimer → line_event.Event → Bool
   renewed timer what = was.state == 7 && brings (timely.renews timer was.acknowledged was.busy) c service tei what
@@ -147,7 +134,7 @@ module _ (c : Config) (events : List Event) (number : ℕ) (ranged : IsInRange c
 
   -- T203 that expires leads on.
   not-t200 : (what : line_event.Event) (timer : LinkTimer) → ((of : Service) (by : ℕ) → what ≡ expiry (TimerT200 of by) → ⊥) → IsNoMore was (then_of what)
-  not-t200 what timer never = other-event what (λ of by is. absurd (never of by is))
+  not-t200 what timer never = grind (arith, no-rise, no-more)
 
   t203-of : (of : Service) (by : ℕ) (b : Bool) → is_own service tei of by ≡ b → Due T203 (expiry (TimerT203 of by))
   t203-of of by false other =
@@ -195,13 +182,10 @@ module _ (c : Config) (events : List Event) (number : ℕ) (ranged : IsInRange c
     abbrev due_of : Bool
     due_of = timely.runs timer now && (not (timely.runs timer was) || timely.is_anew c service tei timer was now what)
 
-    started : obeyed its_timer false (orders_in (moment_of c events number what).answer) ≡ due_of
-    started = grind (arith, started-so, obeys-then, its-run, due-so)
-
     ordered : order_by (obeyed its_timer false (orders_in (moment_of c events number what).answer)) (is_needed its_timer (line_at number (after_all (fresh c) events)))
         (is_needed its_timer (line_at number (after (at number what) (after_all (fresh c) events)))) its_timer
         ≡ order_by due_of (timely.runs timer was) (timely.runs timer now) its_timer
-    ordered = grind (arith, order_by, started, needs, needs-then)
+    ordered = grind (arith, order_by, started-so, obeys-then, its-run, due-so, callers-run, needs-then)
 
 pub timers-are-timely : Always TimersAreTimely
 timers-are-timely c events number ranged all within service tei what =

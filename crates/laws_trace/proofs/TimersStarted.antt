@@ -143,12 +143,9 @@ module _ (c : Config) (ranged : IsInRange c) (l : Line) (s : IsSound c l) (timed
       where
         go : (b : Bool) → was ≡ b → (d : Bool) → is_needed its (after c e l) ≡ d → IsStarted was
         go false is d on = subst IsStarted (sym is) (sym (and-true (obeyed its false (orders_in a))))
-        go true is false off =
-            let post : obeyed its was (orders_in a) ≡ false = followed c e l its ranged s timed ∙ off in
-            never-started is off ∙ ap (λ b. b && (not was || is_due)) (sym post)
+        go true is false off = never-started is off ∙ ap (λ b. b && (not was || is_due)) (sym (followed c e l its ranged s timed ∙ off))
         go true is true on =
-            let post : obeyed its was (orders_in a) ≡ true = followed c e l its ranged s timed ∙ on in
-            started is on ∙ sym (ap (λ b. b && (not was || is_due)) post ∙ ap (λ b. not b || is_due) is)
+            started is on ∙ sym (ap (λ b. b && (not was || is_due)) (followed c e l its ranged s timed ∙ on) ∙ ap (λ b. not b || is_due) is)
 
   -- What is ordered of the timers of the link: one is started as its orders start it, and stopped where it runs no more.
   rebuild : (its : Timer) (p q r p' q' r' : Bool) → p ≡ p' → q ≡ q' → r ≡ r' → order_by p q r its ≡ order_by p' q' r' its

@@ -1,5 +1,5 @@
 -- Links take turns: over runs of a card of which a line is only called for its next frame.
-use Rattle.laws_trace.proofs.Vocabulary.{◌≡◌, ℕ, ◌+◌, ◌*◌, ◌/◌, ◌<◌, ◌≤◌, Bool, true, false, List, Result, refl, ap, arith, not, Address, Side, Ui, ReadFault, Parts, cr_bit, spelling, reading-again, option_map_or, Control, is_ui, result_ok}
+use Rattle.laws_trace.proofs.Vocabulary.{◌≡◌, ℕ, ◌+◌, ◌*◌, ◌/◌, ◌<◌, ◌≤◌, Bool, true, false, List, Result, refl, ap, arith, not, Address, Side, Ui, ReadFault, Parts, spelling, reading-again, option_map_or, Control, is_ui, result_ok}
 use Rattle.laws_trace.proofs.LinkNames.{named_in, is_of_a_link}
 use Rattle.laws_trace.proofs.ReadAgain.{read-again}
 use Rattle.lapd_frame.proofs.AddressField.{cr_bit-small}
@@ -22,8 +22,5 @@ ui-frame side a info sapi tei command =
 by-bit : (bit : ℕ) → bit ≤ 1 → (sapi : ℕ) → (4 * sapi + 2 * bit) / 4 ≡ sapi
 by-bit bit few sapi = omega (arith, few)
 
-by-first : (side : Side) (sapi : ℕ) (command : Bool) → (4 * sapi + 2 * cr_bit side command) / 4 ≡ sapi
-by-first side sapi command = by-bit (cr_bit side command) (cr_bit-small side command) sapi
-
 pub name-is : (side : Side) (a : Address) (c : Control) (info : List ℕ) → named_in (spelling side (record { address = a; control = c; info = info })) ≡ record { sapi = a.sapi; tei = a.tei }
-name-is side a c info = grind (arith, by-first)
+name-is side a c info = grind (arith, by-bit, cr_bit-small)

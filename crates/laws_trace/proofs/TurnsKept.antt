@@ -1,5 +1,5 @@
 -- A TEI that is on a line before an event and behind it keeps its place.
-use Rattle.laws_trace.proofs.Vocabulary.{◌≡◌, ℕ, ◌==◌, Bool, true, get_or, Option, Some, None, refl, sym, ap, ◌∙◌, subst, arith, eq-eqb, true≢false, none-some, get_or-set_same, get_or-set_other, Places, is_on, Change, Left, Config, IsInRange, ranges_of, Aim, at_management, at_no_link, of_aim, of_change, told_of_management, IsProper, heard_proper, expiry_proper, request_proper, aim_of_heard, hears, expiry, request, next, Line, fresh_line, next-moves, Card, line_at, by_room, has_lines, eqb-true, aim_of_expiry, IsSound, CardEvent as Event, after, IsAtLine, line_sound, by-down, Moves, changes_are_told, line_after, tei_told, tei_after}
+use Rattle.laws_trace.proofs.Vocabulary.{◌≡◌, ℕ, true, get_or, Option, Some, None, sym, ap, ◌∙◌, subst, arith, eq-eqb, true≢false, none-some, get_or-set_same, get_or-set_other, Places, is_on, Change, Left, Config, IsInRange, ranges_of, Aim, at_management, at_no_link, of_aim, of_change, told_of_management, IsProper, heard_proper, expiry_proper, request_proper, next, Line, fresh_line, next-moves, Card, line_at, by_room, has_lines, eqb-true, IsSound, CardEvent as Event, after, IsAtLine, line_sound, by-down, Moves, changes_are_told, line_after, tei_told, tei_after}
 use Rattle.model_line.specs.Event as line_event
 use Rattle.model_card.specs.Sound as card_sound
 use Rattle.laws_trace.proofs.ManagingTables.{clear-same}
@@ -29,10 +29,8 @@ module _ (c : Config) (ranged : IsInRange c) (l : Line) (s : IsSound c l) (p tei
 
   pub keeps : (e : line_event.Event) → Keeps (line_after c e l)
   unfolding line_after
-  keeps (hears what) = by-aim (aim_of_heard c l what) (heard_proper c l what)
-  keeps (expiry timer) = by-aim (aim_of_expiry timer l) (expiry_proper c l timer)
-  keeps (request r) = grind (arith, by-aim, request_proper)
   keeps next = λ on. subst (λ ps. get_or ps p None ≡ Some tei) (sym (next-moves c 0 l s (omega (arith, (ranges_of c ranged).terminals.least))).places) at
+  keeps other = grind (arith, by-aim, request_proper, heard_proper, expiry_proper)
 
 -- So it does on a card.
 abbrev Stays : ℕ → ℕ → Line → Type 0
@@ -40,7 +38,7 @@ Stays p tei m = is_on tei m.management.places ≡ true → get_or m.management.p
 
 pub keeps-there : (card : Card) (e : Event) (number p tei : ℕ) → card_sound.IsSound card → IsAtLine card e → get_or (line_at number card).management.places p None ≡ Some tei
     → Stays p tei (line_at number (after e card))
-keeps-there card e number p tei s here at = go (e.line == number) refl
+keeps-there card e number p tei s here at = grind (arith, eqb-true, own, apart, eq-eqb)
   where
     own : get_or (line_at e.line card).management.places p None ≡ Some tei → Stays p tei (line_at e.line (after e card))
     own at =
@@ -48,6 +46,3 @@ keeps-there card e number p tei s here at = go (e.line == number) refl
         let l = line_at e.line card in
         by_room (λ ls a. Stays p tei (get_or ls e.line (fresh_line c))) e card (λ full on. at)
         (λ room. subst (Stays p tei) (sym (get_or-set_same card.lines e.line (line_after c e.what l) (fresh_line c) (omega (arith, s.count, here)))) (keeps c s.config l (line_sound card e.line (has_lines card s) here) p tei at e.what))
-
-    go : (b : Bool) → (e.line == number) ≡ b → Stays p tei (line_at number (after e card))
-    go b is = grind (arith, eqb-true, own, apart, eq-eqb)

@@ -1,5 +1,5 @@
 -- Links take turns, whatever else happens meanwhile: the law.
-use Rattle.laws_trace.proofs.Vocabulary.{◌≡◌, ◌≢◌, ℕ, ◌<◌, ◌==◌, true, false, cond, List, [], ◌∷◌, ◌++◌, Some, refl, sym, ap, ◌∙◌, subst, arith, All, get_or-replicate, All-head, All-tail, Service, sapi_of, Config, Line, fresh_line, tei_at, Card, line_at, at, moments, fresh_is_sound, all-left, all-right, config-stays, link_number, link_in, place_in, has_tei, at-within, place_of-is, number_within, place_at-number, service_at-number, append-nil, append_assoc, option_map_or, list_any, IsSilent, terms, link_at, length, fresh, CardEvent as Event, after, card_answer as answer, after_all, IsAtLine, AreAtLines, CardIsSound as IsSound, always_sound, is_own, Always, seen, trace, frames_begun, IsAmong, IsSpelled, managed_after, fresh_link, All-cons, All-nil, after_all-append}
+use Rattle.laws_trace.proofs.Vocabulary.{◌≡◌, ◌≢◌, ℕ, ◌<◌, ◌==◌, true, false, List, [], ◌∷◌, ◌++◌, Some, refl, sym, ap, ◌∙◌, subst, arith, All, get_or-replicate, All-head, All-tail, Service, sapi_of, Config, Line, fresh_line, tei_at, Card, line_at, at, moments, fresh_is_sound, all-left, all-right, config-stays, link_number, link_in, place_in, has_tei, at-within, place_of-is, number_within, place_at-number, service_at-number, append-nil, append_assoc, option_map_or, list_any, IsSilent, terms, link_at, length, fresh, CardEvent as Event, after, after_all, IsAtLine, AreAtLines, CardIsSound as IsSound, always_sound, is_own, Always, trace, frames_begun, IsAmong, IsSpelled, managed_after, fresh_link, All-cons, All-nil, after_all-append}
 use Rattle.model_line.specs.Sound as line
 use Rattle.laws_trace.specs.TurnsMeanwhile.{IsKeptWaiting, LinksTakeTurnsMeanwhile}
 use Rattle.laws_trace.proofs.Runs.{run-shows}
@@ -103,8 +103,6 @@ module _ (c : Config) (number : ℕ) (ranged : line.IsInRange c) (within : numbe
       walks-one : WaitsMeanwhile before (e ∷ es) → NoneWaits card.config (end before) → WalksOn es (after e card) → WalksOn (e ∷ es) card
       unfolding moments
       walks-one waits plain walk =
-          let shown = cond (e.line == number) (seen e.what (answer e card)) [] in
-          let rest = trace number (moments (after e card) es) in
           let meets = speaks before front (subst Waits (append-nil before) (waits [] e es refl)) p q at in
           grind (arith, names-both, moment-walk, sound-there, here, kept, links_begun)
 

@@ -47,12 +47,6 @@ module _ (c : Config) (one tei other its : ℕ) where
       turned : (number ≡ other) ⊎ (way (number + 1) + 1 ≤ way l.turn) → (other ≡ number) ⊎ (way (number + 1) + 1 ≤ way l.turn)
       turned o = grind arith
 
-  too-near : (a b w : ℕ) → a ≡ b → a + 1 ≤ w → w ≤ b → ⊥
-  too-near a b w e f g = omega (arith, e, f, g)
-
-  nearer : (a w' w b : ℕ) → w' ≡ a → a + 1 ≤ w → w ≤ b → w' ≤ b
-  nearer a w' w b e f g = omega (arith, e, f, g)
-
   -- from the turn behind the one on, the other goes before it goes again
   between-is : one ≢ other → (l : Line) (names : List LinkName) → Walk l names → way l.turn ≤ way (one + 1) → (between behind : List LinkName)
       → names ≡ between ++ name_of one tei ∷ behind → IsAmong (name_of other its) between
@@ -60,21 +54,18 @@ module _ (c : Config) (one tei other its : ℕ) where
   between-is apart k ns (ends l) near (x ∷ between) behind e = absurd (cc e)
   between-is apart k ns (still l m names turn walk) near between behind e = between-is apart m names walk (subst (λ t. way t ≤ way (one + 1)) (sym turn) near) between behind e
   between-is apart k ns (goes l m number by rest h g walk) near [] behind e =
-      let is : name_of number by ≡ name_of one tei = cc e in
-      let same = same-number c l h.sound number one by tei g.on_line h.here is in
+      let same = same-number c l h.sound number one by tei g.on_line h.here (cc e) in
       ⊎_elim (λ equal. absurd (apart (sym same ∙ sym equal)))
-      (λ less. absurd (too-near (way (number + 1)) (way (one + 1)) (way l.turn) (ap (λ n. way (n + 1)) same) less near)) (comes l m number by h g)
+      (λ less. absurd (omega (arith, (ap (λ n. way (n + 1)) same), less, near))) (comes l m number by h g)
   between-is apart k ns (goes l m number by rest h g walk) near (x ∷ between) behind e =
       let head : name_of number by ≡ x = cc e in
-      let tail : rest ≡ between ++ name_of one tei ∷ behind = cc e in
       ⊎_elim
       (λ equal.
       let t : by ≡ its = some-same by its (sym g.on_line ∙ ap (λ n. tei_at (place_at n) l) (sym equal) ∙ h.there.on_line) in
       record { front = []; back = between; split = ap (λ y. y ∷ between) (sym head ∙ ap (λ n. name_of n by) (sym equal) ∙ ap (name_of other) t) })
       (λ less.
-      let inner = between-is apart m rest walk (nearer (way (number + 1)) (way m.turn) (way l.turn) (way (one + 1)) (ap way g.turned) less near) between behind tail in
-      record { front = x ∷ inner.front; back = inner.back; split = ap (λ ys. x ∷ ys) inner.split })
-      (comes l m number by h g)
+      let inner = between-is apart m rest walk (omega (arith, (ap way g.turned), less, near)) between behind (cc e) in
+      record { front = x ∷ inner.front; back = inner.back; split = ap (λ ys. x ∷ ys) inner.split }) (comes l m number by h g)
 
   same-way : (a b : ℕ) → a ≡ b → a ≤ b
   same-way a b e = omega (arith, e)
@@ -85,8 +76,7 @@ module _ (c : Config) (one tei other its : ℕ) where
   take-turns apart k ns (ends l) (x ∷ front) between behind e = absurd (cc e)
   take-turns apart k ns (still l m names turn walk) front between behind e = take-turns apart m names walk front between behind e
   take-turns apart k ns (goes l m number by rest h g walk) (x ∷ front) between behind e =
-      let tail : rest ≡ front ++ name_of one tei ∷ (between ++ name_of one tei ∷ behind) = cc e in
-      take-turns apart m rest walk front between behind tail
+      take-turns apart m rest walk front between behind (cc e)
   take-turns apart k ns (goes l m number by rest h g walk) [] between behind e =
       let is : name_of number by ≡ name_of one tei = cc e in
       let tail : rest ≡ between ++ name_of one tei ∷ behind = cc e in

@@ -12,16 +12,7 @@ pub fresh-none : (c : Config) → NoneWaits c (fresh_line c)
 fresh-none c number few = subst (λ (x : Link). All IsPlain x.waiting) (sym (get_or-replicate (link_count c) number fresh fresh few)) (All-nil IsPlain)
 
 event-none : (c : Config) (e : Event) (l : Line) → IsSound c l → NoneWaits c l → NoneWaits c (after c e l)
-event-none c e l s h number few =
-    elim (event-happens c e l number s few) [
-      | inl same ↦ subst (λ (x : Link). All IsPlain x.waiting) (sym same) (h number few)
-      | inr (inl moved) ↦ subst (λ (x : Link). All IsPlain x.waiting) (sym moved.1) (All-nil IsPlain)
-      | inr (inr one) ↦
-          let t = terms c (service_at number) one.tei in
-          subst (λ (x : Link). All IsPlain x.waiting) (sym one.is)
-          (subst (All IsPlain) (sym (event-follows t one.event (link_at number l)).leaves.waiting)
-          (all-left t _ (link_at number l) _ (h number few)))
-    ]
+event-none c e l s h number few = grind (arith, event-happens, All-nil, event-follows, all-left)
 
 -- The unit data that begins in a trace.
 abbrev pub units_begun : Config → List Seen → List (List ℕ)
@@ -121,8 +112,7 @@ next-passes c l new s h (Some t) (inl x) =
 next-passes c l new s h (Some t) (inr (inl x)) =
     begins c (frames c l) (frames c new) t.frame true
     (ap (is_unit c.side) x.spelled ∙ unit-is c x.unit (first-of c l.units x.unit x.oldest s.units))
-    (sym (ap (λ (l : Line). t.frame ∷ map (unit_frame c) l.units) x.line
-    ∙ ap (λ f. f ∷ map (unit_frame c) (drop 1 l.units)) x.spelled
+    (sym (ap (λ (l : Line). t.frame ∷ map (unit_frame c) l.units) x.line ∙ ap (λ f. f ∷ map (unit_frame c) (drop 1 l.units)) x.spelled
     ∙ first-goes c l.units x.unit x.oldest))
 next-passes c l new s h (Some t) (inr (inr x)) =
     begins c (frames c l) (frames c new) t.frame false (of-link c l new t.frame h x) (ap (λ (l : Line). map (unit_frame c) l.units) x.line)
@@ -148,16 +138,8 @@ steps c ranged e l s h = (event-passes c e l s h, event-none c e l s h)
 pub left-is-waiting : (c : Config) (t : List Seen) (waiting left : List (List ℕ)) → Goes c waiting t left → fold (waits c) waiting t ≡ left
 unfolding Goes
 left-is-waiting c [] waiting left same = sym same
-left-is-waiting c (s ∷ t) waiting left (kept, step, more) = ap (λ ws. fold (waits c) ws t) (one s step) ∙ left-is-waiting c t kept left more
-  where
-    asks : (r : Request) → waits c waiting (granted r) ≡ left_by c r waiting
-    asks r = grind (arith, append-nil)
-
-    goes : (octets : List ℕ) (b : Bool) → Begun b waiting octets kept → cond b (drop 1 waiting) waiting ≡ kept
-    goes octets b is = grind arith
-
-    one : (s : Seen) → Step c waiting s kept → waits c waiting s ≡ kept
-    one s is = grind (arith, goes, asks)
+left-is-waiting c (s ∷ t) waiting left (kept, step, more) =
+    ap (λ ws. fold (waits c) ws t) (grind (arith, append-nil)) ∙ left-is-waiting c t kept left more
 
 -- and of what begins the unit data is the first of them.
 pub begun-first : (c : Config) (fs : List (List ℕ)) (waiting left : List (List ℕ)) → Goes c waiting (map begun fs) left → IsFront (filter (is_unit c.side) fs) waiting

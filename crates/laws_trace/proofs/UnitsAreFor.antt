@@ -1,5 +1,5 @@
 -- Unit data is told of TEIs on the line, or of the group.
-use Rattle.laws_trace.proofs.Vocabulary.{arith, ◌≡◌, ℕ, ◌<◌, ◌==◌, ◌&&◌, ◌||◌, not, Bool, true, false, cond, length, List, ◌∷◌, ◌++◌, Option, Some, None, is_some, refl, sym, ap, ◌∙◌, subst, eq-eqb, true≢false, ◌⊎◌, inl, inr, nat_le, Result, Ok, Err, list_any, option_map_or, and_parts, leb-true, User, ReadFault, Service, Parts, reading, same_service, Config, Answer, hears, group_tei, heard_side, Line, has_tei, state_of, manages, IsInRange, line_at, at, has_lines, by_room, line_sound, notes_of, is_unit_of, eqb-true, IsSound, fresh, CardEvent as Event, card_answer as answer, after_all, AreAtLines, is_unit_for, result_ok, brought, frame_of, its_frame, is_for, managing_is_on as is_on, view_of, is_ui, or-true, stream_frame, StreamEvent}
+use Rattle.laws_trace.proofs.Vocabulary.{arith, ◌≡◌, ℕ, ◌<◌, ◌==◌, ◌&&◌, ◌||◌, not, Bool, true, false, cond, length, List, ◌∷◌, ◌++◌, Option, Some, None, is_some, refl, sym, ap, ◌∙◌, subst, eq-eqb, true≢false, ◌⊎◌, inl, inr, nat_le, Result, Ok, Err, list_any, option_map_or, and_parts, leb-true, User, ReadFault, Service, Parts, reading, same_service, Config, Answer, hears, group_tei, heard_side, Line, has_tei, state_of, manages, IsInRange, line_at, at, has_lines, by_room, line_sound, notes_of, is_unit_of, eqb-true, IsSound, fresh, CardEvent as Event, card_answer as answer, after_all, AreAtLines, is_unit_for, result_ok, brought, its_frame, is_for, managing_is_on as is_on, view_of, is_ui, or-true, stream_frame}
 use Rattle.model_line.specs.Event as line_event
 use Rattle.model_line.specs.Machine as lines
 use Rattle.laws_trace.proofs.Deliveries.{unit-tells, unit-own, none-noted, group-notes}
@@ -92,8 +92,5 @@ module _ (c : Config) (events : List Event) (number : ℕ) (ranged : IsInRange c
           (units-are-told c events number ranged all within service tei octets f before behind split
           (record { read = read; whose = for; control = y.0; size = leb-true (length f.info) c.n201 x.1; there = there y.1 })).0
 
-  by-heard : (e : StreamEvent) (behind : List Event) → events ≡ before ++ at number (hears e) ∷ behind → Comes (its_frame service tei (frame_of c e)) → Told (hears e)
-  by-heard e behind split some = grind (arith, by-frame)
-
   pub units-are : (what : line_event.Event) (behind : List Event) → events ≡ before ++ at number what ∷ behind → Comes (brought c service tei what) → Told what
-  units-are what behind split some = grind (arith, by-heard)
+  units-are what behind split some = grind (arith, by-frame)

@@ -42,8 +42,7 @@ module _ (c : Config) (ranged : IsInRange c) (l : Line) (s : IsSound c l) (servi
   -- to the group
   pub group : c.side ≡ User → tei ≡ 127 → Tells service tei f.info (lines.answer c e l)
   group side all =
-      let x = which-ui f.control ui in
-      let to : IsToGroup c f service = grind (arith, ap service_of whose.0 ∙ its-service service, whose.1 ∙ all) in
+      let to : IsToGroup c f service = grind (arith, ap service_of whose.0 ∙ its-service service, whose.1 ∙ all, which-ui) in
       let is = (group-read c l f octets service s read to).answer_is in (
         ap (λ a. list_any (is_unit_of service tei) (notes_of a)) is ∙ ap (λ b. (b && 127 == tei) || false) (service-same service)
             ∙ ap (λ n. (127 == n) || false) all,

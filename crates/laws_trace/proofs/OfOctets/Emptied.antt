@@ -1,12 +1,11 @@
 -- Where a line was only pulled, as often as the configuration says, the latest call for its next frame gave none.
-use Rattle.laws_trace.proofs.Vocabulary.{◌≡◌, ℕ, zero, suc, ◌+◌, ◌<◌, ◌≤◌, ◌==◌, Bool, true, false, cond, List, [], ◌∷◌, ◌++◌, Option, None, option_map, refl, sym, ap, ◌∙◌, subst, arith, append_assoc, eq-eqb, All, flat_map-append, All-nil, All-cons, All-head, All-tail, Config, NextFrame, taken, next_of, most_frames, HasNothing, Card, line_at, AreTakesAt, takes_at, card-idles, all-left, all-right, config-stays, OctetCard, port_at, calls_answered, moments_meant, pulls_at, pulls_behind, asked_at, refines, pulls_are_takes, fresh_octets_sound, moments-append, eqb-true, answer as line_answer, takes_slot, moments as frame_moments, after_all as frames_after, ports_fresh as fresh, ports_after as after, PortsEvent as Event, PortsAreAtLines as AreAtLines, ports_after_all as after_all, meant_all, EndsInPulls, gave, next, IsInRange, config_stays}
+use Rattle.laws_trace.proofs.Vocabulary.{◌≡◌, ℕ, zero, suc, ◌+◌, ◌<◌, ◌==◌, Bool, true, false, cond, List, [], ◌∷◌, ◌++◌, Option, None, option_map, refl, sym, ap, ◌∙◌, subst, arith, append_assoc, eq-eqb, All, flat_map-append, All-nil, All-cons, All-head, All-tail, Config, NextFrame, taken, next_of, most_frames, HasNothing, Card, line_at, AreTakesAt, takes_at, card-idles, all-left, all-right, config-stays, OctetCard, calls_answered, moments_meant, asked_at, refines, pulls_are_takes, fresh_octets_sound, moments-append, eqb-true, answer as line_answer, takes_slot, moments as frame_moments, after_all as frames_after, ports_fresh as fresh, ports_after as after, PortsEvent as Event, PortsAreAtLines as AreAtLines, ports_after_all as after_all, meant_all, EndsInPulls, gave, next, IsInRange, config_stays}
 use Rattle.model_card.specs.Card as cards
 use Rattle.model_card.specs.Event as frames
 use Rattle.model_card.specs.Machine as machine
 use Rattle.model_card.specs.Run as runs
 use Rattle.model_card.proofs.CardSound as card_sound
 use Rattle.laws_trace.proofs.Drained.{drained}
-use Rattle.model_card.specs.ports.Pulls as pulls
 use Rattle.model_card.specs.ports.Run.{IsAtLine}
 use Rattle.model_card.specs.ports.Sound.{IsSoundOctetCard}
 use Rattle.model_card.proofs.OfPorts.Sound.{always_sound}
@@ -30,37 +29,28 @@ pub record IsLatest (number : ℕ) (fs : List frames.Event) : Type 0 where
 abbrev IsTake : ℕ → frames.Event → Type 0
 IsTake number f = f.line ≡ number → f.what ≡ next
 
-is_next : (number : ℕ) (f : frames.Event) → IsTake number f → f.line ≡ number → f ≡ frames.at number next
-is_next number f h same = let what = h same in λ i. record { line = same i; what = what i }
-
 at_front : (number : ℕ) (f : frames.Event) (fs : List frames.Event) → IsTake number f → takes_at number fs ≡ 0 → 0 < takes_at number (f ∷ fs)
     → (b : Bool) → (f.line == number) ≡ b → IsLatest number (f ∷ fs)
 at_front number f fs h none some true is = record {
   front = [];
   back = fs;
-  split = ap (λ e. e ∷ fs) (is_next number f h (eqb-true f.line number is));
+  split = λ i. record { line = eqb-true f.line number is i; what = h (eqb-true f.line number is) i } ∷ fs;
   only = All-nil (IsTake number);
   none = none;
   count = ap (λ b. cond b 1 0 + takes_at number fs) is ∙ ap (λ n. 1 + n) none;
 }
-at_front number f fs h none some false is =
-    let never : 0 < 0 + takes_at number fs = subst (λ b. 0 < cond b 1 0 + takes_at number fs) is some in
-    absurd (omega (arith, never, none))
+at_front number f fs h none some false is = absurd (omega (arith, subst (λ b. 0 < cond b 1 0 + takes_at number fs) is some, none))
 
 behind_one : (number : ℕ) (f : frames.Event) (fs : List frames.Event) → IsTake number f → IsLatest number fs → IsLatest number (f ∷ fs)
 behind_one number f fs h x =
-    let counted : takes_at number fs ≡ 1 + takes_at number x.front = x.count in
     record {
       front = f ∷ x.front;
       back = x.back;
       split = ap (λ es. f ∷ es) x.split;
       only = All-cons (IsTake number) f x.front h x.only;
       none = x.none;
-      count = go (f.line == number) counted;
+      count = grind arith;
     }
-  where
-    go : (b : Bool) → takes_at number fs ≡ 1 + takes_at number x.front → cond b 1 0 + takes_at number fs ≡ 1 + (cond b 1 0 + takes_at number x.front)
-    go b counted = grind arith
 
 latest : (number : ℕ) (fs : List frames.Event) → AreTakesAt number fs → 0 < takes_at number fs → IsLatest number fs
 latest number [] only some = absurd (omega (arith, some))
@@ -91,11 +81,6 @@ call_gives_none : (number : ℕ) (card : Card) (back : List frames.Event) → ta
     → calls_answered number (runs.moments card (frames.at number next ∷ back)) ≡ None ∷ []
 unfolding frame_moments
 call_gives_none number card back nothing none = grind (arith, asked_at, eq-eqb, gives_none, none_behind)
-
-gave_none : (number : ℕ) (card : Card) (front back : List frames.Event) → let there = runs.after_all card front in
-    taken there.config (line_at number there) ≡ None → takes_at number back ≡ 0
-    → calls_answered number (runs.moments card (front ++ frames.at number next ∷ back)) ≡ calls_answered number (runs.moments card front) ++ None ∷ []
-gave_none number card front back nothing none = grind (arith, moments-append, flat_map-append, call_gives_none)
 
 -- ---- of a line that was only pulled
 
@@ -134,13 +119,7 @@ module _ (c : Config) (events : List Event) (number : ℕ) (ranged : IsInRange c
   only = pulls_are_takes.only m h.pulls number h.only
 
   pub many : most_frames c < takes_at number calls
-  many =
-      let most : pulls_behind c.n201 (port_at number m) (most_frames c) ≤ pulls.most_pulls_behind c.n201 (most_frames c) =
-      pulls_are_takes.most c h.before number ranged before_lines within (most_frames c) in
-      let enough : pulls.most_pulls_behind c.n201 (most_frames c) ≤ pulls_at number h.pulls = h.enough in
-      let pulled : pulls_behind m.card.config.n201 (port_at number m) (most_frames c) ≤ pulls_at number h.pulls =
-      subst (λ (x : Config). pulls_behind x.n201 (port_at number m) (most_frames c) ≤ pulls_at number h.pulls) (sym same) (omega (arith, most, enough)) in
-      pulls_are_takes.enough m h.pulls number (most_frames c) sound lines few h.only pulled
+  many = grind (arith, pulls_are_takes, before_lines, same, sound, lines, few)
 
   pub x : IsLatest number calls
   x = let some = many in latest number calls only (omega (arith, some))
@@ -160,10 +139,7 @@ module _ (c : Config) (events : List Event) (number : ℕ) (ranged : IsInRange c
   there = runs.after_all (cards.fresh c) front
 
   nothing : HasNothing c (line_at number there)
-  nothing =
-      let counted : takes_at number calls ≡ 1 + takes_at number x.front = x.count in
-      let most : most_frames c < takes_at number calls = many in
-      drained c front number ranged front_lines within first x.front refl x.only (omega (arith, counted, most))
+  nothing = drained c front number ranged front_lines within first x.front refl x.only (omega (arith, x, many))
 
   none : taken there.config (line_at number there) ≡ None
   unfolding frames_after
@@ -177,6 +153,4 @@ module _ (c : Config) (events : List Event) (number : ℕ) (ranged : IsInRange c
   before_none = calls_answered number (runs.moments (cards.fresh c) front)
 
   pub latest_gave_none : calls_answered number (moments_meant c events) ≡ before_none ++ None ∷ []
-  latest_gave_none =
-      ap (λ fs. calls_answered number (runs.moments (cards.fresh c) fs)) whole
-      ∙ gave_none number (cards.fresh c) front x.back none x.none
+  latest_gave_none = grind (arith, whole, moments-append, flat_map-append, call_gives_none, x, none)

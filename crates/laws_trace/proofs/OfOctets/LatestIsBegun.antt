@@ -1,5 +1,5 @@
 -- A card of octets tells the frame that a pull of a line began last: the law.
-use Rattle.laws_trace.proofs.Vocabulary.{◌≡◌, ℕ, ◌<◌, List, [], ◌∷◌, length, refl, arith, fold, length-replicate, or_later, Item, idle, frames_among, OfEachLine, fresh_port, run_goes_on, fresh_at, ports_fresh as fresh}
+use Rattle.laws_trace.proofs.Vocabulary.{◌≡◌, ℕ, List, [], ◌∷◌, refl, arith, fold, length-replicate, or_later, Item, idle, frames_among, OfEachLine, fresh_port, run_goes_on, fresh_at, ports_fresh as fresh}
 use Rattle.model_bits.specs.Sent.{frame}
 use Rattle.laws_trace.specs.octets.LatestIsBegun.{later_of, LatestIsBegun}
 
@@ -11,6 +11,4 @@ of_frames latest (frame octets ∷ items) = of_frames octets items
 
 pub latest-is-begun : OfEachLine LatestIsBegun
 latest-is-begun c events number ranged all within =
-    let inside : number < length (fresh c).ports = omega (arith, within, length-replicate c.lines fresh_port) in
-    let goes = run_goes_on (fresh c) events number inside in
-    grind (arith, fresh_at, of_frames)
+    grind (arith, fresh_at, of_frames, run_goes_on (fresh c) events number (omega (arith, within, length-replicate c.lines fresh_port)))

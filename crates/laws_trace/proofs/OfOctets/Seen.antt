@@ -1,5 +1,5 @@
 -- What an observer sees of the events of frames that events of octets mean, in the words of ports.
-use Rattle.laws_trace.proofs.Vocabulary.{arith, ◌≡◌, ℕ, ◌==◌, Bool, cond, List, [], ◌∷◌, ◌++◌, map, option_map, refl, sym, ap, ◌∙◌, append-nil, All, flat_map, option_to_list, flat_map-append, All-nil, All-cons, All-head, All-tail, All-append, AreOctets, Card, OctetCard, port_at, answer_to, frame_moment, meant_in, frames_given, HearsOctets, Port, given_in, answer_of, meant_all, asked_at, gives_at_next, refines, answer as line_answer, Request, moments as frame_moments, contents_given, GivesOctets, Seen, seen, seen_told, seen_granted, seen_in, trace, frames_begun, ports_after as after, meant, PortsEvent as Event, if_granted, request_granted, requests_of, HasOctets, trace_begun as begun, granted, heard, lost, trace_noted as noted, octets_of, at, CardEvent}
+use Rattle.laws_trace.proofs.Vocabulary.{arith, ◌≡◌, ℕ, ◌==◌, cond, List, [], ◌∷◌, ◌++◌, map, option_map, refl, sym, ap, ◌∙◌, append-nil, All, flat_map, option_to_list, flat_map-append, All-nil, All-cons, All-head, All-tail, All-append, AreOctets, Card, OctetCard, port_at, answer_to, frame_moment, meant_in, frames_given, HearsOctets, Port, given_in, answer_of, meant_all, asked_at, gives_at_next, refines, answer as line_answer, Request, moments as frame_moments, contents_given, GivesOctets, Seen, seen, seen_told, seen_granted, seen_in, trace, frames_begun, ports_after as after, meant, PortsEvent as Event, if_granted, request_granted, requests_of, HasOctets, trace_begun as begun, granted, heard, lost, trace_noted as noted, octets_of, at, CardEvent}
 use Rattle.model_line.specs.Event as line
 use Rattle.model_card.specs.Machine as machine
 use Rattle.model_card.specs.Run as runs
@@ -44,22 +44,16 @@ in_trace : (number : ℕ) (ms : List runs.Moment) → requests_seen (trace numbe
 in_trace number [] = refl
 in_trace number (m ∷ ms) = flat_map-append request_seen (seen_in number m) (trace number ms) ∙ ap (λ rs. seen_at number m ++ rs) (in_trace number ms)
 
-none_asked : (a : line.Answer) → requests_seen (seen_told a) ≡ []
-none_asked a = grind arith
-
 -- a request is answered by what it is told, or refused
 by_request : (card : Card) (n : ℕ) (r : Request) → let a = asked_at card n (line.request r) in requests_seen (seen_granted r a ++ seen_told a) ≡ if_granted r (answer_of a)
 unfolding line_answer
 by_request card n r = grind arith
 
-at_line : (b : Bool) (t : List Seen) (rs : List Request) → requests_seen t ≡ rs → requests_seen (cond b t []) ++ [] ≡ cond b rs []
-at_line b t rs h = grind (arith, append-nil)
-
 -- what one event of octets means
 by_meaning : (number n n201 : ℕ) (m : OctetCard) (what : port.Event) (p : Port) → let o = option_map (at n) (port.meant n201 what p) in
     flat_map (seen_at number) (option_to_list (option_map (frame_moment m) o))
     ≡ cond (n == number) (request_granted what (port.answer what (option_map (answer_to m.card) o) p)) []
-by_meaning number n n201 m what p = grind (arith, option_map, asked_at, at_line, none_asked, by_request)
+by_meaning number n n201 m what p = grind (arith, option_map, asked_at, append-nil, by_request)
 
 abbrev here : OctetCard → Event → Moment
 here m e = record { card = m; event = e; answer = answer e m }
@@ -76,8 +70,7 @@ by_octets number m (e ∷ events) = grind (arith, by_octets number (after e m) e
 pub requests_are : (number : ℕ) (m : OctetCard) (events : List Event)
     → requests_seen (trace number (runs.moments m.card (meant_all m events))) ≡ flat_map (requests_of number) (moments m events)
 requests_are number m events =
-    in_trace number (runs.moments m.card (meant_all m events))
-    ∙ ap (flat_map (seen_at number)) (sym (refines m events).moments)
+    in_trace number (runs.moments m.card (meant_all m events)) ∙ ap (flat_map (seen_at number)) (sym (refines m events).moments)
     ∙ by_octets number m events
 
 -- ---- what is heard, and the contents that are granted, are octets
@@ -86,9 +79,6 @@ abbrev pub HearsIn : Seen → Type 0
 HearsIn (heard e) = HasOctets e
 HearsIn other = Unit {0}
 
-event_hears : (b : Bool) (what : line.Event) (a : line.Answer) → HearsOctets what → All HearsIn (cond b (seen what a) [])
-event_hears b what a h = grind arith
-
 abbrev pub HearsAt : CardEvent → Type 0
 HearsAt f = HearsOctets f.what
 
@@ -96,21 +86,17 @@ pub trace_hears : (number : ℕ) (card : Card) (fs : List CardEvent) → All Hea
 unfolding frame_moments
 trace_hears number card [] h = All-nil HearsIn
 trace_hears number card (f ∷ fs) h =
-    All-append HearsIn (seen_in number (there card f)) (trace number (runs.moments (machine.after f card) fs))
-    (event_hears (f.line == number) f.what (machine.answer f card) (All-head HearsAt f fs h))
+    All-append HearsIn (seen_in number (there card f)) (trace number (runs.moments (machine.after f card) fs)) (grind (arith, All-head))
     (trace_hears number (machine.after f card) fs (All-tail HearsAt f fs h))
 
 pub gives : (t : List Seen) → All HearsIn t → All AreOctets (map contents_given (requests_seen t)) → All GivesOctets t
 gives [] h k = All-nil GivesOctets
-gives (heard e ∷ t) h k =
-    All-cons GivesOctets (heard e) t (All-head HearsIn (heard e) t h) (gives t (All-tail HearsIn (heard e) t h) k)
-gives (begun octets ∷ t) h k =
-    All-cons GivesOctets (begun octets) t tt (gives t (All-tail HearsIn (begun octets) t h) k)
+gives (heard e ∷ t) h k = All-cons GivesOctets (heard e) t (All-head HearsIn (heard e) t h) (gives t (All-tail HearsIn (heard e) t h) k)
+gives (begun octets ∷ t) h k = All-cons GivesOctets (begun octets) t tt (gives t (All-tail HearsIn (begun octets) t h) k)
 gives (noted notes contents ∷ t) h k =
     All-cons GivesOctets (noted notes contents) t tt (gives t (All-tail HearsIn (noted notes contents) t h) k)
 gives (granted r ∷ t) h k =
     let rest = map contents_given (requests_seen t) in
     All-cons GivesOctets (granted r) t (All-head AreOctets (contents_given r) rest k)
     (gives t (All-tail HearsIn (granted r) t h) (All-tail AreOctets (contents_given r) rest k))
-gives (lost n ∷ t) h k =
-    All-cons GivesOctets (lost n) t tt (gives t (All-tail HearsIn (lost n) t h) k)
+gives (lost n ∷ t) h k = All-cons GivesOctets (lost n) t tt (gives t (All-tail HearsIn (lost n) t h) k)

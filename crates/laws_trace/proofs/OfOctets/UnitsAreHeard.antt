@@ -69,10 +69,8 @@ module _ (c : Config) (events : List Event) (number : ℕ) (ranged : IsInRange c
         fronts = mapped parts.before asks.earlier parts.fronts;
         all =
             ap (λ es. filter (is_unit c.side) (flat_map whole_frame es)) (sym (all-frames-go-out c events number ranged all within h))
-            ∙ ap (filter (is_unit c.side)) (heard_again (map as_octets given))
-            ∙ (grind (arith, same_units, spelled, begun))
-            ∙ ap (map as_octets) parts.begun_is
-            ∙ map-append as_octets parts.before parts.since
+            ∙ ap (filter (is_unit c.side)) (heard_again (map as_octets given)) ∙ (grind (arith, same_units, spelled, begun))
+            ∙ ap (map as_octets) parts.begun_is ∙ map-append as_octets parts.before parts.since
             ∙ ap (λ xs. map as_octets parts.before ++ map as_octets xs) (sym (append-nil parts.since) ∙ ap (λ ws. parts.since ++ ws) (sym none) ∙ parts.waits);
       }
 

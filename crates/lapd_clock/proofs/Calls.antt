@@ -5,7 +5,7 @@ use Rattle.lapd_clock.proofs.StandsFor.{in_order-stopped, in_order-restarted, co
 use Rattle.lapd_clock.proofs.Running.{finds_place-without, without-no_place, with_order_sound, after_due_sound, stop_in_time, start_in_time}
 use Rattle.lapd_clock.proofs.Once.{line-once}
 use Rattle.lapd_clock.proofs.First.{leads_set, length-firsts, from_line-none, before_itself}
-use Rattle.lapd_clock.proofs.Earliest.{moments, earliest_few, earliest-of_set, all_from_earliest, none_earlier, first-in_order}
+use Rattle.lapd_clock.proofs.Earliest.{earliest_few, earliest-of_set, all_from_earliest, none_earlier, first-in_order}
 
 -- ---- lines one by one
 
@@ -100,9 +100,6 @@ pub record NoneDue (es : List Expiry) (now : ℕ) : Type 0 where
   pub same : after_first_due es now ≡ es
   pub later : All (λ held. now < held.moment) es
 
-pub no_first : (es : List Expiry) (now : ℕ) → first_moment es ≡ None → NoneDue es now
-no_first es now e = grind (arith, none-some)
-
 pub first_later : (es : List Expiry) (now moment : ℕ) → IsInOrder is_before es → first_moment es ≡ Some moment → now < moment → NoneDue es now
 first_later [] now moment ordered e h = absurd (none-some moment e)
 first_later (x ∷ xs) now moment ordered e h =
@@ -117,24 +114,17 @@ module _ (ls : Lengths) (places : ℕ) (firsts : List ℕ) (lines : List Line) (
   ordered : IsInOrder is_before t.running
   ordered = subst (λ (c : Timers). IsInOrder is_before c.running) view kept.sound.in_order
 
-  earliest_moment : earliest (moments t.running) ≡ earliest firsts
-  earliest_moment = ap (λ (c : Timers). earliest (moments c.running)) (sym view) ∙ earliest-of_set lines ∙ ap earliest (sym kept.at_hand)
-
-  -- the earliest of the firsts is when the first timer falls due, if one runs
-  next_by_firsts : next_moment t ≡ cond (earliest firsts == never) None (Some (earliest firsts))
-  next_by_firsts = grind (arith, first-in_order, ordered, earliest_moment)
-
   pub no_next : earliest firsts ≡ never → next_moment t ≡ None
-  no_next h = next_by_firsts ∙ ap (λ b. cond b None (Some (earliest firsts))) (eq-eqb (earliest firsts) never h)
+  no_next h = grind (arith, eq-eqb, never, first-in_order, ordered, earliest-of_set)
 
   pub next_is : (earliest firsts ≡ never → ⊥) → next_moment t ≡ Some (earliest firsts)
-  next_is h = next_by_firsts ∙ ap (λ b. cond b None (Some (earliest firsts))) (ne_eqb (earliest firsts) never h)
+  next_is h = grind (arith, ne_eqb, never, first-in_order, ordered, earliest-of_set)
 
   pub all_no_earlier : All (λ held. earliest firsts ≤ held.moment) t.running
-  all_no_earlier = All-from_recursion (λ held. earliest firsts ≤ held.moment) t.running (all_from_earliest (earliest firsts) t.running (omega (arith, earliest_moment)))
+  all_no_earlier = All-from_recursion (λ held. earliest firsts ≤ held.moment) t.running (all_from_earliest (earliest firsts) t.running (grind (arith, earliest-of_set)))
 
   pub none_due : (now : ℕ) → next_moment t ≡ None → NoneDue t.running now
-  none_due now h = no_first t.running now h
+  none_due now h = grind (arith, none-some)
 
   pub not_due : (now moment : ℕ) → next_moment t ≡ Some moment → now < moment → NoneDue t.running now
   not_due now moment h early = first_later t.running now moment ordered h early

@@ -1,5 +1,5 @@
 -- The earliest moment of the set is that of the firsts of the lines.
-use Rattle.lapd_clock.proofs.Vocabulary.{◌≡◌, ℕ, ◌+◌, false, ◌<◌, ◌≤◌, min, cond, ◌==◌, List, [], ◌∷◌, ◌++◌, map, map-append, None, Some, refl, ap, ◌∙◌, subst, arith, nat_tests, AllByRecursion, IsInOrder, put_in_order, Expiry, is_before, first_moment, Held, Line, on_line, from_line, in_order, never, earliest, earliest_of, firsts_of}
+use Rattle.lapd_clock.proofs.Vocabulary.{◌≡◌, ℕ, ◌+◌, false, ◌<◌, ◌≤◌, min, cond, ◌==◌, List, [], ◌∷◌, ◌++◌, map, map-append, None, Some, refl, ap, ◌∙◌, subst, arith, nat_tests, AllByRecursion, IsInOrder, put_in_order, Expiry, is_before, first_moment, Held, Line, on_line, from_line, in_order, never, earliest, firsts_of}
 use Rattle.lapd_clock.proofs.Ordered.{by_place}
 use Rattle.lapd_clock.proofs.First.{no_earlier}
 
@@ -33,11 +33,7 @@ moments-on_line k (h ∷ hs) = ap (λ ms. h.moment ∷ ms) (moments-on_line k hs
 earliest-from_line : (i : ℕ) (lines : List Line) → earliest (moments (from_line i lines)) ≡ earliest (firsts_of lines)
 unfolding from_line
 earliest-from_line i [] = refl
-earliest-from_line i (v ∷ vs) =
-    ap earliest (map-append (λ (e : Expiry). e.moment) (on_line i v.items) (from_line (i + 1) vs))
-    ∙ earliest-append (moments (on_line i v.items)) (moments (from_line (i + 1) vs))
-    ∙ ap (λ m. min m (earliest (moments (from_line (i + 1) vs)))) (ap earliest (moments-on_line i v.items))
-    ∙ ap (min (earliest_of v.items)) (earliest-from_line (i + 1) vs)
+earliest-from_line i (v ∷ vs) = grind (arith, map-append, earliest-append, moments-on_line, (earliest-from_line (i + 1) vs))
 
 pub earliest-of_set : (lines : List Line) → earliest (moments (in_order (from_line 0 lines))) ≡ earliest (firsts_of lines)
 earliest-of_set lines = earliest-in_order (from_line 0 lines) ∙ earliest-from_line 0 lines

@@ -1,5 +1,5 @@
 -- The first timer of all lines.
-use Rattle.lapd_clock.proofs.Vocabulary.{◌≡◌, ℕ, suc, ◌+◌, ◌<◌, ◌≤◌, false, List, [], ◌∷◌, ◌++◌, length, length-map, replicate, get_or, set, refl, sym, ap, ◌∙◌, subst, arith, inl, inr, cases_lt, cases_order, get_or_default, get_or-map, Ordering, Greater, AllByRecursion, nat_lt, nat_cmp, ordering_then, is_lt, nat_tests, tied_itself, timer_cmp, Expiry, is_before, Held, Line, held_before, expiry_on, on_line, from_line, in_order, IsWith, never, earliest, earliest_of, firsts_of}
+use Rattle.lapd_clock.proofs.Vocabulary.{◌≡◌, ℕ, suc, ◌+◌, ◌<◌, ◌≤◌, false, List, [], ◌∷◌, ◌++◌, length, length-map, replicate, get_or, set, refl, sym, ap, ◌∙◌, subst, arith, inl, inr, cases_lt, cases_order, get_or_default, get_or-map, Ordering, Greater, AllByRecursion, nat_lt, nat_cmp, ordering_then, is_lt, nat_tests, tied_itself, Expiry, is_before, Held, Line, held_before, expiry_on, on_line, from_line, in_order, IsWith, never, earliest, earliest_of, firsts_of}
 use Rattle.lapd_clock.proofs.Ordered.{All-append, All-put_in_order, All-from_put_in_order, put_in_order-first}
 use Rattle.lapd_clock.proofs.TimerOrder.{expiry_total}
 use Rattle.lapd_clock.proofs.Knockout.{earliest_least}
@@ -12,13 +12,6 @@ greater x y h = grind (arith, nat_tests)
 -- a number that is not less leaves it to what comes next
 not_less : (x y : ℕ) (o : Ordering) → y ≤ x → is_lt o ≡ false → is_lt (ordering_then (nat_cmp x y) o) ≡ false
 not_less x y o h e = grind (arith, nat_lt, nat_tests)
-
--- what falls due at a later moment does not go first, nor does what falls due no earlier on a later line
-later_moment : (a b : Expiry) → b.moment < a.moment → is_before a b ≡ false
-later_moment a b h = ap (λ o. is_lt (ordering_then o (ordering_then (nat_cmp a.line b.line) (timer_cmp a.timer b.timer)))) (greater a.moment b.moment h)
-
-later_line : (a b : Expiry) → b.moment ≤ a.moment → b.line < a.line → is_before a b ≡ false
-later_line a b h k = not_less a.moment b.moment _ h (ap (λ o. is_lt (ordering_then o (timer_cmp a.timer b.timer))) (greater a.line b.line k))
 
 -- nothing goes before itself
 pub before_itself : (e : Expiry) → is_before e e ≡ false
@@ -64,10 +57,7 @@ earliest-at_least : (k : ℕ) (held : Held) (hs : List Held) → AllByRecursion 
 earliest-at_least k held [] all soon = absurd (omega (arith, soon))
 earliest-at_least k held (x ∷ xs) all soon =
     let here : held.moment ≤ x.moment = no_earlier (expiry_on k x) (expiry_on k held) (same_line k x held ∙ all.0) in
-    elim (cases_lt (earliest_of xs) never) as (λ _. held.moment ≤ earliest_of (x ∷ xs)) [
-      | inl some ↦ omega (arith, here, earliest-at_least k held xs all.1 some)
-      | inr none ↦ omega (arith, here, none, soon)
-    ]
+    grind (arith, cases_lt, never, (earliest-at_least k held xs all.1))
 
 pub length-firsts : (lines : List Line) → length (firsts_of lines) ≡ length lines
 length-firsts lines = length-map lines (λ (w : Line). earliest_of w.items)
@@ -91,7 +81,7 @@ module _ (lines : List Line) (line : ℕ) (held : Held) (u v : Line) (within : l
   -- none of a line before goes before it, none of its own, and none of a line behind
   lower : (k : ℕ) (hs : List Held) → AllByRecursion (λ h. held.moment + 1 ≤ h.moment) hs → AllByRecursion (λ h. is_before (expiry_on k h) e ≡ false) hs
   lower k [] all = tt
-  lower k (x ∷ xs) all = (later_moment (expiry_on k x) e (omega (arith, all.0)), lower k xs all.1)
+  lower k (x ∷ xs) all = grind (arith, e, greater, (lower k xs all.1))
 
   same : (hs : List Held) → AllByRecursion (λ h. held_before h held ≡ false) hs → AllByRecursion (λ h. is_before (expiry_on line h) e ≡ false) hs
   same [] all = tt
@@ -99,7 +89,7 @@ module _ (lines : List Line) (line : ℕ) (held : Held) (u v : Line) (within : l
 
   higher : (k : ℕ) (hs : List Held) → line < k → AllByRecursion (λ h. held.moment ≤ h.moment) hs → AllByRecursion (λ h. is_before (expiry_on k h) e ≡ false) hs
   higher k [] above all = tt
-  higher k (x ∷ xs) above all = (later_line (expiry_on k x) e all.0 above, higher k xs above all.1)
+  higher k (x ∷ xs) above all = grind (arith, e, not_less, greater, (higher k xs above all.1))
 
   each : (k : ℕ) (d : Line) → k < length lines → AllByRecursion (λ h. is_before (expiry_on k h) e ≡ false) (get_or lines k d).items
   each k d there =

@@ -1,5 +1,5 @@
 -- The timers of one line, in their places.
-use Rattle.lapd_clock.proofs.Vocabulary.{◌≡◌, ℕ, zero, suc, ◌+◌, ◌<◌, ◌≤◌, true, false, cond, not, ◌==◌, List, [], ◌∷◌, ◌++◌, length, get_or, set, take, drop, remove, append-nil, refl, sym, ap, ◌∙◌, subst, arith, All, AllByRecursion, HoldsAt, All-from_recursion, recursion_from_All, nat_tests, set_split, set-get_or, length-remove, eq_by_cmp_equiv, get_or_default, IsFirstBest, IsFirstBest-takes, IsFirstBest-keeps, Timer, is_same, Held, held_before, all_but, IsEachOnce, IsWith}
+use Rattle.lapd_clock.proofs.Vocabulary.{◌≡◌, ℕ, zero, suc, ◌+◌, ◌<◌, ◌≤◌, true, false, cond, not, ◌==◌, List, [], ◌∷◌, ◌++◌, length, get_or, set, take, drop, remove, append-nil, refl, sym, ap, ◌∙◌, arith, All, AllByRecursion, HoldsAt, All-from_recursion, recursion_from_All, nat_tests, set_split, set-get_or, length-remove, eq_by_cmp_equiv, get_or_default, IsFirstBest, IsFirstBest-takes, IsFirstBest-keeps, Timer, is_same, Held, held_before, all_but, IsEachOnce, IsWith}
 use Rattle.lapd_clock.proofs.TimerOrder.{timer_total, held_order}
 
 -- what is not the same as one of two that are the same is not the same as the other
@@ -16,9 +16,6 @@ all_others b t (x ∷ xs) h none = (same_as x.timer b t h ∙ none.0, all_others
 none_out : (t : Timer) (hs : List Held) → AllByRecursion (λ h. is_same h.timer t ≡ false) hs → all_but t hs ≡ hs
 none_out t [] none = refl
 none_out t (x ∷ xs) none = ap (λ b. cond (not b) (x ∷ all_but t xs) (all_but t xs)) none.0 ∙ ap (λ hs. x ∷ hs) (none_out t xs none.1)
-
-pub all_but-none : (t : Timer) (hs : List Held) → All (λ h. is_same h.timer t ≡ false) hs → all_but t hs ≡ hs
-all_but-none t hs none = none_out t hs (recursion_from_All (λ h. is_same h.timer t ≡ false) hs none)
 
 -- and one that runs all but that in its place
 pub all_but-at : (t : Timer) (hs : List Held) (p : ℕ) → p < length hs → HoldsAt (λ h. is_same h.timer t ≡ true) hs p → IsEachOnce hs → all_but t hs ≡ remove hs p
@@ -38,7 +35,7 @@ pub found_at : (t : Timer) (hs seen : List Held) (p : ℕ) → seen ≡ hs → p
 found_at t hs seen p same within at once = grind (arith, all_but-at)
 
 pub not_found : (t : Timer) (hs seen : List Held) → seen ≡ hs → All (λ h. is_same h.timer t ≡ false) seen → all_but t hs ≡ hs
-not_found t hs seen same none = all_but-none t hs (subst (All (λ h. is_same h.timer t ≡ false)) same none)
+not_found t hs seen same none = grind (arith, is_same, none_out, recursion_from_All)
 
 -- a line with a timer at a place, with one more behind all, and what one is taken out of
 pub with_set : (held : Held) (hs : List Held) (p : ℕ) → p < length hs → IsWith held (remove hs p) (set hs p held)

@@ -16,11 +16,7 @@ All-append P [] ys h k = k
 All-append P (x ∷ xs) ys h k = (h.0, All-append P xs ys h.1 k)
 
 module _ {X : Type 0} (before : X → X → Bool) where
-  -- an element that comes before x stays in front of it,
-  pub put_in_order-after : (x y : X) (ys : List X) → before y x ≡ true → put_in_order before x (y ∷ ys) ≡ y ∷ put_in_order before x ys
-  put_in_order-after x y ys e = ap (λ b. cond b (y ∷ put_in_order before x ys) (x ∷ y ∷ ys)) e
-
-  -- and x goes in front of any other
+  -- x goes in front of an element that does not come before x
   pub put_in_order-here : (x y : X) (ys : List X) → before y x ≡ false → put_in_order before x (y ∷ ys) ≡ x ∷ y ∷ ys
   put_in_order-here x y ys e = ap (λ b. cond b (y ∷ put_in_order before x ys) (x ∷ y ∷ ys)) e
 
@@ -36,19 +32,16 @@ module _ {X : Type 0} (before : X → X → Bool) where
   -- what holds of all holds with one more in its place, and without it again
   pub All-put_in_order : (P : X → Type 0) (x : X) (ys : List X) → P x → AllByRecursion P ys → AllByRecursion P (put_in_order before x ys)
   All-put_in_order P x [] p h = (p, tt)
-  All-put_in_order P x (y ∷ ys) p h =
-      by_place x y ys (AllByRecursion P) (λ _. (h.0, All-put_in_order P x ys p h.1)) (λ _. (p, h))
+  All-put_in_order P x (y ∷ ys) p h = grind (arith, by_place, (All-put_in_order P x ys p h.1))
 
   pub All-from_put_in_order : (P : X → Type 0) (x : X) (ys : List X) → AllByRecursion P (put_in_order before x ys) → AllByRecursion P ys
   All-from_put_in_order P x [] = λ _. tt
-  All-from_put_in_order P x (y ∷ ys) =
-      by_place x y ys (λ zs. AllByRecursion P zs → AllByRecursion P (y ∷ ys)) (λ _ h. (h.0, All-from_put_in_order P x ys h.1)) (λ _ h. h.1)
+  All-from_put_in_order P x (y ∷ ys) = grind (arith, by_place, (All-from_put_in_order P x ys))
 
   -- so of x itself
   pub All-own : (P : X → Type 0) (x : X) (ys : List X) → AllByRecursion P (put_in_order before x ys) → P x
   All-own P x [] = λ h. h.0
-  All-own P x (y ∷ ys) =
-      by_place x y ys (λ zs. AllByRecursion P zs → P x) (λ _ h. All-own P x ys h.1) (λ _ h. h.0)
+  All-own P x (y ∷ ys) = grind (arith, by_place, (All-own P x ys))
 
   one_more : (n : ℕ) → 1 + n ≡ suc n
   one_more n = omega arith
@@ -79,34 +72,18 @@ module _ {X : Type 0} (before : X → X → Bool) where
     -- an element in its place keeps the order
     pub IsInOrder-put_in_order : (x : X) (ys : List X) → IsInOrder before ys → IsInOrder before (put_in_order before x ys)
     IsInOrder-put_in_order x [] h = (tt, tt)
-    IsInOrder-put_in_order x (y ∷ ys) h =
-        by_place x y ys (IsInOrder before)
-        (λ e. (All-put_in_order (λ z. before z y ≡ false) x ys (order.one_way y x e) h.0, IsInOrder-put_in_order x ys h.1))
-        (λ e. ((e, all_chain x y ys e h.0), h))
+    IsInOrder-put_in_order x (y ∷ ys) h = grind (arith, by_place, All-put_in_order, all_chain, (IsInOrder-put_in_order x ys h.1))
 
     -- a filter keeps the order,
     pub IsInOrder-filter : (p : X → Bool) (ys : List X) → IsInOrder before ys → IsInOrder before (filter p ys)
     IsInOrder-filter p [] h = tt
-    IsInOrder-filter p (y ∷ ys) h =
-        elim (p y) as (λ b. IsInOrder before (cond b (y ∷ filter p ys) (filter p ys))) [
-          | true ↦ (All-filter (λ z. before z y ≡ false) p ys h.0, IsInOrder-filter p ys h.1)
-          | false ↦ IsInOrder-filter p ys h.1
-        ]
+    IsInOrder-filter p (y ∷ ys) h = grind (arith, All-filter, (IsInOrder-filter p ys h.1))
 
     -- and drops x, or keeps it in its place
     pub filter-put_in_order : (p : X → Bool) (x : X) (ys : List X) → IsInOrder before ys → filter p (put_in_order before x ys) ≡ cond (p x) (put_in_order before x (filter p ys)) (filter p ys)
     filter-put_in_order p x [] h = refl
     filter-put_in_order p x (y ∷ ys) h =
-        by_place x y ys (λ zs. filter p zs ≡ cond (p x) (put_in_order before x (filter p (y ∷ ys))) (filter p (y ∷ ys)))
-        (λ e. rw (filter-put_in_order p x ys h.1) (
-        elim (p y) as (λ b. cond b (y ∷ cond (p x) (put_in_order before x (filter p ys)) (filter p ys)) (cond (p x) (put_in_order before x (filter p ys)) (filter p ys)) ≡ cond (p x) (put_in_order before x (cond b (y ∷ filter p ys) (filter p ys))) (cond b (y ∷ filter p ys) (filter p ys))) [
-          | true ↦ elim (p x) as (λ c. y ∷ cond c (put_in_order before x (filter p ys)) (filter p ys) ≡ cond c (put_in_order before x (y ∷ filter p ys)) (y ∷ filter p ys)) [
-            | true ↦ sym (put_in_order-after x y (filter p ys) e)
-            | false ↦ refl
-          ]
-          | false ↦ refl
-        ]))
-        (λ e. ap (λ zs. cond (p x) zs (filter p (y ∷ ys))) (sym (put_in_order-first x (filter p (y ∷ ys)) (All-filter (λ z. before z x ≡ false) p (y ∷ ys) (e, all_chain x y ys e h.0)))))
+        grind (arith, by_place, put_in_order-first, All-filter, all_chain, (filter-put_in_order p x ys h.1))
 
     module _ (same : (x y : X) → before x y ≡ false → before y x ≡ false → x ≡ y) where
       -- two that both go to the front: the earlier one goes there
@@ -115,23 +92,9 @@ module _ {X : Type 0} (before : X → X → Bool) where
 
       -- x goes behind z, and y in front of it
       between : (x y z : X) (zs : List X) → before z x ≡ true → before z y ≡ false → put_in_order before x (put_in_order before y (z ∷ zs)) ≡ put_in_order before y (put_in_order before x (z ∷ zs))
-      between x y z zs zx zy = grind (arith, put_in_order-here, put_in_order-after)
+      between x y z zs zx zy = grind (arith, put_in_order-here)
 
       -- it does not matter which of two goes to its place first
       pub put_in_order-swap : (x y : X) (zs : List X) → put_in_order before x (put_in_order before y zs) ≡ put_in_order before y (put_in_order before x zs)
       put_in_order-swap x y [] = meet x y [] refl refl
-      put_in_order-swap x y (z ∷ zs) =
-          elim (before z x) as (λ b. before z x ≡ b → put_in_order before x (put_in_order before y (z ∷ zs)) ≡ put_in_order before y (put_in_order before x (z ∷ zs))) [
-            | true ↦ λ zx. elim (before z y) as (λ b. before z y ≡ b → put_in_order before x (put_in_order before y (z ∷ zs)) ≡ put_in_order before y (put_in_order before x (z ∷ zs))) [
-              | true ↦ λ zy.
-                  ap (put_in_order before x) (put_in_order-after y z zs zy) ∙ put_in_order-after x z (put_in_order before y zs) zx ∙ ap (λ us. z ∷ us) (put_in_order-swap x y zs)
-                  ∙ sym (ap (put_in_order before y) (put_in_order-after x z zs zx) ∙ put_in_order-after y z (put_in_order before x zs) zy)
-              | false ↦ λ zy. between x y z zs zx zy
-            ] refl
-            | false ↦ λ zx. elim (before z y) as (λ b. before z y ≡ b → put_in_order before x (put_in_order before y (z ∷ zs)) ≡ put_in_order before y (put_in_order before x (z ∷ zs))) [
-              | true ↦ λ zy. sym (between y x z zs zy zx)
-              | false ↦ λ zy.
-                  ap (put_in_order before x) (put_in_order-here y z zs zy) ∙ meet x y (z ∷ zs) (put_in_order-here x z zs zx) (put_in_order-here y z zs zy)
-                  ∙ sym (ap (put_in_order before y) (put_in_order-here x z zs zx))
-            ] refl
-          ] refl
+      put_in_order-swap x y (z ∷ zs) = grind (arith, between, put_in_order-here, meet, (put_in_order-swap x y zs))

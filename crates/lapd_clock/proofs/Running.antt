@@ -1,5 +1,5 @@
 -- What the calls do to a set of running timers.
-use Rattle.lapd_clock.proofs.Vocabulary.{◌≡◌, ℕ, ◌+◌, ◌<◌, ◌≤◌, Bool, true, false, cond, not, ◌&&◌, ◌||◌, ◌==◌, nat_lt, nat_le, List, [], ◌∷◌, filter, refl, sym, ap, ◌∙◌, arith, AllByRecursion, false≢true, nat_tests, All-from_recursion, recursion_from_All, put_in_order, Timer, Lengths, AreInRange, Order, Start, Stop, duration, is_same, Expiry, Timers, is_before, is_of, is_held, without, count_on, finds_place, with_order, after_first_due, IsSound, IsOneEach, sum_by-filter_both, All-weaker, filter_passes}
+use Rattle.lapd_clock.proofs.Vocabulary.{◌≡◌, ℕ, ◌+◌, ◌<◌, ◌≤◌, Bool, true, false, cond, not, ◌||◌, ◌==◌, nat_lt, nat_le, List, [], ◌∷◌, filter, refl, sym, ap, ◌∙◌, arith, AllByRecursion, false≢true, nat_tests, All-from_recursion, recursion_from_All, put_in_order, Timer, Lengths, AreInRange, Order, Start, Stop, duration, is_same, Expiry, Timers, is_before, is_of, is_held, without, count_on, finds_place, with_order, after_first_due, IsSound, IsOneEach, sum_by-filter_both, All-weaker, filter_passes}
 use Rattle.lapd_clock.proofs.Ordered.{by_place, IsInOrder-put_in_order, IsInOrder-filter, All-put_in_order, All-filter, count_by-put_in_order, count_by-cons}
 use Rattle.lapd_clock.proofs.TimerOrder.{before_order, is_same_both_ways}
 
@@ -40,17 +40,10 @@ without-no_place c line timer = grind (arith, nat_lt, without-not_held)
 
 IsOneEach-filter : (p : Expiry → Bool) (es : List Expiry) → IsOneEach es → IsOneEach (filter p es)
 IsOneEach-filter p [] h = tt
-IsOneEach-filter p (e ∷ es) h =
-    elim (p e) as (λ b. IsOneEach (cond b (e ∷ filter p es) (filter p es))) [
-      | true ↦ (All-filter (λ other. is_of e.line e.timer other ≡ false) p es h.0, IsOneEach-filter p es h.1)
-      | false ↦ IsOneEach-filter p es h.1
-    ]
-
-same_line_both_ways : (m n : ℕ) → (m == n) ≡ (n == m)
-same_line_both_ways m n = grind (arith, nat_tests)
+IsOneEach-filter p (e ∷ es) h = grind (arith, All-filter, (IsOneEach-filter p es h.1))
 
 pub other_way : (a b : Expiry) → is_of a.line a.timer b ≡ false → is_of b.line b.timer a ≡ false
-other_way a b h = ap (λ t. (a.line == b.line) && t) (is_same_both_ways a.timer b.timer) ∙ ap (λ t. t && is_same b.timer a.timer) (same_line_both_ways a.line b.line) ∙ h
+other_way a b h = grind (arith, is_same_both_ways, is_same, nat_tests)
 
 IsOneEach-put_in_order : (e : Expiry) (es : List Expiry) → AllByRecursion (λ other. is_of e.line e.timer other ≡ false) es → IsOneEach es → IsOneEach (put_in_order is_before e es)
 IsOneEach-put_in_order e [] others h = (tt, tt)
@@ -61,8 +54,7 @@ IsOneEach-put_in_order e (x ∷ xs) others h =
 
 pub none_of-without : (line : ℕ) (timer : Timer) (es : List Expiry) → AllByRecursion (λ other. is_of line timer other ≡ false) (without line timer es)
 none_of-without line timer es =
-    recursion_from_All (λ other. is_of line timer other ≡ false) _
-    (All-weaker (λ other. not (is_of line timer other) ≡ true) (λ other. is_of line timer other ≡ false) (λ other h. is_false (is_of line timer other) h) _ (filter_passes (λ other. not (is_of line timer other)) es))
+    grind (arith, recursion_from_All, All-weaker, is_false, filter_passes)
   where
     is_false : (b : Bool) → not b ≡ true → b ≡ false
     is_false b h = grind arith

@@ -3,12 +3,9 @@ use Rattle.lapd_clock.proofs.Vocabulary.{◌≡◌, ◌≢◌, ℕ, zero, suc, �
 use Rattle.lapd_clock.proofs.Ordered.{All-append, put_in_order-swap, filter-put_in_order, IsInOrder-put_in_order, count_by-put_in_order, count_by-cons}
 use Rattle.lapd_clock.proofs.TimerOrder.{before_order, same_expiry}
 
--- a number is itself, and no other
+-- a number is itself
 same_number : (k : ℕ) → (k == k) ≡ true
 same_number k = grind (arith, nat_tests)
-
-other_number : (i k : ℕ) → i ≢ k → (i == k) ≡ false
-other_number i k ne = grind (arith, nat_tests)
 
 swap : (x y : Expiry) (zs : List Expiry) → put_in_order is_before x (put_in_order is_before y zs) ≡ put_in_order is_before y (put_in_order is_before x zs)
 swap = put_in_order-swap is_before before_order same_expiry
@@ -36,13 +33,7 @@ in_order-behind e (x ∷ xs) ys zs h = ap (put_in_order is_before x) (in_order-b
 in_order-with : (k : ℕ) (h : Held) (others all : List Held) (before behind : List Expiry) → IsWith h others all
     → in_order (before ++ (on_line k all ++ behind)) ≡ put_in_order is_before (expiry_on k h) (in_order (before ++ (on_line k others ++ behind)))
 unfolding on_line
-in_order-with k h others all before behind more =
-    let whole : on_line k all ≡ on_line k more.front ++ expiry_on k h ∷ on_line k more.back = ap (on_line k) more.whole ∙ on_line-append k more.front (h ∷ more.back) in
-    let without : on_line k others ≡ on_line k more.front ++ on_line k more.back = ap (on_line k) more.without ∙ on_line-append k more.front more.back in
-    in_order-behind (expiry_on k h) before (on_line k others ++ behind) (on_line k all ++ behind)
-    (ap (λ es. in_order (es ++ behind)) whole
-    ∙ in_order-inserted (expiry_on k h) (on_line k more.front) (on_line k more.back) behind
-    ∙ ap (λ es. put_in_order is_before (expiry_on k h) (in_order (es ++ behind))) (sym without))
+in_order-with k h others all before behind more = grind (arith, on_line-append, in_order-behind, in_order-inserted)
 
 -- one timer of line k is not one of any other line
 on_line-all_but : (k : ℕ) (t : Timer) (hs : List Held) → on_line k (all_but t hs) ≡ without k t (on_line k hs)
@@ -63,7 +54,7 @@ Apart k es = AllByRecursion (λ e. (e.line == k) ≡ false) es
 apart-on_line : (k i : ℕ) (hs : List Held) → i ≢ k → Apart k (on_line i hs)
 unfolding on_line
 apart-on_line k i [] ne = tt
-apart-on_line k i (x ∷ xs) ne = (other_number i k ne, apart-on_line k i xs ne)
+apart-on_line k i (x ∷ xs) ne = grind (arith, nat_tests, (apart-on_line k i xs ne))
 
 apart-from_line : (k i : ℕ) (lines : List Line) → k < i → Apart k (from_line i lines)
 unfolding from_line
@@ -73,8 +64,7 @@ apart-from_line k i (l ∷ ls) h =
 
 without-apart : (k : ℕ) (t : Timer) (es : List Expiry) → Apart k es → without k t es ≡ es
 without-apart k t [] h = refl
-without-apart k t (e ∷ es) h =
-    ap (λ b. cond (not (b && is_same e.timer t)) (e ∷ without k t es) (without k t es)) h.0 ∙ ap (λ l. e ∷ l) (without-apart k t es h.1)
+without-apart k t (e ∷ es) h = grind (arith, is_same, without, (without-apart k t es h.1))
 
 count_on-apart : (k : ℕ) (es : List Expiry) → Apart k es → count_on k es ≡ 0
 count_on-apart k [] h = refl
@@ -116,18 +106,12 @@ IsInOrder-in_order (e ∷ es) = IsInOrder-put_in_order is_before before_order e 
 filter-in_order : (p : Expiry → Bool) (es : List Expiry) → filter p (in_order es) ≡ in_order (filter p es)
 unfolding in_order
 filter-in_order p [] = refl
-filter-in_order p (e ∷ es) =
-    filter-put_in_order is_before before_order p e (in_order es) (IsInOrder-in_order es)
-    ∙ (elim (p e) as (λ b. cond b (put_in_order is_before e (filter p (in_order es))) (filter p (in_order es)) ≡ in_order (cond b (e ∷ filter p es) (filter p es))) [
-      | true ↦ ap (put_in_order is_before e) (filter-in_order p es)
-      | false ↦ filter-in_order p es
-    ])
+filter-in_order p (e ∷ es) = grind (arith, filter-put_in_order, before_order, IsInOrder-in_order, (filter-in_order p es))
 
 count_by-in_order : (p : Expiry → Bool) (es : List Expiry) → count_by p (in_order es) ≡ count_by p es
 unfolding in_order
 count_by-in_order p [] = refl
-count_by-in_order p (e ∷ es) =
-    count_by-put_in_order is_before p e (in_order es) ∙ ap (λ n. cond (p e) 1 0 + n) (count_by-in_order p es) ∙ sym (count_by-cons p e es)
+count_by-in_order p (e ∷ es) = grind (arith, count_by-put_in_order, count_by-cons, (count_by-in_order p es))
 
 count_on-on_line : (k : ℕ) (hs : List Held) → count_on k (on_line k hs) ≡ length hs
 unfolding on_line
@@ -136,9 +120,6 @@ count_on-on_line k (x ∷ xs) =
     count_by-cons (λ e. e.line == k) (expiry_on k x) (on_line k xs)
     ∙ ap (λ b. cond b 1 0 + count_on k (on_line k xs)) (same_number k)
     ∙ omega (arith, count_on-on_line k xs)
-
-count_on-append : (k : ℕ) (xs ys : List Expiry) → count_on k (xs ++ ys) ≡ count_on k xs + count_on k ys
-count_on-append k xs ys = sum_by-append (λ e. cond (e.line == k) 1 0) xs ys
 
 module _ (k : ℕ) (lines : List Line) (within : k < length lines) where
   pub here : Around k 0 k lines
@@ -167,9 +148,4 @@ module _ (k : ℕ) (lines : List Line) (within : k < length lines) where
 
     -- the timers of a line are those that it keeps
     pub count_on-stopped : (t : Timer) → count_on k (without k t (in_order (from_line 0 lines))) ≡ length (all_but t u.items)
-    count_on-stopped t =
-        let others = on_line k (all_but t u.items) in
-        ap (count_on k) (without_one t)
-        ∙ count_by-in_order (λ e. e.line == k) (here.before ++ (others ++ here.behind))
-        ∙ count_on-append k here.before (others ++ here.behind)
-        ∙ omega (arith, count_on-append k others here.behind, count_on-apart k here.before here.apart_before, count_on-on_line k (all_but t u.items), count_on-apart k here.behind here.apart_behind)
+    count_on-stopped t = grind (arith, without_one, count_by-in_order, here, count_on-apart, count_on-on_line, sum_by-append)

@@ -1,5 +1,5 @@
 -- The order in which timers fall due is total, and only equal ones tie.
-use Rattle.lapd_clock.proofs.Vocabulary.{◌≡◌, false, sym, ap, ◌∙◌, arith, Ordering, Equal, IsTotalOrder, IsStrictWeakOrder, nat_cmp, ordering_then, ordering_reverse, is_lt, nat_cmp_total, on_total, then_total, eq_by_cmp_equiv, ranks_by, exact_unsigned, Timer, Service, kind_rank, tei_rank, service_rank, rank_of_service, timer_cmp, is_same, Expiry, expiry_cmp, is_before, Held, held_before}
+use Rattle.lapd_clock.proofs.Vocabulary.{◌≡◌, false, arith, Ordering, Equal, IsTotalOrder, IsStrictWeakOrder, nat_cmp, ordering_then, ordering_reverse, is_lt, nat_cmp_total, on_total, then_total, eq_by_cmp_equiv, ranks_by, exact_unsigned, Timer, kind_rank, tei_rank, service_rank, timer_cmp, is_same, Expiry, expiry_cmp, is_before, Held, held_before}
 
 -- the orders are total,
 pub timer_total : IsTotalOrder timer_cmp
@@ -22,28 +22,15 @@ held_order = ranks_by held_total (λ (h : Held). h)
 then_equal : (r s : Ordering) → ordering_then r s ≡ Equal → (r ≡ Equal) × (s ≡ Equal)
 then_equal r s e = grind arith
 
-service_by_rank : (a b : Service) → rank_of_service a ≡ rank_of_service b → a ≡ b
-service_by_rank a b e = grind arith
-
-same_by_ranks : (a b : Timer) → kind_rank a ≡ kind_rank b → tei_rank a ≡ tei_rank b → service_rank a ≡ service_rank b → a ≡ b
-same_by_ranks a b k e f = grind (arith, service_by_rank)
-
 pub same_timer : (a b : Timer) → timer_cmp a b ≡ Equal → a ≡ b
-same_timer a b e = grind (arith, then_equal, same_by_ranks, exact_unsigned)
+same_timer a b e = grind (arith, then_equal, exact_unsigned)
 
 not_less : (r : Ordering) → is_lt r ≡ false → is_lt (ordering_reverse r) ≡ false → r ≡ Equal
 not_less r a b = grind arith
 
 -- of two expiries one goes before the other, unless they are equal
 pub same_expiry : (a b : Expiry) → is_before a b ≡ false → is_before b a ≡ false → a ≡ b
-same_expiry a b ab ba =
-    let moments = then_equal (nat_cmp a.moment b.moment) (ordering_then (nat_cmp a.line b.line) (timer_cmp a.timer b.timer)) (not_less (expiry_cmp a b) ab (ap is_lt (sym (expiry_total.antisymm b a)) ∙ ba)) in
-    let lines = then_equal (nat_cmp a.line b.line) (timer_cmp a.timer b.timer) moments.1 in
-    λ i. record {
-      moment = exact_unsigned a.moment b.moment moments.0 i;
-      line = exact_unsigned a.line b.line lines.0 i;
-      timer = same_timer a.timer b.timer lines.1 i;
-    }
+same_expiry a b ab ba = grind (arith, then_equal, not_less, expiry_total, exact_unsigned, same_timer)
 
 -- being the same timer goes both ways
 pub is_same_both_ways : (a b : Timer) → is_same a b ≡ is_same b a

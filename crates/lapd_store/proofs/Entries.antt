@@ -1,5 +1,5 @@
 -- The entries of a finite map whose keys are numbers, as a list in any order.
-use Rattle.lapd_store.proofs.Vocabulary.{zero, suc, ◌+◌, option_map, entries_from, ◌≡◌, ◌≢◌, ℕ, ◌<◌, Bool, true, false, cond, T, Option, Some, None, List, [], ◌∷◌, map, refl, sym, ap, subst, ◌∙◌, ◌⊎◌, inl, inr, arith, eqb, get_or, eqb-false, ne_eqb, eq-eqb, cases_eq, and_parts, cond-true, cond-false, nat_tests, nil_from_length, All-nil, All-cons, All-head, All-tail, All-contains, All-map, recursion_from_All, Contains-append_right, IsPermutation-refl, IsPermutation-sym, IsPermutation-cons, IsPermutation-trans, IsPermutation-middle, IsPermutation-map, All-permutation, IsDistinct-head, IsDistinct-tail, IsDistinct-cons, IsDistinct-from_apart, IsDistinct-IsPermutation, none-some, same_Some, nat_cmp_total, unsigned_tied, Less, Equal, Greater, by_order, below_all, find, put, is_sorted, All, AllByRecursion, Contains, IsDistinct, IsPermutation, nat_cmp, is_lt, is_eq, eq_by_cmp}
+use Rattle.lapd_store.proofs.Vocabulary.{zero, suc, ◌+◌, option_map, entries_from, ◌≡◌, ◌≢◌, ℕ, ◌<◌, Bool, true, false, cond, T, Option, Some, None, List, [], ◌∷◌, map, refl, sym, ap, subst, ◌∙◌, inl, inr, arith, eqb, get_or, eqb-false, ne_eqb, eq-eqb, cases_eq, and_parts, cond-true, cond-false, nat_tests, nil_from_length, All-nil, All-cons, All-contains, All-map, recursion_from_All, Contains-append_right, IsPermutation-refl, IsPermutation-sym, IsPermutation-cons, IsPermutation-trans, IsPermutation-middle, IsPermutation-map, All-permutation, IsDistinct-head, IsDistinct-tail, IsDistinct-cons, IsDistinct-from_apart, IsDistinct-IsPermutation, none-some, same_Some, nat_cmp_total, unsigned_tied, Less, Equal, Greater, by_order, below_all, find, put, is_sorted, All, AllByRecursion, Contains, IsDistinct, IsPermutation, nat_cmp, is_lt, is_eq, eq_by_cmp}
 use Rattle.std.specs.FinMap as finmap
 
 holds : (b : Bool) → T b → b ≡ true
@@ -74,18 +74,12 @@ module _ {X : Type 0} where
 
   above : (x : ℕ) (es : List (ℕ × X)) → below_all nat_cmp x es ≡ true → All (λ p. x < p.0) es
   above x [] b = All-nil _
-  above x (e ∷ es) b =
-      let parts = and_parts (is_lt (nat_cmp x e.0)) (below_all nat_cmp x es) b in
-      All-cons (λ p. x < p.0) e es (lower x e.0 parts.0) (above x es parts.1)
+  above x (e ∷ es) b = grind (arith, and_parts, All-cons, lower, (above x es))
 
   -- each entry of a list in order is found under its key
   each_found : (es : List (ℕ × X)) → is_sorted nat_cmp es ≡ true → All (λ p. find nat_cmp p.0 es ≡ Some p.1) es
   each_found [] s = All-nil _
-  each_found (e ∷ es) s =
-      let parts = and_parts (below_all nat_cmp e.0 es) (is_sorted nat_cmp es) s in
-      let higher = above e.0 es parts.0 in
-      let rest = each_found es parts.1 in
-      All-cons (λ p. find nat_cmp p.0 (e ∷ es) ≡ Some p.1) e es (find-head e.0 e es refl) (λ i d h. find-tail _ e es (omega (arith, higher i d h)) ∙ rest i d h)
+  each_found (e ∷ es) s = grind (arith, and_parts, above, All-cons, find-head, find-tail, (each_found es))
 
   -- each entry of a map is what its key has
   pub entries_found : (m : finmap.FinMap nat_cmp X) → All (λ p. finmap.get m p.0 ≡ Some p.1) (finmap.entries m)
@@ -161,22 +155,16 @@ module _ {X : Type 0} where
 find_before : {X : Type 0} (key q : ℕ) (places : List (Option X)) → q < key → find nat_cmp q (entries_from key places) ≡ None
 find_before key q [] low = refl
 find_before key q (None ∷ rest) low = find_before (key + 1) q rest (omega arith)
-find_before key q (Some v ∷ rest) low =
-    find-tail q (key, v) (entries_from (key + 1) rest) (omega arith) ∙ find_before (key + 1) q rest (omega arith)
+find_before key q (Some v ∷ rest) low = grind (arith, find-tail, (find_before (key + 1) q rest (omega arith)))
 
 pub find_from : {X : Type 0} (key i q : ℕ) (places : List (Option X)) → q ≡ key + i → find nat_cmp q (entries_from key places) ≡ get_or places i None
 find_from key i q [] is = refl
 find_from key zero q (None ∷ rest) is = find_before (key + 1) q rest (omega arith)
 find_from key (suc i) q (None ∷ rest) is = find_from (key + 1) i q rest (omega arith)
 find_from key zero q (Some v ∷ rest) is = find-head q (key, v) (entries_from (key + 1) rest) (omega arith)
-find_from key (suc i) q (Some v ∷ rest) is =
-    find-tail q (key, v) (entries_from (key + 1) rest) (omega arith) ∙ find_from (key + 1) i q rest (omega arith)
+find_from key (suc i) q (Some v ∷ rest) is = grind (arith, find-tail, (find_from (key + 1) i q rest (omega arith)))
 
 -- each value of a list of entries changed
 pub find_changed : {X Y : Type 0} (f : X → Y) (q : ℕ) (es : List (ℕ × X)) → find nat_cmp q (map (λ e. (e.0, f e.1)) es) ≡ option_map f (find nat_cmp q es)
 find_changed f q [] = refl
-find_changed f q (e ∷ es) =
-    elim (eq_by_cmp nat_cmp q e.0) as (λ b. cond b (Some (f e.1)) (find nat_cmp q (map (λ e. (e.0, f e.1)) es)) ≡ option_map f (cond b (Some e.1) (find nat_cmp q es))) [
-      | true ↦ refl
-      | false ↦ find_changed f q es
-    ]
+find_changed f q (e ∷ es) = grind (arith, (find_changed f q es))

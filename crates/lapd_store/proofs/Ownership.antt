@@ -28,9 +28,7 @@ Holds-put {old} slot octets owned free stored held =
 
 -- after a `release` the shelf holds the other pairs
 pub Holds-release : {old new : Store} (slot : ℕ) (octets : List ℕ) (owned : List Owned) → new ≡ without old slot → Holds old ((slot, octets) ∷ owned) → Holds new owned
-Holds-release {old} slot octets owned released held =
-    subst (λ s. Holds s owned) (sym released)
-    (record { entries = entries-remove old.contents slot octets owned held.entries })
+Holds-release {old} slot octets owned released held = grind (arith, entries-remove)
 
 -- a slot of the list has its octets
 pub contents_of-held : {s : Store} (owned : List Owned) (slot : ℕ) (octets : List ℕ) → Contains owned (slot, octets) → Holds s owned → contents_of s slot ≡ Some octets

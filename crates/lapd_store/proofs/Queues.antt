@@ -56,9 +56,7 @@ Holds-queue_put {new = new} slots messages others slot octets same free stored h
 pub Holds-queue_release : {old new : Store} (slots : List ℕ) (messages : List (List ℕ)) (others : List Owned) (slot : ℕ) → length slots ≡ length messages → slice_get slots 0 ≡ Some slot → new ≡ without old slot → Holds old (pairs_of slots messages ++ others) → Holds new (pairs_of (drop 1 slots) (drop 1 messages) ++ others)
 Holds-queue_release [] messages others slot same is released held = absurd (none-some slot is)
 Holds-queue_release (s ∷ ss) [] others slot same is released held = absurd (omega arith)
-Holds-queue_release {old} (s ∷ ss) (m ∷ ms) others slot same is released held =
-    Holds-release slot m (pairs_of ss ms ++ others) released
-    (subst (λ n. Holds old ((n, m) ∷ (pairs_of ss ms ++ others))) (same_Some s slot is) held)
+Holds-queue_release {old} (s ∷ ss) (m ∷ ms) others slot same is released held = grind (arith, Holds-release, same_Some)
 
 -- The same of a queue whose messages a store keeps.
 

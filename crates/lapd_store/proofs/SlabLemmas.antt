@@ -1,5 +1,5 @@
 -- A slab of octet vectors as a store.
-use Rattle.lapd_store.proofs.Vocabulary.{◌≡◌, ℕ, ◌+◌, ◌-◌, ◌^◌, ◌<◌, ◌≤◌, Option, Some, None, IsSome, List, [], map, length, sym, ap, subst, ◌∙◌, arith, count_by, option_map, is_some, nat_cmp, nat_cmp_total, Slab, get, slab_len, entries_from, ContainsKey, Updates, ArrayVec, filled, slab_store, IsSoundSlab, empty_store, contents_of, IsUsed, IsFree, used_slots, stored_octets, with_contents, without, IsWithinLimits}
+use Rattle.lapd_store.proofs.Vocabulary.{◌≡◌, ℕ, ◌+◌, ◌-◌, ◌^◌, ◌<◌, ◌≤◌, Some, None, List, [], map, length, sym, ap, subst, ◌∙◌, arith, count_by, option_map, is_some, nat_cmp, nat_cmp_total, Slab, get, slab_len, entries_from, ContainsKey, Updates, ArrayVec, filled, slab_store, IsSoundSlab, empty_store, contents_of, IsUsed, IsFree, used_slots, stored_octets, with_contents, without, IsWithinLimits}
 use Rattle.std.specs.FinMap as finmap
 use Rattle.lapd_store.specs.declared.slab_shelf.SlabShelf.TheInside.{Inside}
 use Rattle.lapd_store.proofs.StoreLemmas.{used_slots-empty, stored_octets-empty, IsWithinLimits-empty, used_slots-with_contents, stored_octets-with_contents, IsWithinLimits-with_contents, used_slots-without, stored_octets-without, IsWithinLimits-without, stored_octets_bound}
@@ -34,16 +34,13 @@ IsSoundSlab-start slab slots width empty room few narrow =
       narrow = narrow;
     }
 
-some_mapped : (o : Option (ArrayVec ℕ)) → IsSome (option_map (λ v. v.items) o) → IsSome o
-some_mapped o some = grind arith
-
 module _ (a : Inside) (sound : IsSoundSlab a) where
   -- a slot of the store is a key of the slab
   pub contents_of-slab : (slot : ℕ) → contents_of (slab_store a) slot ≡ option_map (λ v. v.items) (get a.contents slot)
   contents_of-slab slot = get-filled a.contents slot
 
   pub ContainsKey-slab : (slot : ℕ) → IsUsed (slab_store a) slot → ContainsKey a.contents slot
-  ContainsKey-slab slot used = some_mapped (get a.contents slot) (subst IsSome (contents_of-slab slot) used)
+  ContainsKey-slab slot used = grind (arith, contents_of-slab)
 
   -- the octets with those of one message more are no more than a count of 64 bits can hold
   pub octets_fit : (more : ℕ) → more ≤ 260 → a.octets + more < 2 ^ 64

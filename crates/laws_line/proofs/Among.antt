@@ -119,11 +119,14 @@ module _ (c : Config) (ranged : IsInRange c) (number tei : ℕ) (few : number < 
   taken-in f (next ∷ es) l s on before behind waits less =
       by-take f es l s on.0 before behind waits less (λ before' behind' waits' less'. taken-in f es (after c next l) (after_sound c ranged next l s) on.2 before' behind' waits' less')
   taken-in f (hears e ∷ es) l s on before behind waits less =
-      by-other f (hears e) es l refl refl s on.0 (on-first es (after c (hears e) l) on.2) before behind waits less
-      (λ before' behind' waits' less'. taken-in f es (after c (hears e) l) (after_sound c ranged (hears e) l s) on.2 before' behind' waits' less')
+      grind (arith, by-other, on-first, after_sound, (taken-in f es (after c (hears e) l) (after_sound c ranged (hears e) l s) on.2))
   taken-in f (expiry timer ∷ es) l s on before behind waits less =
-      by-other f (expiry timer) es l refl refl s on.0 (on-first es (after c (expiry timer) l) on.2) before behind waits less
-      (λ before' behind' waits' less'. taken-in f es (after c (expiry timer) l) (after_sound c ranged (expiry timer) l s) on.2 before' behind' waits' less')
+      grind (
+        arith,
+        by-other,
+        on-first,
+        after_sound,
+        (taken-in f es (after c (expiry timer) l) (after_sound c ranged (expiry timer) l s) on.2),
+      )
   taken-in f (request r ∷ es) l s on before behind waits less =
-      by-other f (request r) es l refl on.1 s on.0 (on-first es (after c (request r) l) on.2) before behind waits less
-      (λ before' behind' waits' less'. taken-in f es (after c (request r) l) (after_sound c ranged (request r) l s) on.2 before' behind' waits' less')
+      grind (arith, by-other, on-first, after_sound, (taken-in f es (after c (request r) l) (after_sound c ranged (request r) l s) on.2))

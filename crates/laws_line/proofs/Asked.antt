@@ -1,5 +1,5 @@
 -- An event accepts for a link what its request asks and its answer grants.
-use Rattle.laws_line.proofs.Vocabulary.{arith, ◌≡◌, ℕ, Bool, true, false, cond, List, [], Option, Some, None, is_some, refl, nat_lt, Refusal, Service, Timer, LinkTimer, contents_asked, not_not, Config, hears, Aim, at_timer, aim_of_expiry, Line, place_in, link_in, terms, aim_of_heard, Request, at_requested, at_deactivated, aim_of_request, heard_aims, Event, answer, refusal, Data, no_share, ending, share_aimed, share_of, asked_for, asked_by, LinkData, LinkRequest, StreamEvent}
+use Rattle.laws_line.proofs.Vocabulary.{arith, ◌≡◌, ℕ, Bool, true, false, cond, List, [], Option, Some, None, is_some, refl, nat_lt, Refusal, Service, Timer, LinkTimer, contents_asked, not_not, Config, Aim, at_timer, aim_of_expiry, Line, place_in, link_in, terms, aim_of_heard, Request, at_requested, at_deactivated, aim_of_request, heard_aims, Event, answer, refusal, Data, no_share, ending, share_aimed, share_of, asked_for, asked_by, LinkData, LinkRequest, StreamEvent}
 use Rattle.model_link.specs.Requests as requests
 use Rattle.model_line.proofs.RoomForAll.{passed}
 
@@ -44,5 +44,4 @@ module _ (c : Config) (l : Line) (number : ℕ) where
 
 pub asked-is : (c : Config) (e : Event) (l : Line) (number : ℕ) → (share_of c number e l).accepted ≡ asked_by number e l (answer c e l)
 unfolding answer
-asked-is c (hears e) l number = by-heard c l number e
-asked-is c e l number = grind (arith, by-expiry, granted)
+asked-is c e l number = grind (arith, by-heard, by-expiry, granted)

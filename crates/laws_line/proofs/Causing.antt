@@ -119,8 +119,7 @@ module _ (c : Config) (l : Line) where
 
   caused : (e : Event) → IsSound c l → FromCause e (after c e l) (answer c e l)
   unfolding after answer
-  caused (hears e) s = grind (arith, heard-caused)
-  caused e s = grind (arith, by-timer, asked-caused, next-caused)
+  caused e s = grind (arith, heard-caused, by-timer, asked-caused, next-caused)
 
 pub have-causes : (c : Config) (e : Event) (l : Line) → IsInRange c → IsSound c l → HaveCauses c e l (after c e l) (answer c e l)
 have-causes c e l ranged s = grind (arith, ranges_of, served, expired, granted, caused)

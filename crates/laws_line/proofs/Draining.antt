@@ -1,5 +1,5 @@
 -- With calls for the next frame alone the frames to go become fewer, until nothing waits.
-use Rattle.laws_line.proofs.Vocabulary.{◌≡◌, ℕ, zero, suc, ◌+◌, ◌≤◌, ◌<◌, List, [], ◌∷◌, slice_get, Option, Some, None, is_some, refl, ap, ◌∙◌, ◌⊎◌, ⊎_elim, arith, IfSome, option_map_or, option_or, All-head, All-tail, nothing-to_send, Config, next, may_send, is_given, Line, link_count, place_at, tei_at, link_at, Taken, link_taken, first_taken, taken, next_of, line_of, IsInRange, IsSoundAt, after_sound, next_falls, fresh_gives_nothing, round_below, option_map, All, one, after, answer, IsSound, HasNothing, after_takes, frames_to_go, IsIdling}
+use Rattle.laws_line.proofs.Vocabulary.{◌≡◌, ℕ, zero, suc, ◌+◌, ◌≤◌, ◌<◌, List, [], ◌∷◌, slice_get, Option, Some, None, is_some, refl, ap, ◌∙◌, ◌⊎◌, ⊎_elim, arith, IfSome, option_map_or, option_or, All-head, All-tail, nothing-to_send, Config, next, may_send, is_given, Line, link_count, Taken, link_taken, first_taken, taken, next_of, line_of, IsInRange, after_sound, next_falls, fresh_gives_nothing, round_below, option_map, All, one, after, answer, IsSound, HasNothing, after_takes, frames_to_go, IsIdling}
 use Rattle.laws_line.proofs.Serving.{none-waits}
 use Rattle.laws_line.proofs.Silence.{sends-none}
 use Rattle.laws_line.proofs.Going.{TakesOne, taken-falls}
@@ -7,11 +7,7 @@ use Rattle.laws_line.proofs.Going.{TakesOne, taken-falls}
 -- where nothing waits, nothing is taken
 module _ (c : Config) (l : Line) (s : IsSound c l) (h : HasNothing c l) where
   none-of_link : (number : ℕ) → number < link_count c → link_taken c l number ≡ None
-  none-of_link number few = go (tei_at (place_at number) l) refl (s.links number few)
-    where
-      go : (o : Option ℕ) → tei_at (place_at number) l ≡ o → IsSoundAt c number (link_at number l) o → link_taken c l number ≡ None
-      go None e begins = grind (arith, option_map, fresh_gives_nothing)
-      go (Some tei) e sound = grind (arith, nothing-to_send, sends-none, option_map)
+  none-of_link number few = grind (arith, fresh_gives_nothing, nothing-to_send, sends-none)
 
   none-first : (ns : List ℕ) → All (λ n. n < link_count c) ns → first_taken c l ns ≡ None
   none-first [] few = refl
@@ -49,11 +45,17 @@ take-fewer c l s = go (taken c l) refl (taken-falls c l s)
 pub drains : (c : Config) → IsInRange c → (n : ℕ) (l : Line) → IsSound c l → frames_to_go c l ≤ n → HasNothing c (after_takes c n l)
 unfolding after_takes
 drains c ranged zero l s few = ⊎_elim (λ less. absurd (omega (arith, few, less))) (λ h. h) (take-fewer c l s)
-drains c ranged (suc n) l s few = go (take-fewer c l s) (drains c ranged n (after c next l) (after_sound c ranged next l s))
-  where
-    go : Fewer c l (after c next l) ⊎ HasNothing c l → (frames_to_go c (after c next l) ≤ n → HasNothing c (after_takes c n (after c next l)))
-        → HasNothing c (after_takes c n (after c next l))
-    go o more = grind (arith, nothing-stays, all-stay, nothing-taken)
+drains c ranged (suc n) l s few =
+    grind (
+      arith,
+      take-fewer,
+      next,
+      after_sound,
+      nothing-stays,
+      all-stay,
+      nothing-taken,
+      (drains c ranged n (after c next l) (after_sound c ranged next l s)),
+    )
 
 -- Then no call takes a frame.
 pub idles : (c : Config) (n : ℕ) (l : Line) → IsSound c l → HasNothing c l → IsIdling c n l

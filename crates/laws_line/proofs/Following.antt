@@ -59,8 +59,7 @@ module _ (c : Config) (l : Line) (s : IsSound c l) (service : Service) (tei plac
   apart s' n' other p' e same =
       let is = same-number s' service p' place same in
       let holds : IsAt l.management.places place n' = subst (λ p. IsAt l.management.places p n') is.1 (place_of-is l.management.places n' p' e).1 in
-      let teis : tei ≡ n' = some-same tei n' (sym at ∙ holds) in
-      true≢false (sym (ap (λ b. b && (tei == n')) (ap (λ z. same_service service z) is.0 ∙ service-same service) ∙ eq-eqb tei n' teis) ∙ other)
+      grind (arith, some-same, true≢false, service-same, eq-eqb)
 
   same-place : (k : LinkTimer) (s' : Service) (n' : ℕ) → (same_service service s' && (tei == n')) ≡ false → (o : Option ℕ) → place_of n' l.management.places ≡ o
       → runs_at s' k o l ≡ runs_at s' k o (with_link n y l)
@@ -144,10 +143,7 @@ module _ (c : Config) (l : Line) (s : IsSound c l) (m : Management) (sound : IsS
         ∙ sym (running-of k s' tei (anew place (Some tei) joined.is_there joined.within))
 
     pub comes : (k : LinkTimer) (s' : Service) (n' : ℕ) → obeyed (timer_of k s' n') (is_running (timer_of k s' n') l) orders ≡ is_running (timer_of k s' n') opened
-    comes k s' n' = leaves k s' n' (is_running (timer_of k s' n') l) ∙ go (tei == n') refl
-      where
-        go : (b : Bool) → (tei == n') ≡ b → is_running (timer_of k s' n') l ≡ is_running (timer_of k s' n') opened
-        go b e = grind (arith, eqb-true, its-own, elsewhere, eq-eqb, some-same, none-some)
+    comes k s' n' = grind (arith, eqb-true, its-own, elsewhere, eq-eqb, some-same, none-some)
 
   -- a TEI leaves: its timers are stopped
   module _ (tei place : ℕ) (gone : tei_laws.HasLeft l.management.places m.places tei place) where
@@ -172,9 +168,6 @@ module _ (c : Config) (l : Line) (s : IsSound c l) (m : Management) (sound : IsS
     by-call : Steers (terms c Call tei) as_it_was call first fresh
     by-call = steers-event (terms c Call tei) link_cleared first
 
-    by-packet : Steers (terms c Packet tei) as_it_was packet second fresh
-    by-packet = steers-event (terms c Packet tei) link_cleared second
-
     placed : place_of tei l.management.places ≡ Some place
     placed = has-place l.management.places tei place s.management.table gone.was_there
 
@@ -190,13 +183,7 @@ module _ (c : Config) (l : Line) (s : IsSound c l) (m : Management) (sound : IsS
     ran k s' = running-of k s' tei l ∙ ap (λ p. runs_at s' k p l) placed
 
     its-own-left : (k : LinkTimer) (s' : Service) → obeyed (timer_of k s' tei) (is_running (timer_of k s' tei) l) (call ++ packet ++ orders) ≡ false
-    its-own-left k Call =
-        chain (timer_of k Call tei) (is_running (timer_of k Call tei) l) false false false call packet orders
-        (ap (λ b. obeyed (timer_of k Call tei) b call) (ran k Call)
-        ∙ subst (λ timer. obeyed timer (runs k first.running) call ≡ false) (its-timer c k Call tei) (by-call.own k ∙ refl))
-        (by-packet.others (timer_of k Call tei) false (grind arith) (grind arith))
-        (leaves k Call tei false)
-    its-own-left k Packet = grind (arith, chain, ran, second-is, its-timer, leaves)
+    its-own-left k s' = grind (arith, chain, call, packet, obeyed, ran, runs, first, its-timer, by-call, steers-event, second-is)
 
     pub goes : (k : LinkTimer) (s' : Service) (n' : ℕ) → obeyed (timer_of k s' n') (is_running (timer_of k s' n') l) (call ++ packet ++ orders) ≡ is_running (timer_of k s' n') closed
     goes k s' n' = go (tei == n') refl
@@ -206,4 +193,4 @@ module _ (c : Config) (l : Line) (s : IsSound c l) (m : Management) (sound : IsS
         go false e = grind (arith, apart, and-false, chain, leaves, elsewhere, none-some, eq-eqb, some-same)
 
     pub t201-goes : obeyed T201 before (call ++ packet ++ orders) ≡ is_some m.check
-    t201-goes = chain T201 before before before (is_some m.check) call packet orders (by-call.others T201 before refl refl) (by-packet.others T201 before refl refl) (grind arith)
+    t201-goes = grind (arith, chain, by-call, steers-event)

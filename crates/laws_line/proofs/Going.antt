@@ -1,5 +1,5 @@
 -- A frame that is taken is no longer among those to go.
-use Rattle.laws_line.proofs.Vocabulary.{◌≡◌, ℕ, suc, ◌+◌, ◌≤◌, ◌<◌, Bool, List, ◌∷◌, length, get_or, set, Some, IfSome, ap, ◌⊎◌, inl, arith, nat_lt, ltb-true, and_parts, get_or-set_same, get_or-set_other, ControlFrame, Terms, Link, Given, HasNothingToSend, nothing-to_send, Message, Config, Line, UnitData, link_count, service_at, place_at, terms, link_at, Taken, with_unit, with_given_frame, taken, sum_of_links, sum_changed, IsAt, taken_walk, fresh, begun as course_begun, frame_of, with_message, IsSound, link_to_go, frames_to_go, link_offer, link_given, link_after}
+use Rattle.laws_line.proofs.Vocabulary.{◌≡◌, ℕ, ◌+◌, ◌≤◌, ◌<◌, Bool, List, ◌∷◌, length, get_or, set, Some, IfSome, ap, ◌⊎◌, arith, ltb-true, and_parts, get_or-set_same, get_or-set_other, ControlFrame, Terms, Link, Given, HasNothingToSend, nothing-to_send, Message, Config, Line, UnitData, link_count, service_at, place_at, terms, link_at, Taken, with_unit, with_given_frame, taken, sum_of_links, sum_changed, IsAt, taken_walk, fresh, begun as course_begun, frame_of, with_message, IsSound, link_to_go, frames_to_go, link_offer, link_given, link_after}
 use Rattle.model_link.specs.Offers
 use Rattle.model_link.specs.Sound as link_sounds
 
@@ -12,8 +12,7 @@ module _ (t : Terms) (l : Link) (ordered : l.a ≤ l.s) where
   falls : (ws : List ControlFrame) → l.waiting ≡ ws → (may owed awaits : Bool) → Offers.may_send_information t l ≡ may → l.pending ≡ owed
       → Offers.is_awaiting_acknowledgement (Offers.with_one_sent l) ≡ awaits → Falls t l (Offers.offer_among t ws (course_begun l)).link
   unfolding Falls
-  falls (f ∷ fs) w may owed awaits e p a = inl (let size : length l.waiting ≡ suc (length fs) = ap length w in omega (arith, size))
-  falls ws w may owed awaits e p a = grind (arith, and_parts, nat_lt, ltb-true)
+  falls ws w may owed awaits e p a = grind (arith, and_parts, ltb-true)
 
   given-falls : (g : Given) → link_given t l ≡ Some g → link_to_go t (link_after t link_offer l) + 1 ≤ link_to_go t l
   unfolding Falls
@@ -27,8 +26,7 @@ one-changed : (c : Config) (all : List Link) (n : ℕ) (x : Link) → length all
     → sum_of_links c (to_go_in c (set all n x)) + link_to_go (terms c (service_at n) 0) (get_or all n fresh)
     ≡ sum_of_links c (to_go_in c all) + link_to_go (terms c (service_at n) 0) x
 one-changed c all n x size few =
-    let here : to_go_in c (set all n x) n ≡ link_to_go (terms c (service_at n) 0) x =
-    ap (link_to_go (terms c (service_at n) 0)) (get_or-set_same all n x fresh (omega (arith, size, few))) in
+    let here : to_go_in c (set all n x) n ≡ link_to_go (terms c (service_at n) 0) x = grind (arith, get_or-set_same) in
     let sums = sum_changed (to_go_in c all) (to_go_in c (set all n x)) 0 (link_count c) n (omega arith) (omega (arith, few))
     (λ j other. ap (link_to_go (terms c (service_at j) 0)) (get_or-set_other all n j x fresh other)) in
     omega (arith, here, sums)

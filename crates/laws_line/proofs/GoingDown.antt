@@ -1,5 +1,5 @@
 -- A line that is taken down is down.
-use Rattle.laws_line.proofs.Vocabulary.{◌≡◌, ℕ, zero, suc, ◌<◌, true, false, is_some, List, [], ◌∷◌, get_or, set, Option, Some, None, refl, sym, ap, subst, ◌∙◌, ⊎_elim, arith, option_map_or, All-head, All-tail, Refusal, Service, Timer, T201, LinkTimer, Terms, is_on-at, Config, request, gave, Line, link_number, link_count, service_at, place_at, tei_at, place_in, link_at, of_aim, next_of, Request, Deactivate, Down, at_deactivated, IsInRange, IsSoundAt, after_sound, next, option_map, cases_lt, get_or_past, All, Contains, map, T200, T203, place_of, fresh, after, answer, unless_refused, refusal, IsSound, after_events, takes_down, TakeDown, IsDown, LinesGoDown, HasNothing, IsSilent, link_needs, is_needed}
+use Rattle.laws_line.proofs.Vocabulary.{◌≡◌, ℕ, zero, suc, ◌<◌, true, false, List, [], ◌∷◌, get_or, set, Option, Some, None, refl, sym, ap, subst, ◌∙◌, ⊎_elim, arith, option_map_or, All-head, All-tail, Refusal, Service, Timer, LinkTimer, Terms, is_on-at, Config, request, gave, Line, link_number, link_count, service_at, place_at, tei_at, place_in, link_at, of_aim, Request, Deactivate, Down, at_deactivated, IsInRange, IsSoundAt, after_sound, next, cases_lt, get_or_past, All, Contains, map, place_of, fresh, after, answer, unless_refused, refusal, IsSound, after_events, takes_down, TakeDown, IsDown, LinesGoDown, IsSilent, link_needs, is_needed}
 use Rattle.laws_line.proofs.Draining.{nothing-taken}
 use Rattle.laws_line.proofs.GivingUp.{deactivations_give_up}
 use Rattle.laws_line.proofs.Parts.{gives-up}
@@ -48,9 +48,6 @@ module _ (c : Config) (l : Line) where
       subst (Keeps l) (sym (gives-up c l).line)
       (record { places = refl; quiet = λ q. record { messages = refl; units = refl; check = refl }; begun = λ number h. h })
 
-  down-quiet : IsQuiet (after c (request Down) l)
-  down-quiet = subst IsQuiet (sym (gives-up c l).line) (record { messages = refl; units = refl; check = refl })
-
   deactivated-keeps : (service : Service) (tei : ℕ) → Keeps l (after c (request (Deactivate service tei)) l)
   unfolding after
   deactivated-keeps service tei = go (refusal c false (Deactivate service tei) l) (place_in l tei)
@@ -71,10 +68,6 @@ module _ (c : Config) (l : Line) where
 
   each : (r : Request) → takes_down r ≡ true → Keeps l (after c (request r) l)
   each r is = grind (arith, down-keeps, deactivated-keeps)
-
--- Which of a list is a request: the first, or one of the others.
-in-none : (x : Request) → Contains [] x → ⊥
-in-none x (k, few, is) = omega (arith, few)
 
 module _ (c : Config) (ranged : IsInRange c) where
   abbrev Only : List Request → Type 0
@@ -97,18 +90,15 @@ module _ (c : Config) (ranged : IsInRange c) where
 
   quiet : (rs : List Request) (l : Line) → Only rs → Contains rs Down → IsQuiet (end rs l)
   unfolding after_events
-  quiet [] l only has = absurd (in-none Down has)
+  quiet [] l only has = grind arith
   quiet (r ∷ rs) l only has =
       let then = All-tail (λ r. takes_down r ≡ true) r rs only in
-      ⊎_elim
-      (λ here. (keeps rs (after c (request r) l) then).quiet (subst (λ r. IsQuiet (after c (request r) l)) (sym here) (down-quiet c l)))
-      (λ behind. quiet rs (after c (request r) l) then behind)
-      (grind arith)
+      grind (arith, keeps, then, gives-up, (quiet rs))
 
   begins : (rs : List Request) (l : Line) → IsSound c l → Only rs → (service : Service) (tei place : ℕ) → place_in l tei ≡ Some place
       → Contains rs (Deactivate service tei) → link_at (link_number place service) (end rs l) ≡ fresh
   unfolding after_events
-  begins [] l s only service tei place on has = absurd (in-none (Deactivate service tei) has)
+  begins [] l s only service tei place on has = grind arith
   begins (r ∷ rs) l s only service tei place on has =
       let then = All-tail (λ r. takes_down r ≡ true) r rs only in
       let next = after c (request r) l in
@@ -149,30 +139,18 @@ module _ (c : Config) (ranged : IsInRange c) (l : Line) (rs : List Request) (s :
           (has-place l.management.places tei (place_at number) s.management.table at)
           (h.links (service_at number) tei (is_on-at l.management.places (place_at number) tei at)))
 
-  nothing-waits : HasNothing c then
-  nothing-waits = record {
-    messages = none-left.messages;
-    units = none-left.units;
-    links = λ number few tei on. subst (IsSilent _) (sym (link-begins number few)) (silent _);
-  }
-
-  any-begins : (number : ℕ) → link_at number then ≡ fresh
-  any-begins number = ⊎_elim (link-begins number) (λ past. get_or_past then.links number fresh (omega (arith, past, sound.count))) (cases_lt number (link_count c))
-
   needs-none : (k : LinkTimer) (service : Service) (o : Option ℕ) → option_map_or (link_needs k service then) o false ≡ false
-  needs-none k service o = grind (arith, any-begins)
+  needs-none k service o = grind (arith, link-begins, get_or_past, sound, cases_lt)
 
   none-needed : (timer : Timer) → is_needed timer then ≡ false
-  none-needed (T200 service tei) = needs-none LinkTimer.T200 service (place_in then tei)
-  none-needed (T203 service tei) = needs-none LinkTimer.T203 service (place_in then tei)
-  none-needed T201 = ap is_some none-left.check
+  none-needed timer = grind (arith, needs-none, then, none-left)
 
   gives-none : answer c next then ≡ gave None
   unfolding answer
-  gives-none = ap (λ o. gave (option_map next_of o)) (nothing-taken c then sound nothing-waits)
+  gives-none = grind (arith, nothing-taken, sound, none-left, link-begins, silent)
 
   is-down : IsDown c l then
-  is-down = record { nothing = nothing-waits; none = gives-none; links = link-begins; timers = none-needed; teis = kept.places }
+  is-down = grind (arith, gives-none, link-begins, none-needed, kept, none-left, silent)
 
 pub lines-go-down : LinesGoDown
 lines-go-down = record { gives_up = gives-up; goes_down = λ c l rs ranged s h. is-down c ranged l rs s h }

@@ -1,5 +1,5 @@
 -- What an event of a line is to one of its links.
-use Rattle.laws_line.proofs.Vocabulary.{◌≡◌, ℕ, ◌<◌, Bool, true, false, ◌==◌, length, set, Option, Some, None, refl, sym, subst, arith, eq-eqb, IfSome, inl, inr, ◌⊎◌, ⊎_elim, get_or-set_same, get_or-set_other, Refusal, Service, Call, Packet, Link, IsAt, Change, Gained, Left, Config, hears, request, next, Answer, told, is_change_at, Aim, at_link, at_management, told_of_management, of_change, of_aim, aim_of_expiry, Line, link_number, service_at, place_at, tei_at, link_at, terms, link_count, unless_refused_told, aim_of_heard, Taken, taken, aim_of_request, IsProper, place_at-number, service_at-number, heard_proper, expiry_proper, request_proper, taken_walk, next_walk, at_no_link, eqb-true, option_map, fresh, Event, expiry, after, answer, unless_refused, refusal, IsSound, IsMoved, IsBy, IsDeactivated, IsOf, link_cleared, link_offer, LinkEvent, link_after, tei_after, tei_told, TeiEvent, begin_here, begin_away}
+use Rattle.laws_line.proofs.Vocabulary.{◌≡◌, ℕ, ◌<◌, Bool, false, ◌==◌, length, set, Option, Some, None, refl, subst, arith, eq-eqb, IfSome, inl, ◌⊎◌, get_or-set_same, get_or-set_other, Refusal, Service, Call, Packet, Link, IsAt, Change, Gained, Left, Config, hears, request, next, Answer, told, is_change_at, Aim, at_link, at_management, told_of_management, of_change, of_aim, aim_of_expiry, Line, link_number, service_at, place_at, tei_at, link_at, terms, link_count, unless_refused_told, aim_of_heard, Taken, taken, aim_of_request, IsProper, place_at-number, service_at-number, heard_proper, expiry_proper, request_proper, taken_walk, next_walk, at_no_link, eqb-true, option_map, fresh, Event, expiry, after, answer, unless_refused, refusal, IsSound, IsMoved, IsBy, IsDeactivated, IsOf, link_cleared, link_offer, LinkEvent, link_after, tei_after, tei_told, TeiEvent, begin_here, begin_away}
 use Rattle.lapd_tei.specs.Laws as tei_laws
 use Rattle.lapd_tei.proofs.LawLemmas as tei_lemmas
 use Rattle.laws_line.proofs.Tied.{Ties, heard-ties, expiry-ties, request-ties}
@@ -38,31 +38,8 @@ module _ (c : Config) (l : Line) (s : IsSound c l) (number : ℕ) (few : number 
 
   at-its-link : (service : Service) (tei place : ℕ) (le : LinkEvent) → IsAt l.management.places place tei
       → IsOf c e a service tei le → Goes (of_aim c (at_link service tei place le) l).line
-  at-its-link service tei place le at by = go (link_number place service == number) refl
-    where
-      ended : link_number place service ≡ number → le ≡ link_cleared → IsDeactivated e a service tei
-          → IsGivenUp service (link_number place service) e l a × (link_at (link_number place service) (of_aim c (at_link service tei place le) l).line ≡ fresh)
-      ended same is down = grind (arith, place_at-number, get_or-set_same)
-
-      one : link_number place service ≡ number → IsBy c e a service tei le → HasOne c service (link_number place service) e l (of_aim c (at_link service tei place le) l).line a
-      one same by = grind (arith, get_or-set_same, place_at-number)
-
-      go : (b : Bool) → (link_number place service == number) ≡ b → Goes (of_aim c (at_link service tei place le) l).line
-      go true same =
-          let at_number : link_number place service ≡ number = eqb-true (link_number place service) number same in
-          ⊎_elim
-          (λ x.
-          inr (inr (subst (λ k. HasOne c (service_at k) k e l (of_aim c (at_link service tei place le) l).line a) at_number
-          (subst (λ (v : Service). HasOne c v (link_number place service) e l (of_aim c (at_link service tei place le) l).line a) (sym (service_at-number place service)) (one at_number x)))))
-          (λ x.
-          let down = ended at_number x.0 x.1 in
-          inr (inl (
-            inr (subst (λ k. IsGivenUp (service_at k) k e l a) at_number
-                (subst (λ (v : Service). IsGivenUp v (link_number place service) e l a) (sym (service_at-number place service)) down.0)),
-            subst (λ k. link_at k (of_aim c (at_link service tei place le) l).line ≡ fresh) at_number down.1,
-          )))
-          (by-or-down c e a service tei le by)
-      go false other = grind (arith, eq-eqb, get_or-set_other)
+  at-its-link service tei place le at by =
+      grind (arith, place_at-number, get_or-set_same, eqb-true, service_at-number, by-or-down, eq-eqb, get_or-set_other)
 
   -- a TEI comes to a place, or leaves it
   at-its-place : (me : TeiEvent) (o : Option Change) (place : ℕ)

@@ -1,5 +1,5 @@
 -- Where a link stands in the round: each frame that is taken brings its turn nearer.
-use Rattle.laws_line.proofs.Vocabulary.{◌≡◌, ℕ, ◌+◌, ◌-◌, ◌<◌, ◌≤◌, List, ◌∷◌, ◌++◌, length, drop, get_or, ap, subst, ◌∙◌, ◌⊎◌, inl, inr, ⊎_elim, arith, length-append, nat_le, range_with_len, leb-true, leb-false, cases_lt, get_or_append_left, get_or-drop, get_or-take, length-take-le, get_or-range_with_len, length-range_with_len, get_or-append_seam, get_or-append_right, round_from, All, length-drop, way_round}
+use Rattle.laws_line.proofs.Vocabulary.{◌≡◌, ℕ, ◌+◌, ◌-◌, ◌<◌, ◌≤◌, List, ◌∷◌, ◌++◌, length, drop, get_or, ap, ◌∙◌, ◌⊎◌, inl, inr, ⊎_elim, arith, length-append, nat_le, range_with_len, leb-true, leb-false, cases_lt, get_or_append_left, get_or-drop, get_or-take, length-take-le, get_or-range_with_len, length-range_with_len, get_or-append_seam, get_or-append_right, round_from, All, length-drop, way_round}
 
 -- the numbers of a round that begins at turn
 abbrev IsAtPlace : ℕ → ℕ → ℕ → ℕ → Type 0
@@ -47,5 +47,4 @@ module _ (count turn : ℕ) (low : turn ≤ count) where
       let total : length ns ≡ length before + length (other ∷ behind) = ap length place ∙ length-append before (other ∷ behind) in
       let small : length before < count = omega (arith, total, whole) in
       let mine = place-is number few in
-      let here : IsAtPlace count turn (length before) other = subst (IsAtPlace count turn (length before)) at (at-place (length before) small) in
-      grind (arith, get_or_append_left, nearer, cases_lt)
+      grind (arith, at-place, get_or_append_left, nearer, cases_lt)

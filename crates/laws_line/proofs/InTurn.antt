@@ -32,10 +32,7 @@ module _ (c : Config) (l : Line) where
 
   first : (ns : List ℕ) (t : Taken) → first_taken c l ns ≡ Some t → First ns t
   first [] t e = cc
-  first (n ∷ ns) t e = go (link_taken c l n) refl (λ x. first ns t x) e
-    where
-      go : (o : Option Taken) → link_taken c l n ≡ o → (first_taken c l ns ≡ Some t → First ns t) → option_or o (first_taken c l ns) ≡ Some t → First (n ∷ ns) t
-      go o is rest e = grind (arith, later, at-once)
+  first (n ∷ ns) t e = grind (arith, later, at-once, (first ns t))
 
   turned : (number : ℕ) (t : Taken) → link_taken c l number ≡ Some t → t.line.turn ≡ number + 1
   turned number t e = grind (arith, option_map)

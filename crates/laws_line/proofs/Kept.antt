@@ -1,5 +1,5 @@
 -- What an event makes of the contents of a link of a line.
-use Rattle.laws_line.proofs.Vocabulary.{◌≡◌, ◌≢◌, ℕ, ◌<◌, zero, suc, Bool, true, false, cond, ◌==◌, List, [], ◌∷◌, length, get_or, set, Option, Some, None, refl, sym, ◌∙◌, subst, arith, eq-eqb, true≢false, IfSome, option_map_or, get_or-set_same, get_or-set_other, Service, Call, Packet, Link, Terms, Share, share, Comes, event-done, same-comes, restarted, offer-leaves, Moves, Management, IsAt, Places, Change, Gained, Left, Config, hears, request, next, LineTold, is_change_at, Aim, at_link, at_management, told_of_management, of_change, of_aim, Line, link_number, service_at, place_at, link_at, link_in, terms, link_count, aim_of_heard, aim_of_expiry, Taken, taken, line_of, IsInRange, IsProper, sound_in, taken_walk, next_walk, heard_proper, expiry_proper, request_proper, at_no_link, eqb-true, fresh, Event, expiry, after, IsSound, no_share, ending, share_aimed, share_of, link_offer, LinkEvent, link_after, tei_told, tei_after, begin_here, begin_away}
+use Rattle.laws_line.proofs.Vocabulary.{◌≡◌, ◌≢◌, ℕ, ◌<◌, zero, suc, Bool, true, false, cond, ◌==◌, List, [], ◌∷◌, length, get_or, set, Option, Some, None, refl, sym, ◌∙◌, subst, arith, eq-eqb, true≢false, IfSome, option_map_or, get_or-set_same, get_or-set_other, Service, Call, Packet, Link, Terms, Share, share, Comes, event-done, same-comes, restarted, offer-leaves, Moves, Management, IsAt, Places, Change, Gained, Left, Config, hears, request, next, LineTold, is_change_at, Aim, at_link, at_management, told_of_management, of_change, of_aim, Line, link_number, place_at, link_at, link_in, terms, link_count, aim_of_heard, aim_of_expiry, Taken, taken, line_of, IsInRange, IsProper, sound_in, taken_walk, next_walk, heard_proper, expiry_proper, request_proper, at_no_link, eqb-true, fresh, Event, expiry, after, IsSound, no_share, ending, share_aimed, share_of, link_offer, LinkEvent, link_after, tei_told, tei_after, begin_here, begin_away}
 use Rattle.lapd_tei.proofs.LawLemmas as tei_lemmas
 use Rattle.laws_line.proofs.Downs.{by-down}
 
@@ -82,11 +82,7 @@ offer-same : (t : Terms) (l : Link) → Same l (link_after t link_offer l)
 offer-same t l = let x = offer-leaves t l in record { contents = x.contents; acknowledged = x.acknowledged }
 
 taken_keeps : (c : Config) (l : Line) → IsSound c l → (number : ℕ) → IfSome (taken c l) (Keeps l number)
-taken_keeps c l s number =
-    taken_walk c l s (Keeps l number) (λ m ms e. same (link_at number l)) (λ u us e. same (link_at number l))
-    (λ n tei few at sound g e.
-    let t = terms c (service_at n) tei in
-    set_keeps l.links n number (link_after t link_offer (link_at n l)) (offer-same t (link_at n l)))
+taken_keeps c l s number = grind (arith, taken_walk, same, set_keeps, offer-same)
 
 next_keeps : (c : Config) (l : Line) → IsSound c l → (number : ℕ) → Same (link_at number l) (link_at number (option_map_or line_of (taken c l) l))
 next_keeps c l s number = next_walk c l (Keeps l number) (λ o m. Same (link_at number l) (link_at number m)) (taken_keeps c l s number) (same (link_at number l)) (λ t h. h)

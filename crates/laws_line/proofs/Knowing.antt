@@ -98,8 +98,7 @@ module _ (c : Config) (l : Line) (s : IsSound c l) (e : TeiEvent) (fits : tei_la
     leaving z n' = fold (up_by_note z n') (fold (up_by_note z n') (is_up_of z n' l) call) packet ≡ is_up_of z n' (changed (Some (Left tei place)))
 
     own-leaves : (z : Service) → leaving z tei
-    own-leaves Call = grind (arith, placed, own-notes, notes-own, layer_3_knows, other-notes, gone-down)
-    own-leaves Packet = grind (arith, other-notes, notes-own, placed, get_or-set_other, own-notes, layer_3_knows, gone-down)
+    own-leaves z = grind (arith, placed, own-notes, notes-own, layer_3_knows, other-notes, gone-down, get_or-set_other)
 
     leaves-up : (z : Service) (n' : ℕ) (b : Bool) → (tei == n') ≡ b → leaving z n'
     leaves-up z n' true same = subst (λ n. leaving z n) (eqb-true tei n' same) (own-leaves z)

@@ -1,5 +1,5 @@
 -- By notes and granted requests management knows which TEIs are on the line: each event.
-use Rattle.laws_line.proofs.Vocabulary.{arith, ◌≡◌, ℕ, ◌==◌, Bool, true, false, cond, not, is_some, nat_lt, List, get_or, replicate, Option, Some, None, refl, ap, sym, ◌∙◌, eq-eqb, true≢false, next_walk, fold, option_map_or, get_or-set_same, fold-append, none-some, Note, Service, T201, is_up, notes-own, Moves, Management, no_room, left, IsSoundTable, Places, is_on, place_of, Change, Gained, Left, is_on-at, place_of-is, Config, hears, request, next, at_link, at_management, told_of_management, of_change, of_aim, Line, has_tei, link_in, terms, fresh_line, aim_of_heard, Taken, taken, line_of, has_management, Request, Establish, Release, Assign, Remove, SetBusy, ClearBusy, Deactivate, aim_of_request, IsProper, heard_aims, request_proper, Down, option_map, eqb-true, T200, T203, Event, expiry, after, answer, refusal, Data, Unit, Check, IsSound, on_by_note, on_by_request, taken_for_on, link_received, LinkEvent, link_told, StreamEvent, message, course, tei_told, tei_after, check, assigning, remove, tei_refusal, tei_expiry, TeiEvent, skipped, not_not}
+use Rattle.laws_line.proofs.Vocabulary.{arith, ◌≡◌, ℕ, ◌==◌, Bool, true, false, cond, not, is_some, nat_lt, List, get_or, replicate, Option, Some, None, refl, ap, sym, ◌∙◌, eq-eqb, true≢false, next_walk, fold, option_map_or, get_or-set_same, fold-append, none-some, Note, Service, T201, is_up, notes-own, Moves, Management, no_room, left, IsSoundTable, Places, is_on, place_of, Change, is_on-at, place_of-is, Config, hears, request, next, at_link, at_management, told_of_management, of_change, of_aim, Line, has_tei, link_in, terms, fresh_line, aim_of_heard, Taken, taken, line_of, has_management, Request, Establish, Release, Assign, Remove, SetBusy, ClearBusy, Deactivate, aim_of_request, IsProper, heard_aims, request_proper, Down, option_map, eqb-true, T200, T203, Event, expiry, after, answer, refusal, Data, Unit, Check, IsSound, on_by_note, on_by_request, taken_for_on, link_received, LinkEvent, link_told, StreamEvent, message, course, tei_told, tei_after, check, assigning, remove, tei_refusal, tei_expiry, TeiEvent, skipped, not_not}
 use Rattle.lapd_tei.specs.Laws as tei_laws
 use Rattle.lapd_tei.proofs.LawLemmas as tei_lemmas
 use Rattle.laws_line.proofs.Following.{some-same}
@@ -84,9 +84,7 @@ module _ (c : Config) (l : Line) (s : IsSound c l) (e : TeiEvent) (fits : tei_la
 
   by-change : (o : Option Change) → (o ≡ None → asked-on tei (has_tei tei l) e ≡ has_tei tei l) → Moves l.management.places o m.places → ByChange e o ns
       → let f = of_change c o (told_of_management (tei_told e l.management)) (record l { management = m }) in Knows l (λ on. asked-on tei on e) tei f.told.notes f.line
-  by-change None plain moves is = ap (λ xs. fold (on_by_note tei) (asked-on tei (has_tei tei l) e) xs) is ∙ plain refl ∙ ap (is_on tei) (sym moves)
-  by-change (Some (Gained by place)) plain joined is = comes-on tei by e ns is (has_tei tei l) ∙ comes by place joined (by == tei) refl
-  by-change (Some (Left by place)) plain gone is = grind (arith, fold-append, leaves-on, link-notes, notes-own, goes)
+  by-change o plain gone is = grind (arith, comes-on, ns, comes, fold-append, leaves-on, link-notes, notes-own, goes)
 
   pub management-knows : ((tei_told e l.management).change ≡ None → asked-on tei (has_tei tei l) e ≡ has_tei tei l)
       → Knows l (λ on. asked-on tei on e) tei (of_aim c (at_management e) l).told.notes (of_aim c (at_management e) l).line

@@ -1,5 +1,5 @@
 -- What each event does to TEI management, as the rows of the law have it.
-use Rattle.laws_line.proofs.Vocabulary.{◌≡◌, ◌⊎◌, inl, inr, ℕ, ◌+◌, ◌*◌, ◌/◌, ◌%◌, ◌≤◌, ◌<◌, ◌==◌, ◌&&◌, nat_le, nat_lt, Bool, true, false, not, cond, List, [], ◌∷◌, length, Option, Some, None, IsSome, IfSome, refl, sym, ◌∙◌, subst, arith, true≢false, filter, find, prefix_len, ltb-false, and_parts, nat_tests, All-nil, All-cons, none-some, Management, Remembered, Period, Message, IdentityAssigned, IdentityDenied, IdentityCheckRequest, heard_in, heard_of_type, IsSoundCheck, IsSoundQueue, Places, is_free, is_on, place_of, free_place, free_tei, no_room, lost_after, freed, is_of_other, begin_check, end_check, send, remembered-on, one_is_free, free_tei-is, free_place-is, place_of-is, option_map, eqb-true, All, TeiCheck as Check, TeiIsSound as IsSound, Course, tei_begun as begun, tei_with_message as with_message, Said, asks, verifies, responds, IsSpelled, Says, Waits, FindsNoRoom, IsSent, LineIsSilent as IsSilent, KeepsTeis, Leaves, tei_for, IsAnswered, new_check, Responds, Serves, IsOver, ExpiresIn, Expires, assign_new, respond, removed, remembered_in, rows_verify, expire_period, rows_is_for, expire_check, assign, serve, rows_tei_in, rows_request}
+use Rattle.laws_line.proofs.Vocabulary.{◌≡◌, ◌⊎◌, inl, inr, ℕ, ◌+◌, ◌*◌, ◌/◌, ◌%◌, ◌≤◌, ◌<◌, ◌==◌, ◌&&◌, nat_le, nat_lt, Bool, true, false, not, cond, List, [], ◌∷◌, length, Option, Some, None, IsSome, IfSome, refl, sym, ◌∙◌, arith, true≢false, filter, find, prefix_len, ltb-false, and_parts, nat_tests, All-nil, All-cons, none-some, Management, Remembered, Period, Message, IdentityAssigned, IdentityDenied, IdentityCheckRequest, heard_in, heard_of_type, IsSoundCheck, IsSoundQueue, Places, is_free, is_on, place_of, free_place, free_tei, no_room, lost_after, freed, is_of_other, begin_check, end_check, send, remembered-on, one_is_free, free_tei-is, free_place-is, place_of-is, option_map, eqb-true, All, TeiCheck as Check, TeiIsSound as IsSound, Course, tei_begun as begun, tei_with_message as with_message, Said, asks, verifies, responds, IsSpelled, Says, Waits, FindsNoRoom, IsSent, LineIsSilent as IsSilent, KeepsTeis, Leaves, tei_for, IsAnswered, new_check, Responds, Serves, IsOver, ExpiresIn, Expires, assign_new, respond, removed, remembered_in, rows_verify, expire_period, rows_is_for, expire_check, assign, serve, rows_tei_in, rows_request}
 use Rattle.laws_line.proofs.Places.{is-off}
 
 -- whether there is room for one more
@@ -120,15 +120,10 @@ module _ (m : Management) where
   ai : (action : ℕ) → ((2 * action + 1) % 2 ≡ 1) × ((2 * action + 1) / 2 ≡ action)
   ai action = (omega arith, omega arith)
 
-  -- a verify, and an answer, whatever its Ri
-  as-spelled : (info : List ℕ) (type ri action : ℕ) → IsSpelled info type ri action → served_as info ≡ serve (heard_of_type type ri action) (begun m)
-  as-spelled info type ri action h = grind (arith, ai)
-
   pub serves : (said : Said) (info : List ℕ) → IsSound m → length m.places < 63 → Says info said → let c = served_as info in Serves said m c.now c.told.lost
-  serves (asks ri) info s few h = subst (λ (c : Course). Serves (asks ri) m c.now c.told.lost) (sym (as-spelled info 1 ri 127 h)) (requests ri m s few)
-  serves (verifies tei) info s few h = subst (λ (c : Course). Serves (verifies tei) m c.now c.told.lost) (sym (as-spelled info 7 h.0 tei h.1)) (verified tei m s)
-  serves (responds tei) info s few h =
-      subst (λ (c : Course). Serves (responds tei) m c.now c.told.lost) (sym (as-spelled info 5 h.0 tei h.1)) (responded tei m s m.check s.checked)
+  serves (asks ri) info s few h = grind (arith, requests, ai)
+  serves (verifies tei) info s few h = grind (arith, verified, ai)
+  serves (responds tei) info s few h = grind (arith, responded, ai)
 
   -- Other octets are no message that is served.
   abbrev Told : List ℕ → Course → Type 0

@@ -1,5 +1,5 @@
 -- All that an answer notes: each event of a line.
-use Rattle.laws_line.proofs.Vocabulary.{◌≡◌, ℕ, false, List, [], Option, Some, None, refl, ap, subst, arith, inl, inr, next_walk, option_map_or, get_or-set_same, get_or-set_other, Note, Refusal, Service, Timer, T201, Terms, LinkTimer, Link, told_cleared, event-follows, Change, Gained, Left, at-within, Config, hears, request, next, Answer, told, Aim, at_link, at_management, told_of_management, of_change, of_aim, at_timer, aim_of_expiry, Line, place_in, link_in, unless_refused_told, aim_of_heard, Taken, taken, line_of, Request, Establish, Release, Assign, Remove, SetBusy, ClearBusy, Deactivate, at_requested, at_deactivated, aim_of_request, IsProper, number_within, heard_proper, expiry_proper, request_proper, Down, T200, T203, Event, expiry, after, answer, unless_refused, refusal, Data, Unit, Check, IsSound, notes_of, noted_coming, noted_leaving, NotesItsOwn, link_received, LinkEstablish, LinkRelease, link_expired, LinkClearBusy, link_requested, LinkRequest, LinkData, link_cleared, LinkSetBusy, LinkEvent, link_told, StreamEvent, message, tei_told, check, tei_after, remove, assigning, tei_expiry, TeiEvent}
+use Rattle.laws_line.proofs.Vocabulary.{◌≡◌, ℕ, false, List, [], Option, Some, None, refl, ap, subst, arith, inl, inr, next_walk, option_map_or, get_or-set_same, get_or-set_other, Note, Refusal, Service, Timer, Terms, LinkTimer, Link, told_cleared, event-follows, Change, at-within, Config, hears, request, next, Answer, told, Aim, at_link, at_management, told_of_management, of_change, of_aim, at_timer, aim_of_expiry, Line, place_in, link_in, unless_refused_told, aim_of_heard, Taken, taken, line_of, Request, Establish, Release, Assign, Remove, SetBusy, ClearBusy, Deactivate, at_requested, at_deactivated, aim_of_request, IsProper, number_within, heard_proper, expiry_proper, request_proper, Down, Event, expiry, after, answer, unless_refused, refusal, Data, Unit, Check, IsSound, notes_of, noted_coming, noted_leaving, NotesItsOwn, link_received, LinkEstablish, LinkRelease, link_expired, LinkClearBusy, link_requested, LinkRequest, LinkData, link_cleared, LinkSetBusy, LinkEvent, link_told, StreamEvent, message, tei_told, check, tei_after, remove, assigning, TeiEvent}
 use Rattle.lapd_tei.specs.Laws as tei_laws
 use Rattle.lapd_tei.proofs.LawLemmas as tei_lemmas
 use Rattle.laws_line.proofs.GroupAims.{heard-aims-at}
@@ -36,9 +36,7 @@ module _ (c : Config) (l : Line) (s : IsSound c l) (e : Event) where
         NotesItsOwn c e l f.line (told f.told)
 
     by-change : (o : Option Change) → ByChange me o ns → tei_laws.Moves l.management.places o (tei_after me l.management).places → Goes o
-    by-change None by m = inr (inr (inr (inr (record { stays = m; notes = by }))))
-    by-change (Some (Gained tei place)) by m = grind (arith, get_or-set_same)
-    by-change (Some (Left tei place)) by m = grind (arith, get_or-set_other, ending-told, get_or-set_same)
+    by-change o by m = grind (arith, get_or-set_same, get_or-set_other, ending-told)
 
     managed : Own (at_management me)
     managed = by-change (tei_told me l.management).change (noted me l.management s.management) (tei_lemmas.changes_are_told me l.management fits s.management)
@@ -69,9 +67,7 @@ module _ (c : Config) (l : Line) (s : IsSound c l) where
   timer-noted e service tei timer (Some place) proper by = of-link c l s e service tei place (link_expired timer) proper by
 
   expiry-noted : (timer : Timer) → OwnOf (expiry timer) (aim_of_expiry timer l)
-  expiry-noted (T200 service tei) proper by = timer-noted (expiry (T200 service tei)) service tei LinkTimer.T200 (place_in l tei) proper by
-  expiry-noted (T203 service tei) proper by = timer-noted (expiry (T203 service tei)) service tei LinkTimer.T203 (place_in l tei) proper by
-  expiry-noted T201 proper by = managed c l s (expiry T201) tei_expiry proper (λ tei ns is. absurd is) (λ tei ns is. is)
+  expiry-noted timer proper by = grind (arith, timer-noted, managed)
 
   asked-noted : (e : Event) (service : Service) (tei : ℕ) (what : LinkRequest) (o : Option ℕ) → OwnOf e (at_requested service tei what o)
   asked-noted e service tei what None proper by = nothing-noted c l s e _ _ refl refl

@@ -1,16 +1,10 @@
 -- What notes say: those of a link of this link alone, and those of TEI management of TEIs alone.
-use Rattle.laws_line.proofs.Vocabulary.{arith, ◌≡◌, ℕ, ◌==◌, ◌&&◌, Bool, false, List, [], ◌∷◌, refl, ap, ◌∙◌, fold, All-head, All-tail, Note, Service, same_service, seen, known, IsOwn, Terms, All, up_by_note, on_by_note}
+use Rattle.laws_line.proofs.Vocabulary.{arith, ◌≡◌, ℕ, ◌==◌, ◌&&◌, Bool, false, List, [], ◌∷◌, refl, fold, All-head, All-tail, Note, Service, same_service, seen, known, IsOwn, Terms, All, up_by_note, on_by_note}
 use Rattle.laws_line.proofs.Told.{its-own}
-
--- notes of a link, for the link itself,
-own-note : (t : Terms) (up : Bool) (n : Note) → IsOwn t n → up_by_note t.service t.tei up n ≡ seen up n
-own-note t up n own = grind (arith, its-own)
 
 pub own-notes : (t : Terms) (up : Bool) (ns : List Note) → All (IsOwn t) ns → fold (up_by_note t.service t.tei) up ns ≡ known up ns
 own-notes t up [] all = refl
-own-notes t up (n ∷ ns) all =
-    ap (λ b. fold (up_by_note t.service t.tei) b ns) (own-note t up n (All-head (IsOwn t) n ns all))
-    ∙ own-notes t (seen up n) ns (All-tail (IsOwn t) n ns all)
+own-notes t up (n ∷ ns) all = grind (arith, All-head, All-tail, its-own, (own-notes t (seen up n) ns (All-tail (IsOwn t) n ns all)))
 
 -- and for another
 module _ (t : Terms) (service : Service) (tei : ℕ) (other : (same_service t.service service && (t.tei == tei)) ≡ false) where
@@ -19,14 +13,8 @@ module _ (t : Terms) (service : Service) (tei : ℕ) (other : (same_service t.se
 
   pub other-notes : (up : Bool) (ns : List Note) → All (IsOwn t) ns → fold (up_by_note service tei) up ns ≡ up
   other-notes up [] all = refl
-  other-notes up (n ∷ ns) all =
-      ap (λ b. fold (up_by_note service tei) b ns) (other-note up n (All-head (IsOwn t) n ns all)) ∙ other-notes up ns (All-tail (IsOwn t) n ns all)
-
--- they say nothing of TEIs
-link-note : (t : Terms) (tei : ℕ) (on : Bool) (n : Note) → IsOwn t n → on_by_note tei on n ≡ on
-link-note t tei on n own = grind arith
+  other-notes up (n ∷ ns) all = grind (arith, other-note, All-head, All-tail, (other-notes up ns (All-tail (IsOwn t) n ns all)))
 
 pub link-notes : (t : Terms) (tei : ℕ) (on : Bool) (ns : List Note) → All (IsOwn t) ns → fold (on_by_note tei) on ns ≡ on
 link-notes t tei on [] all = refl
-link-notes t tei on (n ∷ ns) all =
-    ap (λ b. fold (on_by_note tei) b ns) (link-note t tei on n (All-head (IsOwn t) n ns all)) ∙ link-notes t tei on ns (All-tail (IsOwn t) n ns all)
+link-notes t tei on (n ∷ ns) all = grind (arith, All-head, All-tail, (link-notes t tei on ns (All-tail (IsOwn t) n ns all)))

@@ -40,5 +40,4 @@ comes t l k h b e = grind (arith, comes-in-step, stays-in-step)
 
 pub steers-expiry : (t : Terms) (k : LinkTimer) (l : Link) → IsTimed l
     → Steers t (without (timer_at t k)) (link_told t (link_expired k) l).orders l (link_after t (link_expired k) l)
-steers-expiry t LinkTimer.T200 l h = grind (arith, leaves-others, itself, comes, stays-in-step)
-steers-expiry t LinkTimer.T203 l h = grind (arith, leaves-others, itself, comes, stays-in-step)
+steers-expiry t k l h = grind (arith, leaves-others, itself, comes, stays-in-step)

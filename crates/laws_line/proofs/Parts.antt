@@ -66,9 +66,7 @@ module _ (c : Config) (l : Line) (s : IsSound c l) where
   in-range r me aim none = grind (arith, request_proper)
 
   asked : (e : Event) (r : Request) (me : teis.Event) → aim_of_request r l ≡ at_management me → (e ≡ request r) × (is_granted (answer c e l) ≡ true) → Managed e me
-  asked e r me aim by =
-      subst (λ e. is_granted (answer c e l) ≡ true → Managed e me) (sym by.0)
-      (λ granted. let none = not-refused c r l granted in by-request r me (in-range r me aim none) aim none) by.1
+  asked e r me aim by = grind (arith, not-refused, by-request, in-range)
 
   by-timer : Managed (expiry T201) teis.expiry
   unfolding after answer

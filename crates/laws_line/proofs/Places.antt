@@ -1,13 +1,9 @@
 -- Where a TEI is: at the one place of a sound table that has it.
-use Rattle.laws_line.proofs.Vocabulary.{◌≡◌, ◌≢◌, ℕ, ◌+◌, ◌≤◌, ◌<◌, ◌||◌, Bool, false, not, cond, List, [], ◌∷◌, length, get_or, set, nat_lt, Option, Some, None, refl, sym, ap, ◌∙◌, subst, arith, list_any, prefix_len, cases_eq, ltb-false, get_or-set_same, get_or-set_other, none-some, IsAt, IsSoundTable, Places, is_on, place_of, at-off, place_of-is}
+use Rattle.laws_line.proofs.Vocabulary.{◌≡◌, ◌≢◌, ℕ, ◌≤◌, ◌<◌, Bool, false, not, List, [], ◌∷◌, length, get_or, set, nat_lt, Option, Some, None, refl, sym, ap, ◌∙◌, subst, arith, list_any, prefix_len, cases_eq, ltb-false, get_or-set_same, get_or-set_other, none-some, IsAt, IsSoundTable, Places, is_on, place_of, at-off, place_of-is}
 
 none_any : {X : Type 0} (p : X → Bool) (xs : List X) → length xs ≤ prefix_len (λ y. not (p y)) xs → list_any p xs ≡ false
 none_any p [] e = refl
-none_any p (x ∷ xs) e = go (p x) (none_any p xs) e
-  where
-    go : (b : Bool) → (length xs ≤ prefix_len (λ y. not (p y)) xs → list_any p xs ≡ false)
-        → length (x ∷ xs) ≤ cond (not b) (1 + prefix_len (λ y. not (p y)) xs) 0 → b || list_any p xs ≡ false
-    go b rest e = grind arith
+none_any p (x ∷ xs) e = grind (arith, (none_any p xs))
 
 -- one without a place is not on the line, and at no place
 pub is-off : (places : Places) (tei : ℕ) → place_of tei places ≡ None → is_on tei places ≡ false

@@ -1,6 +1,6 @@
 -- What is read of the links of a line, by service and TEI, and else where the TEI is not on it: through an event of one
 -- link, and where a TEI comes or leaves.
-use Rattle.laws_line.proofs.Vocabulary.{◌≡◌, ◌≢◌, ℕ, ◌+◌, ◌*◌, ◌<◌, ◌==◌, ◌&&◌, false, List, length, get_or, set, Option, Some, None, refl, ap, sym, ◌∙◌, subst, arith, length-set, eq-eqb, true≢false, option_map_or, cases_eq, get_or-set_same, get_or-set_other, none-some, Service, Call, Packet, same_service, Link, Management, IsAt, IsSoundTable, place_of, at-within, place_of-is, Config, Line, link_number, link_in, place_in, with_link, number_within, fresh, IsSound}
+use Rattle.laws_line.proofs.Vocabulary.{◌≡◌, ◌≢◌, ℕ, ◌+◌, ◌*◌, ◌<◌, ◌==◌, ◌&&◌, false, List, length, get_or, set, Option, Some, None, refl, ap, ◌∙◌, subst, arith, length-set, eq-eqb, true≢false, option_map_or, cases_eq, get_or-set_same, get_or-set_other, none-some, Service, Call, Packet, same_service, Link, Management, IsAt, IsSoundTable, place_of, at-within, place_of-is, Config, Line, link_number, link_in, place_in, with_link, number_within, fresh, IsSound}
 use Rattle.laws_line.proofs.Following.{same-number, some-same}
 use Rattle.laws_line.proofs.Obeyed.{service-same}
 use Rattle.laws_line.proofs.Places.{has-no-place, has-place, stays-placed}
@@ -42,8 +42,7 @@ module _ {X : Type 0} (off : X) (R : Link → X) where
     apart s' n' other p' e same =
         let is = same-number s' service p' place same in
         let holds : IsAt l.management.places place n' = subst (λ p. IsAt l.management.places p n') is.1 (place_of-is l.management.places n' p' e).1 in
-        let teis : tei ≡ n' = some-same tei n' (sym at ∙ holds) in
-        true≢false (sym (ap (λ b. b && (tei == n')) (ap (λ z. same_service service z) is.0 ∙ service-same service) ∙ eq-eqb tei n' teis) ∙ other)
+        grind (arith, some-same, true≢false, service-same, eq-eqb)
 
     pub other-read : (s' : Service) (n' : ℕ) → (same_service service s' && (tei == n')) ≡ false
         → read_of s' n' (with_link (link_number place service) y l) ≡ read_of s' n' l

@@ -1,5 +1,5 @@
 -- An answer has at most four notes and four orders.
-use Rattle.laws_line.proofs.Vocabulary.{ℕ, ◌≤◌, false, List, [], ◌∷◌, ◌++◌, length, Option, Some, None, IfSome, arith, length-append, option_or, Refusal, Service, Timer, T201, event-tells, cleared-tells, two-orders, cleared-orders, Change, Config, hears, request, next, LineTold, gave, aim_of_expiry, notes_in, orders_in, Line, link_in, link_at, terms, terms_at, unless_refused_told, aim_of_heard, told_of_management, of_link, of_change, of_management, of_aim, Taken, with_given_frame, link_taken, first_taken, taken, next_of, Request, Establish, Release, Assign, Remove, SetBusy, ClearBusy, Deactivate, aim_of_request, IsBrief, told_brief, heard_aims, expiry_starts, Down, without_units, option_map, T200, T203, Event, expiry, AnswersAreShort, answer, unless_refused, refusal, Data, Unit, Check, link_received, LinkEvent, link_given, link_course, StreamEvent, down, message, tei_told, check, tei_after, remove, assigning, tei_expiry, TeiEvent}
+use Rattle.laws_line.proofs.Vocabulary.{ℕ, ◌≤◌, false, List, [], ◌∷◌, ◌++◌, length, Option, Some, None, IfSome, arith, length-append, Refusal, Service, Timer, T201, event-tells, cleared-tells, two-orders, cleared-orders, Change, Config, hears, request, next, LineTold, gave, aim_of_expiry, notes_in, orders_in, Line, terms_at, unless_refused_told, aim_of_heard, told_of_management, of_link, of_change, of_management, of_aim, Taken, first_taken, taken, next_of, Request, Establish, Release, Assign, Remove, SetBusy, ClearBusy, Deactivate, aim_of_request, IsBrief, told_brief, heard_aims, expiry_starts, Down, without_units, option_map, T200, T203, Event, expiry, AnswersAreShort, answer, unless_refused, refusal, Data, Unit, Check, link_received, LinkEvent, StreamEvent, down, message, tei_told, check, tei_after, remove, assigning, tei_expiry, TeiEvent}
 use Rattle.lapd_tei.specs.Machine as tei
 
 record IsShort (t : LineTold) : Type 0 where
@@ -8,10 +8,7 @@ record IsShort (t : LineTold) : Type 0 where
 
 module _ (c : Config) where
   link_short : (service : Service) (tei place : ℕ) (e : LinkEvent) (l : Line) → IsShort (of_link c service tei place e l).told
-  link_short service tei place e l =
-      let x = link_in l service place in
-      let course = link_course (terms c service tei) e x in
-      grind (arith, event-tells, two-orders)
+  link_short service tei place e l = grind (arith, event-tells, two-orders)
 
   -- three lists after one another
   three : {X : Type 0} (xs ys zs : List X) → length xs ≤ 1 → length ys ≤ 1 → length zs ≤ 1 → length (xs ++ ys ++ zs) ≤ 4
@@ -59,20 +56,14 @@ module _ (c : Config) where
   anything : {X : Type 0} (P : X → Type 0) (o : Option X) → ((x : X) → P x) → IfSome o P
   anything P o h = grind arith
 
-  first_few : (P : Taken → Type 0) (o rest : Option Taken) → IfSome o P → IfSome rest P → IfSome (option_or o rest) P
-  first_few P o rest h h' = grind arith
-
   links_few : (l : Line) (ns : List ℕ) → IfSome (first_taken c l ns) HasFewOrders
   unfolding HasFewOrders
   links_few l [] = tt
-  links_few l (n ∷ ns) =
-      let t = terms_at c n l in
-      first_few HasFewOrders (link_taken c l n) (first_taken c l ns)
-      (mapped (with_given_frame c l n t) HasFewOrders (link_given t (link_at n l)) (grind (arith, two-orders))) (links_few l ns)
+  links_few l (n ∷ ns) = grind (arith, terms_at, mapped, two-orders, (links_few l ns))
 
   taken_few : (l : Line) → IfSome (taken c l) HasFewOrders
   unfolding HasFewOrders
-  taken_few l = grind (arith, first_few, HasFewOrders, mapped, anything, links_few)
+  taken_few l = grind (arith, HasFewOrders, mapped, anything, links_few)
 
   next_few : (l : Line) → length (orders_in (gave (option_map next_of (taken c l)))) ≤ 2
   unfolding HasFewOrders

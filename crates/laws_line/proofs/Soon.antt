@@ -1,15 +1,11 @@
 -- What a configuration lets go before a control frame that waits.
-use Rattle.laws_line.proofs.Vocabulary.{◌≡◌, ℕ, ◌+◌, ◌≤◌, ◌<◌, List, ◌∷◌, ◌++◌, length, Some, arith, length-append, nat_le, mul-le-mul_right, leb-false, ControlFrame, Config, Line, link_count, place_at, tei_at, link_at, IsInRange, IsSound, frames_before, IsEnough, control_text, IsTakenWithin, most_frames_before}
+use Rattle.laws_line.proofs.Vocabulary.{◌≡◌, ℕ, ◌+◌, ◌≤◌, ◌<◌, List, ◌∷◌, ◌++◌, length, Some, arith, length-append, nat_le, mul-le-mul_right, leb-false, ControlFrame, Config, Line, link_count, place_at, tei_at, link_at, IsInRange, IsSound, frames_before, control_text, IsTakenWithin, most_frames_before}
 use Rattle.laws_line.proofs.Ordered.{enough-goes}
 
 -- by numbers alone
 pub few-before : (c : Config) (l : Line) → IsSound c l → (number others : ℕ) → number < link_count c → others + 1 ≤ c.control
     → frames_before c l number others ≤ most_frames_before c
 few-before c l s number others few room = grind (arith, nat_le, leb-false, mul-le-mul_right)
-
-pub enough-before : (c : Config) (l : Line) → IsSound c l → (number others n : ℕ) → number < link_count c → others + 1 ≤ c.control
-    → most_frames_before c < n → IsEnough c n l number others
-enough-before c l s number others n few room enough = grind (arith, few-before)
 
 -- what waits of a link has room
 module _ (c : Config) (ranged : IsInRange c) (l : Line) (s : IsSound c l) (number tei : ℕ) (few : number < link_count c)
@@ -24,6 +20,4 @@ module _ (c : Config) (ranged : IsInRange c) (l : Line) (s : IsSound c l) (numbe
 pub goes-soon : (c : Config) → IsInRange c → (l : Line) → IsSound c l → (number tei : ℕ) → number < link_count c
     → tei_at (place_at number) l ≡ Some tei → (before : List ControlFrame) (f : ControlFrame) (behind : List ControlFrame)
     → (link_at number l).waiting ≡ before ++ f ∷ behind → (n : ℕ) → most_frames_before c < n → IsTakenWithin c n l (control_text c number tei f)
-goes-soon c ranged l s number tei few at before f behind waits n enough =
-    enough-goes c ranged number tei few n l s at before f behind waits
-    (enough-before c l s number (length before) n few (others-fit c ranged l s number tei few at before f behind waits) enough)
+goes-soon c ranged l s number tei few at before f behind waits n enough = grind (arith, enough-goes, others-fit, few-before)

@@ -1,5 +1,5 @@
 -- How what an event aims at is tied to the event.
-use Rattle.laws_line.proofs.Vocabulary.{arith, ◌≡◌, ℕ, true, List, Option, Some, Result, Ok, refl, inr, Address, ReadFault, Long, Service, Timer, Parts, reading, long_reading, service_of, Config, hears, request, Answer, Aim, at_link, aim_of_expiry, Line, addressed, aim_of_reading, aim_of_long, heard_side, aim_of_heard, side_aims, Request, aim_of_request, Event, expiry, at_place, is_granted, IsTooLong, BringsMalformed, IsBy, IsOf, LinkReceived, link_received, stream_overlong, bits_dropped, stream_frame, StreamEvent}
+use Rattle.laws_line.proofs.Vocabulary.{arith, ◌≡◌, ℕ, true, List, Option, Some, Result, Ok, refl, inr, Address, ReadFault, Service, Timer, Parts, reading, service_of, Config, hears, request, Answer, Aim, at_link, aim_of_expiry, Line, addressed, aim_of_reading, heard_side, aim_of_heard, side_aims, Request, aim_of_request, Event, expiry, at_place, is_granted, IsTooLong, BringsMalformed, IsBy, IsOf, LinkReceived, link_received, stream_overlong, bits_dropped, stream_frame, StreamEvent}
 
 abbrev pub Ties : Config → Event → Answer → Aim → Type 0
 Ties c e answer (at_link service tei place event) = IsOf c e answer service tei event
@@ -27,13 +27,9 @@ module _ (c : Config) (l : Line) (answer : Answer) where
       → (service : Service) → service_of address.sapi ≡ Some service → BringsMalformed c (hears (stream_overlong head)) service address.tei what
   too-long head address what is service sapi = record { octets = head; address = address; by = inr (refl, is); sapi = sapi; tei_is = refl }
 
-  long-ties : (head : List ℕ) (r : Result Long ReadFault) → long_reading (heard_side c) head ≡ r → Ties c (hears (stream_overlong head)) answer (aim_of_long l r)
-  long-ties head (Ok (Long.Information address)) read = grind (arith, by-address, too-long)
-  long-ties head r read = grind (arith, by-address, too-long)
-
 pub heard-ties : (c : Config) (l : Line) (e : StreamEvent) (answer : Answer) → Ties c (hears e) answer (aim_of_heard c l e)
 heard-ties c l (stream_frame octets) answer = read-ties c l answer octets (reading (heard_side c) octets) refl
-heard-ties c l (stream_overlong head) answer = long-ties c l answer head (long_reading (heard_side c) head) refl
+heard-ties c l (stream_overlong head) answer = grind (arith, by-address, too-long)
 heard-ties c l (bits_dropped cause) answer = tt
 
 -- An expiry.

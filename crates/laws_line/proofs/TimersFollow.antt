@@ -95,13 +95,9 @@ module _ (c : Config) (l : Line) (s : IsSound c l) where
       ∙ management-followed c (without_units l) (down-sound c l s) as_it_was (λ k service tei b. refl) down tt (t201_follows down l.management) timer
   request-followed r proper = grind (arith, asked, same-running, managed, deactivated)
 
-  -- an expiry: of a link's timer,
-  dead : (k : LinkTimer) (service : Service) (tei : ℕ) → place_in l tei ≡ None → (timer : Timer) → without (timer_of k service tei) timer (is_running timer l) ≡ is_running timer l
-  dead k service tei none = grind (arith, each-timer, timer_of, without, eqb-true, both-true, running-of)
-
   pub expired : (k : LinkTimer) (service : Service) (tei : ℕ) → ((number : ℕ) → IsTimed (link_at number l)) → (o : Option ℕ) → place_in l tei ≡ o
       → Follow (without (timer_of k service tei)) l (of_aim c (at_timer service tei k o) l).told.orders (of_aim c (at_timer service tei k o) l).line
-  expired k service tei timed None e = λ timer. dead k service tei e timer
+  expired k service tei timed None e = grind (arith, each-timer, timer_of, without, eqb-true, both-true, running-of)
   expired k service tei timed (Some place) e =
       link-followed (without (timer_of k service tei)) service tei place (link_expired k) e
       (subst (λ timer. Steers (terms c service tei) (without timer) (link_told (terms c service tei) (link_expired k) (link_in l service place)).orders (link_in l service place) (link_after (terms c service tei) (link_expired k) (link_in l service place)))

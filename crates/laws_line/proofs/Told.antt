@@ -1,5 +1,5 @@
 -- Where all that a link keeps goes, layer 3 learns it.
-use Rattle.laws_line.proofs.Vocabulary.{arith, ◌≡◌, ◌≢◌, ℕ, Bool, true, false, cond, ◌||◌, ◌&&◌, ◌==◌, List, [], ◌∷◌, get_or, Option, Some, None, is_some, refl, sym, ap, ◌∙◌, subst, true≢false, eq-eqb, ◌⊎◌, inl, inr, ⊎_elim, list_any, option_map_or, get_or-set_same, All-head, All-tail, none-some, Note, Service, Timer, T201, same_service, Terms, LinkTimer, IsOwn, notes-own, is_loss, tells_loss, ends, share, Management, IsAt, Change, place_of-is, Config, request, LineTold, told, nothing, hears, is_change_at, Aim, at_none, at_link, at_management, told_of_management, of_change, of_aim, at_timer, aim_of_expiry, Line, link_number, service_at, place_at, tei_at, place_in, link_in, terms, aim_of_heard, Request, Establish, Release, Deactivate, at_requested, at_deactivated, aim_of_request, IsProper, place_at-number, service_at-number, heard_aims, request_proper, eqb-true, All, T200, T203, Event, after, answer, IsSound, no_share, ending, share_aimed, share_of, is_link, is_loss_of, IsTold, link_received, LinkRelease, link_expired, link_requested, link_cleared, LinkEvent, link_told, StreamEvent, message, tei_told, tei_after, tei_expiry, TeiEvent}
+use Rattle.laws_line.proofs.Vocabulary.{arith, ◌≡◌, ◌≢◌, ℕ, Bool, true, false, cond, ◌||◌, ◌&&◌, ◌==◌, List, [], ◌∷◌, get_or, Option, Some, None, is_some, refl, sym, ap, ◌∙◌, subst, true≢false, eq-eqb, ◌⊎◌, inl, inr, ⊎_elim, list_any, option_map_or, get_or-set_same, All-head, All-tail, none-some, Note, Service, Timer, same_service, Terms, LinkTimer, IsOwn, notes-own, is_loss, tells_loss, ends, share, Management, IsAt, Change, place_of-is, Config, request, LineTold, told, nothing, hears, is_change_at, Aim, at_none, at_link, at_management, of_change, of_aim, at_timer, aim_of_expiry, Line, link_number, service_at, place_at, tei_at, place_in, link_in, terms, aim_of_heard, Request, Establish, Release, Deactivate, at_requested, at_deactivated, aim_of_request, IsProper, place_at-number, service_at-number, heard_aims, request_proper, eqb-true, All, Event, after, answer, IsSound, no_share, ending, share_aimed, share_of, is_link, is_loss_of, IsTold, link_received, LinkRelease, link_expired, link_requested, link_cleared, LinkEvent, link_told, StreamEvent, message, TeiEvent}
 use Rattle.lapd_tei.specs.Laws as tei_laws
 use Rattle.lapd_tei.proofs.LawLemmas as tei_lemmas
 
@@ -66,9 +66,7 @@ module _ (c : Config) (l : Line) (s : IsSound c l) (number : ℕ) where
       places-are o = grind arith
 
   management : (event : Event) (e : TeiEvent) → tei_laws.IsInRange e → Tells event (at_management e)
-  management event e fits =
-      changes event (tei_told e l.management).change (told_of_management (tei_told e l.management)) (tei_after e l.management)
-      (tei_lemmas.changes_are_told e l.management fits s.management)
+  management event e fits = grind (arith, changes, tei_lemmas.changes_are_told)
 
   no-loss : (event : Event) (aim : Aim) → (share_aimed c number l aim).empties ≡ false → Tells event aim
   no-loss event aim none some = absurd (true≢false (sym some ∙ none))
@@ -85,9 +83,7 @@ module _ (c : Config) (l : Line) (s : IsSound c l) (number : ℕ) where
   timer-tells event service tei timer (Some place) e = at-link event service tei place (link_expired timer) (place_of-is l.management.places tei place e).1 (λ y is. absurd (true≢false (sym y)))
 
   pub expiry-tells : (event : Event) (timer : Timer) → Tells event (aim_of_expiry timer l)
-  expiry-tells event (T200 service tei) = timer-tells event service tei LinkTimer.T200 (place_in l tei) refl
-  expiry-tells event (T203 service tei) = timer-tells event service tei LinkTimer.T203 (place_in l tei) refl
-  expiry-tells event T201 = management event tei_expiry tt
+  expiry-tells event timer = grind (arith, timer-tells, management)
 
   -- what is asked for
   neither : (b : Bool) → cond b false false ≡ true → ⊥

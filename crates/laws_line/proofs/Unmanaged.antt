@@ -59,8 +59,7 @@ module _ (c : Config) (l : Line) (user : c.side ≡ User) (s : IsSound c l) (h :
   by-request (Deactivate service tei) none = grind (arith, same)
   by-request Down none = by-down c l (λ f. IsUnmanaged f.line) (record { messages = refl; remembered = h.remembered; check = refl })
   by-request (Assign tei) none = by-management (assigning tei) (assigned l.management tei idle)
-  by-request (Remove tei) none =
-      absurd (grind arith)
+  by-request (Remove tei) none = grind arith
   by-request (Check tei) none = grind (arith, passed)
 
   -- a call takes none of nothing

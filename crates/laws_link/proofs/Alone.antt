@@ -1,5 +1,5 @@
 -- An I-frame is offered only where it may go; and with offers alone contents go one after the other.
-use Rattle.laws_link.proofs.Vocabulary.{◌≡◌, ℕ, zero, suc, ◌+◌, Bool, true, false, cond, IsTrue, not, List, [], ◌∷◌, Option, sym, ap, ◌∙◌, subst, true≢false, arith, All, IfSome, nat_lt, ltb-true, and_parts, All-head, ControlFrame, Terms, Link, course, after, given, given_of, IsInRange, IsSound, IsWaitingFrame, is_information, Course, Sent, begun, sound-after, IsOffered, is_i_frame, i_frames, MayGo, offered, i_frames_offered, both_ways, offer, may_send_information, offer_among}
+use Rattle.laws_link.proofs.Vocabulary.{◌≡◌, ℕ, zero, suc, ◌+◌, Bool, true, false, cond, IsTrue, not, List, [], ◌∷◌, Option, sym, ◌∙◌, subst, true≢false, arith, All, IfSome, nat_lt, ltb-true, and_parts, All-head, ControlFrame, Terms, Link, course, after, given, given_of, IsInRange, IsSound, IsWaitingFrame, is_information, Course, Sent, begun, sound-after, IsOffered, is_i_frame, i_frames, MayGo, offered, i_frames_offered, both_ways, offer, may_send_information, offer_among}
 use Rattle.laws_link.proofs.Offering.{given-is-offered, offer-leaves, offer-counts}
 
 off : (b : Bool) → not b ≡ true → b ≡ false
@@ -34,7 +34,5 @@ offered-in-order t r zero l h = subst (λ j. IfSome (given t l) (λ g. IsOffered
 offered-in-order t r (suc m) l h =
     let next = after t offer l in
     let rest = offered-in-order t r m next (sound-after t r offer l h) in
-    let at : next.s + i_frames_offered t m next ≡ l.s + (i_frames t offer l + i_frames_offered t m next) =
-    ap (λ s. s + i_frames_offered t m next) (offer-counts t l h) ∙ omega arith in
-    subst (λ j. IfSome (given t (offered t m next)) (λ g. IsOffered l.contents j g.frame g.contents)) at
-    (subst (λ xs. IfSome (given t (offered t m next)) (λ g. IsOffered xs (next.s + i_frames_offered t m next) g.frame g.contents)) (offer-leaves t l).contents rest)
+    let at : next.s + i_frames_offered t m next ≡ l.s + (i_frames t offer l + i_frames_offered t m next) = grind (arith, offer-counts) in
+    grind (arith, offer-leaves)

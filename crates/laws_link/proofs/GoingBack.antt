@@ -1,5 +1,5 @@
 -- From where a link sends again.
-use Rattle.laws_link.proofs.Vocabulary.{arith, ◌≡◌, ℕ, Bool, true, false, List, Some, refl, sym, ◌∙◌, subst, Seq, named, Control, Reject, State, Established, TimerRecovery, LinkTimer, Terms, Link, Course, begun, Step, ◌then◌, Leads, keeping_then, nothing_leads, depending_leads, bit_leads, asked_from, reported, GoesBackTo, leaves, by_number, peer_busy_is, answered, is_final, acknowledged_by_rej_in_7, frame_in_7, unsolicited, acknowledged_in_8, frame_in_8, frame_in, frame_step}
+use Rattle.laws_link.proofs.Vocabulary.{arith, ◌≡◌, ℕ, Bool, true, false, List, Some, refl, sym, subst, Seq, named, Control, Reject, State, Established, TimerRecovery, LinkTimer, Terms, Link, Course, begun, Step, ◌then◌, keeping_then, nothing_leads, depending_leads, bit_leads, asked_from, reported, GoesBackTo, leaves, by_number, peer_busy_is, frame_in_7, acknowledged_in_8, frame_in_8, frame_in, frame_step}
 
 -- The link as it is before its N(R) has its effect.
 record StillAt (l : Link) (state : State) (contents : List (List ℕ)) (a s : ℕ) : Type 0 where
@@ -24,20 +24,11 @@ module _ (t : Terms) (l : Link) (nr : Seq) (n : ℕ) (valid : named l.a l.s nr �
   by-number : (f : ℕ → Step) → ((c : Course) → Still l c → Back (f n c)) → (c : Course) → Still l c → Back (by_number t nr f c)
   by-number f x c h = grind arith
 
-  rejected-7 : l.state ≡ Established → (c : Course) → Still l c → Back (acknowledged_by_rej_in_7 n c)
-  rejected-7 e c h = record { state = h.state_is ∙ e; contents = h.contents_are; acknowledged = refl; sent = refl }
-
-  reported-8 : (timer : LinkTimer) (c : Course) → Still l c → Back (acknowledged_in_8 timer true n c)
-  reported-8 timer c h = record { state = refl; contents = h.contents_are; acknowledged = refl; sent = refl }
-
-  before-7 : (command pf : Bool) → Leads (Still l) (peer_busy_is false then answered t command pf then unsolicited t (is_final command pf)) (Still l)
-  before-7 command pf = search words depth 12 fits 4000
-
   in-7 : l.state ≡ Established → (command : Bool) (octets : List ℕ) (pf : Bool) → Back (frame_in_7 t command octets (Reject nr pf) (begun l))
-  in-7 e command octets pf = by-number acknowledged_by_rej_in_7 (rejected-7 e) ((peer_busy_is false then answered t command pf then unsolicited t (is_final command pf)) (begun l)) ((before-7 command pf).leads (begun l) (begins l))
+  in-7 e command octets pf = grind (arith, by-number, begins)
 
   in-8 : (busy : Bool) (timer : LinkTimer) → Back ((peer_busy_is busy then by_number t nr (acknowledged_in_8 timer true)) (begun l))
-  in-8 busy timer = by-number (acknowledged_in_8 timer true) (reported-8 timer) (peer_busy_is busy (begun l)) (begins l)
+  in-8 busy timer = grind (arith, by-number, begins)
 
   same-number : (m : Seq) (P : Seq → Type 0) → Some m ≡ Some nr → P nr → P m
   same-number m P e x = let same : m ≡ nr = cc in subst P (sym same) x

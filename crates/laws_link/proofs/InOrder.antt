@@ -1,5 +1,5 @@
 -- A link gives what waits in its order.
-use Rattle.laws_link.proofs.Vocabulary.{arith, ◌≡◌, List, [], ◌∷◌, Option, refl, subst, inl, All, IfSome, All-head, ControlFrame, Terms, Link, course, after, given, given_of, IsSound, IsWaitingFrame, Course, Sent, begun, IsInOrder, told_ways, offer, offer_among}
+use Rattle.laws_link.proofs.Vocabulary.{arith, ◌≡◌, List, Option, refl, IfSome, All-head, ControlFrame, Terms, Link, course, after, given, given_of, IsSound, Course, Sent, begun, IsInOrder, told_ways, offer, offer_among}
 use Rattle.laws_link.proofs.Alone.{may-go}
 use Rattle.laws_link.proofs.MayGo.{none-goes}
 
@@ -8,9 +8,7 @@ module _ (t : Terms) (l : Link) (h : IsSound t l) where
   InOrder c = IfSome c.sent (λ s. IsInOrder t l c.link s.frame)
 
   offering : (ws : List ControlFrame) → l.waiting ≡ ws → InOrder (offer_among t ws (begun l))
-  offering (f ∷ fs) w =
-      inl (record { waited = w; bare = (All-head (IsWaitingFrame t) f fs (subst (All (IsWaitingFrame t)) w h.frames)).without_contents; owed = refl })
-  offering [] w = grind (arith, told_ways, may-go, none-goes)
+  offering ws w = grind (arith, All-head, told_ways, may-go, none-goes)
 
   from-sent : (c : Course) (o : Option Sent) → IfSome o (λ s. IsInOrder t l c.link s.frame)
       → IfSome (given_of t l c o) (λ g. IsInOrder t l c.link g.frame)

@@ -93,12 +93,8 @@ module _ (t : Terms) (l : Link) (h : IsSound t l) where
   unfolding Moved
   by-state TeiAssigned e b octets control is = grind (arith, Moved, none-counts, frames_in_4, settled)
   by-state AwaitingEstablishment e b octets control is = grind (arith, Moved, none-counts, frames_in_5, settled)
-  by-state AwaitingRelease e b octets control is =
-      subst (λ n. Moved n (frame_in AwaitingRelease t b octets control (begun l))) (sym (none-counts AwaitingRelease e (number_of t control octets) refl))
-      (frames_in_6 t l h.ordered h.accepted (settled AwaitingRelease e) octets control is)
-  by-state Established e b octets control is =
-      subst (λ n. Moved n (frame_in Established t b octets control (begun l))) (sym (count-is Established e (number_of t control octets) refl))
-      (frames_in_7 t l h.ordered h.accepted b octets control is)
+  by-state AwaitingRelease e b octets control is = grind (arith, none-counts, frames_in_6, settled)
+  by-state Established e b octets control is = grind (arith, count-is, frames_in_7)
   by-state TimerRecovery e b octets control is =
       subst (λ n. Moved n (frame_in TimerRecovery t b octets control (begun l))) (sym (count-is TimerRecovery e (number_of t control octets) refl))
       (frames_in_8 t l h.ordered h.accepted b octets control is)
@@ -228,12 +224,6 @@ module _ (t : Terms) (l : Link) (h : IsSound t l) where
   unfolding Moved
   clear-busy = clear_busy t l h.ordered h.accepted
 
-  unit-offered : (ws : List ControlFrame) → (offer_among t ws (begun l)).unit ≡ None
-  unit-offered ws = grind (arith, both_ways)
-
-  unit-cleared : (here : State) → (told_of_clearing here t (begun l)).unit ≡ None
-  unit-cleared here = grind arith
-
   pub event-unit : (e : Events.Event) → (course t e l).unit ≡ unit_due t e
   event-unit (Events.received (Events.frame f)) = grind (arith, by-length, nat_lt, no-unit, by-state)
-  event-unit e = grind (arith, no-unit, malformed, expires, set-busy, clear-busy, unit-offered, unit-cleared)
+  event-unit e = grind (arith, no-unit, malformed, expires, set-busy, clear-busy, both_ways)

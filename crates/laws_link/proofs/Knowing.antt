@@ -86,10 +86,7 @@ module _ (up : Bool) where
 
   -- from state 5
   pub established_up : (t : Terms) → Leads (At AwaitingEstablishment) (depending_on is_asked (establish_confirm t) (depending_on has_outstanding (discard then establish_indication t) nothing)) Up
-  established_up t =
-      tested_leads is_asked (record { leads = λ c h. record { is = one-more up c.notes (Note.EstablishConfirm t.service t.tei) } })
-      (depending_leads has_outstanding (record { leads = λ c h. record { is = one-more up c.notes (Note.EstablishIndication t.service t.tei) } })
-      (record { leads = λ c h. record { is = (h.holds.known_is ∙ ap not h.told) } }))
+  established_up t = grind (arith, tested_leads, one-more, depending_leads)
 
   pub zero_enters : Leads Up (zero_numbers then start T203 then enter Established) Ends
   zero_enters = record { leads = λ c h. record { known_is = h.is } }

@@ -19,10 +19,7 @@ module _ (t : Terms) (l : Link) where
 -- How often something is noted, by whether it is.
 pub none-counted : (p : Note → Bool) (ns : List Note) → list_any p ns ≡ false → count_by p ns ≡ 0
 none-counted p [] e = refl
-none-counted p (n ∷ ns) e =
-    let parts = or_parts (p n) (list_any p ns) e in
-    let one : cond {A = ℕ} (p n) 1 0 ≡ 0 = ap (λ b. cond {A = ℕ} b 1 0) parts.0 in
-    sum_by-cons (λ n. cond (p n) 1 0) n ns ∙ omega (arith, one, (none-counted p ns parts.1))
+none-counted p (n ∷ ns) e = grind (arith, or_parts, sum_by-cons, (none-counted p ns))
 
 some-counted : (p : Note → Bool) (ns : List Note) → list_any p ns ≡ true → 1 ≤ count_by p ns
 some-counted p [] e = absurd (cc)

@@ -8,12 +8,8 @@ pub record GoesOn (zeroed : Bool) : Type 0 where
 abbrev pub On : Course → Type 0
 On c = GoesOn c.zeroed
 
--- every word but those that begin them anew leaves them
-none-anew : {zeroed : Bool} → ⊥ → GoesOn zeroed
-none-anew may = absurd may
-
 words : (t : Terms) → Kept t (Unit {0}) ⊥ (Unit {0}) On (λ p q c. On c) On
-words t = search none-anew depth 12 fits 4000
+words t = grind arith
 
 module _ (t : Terms) (l : Link) where
   begins : On (begun l)

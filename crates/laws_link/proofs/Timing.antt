@@ -86,9 +86,6 @@ restart_8 = record { leads = λ c h. record { state_is = h.state_is; timer = ref
 pub nearer : (running : Option LinkTimer) (a s m : ℕ) → a ≤ m → TimedBy Established running a s → TimedBy Established running m s
 nearer running a s m from o = grind arith
 
-pub acknowledge_7 : (m : ℕ) → Leads (Named Established m) (acknowledge m) (At Established)
-acknowledge_7 m = grind (arith, nearer)
-
 pub acknowledge_start_7 : (m : ℕ) → Leads (Named Established m) (acknowledge m then start T200) (At Established)
 acknowledge_start_7 m = record { leads = λ c h. record { state_is = h.holds.state_is; timer = inl refl } }
 
@@ -102,7 +99,7 @@ pub acknowledged_7 : (m : ℕ) → Leads (Named Established m) (acknowledged_in_
 acknowledged_7 m = grind (arith, tested_leads, eqb-true, from_more, depending_leads, acknowledge_start_7, unnamed, nothing_leads)
 
 pub acknowledged_by_information_7 : (m : ℕ) → Leads (Named Established m) (acknowledged_by_information_in_7 m) (At Established)
-acknowledged_by_information_7 m = depending_leads _ (acknowledge_7 m) (acknowledged_7 m)
+acknowledged_by_information_7 m = grind (arith, depending_leads, acknowledged_7, nearer)
 
 -- and in state 8
 pub acknowledge_8 : (m : ℕ) → Leads (Named TimerRecovery m) (acknowledge m) (At TimerRecovery)

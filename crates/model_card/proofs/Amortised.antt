@@ -1,5 +1,5 @@
 -- The frames sent, amortised.
-use Rattle.model_card.proofs.Vocabulary.{◌≡◌, ap, ◌∙◌, sum_by-replicate, Config, fresh, fresh_line, fresh_may_send, event_rejects, is_long_heard, FramesAmortisedFromZero, RejectsAreLong, ◌+◌, ◌*◌, ◌≤◌, List, [], ◌∷◌, arith, sum_by, All-head, All-tail, event_rises, Event, Card, line_at, may_send, window, is_sent, is_heard, is_accepted, is_running_expiry, is_reject, FramesAmortised, after, answer, IsAmortised, Moment, moments, after_all, IsAtLine, AreAtLines}
+use Rattle.model_card.proofs.Vocabulary.{sum_by-replicate, fresh_may_send, event_rejects, is_long_heard, FramesAmortisedFromZero, RejectsAreLong, ◌+◌, ◌*◌, ◌≤◌, List, [], ◌∷◌, arith, sum_by, All-head, All-tail, event_rises, Event, Card, line_at, may_send, window, is_sent, is_heard, is_accepted, is_running_expiry, is_reject, FramesAmortised, after, answer, IsAmortised, Moment, moments, after_all, IsAtLine, AreAtLines}
 use Rattle.model_line.specs.Machine as lines
 use Rattle.model_line.specs.Counts as line
 use Rattle.model_card.proofs.Steps.{HasLines, has_lines, by_room, line_sound, after_lines, fresh_lines, one_line, count_cons}
@@ -42,11 +42,8 @@ amortised card (e ∷ events) h within =
 pub frames_amortised : FramesAmortised
 frames_amortised card events s within = amortised card events (has_lines card s) within
 
-fresh_sends_nothing : (c : Config) → may_send (fresh c) ≡ 0
-fresh_sends_nothing c = sum_by-replicate (line.may_send c) c.lines (fresh_line c) ∙ omega (arith, ap (λ x. c.lines * x) (fresh_may_send c))
-
 pub frames_amortised_from_zero : FramesAmortisedFromZero
-frames_amortised_from_zero c events ranged within = omega (arith, amortised (fresh c) events (fresh_lines c ranged) within, fresh_sends_nothing c)
+frames_amortised_from_zero c events ranged within = grind (arith, amortised, fresh_lines, sum_by-replicate, fresh_may_send)
 
 -- REJ frames are among the frames of four octets or more
 pub rejects_are_long : RejectsAreLong

@@ -1,17 +1,10 @@
 -- A card is sound as it begins, and each event keeps it so.
-use Rattle.model_card.proofs.Vocabulary.{◌≡◌, ℕ, ◌+◌, ◌*◌, ◌≤◌, Bool, false, ◌&&◌, List, [], ◌∷◌, nat_le, ap, ◌∙◌, arith, leb-false, All-head, All-tail, sum_by-replicate, Config, one, fresh_line, slots_of, slots_grow, fresh_slots, Card, fresh, used, Event, CardsStaySound, after, after_all, IsAtLine, AreAtLines, IsSound}
+use Rattle.model_card.proofs.Vocabulary.{◌≡◌, ◌*◌, List, [], ◌∷◌, ap, ◌∙◌, arith, leb-false, All-head, All-tail, sum_by-replicate, Config, fresh_line, slots_of, slots_grow, fresh_slots, Card, fresh, used, Event, CardsStaySound, after, after_all, IsAtLine, AreAtLines, IsSound}
 use Rattle.model_line.specs.Sound as line
 use Rattle.model_card.proofs.Steps.{has_lines, by_room, line_sound, after_lines, fresh_lines, one_line}
 
--- who is not turned away finds room
-room_found : (takes : Bool) (slots in_use : ℕ) → (takes && nat_le slots in_use) ≡ false → in_use ≤ slots → in_use + one takes ≤ slots
-room_found takes slots in_use e h = grind (arith, leb-false)
-
-slots_within : (card : Card) (e : Event) → IsSound card → IsAtLine card e → used (after e card) ≤ card.config.slots
-slots_within card e s within = grind (arith, by_room, has_lines, room_found, slots_grow, line_sound, one_line)
-
 pub after_is_sound : (card : Card) (e : Event) → IsSound card → IsAtLine card e → IsSound (after e card)
-after_is_sound card e s within = grind (arith, after_lines, has_lines, slots_within)
+after_is_sound card e s within = grind (arith, after_lines, has_lines, by_room, leb-false, slots_grow, line_sound, one_line)
 
 pub always_sound : (card : Card) (events : List Event) → IsSound card → AreAtLines card events → IsSound (after_all card events)
 unfolding after_all

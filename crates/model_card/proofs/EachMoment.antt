@@ -1,5 +1,5 @@
 -- What holds of every sound card and event at a line of it holds in every moment of a run.
-use Rattle.model_card.proofs.Vocabulary.{List, [], ◌∷◌, All, All-nil, All-cons, All-head, All-tail, Card, Event, after, answer, Moment, moments, IsAtLine, AreAtLines, IsSound}
+use Rattle.model_card.proofs.Vocabulary.{List, [], ◌∷◌, All, All-nil, All-cons, All-head, All-tail, Card, Event, after, answer, Moment, moments, IsAtLine, AreAtLines, IsSound, arith}
 use Rattle.model_card.proofs.CardSound.{after_is_sound}
 
 abbrev pub moment_of : Card → Event → Moment
@@ -19,5 +19,4 @@ pub every_moment : (P : Moment → Type 0) → ((card : Card) (e : Event) → P 
     → (card : Card) (events : List Event) → All P (moments card events)
 unfolding moments
 every_moment P one card [] = All-nil P
-every_moment P one card (e ∷ events) =
-    All-cons P (moment_of card e) (moments (after e card) events) (one card e) (every_moment P one (after e card) events)
+every_moment P one card (e ∷ events) = grind (arith, All-cons, (every_moment P one (after e card) events))

@@ -1,8 +1,7 @@
 -- What a card does at one line, beside what happens at the others.
-use Rattle.model_card.proofs.Vocabulary.{Moment, IsAtLine, AreAtLines, All-head, All-tail, Config, ◌≡◌, ℕ, ◌≤◌, ◌<◌, ◌==◌, Bool, true, false, not, ◌&&◌, List, [], ◌∷◌, length, get_or, set, nat_le, refl, ap, sym, ◌∙◌, subst, cond, arith, length-set, sum_by, filter, map, leb-false, lt-leb, get_or-set_same, get_or-replicate, get_or-le-sum_by, sum_by-set, PoolFull, Answer, refused, is_pool_full, Line, fresh_line, slots_of, line_not_pool, fresh_slots, Card, fresh, line_at, used, Event, is_served_at, event_in, answers_at, LinesIsolated, wants_room, after, answer, moments}
+use Rattle.model_card.proofs.Vocabulary.{Moment, IsAtLine, AreAtLines, All-head, All-tail, Config, ◌≡◌, ℕ, ◌≤◌, ◌<◌, ◌==◌, Bool, true, false, not, ◌&&◌, List, [], ◌∷◌, length, get_or, set, nat_le, refl, ap, sym, ◌∙◌, subst, cond, arith, length-set, sum_by, filter, map, leb-false, lt-leb, get_or-set_same, get_or-replicate, get_or-le-sum_by, sum_by-set, Answer, is_pool_full, Line, fresh_line, slots_of, line_not_pool, fresh_slots, Card, fresh, line_at, used, Event, is_served_at, event_in, answers_at, LinesIsolated, wants_room, after, answer, moments, answer_in, events_at}
 use Rattle.std.proofs.lemmas.Bool.{eqb-true}
 use Rattle.model_line.specs.Machine as lines
-use Rattle.model_card.specs.Isolation.{answer_in, events_at}
 use Rattle.model_card.proofs.CardSound.{fresh_used}
 use Rattle.model_card.proofs.Steps.{HasLines, by_line, after_lines, fresh_lines}
 
@@ -41,21 +40,7 @@ served_alike card ls e h within served a =
     ∙ room_alone (lines.takes_slot c e.what l) c.slots (used card) (sum_by (slots_of c) ls) served few in
     let next = set ls e.line x in
     let sums = sum_by-set (slots_of c) ls e.line x d a.inside in
-    let before : slots_of c (get_or ls e.line d) ≡ sum_by (slots_of c) ls = ap (slots_of c) a.same ∙ sym a.own in
-    record {
-      next = next;
-      moves =
-          ap (λ b. with_lines card (cond b ls (set ls e.line (lines.after c e.what (get_or ls e.line d))))) wants
-          ∙ ap (λ y. with_lines card (set ls e.line (lines.after c e.what y))) a.same;
-      answers =
-          ap (λ y. lines.answer c e.what y) (sym a.same)
-          ∙ sym (ap (λ b. cond b (refused PoolFull) (lines.answer c e.what (get_or ls e.line d))) wants);
-      alone = record {
-        inside = omega (arith, a.inside, length-set ls e.line x);
-        same = get_or-set_same ls e.line x d a.inside;
-        own = omega (arith, sums, before);
-      };
-    }
+    grind (arith, length-set, get_or-set_same)
 
 -- ---- lists of events
 

@@ -1,6 +1,5 @@
 -- Where there is a slot for each place of each queue, the pool is never full.
-use Rattle.model_card.proofs.Vocabulary.{◌≡◌, ℕ, zero, suc, ◌+◌, ◌*◌, ◌≤◌, ◌<◌, false, List, [], ◌∷◌, length, get_or, arith, sum_by, All, and_parts, leb-true, All-nil, All-cons, All-head, All-tail, sum_by-cons, sum_by-le, is_pool_full, fresh_line, slots_of, line_not_pool, places_of, slots_few, taker_finds, Card, fresh, line_at, used, is_full, Event, PoolNeverFull, after, answer, IsNotRefusedForPool, moments, IsAtLine, AreAtLines}
-use Rattle.model_line.specs.Machine as lines
+use Rattle.model_card.proofs.Vocabulary.{◌≡◌, ℕ, zero, suc, ◌+◌, ◌*◌, ◌≤◌, ◌<◌, false, List, [], ◌∷◌, length, get_or, arith, sum_by, All, and_parts, leb-true, All-nil, All-cons, All-head, All-tail, sum_by-cons, sum_by-le, is_pool_full, line_not_pool, places_of, slots_few, taker_finds, Card, fresh, Event, PoolNeverFull, after, answer, IsNotRefusedForPool, moments, IsAtLine, AreAtLines}
 use Rattle.model_card.proofs.Steps.{HasLines, by_room, line_sound, after_lines, fresh_lines}
 
 -- a sum of terms of at most m, by one of them
@@ -22,15 +21,7 @@ below_all n most sum own slots count e sums less enough full = grind arith
 pub event_not_refused : (card : Card) (e : Event) → HasLines card → IsAtLine card e → card.config.lines * places_of card.config ≤ card.config.slots
     → is_pool_full (answer e card) ≡ false
 event_not_refused card e h within enough =
-    by_room (λ ls a. is_pool_full a ≡ false) e card
-    (λ full.
-    let c = card.config in
-    let l = line_at e.line card in
-    let parts = and_parts (lines.takes_slot c e.what l) (is_full card) full in
-    let less = taker_finds c e.what l (line_sound card e.line h within) parts.0 in
-    let sums = sum_but_one (slots_of c) (places_of c) card.lines e.line (fresh_line c) (omega (arith, h.count, within)) (λ k d some. slots_few c _ (h.lines k d some)) in
-    absurd (below_all (length card.lines) (places_of c) (used card) (slots_of c l) c.slots c.lines h.count sums less enough (leb-true c.slots (used card) parts.1)))
-    (λ served. line_not_pool card.config e.what (line_at e.line card))
+    grind (arith, by_room, and_parts, taker_finds, line_sound, sum_but_one, slots_few, below_all, leb-true, line_not_pool)
 
 run_not_refused : (card : Card) (events : List Event) → HasLines card → AreAtLines card events → card.config.lines * places_of card.config ≤ card.config.slots
     → All IsNotRefusedForPool (moments card events)

@@ -1,5 +1,5 @@
 -- Numbered deliveries, over whole runs.
-use Rattle.model_card.proofs.Vocabulary.{◌≡◌, ℕ, ◌+◌, ◌<◌, ◌&&◌, Bool, false, List, [], ◌∷◌, length, All, Option, None, refl, ap, ◌∙◌, cond, arith, fold, option_to_list, get_or-replicate, All-nil, All-cons, All-head, All-tail, PoolFull, Arrived, delivery, counted_on, Config, refused, link_at, link_count, Part, brings_none, none_at, event_parts, slot_brings_nothing, Event, Card, fresh, line_at, DeliveriesNumbered, after, LinkName, arrived, delivered, restarts, received_by, contents_numbered, IsNext, one_more, HasLink, moments, after_all, IsAtLine, AreAtLines}
+use Rattle.model_card.proofs.Vocabulary.{◌≡◌, ℕ, ◌+◌, ◌<◌, ◌&&◌, Bool, false, List, [], ◌∷◌, length, All, Option, None, refl, ap, ◌∙◌, cond, arith, fold, option_to_list, get_or-replicate, All-nil, All-cons, All-head, All-tail, PoolFull, Arrived, counted_on, refused, link_at, link_count, Part, brings_none, none_at, event_parts, slot_brings_nothing, Event, Card, line_at, DeliveriesNumbered, after, LinkName, arrived, delivered, restarts, received_by, contents_numbered, IsNext, one_more, HasLink, moments, after_all, IsAtLine, AreAtLines}
 use Rattle.model_line.specs.Deliveries as line
 use Rattle.model_card.proofs.EachMoment.{moment_of}
 use Rattle.model_card.proofs.Steps.{HasLines, has_lines, by_line, line_sound, after_lines, fresh_lines}
@@ -27,18 +27,11 @@ event-seen name card e h here within few =
     (none_at name.number l (refused PoolFull) (λ service tei. refl)) nothing.goes_on)
     (λ is w. event_parts card.config e.what l name.number (line_sound card name.line h within) few)
 
--- the same contents in the words of a link
-contents-is : (i : ℕ) (o : Option Arrived) → delivery i o ≡ contents_numbered i o
-contents-is i o = grind arith
-
 part-next : (r r' : ℕ) (a : Option Arrived) (d : Option (List ℕ)) (b : Bool) → Part r a r' d b → d ≡ cond b None (contents_numbered r a)
-part-next r r' a d b o = grind (arith, contents-is)
-
-one-on : (r : ℕ) (d : Option (List ℕ)) → counted_on r d ≡ r + length (option_to_list d)
-one-on r d = grind arith
+part-next r r' a d b o = grind arith
 
 part-counts : (r r' : ℕ) (a : Option Arrived) (d : Option (List ℕ)) (b : Bool) → Part r a r' d b → r' ≡ cond b 0 (r + length (option_to_list d))
-part-counts r r' a d b o = grind (arith, counted_on, one-on)
+part-counts r r' a d b o = grind (arith, counted_on)
 
 -- a run
 module _ (name : LinkName) where
@@ -63,8 +56,5 @@ module _ (name : LinkName) where
       (part-counts (received_by name card) (received_by name (after e card)) (arrived name m) (delivered name m) (restarts name m) (event-seen name card e has here named.0 named.1)
       ∙ ap (λ n. one_more name n m) is)
 
-begins-zero : (c : Config) (name : LinkName) → HasLink (fresh c) name → received_by name (fresh c) ≡ 0
-begins-zero c name named = grind (arith, get_or-replicate)
-
 pub deliveries_numbered : DeliveriesNumbered
-deliveries_numbered = grind (arith, each-next, has_lines, run-counts, fresh_lines, begins-zero)
+deliveries_numbered = grind (arith, each-next, has_lines, run-counts, fresh_lines, get_or-replicate)

@@ -1,5 +1,5 @@
 -- Cards that are reached: one that begins is, each event at a line leads to another, and all of them are sound.
-use Rattle.model_card.proofs.Vocabulary.{[], ◌∷◌, ◌++◌, refl, sym, ap, ◌∙◌, subst, All-nil, All-push, Config, IsInRange, Card, fresh, Event, after, IsReached, after_all, IsAtLine, IsSound}
+use Rattle.model_card.proofs.Vocabulary.{[], ◌∷◌, ◌++◌, refl, sym, ap, ◌∙◌, All-nil, All-push, Config, IsInRange, Card, fresh, Event, after, IsReached, after_all, IsAtLine, IsSound, arith}
 use Rattle.model_card.proofs.CardSound.{always_sound, fresh_is_sound}
 use Rattle.model_card.proofs.Runs.{after_all-append}
 
@@ -17,5 +17,4 @@ reached-after card e r within = record {
 }
 
 pub reached-sound : (card : Card) → IsReached card → IsSound card
-reached-sound card r =
-    subst IsSound (sym r.same) (always_sound (fresh card.config) r.events (fresh_is_sound card.config r.config) r.at_lines)
+reached-sound card r = grind (arith, always_sound, fresh_is_sound)

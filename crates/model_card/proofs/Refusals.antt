@@ -1,6 +1,5 @@
 -- Requests are refused by the table.
-use Rattle.model_card.proofs.Vocabulary.{arith, ◌≡◌, ℕ, Bool, true, false, not, ◌&&◌, List, [], ◌∷◌, ◌++◌, get_or, set, Option, Some, None, is_some, IsSome, refl, sym, subst, cond, ◌↔◌, set-get_or, Refusal, PoolFull, Config, Answer, request, refused, Line, unless_refused, unless_refused_told, Effect, of_aim, Row, first_that_holds, bad_tei, no_link, bad_tei_or_group, no_link_nor_group, wrong_state, too_long, queue_full, unit_queue_full, pool_full, refusal, Request, Data, Unit, aim_of_request, carries_contents, at, Card, line_at, is_full, RefusedByTheTable, after, answer}
-use Rattle.model_link.specs.Events as link
+use Rattle.model_card.proofs.Vocabulary.{arith, ◌≡◌, ℕ, Bool, true, false, not, ◌&&◌, List, [], ◌∷◌, ◌++◌, get_or, set, Option, Some, None, is_some, IsSome, refl, cond, set-get_or, Refusal, PoolFull, Config, Answer, request, Line, unless_refused, unless_refused_told, Effect, of_aim, Row, first_that_holds, pool_full, refusal, Request, Data, Unit, aim_of_request, carries_contents, at, Card, line_at, is_full, RefusedByTheTable, after, answer}
 use Rattle.model_line.specs.Machine as lines
 
 -- A full pool refuses after all other rows, and contents alone.
@@ -15,42 +14,22 @@ with_pool carries full None = cond carries (pool_refusal full) None
 last_row : (full : Bool) (rs : List Row)
     → first_that_holds (rs ++ pool_full full ∷ []) ≡ with_pool true full (first_that_holds (rs ++ pool_full false ∷ []))
 last_row full [] = refl
-last_row full (r ∷ rs) = go r.holds (last_row full rs)
-  where
-    go : (b : Bool)
-        → first_that_holds (rs ++ pool_full full ∷ []) ≡ with_pool true full (first_that_holds (rs ++ pool_full false ∷ []))
-        → cond b (Some r.why) (first_that_holds (rs ++ pool_full full ∷ []))
-        ≡ with_pool true full (cond b (Some r.why) (first_that_holds (rs ++ pool_full false ∷ [])))
-    go b rest = grind arith
-
-no_pool : (full : Bool) (o : Option Refusal) → o ≡ with_pool false full o
-no_pool full o = grind arith
+last_row full (r ∷ rs) = grind (arith, (last_row full rs))
 
 refusal_with_pool : (c : Config) (full : Bool) (r : Request) (l : Line) → refusal c full r l ≡ with_pool (carries_contents r) full (refusal c false r l)
-refusal_with_pool c full (Data service tei contents) l =
-    last_row full (bad_tei tei ∷ no_link tei l ∷ wrong_state service tei (link.Data contents) l ∷ too_long c contents ∷ queue_full c service tei l ∷ [])
-refusal_with_pool c full (Unit service tei contents) l =
-    last_row full (bad_tei_or_group c tei ∷ no_link_nor_group tei l ∷ too_long c contents ∷ unit_queue_full c l ∷ [])
-refusal_with_pool c full other l = no_pool full (refusal c false other l)
+refusal_with_pool c full (Data service tei contents) l = grind (arith, last_row)
+refusal_with_pool c full (Unit service tei contents) l = grind (arith, last_row)
+refusal_with_pool c full other l = grind arith
 
 -- The answer to a request, by what refuses it.
 abbrev answer_by : Option Refusal → Effect → Answer
 answer_by o outcome = unless_refused_told o outcome
 
--- the card's answer is by its own and the pool's refusal
-combined : (carries full : Bool) (o : Option Refusal) (outcome : Effect)
-    → cond ((carries && not (is_some o)) && full) (refused PoolFull) (answer_by o outcome)
-    ≡ answer_by (with_pool carries full o) outcome
-combined carries full o outcome = grind arith
-
 pub answer_is : (card : Card) (number : ℕ) (r : Request)
     → answer (at number (request r)) card
     ≡ answer_by (refusal card.config (is_full card) r (line_at number card)) (lines.of_request card.config r (line_at number card))
 unfolding lines.answer lines.takes_slot
-answer_is card number r = grind (arith, combined, refusal_with_pool)
-
-refused_by : (o : Option Refusal) (outcome : Effect) (why : Refusal) → (answer_by o outcome ≡ refused why) ↔ (o ≡ Some why)
-refused_by o outcome why = grind arith
+answer_is card number r = grind (arith, refusal_with_pool)
 
 -- and then nothing changes
 stays : (carries full : Bool) (o : Option Refusal) (c : Config) (r : Request) (l d : Line) (ls : List Line) (number : ℕ)
@@ -65,9 +44,6 @@ unchanged card number r some = grind (arith, refusal_with_pool, stays)
 
 pub refused_by_the_table : RefusedByTheTable
 refused_by_the_table = record {
-  refused_exactly = λ card number r why.
-      let o = refusal card.config (is_full card) r (line_at number card) in
-      let outcome = lines.of_request card.config r (line_at number card) in
-      subst (λ a. (a ≡ refused why) ↔ (o ≡ Some why)) (sym (answer_is card number r)) (refused_by o outcome why);
+  refused_exactly = grind (arith, answer_is);
   unchanged = unchanged;
 }

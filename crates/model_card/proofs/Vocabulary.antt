@@ -16,10 +16,10 @@ pub use Rattle.lapd_frame.specs.declared.timers.Timer.{Timer}
 pub use Rattle.model_bits.specs.declared.heard.Cause.{Cause}
 pub use Rattle.model_card.specs.ByEvent.{IsPriced}
 pub use Rattle.model_card.specs.Card.{Card, fresh, is_full, line_at, used}
-pub use Rattle.model_card.specs.Counts.{is_accepted, is_heard, is_long_heard, is_reject, is_running_expiry, is_sent, may_send, window}
+pub use Rattle.model_card.specs.Counts.{heard, is_accepted, is_heard, is_long_heard, is_reject, is_running_expiry, is_sent, long_heard, may_send, rejected, sent, window}
 pub use Rattle.model_card.specs.Drops.{IsDropWithoutCost, IsDropWithoutEffect}
 pub use Rattle.model_card.specs.Event.{Event, at}
-pub use Rattle.model_card.specs.Isolation.{answers_at, event_in, is_served_at}
+pub use Rattle.model_card.specs.Isolation.{answer_in, answers_at, event_in, events_at, is_served_at}
 pub use Rattle.model_card.specs.Laws.{CardsStaySound, DeliveriesNumbered, DropsChangeNothing, DropsCostNothing, FramesAmortised, FramesAmortisedFromZero, FramesByEvent, LinesIsolated, PoolNeverFull, RefusedByTheTable, RejectsAreLong, RunIsMoments, StoredWithinLimit, reply_of}
 pub use Rattle.model_card.specs.Machine.{after, answer, wants_room}
 pub use Rattle.model_card.specs.Numbered.{IsNext, LinkName, arrived, contents_numbered, delivered, one_more, received_by, restarts}

@@ -1,6 +1,5 @@
 -- What is taken after a list of events.
-use Rattle.laws_line.proofs.Vocabulary.{arith, ◌≡◌, ℕ, ◌<◌, slice_get, List, Option, Some, None, sym, subst, inl, inr, Config, next, Line, link_count, Taken, taken, Card, line_at, after_all, AreAtLines, always_sound, has_lines, line_sound, IsOfLink, IsOwed, IsIdle, contents_of_link, IsServed, CardEvent as Event, CardIsSound as IsSound, accepted_at, IsServedIn}
-use Rattle.model_line.specs.Machine as lines
+use Rattle.laws_line.proofs.Vocabulary.{arith, ◌≡◌, ℕ, ◌<◌, slice_get, List, sym, subst, Config, next, Line, link_count, taken, Card, line_at, after_all, AreAtLines, always_sound, has_lines, line_sound, IsOfLink, IsOwed, contents_of_link, IsServed, CardEvent as Event, CardIsSound as IsSound, accepted_at, IsServedIn}
 use Rattle.laws_line.proofs.Serving.{served}
 use Rattle.laws_line.proofs.OfCard.Keeping.{run-counted}
 use Rattle.model_card.proofs.Runs.{config_stays}
@@ -11,17 +10,10 @@ module _ (c : Config) (one other : ℕ → List (List ℕ)) (same : (number : �
   of-link then frame x = grind (arith, slice_get)
 
   owed : (then : Line) (frame : List ℕ) → IsOwed c one l then frame → IsOwed c other l then frame
-  owed then frame (inl x) = inl x
-  owed then frame (inr (inl x)) = inr (inl x)
-  owed then frame (inr (inr x)) = inr (inr (of-link then frame x))
+  owed then frame it = grind (arith, of-link)
 
   serves : IsServed c one l → IsServed c other l
-  serves h = go (taken c l) h
-    where
-      go : (o : Option Taken)
-          → elim o as (λ o. Type 0) [ None ↦ IsIdle c l (lines.after c next l) | Some t ↦ IsOwed c one l (lines.after c next l) t.frame ]
-          → elim o as (λ o. Type 0) [ None ↦ IsIdle c l (lines.after c next l) | Some t ↦ IsOwed c other l (lines.after c next l) t.frame ]
-      go o x = grind (arith, owed)
+  serves h = grind (arith, taken, next, owed)
 
 pub served-in : (card : Card) (events : List Event) → IsSound card → AreAtLines card events → IsServedIn card events
 served-in card events s all number within =

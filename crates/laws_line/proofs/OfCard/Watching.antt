@@ -1,5 +1,5 @@
 -- What is watched at a line from moment to moment, and keeps in step with the line, does so over whole runs.
-use Rattle.laws_line.proofs.Vocabulary.{◌≡◌, ℕ, ◌==◌, true, cond, List, [], ◌∷◌, get_or, refl, sym, ap, ◌∙◌, arith, eq-eqb, fold, and_parts, get_or-set_same, All-head, All-tail, PoolFull, Config, Answer, refused, Line, fresh_line, Request, Card, line_at, is_full, Moment, moments, after_all, IsAtLine, AreAtLines, after_is_sound, has_lines, by_room, line_sound, eqb-true, CardEvent as Event, card_after as after, card_answer as answer, CardIsSound as IsSound}
+use Rattle.laws_line.proofs.Vocabulary.{◌≡◌, ℕ, ◌==◌, true, cond, List, [], ◌∷◌, refl, ap, ◌∙◌, arith, eq-eqb, fold, and_parts, get_or-set_same, All-head, All-tail, PoolFull, Config, Answer, refused, Line, Request, Card, line_at, Moment, moments, after_all, IsAtLine, AreAtLines, after_is_sound, has_lines, by_room, line_sound, eqb-true, CardEvent as Event, card_after as after, card_answer as answer, CardIsSound as IsSound}
 use Rattle.model_line.specs.Event as line_event
 use Rattle.model_line.specs.Machine as lines
 use Rattle.model_line.specs.Sound as line
@@ -17,12 +17,7 @@ module _ {X : Type 0} (seen : Line → X) (watch : X → line_event.Event → An
     full-rests what takes x = grind arith
 
     own-line : watch (seen (line_at e.line card)) e.what (answer e card) ≡ seen (line_at e.line (after e card))
-    own-line =
-        by_room (λ ls a. watch (seen (line_at e.line card)) e.what a ≡ seen (get_or ls e.line (fresh_line card.config))) e card
-        (λ full. full-rests e.what (and_parts (lines.takes_slot card.config e.what (line_at e.line card)) (is_full card) full).0 (seen (line_at e.line card)))
-        (λ room.
-        steps card.config e.what (line_at e.line card) (line_sound card e.line (has_lines card s) here)
-        ∙ ap seen (sym (get_or-set_same card.lines e.line (lines.after card.config e.what (line_at e.line card)) (fresh_line card.config) (omega (arith, s.count, here)))))
+    own-line = grind (arith, by_room, full-rests, and_parts, line_sound, has_lines, get_or-set_same)
 
   pub run-seen : (card : Card) (events : List Event) → IsSound card → AreAtLines card events → (number : ℕ)
       → fold (one_more number) (seen (line_at number card)) (moments card events) ≡ seen (line_at number (after_all card events))

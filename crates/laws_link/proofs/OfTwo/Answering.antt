@@ -78,11 +78,7 @@ module _ (t : Terms) (l : Link) (room : length l.waiting + 1 ≤ t.control) wher
   rejected = grind (arith, put)
 
   contents : (ns : Seq) (octets : List ℕ) → Halfway l (MultipleFrame.contents_in_7_8 t ns true octets (begun l))
-  contents ns octets =
-      both_ways (Halfway l) l.own_busy _ _ (ready (begun l) refl refl refl)
-      (both_ways (Halfway l) (MultipleFrame.is_next ns l) _ _
-      (ready ((Words.count_received then Words.rejecting_is false then Words.deliver t octets) (begun l)) refl refl refl)
-      (both_ways (Halfway l) l.rejecting _ _ (ready (begun l) refl refl refl) rejected))
+  contents ns octets = grind (arith, both_ways, ready, rejected)
 
   information : (ns nr : Seq) (octets : List ℕ) (f : ℕ → Step) → length octets ≤ t.n201
       → ((ws : List ControlFrame) (r n : ℕ) → Leads (Waits ws r) (f n) (Waits ws r)) → IsValidAt l nr

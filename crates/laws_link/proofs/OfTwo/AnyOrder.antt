@@ -142,20 +142,7 @@ module _ (n m : End) (hn : Steady n) (hm : Steady m) (there : Direction n m) (ba
       let order : m.link.r + 1 ≤ n.link.s = lane-order n.terms n.link.contents (m.link.r + 1) n.link.s v n.link.r n.link.pending fs rest in
       let accepted : n.link.s ≤ length n.link.contents = hn.sound.accepted in
       let up-one : suc m.link.r ≡ m.link.r + 1 = omega arith in
-      let less : load n.way ≡ 3 + load fs = ap load e ∙ ap (λ g. load_of g.control + load fs) here.is in
-      subst (λ x. Took n m (left fs) x) (sym form) (record {
-        giver = (record { ranges = hn.ranges; sound = hn.sound; state = hn.state; peer_busy = hn.peer_busy; own_busy = hn.own_busy; waiting = hn.waiting });
-        taker = record { ranges = hm.ranges; sound = s; state = refl; peer_busy = refl; own_busy = refl; waiting = refl };
-        there = grind (arith, slice_get, take-one);
-        back = record {
-          lane = lane-owes m.terms m.link.contents n.link.r m.link.s n.link.a m.link.r (m.link.r + 1) m.link.pending m.way (omega arith) back.lane;
-          delivered = back.delivered;
-          sizes = back.sizes;
-        };
-        lighter = omega (arith, less);
-        kept_n = refl;
-        kept_m = refl;
-      })
+      grind (arith, take-one, lane-owes)
 
   takes-n : (f : Parts) (fs : List Parts) → n.way ≡ f ∷ fs → (v : ℕ) → m.link.a ≤ v → (here : Notes n.terms v f)
       → Lane n.terms n.link.contents m.link.r n.link.s v n.link.r n.link.pending fs → Took n m (left fs) (with_link (received (frame f)) m)
@@ -169,16 +156,7 @@ module _ (n m : End) (hn : Steady n) (hm : Steady m) (there : Direction n m) (ba
       ap (λ g. with_link (received (frame g)) m) here.is
       ∙ ap (with_way m.way) (ap (with_link (received (frame (acknowledgement_frame n.terms l)))) (is-steady m hm) ∙ takes-note m false n.terms l v named-v low) in
       let s : IsSound m.terms m'.link = subst (λ x. IsSound m.terms x.link) form (sound-after m.terms hm.ranges (received (frame f)) m.link hm.sound) in
-      let less : load n.way ≡ 1 + load fs = ap load e ∙ ap (λ g. load_of g.control + load fs) here.is in
-      subst (λ x. Took n m (left fs) x) (sym form) (record {
-        giver = (record { ranges = hn.ranges; sound = hn.sound; state = hn.state; peer_busy = hn.peer_busy; own_busy = hn.own_busy; waiting = hn.waiting });
-        taker = record { ranges = hm.ranges; sound = s; state = refl; peer_busy = refl; own_busy = refl; waiting = refl };
-        there = record { lane = rest; delivered = append-nil m.delivered ∙ there.delivered; sizes = there.sizes };
-        back = record { lane = back.lane; delivered = back.delivered; sizes = back.sizes };
-        lighter = omega (arith, less);
-        kept_n = refl;
-        kept_m = refl;
-      })
+      grind (arith, append-nil)
 
   takes-from : (way : List Parts) → n.way ≡ way → Lane n.terms n.link.contents m.link.r n.link.s m.link.a n.link.r n.link.pending way → 1 ≤ length way
       → Took n m (left (drop 1 way)) (with_first_of way m)

@@ -42,10 +42,7 @@ one-more n w w' w'' h k = omega (arith, h, k)
 runs : (ds : List Doing) (e : Ends) → Pair e → AreTurns ds e → Ran ds e (doing_all ds e)
 unfolding doing_all AreTurns
 runs [] e h t = record { pair = h; bounded = none-more (weight e); near_kept = refl; far_kept = refl }
-runs (d ∷ ds) e h t =
-    let x = turn-any d e h t.0 in
-    let y = runs ds (doing d e) x.pair t.1 in
-    grind (arith, one-more)
+runs (d ∷ ds) e h t = grind (arith, turn-any, one-more, (runs ds (doing d e)))
 
 pub all-turns : (ds : List Doing) (e : Ends) → IsReady e.near → IsReady e.far → IsTaken e.near e.far → IsTaken e.far e.near → AreTurns ds e → Ran ds e (doing_all ds e)
 all-turns ds e hn hm there back turns = grind (arith, runs, Lane, nat_lt)

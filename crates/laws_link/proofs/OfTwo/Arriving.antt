@@ -1,5 +1,5 @@
 -- Half a round after another, until all contents have arrived.
-use Rattle.laws_link.proofs.Vocabulary.{◌≡◌, ℕ, zero, suc, ◌+◌, ◌-◌, ◌≤◌, Bool, true, false, List, length, refl, sym, subst, ◌∙◌, ◌⊎◌, inl, inr, arith, nat_lt, lt-ltb, le-ltb, ltb-false, and_right, take-length, End, Ends, IsReady, IsTaken, HasUnsent, HasArrived, rounds, may_send_information}
+use Rattle.laws_link.proofs.Vocabulary.{◌≡◌, ℕ, zero, suc, ◌+◌, ◌≤◌, false, List, length, sym, subst, ◌∙◌, ◌⊎◌, inl, inr, arith, nat_lt, lt-ltb, le-ltb, ltb-false, and_right, take-length, End, Ends, IsReady, IsTaken, HasUnsent, HasArrived, rounds, may_send_information}
 use Rattle.laws_link.proofs.OfTwo.Plain.{plain}
 use Rattle.laws_link.proofs.OfTwo.Halves.{One, Nothing, giver_of, taker_of, moves, ready-giver, ready-taker, takes, taken}
 
@@ -18,18 +18,7 @@ pub record Turn (v w : ℕ) (cn cm : List (List ℕ)) (n m : End) : Type 0 where
 
 -- With the window open an end that may send no I-frame has nothing unsent.
 pub nothing-unsent : (n : End) → IsReady n → n.link.a ≡ n.link.s → may_send_information n.terms (plain n.link) ≡ false → length n.link.contents ≤ n.link.s
-nothing-unsent n h open_ may = by-test (nat_lt n.link.s (length n.link.contents)) refl
-  where
-    window : nat_lt (n.link.s - n.link.a) n.terms.k ≡ true
-    window = let low : 1 ≤ n.terms.k = h.ranges.k_low in lt-ltb (n.link.s - n.link.a) n.terms.k (omega (arith, open_))
-
-    by-test : (b : Bool) → nat_lt n.link.s (length n.link.contents) ≡ b → length n.link.contents ≤ n.link.s
-    by-test b e = grind (arith, nat_lt, ltb-false)
-
--- One fewer is left to an end that has moved with its window open.
-one-fewer : (v : ℕ) (n m n' m' : End) → IsReady n → n.link.a ≡ n.link.s → length n.link.contents ≤ n.link.s + suc v → n'.link.contents ≡ n.link.contents
-    → One n m n' m' ⊎ Nothing n m n' m' → length n'.link.contents ≤ n'.link.s + v
-one-fewer v n m n' m' h o left kept x = grind (arith, nothing-unsent)
+nothing-unsent n h open_ may = grind (arith, lt-ltb, ltb-false)
 
 -- no more is left to an end that has moved
 pub no-more : (u : ℕ) (n m n' m' : End) → length n.link.contents ≤ n.link.s + u → n'.link.contents ≡ n.link.contents
@@ -45,7 +34,7 @@ first-turn u n m hn hm there back un um =
 
 -- the next
 pub next-turn : (v w : ℕ) (cn cm : List (List ℕ)) (n m : End) → Turn (suc v) w cn cm n m → Turn w v cm cn (giver_of m) (taker_of m n)
-next-turn v w cn cm n m h = grind (arith, moves, ready-giver, ready-taker, takes, taken, taker_of, one-fewer, giver_of)
+next-turn v w cn cm n m h = grind (arith, moves, ready-giver, ready-taker, takes, taken, taker_of, nothing-unsent, giver_of)
 
 -- the last: neither has anything unsent
 module _ (cn cm : List (List ℕ)) (n m : End) (h : Turn 0 0 cn cm n m) where

@@ -1,6 +1,6 @@
 -- In state 7 T200 runs only where something is awaited: each row, and each event.
-use Rattle.laws_link.proofs.Vocabulary.{◌≡◌, ◌≢◌, ◌⊎◌, inl, ℕ, ◌+◌, ◌≤◌, ◌&&◌, nat_lt, Bool, true, false, List, Option, None, Some, refl, sym, ap, ◌∙◌, arith, true≢false, eq-eqb, ltb-false, Seq, Control, Information, ReceiveReady, ReceiveNotReady, Reject, ErrorCode, Refusal, State, TeiAssigned, AwaitingEstablishment, AwaitingRelease, Established, TimerRecovery, LinkTimer, T200, T203, ControlFrame, Terms, Link, frame, Request, Event, received, Course, Step, begun, ◌then◌, nothing, runs, frame_in_4, frame_in_5, frame_in_6, Leads, then_leads, bit_leads, named-within, both_ways, answer, by_number, error, peer_busy_is, answered, contents_in_7_8, failed, is_final, ua_in_7_8, acknowledged_by_information_in_7, acknowledged_by_rej_in_7, acknowledged_by_rnr_in_7, acknowledged_in_7, frame_in_7, unsolicited, acknowledged_in_8, frame_in_8, granted, release_in, is_established, offer_among, course, expired_in, frame_in, malformed_in}
-use Rattle.laws_link.proofs.OfTwo.Heeding.{On, at_state, words}
+use Rattle.laws_link.proofs.Vocabulary.{◌≡◌, ◌≢◌, ◌⊎◌, ℕ, ◌+◌, ◌≤◌, ◌&&◌, nat_lt, Bool, true, false, List, Option, None, Some, refl, sym, ap, ◌∙◌, arith, true≢false, eq-eqb, ltb-false, Seq, Control, Information, ReceiveReady, ReceiveNotReady, Reject, ErrorCode, Refusal, State, TeiAssigned, AwaitingEstablishment, AwaitingRelease, Established, TimerRecovery, LinkTimer, T200, T203, ControlFrame, Terms, Link, frame, Request, Event, received, Course, Step, begun, ◌then◌, nothing, runs, frame_in_4, frame_in_5, frame_in_6, Leads, then_leads, bit_leads, named-within, both_ways, answer, by_number, peer_busy_is, answered, contents_in_7_8, failed, is_final, acknowledged_by_information_in_7, acknowledged_in_7, frame_in_7, unsolicited, acknowledged_in_8, frame_in_8, granted, release_in, is_established, offer_among, course, expired_in, frame_in, malformed_in}
+use Rattle.laws_link.proofs.OfTwo.Heeding.{words}
 
 -- the terminal is taken for busy, or an I-frame is outstanding
 abbrev pub Awaits : State → Option LinkTimer → Bool → ℕ → ℕ → Type 0
@@ -50,20 +50,8 @@ Busy c = c.link.peer_busy ≡ true
 
 -- a row leaves the terminal busy, or the state
 module _ (t : Terms) where
-  answered-busy : (b pf : Bool) → Leads Busy (answered t b pf) Busy
-  answered-busy b pf = bit_leads {f = answer t} {g = nothing} (b && pf) (record { leads = λ c h. h }) (record { leads = λ c h. h })
-
-  unsolicited-busy : (f : Bool) → Leads Busy (unsolicited t f) Busy
-  unsolicited-busy f = bit_leads {f = error t ErrorCode.A} {g = nothing} f (record { leads = λ c h. h }) (record { leads = λ c h. h })
-
-  contents-on : (here : State) (ns : Seq) (p : Bool) (octets : List ℕ) → Leads (On (at_state here)) (contents_in_7_8 t ns p octets) (On (at_state here))
-  contents-on here ns p octets = search words depth 12 fits 4000
-
   failed-ends : {P : Course → Type 0} (e : ErrorCode) → Leads P (failed t e) Awaiting
   failed-ends e = record { leads = λ c h. record { holds = elsewhere AwaitingEstablishment refl _ _ _ _ } }
-
-  ua-ends : (f : Bool) → Leads Awaiting (ua_in_7_8 t f) Awaiting
-  ua-ends f = bit_leads f (record { leads = λ c h. record { holds = h.holds } }) (record { leads = λ c h. record { holds = h.holds } })
 
   in-4 : (octets : List ℕ) (control : Control) → Leads Awaiting (frame_in_4 t octets control) Awaiting
   in-4 octets control = grind (arith, t203-runs, bit_leads)
@@ -81,13 +69,9 @@ module _ (t : Terms) where
   in-7 b octets (ReceiveReady nr pf) =
       any-then (peer_busy_is false) (any-then (answered t b pf) (any-then (unsolicited t (is_final b pf))
       (number {P = Any} t nr acknowledged_in_7 (λ n c h from. acknowledged-7 n c from))))
-  in-7 b octets (ReceiveNotReady nr pf) =
-      then_leads {Q = Busy} {f = peer_busy_is true} (record { leads = λ c h. refl }) (then_leads {Q = Busy} (answered-busy b pf) (then_leads {Q = Busy} (unsolicited-busy (is_final b pf))
-      (number {P = Busy} t nr acknowledged_by_rnr_in_7 (λ n c h from. (record { holds = λ at timer. inl h })))))
-  in-7 b octets (Reject nr pf) =
-      any-then (peer_busy_is false) (any-then (answered t b pf) (any-then (unsolicited t (is_final b pf))
-      (number {P = Any} t nr acknowledged_by_rej_in_7 (λ n c h from. record { holds = t203-runs _ _ _ _ }))))
-  in-7 b octets control = grind (arith, t203-runs, elsewhere, ua-ends, failed-ends, bit_leads)
+  in-7 b octets (ReceiveNotReady nr pf) = grind (arith, then_leads, bit_leads, number)
+  in-7 b octets (Reject nr pf) = grind (arith, any-then, number, t203-runs)
+  in-7 b octets control = grind (arith, t203-runs, elsewhere, failed-ends, bit_leads)
 
   -- state 8: it stays, or T203 is started, or the terminal is busy
   at-8 : {f : Step} → Leads (At TimerRecovery) f (At TimerRecovery) → Leads (At TimerRecovery) f Awaiting
@@ -99,14 +83,12 @@ module _ (t : Terms) where
   abbrev BusyAt : State → Course → Type 0
   BusyAt here c = (c.link.state ≡ here) × (c.link.peer_busy ≡ true)
 
-  recovers-busy : (final : Bool) (n : ℕ) → Leads (BusyAt TimerRecovery) (acknowledged_in_8 T200 final n) Awaiting
-  recovers-busy final n = grind (arith, bit_leads, stays-elsewhere)
-
   answered-busy-at : (here : State) (b pf : Bool) → Leads (BusyAt here) (answered t b pf) (BusyAt here)
   answered-busy-at here b pf = bit_leads {f = answer t} {g = nothing} (b && pf) (record { leads = λ c h. h }) (record { leads = λ c h. h })
 
   in-8 : (b : Bool) (octets : List ℕ) (control : Control) → Leads (At TimerRecovery) (frame_in_8 t b octets control) Awaiting
-  in-8 b octets control = grind (arith, bit_leads, failed-ends, then_leads, contents-on, number, stays-elsewhere, recovers, answered-busy-at, recovers-busy, t203-runs)
+  in-8 b octets control =
+      grind (arith, bit_leads, failed-ends, then_leads, words, number, stays-elsewhere, recovers, answered-busy-at, t203-runs)
 
 -- Each event.
 module _ (t : Terms) (l : Link) (h : Awaits l.state l.running l.peer_busy l.a l.s) (ordered : l.a ≤ l.s) where

@@ -52,11 +52,8 @@ one-passed P u e h =
 
 -- the busy end n and the other, m
 module _ (u : ℕ) (n m : End) (hn : IsReady n) (hm : IsReady m) (there : IsTaken n m) (back : IsTaken m n) (un : HasUnsent u n) where
-  low-m : m.link.a ≤ n.link.r
-  low-m = let at : n.link.r ≡ m.link.s = back.received in let low : m.link.a ≤ m.link.s = hm.sound.ordered in omega arith
-
   names-r : (s' : ℕ) → m.link.s ≤ s' → s' ≤ m.link.a + 127 → named m.link.a s' (seq n.link.r) ≡ Some n.link.r
-  names-r s' up within = let at : n.link.r ≡ m.link.s = back.received in named-number m.link.a s' n.link.r low-m (omega arith) within
+  names-r s' up within = grind (arith, named-number)
 
   within-m : m.link.s ≤ m.link.a + 127
   within-m = let within : m.link.s ≤ m.link.a + m.terms.k = hm.sound.within in let small : m.terms.k ≤ 127 = hm.ranges.k_high in omega arith

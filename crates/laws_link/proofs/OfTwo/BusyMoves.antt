@@ -1,5 +1,5 @@
 -- An end that is busy itself, and the other, in state 7: one gives its next frame, and the other receives it.
-use Rattle.laws_link.proofs.Vocabulary.{◌≡◌, ℕ, ◌+◌, ◌≤◌, Bool, true, false, cond, ◌==◌, List, [], ◌∷◌, ◌++◌, length, Some, refl, sym, ap, subst, ◌∙◌, ◌⊎◌, append-nil, eq-eqb, arith, nat_lt, slice_get, unwrap_or, option_to_list, ltb-true, le-ltb, seq, named, Terms, Link, frame, received, Course, begun, End, with_link, with_sent, with_first_of, with_first_lost, IsTaken, IsBusyItself, IsOpenItself, IsDropped, ErrorCode, State, by_number, acknowledged_by_information_in_7, acknowledged_in_7, may_send_information}
+use Rattle.laws_link.proofs.Vocabulary.{◌≡◌, ℕ, ◌+◌, ◌≤◌, Bool, true, false, ◌==◌, List, [], ◌∷◌, ◌++◌, length, Some, refl, ap, ◌∙◌, ◌⊎◌, append-nil, eq-eqb, arith, nat_lt, slice_get, unwrap_or, option_to_list, ltb-true, le-ltb, seq, named, Terms, Link, frame, received, Course, begun, End, with_link, with_sent, IsTaken, IsBusyItself, IsOpenItself, IsDropped, State, by_number, acknowledged_by_information_in_7, acknowledged_in_7, may_send_information}
 use Rattle.model_link.specs.MultipleFrame
 use Rattle.laws_link.proofs.OfTwo.Plain.{plain, plain_with, plain_end_with, with_information_with, with_acknowledgement_with, information_frame, acknowledgement_frame, gives-information, gives-acknowledgement, gives-nothing}
 use Rattle.laws_link.proofs.OfTwo.Halves.{named-number, fits-at, One, Nothing, giver_of, taker_of}
@@ -47,10 +47,7 @@ module _ (m : End) where
     pub takes-one : ((seq l.s).value == (seq m.link.r).value) ≡ true
         → with_link (received (frame (information_frame t l))) (plain_end_with false busy m)
         ≡ record m { link = record (plain_with false busy m.link) { r = m.link.r + 1; rejecting = false; pending = true; a = x; running = acked.running }; way = []; delivered = m.delivered ++ octets ∷ [] }
-    takes-one next =
-        ap (λ b. having (cond b (MultipleFrame.failed m.terms ErrorCode.O here) (number (MultipleFrame.contents_in_7_8 m.terms (seq l.s) false octets here)))) fits
-        ∙ ap (λ b. having (number (cond b (MultipleFrame.in_sequence m.terms false octets here) (MultipleFrame.out_of_sequence m.terms false here)))) next
-        ∙ ap having acked.is
+    takes-one next = grind (arith, acked)
 
     -- dropped
     abbrev there : Course
@@ -61,9 +58,7 @@ module _ (m : End) where
 
     drops-one : with_link (received (frame (information_frame t l))) (plain_end_with true false m)
         ≡ record m { link = record (plain_with true false m.link) { a = x; running = heeded.running }; way = []; delivered = m.delivered ++ [] }
-    drops-one =
-        ap (λ b. having (cond b (MultipleFrame.failed m.terms ErrorCode.O there) (number there))) fits
-        ∙ ap having heeded.is
+    drops-one = grind (arith, heeded)
 
   module _ (own : Bool) (t : Terms) (l : Link) (x : ℕ) (names : named m.link.a m.link.s (seq l.r) ≡ Some x) (low : m.link.a ≤ x) where
     abbrev told : Course
@@ -139,9 +134,7 @@ module _ (n m : End) (hn : IsBusyItself n) (hm : IsOpenItself m) (there : IsTake
       let fits = le-ltb n.terms.n201 (length (unwrap_or (slice_get m.link.contents m.link.s) [])) (fits-at n.terms.n201 m.link.contents m.link.s back.sizes) in
       let takes =
       ap (with_link (received (frame (information_frame m.terms m.link)))) is-n ∙ drops-one n false m.terms m.link n.link.s fits (grind (arith, named-number)) hn.sound.ordered in
-      subst (λ x. OpenMoved n m (with_first_of x.way n) (with_first_lost x)) (sym gives)
-      (subst (λ y. OpenMoved n m y (record m { link = with_information_with false m.link.peer_busy m.link; way = [] })) (sym takes)
-      (search (append-nil, grows) parts 3))
+      grind (arith, append-nil, grows)
 
   -- or an acknowledgement,
   open-note : may_send_information m.terms (plain_with false m.link.peer_busy m.link) ≡ false → m.link.pending ≡ true → OpenMoved n m (taker_of m n) (giver_of m)

@@ -169,8 +169,7 @@ module _ (u v : ℕ) (cn cm : List (List ℕ)) (n m : End) (there : Between u cn
     pub other-near : Sounds other_asks → FarReady true (far_moves (near_moves other_asks))
     other-near h =
         let s = subst Sounds (ap far_moves other-1 ∙ other-2) (sounds-far (near_moves other_asks) (sounds-near other_asks h)) in
-        let left : length n.link.contents ≤ m.link.r + u = there.left in
-        grind (arith, far_moves, other-1, other-2)
+        grind (arith, other-1, other-2)
 
   -- The other asks, and the busy end, near, has nothing outstanding: a round and a half, after which the other's turn is as any.
   module _ (bm : Bool) (all : n.link.s ≤ n.link.a) (quiet : n.link.pending ≡ false) where
@@ -207,10 +206,7 @@ module _ (u v : ℕ) (cn cm : List (List ℕ)) (n m : End) (there : Between u cn
           (learns-8 (with_received r' q) [] b a' p ds n.terms n.link.r n.link.r names) in
           let both = ap near_moves one ∙ two in
           let s = subst Sounds both (sounds-near (far_moves (heard r' a' q b p running ds)) (sounds-far (heard r' a' q b p running ds) h)) in
-          subst (NearReady true) (sym both) (
-            (grind arith),
-            left,
-          )
+          grind arith
 
     abbrev BeganReady : Type 0
     BeganReady = NearReady true (near_moves (far_moves (near_moves other_began)))
@@ -276,10 +272,7 @@ module _ (u v : ℕ) (cn cm : List (List ℕ)) (n m : End) (there : Between u cn
           (answered-8 true n [] b a' false n.delivered m.terms m.link.r m.link.r names) in
           let both = ap near_moves one ∙ two in
           let s = subst Sounds both (sounds-near (far_moves (noted s' a' b running)) (sounds-far (noted s' a' b running) h)) in
-          subst (FarReady true) (sym both) (
-            (grind arith),
-            there.left,
-          )
+          grind arith
 
     abbrev NotedReady : Type 0
     NotedReady = FarReady true (near_moves (far_moves (near_moves busy_began)))

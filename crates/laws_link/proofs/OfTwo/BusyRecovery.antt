@@ -1,5 +1,5 @@
 -- After the loss of all frames, what an end that is busy itself gives arrives, from the expiry of T200 on.
-use Rattle.laws_link.proofs.Vocabulary.{◌≡◌, ℕ, suc, ◌+◌, ◌≤◌, Bool, true, false, [], ◌∷◌, length, Some, refl, sym, ap, subst, ◌∙◌, ◌⊎◌, inl, inr, arith, T200, T203, expired, End, Ends, sound-after, rounds, IsCutOff, IsCutOffWith, HasMissing, with_t200_expired, GetsThrough}
+use Rattle.laws_link.proofs.Vocabulary.{◌≡◌, ℕ, suc, ◌+◌, ◌≤◌, Bool, true, false, [], ◌∷◌, length, Some, refl, sym, ap, subst, ◌∙◌, ◌⊎◌, inl, inr, arith, T200, T203, End, Ends, sound-after, rounds, IsCutOff, IsCutOffWith, HasMissing, with_t200_expired, GetsThrough}
 use Rattle.laws_link.proofs.OfTwo.Plain.{plain_end, plain_end_with}
 use Rattle.laws_link.proofs.OfTwo.Halves.{giver_of, taker_of}
 use Rattle.laws_link.proofs.OfTwo.Arriving.{near_moves, far_moves, no-more}
@@ -28,8 +28,7 @@ module _ (P : Ends → Type 0) (u : ℕ) (e : Ends) where
   two-passed : P (rounds (u + 1) (far_moves (near_moves (far_moves (near_moves e))))) → P (rounds (u + 3) e)
   two-passed h =
       let count : suc (suc (u + 1)) ≡ u + 3 = omega arith in
-      let two : rounds (suc (suc (u + 1))) e ≡ rounds (u + 1) (far_moves (near_moves (far_moves (near_moves e)))) = after-round (suc (u + 1)) e ∙ after-round (u + 1) (far_moves (near_moves e)) in
-      subst (λ i. P (rounds i e)) count (subst P (sym two) h)
+      grind (arith, after-round)
 
   one-passed : P (rounds ((u + 1) + 1) (far_moves (near_moves e))) → P (rounds (u + 3) e)
   one-passed h =
@@ -43,13 +42,7 @@ no-t200 : (n m : End) (busy : Bool) → n.link.running ≡ Some T203 → m.link.
 no-t200 n m busy rn rm o = grind arith
 
 sounds : (own own' : Bool) (e : Ends) → IsCutOffWith own e.near e.far → IsCutOffWith own' e.far e.near → Sounds (with_t200_expired e)
-sounds own own' e hn hm =
-    record {
-      near_ranges = hn.ranges;
-      far_ranges = hm.ranges;
-      near = sound-after e.near.terms hn.ranges (expired T200) e.near.link hn.sound;
-      far = sound-after e.far.terms hm.ranges (expired T200) e.far.link hm.sound;
-    }
+sounds own own' e hn hm = grind (arith, sound-after)
 
 -- the busy end n and the other, m, after T200
 module _ (u : ℕ) (n m : End) (hn : IsCutOffWith true n m) (hm : IsCutOff m n) (un : HasMissing u n m) where

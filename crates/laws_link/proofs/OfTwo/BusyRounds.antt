@@ -137,8 +137,7 @@ module _ (busy : Bool) (r : ℕ) (ds cn cm : List (List ℕ)) (n m : End) (h : D
       let most : n.link.s ≤ length cn = subst (λ cs. n.link.s ≤ length cs) kept p.itself.sound.accepted in
       let all : length cn ≤ n.link.s = subst (λ cs. length cs ≤ n.link.s) kept h.all in
       let sent : n.link.s ≡ length cn = omega arith in
-      let received : m.link.r ≡ length cn = p.taken.received ∙ sent in
-      grind (arith, take-length, and_right, nat_lt, le-ltb)
+      grind (arith, take-length, and_right, le-ltb)
 
 -- So it is of a pair that began as it did.
 pub gets-through : (busy : Bool) (n m n' m' : End) → Done busy n.link.r n.delivered n.link.contents m.link.contents n' m' → GetsThrough n m n' m'

@@ -1,5 +1,5 @@
 -- What an event does to a link that stays in states 7 and 8: its numbers, its state, and the kind of frame that waits anew.
-use Rattle.laws_link.proofs.Vocabulary.{arith, ◌≡◌, ℕ, ◌+◌, Bool, true, false, cond, IsTrue, List, [], ◌∷◌, ◌++◌, Option, None, Some, refl, ◌∙◌, ◌⊎◌, inl, inr, nat_lt, eqb-false, Seq, seq, named, seq-value, is_seq, Control, Reject, State, Established, TimerRecovery, LinkTimer, ControlFrame, Terms, Link, is_multiple_frame, Course, begun, Step, ◌then◌, eqb-true, ErrorCode, by_number, error, has_room, peer_busy_is, re_establish, ready_to_receive, response, acknowledged_by_information_in_7, acknowledged_by_rej_in_7, acknowledged_in_7, unsolicited, acknowledged_in_8, solicited}
+use Rattle.laws_link.proofs.Vocabulary.{arith, ◌≡◌, ℕ, ◌+◌, Bool, true, false, cond, IsTrue, List, [], ◌∷◌, ◌++◌, Option, None, Some, refl, ◌∙◌, ◌⊎◌, inl, inr, eqb-false, Seq, seq, named, seq-value, is_seq, Control, Reject, State, Established, TimerRecovery, LinkTimer, ControlFrame, Terms, Link, is_multiple_frame, Course, begun, Step, ◌then◌, eqb-true, ErrorCode, by_number, error, has_room, peer_busy_is, re_establish, ready_to_receive, response, acknowledged_by_information_in_7, acknowledged_by_rej_in_7, acknowledged_in_7, unsolicited, acknowledged_in_8, solicited}
 use Rattle.model_link.specs.MultipleFrame
 use Rattle.laws_link.proofs.OfTwo.Trains.{Kind, numbered, enquiry, answer, report, rejection, alien, kind_of}
 
@@ -155,6 +155,4 @@ module _ (t : Terms) (l : Link) where
 
   pub informs : (ns nr : Seq) (octets : List ℕ) (f : ℕ → Step) → ((c : Course) (n : ℕ) → Kept c.link (f n c).link)
       → IsUpIn (MultipleFrame.information_in_7_8 t ns nr false octets f (begun l)) → Informed ns l (MultipleFrame.information_in_7_8 t ns nr false octets f (begun l)).link
-  informs ns nr octets f x up =
-      let c = MultipleFrame.contents_in_7_8 t ns false octets (begun l) in
-      grind (arith, fitting, nat_lt, by-number, contents)
+  informs ns nr octets f x up = grind (arith, fitting, by-number, contents)

@@ -34,11 +34,7 @@ module _ (e : Ends) where
         }
 
     untold : e.far.link.own_busy ≡ false → e.far.link.waiting ≡ [] → e.far.way ≡ [] → Over e e.far.link.a e.far.link.peer_busy (with_near_untold e)
-    untold free waits ways =
-        record {
-          near = given.left;
-          far = record { terms = refl; contents = refl; a = refl; s = refl; r = refl; delivered = refl; state = refl; repeats = refl; peer_busy = refl; pending = refl; own_busy = free; waiting = waits; way = ways };
-        }
+    untold free waits ways = grind (arith, given)
 
 -- Cut off they were, and so they are.
 cut-off : (own : Bool) (a : ℕ) (busy pending : Bool) (b : ℕ) (busy' pending' : Bool) (n m n' m' : End) → IsCutOffWith own n m → IsLeft a busy pending n n' → IsLeft b busy' pending' m m'
@@ -104,38 +100,19 @@ module _ (u : ℕ) (e : Ends) (hn : IsBusyItself e.near) (hm : IsOpenItself e.fa
       (record { near_ranges = hn.ranges; far_ranges = hm.ranges; near = sound-after e.near.terms hn.ranges (requested ClearBusy false) e.near.link hn.sound; far = hm.sound })
 
   near-ready : IsReady after.near
-  near-ready =
-      let x = left.near in
-      record { ranges = sound.near_ranges; sound = sound.near; state = x.state ∙ hn.state; peer_busy = x.peer_busy ∙ hn.peer_busy; own_busy = x.own_busy; waiting = x.waiting; way = x.way }
+  near-ready = grind (arith, left, sound)
 
   far-ready : IsReady after.far
-  far-ready =
-      let y = left.far in
-      record { ranges = sound.far_ranges; sound = sound.far; state = y.state ∙ hm.state; peer_busy = y.peer_busy; own_busy = y.own_busy; waiting = y.waiting; way = y.way }
+  far-ready = grind (arith, left, sound)
 
   taken-there : IsTaken after.near after.far
-  taken-there =
-      let x = left.near in
-      let y = left.far in
-      grind arith
-
-  taken-back : IsTaken after.far after.near
-  taken-back =
-      let x = left.near in
-      let y = left.far in
-      grind arith
+  taken-there = grind (arith, left)
 
   near-unsent : HasUnsent u after.near
   near-unsent = subst (λ cs. length cs ≤ after.near.link.s + u) (sym left.near.contents) (omega (arith, un, left.near.s))
 
   pub near-arrives : BothHaveArrived e (rounds (u + 1) after)
-  near-arrives =
-      subst (λ cs. Arrived cs e.far.link.contents (rounds (u + 1) after)) left.near.contents
-      (subst (λ cs. Arrived after.near.link.contents cs (rounds (u + 1) after)) left.far.contents
-      (all-arrived u after near-ready far-ready taken-there taken-back near-unsent (subst (λ cs. length cs ≤ after.far.link.s + u) (sym left.far.contents) (omega (arith, um, left.far.s)))))
+  near-arrives = grind (arith, left, all-arrived, near-ready, far-ready, taken-there, near-unsent)
 
   pub far-arrives : BothHaveArrived (turned e) (rounds (u + 1) (turned after))
-  far-arrives =
-      subst (λ cs. Arrived e.far.link.contents cs (rounds (u + 1) (turned after))) left.near.contents
-      (subst (λ cs. Arrived cs after.near.link.contents (rounds (u + 1) (turned after))) left.far.contents
-      (all-arrived u (turned after) far-ready near-ready taken-back taken-there (subst (λ cs. length cs ≤ after.far.link.s + u) (sym left.far.contents) (omega (arith, um, left.far.s))) near-unsent))
+  far-arrives = grind (arith, left, all-arrived, far-ready, near-ready, taken-there, near-unsent)

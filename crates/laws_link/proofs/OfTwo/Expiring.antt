@@ -1,5 +1,5 @@
 -- What the expiry of T200 makes of an end that is cut off: it asks, or it has nothing outstanding.
-use Rattle.laws_link.proofs.Vocabulary.{◌≡◌, ℕ, ◌+◌, ◌≤◌, Bool, true, false, cond, IsTrue, [], ◌∷◌, ◌++◌, Option, Some, refl, ap, ◌∙◌, ◌⊎◌, append-nil, arith, nat_lt, option_to_list, lt-ltb, State, LinkTimer, T200, T203, Link, is_multiple_frame, expired, Course, begun, End, with_link, IsTimedIn, HeedsIn, IsCutOffWith, ErrorCode, enquire, repeated, start, failed}
+use Rattle.laws_link.proofs.Vocabulary.{◌≡◌, ℕ, ◌≤◌, Bool, true, false, cond, IsTrue, [], ◌∷◌, ◌++◌, Option, Some, refl, ap, ◌∙◌, ◌⊎◌, append-nil, arith, nat_lt, lt-ltb, State, LinkTimer, T200, T203, is_multiple_frame, expired, End, with_link, IsTimedIn, HeedsIn, IsCutOffWith}
 use Rattle.laws_link.proofs.OfTwo.Shapes.{enquiry_with, in_8_with, in_7_with}
 
 abbrev pub with_count : ℕ → End → End
@@ -40,24 +40,6 @@ module _ (own : Bool) (n m : End) (h : IsCutOffWith own n m) where
 
   asks : (b : Bool) (count : ℕ) → b ≡ true → asked b count ≡ in_8_with own (with_count count n) (enquiry_with own n.link.r ∷ []) n.link.peer_busy n.link.a false n.delivered
   asks b count e = ap (λ x. asked x count) e ∙ ap (λ ds. in_8_with own (with_count count n) (enquiry_with own n.link.r ∷ []) n.link.peer_busy n.link.a false ds) (append-nil n.delivered)
-
-  in-8-t200 : n.link.state ≡ State.TimerRecovery → n.link.running ≡ Some T200 → Asking own n (after n)
-  in-8-t200 s r =
-      let l = (known State.TimerRecovery n.link.peer_busy (Some T200)).link in
-      let again : nat_lt n.link.repeats n.terms.n200 ≡ true = lt-ltb n.link.repeats n.terms.n200 (h.repeats s) in
-      record {
-        count = n.link.repeats + 1;
-        is =
-            ap after (is-known State.TimerRecovery n.link.peer_busy (Some T200) s refl r)
-            ∙ ap (λ b. ended (cond b (repeating l) (failed n.terms ErrorCode.I (begun l)))) again
-            ∙ asks (nat_lt 0 n.terms.control) (n.link.repeats + 1) room;
-      }
-    where
-      repeating : Link → Course
-      repeating l = start T200 (repeated (enquire n.terms (begun l)))
-
-      ended : Course → End
-      ended c = record n { link = c.link; way = []; delivered = n.delivered ++ option_to_list c.delivered }
 
   by-state : (here : State) → n.link.state ≡ here → IsTrue (is_multiple_frame here) → IsTimedIn here n.link → HeedsIn here n.link.peer_busy n.link.running
       → Asking own n (after n) ⊎ Resting own n (after n)

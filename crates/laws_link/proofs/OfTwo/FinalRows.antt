@@ -8,12 +8,10 @@ module _ (t : Terms) (n : ℕ) where
   in-4 b octets control = grind (arith, dm_few, weaker, rows)
 
   in-5 : (b : Bool) (octets : List ℕ) (control : Control) → Leads (Few n) (frame_in_5 t octets control) (Few (n + cond {A = ℕ} (is_poll b control) 1 0))
-  in-5 b octets (Sabme p) = ua_few t n p
-  in-5 b octets control = grind (arith, dm_few, weaker, rows)
+  in-5 b octets control = grind (arith, ua_few, dm_few, weaker)
 
   in-6 : (b : Bool) (octets : List ℕ) (control : Control) → Leads (Few n) (frame_in_6 t octets control) (Few (n + cond {A = ℕ} (is_poll b control) 1 0))
-  in-6 b octets (Sabme p) = dm_few t n p
-  in-6 b octets control = grind (arith, ua_few, weaker, rows)
+  in-6 b octets control = grind (arith, dm_few, ua_few, weaker)
 
   -- states 7 and 8
   contents : (ns : Seq) (p : Bool) (octets : List ℕ) → Leads (Few n) (contents_in_7_8 t ns p octets) (Few (n + cond {A = ℕ} p 1 0))

@@ -58,10 +58,7 @@ few-more one xs y none = let more = tally-push one xs y in omega (arith, more, n
 
 -- The sender's side of the line grows: by a calm frame that is no enquiry,
 pub there-calm : (s r : ℕ) (b q : Bool) (ln lm : List Kind) (y : Kind) → Calm y → one_enquiry y ≡ 0 → Flow s r b q ln lm → Flow s r b q (ln ++ y ∷ []) lm
-there-calm s r b q ln lm y calm none h =
-    let same : tally one_enquiry (ln ++ y ∷ []) ≡ tally one_enquiry ln = few-more one_enquiry ln y none in
-    let asked = h.asked in
-    grind (arith, order-push, every-push, behind-push, one_enquiry)
+there-calm s r b q ln lm y calm none h = grind (arith, few-more, order-push, every-push, behind-push)
 
 -- by an enquiry, if none is open,
 pub there-enquiry : (s r : ℕ) (b q : Bool) (ln lm : List Kind) → tally one_enquiry ln ≡ 0 → tally one_answer lm ≡ 0 → Flow s r b q ln lm

@@ -65,7 +65,6 @@ pub hears-other-lost : (s r : ℕ) (b : Bool) (ns : Seq) (ln lm : List Kind) →
     → Flow s r b false (numbered ns ∷ ln) lm → Flow s r b true ln lm
 hears-other-lost s r b ns ln lm near differ h =
     let past = rise-other r s ns ln near differ h.order in
-    let asked : (0 + tally one_enquiry ln) + tally one_answer lm ≤ most b = h.asked in
     grind (arith, beyond-late)
 
 pub hears-other : (s r : ℕ) (b : Bool) (ns : Seq) (ln lm : List Kind) → s ≤ r + 127 → (ns.value ≡ (seq r).value → ⊥)

@@ -1,5 +1,5 @@
 -- What requests, expiries and offers do to a link that stays in states 7 and 8, and to what is on its line.
-use Rattle.laws_link.proofs.Vocabulary.{arith, ◌≡◌, ◌+◌, Bool, true, cond, IsTrue, List, [], ◌∷◌, ◌++◌, Option, None, Some, refl, ap, append_assoc, append-nil, ◌⊎◌, inl, nat_lt, slice_get, unwrap_or, and_parts, seq, Refusal, WrongState, Parts, State, Established, TimerRecovery, LinkTimer, T200, ControlFrame, Terms, Link, is_multiple_frame, frame_of, Request, Establish, SetBusy, expired, requested, offer, Course, begun, frame_given, frames_of, IsMildRequest, ErrorCode, both_ways, command, enquire, has_room, ready_to_receive, repeated, start, failed, granted, give_waiting, is_awaiting_acknowledgement, may_send_information, next_information, offer_among, send_acknowledgement, with_one_sent, course, expire_running, expired_in, given_of, is_running}
+use Rattle.laws_link.proofs.Vocabulary.{arith, ◌≡◌, ◌+◌, Bool, true, cond, IsTrue, List, [], ◌∷◌, ◌++◌, Option, None, Some, refl, ap, append_assoc, append-nil, ◌⊎◌, inl, nat_lt, slice_get, unwrap_or, and_parts, seq, Refusal, WrongState, Parts, State, Established, TimerRecovery, LinkTimer, T200, ControlFrame, Terms, Link, is_multiple_frame, frame_of, Request, Establish, expired, requested, offer, Course, begun, frame_given, frames_of, IsMildRequest, ErrorCode, both_ways, command, enquire, has_room, ready_to_receive, repeated, start, failed, granted, give_waiting, is_awaiting_acknowledgement, may_send_information, next_information, offer_among, send_acknowledgement, with_one_sent, course, expire_running, expired_in, given_of, is_running}
 use Rattle.laws_link.proofs.OfTwo.Staying.{refused}
 use Rattle.laws_link.proofs.OfTwo.Trains.{Kind, numbered, enquiry, report, kind_of, kinds_of, kinds-append}
 use Rattle.laws_link.proofs.OfTwo.Effects.{Grown, grows, Kept, Went, unchanged}
@@ -33,23 +33,19 @@ pub record Offered (t : Terms) (l : Link) (c : Course) : Type 0 where
   pub gives : Gives t l c
 
 module _ (t : Terms) (l : Link) where
-  nothing-new : Went report l l
-  nothing-new = record { state = refl; s = refl; r = refl; rejecting = refl; waiting = inl refl }
-
   by-refusal : (request : Request) (o : Option Refusal) → WentIn report l (granted t request (begun l))
       → WentIn report l (elim o [ None ↦ granted t request (begun l) | Some _ ↦ begun l ])
-  by-refusal request o x = grind (arith, nothing-new)
+  by-refusal request o x = grind arith
 
   refuses : (o : Option Refusal) → o ≡ Some WrongState → WentIn report l (elim o [ None ↦ granted t Establish (begun l) | Some _ ↦ begun l ])
-  refuses o e = grind (arith, nothing-new)
+  refuses o e = grind arith
 
   reports : (l' : Link) (f : ControlFrame) → l'.state ≡ l.state → l'.s ≡ l.s → l'.r ≡ l.r → l'.rejecting ≡ l.rejecting
       → l'.waiting ≡ cond (has_room t l) (l.waiting ++ f ∷ []) l.waiting → kind_of f.command f.control ≡ report → Went report l l'
   reports l' f state s r rejecting waiting is = grind (arith, Grown, report, grows)
 
   pub asks-went : IsTrue (is_multiple_frame l.state) → (request : Request) (full : Bool) → IsMildRequest request → WentIn report l (course t (requested request full) l)
-  asks-went up SetBusy full mild = grind (arith, by-refusal, both_ways, report, nothing-new, reports)
-  asks-went up request full mild = grind (arith, refuses, refused, by-refusal, both_ways, report, reports, nothing-new)
+  asks-went up request full mild = grind (arith, by-refusal, both_ways, reports, refuses, refused)
 
   -- An expiry: the timer does not run, or an enquiry waits.
   enquires : (l' : Link) → l'.state ≡ TimerRecovery → l'.s ≡ l.s → l'.r ≡ l.r → l'.rejecting ≡ l.rejecting

@@ -1,6 +1,6 @@
 -- Half a round: one end gives its next frame, and the other receives it.
-use Rattle.laws_link.proofs.Vocabulary.{◌≡◌, ℕ, zero, suc, ◌+◌, ◌-◌, ◌<◌, ◌≤◌, Bool, true, false, ◌==◌, List, [], ◌∷◌, ◌++◌, length, take, Some, refl, sym, ap, subst, ◌∙◌, ◌⊎◌, inl, inr, append-nil, eq-eqb, arith, All, nat_lt, slice_get, unwrap_or, ltb-true, ltb-false, le-ltb, le-leb, and_parts, All-head, All-tail, seq, named, distance-plain, Parts, frame, received, offer, IsInRange, IsSound, End, with_link, with_sent, with_first_lost, with_first_of, sound-after, IsReady, IsTaken, State, may_send_information}
-use Rattle.laws_link.proofs.OfTwo.Plain.{plain, is_plain, information_frame, acknowledgement_frame, with_information, with_acknowledgement, with_taken, with_all_acknowledged, gives-information, gives-acknowledgement, gives-nothing, takes-information, takes-acknowledgement}
+use Rattle.laws_link.proofs.Vocabulary.{◌≡◌, ℕ, zero, suc, ◌+◌, ◌-◌, ◌<◌, ◌≤◌, Bool, true, false, ◌==◌, List, [], ◌∷◌, ◌++◌, length, take, Some, refl, sym, ap, ◌∙◌, ◌⊎◌, inl, inr, append-nil, eq-eqb, arith, All, nat_lt, slice_get, unwrap_or, ltb-true, ltb-false, le-ltb, le-leb, and_parts, All-head, All-tail, seq, named, distance-plain, Parts, frame, received, offer, IsSound, End, with_link, with_sent, with_first_lost, with_first_of, sound-after, IsReady, IsTaken, State, may_send_information}
+use Rattle.laws_link.proofs.OfTwo.Plain.{plain, is_plain, information_frame, with_information, with_acknowledgement, with_taken, gives-information, gives-acknowledgement, gives-nothing, takes-information, takes-acknowledgement}
 
 -- an N(R) names the number that it means, if that lies between V(A) and V(S)
 pub named-number : (a s v : ℕ) → a ≤ v → v ≤ s → s ≤ a + 127 → named a s (seq v) ≡ Some v
@@ -87,27 +87,11 @@ module _ (n m : End) (hn : IsReady n) (hm : IsReady m) (there : IsTaken n m) (ba
       ap (with_link (received (frame (information_frame n.terms n.link)))) (is_plain m hm)
       ∙ takes-information m same n.terms n.link (le-ltb m.terms.n201 (length (unwrap_or (slice_get n.link.contents n.link.s) [])) (fits-at m.terms.n201 n.link.contents n.link.s there.sizes))
       (eq-eqb (seq n.link.s).value (seq m.link.r).value (ap (λ i. (seq i).value) (sym next))) names in
-      subst (λ x. Moved n m (with_first_lost x) (with_first_of x.way m)) (sym gives)
-      (subst (λ y. Moved n m (record n { link = with_information n.link; way = [] }) y) (sym takes)
-      (record {
-        giver = grind arith;
-        taker = record { terms = refl; contents = refl; a = refl; s = refl; state = refl; peer_busy = refl; own_busy = refl; waiting = refl; way = refl };
-        moved = inl (record { unsent = ltb-true n.link.s (length n.link.contents) parts.1; sent = refl; received = refl; pending = refl; delivered = refl });
-      }))
+      grind (arith, takes, ltb-true)
 
   -- an acknowledgement goes
   acknowledges : may_send_information n.terms (plain n.link) ≡ false → n.link.pending ≡ true → Moved n m (giver_of n) (taker_of n m)
-  acknowledges may owed =
-      let gives : with_sent n ≡ record n { link = with_acknowledgement n.link; way = acknowledgement_frame n.terms n.link ∷ [] } = ap with_sent (is_plain n hn) ∙ gives-acknowledgement false false n may owed in
-      let takes : with_link (received (frame (acknowledgement_frame n.terms n.link))) m ≡ record m { link = with_all_acknowledged m.link; way = []; delivered = m.delivered ++ [] } =
-      ap (with_link (received (frame (acknowledgement_frame n.terms n.link)))) (is_plain m hm) ∙ takes-acknowledgement m same n.terms n.link names in
-      subst (λ x. Moved n m (with_first_lost x) (with_first_of x.way m)) (sym gives)
-      (subst (λ y. Moved n m (record n { link = with_acknowledgement n.link; way = [] }) y) (sym takes)
-      (record {
-        giver = grind arith;
-        taker = record { terms = refl; contents = refl; a = refl; s = refl; state = refl; peer_busy = refl; own_busy = refl; waiting = refl; way = refl };
-        moved = inr (record { may = may; sent = refl; received = refl; pending = refl; delivered = append-nil m.delivered });
-      }))
+  acknowledges may owed = grind (arith, is_plain, gives-acknowledgement, takes-acknowledgement, same, names, append-nil)
 
   -- nothing goes: then nothing is outstanding at the other end
   rests : may_send_information n.terms (plain n.link) ≡ false → n.link.pending ≡ false → Moved n m (giver_of n) (taker_of n m)
@@ -132,9 +116,7 @@ module _ (n m : End) (hn : IsReady n) (hm : IsReady m) (there : IsTaken n m) (ba
       record { ranges = hn.ranges; sound = sound-after n.terms hn.ranges offer n.link hn.sound; state = h.state; peer_busy = h.peer_busy; own_busy = h.own_busy; waiting = h.waiting; way = h.way }
 
   pub ready-taker : IsReady (taker_of n m)
-  ready-taker =
-      let h = moves.taker in
-      record { ranges = subst (λ t. IsInRange t) (sym h.terms) hm.ranges; sound = sound-taker (with_sent n).way; state = h.state; peer_busy = h.peer_busy; own_busy = h.own_busy; waiting = h.waiting; way = h.way }
+  ready-taker = grind (arith, moves, sound-taker)
 
   -- what was sent is taken, both ways
   taken-there : One n m (giver_of n) (taker_of n m) ⊎ Nothing n m (giver_of n) (taker_of n m) → IsTaken (giver_of n) (taker_of n m)
@@ -150,7 +132,4 @@ module _ (n m : End) (hn : IsReady n) (hm : IsReady m) (there : IsTaken n m) (ba
   takes = taken-there moves.moved
 
   pub taken : IsTaken (taker_of n m) (giver_of n)
-  taken =
-      let g = moves.giver in
-      let k = moves.taker in
-      grind arith
+  taken = grind (arith, moves)

@@ -40,9 +40,6 @@ heeding_in_7 state busy running = (state ≡ Established) × (IsTrue busy → ru
 down_heeds : (here state : State) (busy : Bool) (running : Option LinkTimer) → state ≡ here → HeedsIn here busy running → HeedsIn state busy running
 down_heeds here state busy running e h = subst (λ s. HeedsIn s busy running) (sym e) h
 
-not-busy : (busy : Bool) (running : Option LinkTimer) → busy ≡ false → IsTrue busy → running ≡ Some T200
-not-busy busy running e h = grind arith
-
 -- the words that change what is claimed
 module _ {g : Step} {R : Course → Type 0} where
   pub flags_then : {P : Claim} → Leads (On calm) g R → Leads (On P) (clear_flags then g) R
@@ -52,7 +49,7 @@ module _ {g : Step} {R : Course → Type 0} where
   start_then timer x = record { leads = λ c h. x.leads (start timer c) (record { holds = h.holds }) }
 
 pub enter_7_calm : Leads (On calm) (enter Established) (On heeding)
-enter_7_calm = record { leads = λ c h. record { holds = not-busy c.link.peer_busy c.link.running h.holds } }
+enter_7_calm = grind arith
 
 pub enter_7_awake : Leads (On awake) (enter Established) (On heeding)
 enter_7_awake = record { leads = λ c h. record { holds = λ b. h.holds } }
@@ -107,5 +104,4 @@ module _ (t : Terms) where
 
 module _ (t : Terms) where
   pub in_8 : (b : Bool) (octets : List ℕ) (control : Control) → Leads (On (awake_at TimerRecovery)) (frame_in_8 t b octets control) (On heeding)
-  in_8 b octets (Sabme p) = search (rows, start_then) depth 14 fits 6000
-  in_8 b octets control = grind (arith, to_less, down_heeds, re_establish_heeds)
+  in_8 b octets control = grind (arith, start_then, to_less, down_heeds, re_establish_heeds)

@@ -6,13 +6,6 @@ abbrev Ends : Course → Type 0
 Ends c = Heeding.On Heeding.heeding c
 
 module _ (t : Terms) (l : Link) where
-  -- a link as an event begins, by its state
-  at-4 : l.state ≡ TeiAssigned → Heeding.On (Heeding.at_state TeiAssigned) (begun l)
-  at-4 e = record { holds = e }
-
-  at-6 : l.state ≡ AwaitingRelease → Heeding.On (Heeding.at_state AwaitingRelease) (begun l)
-  at-6 e = record { holds = e }
-
   at-8 : l.state ≡ TimerRecovery → HeedsIn TimerRecovery l.peer_busy l.running → Heeding.On (Heeding.awake_at TimerRecovery) (begun l)
   at-8 e h = record { holds = (e, h) }
 
@@ -22,9 +15,9 @@ module _ (t : Terms) (l : Link) where
 
   frames-in : (here : State) → l.state ≡ here → HeedsIn here l.peer_busy l.running → (b : Bool) (octets : List ℕ) (control : Control)
       → Ends (frame_in here t b octets control (begun l))
-  frames-in TeiAssigned e h b octets control = (Heeding.in_4 t octets control).leads (begun l) (at-4 e)
+  frames-in TeiAssigned e h b octets control = grind arith
   frames-in AwaitingEstablishment e h b octets control = (Heeding.in_5 t octets control).leads (begun l) (record { holds = (e, h) })
-  frames-in AwaitingRelease e h b octets control = (Heeding.in_6 t octets control).leads (begun l) (at-6 e)
+  frames-in AwaitingRelease e h b octets control = grind arith
   frames-in Established e h b octets control = (Heeding.in_7 t b octets control).leads (begun l) (record { holds = (e, h) })
   frames-in TimerRecovery e h b octets control = (Heeding.in_8 t b octets control).leads (begun l) (at-8 e h)
 
@@ -35,10 +28,10 @@ module _ (t : Terms) (l : Link) where
   malformed e here s h = grind arith
 
   expiries : (here : State) → l.state ≡ here → HeedsIn here l.peer_busy l.running → (timer : LinkTimer) → Ends (expired_in here timer t (begun l))
-  expiries here e h timer = grind (arith, idle, at-6, at-8)
+  expiries here e h timer = grind (arith, idle, at-8)
 
   releases : (here : State) → l.state ≡ here → HeedsIn here l.peer_busy l.running → Ends (release_in here t (begun l))
-  releases here e h = grind (arith, at-4, at-8, idle)
+  releases here e h = grind (arith, at-8, idle)
 
   grants : Heeds l → (request : Request) → Ends (granted t request (begun l))
   grants h request = grind (arith, releases, both_ways)

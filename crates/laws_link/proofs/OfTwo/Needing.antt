@@ -21,7 +21,6 @@ or-true : (x : Bool) → (x || true) ≡ true
 or-true x = grind arith
 
 to-heeds : (here : State) (busy : Bool) (running : Option LinkTimer) (a s : ℕ) → running ≡ need here busy a s → calm here busy → HeedsIn here busy running
-to-heeds AwaitingEstablishment busy running a s e h = h
 to-heeds here busy running a s e h = grind (arith, or-true)
 
 to-awaits : (here : State) (busy : Bool) (running : Option LinkTimer) (a s : ℕ) → running ≡ need here busy a s → Awaits here running busy a s

@@ -19,9 +19,7 @@ stay_up (d ∷ ds) e = are_up (doing d e) && stay_up ds (doing d e)
 by-test : (ds : List Doing) (e : Ends) → stay_up ds e ≡ true → StayUp ds e
 unfolding StayUp stay_up are_up
 by-test [] e h = tt
-by-test (d ∷ ds) e h =
-    let parts = and_parts (are_up (doing d e)) (stay_up ds (doing d e)) h in
-    (and_parts (is_multiple_frame (doing d e).near.link.state) (is_multiple_frame (doing d e).far.link.state) parts.0, by-test ds (doing d e) parts.1)
+by-test (d ∷ ds) e h = grind (arith, and_parts, are_up, stay_up, (by-test ds (doing d e)))
 
 pub stays : StayUp mended both
 unfolding seq distance_of named reading header_of control_of unnumbered_of supervisory_of after_all stay_up are_up

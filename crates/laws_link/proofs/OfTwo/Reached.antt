@@ -1,5 +1,5 @@
 -- What holds of two links that came from an establishment, and stayed up: all that recovery asks but silence.
-use Rattle.laws_link.proofs.Vocabulary.{arith, ◌≡◌, ℕ, ◌+◌, Bool, false, List, [], ◌∷◌, Parts, Link, frame, received, offer, End, Ends, Act, asks, expires, sends, receives, loses, Doing, at_near, at_far, with_first_of, acting, turned, doing, doing_all, Begins, StayUp, Agree, Joined, joined-first, done-at, ends-agree, IsTimed, Heeds, rounds, IsCutOffWith, IsSilent, IsSilentWith, HasMissing, with_t200_expired, joined-turned}
+use Rattle.laws_link.proofs.Vocabulary.{arith, ◌≡◌, ℕ, ◌+◌, Bool, false, List, [], ◌∷◌, Parts, Link, frame, received, End, Ends, Act, asks, expires, sends, receives, loses, Doing, at_near, at_far, with_first_of, acting, turned, doing, doing_all, Begins, StayUp, Agree, Joined, joined-first, done-at, ends-agree, IsTimed, Heeds, rounds, IsCutOffWith, IsSilent, IsSilentWith, HasMissing, with_t200_expired, joined-turned}
 use Rattle.laws_link.proofs.TimedRows.{timed-after}
 use Rattle.laws_link.proofs.OfTwo.HeedingEvents.{heeds-after}
 use Rattle.laws_link.proofs.OfTwo.Arriving.{Arrived}
@@ -21,8 +21,7 @@ sane-first (f ∷ fs) n h = record { timed = timed-after n.terms (received (fram
 sane-acting : (act : Act) (e : Ends) → BothSane e → BothSane (acting act e)
 sane-acting (asks request full) e h = grind (arith, timed-after, heeds-after)
 sane-acting (expires timer) e h = grind (arith, timed-after, heeds-after)
-sane-acting sends e h =
-    (record { timed = timed-after e.near.terms offer e.near.link h.0.timed; heeds = heeds-after e.near.terms offer e.near.link h.0.heeds }, h.1)
+sane-acting sends e h = grind (arith, timed-after, heeds-after)
 sane-acting receives e h = (sane-first e.far.way e.near h.0, h.1)
 sane-acting loses e h = h
 

@@ -58,9 +58,7 @@ pub record Recovered (u : ℕ) (cn cm : List (List ℕ)) (e : Ends) : Type 0 whe
 
 -- a turn keeps it
 pub recovered-far : (u : ℕ) (cn cm : List (List ℕ)) (e : Ends) → Recovered u cn cm e → Recovered u cn cm (far_moves e)
-recovered-far u cn cm e h =
-    let x = moves e.far e.near h.far h.near h.back h.there in
-    grind (arith, ready-taker, ready-giver, taken, takes, far_moves, no-more)
+recovered-far u cn cm e h = grind (arith, moves, ready-taker, ready-giver, taken, takes, no-more)
 
 -- an end that has recovered
 pub ready-7 : (n : End) (a s : ℕ) (p : Bool) (running : Option LinkTimer) (ds : List (List ℕ)) → IsInRange n.terms → IsSound n.terms (in_7 n [] a s p running ds).link
@@ -152,9 +150,7 @@ module _ (u : ℕ) (cn cm : List (List ℕ)) (n m : End) (there : Between u cn n
     pub near-recovers : Sounds near_asks → Recovered u cn cm (far_moves (near_moves near_asks))
     near-recovers h =
         let s = subst Sounds (ap far_moves asks ∙ answers) (sounds-far (near_moves near_asks) (sounds-near near_asks h)) in
-        let high : n.link.r ≤ m.link.s = back.high in
-        let left : length m.link.contents ≤ n.link.r + u = back.left in
-        grind (arith, far_moves, asks, answers, ready-7)
+        grind (arith, asks, answers, ready-7)
 
   -- Far asks, and near has nothing outstanding: a round and a half, after which far's turn is as any other.
   -- what far has made of near's frame

@@ -1,19 +1,15 @@
 -- Losses are recovered, from the expiry of T200 on.
-use Rattle.laws_link.proofs.Vocabulary.{◌≡◌, ℕ, suc, ◌+◌, ◌≤◌, Bool, false, List, [], ◌∷◌, refl, sym, subst, ◌∙◌, ◌⊎◌, inl, inr, arith, T200, expired, End, Ends, sound-after, rounds, IsCutOff, IsCutOffWith, HasMissing, with_t200_expired}
+use Rattle.laws_link.proofs.Vocabulary.{◌≡◌, ℕ, suc, ◌+◌, ◌≤◌, Bool, false, List, [], ◌∷◌, refl, sym, subst, ◌∙◌, ◌⊎◌, arith, T200, expired, End, Ends, sound-after, rounds, IsCutOff, IsCutOffWith, HasMissing, with_t200_expired}
 use Rattle.laws_link.proofs.OfTwo.Arriving.{Arrived, near_moves, far_moves, all-arrived, AreFree, all-free}
 use Rattle.laws_link.proofs.OfTwo.Shapes.{enquiry, in_8, in_7}
 use Rattle.laws_link.proofs.OfTwo.Expiring.{Asking, Resting, with_count, expires-one}
 use Rattle.laws_link.proofs.OfTwo.Recovering.{Sounds, Between, Recovered, both-recover, near-recovers, far-recovers, ready-7}
 
 pub between : (own : Bool) (u v : ℕ) (n m : End) (b c : ℕ) → IsCutOffWith own n m → HasMissing u n m → u ≤ v → Between v n.link.contents (with_count b n) (with_count c m)
-between own u v n m b c h missing le =
-    let within : n.link.s ≤ n.link.a + n.terms.k = h.sound.within in
-    grind arith
+between own u v n m b c h missing le = grind arith
 
 finish : (u : ℕ) (cn cm : List (List ℕ)) (e : Ends) → Recovered u cn cm e → Arrived cn cm (rounds (u + 1) e)
-finish u cn cm e h =
-    subst (λ cs. Arrived cs cm (rounds (u + 1) e)) h.near_kept
-    (subst (λ cs. Arrived e.near.link.contents cs (rounds (u + 1) e)) h.far_kept (all-arrived u e h.near h.far h.there h.back h.near_left h.far_left))
+finish u cn cm e h = grind (arith, all-arrived)
 
 pub after-round : (u : ℕ) (e : Ends) → rounds (suc u) e ≡ rounds u (far_moves (near_moves e))
 unfolding rounds
@@ -78,23 +74,11 @@ module _ (u : ℕ) (e : Ends) (hn : IsCutOff e.near e.far) (hm : IsCutOff e.far 
         by-two e0 is (far-recovers u cn cm n m there back x.all m.link.peer_busy (subst Sounds is sounds))
 
     none-asks : (x : Resting false e.near (with_t200_expired e).near) (y : Resting false e.far (with_t200_expired e).far) → Q (rounds (u + 3) (with_t200_expired e))
-    none-asks x y =
-        let n = e.near in
-        let m = e.far in
-        let e0 : Ends = record { near = in_7 n [] n.link.a n.link.s n.link.pending x.running n.delivered; far = in_7 m [] m.link.a m.link.s m.link.pending y.running m.delivered } in
-        let is : with_t200_expired e ≡ e0 = λ i. record { near = x.is i; far = y.is i } in
-        let nl : n.link.a ≤ m.link.r = hn.low in
-        let nh : m.link.r ≤ n.link.s = hn.high in
-        let ml : m.link.a ≤ n.link.r = hm.low in
-        let mh : n.link.r ≤ m.link.s = hm.high in
-        grind (arith, at-once, ready-7)
+    none-asks x y = grind (arith, in_7, at-once, ready-7)
 
     either : Asking false e.near (with_t200_expired e).near ⊎ Resting false e.near (with_t200_expired e).near → Asking false e.far (with_t200_expired e).far ⊎ Resting false e.far (with_t200_expired e).far
         → Q (rounds (u + 3) (with_t200_expired e))
-    either (inl x) (inl y) = both-ask x y
-    either (inl x) (inr y) = near-asks x y
-    either (inr x) (inl y) = far-asks x y
-    either (inr x) (inr y) = none-asks x y
+    either it0 it = grind (arith, both-ask, near-asks, far-asks, none-asks)
 
     recovered-so : Q (rounds (u + 3) (with_t200_expired e))
     recovered-so = either (expires-one false e.near e.far hn) (expires-one false e.far e.near hm)

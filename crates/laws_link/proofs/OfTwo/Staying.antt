@@ -52,14 +52,11 @@ module _ (t : Terms) (l : Link) (up : IsTrue (is_multiple_frame l.state)) (p : �
   in-7 b octets control e size = grind (arith, numbered, first)
 
   in-8 : (b : Bool) (octets : List ℕ) (control : Control) → Means p control → Fits t control octets → IsUpIn (frame_in_8 t b octets control (begun l))
-  in-8 b octets (Information ns nr x) e size = grind (arith, information)
-  in-8 b octets control e size = grind (arith, numbered, first)
+  in-8 b octets control e size = grind (arith, information, numbered, first)
 
   frames-in : (here : State) → IsTrue (is_multiple_frame here) → (b : Bool) (octets : List ℕ) (control : Control) → Means p control → Fits t control octets
       → IsUpIn (frame_in here t b octets control (begun l))
-  frames-in Established h b octets control e size = in-7 b octets control e size
-  frames-in TimerRecovery h b octets control e size = in-8 b octets control e size
-  frames-in other h b octets control e size = absurd (true≢false (sym h))
+  frames-in here h b octets control e size = grind (arith, in-7, in-8, true≢false)
 
   pub frame-stays : (b : Bool) (octets : List ℕ) (control : Control) → Means p control → Fits t control octets → IsUpIn (frame_step t b octets control (begun l))
   frame-stays b octets control e size = frames-in l.state up b octets control e size

@@ -1,5 +1,5 @@
 -- Two links stay up while neither's V(S) is below the other's V(R).
-use Rattle.laws_link.proofs.Vocabulary.{◌≡◌, ℕ, zero, suc, ◌+◌, ◌≤◌, IsTrue, List, [], ◌∷◌, ◌++◌, length, Some, subst, arith, All, slice_get, All-head, All-tail, seq, named, Control, Information, Parts, Terms, is_multiple_frame, frame, received, End, Ends, Doing, at_near, at_far, with_link, with_first_of, doing, Begins, IsUp, StayUp, Piece, Rising, rising-low, frames_of, Joined, joined-turned, joined-first, done-at, IsAhead, IsMild, StayAhead}
+use Rattle.laws_link.proofs.Vocabulary.{◌≡◌, ℕ, zero, suc, ◌≤◌, IsTrue, List, [], ◌∷◌, length, Some, subst, arith, All, slice_get, All-head, All-tail, Control, Information, Parts, Terms, is_multiple_frame, frame, received, End, Ends, Doing, with_link, with_first_of, doing, Begins, IsUp, StayUp, Piece, rising-low, Joined, joined-turned, joined-first, done-at, IsAhead, IsMild, StayAhead}
 use Rattle.laws_link.proofs.OfTwo.Halves.{named-number}
 use Rattle.laws_link.proofs.OfTwo.Staying.{Fits, frame-stays, request-stays, timer-stays, offer-stays}
 
@@ -16,23 +16,14 @@ fits-of t contents high r top octets other sizes h = tt
 
 module _ (n m : End) (h : Joined n m) (same : n.terms.n201 ≡ m.terms.n201) (ahead : m.link.r ≤ n.link.s) where
   hears : (f : Parts) (fs : List Parts) → m.way ≡ f ∷ fs → IsTrue (is_multiple_frame (with_link (received (frame f)) n).link.state)
-  hears f fs first =
-      let rising : Rising n.link.a m.link.r (f ∷ fs ++ frames_of m.terms m.link.waiting) = subst (λ way. Rising n.link.a m.link.r (way ++ frames_of m.terms m.link.waiting)) first h.there.rising in
-      let p = rising.0 in
-      let low : n.link.a ≤ p = rising.1 in
-      let below : p ≤ m.link.r = rising-low p m.link.r (fs ++ frames_of m.terms m.link.waiting) rising.3 in
-      let within : n.link.s ≤ n.link.a + n.terms.k = h.near_sound.within in
-      let small : n.terms.k ≤ 127 = h.near_ranges.k_high in
-      let valid : named n.link.a n.link.s (seq p) ≡ Some p = named-number n.link.a n.link.s p low (omega (arith, below, ahead)) (omega arith) in
-      grind (arith, frame-stays, fits-of)
+  hears f fs first = grind (arith, rising-low, named-number, frame-stays, fits-of)
 
   first-of : (way : List Parts) → m.way ≡ way → IsTrue (is_multiple_frame (with_first_of way n).link.state)
   first-of [] e = h.near_up
   first-of (f ∷ fs) e = hears f fs e
 
 pub done-up : (d : Doing) (e : Ends) → Joined e.near e.far → e.near.terms.n201 ≡ e.far.terms.n201 → IsAhead e → IsMild d e → IsUp (doing d e)
-done-up (at_near act) e h same ahead mild = grind (arith, request-stays, timer-stays, offer-stays, first-of)
-done-up (at_far act) e h same ahead mild = grind (arith, request-stays, timer-stays, offer-stays, first-of, joined-turned)
+done-up d e h same ahead mild = grind (arith, request-stays, timer-stays, offer-stays, first-of, joined-turned)
 
 -- the ends keep their terms
 pub same-after : (d : Doing) (e : Ends) → e.near.terms.n201 ≡ e.far.terms.n201 → (doing d e).near.terms.n201 ≡ (doing d e).far.terms.n201
@@ -41,9 +32,7 @@ same-after d e same = grind arith
 stay-up : (ds : List Doing) (e : Ends) → Joined e.near e.far → e.near.terms.n201 ≡ e.far.terms.n201 → StayAhead ds e → StayUp ds e
 unfolding StayUp StayAhead
 stay-up [] e h same x = tt
-stay-up (d ∷ ds) e h same x =
-    let up = done-up d e h same x.0 x.1 in
-    (up, stay-up ds (doing d e) (done-at d e up h) (same-after d e same) x.2)
+stay-up (d ∷ ds) e h same x = grind (arith, done-up, done-at, same-after, (stay-up ds (doing d e)))
 
 pub all-stay_up : (ds : List Doing) (e : Ends) → Begins e.near → Begins e.far → e.near.terms.n201 ≡ e.far.terms.n201 → StayAhead ds e → StayUp ds e
 all-stay_up ds e b c same x = stay-up ds e (joined-first e.near e.far b c) same x

@@ -126,8 +126,7 @@ Beyond r other = Unit {0}
 pub rise-beyond : (r lo hi : ℕ) (xs : List Kind) → r < lo → hi ≤ r + 128 → Rise lo hi xs → Every (Beyond r) xs
 rise-beyond r lo hi [] less le h = tt
 rise-beyond r lo hi (x ∷ xs) less le (top, up, here, rest) =
-    let high : top ≤ hi = rise-low top hi xs rest in
-    ((grind arith), rise-beyond r top hi xs (omega (arith, less, up)) le rest)
+    grind (arith, rise-low, (rise-beyond r top hi xs (omega (arith, less, up)) le rest))
 
 -- First numbers beyond r, and then numbers that rise, from r to below hi.
 abbrev pub Late : ℕ → ℕ → List Kind → Type 0

@@ -55,8 +55,4 @@ nothing-stays t (suc n) l h = nothing-stays t n (after t offer l) (subst (HasNot
 pub in-the_end : (t : Terms) (n : ℕ) (l : Link) → turns l ≤ n → HasNothingToSend t (after_offers t n l)
 unfolding after_offers Falls
 in-the_end t zero l h = elim (falls-once t l) [ inl x ↦ absurd (omega (arith, x, h)) | inr x ↦ x ]
-in-the_end t (suc n) l h =
-    elim (falls-once t l) [
-      | inl x ↦ in-the_end t n (after t offer l) (omega (arith, x, h))
-      | inr x ↦ nothing-stays t n (after t offer l) (subst (HasNothingToSend t) (sym (silent-stays t l x)) x)
-    ]
+in-the_end t (suc n) l h = grind (arith, falls-once, nothing-stays, silent-stays, (in-the_end t n (after t offer l)))

@@ -1,9 +1,5 @@
 -- The bits of items are those of the octets that go out.
-use Rattle.model_card.proofs.OfPorts.Vocabulary.{◌≡◌, ℕ, ◌+◌, ◌%◌, ◌<◌, ◌≤◌, List, [], ◌∷◌, ◌++◌, length, map, flat_map, slice_index, refl, ap, ◌∙◌, arith, map-append, low_bits-mod, All, All-nil, All-cons, All-head, All-tail, bits, low_bits, flag, check, stuffed, Item, idle, frame, item_text, line_text, AreOctets, frames_among}
-use Rattle.model_bits.specs.Framer.{item_octets}
-use Rattle.model_bits.specs.RoundTrip.{AreHeardWhole}
-use Rattle.model_line.proofs.NotShort.{IsNotShort}
-use Rattle.model_card.specs.ports.GoingOut.{as_octets}
+use Rattle.model_card.proofs.OfPorts.Vocabulary.{◌≡◌, ℕ, ◌+◌, ◌%◌, ◌<◌, ◌≤◌, List, [], ◌∷◌, ◌++◌, length, map, flat_map, slice_index, refl, ap, ◌∙◌, arith, map-append, low_bits-mod, All, All-nil, All-cons, All-head, All-tail, bits, low_bits, flag, check, stuffed, Item, idle, frame, item_text, line_text, AreOctets, frames_among, AreHeardWhole, IsNotShort, as_octets, item_octets}
 use Rattle.model_card.proofs.OfPorts.LastItem.{IsCut, IsLongItem}
 
 octets_are : (numbers : List ℕ) → AreOctets (as_octets numbers)

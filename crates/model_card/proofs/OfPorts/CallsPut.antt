@@ -1,14 +1,11 @@
 -- The items that are put on a line are what the calls for its next frame are answered with.
-use Rattle.model_card.proofs.OfPorts.Vocabulary.{◌≡◌, ◌==◌, ℕ, ◌<◌, Bool, List, [], ◌∷◌, ◌++◌, length, map, flat_map, Option, option_map, option_to_list, sym, ap, ◌∙◌, cond, arith, append-nil, map-append, flat_map-append, PoolFull, Card, Event, Item, OctetCard, Port, after, after_all, given_in, item_of, meant, meant_all, port_at, said}
+use Rattle.model_card.proofs.OfPorts.Vocabulary.{◌≡◌, ◌==◌, ℕ, ◌<◌, List, [], ◌∷◌, ◌++◌, length, map, flat_map, Option, option_map, option_to_list, sym, ap, ◌∙◌, cond, arith, append-nil, map-append, flat_map-append, Card, Event, Item, OctetCard, Port, after, after_all, given_in, item_of, meant, meant_all, port_at, said, NextFrame, answer_of_call, call_answered, calls_answered}
 use Rattle.model_bits.specs.Stream as stream
 use Rattle.model_line.specs.Event as line
-use Rattle.model_line.specs.Event.{NextFrame}
-use Rattle.model_line.specs.Machine as lines
 unfoldable use Rattle.model_line.specs.Machine.{answer as line_answer, takes_slot}
 use Rattle.model_card.specs.Event as frames
 use Rattle.model_card.specs.Run as runs
 unfoldable use Rattle.model_card.specs.Run.{moments as frame_moments}
-use Rattle.model_card.specs.ports.GoingOut.{answer_of_call, call_answered, calls_answered}
 use Rattle.model_card.specs.ports.Port as port
 use Rattle.model_card.proofs.OfPorts.Codec.{asked_at, neither, said_is, stepped}
 use Rattle.model_card.proofs.OfPorts.PortGoesOn.{onward}
@@ -21,12 +18,9 @@ record AnswersCalls (ask : line.Event → line.Answer) : Type 0 where
   request : (r : _) → answer_of_call (ask (line.request r)) ≡ []
   next : answer_of_call (ask line.next) ≡ given_in (ask line.next) ∷ []
 
-no_call_unless : (b : Bool) (o : Option _) (outcome : _) → answer_of_call (cond b (line.refused PoolFull) (lines.unless_refused_told o outcome)) ≡ []
-no_call_unless b o outcome = grind arith
-
 answers_calls : (card : Card) (number : ℕ) → AnswersCalls (asked_at card number)
 unfolding line_answer takes_slot
-answers_calls card number = grind (arith, no_call_unless)
+answers_calls card number = grind arith
 
 -- ---- one event
 
@@ -40,12 +34,9 @@ answers_in_meaning ask o = flat_map (answers_of ask) (option_to_list o)
 nothing_put : (items : List Item) (answers : List (Option NextFrame)) → answers ≡ [] → items ≡ items ++ map item_of answers
 nothing_put items answers none = sym (append-nil items) ∙ ap (λ l. items ++ map item_of l) (sym none)
 
-heard_no_call : (ask : line.Event → line.Answer) → AnswersCalls ask → (o : Option stream.Event) → answers_in_meaning ask (option_map line.hears o) ≡ []
-heard_no_call ask h o = grind arith
-
 port_puts : (n201 : ℕ) (e : port.Event) (p : Port) (ask : line.Event → line.Answer) → AnswersCalls ask → let o = port.meant n201 e p in
     (port.after e (option_map ask o) p).items ≡ p.items ++ map item_of (answers_in_meaning ask o)
-port_puts n201 e p ask h = grind (arith, nothing_put, heard_no_call, option_map)
+port_puts n201 e p ask h = grind (arith, nothing_put, option_map)
 
 -- ---- a card
 

@@ -1,7 +1,6 @@
 -- The law of the codec.
-use Rattle.model_card.proofs.OfPorts.Vocabulary.{◌≡◌, ◌==◌, ℕ, ◌<◌, Bool, List, [], ◌∷◌, ◌++◌, length, flat_map, Option, None, option_map, option_to_list, refl, ap, sym, ◌∙◌, subst, cond, arith, flat_map-append, All, All-nil, All-head, All-tail, All-append, PoolFull, Config, Card, Event, OctetCard, Port, port_at, given_in, meant, said, answer, after, answer_to, after_all, meant_all, moments, GoesOn, PortGoesOn, Refines, OctetsAreACodec, come_of, frame_moment, frames_given, given_of, heard_of, meant_in, octet_come, octet_pulled, octets_come, octets_pulled, pulled_of, AreAtLines}
+use Rattle.model_card.proofs.OfPorts.Vocabulary.{◌≡◌, ◌==◌, ℕ, ◌<◌, Bool, List, [], ◌∷◌, ◌++◌, length, flat_map, Option, option_map, option_to_list, refl, ap, sym, ◌∙◌, subst, cond, arith, flat_map-append, All, All-nil, All-head, All-tail, All-append, Config, Card, Event, OctetCard, Port, port_at, meant, said, answer, after, answer_to, after_all, meant_all, moments, GoesOn, PortGoesOn, Refines, OctetsAreACodec, come_of, frames_given, given_of, heard_of, meant_in, octet_come, octet_pulled, octets_come, octets_pulled, pulled_of, AreAtLines}
 use Rattle.model_line.specs.Event as line
-use Rattle.model_line.specs.Machine as lines
 unfoldable use Rattle.model_line.specs.Machine.{answer as line_answer}
 use Rattle.model_card.specs.Event as frames
 use Rattle.model_card.specs.Machine as machine
@@ -23,27 +22,12 @@ stepped m e = card_step m.card (meant e m)
 pub refined_card : (m : OctetCard) (events : List Event) → (after_all m events).card ≡ runs.after_all m.card (meant_all m events)
 unfolding after after_all meant_all frames_after
 refined_card m [] = refl
-refined_card m (e ∷ events) =
-    let o = meant e m in
-    let rest = meant_all (after e m) events in
-    refined_card (after e m) events
-    ∙ ap (λ card. runs.after_all card rest) (card_step m.card o)
-    ∙ sym (after_all-append m.card (option_to_list o) rest)
-
-meant_moment : (m : OctetCard) (o : Option frames.Event) → option_to_list (option_map (frame_moment m) o) ≡ runs.moments m.card (option_to_list o)
-unfolding frame_moments
-meant_moment m o = grind arith
+refined_card m (e ∷ events) = grind (arith, card_step, after_all-append, (refined_card (after e m) events))
 
 refined_moments : (m : OctetCard) (events : List Event) → flat_map meant_in (moments m events) ≡ runs.moments m.card (meant_all m events)
 unfolding after moments meant_all frame_moments
 refined_moments m [] = refl
-refined_moments m (e ∷ events) =
-    let o = meant e m in
-    let rest = meant_all (after e m) events in
-    ap (λ l. option_to_list (option_map (frame_moment m) o) ++ l) (refined_moments (after e m) events)
-    ∙ ap (λ l. l ++ runs.moments (after e m).card rest) (meant_moment m o)
-    ∙ ap (λ card. runs.moments m.card (option_to_list o) ++ runs.moments card rest) (card_step m.card o)
-    ∙ sym (moments-append m.card (option_to_list o) rest)
+refined_moments m (e ∷ events) = grind (arith, card_step, moments-append, (refined_moments (after e m) events))
 
 -- lines below a number
 abbrev IsBelow : ℕ → frames.Event → Type 0
@@ -72,15 +56,9 @@ refines m events = grind (arith, refined_card, refined_moments, meant_at_lines, 
 abbrev pub asked_at : Card → ℕ → line.Event → line.Answer
 asked_at card number f = machine.answer (frames.at number f) card
 
-gives_told : (b : Bool) (t : line.LineTold) → given_in (cond b (line.refused PoolFull) (line.told t)) ≡ None
-gives_told b t = grind arith
-
-gives_unless : (b : Bool) (o : Option _) (outcome : _) → given_in (cond b (line.refused PoolFull) (lines.unless_refused_told o outcome)) ≡ None
-gives_unless b o outcome = grind arith
-
 pub gives_at_next : (card : Card) (number : ℕ) → GivesAtNext (asked_at card number)
 unfolding line_answer
-gives_at_next card number = grind (arith, gives_told, gives_unless)
+gives_at_next card number = grind arith
 
 pub neither : {X : Type 0} (b : Bool) → [] ≡ cond {A = List X} b [] []
 neither b = grind arith
@@ -98,8 +76,7 @@ given_where card number n o = grind (arith, neither, frame_given)
 -- the same with lists that are equal
 with_lists : {n201 : ℕ} {a b : Port} {os rs : List ℕ} {hs is : List _} {fs gs : List (List ℕ)} → hs ≡ is → fs ≡ gs
     → GoesOn n201 a b os hs rs fs → GoesOn n201 a b os is rs gs
-with_lists {n201} {a} {b} {os} {rs} {hs} {is} {fs} {gs} h g x =
-    subst (λ l. GoesOn n201 a b os is rs l) g (subst (λ l. GoesOn n201 a b os l rs fs) h x)
+with_lists {n201} {a} {b} {os} {rs} {hs} {is} {fs} {gs} h g x = grind arith
 
 -- what the line says to what an event means
 pub said_is : (card : Card) (n : ℕ) (o : Option line.Event) → option_map (answer_to card) (option_map (frames.at n) o) ≡ option_map (asked_at card n) o

@@ -1,11 +1,10 @@
 -- What is dropped changes nothing but the octets received, and costs nothing.
-use Rattle.model_card.proofs.OfPorts.Vocabulary.{arith, ◌≡◌, ℕ, List, [], ◌∷◌, Option, None, Some, option_map, option_map_or, refl, ap, none-some, All, All-nil, All-cons, All-head, Cause, Card, DropsAreWithoutEffect, Event, Moment, OctetCard, after, answer, answer_of, answer_to, card_after, meant, moments, told}
+use Rattle.model_card.proofs.OfPorts.Vocabulary.{arith, ◌≡◌, ℕ, List, [], ◌∷◌, Option, None, Some, option_map, option_map_or, refl, ap, none-some, All, All-nil, All-cons, All-head, Cause, Card, DropsAreWithoutEffect, Event, Moment, OctetCard, after, answer, answer_of, answer_to, card_after, meant, moments, told, may_send}
 use Rattle.model_bits.specs.Stream as stream
 use Rattle.model_line.specs.Event.{dropped}
 use Rattle.model_line.specs.Event as line
 use Rattle.model_line.specs.Laws as line_laws
 use Rattle.model_line.proofs.Drops.{named_cause}
-use Rattle.model_card.specs.Counts.{may_send}
 use Rattle.model_card.specs.Drops as frame_drops
 use Rattle.model_card.specs.Event as frames
 use Rattle.model_card.specs.Machine as machine
@@ -19,8 +18,7 @@ pub every_moment : (P : Moment → Type 0) → ((m : OctetCard) (e : Event) → 
     → (m : OctetCard) (events : List Event) → All P (moments m events)
 unfolding moments
 every_moment P one m [] = All-nil P
-every_moment P one m (e ∷ events) =
-    All-cons P (record { card = m; event = e; answer = answer e m }) (moments (after e m) events) (one m e) (every_moment P one (after e m) events)
+every_moment P one m (e ∷ events) = grind (arith, All-cons, (every_moment P one (after e m) events))
 
 -- at the card of frames
 heard_drops : (card : Card) (f : frames.Event) → frame_drops.IsDropWithoutEffect (moment_of card f)

@@ -1,10 +1,7 @@
 -- What is heard in the octets that a frame or a fault means.
-use Rattle.model_card.proofs.OfPorts.Vocabulary.{◌≡◌, ℕ, zero, suc, ◌+◌, ◌*◌, ◌/◌, ◌≤◌, Bool, true, List, [], ◌∷◌, ◌++◌, length, replicate, reverse, refl, ap, sym, ◌∙◌, arith, length-append, length-replicate, bits, flag, low_bits, check, frame_text, heard_until, heard_in, room_for, AreOctets, bits-append, low_bits-number_of_n, NoSix-stuffed, after_flag, heard_until-onto, hears_text, after_text, reverse_aux-append, Fault, IsIdle, filling, filled, line_octets, came, fault_octets, cause_of, AreHeardAs, FramesAreHeard}
-use Rattle.model_bits.proofs.RoundTripFrame.{some_text}
-use mathlib.Core.List.{reverse_aux}
+use Rattle.model_card.proofs.OfPorts.Vocabulary.{◌≡◌, ℕ, zero, suc, ◌+◌, ◌*◌, ◌/◌, ◌≤◌, Bool, true, List, [], ◌∷◌, ◌++◌, length, replicate, reverse, refl, ap, sym, ◌∙◌, arith, length-append, length-replicate, bits, flag, low_bits, check, frame_text, heard_until, heard_in, room_for, AreOctets, bits-append, low_bits-number_of_n, NoSix-stuffed, after_flag, heard_until-onto, hears_text, after_text, reverse_aux-append, Fault, IsIdle, filling, filled, line_octets, came, fault_octets, cause_of, AreHeardAs, FramesAreHeard, hears, hears-append, reverse_aux, some_text}
 use Rattle.model_bits.specs.Bits.{octets_of}
 use Rattle.model_bits.specs.Stream.{Event, dropped}
-use Rattle.model_bits.proofs.RoundTripPlaces.{hears, hears-append}
 use Rattle.model_line.specs.declared.faults.Fault.TheVariants.{Fcs, Abort, Ragged, Short}
 use Rattle.model_card.proofs.OfPorts.FramesIdle.{IdleAt, hears_first_flag, idle_again}
 use Rattle.model_card.proofs.OfPorts.FramesJudged.{gap_event_came}
@@ -50,15 +47,12 @@ after_first_flag room past text event idle is =
     ∙ ap (λ l. heard_until room past ++ l)
     (hears-append room flag text past ∙ ap (λ l. l ++ hears room (after_flag past) text) (hears_first_flag room past idle) ∙ is)
 
-IdleAt-IsIdle : (octets : List ℕ) → IdleAt (reverse (bits octets)) → IsIdle octets
-IdleAt-IsIdle octets h = record { ones = h.ones; no_gap = h.no_gap }
-
 IsIdle-IdleAt : (octets : List ℕ) → IsIdle octets → IdleAt (reverse (bits octets))
 IsIdle-IdleAt octets h = record { ones = h.ones; no_gap = h.no_gap }
 
 heard_as : (n201 : ℕ) (before octets : List ℕ) (event : Event) (past : List Bool) → reverse (bits (before ++ octets)) ≡ past
     → IdleAt past → heard_until (room_for n201) past ≡ heard_in n201 before ++ event ∷ [] → AreHeardAs n201 before octets event
-heard_as n201 before octets event past e idle heard = grind (arith, IdleAt-IsIdle, IdleAt)
+heard_as n201 before octets event past e idle heard = grind (arith, IdleAt)
 
 -- ---- a frame
 

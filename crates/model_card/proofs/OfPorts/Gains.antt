@@ -1,5 +1,5 @@
 -- What is heard with an octet.
-use Rattle.model_card.proofs.OfPorts.Vocabulary.{◌≡◌, ℕ, List, [], ◌∷◌, ◌++◌, length, slice_get, Option, None, Some, option_to_list, refl, ap, sym, ◌∙◌, one_event_an_octet, gained}
+use Rattle.model_card.proofs.OfPorts.Vocabulary.{◌≡◌, ℕ, List, [], ◌∷◌, ◌++◌, length, slice_get, Option, None, Some, option_to_list, refl, one_event_an_octet, gained, arith}
 use Rattle.model_bits.specs.Stream as stream
 
 next_of : {X : Type 0} (xs : List X) (o : Option X) → slice_get (xs ++ option_to_list o) (length xs) ≡ o
@@ -12,5 +12,4 @@ pub heard_with : (n201 : ℕ) (received : List ℕ) (value : ℕ)
 heard_with n201 received value =
     let heard = stream.heard_in n201 received in
     let one = one_event_an_octet n201 received value in
-    let is : gained n201 received value ≡ one.0 = ap (λ xs. slice_get xs (length heard)) one.1 ∙ next_of heard one.0 in
-    one.1 ∙ ap (λ e. heard ++ option_to_list e) (sym is)
+    grind (arith, next_of)

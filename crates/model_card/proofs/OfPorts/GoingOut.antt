@@ -1,12 +1,7 @@
 -- What a receiver hears in the octets that a line's pulls give: the law.
-use Rattle.model_card.proofs.OfPorts.Vocabulary.{◌≡◌, ℕ, ◌<◌, List, [], ◌∷◌, ◌++◌, length, map, refl, sym, ap, ◌∙◌, subst, arith, get_or-replicate, length-replicate, map-append, Item, idle, Config, Event, IsInRange, IsSoundPort, AreAtLines, OctetCard, Port, after_all, fresh, fresh_port, frames_among, item_of, left_of, port_at, None}
-use Rattle.model_bits.specs.RoundTrip.{AreHeardWhole}
+use Rattle.model_card.proofs.OfPorts.Vocabulary.{◌≡◌, ℕ, ◌<◌, List, [], ◌∷◌, ◌++◌, length, map, refl, sym, ap, ◌∙◌, subst, arith, get_or-replicate, length-replicate, map-append, Item, idle, Config, Event, IsInRange, IsSoundPort, AreAtLines, OctetCard, Port, after_all, fresh, fresh_port, frames_among, left_of, port_at, AllGivenAreHeard, AreHeardWhole, GivenFramesAreHeard, GivenGoOut, GoOut, IsReached, as_octets, frames_to_hear, heard_in, octets_given}
 use Rattle.model_bits.specs.Stream as stream
-use Rattle.model_bits.specs.Stream.{heard_in}
-use Rattle.model_card.specs.ports.GoingOut.{as_octets, GoOut, calls_answered, octets_given, frames_to_hear, AllGivenAreHeard, GivenGoOut, GivenFramesAreHeard}
-use Rattle.model_card.specs.ports.Reached.{IsReached}
 use Rattle.model_card.proofs.OfPorts.AsOctets.{sent, same_text, frames_sent, cut_sent, heard_whole, all_exact}
-use Rattle.model_card.specs.ports.Promises.{moments_meant}
 use Rattle.model_card.proofs.OfPorts.CallsPut.{run_puts}
 use Rattle.model_card.proofs.OfPorts.Codec.{run_goes_on}
 use Rattle.model_card.proofs.OfPorts.LastItem.{IsOnItsWay, stays_on_its_way, begins_on_its_way}
@@ -47,9 +42,7 @@ module _ (m : OctetCard) (number : ℕ) (r : IsReached m) (within : number < m.c
   port_out = go_out m.card.config.n201 (items_sent p) p.given (left_of p) (same_text p.items ∙ sound.text.text) whole (cut_sent p.items p.given on_its_way.cut)
 
   pub port_all_out : (front : List Item) → p.items ≡ front ++ idle ∷ [] → map stream.frame (frames_among (items_sent p)) ≡ heard_in m.card.config.n201 p.given
-  port_all_out front ends =
-      all_out m.card.config.n201 (items_sent p) p.given (left_of p) (same_text p.items ∙ sound.text.text) whole (map sent front) (ap (map sent) ends ∙ map-append sent front (idle ∷ []))
-      (cut_sent p.items p.given on_its_way.cut)
+  port_all_out front ends = grind (arith, all_out, same_text, sound, whole, sent, map-append, cut_sent, on_its_way)
 
 -- ---- from a card as it begins
 
@@ -88,15 +81,7 @@ module _ (c : Config) (events : List Event) (number : ℕ) (ranged : IsInRange c
 
   -- where the latest call gave none, that flag is put
   pub all_heard : AllGivenAreHeard c events number
-  all_heard before none =
-      ap (map stream.frame) (sym frames_are)
-      ∙ port_all_out m number reached there (map item_of before)
-      (run_puts (fresh c) events number inside
-      ∙ ap (λ (p : Port). p.items ++ map item_of (calls_answered number (moments_meant c events))) (fresh_at c number within)
-      ∙ ap (map item_of) none
-      ∙ map-append item_of before (None ∷ []))
-      ∙ ap (λ (x : Config). heard_in x.n201 end.given) same
-      ∙ ap (heard_in c.n201) octets_are
+  all_heard before none = grind (arith, frames_are, port_all_out, reached, there, run_puts, inside, fresh_at, map-append, same, octets_are)
 
 pub given_frames_are_heard : GivenFramesAreHeard
 given_frames_are_heard = record {

@@ -1,7 +1,6 @@
 -- What is heard in bits are octets, and so is what a card of octets hears.
-use Rattle.model_card.proofs.OfPorts.Vocabulary.{arith, ◌≡◌, ℕ, ◌<◌, ◌-◌, Bool, true, false, cond, nat_lt, List, [], ◌∷◌, ◌++◌, length, reverse, Option, Some, None, option_map, option_and_then, option_to_list, subst, All, All-nil, All-cons, All-append, All-tail, All-head, All-take, bits, octets_sent, octets_are_those_sent, judged_as, AreOctets, Port, after, gained, meant, meant_all, port_at}
+use Rattle.model_card.proofs.OfPorts.Vocabulary.{arith, ◌≡◌, ℕ, ◌<◌, ◌-◌, Bool, true, false, cond, nat_lt, List, [], ◌∷◌, ◌++◌, length, reverse, Option, Some, None, option_map, option_and_then, option_to_list, subst, All, All-nil, All-cons, All-append, All-tail, All-head, All-take, bits, octets_sent, octets_are_those_sent, judged_as, AreOctets, Port, after, gained, meant, meant_all, port_at, closed_by_flag, ends_flag, given_up, heard_at, heard_in, heard_until, room_for, since_flag, text_event}
 use Rattle.model_bits.specs.Stream as stream
-use Rattle.model_bits.specs.Stream.{ends_flag, has_abort, since_flag, text_event, gap_event, closed_by_flag, given_up, heard_at, heard_until, heard_in, room_for}
 use Rattle.model_line.specs.Event as line
 use Rattle.model_card.specs.Event as frames
 use Rattle.model_bits.specs.StreamLaws.{HasOctets}
@@ -19,20 +18,13 @@ text_octets room text (Some octets) e =
     judged_as HasOctets room octets (λ cause. tt) (λ five long. tt)
     (λ five. All-take (λ octet. octet < 256) (length octets - 2) octets are)
 
--- what a flag closes, and what an abort gives up
-closed_octets : (room : ℕ) (g : List Bool) → All HasOctets (option_to_list (closed_by_flag room g))
-closed_octets room g = grind (arith, text_octets)
-
-given_up_octets : (g : List Bool) → All HasOctets (option_to_list (given_up g))
-given_up_octets g = grind (arith, nat_lt, option_to_list)
-
 -- what a bit brings
 at_octets : (room : ℕ) (b : Bool) (flag : Bool) (o : Option (List Bool))
     → All HasOctets (option_to_list (cond flag (option_and_then (closed_by_flag room) o) (option_and_then (λ g. given_up (b ∷ g)) o)))
 at_octets room b true None = All-nil HasOctets
-at_octets room b true (Some g) = closed_octets room g
+at_octets room b true (Some g) = grind (arith, text_octets)
 at_octets room b false None = All-nil HasOctets
-at_octets room b false (Some g) = given_up_octets (b ∷ g)
+at_octets room b false (Some g) = grind (arith, nat_lt, option_to_list)
 
 until_octets : (room : ℕ) (past : List Bool) → All HasOctets (heard_until room past)
 until_octets room [] = All-nil HasOctets

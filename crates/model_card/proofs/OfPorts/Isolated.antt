@@ -1,11 +1,9 @@
 -- What a card of octets does at one line, beside what happens at the others.
-use Rattle.model_card.proofs.OfPorts.Vocabulary.{◌≡◌, ◌==◌, ℕ, ◌<◌, Bool, true, false, not, ◌&&◌, List, [], ◌∷◌, length, get_or, set, Option, None, Some, option_map, option_map_or, refl, ap, sym, ◌∙◌, subst, cond, arith, eqb-true, eq-eqb, length-set, length-replicate, get_or-set_same, get_or-set_other, filter, map, All-head, All-tail, Card, Answer, AreAtLines, Event, IsAtLine, LinesIsolated, Moment, OctetCard, Port, after, answer, answer_of, answer_to, card_after, fresh, fresh_port, meant, moments, port_at, said}
+use Rattle.model_card.proofs.OfPorts.Vocabulary.{◌≡◌, ◌==◌, ℕ, ◌<◌, Bool, true, false, not, ◌&&◌, List, [], ◌∷◌, length, get_or, set, Option, None, Some, option_map, option_map_or, refl, ap, sym, ◌∙◌, subst, cond, arith, eqb-true, eq-eqb, length-set, length-replicate, get_or-set_same, get_or-set_other, filter, map, All-head, All-tail, Card, Answer, AreAtLines, Event, IsAtLine, LinesIsolated, Moment, OctetCard, Port, after, answer, answer_to, card_after, fresh, fresh_port, meant, moments, port_at, said, Line, line_at}
 use Rattle.model_bits.specs.Stream as stream
 use Rattle.model_line.specs.Counts as line_counts
 use Rattle.model_line.specs.Event as line
-use Rattle.model_line.specs.Line.{Line}
 unfoldable use Rattle.model_line.specs.Machine.{answer as line_answer, takes_slot}
-use Rattle.model_card.specs.Card.{line_at}
 use Rattle.model_card.specs.Event as frames
 use Rattle.model_card.specs.Machine as machine
 use Rattle.model_card.proofs.Isolated as cards
@@ -28,9 +26,6 @@ never_full : (card : Card) (number : ℕ) → IsNeverFull (asked_at card number)
 unfolding line_answer takes_slot
 never_full card number = record { hears = λ e. refl; next = refl }
 
-answer_full : (a : line.Answer) → is_pool_full (answer_of a) ≡ line_counts.is_pool_full a
-answer_full a = grind arith
-
 none_full : (e : port.Event) (p : Port) → is_pool_full (port.answer e None p) ≡ false
 none_full e p = grind arith
 
@@ -39,7 +34,7 @@ by_meaning : (n201 : ℕ) (e : port.Event) (p : Port) (ask : line.Event → line
     → ((f : line.Event) → is_pool_full (port.answer e (Some (ask f)) p) ≡ line_counts.is_pool_full (ask f)
     → (line_counts.is_pool_full (ask f) ≡ true → port.after e (Some (ask f)) p ≡ p) → P (Some f))
     → P (port.meant n201 e p)
-by_meaning n201 e p ask h P none some = grind (arith, option_map, answer_full)
+by_meaning n201 e p ask h P none some = grind (arith, option_map)
 
 -- ---- a card on which only the events at one line happened
 

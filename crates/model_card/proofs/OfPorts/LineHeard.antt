@@ -1,12 +1,6 @@
 -- What is heard in a beginning of the bits of a line: the frames whose flags it has.
-use Rattle.model_card.proofs.OfPorts.Vocabulary.{◌≡◌, ℕ, ◌≤◌, inl, inr, Bool, List, [], ◌∷◌, ◌++◌, length, map, flat_map, refl, sym, ap, ◌∙◌, subst, arith, append_assoc, append-nil, append_cancel_left, bits, Item, idle, frame, item_text, line_text, line_text-push, room_for, after_flag, heard_until-onto, frames_among}
-use mathlib.Core.List.{reverse_aux}
-use Rattle.model_bits.specs.RoundTrip.{AreHeardWhole, frames_of}
+use Rattle.model_card.proofs.OfPorts.Vocabulary.{◌≡◌, ℕ, ◌≤◌, inl, inr, Bool, List, [], ◌∷◌, ◌++◌, length, map, flat_map, refl, sym, ap, ◌∙◌, subst, arith, append_assoc, append-nil, append_cancel_left, bits, Item, idle, frame, item_text, line_text, line_text-push, room_for, after_flag, heard_until-onto, frames_among, AreHeardWhole, GoOut, frames_of, heard_in, hears, hears-append, hears_items, reverse_aux}
 use Rattle.model_bits.specs.Stream as stream
-use Rattle.model_bits.specs.Stream.{heard_in}
-use Rattle.model_bits.proofs.RoundTripFrame.{hears_items}
-use Rattle.model_bits.proofs.RoundTripPlaces.{hears, hears-append}
-use Rattle.model_card.specs.ports.GoingOut.{GoOut}
 use Rattle.model_card.proofs.OfPorts.LastItem.{HasLast, IsCut}
 
 -- ---- lists
@@ -19,11 +13,7 @@ record IsFront {X : Type 0} (short long : List X) : Type 0 where
 front_of : {X : Type 0} (short u long v : List X) → short ++ u ≡ long ++ v → length short ≤ length long → IsFront short long
 front_of [] u long v e few = record { rest = long; is = refl }
 front_of (x ∷ short) u [] v e few = absurd (omega (arith, few))
-front_of (x ∷ short) u (y ∷ long) v e few =
-    let head : x ≡ y = cc e in
-    let tail : short ++ u ≡ long ++ v = cc e in
-    let f = front_of short u long v tail (omega (arith, few)) in
-    record { rest = f.rest; is = ap (λ z. z ∷ long) (sym head) ∙ ap (λ l. x ∷ l) f.is }
+front_of (x ∷ short) u (y ∷ long) v e few = grind (arith, (front_of short u long v))
 
 second_none : {X : Type 0} (xs ys : List X) → xs ++ ys ≡ [] → ys ≡ []
 second_none [] ys e = e
@@ -119,7 +109,4 @@ module _ (n201 : ℕ) (items : List Item) (given : List ℕ) (left : List Bool) 
   all_out front ends (inl none) = absurd (no_last front idle (sym ends ∙ none))
   all_out front ends (inr h) =
       let rest = rest_of h in
-      let flag : h.last ≡ idle = same_last h.front front h.last idle (sym h.items_are ∙ ends) in
-      as_heard items ∙ both
-      ∙ ap (λ x. heard_in n201 given ++ x) (second_none rest.0 later (rest.1 ∙ ap (λ item. frames_of (item ∷ [])) flag))
-      ∙ append-nil (heard_in n201 given)
+      grind (arith, same_last, as_heard, both, second_none, append-nil)

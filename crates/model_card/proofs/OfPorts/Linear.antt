@@ -1,13 +1,10 @@
 -- The frames sent are linear in the octets received.
-use Rattle.model_card.proofs.OfPorts.Vocabulary.{◌≡◌, ℕ, ◌+◌, ◌*◌, ◌≤◌, ◌<◌, Bool, List, [], ◌∷◌, refl, sym, subst, arith, length-replicate, All, count_by, sum_by, sum_by-cons, sum_by-replicate, mul-le-mul_left, IsInRange, Config, is_frame, is_long_frame, Event, FramesLinear, AreAtLines, Port, after_all, fresh, fresh_port, meant_all}
+use Rattle.model_card.proofs.OfPorts.Vocabulary.{◌≡◌, ℕ, ◌+◌, ◌*◌, ◌≤◌, ◌<◌, Bool, List, [], ◌∷◌, refl, sym, subst, arith, length-replicate, All, count_by, sum_by, sum_by-cons, sum_by-replicate, mul-le-mul_left, IsInRange, Config, is_frame, is_long_frame, Event, FramesLinear, AreAtLines, Port, after_all, fresh, fresh_port, meant_all, HasSevenOctetsAReject, HasSixOctetsAFrame, IsLinear, accepted, expired, heard, hears_frame, hears_long_frame, may_send, moments_meant, rejected, sent, window}
 use Rattle.model_bits.specs.Stream as stream
-use Rattle.model_line.specs.Counts.{hears_frame, hears_long_frame}
 use Rattle.model_line.specs.Event as line
-use Rattle.model_card.specs.Counts.{may_send, window, sent, heard, accepted, expired, rejected}
 use Rattle.model_card.specs.Run as runs
 use Rattle.model_card.proofs.Amortised.{frames_amortised_from_zero, rejects_are_long}
 use Rattle.model_card.specs.ports.Counts.{octets_of_port, octets_received}
-use Rattle.model_card.specs.ports.Promises.{HasSixOctetsAFrame, HasSevenOctetsAReject, IsLinear, moments_meant}
 use Rattle.model_card.proofs.OfPorts.Codec.{meant_at_lines}
 use Rattle.model_card.proofs.OfPorts.Heard.{IsOfHeard, in_port, in_ports, is_counted, run_counted}
 use Rattle.model_card.proofs.OfPorts.Octets.{frames_within, long_frames_within}

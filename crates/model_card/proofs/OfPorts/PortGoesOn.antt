@@ -1,8 +1,7 @@
 -- A port goes on with each event of its line.
-use Rattle.model_card.proofs.OfPorts.Vocabulary.{arith, ◌≡◌, ℕ, Bool, true, false, List, [], ◌∷◌, ◌++◌, length, flat_map, Option, None, Some, option_map, option_map_or, option_to_list, refl, ap, sym, ◌∙◌, cond, append-nil, append_assoc, ltb-false, Item, idle, frame, Port, octet, pull, told, answer_of, given_in, is_due, item_of, left_of, next_octet, with_item, with_octet, GoesOn, IsTextOf, frames_among, heard_by, octet_come, octet_pulled, octets_of}
+use Rattle.model_card.proofs.OfPorts.Vocabulary.{arith, ◌≡◌, ℕ, false, List, [], ◌∷◌, ◌++◌, length, flat_map, Option, None, option_map, option_map_or, option_to_list, refl, ap, ◌∙◌, append-nil, append_assoc, ltb-false, Item, idle, frame, Port, octet, pull, told, answer_of, given_in, is_due, left_of, GoesOn, IsTextOf, frames_among, heard_by, octet_come, octet_pulled, octets_of, nothing}
 use Rattle.model_bits.specs.Stream as stream
 use Rattle.model_line.specs.Event as line
-use Rattle.model_line.specs.Event.{NextFrame, nothing}
 use Rattle.model_card.specs.ports.Port as port
 use Rattle.model_card.proofs.OfPorts.Gains.{heard_with}
 use Rattle.model_card.proofs.OfPorts.TextGoesOn.{IsReady, one_given, one_item}
@@ -34,64 +33,20 @@ GoesOnBy n201 e p ask =
 quiet : (o : Option line.Answer) → octet_pulled (option_map_or answer_of o (told nothing)) ≡ []
 quiet o = grind arith
 
-heard_gained : (o : Option stream.Event) → heard_in_meaning (option_map line.hears o) ≡ option_to_list o
-heard_gained o = grind arith
-
-given_gained : (ask : line.Event → line.Answer) → GivesAtNext ask → (o : Option stream.Event) → given_in_meaning ask (option_map line.hears o) ≡ []
-given_gained ask h o = grind (arith, option_to_list, option_map)
-
--- an event that leaves the port
-stays_by : (n201 : ℕ) (p : Port) (pulled : List ℕ) (given : List (List ℕ)) → pulled ≡ [] → given ≡ [] → GoesOn n201 p p [] [] pulled given
-stays_by n201 p pulled given no_octet no_frame = grind (arith, append-nil)
-
 pub stays : (n201 : ℕ) (p : Port) → GoesOn n201 p p [] [] [] []
-stays n201 p = stays_by n201 p [] [] refl refl
+stays n201 p = grind (arith, append-nil)
 
 octet_goes_on : (n201 value : ℕ) (p : Port) (ask : line.Event → line.Answer) → GivesAtNext ask → GoesOnBy n201 (octet value) p ask
-octet_goes_on n201 value p ask h = grind (arith, heard_with, heard_gained, append-nil, quiet, option_map, given_gained)
-
--- the frame among what a call for the next frame puts on the line
-frames_put : (g : Option NextFrame) → frames_among (item_of g ∷ []) ≡ option_to_list (option_map octets_of g) ++ []
-frames_put g = grind arith
+octet_goes_on n201 value p ask h = grind (arith, heard_with, append-nil, quiet, option_map, option_to_list)
 
 pub ready_where : (p : Port) → IsTextOf p → is_due p ≡ false → IsReady p
 ready_where p h e = record { text = h.text; enough = ltb-false (length (left_of p)) 8 e }
 
-pull_goes_on : (n201 : ℕ) (p : Port) (ask : line.Event → line.Answer) → GoesOnBy n201 pull p ask
-pull_goes_on n201 p ask = go (is_due p) refl
-  where
-    go : (due : Bool) → is_due p ≡ due
-        → let o : Option line.Event = cond due (Some line.next) None in
-        let q = with_item (option_map ask o) p in
-        GoesOn n201 p (with_octet q) [] (heard_in_meaning o) (next_octet q ∷ []) (given_in_meaning ask o)
-    go false e = record {
-      received = sym (append-nil p.received);
-      heard = sym (append-nil (stream.heard_in n201 p.received));
-      items = [];
-      put = sym (append-nil p.items);
-      given = refl;
-      frames = refl;
-      text = λ h. one_given p (ready_where p h e);
-    }
-    go true e =
-        let g = given_in (ask line.next) in
-        record {
-          received = sym (append-nil p.received);
-          heard = sym (append-nil (stream.heard_in n201 p.received));
-          items = item_of g ∷ [];
-          put = refl;
-          given = refl;
-          frames = frames_put g;
-          text = λ h. one_given (with_item (Some (ask line.next)) p) (one_item p (item_of g) h);
-        }
-
 pub port_goes_on : (n201 : ℕ) (e : port.Event) (p : Port) (ask : line.Event → line.Answer) → GivesAtNext ask → GoesOnBy n201 e p ask
 port_goes_on n201 (octet value) p ask h = octet_goes_on n201 value p ask h
-port_goes_on n201 (port.expiry timer) p ask h =
-    stays_by n201 p _ _ (quiet (Some (ask (line.expiry timer)))) (ap (λ g. option_to_list (option_map octets_of g) ++ []) (h.expiry timer))
-port_goes_on n201 (port.request r) p ask h =
-    stays_by n201 p _ _ (quiet (Some (ask (line.request r)))) (ap (λ g. option_to_list (option_map octets_of g) ++ []) (h.request r))
-port_goes_on n201 pull p ask h = pull_goes_on n201 p ask
+port_goes_on n201 (port.expiry timer) p ask h = grind (arith, quiet, append-nil)
+port_goes_on n201 (port.request r) p ask h = grind (arith, quiet, append-nil)
+port_goes_on n201 pull p ask h = grind (arith, append-nil, one_given, ready_where, one_item)
 
 -- ---- one after the other
 

@@ -1,8 +1,7 @@
 -- Pulls of a line are calls for its next frame, and by them the bits that are left of it run out.
-use Rattle.model_card.proofs.OfPorts.Vocabulary.{◌≡◌, ◌==◌, ◌&&◌, ℕ, ◌+◌, ◌*◌, ◌/◌, ◌<◌, ◌≤◌, ◌⊎◌, Bool, true, false, List, [], ◌∷◌, ◌++◌, length, Option, None, Some, option_map, option_to_list, refl, sym, ap, subst, cond, arith, inl, inr, cases_lt, eqb-true, ltb-true, mul-le-mul_right, length-append, length-drop, length-bits, length-check, All, All-nil, All-cons, All-head, All-tail, All-append, bits, stuffed, Item, item_text, item_octets, Config, Event, IsSoundOctetCard, IsTextOf, IsAtLine, AreAtLines, OctetCard, Port, after, after_all, fresh, fresh_port, given_in, is_due, item_of, left_of, meant, meant_all, port_at, pull, said, with_item, with_octet}
+use Rattle.model_card.proofs.OfPorts.Vocabulary.{◌≡◌, ◌==◌, ◌&&◌, ℕ, ◌+◌, ◌*◌, ◌/◌, ◌<◌, ◌≤◌, ◌⊎◌, Bool, true, List, [], ◌∷◌, ◌++◌, length, Option, None, Some, option_map, option_to_list, refl, sym, ap, subst, cond, arith, cases_lt, eqb-true, ltb-true, mul-le-mul_right, length-append, length-drop, length-bits, length-check, All, All-nil, All-cons, All-head, All-tail, All-append, bits, stuffed, Item, item_text, item_octets, Config, Event, IsSoundOctetCard, IsTextOf, IsAtLine, AreAtLines, OctetCard, Port, after, after_all, fresh, fresh_port, left_of, meant, meant_all, port_at, pull, said, with_item, with_octet, OfEachLine}
 use Rattle.model_line.specs.Event as line
 use Rattle.model_card.specs.Event as frames
-use Rattle.model_card.specs.ports.GoingOut.{OfEachLine}
 use Rattle.model_card.specs.ports.Port as port
 use Rattle.model_card.specs.Takes.{AreTakesAt, takes_at, is_take, takes_of}
 use Rattle.model_card.specs.ports.Pulls.{ArePullsAt, pulls_at, is_pull, pulls_of, longest_text, pulls_behind, HasFewLeft, PullsAreTakes}
@@ -19,20 +18,15 @@ use Rattle.model_card.proofs.OfPorts.TextGoesOn.{IsReady, put_on, one_item, left
 abbrev IsTake : ℕ → frames.Event → Type 0
 IsTake number f = f.line ≡ number → f.what ≡ line.next
 
-one_take : (number n : ℕ) (f : line.Event) → (n ≡ number → f ≡ line.next) → All (IsTake number) (frames.at n f ∷ [])
-one_take number n f h = All-cons (IsTake number) (frames.at n f) [] h (All-nil (IsTake number))
-
 meaning_takes : (number n n201 : ℕ) (what : port.Event) (p : Port) → (n ≡ number → what ≡ pull) → All (IsTake number) (option_to_list (option_map (frames.at n) (port.meant n201 what p)))
-meaning_takes number n n201 what p h = grind (arith, option_to_list, option_map, one_take)
+meaning_takes number n n201 what p h = grind (arith, option_to_list, option_map, All-cons, All-nil)
 
 only_takes : (m : OctetCard) (events : List Event) (number : ℕ) → ArePullsAt number events → AreTakesAt number (meant_all m events)
 unfolding meant meant_all
 only_takes m [] number h = All-nil (IsTake number)
 only_takes m (e ∷ events) number h =
     let IsPull = λ (x : Event). x.line ≡ number → x.what ≡ pull in
-    All-append (IsTake number) (option_to_list (meant e m)) (meant_all (after e m) events)
-    (meaning_takes number e.line m.card.config.n201 e.what (port_at e.line m) (All-head IsPull e events h))
-    (only_takes (after e m) events number (All-tail IsPull e events h))
+    grind (arith, All-append, meaning_takes, All-head, All-tail, (only_takes (after e m) events number (All-tail IsPull e events h)))
 
 -- ---- counts
 
@@ -45,24 +39,13 @@ abbrev pub meant_count : Option line.Event → ℕ
 meant_count None = 0
 meant_count (Some f) = 1
 
-takes_where : (number n : ℕ) (o : Option line.Event) → takes_at number (option_to_list (option_map (frames.at n) o)) ≡ cond (n == number) (meant_count o) 0
-takes_where number n o = grind arith
-
 one_at_most : (b : Bool) (o : Option line.Event) → cond b (meant_count o) 0 ≤ cond b 1 0
 one_at_most b o = grind arith
 
 few_takes : (m : OctetCard) (events : List Event) (number : ℕ) → takes_at number (meant_all m events) ≤ pulls_at number events
 unfolding meant meant_all
 few_takes m [] number = omega arith
-few_takes m (e ∷ events) number =
-    let o = port.meant m.card.config.n201 e.what (port_at e.line m) in
-    omega (
-      arith,
-      takes-append number (option_to_list (option_map (frames.at e.line) o)) (meant_all (after e m) events),
-      takes_where number e.line o,
-      one_at_most (e.line == number) o,
-      few_takes (after e m) events number,
-    )
+few_takes m (e ∷ events) number = grind (arith, takes-append, one_at_most, (few_takes (after e m) events number))
 
 -- ---- lengths
 
@@ -87,20 +70,8 @@ octet_taken p ready = omega (arith, ap length (left_with_octet p ready), length-
 
 pull_is : (n201 : ℕ) (p : Port) (ask : line.Event → line.Answer) → GivesShort n201 ask → IsTextOf p
     → let o = port.meant n201 pull p in IsPulled n201 p (with_octet (with_item (option_map ask o) p)) o
-pull_is n201 p ask short h = go (is_due p) refl
-  where
-    go : (due : Bool) → is_due p ≡ due → let o : Option line.Event = cond due (Some line.next) None in IsPulled n201 p (with_octet (with_item (option_map ask o) p)) o
-    go false e =
-        let taken = octet_taken p (ready_where p h e) in
-        record { fewer = omega (arith, taken); few = inl (omega (arith, taken)) }
-    go true e =
-        let item = item_of (given_in (ask line.next)) in
-        let low = ltb-true (length (left_of p)) 8 e in
-        let taken = octet_taken (put_on item p) (one_item p item h) in
-        let more = ap length (left_with_item p item h) in
-        let sum = length-append (left_of p) (item_text item) in
-        let long = text_longest n201 item (item_short n201 (given_in (ask line.next)) short) in
-        record { fewer = omega (arith, taken, more, sum, long); few = inr (omega (arith, taken, more, sum, long, low)) }
+pull_is n201 p ask short h =
+    grind (arith, octet_taken, ready_where, ltb-true, put_on, one_item, left_with_item, length-append, text_longest, item_short)
 
 -- ---- any event
 
@@ -196,10 +167,7 @@ only_pulls number (e ∷ events) h =
 
 calls_few : (number : ℕ) (fs : List frames.Event) → takes_of number fs ≤ takes_at number fs
 calls_few number [] = omega arith
-calls_few number (f ∷ fs) = let rest = calls_few number fs in let one = go (f.line == number) (is_take f.what) in omega (arith, one, rest)
-  where
-    go : (b take : Bool) → cond (b && take) 1 0 ≤ cond b 1 0
-    go b take = grind arith
+calls_few number (f ∷ fs) = grind (arith, (calls_few number fs))
 
 enough_pulls : (m : OctetCard) (events : List Event) (number n : ℕ) → IsSoundOctetCard m → AreAtLines m events → number < m.card.config.lines → ArePullsAt number events
     → pulls_behind m.card.config.n201 (port_at number m) n ≤ pulls_at number events → n < takes_at number (meant_all m events)

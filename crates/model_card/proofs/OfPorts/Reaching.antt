@@ -1,8 +1,7 @@
 -- Cards of octets that are reached: one that begins is, events at its lines lead to others, and all of them are sound, and the
 -- cards of frames inside reached too.
-use Rattle.model_card.proofs.OfPorts.Vocabulary.{List, [], ◌∷◌, ◌++◌, refl, ap, sym, ◌∙◌, subst, All-nil, All-append, All-push, Config, IsInRange, Event, IsSoundOctetCard, IsAtLine, AreAtLines, OctetCard, after, after_all, fresh, meant_all, ◌≡◌}
+use Rattle.model_card.proofs.OfPorts.Vocabulary.{List, [], ◌∷◌, ◌++◌, refl, sym, subst, All-nil, All-append, All-push, Config, IsInRange, Event, IsSoundOctetCard, IsAtLine, AreAtLines, OctetCard, after, after_all, fresh, ◌≡◌, IsReached, arith}
 use Rattle.model_card.specs.Reached as cards
-use Rattle.model_card.specs.ports.Reached.{IsReached}
 use Rattle.model_card.proofs.OfPorts.Codec.{all_below, refined_card}
 use Rattle.model_card.proofs.OfPorts.Sound.{always_sound, fresh_octets_sound}
 use Rattle.model_card.proofs.OfPorts.Steps.{config_stays}
@@ -23,8 +22,7 @@ reached_after_all m events r within =
       config = subst IsInRange stays r.config;
       events = r.events ++ events;
       at_lines = subst (λ (c : Config). AreAtLines (fresh c) (r.events ++ events)) stays (All-append (IsAtLine m) r.events events r.at_lines within);
-      same = ap (λ x. after_all x events) r.same ∙ sym (after_all_append (fresh m.card.config) r.events events)
-          ∙ ap (λ c. after_all (fresh c) (r.events ++ events)) stays;
+      same = grind (arith, after_all_append);
     }
 
 pub reached_after : (m : OctetCard) (e : Event) → IsReached m → IsAtLine m e → IsReached (after e m)
@@ -35,11 +33,4 @@ pub reached_sound : (m : OctetCard) → IsReached m → IsSoundOctetCard m
 reached_sound m r = subst IsSoundOctetCard (sym r.same) (always_sound (fresh m.card.config) r.events (fresh_octets_sound m.card.config r.config) r.at_lines)
 
 pub frames_reached : (m : OctetCard) → IsReached m → cards.IsReached m.card
-frames_reached m r =
-    let begins = fresh m.card.config in
-    record {
-      config = r.config;
-      events = meant_all begins r.events;
-      at_lines = all_below m.card.config.lines begins r.events r.at_lines;
-      same = ap (λ (x : OctetCard). x.card) r.same ∙ refined_card begins r.events;
-    }
+frames_reached m r = grind (arith, all_below, refined_card)

@@ -1,15 +1,11 @@
 -- A card of octets is sound as it begins, and each event keeps it so.
-use Rattle.model_card.proofs.OfPorts.Vocabulary.{◌≡◌, ℕ, ◌+◌, ◌≤◌, ◌<◌, Bool, true, false, List, [], ◌∷◌, length, Option, None, Some, IfSome, option_map, option_map_or, refl, ap, sym, ◌∙◌, subst, cond, arith, length-replicate, All, All-get_or, All-head, All-nil, All-push, All-replicate, All-set, All-tail, Item, item_octets, IsInRange, Config, Card, CardsStaySound, Event, IsSoundOctetCard, IsSoundPort, IsAtLine, AreAtLines, OctetCard, Port, after, after_all, card_after, fresh, fresh_port, given_in, is_due, item_of, meant, port_at, pull, said, with_item, with_octet}
-use Rattle.model_card.specs.Card.{line_at}
+use Rattle.model_card.proofs.OfPorts.Vocabulary.{◌≡◌, ℕ, ◌+◌, ◌≤◌, ◌<◌, Bool, true, false, List, [], ◌∷◌, length, Option, None, Some, IfSome, option_map, option_map_or, refl, ap, sym, ◌∙◌, subst, cond, arith, length-replicate, All, All-get_or, All-head, All-nil, All-push, All-replicate, All-set, All-tail, Item, item_octets, IsInRange, Config, Card, CardsStaySound, Event, IsSoundOctetCard, IsSoundPort, IsAtLine, AreAtLines, OctetCard, Port, after, after_all, card_after, fresh, fresh_port, given_in, is_due, item_of, meant, port_at, pull, said, with_item, with_octet, Line, NextFrame, Taken, line_at, next_of, taken}
 use Rattle.model_card.specs.Event as frames
 use Rattle.model_card.specs.Sound as cards
 use Rattle.model_card.proofs.CardSound.{after_is_sound, fresh_is_sound}
 use Rattle.model_card.proofs.Steps.{has_lines, line_sound}
 use Rattle.model_line.specs.Event as line
-use Rattle.model_line.specs.Event.{NextFrame}
-use Rattle.model_line.specs.Line.{Line}
 unfoldable use Rattle.model_line.specs.Machine.{answer as line_answer, takes_slot}
-use Rattle.model_line.specs.Taken.{Taken, taken, next_of}
 use Rattle.model_line.proofs.TakenSound.{TakesSoundly, taken_sound}
 use Rattle.model_card.specs.ports.Port as port
 use Rattle.model_card.proofs.OfPorts.Codec.{asked_at, own_port, said_is}

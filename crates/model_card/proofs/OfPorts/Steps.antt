@@ -1,5 +1,5 @@
 -- An event at a card of octets is one at one of its ports, and what it means is one at the card of frames.
-use Rattle.model_card.proofs.OfPorts.Vocabulary.{arith, ◌≡◌, ◌==◌, ℕ, ◌<◌, Bool, true, false, List, [], ◌∷◌, ◌++◌, length, Option, option_map_or, option_to_list, refl, ap, ◌∙◌, eqb-true, eq-eqb, get_or-set_same, get_or-set_other, length-set, Card, Event, OctetCard, Port, port_at, meant, said, after, after_all, card_after}
+use Rattle.model_card.proofs.OfPorts.Vocabulary.{arith, ◌≡◌, ◌==◌, ℕ, ◌<◌, Bool, true, false, List, [], ◌∷◌, ◌++◌, length, Option, option_map_or, option_to_list, refl, ◌∙◌, eqb-true, eq-eqb, get_or-set_same, get_or-set_other, length-set, Card, Event, OctetCard, Port, port_at, said, after, after_all, card_after}
 use Rattle.model_card.specs.Event as frames
 use Rattle.model_card.specs.Machine as machine
 use Rattle.model_card.specs.Run as runs
@@ -12,12 +12,9 @@ pub card_step : (card : Card) (o : Option frames.Event) → option_map_or (card_
 unfolding frames_after
 card_step card o = grind arith
 
-pub config_step : (card : Card) (o : Option frames.Event) → (option_map_or (card_after card) o card).config ≡ card.config
-config_step card o = grind arith
-
 pub config_after : (m : OctetCard) (e : Event) → (after e m).card.config ≡ m.card.config
 unfolding after
-config_after m e = config_step m.card (meant e m)
+config_after m e = grind arith
 
 pub config_stays : (m : OctetCard) (events : List Event) → (after_all m events).card.config ≡ m.card.config
 unfolding after_all
@@ -27,8 +24,7 @@ config_stays m (e ∷ events) = config_stays (after e m) events ∙ config_after
 pub moments-append : (card : Card) (a b : List frames.Event) → runs.moments card (a ++ b) ≡ runs.moments card a ++ runs.moments (runs.after_all card a) b
 unfolding frames_after frame_moments
 moments-append card [] b = refl
-moments-append card (f ∷ a) b =
-    ap (λ ms. record { card = card; event = f; answer = machine.answer f card } ∷ ms) (moments-append (machine.after f card) a b)
+moments-append card (f ∷ a) b = grind (arith, (moments-append (machine.after f card) a b))
 
 -- ---- the ports
 

@@ -1,5 +1,5 @@
 -- The octets given are a beginning of the text of the items.
-use Rattle.model_card.proofs.OfPorts.Vocabulary.{◌≡◌, ◌≤◌, Bool, List, [], ◌∷◌, ◌++◌, length, take, drop, ap, sym, ◌∙◌, arith, length-append, append_assoc, length-take-le, take-append-drop, drop-append_seam, bits, low_bits, Item, item_text, line_text, bits-push, low_bits-number_of_n, line_text-push, Port, left_of, next_octet, with_octet, IsTextOf}
+use Rattle.model_card.proofs.OfPorts.Vocabulary.{◌≡◌, ◌≤◌, Bool, List, [], ◌∷◌, ◌++◌, length, drop, ap, sym, ◌∙◌, arith, length-append, append_assoc, length-take-le, take-append-drop, drop-append_seam, bits, Item, item_text, line_text, bits-push, low_bits-number_of_n, line_text-push, Port, left_of, with_octet, IsTextOf}
 
 -- The bits of an octet are left.
 pub record IsReady (p : Port) : Type 0 where
@@ -13,19 +13,12 @@ left_is p left e = ap (drop (length (bits p.given))) e ∙ drop-append_seam (bit
 pub text_of : (p : Port) (left : List Bool) → line_text p.items ≡ bits p.given ++ left → IsTextOf p
 text_of p left e = record { text = e ∙ ap (λ x. bits p.given ++ x) (sym (left_is p left e)) }
 
--- the bits of an octet that is given
-pub octet_bits : (p : Port) → 8 ≤ length (left_of p) → low_bits 8 (next_octet p) ≡ take 8 (left_of p)
-octet_bits p enough = low_bits-number_of_n 8 (take 8 (left_of p)) (length-take-le 8 (left_of p) enough)
-
 -- an octet is given
 pub text_with_octet : (p : Port) → IsReady p → line_text p.items ≡ bits (with_octet p).given ++ drop 8 (left_of p)
-text_with_octet p ready = grind (arith, take-append-drop, append_assoc, octet_bits, bits-push)
+text_with_octet p ready = grind (arith, take-append-drop, append_assoc, low_bits-number_of_n, length-take-le, bits-push)
 
 pub one_given : (p : Port) → IsReady p → IsTextOf (with_octet p)
 one_given p ready = text_of (with_octet p) (drop 8 (left_of p)) (text_with_octet p ready)
-
-item_length : (item : Item) → 8 ≤ length (item_text item)
-item_length item = grind (arith, length-append)
 
 abbrev pub put_on : Item → Port → Port
 put_on item p = record p { items = p.items ++ item ∷ [] }
@@ -46,7 +39,4 @@ one_item p item h =
     let left = left_of p ++ item_text item in
     let text = text_with_item p item h in
     let is : left_of (put_on item p) ≡ left = left_is (put_on item p) left text in
-    record {
-      text = (text_of (put_on item p) left text).text;
-      enough = omega (arith, item_length item, length-append (left_of p) (item_text item), ap length is);
-    }
+    grind (arith, text_of, length-append)

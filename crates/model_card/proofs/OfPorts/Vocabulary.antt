@@ -17,8 +17,8 @@ pub use Rattle.model_bits.proofs.Division.Unique.{is_good-check, length-check}
 pub use Rattle.model_bits.proofs.Hearing.{heard_at-abort, heard_at-one, open_gap-abort, open_gap-one, open_gap-zero}
 pub use Rattle.model_bits.proofs.Items.{line_text-push}
 pub use Rattle.model_bits.proofs.OneEvent.{one_event_an_octet}
-pub use Rattle.model_bits.proofs.RoundTripFrame.{checked}
-pub use Rattle.model_bits.proofs.RoundTripPlaces.{after_flag, after_text, heard_until-onto, hears_text, reverse_aux-append}
+pub use Rattle.model_bits.proofs.RoundTripFrame.{AreOctets-checked, bits-checked, checked, gap_event_sent, hears_items, some_text}
+pub use Rattle.model_bits.proofs.RoundTripPlaces.{after_flag, after_text, heard_until-onto, hears, hears-append, hears_text, reverse_aux-append}
 pub use Rattle.model_bits.proofs.StreamLengths.{IsWeight, judged_as, weight_of_heard}
 pub use Rattle.model_bits.proofs.StuffingOctets.{octets_are_those_sent, octets_sent-stuffed}
 pub use Rattle.model_bits.proofs.StuffingShape.{NoSix-stuffed}
@@ -28,20 +28,24 @@ pub use Rattle.model_bits.specs.Check.{check, is_good}
 pub use Rattle.model_bits.specs.Framer.{item_octets, last_octets}
 pub use Rattle.model_bits.specs.OpenGap.{given_up_event, kept_count, one_more, open_gap, run_of}
 pub use Rattle.model_bits.specs.Sent.{Item, frame, frame_text, idle, item_text, line_text}
-pub use Rattle.model_bits.specs.Stream.{gap_event, heard_at, heard_in, heard_until, is_short, judged, room_for}
+pub use Rattle.model_bits.specs.Stream.{closed_by_flag, ends_flag, gap_event, given_up, has_abort, heard_at, heard_in, heard_until, is_short, judged, room_for, since_flag, text_event}
 pub use Rattle.model_bits.specs.Stuffing.{octets_sent, stuffed}
 pub use Rattle.model_bits.specs.StuffingLaws.{AreOctets}
 pub use Rattle.model_bits.specs.declared.heard.Cause.{Cause}
-pub use Rattle.model_card.specs.Card.{Card}
+pub use Rattle.model_bits.specs.RoundTrip.{AreHeardWhole, frames_of}
+pub use Rattle.model_card.specs.Card.{Card, line_at}
 pub use Rattle.model_line.specs.Came.{came, cause_of, is_too_short}
-pub use Rattle.model_line.specs.Counts.{is_frame, is_long_frame}
-pub use Rattle.model_line.specs.Event.{given_in}
+pub use Rattle.model_line.specs.Counts.{hears_frame, hears_long_frame, is_frame, is_long_frame}
 pub use Rattle.model_line.specs.Sound.{IsInRange}
 pub use Rattle.model_line.specs.declared.config.Config.{Config}
 pub use Rattle.model_line.specs.declared.faults.Fault.{Fault}
+pub use Rattle.model_line.proofs.NotShort.{IsNotShort, taken_not_short}
+pub use Rattle.model_line.specs.Event.{NextFrame, nothing, given_in}
+pub use Rattle.model_line.specs.Line.{Line}
+pub use Rattle.model_line.specs.Taken.{Taken, next_of, taken}
 pub use Rattle.model_card.specs.ports.Card.{OctetCard, answer_to, card_after, fresh, port_at, said}
 unfoldable pub use Rattle.model_card.specs.ports.Card.{after, answer, meant}
-pub use Rattle.model_card.specs.ports.Codec.{GoesOn, IsTextOf, PortGoesOn, Refines, come_of, frame_moment, frames_among, frames_given, given_of, heard_by, heard_of, meant_in, octet_come, octet_pulled, octets_come, octets_of, octets_pulled, pulled_of}
+pub use Rattle.model_card.specs.ports.Codec.{GoesOn, IsAnswered, IsTextOf, PortGoesOn, Refines, Says, SaysSo, asked_among, asked_of, asked_with, come_of, frame_moment, frames_among, frames_given, given_of, heard_by, heard_of, meant_in, octet_come, octet_pulled, octets_come, octets_of, octets_pulled, pulled_of}
 pub use Rattle.model_card.specs.ports.Event.{Event}
 pub use Rattle.model_card.specs.ports.Laws.{CardsStaySound, DropsAreWithoutEffect, FramesLinear, LinesIsolated, OctetsAreACodec, RunIsMoments, StoredWithinLimit, reply_of}
 pub use Rattle.model_card.specs.ports.Port.{Answer, Port, answer_of, fresh_port, gained, is_due, item_of, left_of, next_octet, octet, pull, told, with_item, with_octet}
@@ -51,3 +55,8 @@ pub use Rattle.model_card.specs.ports.Sound.{IsSoundOctetCard, IsSoundPort}
 pub use Rattle.model_card.specs.ports.Stored.{held_at, held_received, held_sent, limit, limit_of_port, stored}
 pub use Rattle.model_card.specs.ports.Whole.{IsIdle, fault_octets, filled, filling, line_octets}
 pub use Rattle.model_card.specs.ports.WholeLaws.{AreHeardAs, FramesAreHeard}
+pub use Rattle.model_card.specs.Counts.{accepted, expired, heard, may_send, rejected, sent, window}
+pub use Rattle.model_card.specs.ports.GoingOut.{AllGivenAreHeard, GivenFramesAreHeard, GivenGoOut, GoOut, OfEachLine, answer_of_call, as_octets, call_answered, calls_answered, frames_to_hear, octets_given}
+pub use Rattle.model_card.specs.ports.Promises.{HasSevenOctetsAReject, HasSixOctetsAFrame, IsLinear, moments_meant}
+pub use Rattle.model_card.specs.ports.Reached.{IsReached}
+pub use mathlib.Core.List.{reverse_aux}

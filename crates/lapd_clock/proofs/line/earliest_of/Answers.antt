@@ -1,5 +1,5 @@
 -- The earliest of all is that of those so far and of the rest.
-use Rattle.lapd_clock.proofs.Vocabulary.{ap, arith, drop_all, map, earliest_of, Held}
+use Rattle.lapd_clock.proofs.Vocabulary.{arith, drop_all, map, Held}
 use Rattle.lapd_clock.proofs.Earliest.{earliest_few}
 use Rattle.lapd_clock.proofs.line.earliest_of.Goals as goal
 
@@ -7,6 +7,4 @@ pub loop-held-init : goal.loop-held-init
 loop-held-init c = record { few = omega arith; is = omega (arith, earliest_few (map (λ (h : Held). h.moment) c.args.running.now)) }
 
 pub returns : goal.returns
-returns c =
-    let none = ap earliest_of (drop_all c.loop-held.held-index c.args.running.now c.loop-held-test.false) in
-    omega (arith, c.loop-held.invariant.few, c.loop-held.invariant.is, none)
+returns c = grind (arith, drop_all)

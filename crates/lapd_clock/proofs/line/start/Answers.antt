@@ -1,5 +1,5 @@
 -- One that runs keeps its place, and another gets one where there is one.
-use Rattle.lapd_clock.proofs.Vocabulary.{◌≡◌, ◌++◌, [], ◌∷◌, true, cond, is_ok, length, set, sym, ap, ◌∙◌, subst, arith, rules, all_but, IsWith}
+use Rattle.lapd_clock.proofs.Vocabulary.{set, sym, subst, arith, IsWith}
 use Rattle.lapd_clock.proofs.InPlace.{found_at, not_found, has_place, no_place, a_place, with_set, with_push}
 use Rattle.lapd_clock.proofs.line.start.Goals as goal
 
@@ -14,23 +14,13 @@ returns-in-Some-clause-items c =
     subst (λ others. IsWith c.args.held others (set c.args.running.now.items c.in-Some.place c.args.held)) (sym it.1) (with_set c.args.held c.args.running.now.items c.in-Some.place it.0)
 
 pub returns-then-len-places-clause-placed : goal.returns-then-len-places-clause-placed
-returns-then-len-places-clause-placed c =
-    let others = not_found c.args.held.timer c.args.running.now.items c.deref.result.now c.deref.ensures.value c.in_default.ensures.none in
-    no_place (length (all_but c.args.held.timer c.args.running.now.items)) c.args.places (omega (arith, ap length others, c.if-len-places.true, c.len.ensures, c.args.running.now.ok.0))
+returns-then-len-places-clause-placed c = grind (arith, not_found, no_place)
 
 pub returns-then-len-places-clause-items : goal.returns-then-len-places-clause-items
 returns-then-len-places-clause-items c = sym (not_found c.args.held.timer c.args.running.now.items c.deref.result.now c.deref.ensures.value c.in_default.ensures.none)
 
 pub returns-clause-placed : goal.returns-clause-placed
-returns-clause-placed c =
-    let others = not_found c.args.held.timer c.args.running.now.items c.deref.result.now c.deref.ensures.value c.in_default.ensures.none in
-    a_place (length (all_but c.args.held.timer c.args.running.now.items)) c.args.places (omega (arith, ap length others, c.requires.fits, c.args.running.now.ok.0)) (omega (arith, ap length others, c.if-len-places.false, c.len.ensures, c.args.running.now.ok.0))
+returns-clause-placed c = grind (arith, not_found, a_place)
 
 pub returns-clause-items : goal.returns-clause-items
-returns-clause-items c =
-    let hs = c.args.running.now.items in
-    let others = not_found c.args.held.timer hs c.deref.result.now c.deref.ensures.value c.in_default.ensures.none in
-    let fitted = c.push.ensures.succeeds (omega (arith, c.requires.fits, c.requires.taken, c.if-len-places.false, c.len.ensures)) in
-    let room : is_ok c.push.result ≡ true = search rules in
-    subst (λ all. IsWith c.args.held (all_but c.args.held.timer hs) all) (sym (c.push.ensures.items ∙ ap (λ b. cond b (hs ++ c.args.held ∷ []) hs) room))
-    (subst (λ rest. IsWith c.args.held rest (hs ++ c.args.held ∷ [])) (sym others) (with_push c.args.held hs))
+returns-clause-items c = grind (arith, not_found, with_push)

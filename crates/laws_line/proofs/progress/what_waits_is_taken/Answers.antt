@@ -1,5 +1,5 @@
 -- Hand-written answers for `what_waits_is_taken`.
-use Rattle.laws_line.proofs.Vocabulary.{◌+◌, ◌<◌, arith, most_frames_before}
+use Rattle.laws_line.proofs.Vocabulary.{arith}
 use Rattle.laws_line.proofs.Ordered.{enough-goes}
 use Rattle.laws_line.proofs.Polled.{poll-goes, unnumbered-goes}
 use Rattle.laws_line.proofs.Soon.{few-before, goes-soon}
@@ -22,7 +22,4 @@ pub returns-clause-few_before : goal.returns-clause-few_before
 returns-clause-few_before c = λ c l number others s few room. few-before c l s number others few room
 
 pub returns-clause-soon : goal.returns-clause-soon
-returns-clause-soon c =
-    λ c l number tei before f behind ranged s few at waits.
-    let enough : most_frames_before c < most_frames_before c + 1 = omega arith in
-    goes-soon c ranged l s number tei few at before f behind waits (most_frames_before c + 1) enough
+returns-clause-soon c = grind (arith, goes-soon)

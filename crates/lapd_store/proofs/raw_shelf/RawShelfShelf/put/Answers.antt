@@ -1,21 +1,14 @@
 -- Hand-written answers for `RawShelfShelf::put`.
-use Rattle.lapd_store.proofs.Vocabulary.{◌+◌, ◌*◌, ◌≤◌, length, refl, sym, ap, subst, ◌∙◌, arith, with_item, Holds, link, IsFull, IsFree, contents_of}
+use Rattle.lapd_store.proofs.Vocabulary.{◌+◌, ◌*◌, ◌≤◌, length, refl, sym, subst, arith, with_item, Holds, link, IsFree}
 use Rattle.lapd_store.proofs.RawSound.{first_slot, first_within, first_free, slot_within, full_at_end, octets_fit, put_stored, put_sound}
 use Rattle.lapd_store.proofs.StoreLemmas.{contents_of-with_contents}
 use Rattle.lapd_store.proofs.raw_shelf.RawShelfShelf.put.Goals as goal
 
 pub returns-then-self-clause-full : goal.returns-then-self-clause-full
-returns-then-self-clause-full c =
-    let full = subst IsFull c.self.view_is (full_at_end c.self.inside c.self.invariant c.if-self.true) in
-    ((λ _. full), (λ _. refl))
+returns-then-self-clause-full c = grind (arith, full_at_end)
 
 pub read_link-self-inside-requires-clause-within : goal.read_link-self-inside-requires-clause-within
-read_link-self-inside-requires-clause-within c =
-    let a = c.self.inside in
-    let n = c.from-number.result in
-    let within = slot_within a c.self.invariant n (first_within a c.self.invariant c.if-self.false n c.from-number.ensures) in
-    let two : n * a.width + 2 ≤ length a.region = omega (arith, within, c.self.invariant.least) in
-    subst (λ w. n * w + 2 ≤ length a.region) (sym c.from.ensures) two
+read_link-self-inside-requires-clause-within c = grind (arith, slot_within, first_within)
 
 pub read_link-self-inside-requires-clause-linked : goal.read_link-self-inside-requires-clause-linked
 read_link-self-inside-requires-clause-linked c =
@@ -23,13 +16,7 @@ read_link-self-inside-requires-clause-linked c =
     (t.next, subst (λ w. Holds c.self.inside.region (c.from-number.result * w) (link t.next)) (sym c.from.ensures) t.holds)
 
 pub write-requires : goal.write-requires
-write-requires c =
-    let a = c.self.inside in
-    let n = c.from-number.result in
-    let within = slot_within a c.self.invariant n (first_within a c.self.invariant c.if-self.false n c.from-number.ensures) in
-    let fits = subst (λ s. length c.args.octets.now ≤ s.width) (sym c.self.view_is) c.requires in
-    let room : n * a.width + length c.args.octets.now ≤ length a.region = omega (arith, within, fits) in
-    record { within = subst (λ w. n * w + length c.args.octets.now ≤ length a.region) (sym c.from.ensures) room }
+write-requires c = grind (arith, slot_within, first_within)
 
 pub index_mut-requires : goal.index_mut-requires
 index_mut-requires c = omega (arith, first_within c.self.inside c.self.invariant c.if-self.false c.from-number.result c.from-number.ensures, c.self.inside.lengths.ok.0)
@@ -57,9 +44,7 @@ returns-clause-stored c =
     c.args.octets.now c.write.ensures.others c.write.ensures.written fits refl)
 
 pub returns-clause-held : goal.returns-clause-held
-returns-clause-held c =
-    ap (λ s. contents_of s c.from-number.result) (returns-clause-stored c)
-    ∙ contents_of-with_contents c.args.self.now c.from-number.result c.args.octets.now
+returns-clause-held c = grind (arith, returns-clause-stored, contents_of-with_contents)
 
 pub returns-clause-within : goal.returns-clause-within
 returns-clause-within c = (invariant_of-self c).within

@@ -1,5 +1,5 @@
 -- Hand-written answers for `RawShelfShelf::release`.
-use Rattle.lapd_store.proofs.Vocabulary.{◌≡◌, ◌+◌, ◌-◌, ◌*◌, ◌^◌, ◌<◌, ◌≤◌, length, get_or, refl, sym, subst, arith, with_item, free_mark}
+use Rattle.lapd_store.proofs.Vocabulary.{◌-◌, refl, arith, with_item}
 use Rattle.lapd_store.proofs.RawLemmas.{read_length}
 use Rattle.lapd_store.proofs.RawSound.{used_slot, release_stored, release_sound}
 use Rattle.lapd_store.proofs.raw_shelf.RawShelfShelf.release.Goals as goal
@@ -8,9 +8,7 @@ pub index-requires : goal.index-requires
 index-requires c = let u = used_slot c.self.invariant c.self.view_is c.slot.view_is c.requires in omega (arith, u.there, c.self.inside.lengths.ok.0)
 
 pub overflow_sub-self : goal.overflow_sub-self
-overflow_sub-self c =
-    let u = used_slot c.self.invariant c.self.view_is c.slot.view_is c.requires in
-    omega (arith, u.octets, c.from.ensures, read_length c.self.inside.lengths.items c.slot.inside.number c.index.result.now u.there c.index.ensures)
+overflow_sub-self c = grind (arith, used_slot, read_length)
 
 pub overflow_sub-self-2 : goal.overflow_sub-self-2
 overflow_sub-self-2 c = let u = used_slot c.self.invariant c.self.view_is c.slot.view_is c.requires in u.one
@@ -19,29 +17,16 @@ pub index_mut-requires : goal.index_mut-requires
 index_mut-requires c = let u = used_slot c.self.invariant c.self.view_is c.slot.view_is c.requires in omega (arith, u.there, c.self.inside.lengths.ok.0)
 
 pub overflow_mul-number : goal.overflow_mul-number
-overflow_mul-number c =
-    let u = used_slot c.self.invariant c.self.view_is c.slot.view_is c.requires in
-    let product : c.slot.inside.number * c.self.inside.width < 2 ^ 64 = omega (arith, u.within, u.small) in
-    record { fits = subst (λ w. c.slot.inside.number * w < 2 ^ 64) (sym c.from-2.ensures) product }
+overflow_mul-number c = grind (arith, used_slot)
 
 pub write_link-requires : goal.write_link-requires
-write_link-requires c =
-    let u = used_slot c.self.invariant c.self.view_is c.slot.view_is c.requires in
-    let two : c.slot.inside.number * c.self.inside.width + 2 ≤ length c.self.inside.region = omega (arith, u.within, c.self.invariant.least) in
-    subst (λ w. c.slot.inside.number * w + 2 ≤ length c.self.inside.region) (sym c.from-2.ensures) two
+write_link-requires c = grind (arith, used_slot)
 
 pub overflow_cast-self : goal.overflow_cast-self
 overflow_cast-self c = let u = used_slot c.self.invariant c.self.view_is c.slot.view_is c.requires in omega (arith, u.there, c.self.invariant.few)
 
 pub invariant_of-self : goal.invariant_of-self
-invariant_of-self c =
-    let a = c.self.inside in
-    let n = c.slot.inside.number in
-    let u = used_slot c.self.invariant c.self.view_is c.slot.view_is c.requires in
-    let len = read_length a.lengths.items n c.index.result.now u.there c.index.ensures in
-    let octets : a.octets - c.from.result + get_or a.lengths.items n free_mark ≡ a.octets = omega (arith, u.octets, c.from.ensures, len) in
-    let used : a.used - 1 + 1 ≡ a.used = omega (arith, u.one) in
-    release_sound a _ c.self.invariant n c.from-2.result c.from-2.ensures refl u c.write_link.ensures.others c.write_link.ensures.linked refl octets used refl
+invariant_of-self c = grind (arith, used_slot, read_length, release_sound)
 
 pub returns-clause-released : goal.returns-clause-released
 returns-clause-released c =

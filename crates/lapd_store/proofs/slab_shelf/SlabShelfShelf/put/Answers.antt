@@ -1,5 +1,5 @@
 -- Hand-written answers for `SlabShelfShelf::put`.
-use Rattle.lapd_store.proofs.Vocabulary.{◌≡◌, ◌+◌, ◌≤◌, ◌<◌, length, sym, ap, subst, ◌∙◌, arith, slab_store, IsSoundSlab, used_slots, contents_of, IsFree, with_contents}
+use Rattle.lapd_store.proofs.Vocabulary.{◌≡◌, ◌+◌, ◌≤◌, ◌<◌, length, sym, subst, arith, slab_store, IsSoundSlab, used_slots, with_contents}
 use Rattle.lapd_store.proofs.SlabLemmas.{octets_fit, IsFree-slab, IsSoundSlab-put, slab_store-put}
 use Rattle.lapd_store.proofs.StoreLemmas.{contents_of-with_contents}
 use Rattle.lapd_store.proofs.slab_shelf.SlabShelfShelf.put.Goals as goal
@@ -22,18 +22,14 @@ pub invariant_of-self : goal.invariant_of-self
 invariant_of-self c = sound c
 
 pub returns-clause-free : goal.returns-clause-free
-returns-clause-free c =
-    subst (λ s. IsFree s c.insert_copy-number.result) c.self.view_is
-    (IsFree-slab c.self.inside c.self.invariant c.insert_copy-number.new.contents c.insert_copy-number.result c.args.octets.now c.insert_copy-number.ensures.was_vacant)
+returns-clause-free c = grind (arith, IsFree-slab)
 
 -- the store after the put is that before it with the new contents
 stored : (c : goal.After-self-1) → slab_store (record { contents = c.insert_copy-number.new.contents; octets = c.self.inside.octets + length c.args.octets.now; slots = c.self.inside.slots; width = c.self.inside.width }) ≡ with_contents (slab_store c.self.inside) c.insert_copy-number.result c.args.octets.now
 stored c = slab_store-put c.self.inside c.self.invariant c.insert_copy-number.new.contents c.insert_copy-number.result c.args.octets.now c.insert_copy-number.ensures.updates
 
 pub returns-clause-held : goal.returns-clause-held
-returns-clause-held c =
-    ap (λ s. contents_of s c.insert_copy-number.result) (stored c)
-    ∙ contents_of-with_contents (slab_store c.self.inside) c.insert_copy-number.result c.args.octets.now
+returns-clause-held c = grind (arith, stored, contents_of-with_contents)
 
 pub returns-clause-stored : goal.returns-clause-stored
 returns-clause-stored c = rw (← c.self.view_is) (stored c)

@@ -1,13 +1,11 @@
 -- Hand-written answers for `SlabShelfShelf::release`.
-use Rattle.lapd_store.proofs.Vocabulary.{◌-◌, sym, ap, subst, ◌∙◌, arith, option_map, slab_store, IsSoundSlab, IsUsed}
+use Rattle.lapd_store.proofs.Vocabulary.{◌-◌, ap, ◌∙◌, arith, option_map, slab_store, IsSoundSlab}
 use Rattle.lapd_store.proofs.SlabLemmas.{contents_of-slab, ContainsKey-slab, IsSoundSlab-release, slab_store-release}
 use Rattle.lapd_store.proofs.StoreLemmas.{stored_octets-without}
 use Rattle.lapd_store.proofs.slab_shelf.SlabShelfShelf.release.Goals as goal
 
 pub remove-contents-requires : goal.remove-contents-requires
-remove-contents-requires c =
-    ContainsKey-slab c.self.inside c.self.invariant c.slot.inside.number
-    (subst (IsUsed (slab_store c.self.inside)) (sym c.slot.view_is) (subst (λ s. IsUsed s c.args.slot) (sym c.self.view_is) c.requires))
+remove-contents-requires c = grind (arith, ContainsKey-slab)
 
 pub overflow_sub-self : goal.overflow_sub-self
 overflow_sub-self c =

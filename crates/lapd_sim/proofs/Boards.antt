@@ -174,19 +174,18 @@ module _ (board : AnyCard) (card new : frames_card.Held Store) (is : board ≡ F
 
 -- which has room for its frames,
 module _ (s : rust.Setup) (card : frames_card.Held Store) (is : s.board ≡ Frames card) where
-  pub same_config : card.config ≡ s.plan.config
+  pub same_config : card.config ≡ s.config
   same_config = sym (ap config_of is) ∙ s.same_config
 
   pub room_is : (room : ℕ) → 264 ≤ room → room < card.config.n201 + 4 → ⊥
-  room_is room enough short = absurd (omega (arith, enough, short, (ranges_of s.plan.config s.in_range).n201.most, ap (λ (c : Config). c.n201) same_config))
+  room_is room enough short = absurd (omega (arith, enough, short, (ranges_of s.config s.in_range).n201.most, ap (λ (c : Config). c.n201) same_config))
 
 -- and all but board and clock stays.
-module _ (event : Event) (old new : rust.Setup) (leads : Leads event old.board new.board) (plan : new.plan ≡ old.plan) (moment : new.moment ≡ old.moment)
+module _ (event : Event) (old new : rust.Setup) (leads : Leads event old.board new.board) (config : new.config ≡ old.config) (moment : new.moment ≡ old.moment)
     (terminals : new.terminals ≡ old.terminals) (listeners : new.listeners ≡ old.listeners) (m : Setup) (stands : Stands old m) where
   pub goes_on : (r : Reply) → r ≡ reply event m.board → new.clock ≡ fold (ordered event.line old.moment) old.clock (orders_in r) → Stands new (happened m event)
   goes_on r is clock = record {
-    kind = stands.kind ∙ sym (ap (λ p. p.kind) plan);
-    config = stands.config ∙ sym (ap (λ p. p.config) plan);
+    config = stands.config ∙ sym config;
     board = leads.stands m.board stands.board;
     counters = leads.counted m.board stands.board ∙ ap (λ all. counted all event m.board) stands.counters;
     clock = clock ∙ ap (λ now. fold (ordered event.line now) old.clock (orders_in r)) stands.now ∙ ap (λ c. fold (ordered event.line m.now) c (orders_in r)) stands.clock

@@ -1,29 +1,29 @@
 -- What a line of a script says at a setup.
-use Rattle.lapd_sim.proofs.Vocabulary.{◌≡◌, ℕ, ◌<◌, ◌≤◌, nat_lt, List, [], length, cond, true, Result, Ok, Err, OnOk, refl, sym, ap, ◌∙◌, subst, lt-ltb, le-leb, CardKind, BadLine, BadFrame, Config, Output, Puts, WriteFailed, Setup, FaultKind, Scene, at_line, after_coming, can_come, for_octets, for_frames, with_card, LineFault, Obeys, Tells, scene, written, Stands}
+use Rattle.lapd_sim.proofs.Vocabulary.{◌≡◌, ℕ, ◌<◌, ◌≤◌, nat_lt, List, [], length, cond, true, Result, Ok, Err, OnOk, refl, sym, ap, ◌∙◌, subst, lt-ltb, le-leb, CardKind, kind_of, BadLine, BadFrame, Config, Output, Puts, WriteFailed, Setup, FaultKind, Scene, at_line, after_coming, can_come, for_octets, for_frames, with_card, LineFault, Obeys, Tells, scene, written, Stands}
 use Rattle.lapd_script.specs.Meaning as meaning
 use Rattle.lapd_script.specs.declared.command.CardKind.TheVariants.{Octets, Frames}
 use Rattle.lapd_sim.specs.declared.setup.Setup as rust
 use Rattle.lapd_script.specs.declared.faults.LineFault.TheVariants.{Write}
 
 -- at a line that is there, on a card of the right kind
-module _ (s : rust.Setup) (m : Setup) (stands : Stands s m) {at_it line : ℕ} (e : line ≡ at_it) (less : line < s.plan.config.lines) where
+module _ (s : rust.Setup) (m : Setup) (stands : Stands s m) {at_it line : ℕ} (e : line ≡ at_it) (less : line < s.config.lines) where
   within : line < m.board.config.lines
   within = subst (λ (c : Config). line < c.lines) (sym stands.config) less
 
   pub there : (word : ℕ → Scene → Scene) → at_line at_it (scene m) (word at_it (scene m)) ≡ Ok (word line (scene m))
   there word = subst (λ n. at_line n (scene m) (word n (scene m)) ≡ Ok (word line (scene m))) e (rw (lt-ltb line m.board.config.lines within) refl)
 
-  pub there_octets : (word : ℕ → Scene → Scene) → s.plan.kind ≡ Octets → for_octets m.board.kind (at_line at_it (scene m) (word at_it (scene m))) ≡ Ok (word line (scene m))
-  there_octets word kind = ap (λ k. for_octets k (at_line at_it (scene m) (word at_it (scene m)))) (stands.kind ∙ kind) ∙ there word
+  pub there_octets : (word : ℕ → Scene → Scene) → kind_of s.board ≡ Octets → for_octets m.board.kind (at_line at_it (scene m) (word at_it (scene m))) ≡ Ok (word line (scene m))
+  there_octets word kind = ap (λ k. for_octets k (at_line at_it (scene m) (word at_it (scene m)))) (stands.board.kind ∙ kind) ∙ there word
 
-  pub there_frames : (word : ℕ → Scene → Scene) → s.plan.kind ≡ Frames → for_frames m.board.kind (at_line at_it (scene m) (word at_it (scene m))) ≡ Ok (word line (scene m))
-  there_frames word kind = ap (λ k. for_frames k (at_line at_it (scene m) (word at_it (scene m)))) (stands.kind ∙ kind) ∙ there word
+  pub there_frames : (word : ℕ → Scene → Scene) → kind_of s.board ≡ Frames → for_frames m.board.kind (at_line at_it (scene m) (word at_it (scene m))) ≡ Ok (word line (scene m))
+  there_frames word kind = ap (λ k. for_frames k (at_line at_it (scene m) (word at_it (scene m)))) (stands.board.kind ∙ kind) ∙ there word
 
   -- a frame comes that can
-  pub into_is : (kind : CardKind) (frame : List ℕ) → s.plan.kind ≡ kind → can_come kind frame ≡ true → with_card (meaning.into at_it frame) (scene m) ≡ Ok (after_coming kind line frame (scene m))
+  pub into_is : (kind : CardKind) (frame : List ℕ) → kind_of s.board ≡ kind → can_come kind frame ≡ true → with_card (meaning.into at_it frame) (scene m) ≡ Ok (after_coming kind line frame (scene m))
   into_is kind frame is can =
       subst (λ n. with_card (meaning.into n frame) (scene m) ≡ Ok (after_coming kind line frame (scene m))) e
-      (subst (λ k. cond (nat_lt line m.board.config.lines) (cond (can_come k frame) (Ok (after_coming k line frame (scene m))) (Err BadFrame)) (Err BadLine) ≡ Ok (after_coming kind line frame (scene m))) (sym (stands.kind ∙ is))
+      (subst (λ k. cond (nat_lt line m.board.config.lines) (cond (can_come k frame) (Ok (after_coming k line frame (scene m))) (Err BadFrame)) (Err BadLine) ≡ Ok (after_coming kind line frame (scene m))) (sym (stands.board.kind ∙ is))
       (rw (lt-ltb line m.board.config.lines within) (rw can refl)))
 
 pub is_frame_is : (frame : List ℕ) → 3 ≤ length frame → length frame ≤ 1028 → can_come Octets frame ≡ true

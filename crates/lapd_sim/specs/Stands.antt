@@ -15,8 +15,7 @@ Each R _ _ = ⊥
 
 -- The card, its counters, its clock and the moment; each terminal, and what each listener has heard.
 pub record Stands (b : Setup) (m : machine.Setup) : Type 0 where
-  pub kind : m.board.kind ≡ b.plan.kind
-  pub config : m.board.config ≡ b.plan.config
+  pub config : m.board.config ≡ b.config
   pub board : OnBoard b.board m.board
   pub counters : counters_of b.board ≡ m.counters
   pub clock : b.clock ≡ m.clock

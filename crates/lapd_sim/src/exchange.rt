@@ -2,7 +2,7 @@
 
 ghost use Rattle.std.specs.Prelude.{◌≡◌, ◌<◌, ◌≤◌, ◌+◌, ◌-◌, ◌^◌, [], ℕ, length, fold, take, option_copied, IfSome, IfNone};
 ghost use Rattle.lapd_clock.specs.Timers as clocks;
-ghost use Rattle.lapd_sim.specs.{listed, on, told_beside, written, Puts};
+ghost use Rattle.lapd_sim.specs.{kind_of, listed, on, told_beside, written, Puts};
 ghost use Rattle.lapd_script.specs.declared.command.CardKind.TheVariants.{Octets};
 ghost use Rattle.lapd_script.specs.Meaning as meaning;
 ghost use Rattle.lapd_sim.specs.machine.Board as event;
@@ -29,8 +29,8 @@ impl Setup {
 
     /// Octets come from a line of a card for octets.
     pub(crate) fn hear<T: Target>(&mut self, line: usize, octets: &[u8], page: &mut Page<T>) -> Put
-        requires kind { self.old.plan.kind ≡ Octets }
-        requires line { line < self.old.plan.config.lines }
+        requires kind { kind_of self.old.board ≡ Octets }
+        requires line { line < self.old.config.lines }
         ensures { Says result self.old self.new (on T.taken page.old) (on T.taken page.new) (after_rx line octets.now) }
     {
         for octet in octets {
@@ -41,9 +41,10 @@ impl Setup {
 
     /// An octet comes from a line of a card for octets.
     fn octet<T: Target>(&mut self, line: usize, octet: u8, page: &mut Page<T>) -> Put
-        requires kind { self.old.plan.kind ≡ Octets }
-        requires line { line < self.old.plan.config.lines }
-        ensures plan { self.new.plan ≡ self.old.plan }
+        requires kind { kind_of self.old.board ≡ Octets }
+        requires line { line < self.old.config.lines }
+        ensures config { self.new.config ≡ self.old.config }
+        ensures kind { kind_of self.new.board ≡ kind_of self.old.board }
         ensures told { Says result self.old self.new (on T.taken page.old) (on T.taken page.new) (λ s. with_event s (at line (event.octet octet))) }
     {
         let AnyCard::Octets(card) = &mut self.board else {
@@ -60,9 +61,10 @@ impl Setup {
 
     /// A line of a card for octets takes as many octets as there is room for.
     pub(crate) fn pull_all(&mut self, line: usize, room: &mut [u8])
-        requires kind { self.old.plan.kind ≡ Octets }
-        requires line { line < self.old.plan.config.lines }
-        ensures plan { self.new.plan ≡ self.old.plan }
+        requires kind { kind_of self.old.board ≡ Octets }
+        requires line { line < self.old.config.lines }
+        ensures config { self.new.config ≡ self.old.config }
+        ensures kind { kind_of self.new.board ≡ kind_of self.old.board }
         ensures pulled { (m : machine.Setup) → Stands self.old m
             → room.new ≡ (pulls (length room.old) line (record { setup = m; octets = [] })).octets }
         ensures after { (m : machine.Setup) → Stands self.old m
@@ -75,9 +77,10 @@ impl Setup {
 
     /// A line of a card for octets takes one.
     fn next_octet(&mut self, line: usize) -> u8
-        requires kind { self.old.plan.kind ≡ Octets }
-        requires line { line < self.old.plan.config.lines }
-        ensures plan { self.new.plan ≡ self.old.plan }
+        requires kind { kind_of self.old.board ≡ Octets }
+        requires line { line < self.old.config.lines }
+        ensures config { self.new.config ≡ self.old.config }
+        ensures kind { kind_of self.new.board ≡ kind_of self.old.board }
         ensures pulled { (m : machine.Setup) → Stands self.old m → result ≡ octet_in (reply (at line pull) m.board) }
         ensures after { (m : machine.Setup) → Stands self.old m → Stands self.new (machine.happened m (at line pull)) }
     {
@@ -96,8 +99,8 @@ impl Setup {
         request: Request<'_>,
         page: &mut Page<T>,
     ) -> Put
-        requires { line < self.old.plan.config.lines }
-        ensures plan { self.new.plan ≡ self.old.plan }
+        requires { line < self.old.config.lines }
+        ensures config { self.new.config ≡ self.old.config }
         ensures told { Says result self.old self.new (on T.taken page.old) (on T.taken page.new)
             (λ s. with_event s (at line (event.request (request_of request.entry)))) }
     {
@@ -128,7 +131,7 @@ impl Setup {
 
     /// The line is down: both links of its TEIs, which these are, are given up, and then what waits and is of no link.
     pub(crate) fn give_up<T: Target>(&mut self, line: usize, teis: &[u8], page: &mut Page<T>) -> Put
-        requires { line < self.old.plan.config.lines }
+        requires { line < self.old.config.lines }
         ensures { Says result self.old self.new (on T.taken page.old) (on T.taken page.new) (with_events (downs line teis.now)) }
     {
         for tei in teis {
@@ -164,7 +167,7 @@ impl Setup {
     /// Takes out the timer that falls due first, if it does until `end`, at its moment.
     fn due(&mut self, end: u64) -> Option<(usize, Timer)>
         requires { end < 2 ^ 63 }
-        ensures line { IfSome result (λ due. due.0 < self.new.plan.config.lines) }
+        ensures line { IfSome result (λ due. due.0 < self.new.config.lines) }
         ensures due { result ≡ clocks.due_at self.old.clock end }
         ensures after { IfSome result (λ due. (m : machine.Setup) → Stands self.old m → Stands self.new (at_expiry end m)) }
         // The time that running timers still run until the end has fallen by more than what a timer could run that is started
@@ -183,7 +186,7 @@ impl Setup {
 
     /// A timer of a line expires. One timer is started at most.
     fn expire<T: Target>(&mut self, line: usize, timer: Timer, page: &mut Page<T>) -> Put
-        requires { line < self.old.plan.config.lines }
+        requires { line < self.old.config.lines }
         ensures told { Says result self.old self.new (on T.taken page.old) (on T.taken page.new) (λ s. with_event s (at line (expiry timer))) }
         ensures one { (end : ℕ) → clocks.time_until end self.new.clock ≤ clocks.time_until end self.old.clock + (end - self.old.moment) }
     {

@@ -4,15 +4,16 @@ ghost use Rattle.std.specs.Prelude.{◌≡◌, ◌≢◌, ◌<◌, ◌≤◌, �
 ghost use Rattle.lapd_card.specs.Kinds.{config_of};
 ghost use Rattle.lapd_clock.specs.Timer.{AreInRange};
 ghost use Rattle.lapd_script.specs.Meaning as meaning;
+ghost use Rattle.lapd_script.specs.declared.command.CardKind.TheVariants.{Octets};
 ghost use Rattle.lapd_sim.specs.Boards.{kind_of};
 ghost use Rattle.model_line.specs.Sound.{IsInRange};
 
 use crate::exchange::{carry_out, order, written};
 use crate::parts::{Plan, begin, listeners, request_for, terminals};
 use lapd_bits::Deframer;
-use lapd_card::{AnyCard, BareReport, Fault, limit};
+use lapd_card::{AnyCard, BareReport, Config, Fault, limit};
 use lapd_clock::{Clock, Lengths};
-use lapd_script::{Asked, CardKind, Command, FaultKind, LineFault};
+use lapd_script::{Asked, Command, FaultKind, LineFault};
 use lapd_transcript::{CounterGroup, LONGEST_FRAME, Page, SHORTEST_FRAME, Target, Terminal};
 use std::alloc::Global;
 
@@ -23,20 +24,19 @@ pub(crate) type Obeyed = Result<(), LineFault>;
 /// listens to the octets that are pulled.
 #[derive(Drop)]
 pub(crate) struct Setup {
-    pub(crate) plan: Plan,
+    pub(crate) config: Config,
     pub(crate) board: AnyCard,
     pub(crate) clock: Clock,
     pub(crate) moment: u64,
     terminals: Vec<Terminal>,
     listeners: Vec<Deframer>,
-    ghost in_range: { IsInRange plan.config },
-    ghost same_config: { config_of board ≡ plan.config },
-    ghost same_kind: { kind_of board ≡ plan.kind },
-    ghost clock_lines: { clock.lines ≡ plan.config.lines },
+    ghost in_range: { IsInRange config },
+    ghost same_config: { config_of board ≡ config },
+    ghost clock_lines: { clock.lines ≡ config.lines },
     ghost lengths: { AreInRange clock.lengths },
     ghost in_time: { moment < 2 ^ 63 },
-    ghost each_sends: { vec_len terminals ≡ plan.config.lines },
-    ghost each_listens: { vec_len listeners ≡ plan.config.lines },
+    ghost each_sends: { vec_len terminals ≡ config.lines },
+    ghost each_listens: { vec_len listeners ≡ config.lines },
 }
 
 impl Setup {
@@ -55,7 +55,7 @@ impl Setup {
         let terminals = terminals(alloc, lines)?;
         let listeners = listeners(alloc, lines)?;
         Ok(Setup {
-            plan,
+            config: plan.config,
             board,
             clock,
             moment: 0,
@@ -87,7 +87,7 @@ impl Setup {
             Command::Wait(milliseconds) => self.wait(milliseconds, page),
             Command::Timers { t200, t203, t201 } => self.set_timers(t200, t203, t201),
             Command::Stored => {
-                written(page.put_stored(self.board.stored(), limit(&self.plan.config)))
+                written(page.put_stored(self.board.stored(), limit(&self.config)))
             }
             Command::Counters { line, group } => self.show_counters(line, group, page),
             Command::Ask {
@@ -99,24 +99,23 @@ impl Setup {
         }
     }
 
-    /// Tests that the card is of this kind.
-    fn for_kind(&self, kind: CardKind) -> Result<(), FaultKind>
-        ensures { MatchResult result (λ _. self.now.plan.kind ≡ kind)
-            (λ fault. (fault ≡ WrongCard) × (self.now.plan.kind ≢ kind)) }
+    /// Tests that the card is one for octets.
+    fn for_octets(&self) -> Result<(), FaultKind>
+        ensures { MatchResult result (λ _. kind_of self.now.board ≡ Octets)
+            (λ fault. (fault ≡ WrongCard) × (kind_of self.now.board ≢ Octets)) }
     {
-        if self.plan.kind == kind {
-            Ok(())
-        } else {
-            Err(FaultKind::WrongCard)
+        match self.board {
+            AnyCard::Octets(_) => Ok(()),
+            AnyCard::Frames(_) => Err(FaultKind::WrongCard),
         }
     }
 
     /// The number of a line of the card.
     fn line(&self, line: u16) -> Result<usize, FaultKind>
-        ensures { MatchResult result (λ number. (number ≡ line) × (number < self.now.plan.config.lines))
-            (λ kind. (kind ≡ BadLine) × (self.now.plan.config.lines ≤ line)) }
+        ensures { MatchResult result (λ number. (number ≡ line) × (number < self.now.config.lines))
+            (λ kind. (kind ≡ BadLine) × (self.now.config.lines ≤ line)) }
     {
-        if line < self.plan.config.lines {
+        if line < self.config.lines {
             Ok(line.into())
         } else {
             Err(FaultKind::BadLine)
@@ -127,7 +126,7 @@ impl Setup {
     fn receive<T: Target>(&mut self, line: u16, octets: &[u8], page: &mut Page<T>) -> Obeyed
         ensures { Answers result self.old self.new (on T.taken page.old) (on T.taken page.new) (meaning.rx line octets.now) }
     {
-        self.for_kind(CardKind::Octets)?;
+        self.for_octets()?;
         let line = self.line(line)?;
         written(self.hear(line, octets, page))
     }
@@ -159,11 +158,11 @@ impl Setup {
     fn fail<T: Target>(&mut self, line: u16, fault: Fault, page: &mut Page<T>) -> Obeyed
         ensures { Answers result self.old self.new (on T.taken page.old) (on T.taken page.new) (meaning.failed line fault) }
     {
-        self.for_kind(CardKind::Frames)?;
-        let line = self.line(line)?;
+        let line = self.line(line);
         let AnyCard::Frames(card) = &mut self.board else {
-            unreachable!();
+            return Err(LineFault::Faulty(FaultKind::WrongCard));
         };
+        let line = line?;
         let mut report = BareReport::nothing();
         card.failed(line, fault, &mut report);
         written(carry_out(&mut self.clock, line, &report, None, self.moment, page))
@@ -174,11 +173,11 @@ impl Setup {
         requires { 264 ≤ length room.old }
         ensures { Answers result self.old self.new (on T.taken page.old) (on T.taken page.new) (meaning.next line) }
     {
-        self.for_kind(CardKind::Frames)?;
-        let number = self.line(line)?;
+        let number = self.line(line);
         let AnyCard::Frames(card) = &mut self.board else {
-            unreachable!();
+            return Err(LineFault::Faulty(FaultKind::WrongCard));
         };
+        let number = number?;
         match card.next_frame(number, room) {
             Ok(Some(next)) => {
                 order(&mut self.clock, number, next.orders(), self.moment);
@@ -211,7 +210,7 @@ impl Setup {
         requires { count ≤ length room.old }
         ensures { Answers result self.old self.new (on T.taken page.old) (on T.taken page.new) (meaning.pull line count) }
     {
-        self.for_kind(CardKind::Octets)?;
+        self.for_octets()?;
         let number = self.line(line)?;
         let octets = &mut room[..count];
         self.pull_all(number, octets);

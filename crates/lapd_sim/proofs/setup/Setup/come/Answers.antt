@@ -21,7 +21,7 @@ returns-in-Frames g c = λ m h.
     let same = same_config s c.in-Frames.card c.in-Frames.is ∙ sym h.config in
     let after = subst (λ (k : Config). frames.Leads shelf_of (frame_event.at line (line_event.hears (came k.n201 frame))) c.in-Frames.card c.frame.new.self) same c.frame.ensures.after in
     obeyed c.carry_out.result _ c.written.ensures _ _ (Stands _) _ _
-    (into_is s m h c.in_ok-line.ensures.0 c.in_ok-line.ensures.1 kind.Frames frame (sym s.same_kind ∙ ap kind_of c.in-Frames.is) refl)
+    (into_is s m h c.in_ok-line.ensures.0 c.in_ok-line.ensures.1 kind.Frames frame (ap kind_of c.in-Frames.is) refl)
     (told_on (at line (hears e)) s _ (frames_on _ c.in-Frames.card c.frame.new.self c.in-Frames.is line (hears e) (line_event.hears e) refl after) refl refl refl refl m h
     c.carry_out.result _ _ (told (told_beside (option_copied c.contents-contents.result) report))
     (frames_told _ c.in-Frames.card c.frame.new.self c.in-Frames.is line (hears e) (line_event.hears e) refl m.board h.board (line_event.told (told_beside (option_copied c.contents-contents.result) report))
@@ -40,11 +40,10 @@ returns-else-frame-gt-LONGEST_FRAME g c = λ m h.
     let sent = c.send-octets.ensures t sends in
     let moved = with_terminal line (after_sending frame t) m in
     obeyed c.hear.result _ c.written-in-Octets.ensures _ _ (Stands _) _ _
-    (into_is s m h c.in_ok-line.ensures.0 c.in_ok-line.ensures.1 kind.Octets frame (sym s.same_kind ∙ ap kind_of c.in-Octets.is)
+    (into_is s m h c.in_ok-line.ensures.0 c.in_ok-line.ensures.1 kind.Octets frame (ap kind_of c.in-Octets.is)
     (is_frame_is frame (omega (arith, c.if-frame-lt-SHORTEST_FRAME.false)) (omega (arith, c.if-frame-gt-LONGEST_FRAME.false))))
     (subst (λ octets. Tells c.hear.result (on g.T.Target.taken c.args.page.now) (on g.T.Target.taken c.hear.new.page) (Stands c.hear.new.self) (after_rx line octets (scene moved))) (c.as_slice.ensures.value ∙ sent.0)
     (c.hear.ensures moved (record {
-      kind = h.kind;
       config = h.config;
       board = h.board;
       counters = h.counters;

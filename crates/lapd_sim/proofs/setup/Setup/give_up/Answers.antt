@@ -28,7 +28,7 @@ returns-in_err-ask-2 g c = λ m h.
 
 pub loop-tei-preserved : goal.loop-tei-preserved
 loop-tei-preserved g c = (
-  c.in_ok-ask-2.ensures.plan ∙ c.in_ok-ask.ensures.plan ∙ c.loop-tei.invariant.0,
+  c.in_ok-ask-2.ensures.config ∙ c.in_ok-ask.ensures.config ∙ c.loop-tei.invariant.0,
   λ m h.
       let tei = get_or c.args.teis.now c.loop-tei.tei-index 0 in
       let n = (with_events (flat_map (deactivations c.args.line) (take c.loop-tei.tei-index c.args.teis.now)) (scene m)).setup in

@@ -5,16 +5,17 @@ use Rattle.lapd_sim.proofs.setup.Setup.hear.Goals as goal
 
 pub returns-in_err-octet : goal.returns-in_err-octet
 returns-in_err-octet g c = λ m h.
-    let before = c.loop-octet.invariant.1 m h in
+    let before = c.loop-octet.invariant.2 m h in
     leaves_told c.from_residual.result _ _ _ _ c.from_residual.ensures.0
     (breaks_off (octets_at c.args.line) (map-append (λ value. at c.args.line (octet value))) c.args.octets.now c.loop-octet.octet-index c.loop-octet-test.true _ _ _ (Stands c.octet.new.self) m
     before.0 (c.in_err-octet.ensures.told _ before.1))
 
 pub loop-octet-preserved : goal.loop-octet-preserved
 loop-octet-preserved g c = (
-  c.in_ok-octet.ensures.plan ∙ c.loop-octet.invariant.0,
+  c.in_ok-octet.ensures.config ∙ c.loop-octet.invariant.0,
+  c.in_ok-octet.ensures.kind ∙ c.loop-octet.invariant.1,
   λ m h.
-      let before = c.loop-octet.invariant.1 m h in
+      let before = c.loop-octet.invariant.2 m h in
       tells_more (octets_at c.args.line) (map-append (λ value. at c.args.line (octet value))) c.args.octets.now c.loop-octet.octet-index c.loop-octet-test.true _ _ _ (Stands c.octet.new.self) m
       before.0 (c.in_ok-octet.ensures.told _ before.1),
 )
@@ -22,4 +23,4 @@ loop-octet-preserved g c = (
 pub returns : goal.returns
 returns g c =
     subst (λ octets. Says {E = WriteFailed} (Ok tt) c.args.self.now c.loop-octet.self (on g.T.Target.taken c.args.page.now) (on g.T.Target.taken c.loop-octet.page) (after_rx c.args.line octets))
-    (take_all _ _ c.loop-octet-test.false) c.loop-octet.invariant.1
+    (take_all _ _ c.loop-octet-test.false) c.loop-octet.invariant.2

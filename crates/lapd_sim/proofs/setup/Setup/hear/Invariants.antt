@@ -1,9 +1,10 @@
 -- The invariants of the loops of `Setup::hear`.
-use Rattle.lapd_sim.proofs.Vocabulary.{◌≡◌, Ok, take, after_rx, on, Says, WriteFailed}
+use Rattle.lapd_sim.proofs.Vocabulary.{◌≡◌, Ok, take, after_rx, kind_of, on, Says, WriteFailed}
 use Rattle.lapd_sim.proofs.setup.Setup.hear.Given as goal
 
--- the plan is the same, and the octets so far have come
+-- configuration and kind are the same, and the octets so far have come
 abbrev pub invariant-loop-octet : goal.invariant-loop-octet
 invariant-loop-octet g l =
-    (l.self.plan ≡ l.fn.self.plan)
+    (l.self.config ≡ l.fn.self.config)
+    × (kind_of l.self.board ≡ kind_of l.fn.self.board)
     × Says {E = WriteFailed} (Ok tt) l.fn.self l.self (on g.T.Target.taken l.fn.page) (on g.T.Target.taken l.page) (after_rx l.line (take l.octet-index l.octets))

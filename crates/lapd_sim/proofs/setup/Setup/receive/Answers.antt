@@ -6,4 +6,4 @@ use Rattle.lapd_sim.proofs.setup.Setup.receive.Goals as goal
 pub returns : goal.returns
 returns g c = λ m h.
     obeyed c.hear.result _ c.written.ensures _ _ (Stands _) _ _
-    (there_octets c.args.self.now m h c.in_ok-line.ensures.0 c.in_ok-line.ensures.1 (λ n. after_rx n c.args.octets.now) c.in_ok-for_kind.ensures) (c.hear.ensures m h)
+    (there_octets c.args.self.now m h c.in_ok-line.ensures.0 c.in_ok-line.ensures.1 (λ n. after_rx n c.args.octets.now) c.in_ok-for_octets.ensures) (c.hear.ensures m h)

@@ -8,7 +8,7 @@ use Rattle.lapd_sim.proofs.setup.Setup.show_counters.Goals as goal
 pub returns : goal.returns
 returns g c = λ m h.
     let line = c.args.line in
-    let less = subst (λ n. n < c.args.self.now.plan.config.lines) c.in_ok-line.ensures.0 c.in_ok-line.ensures.1 in
+    let less = subst (λ n. n < c.args.self.now.config.lines) c.in_ok-line.ensures.0 c.in_ok-line.ensures.1 in
     obeyed c.put_counters.result _ c.written.ensures _ _ (Stands c.args.self.now) _ _ (there c.args.self.now m h {at_it = line} {line = line} refl less (after_counters c.args.group))
     (tells c.put_counters.result _ _ (Stands c.args.self.now) (after_counters c.args.group line (scene m)) (record (scene m) { text = counters_text line c.args.group c.counters-counters.result.now })
     (ap (λ k. record (scene m) { text = counters_text line c.args.group k })

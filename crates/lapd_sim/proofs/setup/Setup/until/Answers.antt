@@ -26,4 +26,4 @@ returns g c = λ m h.
     waits_over c.loop-line.self _ _ _ c.args.end m c.in_default.ensures.due (c.loop-line.invariant m h)
     (λ n stands.
     let s = subst (λ (s : rust.Setup). Stands s n) (sym c.in_default.ensures.unchanged) stands in
-    record { kind = s.kind; config = s.config; board = s.board; counters = s.counters; clock = s.clock; now = refl; terminals = s.terminals; listeners = s.listeners })
+    record { config = s.config; board = s.board; counters = s.counters; clock = s.clock; now = refl; terminals = s.terminals; listeners = s.listeners })

@@ -51,7 +51,7 @@ fn hear(card: &mut FrameCard<RawShelf>, line: usize, octets: &[u8], report: &mut
 {
     let mut told = BareReport::nothing();
     if card.frame(line, octets, &mut told) {
-        return report.show_orders(false, false, &told.orders);
+        return report.show_orders(&told.orders);
     }
     report.show(&told, card.contents(line, octets, &told));
 }
@@ -118,7 +118,7 @@ pub extern "C" fn lapd_next_frame(
     match card.next_frame(line, out) {
         Ok(Some(next)) => {
             *count = next.length;
-            report.show_orders(true, card.has_next(line), &next.order_list());
+            report.show_given(&next.order_list(), card.has_next(line));
             kept.tell_reopened(line, report);
             OK
         }

@@ -22,4 +22,4 @@ returns-then-frame-clause-shows c = λ m s.
     subst (ShowsAnswer c.show_orders.new.self)
     (ap told (sym (quiet_told octets c.frame.new.report (c.frame.ensures.quiet c.if-frame.true))) ∙ c.frame.ensures.told m s
     ∙ ap (λ (e : Event). answer e m) (comes_at c.args.line c.args.octets.now c.args.card.now m s))
-    (c.show_orders.ensures.told refl refl)
+    c.show_orders.ensures.told

@@ -34,7 +34,7 @@ pub extern "C" fn lapd_frame(
     let mut told = BareReport::nothing();
     if card.frame(line, octets, &mut told) {
         // Mostly it leads to nothing but orders, and then nothing else is looked for.
-        report.show_orders(false, false, &told.orders);
+        report.show_orders(&told.orders);
         kept.tell_reopened(line, report);
         return OK;
     }
@@ -105,7 +105,7 @@ pub extern "C" fn lapd_next_frame(
     match card.next_frame(line, out) {
         Ok(Some(next)) => {
             *count = next.length;
-            report.show_orders(true, card.has_next(line), &next.order_list());
+            report.show_given(&next.order_list(), card.has_next(line));
             kept.tell_reopened(line, report);
             OK
         }

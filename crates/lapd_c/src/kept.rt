@@ -63,7 +63,7 @@ impl KeptCard {
     }
 
     // It stands apart, since mostly no link waits.
-    #[inline(never)]
+    #[cold]
     fn take_first(&mut self, line: usize) -> Option<u8>
         ensures card { self.new.card ≡ self.old.card }
         ensures first { (m : Machine) → AnyStands self.old.card m → line < (card_in m).config.lines

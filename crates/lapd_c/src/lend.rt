@@ -2,6 +2,9 @@
 
 /// Lends the card of a handle, or answers that there is none; where a kind is named, that card, too, or answers that it is one of
 /// the other; and where a line is named, it becomes a place among the card's lines, or the answer is that there is none.
+///
+/// These macros hold the `return`s of the call in which they stand: what is wrong with a handle, a kind, a line or an argument is
+/// the call's status, and nothing has changed then.
 macro_rules! lend {
     ($kept:ident of $handle:ident) => {
         let $kept = $crate::lend::or_answer!($handle.card(), $crate::plain::NO_CARD);

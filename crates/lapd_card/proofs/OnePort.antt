@@ -1,5 +1,6 @@
 -- One port of a card of octets, taken out of its ports and put back; and what leads such a card on.
-use Rattle.lapd_card.proofs.Vocabulary.{◌≡◌, ◌≢◌, ℕ, ◌<◌, ◌==◌, Bool, true, false, List, [], ◌∷◌, ◌++◌, length, refl, sym, ap, subst, ◌∙◌, arith, true≢false, eqb-true, eq-eqb, get_or, set, length-set, get_or-set_same, get_or-set_other, set-set, slice_get, slice_get-get_or, Some, IfSome, All, All-push, Config, Store, BareReport, Card, Port, PortStands, latest_frame, told_if, OctetCard, port_at, PortsStand, told_at, told_of, told_if_at, option_map_or, nothing, Option}
+use Rattle.lapd_card.proofs.Vocabulary.{◌≡◌, ◌≢◌, ℕ, ◌<◌, ◌==◌, Bool, true, false, List, [], ◌∷◌, ◌++◌, length, refl, sym, ap, subst, ◌∙◌, arith, true≢false, eqb-true, eq-eqb, get_or, set, length-set, get_or-set_same, get_or-set_other, set-set, slice_get, slice_get-get_or, Some, IfSome, All, All-push, Config, Store, BareReport, Card, Port, PortStands, latest_frame, told_if, OctetCard, port_at, PortsStand, told_at, told_of, told_if_at, told_beside, delivered_in, option_map_or, nothing, Option, None}
+use Rattle.lapd_link_steps.specs.Reports.{has_contents}
 use Rattle.model_card.specs.ports.Card.{after, said, fresh}
 use Rattle.model_card.specs.ports.Event.{Event, at}
 use Rattle.model_card.specs.ports.Port as port
@@ -42,6 +43,14 @@ with_config {ports = ports} {ps} same st = subst (λ c. PortsStand c.n201 ports 
 -- what an outcome tells of a port is told at its place
 pub told_there : (ports : List Port) (i : ℕ) (x : Port) (outcome : BareReport) → i < length ports → x ≡ get_or ports i x → told_at ports i outcome ≡ told_of outcome x
 told_there ports i x outcome within is = ap (λ there. option_map_or (told_of outcome) there nothing) (slice_get-get_or ports i x within ∙ ap Some (sym is))
+
+-- and where nothing was delivered, no contents are
+pub told_bare : (ports : List Port) (i : ℕ) (x : Port) (outcome : BareReport) → i < length ports → x ≡ get_or ports i x → has_contents outcome ≡ false
+    → told_beside None outcome ≡ told_at ports i outcome
+told_bare ports i x outcome within is none = ap (λ contents. told_beside contents outcome) (not_lent (latest_frame x) outcome none) ∙ sym (told_there ports i x outcome within is)
+  where
+    not_lent : (octets : List ℕ) (outcome : BareReport) → has_contents outcome ≡ false → None ≡ delivered_in octets outcome
+    not_lent octets outcome none = grind arith
 
 pub told_if_there : (ports : List Port) (i : ℕ) (y : Port) (outcome : Option BareReport) → i < length ports → told_if_at (set ports i y) i outcome ≡ told_if (latest_frame y) outcome
 told_if_there ports i y outcome within = grind (arith, told_there, length-set, get_or-set_same)

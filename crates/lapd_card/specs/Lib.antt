@@ -22,7 +22,7 @@ pub mod Kinds
 -- the words of the contracts, from where they are defined
 pub use Rattle.lapd_count.specs.Counters.{none_counted}
 pub use Rattle.lapd_frame.specs.ShortLists.{listed}
-pub use Rattle.lapd_line.specs.Ports.{IsLoaded}
+pub use Rattle.lapd_line.specs.Ports.{IsLoaded, latest_in}
 pub use Rattle.lapd_line.specs.Pulls.{orders_taken}
 pub use Rattle.lapd_line.specs.Reports.{answer_of_request, delivered_in, gave_in, IsClear, octets_of, pulled_of, report_told, told_beside, told_in, written}
 pub use Rattle.lapd_link_steps.specs.Quiet.{IsQuiet}

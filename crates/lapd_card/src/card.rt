@@ -15,7 +15,7 @@ use lapd_bits::Ended;
 use lapd_frame::{Refusal, Service, Timer};
 use lapd_line::{BareReport, Port, Pulled, Report, Request};
 use lapd_store::Shelf;
-use model_bits::{Head, Heard};
+use model_bits::Head;
 use std::marker::Model;
 
 /// A line card of octets: a card of frames, and at each line a port, which hears frames in the octets that come, and puts
@@ -86,8 +86,8 @@ impl<S: Shelf> Card<S> {
         self.report(line, &bare)
     }
 
-    /// Takes an octet as [`Card::octet`] does, and answers without references; none where it ended nothing, so that there is
-    /// nothing to tell and no report to make. [`Card::contents`] lends contents that it delivered.
+    /// Takes an octet as [`Card::octet`] does, and answers without references; none where it ended nothing, as mostly: to make a
+    /// report for each octet would take a tenth of its time. [`Card::contents`] lends contents that it delivered.
     #[inline(always)]
     pub fn hear(&mut self, line: usize, octet: u8) -> Option<BareReport>
         requires { line < line_count self.old }
@@ -100,13 +100,12 @@ impl<S: Shelf> Card<S> {
             Ended::Nothing => None,
             Ended::Dropped(cause) => {
                 let mut bare = BareReport::nothing();
-                self.frames.heard(line, Heard::Dropped(cause), &mut bare);
+                self.frames.dropped(line, cause, &mut bare);
                 Some(bare)
             }
             Ended::Frame(_) | Ended::Overlong => {
                 let mut bare = BareReport::nothing();
-                self.frames
-                    .heard(line, self.ports[line].latest(), &mut bare);
+                self.frames.heard(line, &self.ports[line], &mut bare);
                 Some(bare)
             }
         }
@@ -120,7 +119,11 @@ impl<S: Shelf> Card<S> {
         requires { line < line_count self.now }
         ensures { told_beside (option_copied result) report.now ≡ told_at self.now.ports line report.now }
     {
-        report.contents(self.ports[line].latest_frame())
+        let port = &self.ports[line];
+        if !report.has_contents() {
+            return None;
+        }
+        report.contents(port.latest_frame())
     }
 
     /// A timer of a line expired. One that does not run has no effect, and nothing is reported.

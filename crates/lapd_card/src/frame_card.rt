@@ -1,8 +1,8 @@
 //! The card: one call an event.
 
-ghost use Rattle.std.specs.Prelude.{◌≡◌, ◌≤◌, ◌<◌, ◌↔◌, true, length, drop, Some, None, IsSome, IfOk, IfErr, IfSome, IsErr, OnOk, OnErr, get_or};
+ghost use Rattle.std.specs.Prelude.{◌≡◌, ◌≤◌, ◌<◌, ◌↔◌, [], true, length, drop, Some, None, IsSome, IfOk, IfErr, IfSome, IsErr, OnOk, OnErr, get_or};
 ghost use Rattle.std.specs.Option.{option_copied};
-ghost use Rattle.lapd_card.specs.{none_counted, IsQuiet, answer_of_request, delivered_in, listed, told_beside, told_in, octets_of, gave_in, written, IsClear, heard_of, RisesByHeard, RisesByExpiry, RisesByRequest, FallsByNext, room, RefusesBy, IsFirstWaiting, has_next, next_waiting, came, cause_of, refusal, request_of, starts, limit, IsLoaded, orders_taken};
+ghost use Rattle.lapd_card.specs.{none_counted, IsQuiet, answer_of_request, delivered_in, listed, told_beside, told_in, octets_of, gave_in, written, IsClear, latest_in, RisesByHeard, RisesByExpiry, RisesByRequest, FallsByNext, room, RefusesBy, IsFirstWaiting, has_next, next_waiting, came, cause_of, refusal, request_of, starts, limit, IsLoaded, orders_taken};
 ghost use Rattle.model_bits.specs.Stream as stream;
 ghost use Rattle.model_card.specs.Card as machine;
 ghost use Rattle.model_card.specs.Event.{at};
@@ -17,7 +17,7 @@ use lapd_count::Counters;
 use lapd_frame::{Order, Refusal, Service, ShortList, Timer};
 use lapd_line::{BareReport, Config, FrameLine, Marks, NextFrame, Port, Request, Room};
 use lapd_store::Shelf;
-use model_bits::Heard;
+use model_bits::Cause;
 use model_line::Fault;
 use std::marker::Model;
 use thiserror::Error;
@@ -131,16 +131,31 @@ impl<S: Shelf> FrameCard<S> {
     /// Takes what the port of a line has heard, and tells in the report what it led to.
     // It stands apart, so that an octet that ends nothing has no part of it in its way.
     #[inline(never)]
-    pub(crate) fn heard(&mut self, line: usize, heard: Heard<'_>, report: &mut BareReport)
+    pub(crate) fn heard(&mut self, line: usize, port: &Port, report: &mut BareReport)
         requires within { line < line_count self.old }
         requires clear { IsClear report.old }
-        requires something { IsSome (heard_of heard) }
-        ensures told { IfSome (heard_of heard.entry) (λ e. (m : machine.Card) → FrameStands S.store self.old m
-            → told (told_in (octets_of (heard_of heard.entry)) report.new) ≡ answer (at line (hears e)) m) }
-        ensures after { IfSome (heard_of heard.entry) (λ e. Leads S.store (at line (hears e)) self.old self.new) }
+        requires something { IsSome (latest_in port.now) }
+        ensures told { IfSome (latest_in port.now) (λ e. (m : machine.Card) → FrameStands S.store self.old m
+            → told (told_in (octets_of (latest_in port.now)) report.new) ≡ answer (at line (hears e)) m) }
+        ensures after { IfSome (latest_in port.now) (λ e. Leads S.store (at line (hears e)) self.old self.new) }
     {
         let lane = &mut self.lines[line];
-        lane.heard(heard, report, &mut self.shelf);
+        lane.heard(port.latest(), report, &mut self.shelf);
+        self.waiting.set(line, lane.has_next());
+    }
+
+    /// The port of a line has dropped something, which is told in the report with its cause.
+    // It stands apart as that does.
+    #[inline(never)]
+    pub(crate) fn dropped(&mut self, line: usize, cause: Cause, report: &mut BareReport)
+        requires within { line < line_count self.old }
+        requires clear { IsClear report.old }
+        ensures told { (m : machine.Card) → FrameStands S.store self.old m
+            → told (told_in [] report.new) ≡ answer (at line (hears (stream.dropped cause))) m }
+        ensures after { Leads S.store (at line (hears (stream.dropped cause))) self.old self.new }
+    {
+        let lane = &mut self.lines[line];
+        lane.dropped(cause, report);
         self.waiting.set(line, lane.has_next());
     }
 

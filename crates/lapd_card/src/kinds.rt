@@ -24,7 +24,9 @@ pub enum CardKind {
 /// A card that takes and gives octets, or one that takes and gives whole frames, over a shelf of raw memory.
 #[derive(Debug, Drop)]
 pub enum AnyCard {
+    /// One for lines whose octets come and go, with a port at each.
     Octets(Card<RawShelf>),
+    /// One for lines whose controllers do flags, stuffed 0s and checks.
     Frames(FrameCard<RawShelf>),
 }
 

@@ -52,14 +52,17 @@ pub dropped_told : (c : Config) (cause : Cause) (m : machine.Line) (o : BareRepo
 unfolding answer
 dropped_told c cause m o is = ap told (silent_told o is refl)
 
-pub dropped_leads : {old new : FrameLine} (s : Store) (cause : Cause) (o : BareReport) → told_in [] o ≡ dropped cause → new ≡ with_counted old (bare_shown o)
-    → Leads (hears (stream.dropped cause)) old s new s
+pub dropped_heard : (c : Config) (cause : Cause) (m : machine.Line) (o : BareReport) → told_in [] o ≡ dropped cause → told (told_in [] o) ≡ answer c (hears (stream.dropped cause)) m
+unfolding answer
+dropped_heard c cause m o is = ap told is
+
+pub dropped_leads : {old new : FrameLine} (s : Store) (cause : Cause) → new ≡ with_counted old (told_shown [] (Some cause) 0) → Leads (hears (stream.dropped cause)) old s new s
 unfolding after answer
-dropped_leads {old} s cause o says is = record {
+dropped_leads {old} s cause is = record {
   config = ap config_of is;
   limits = record { slots = refl; width = refl };
-  stands = λ others m st. subst (λ l. Stands l s others m) (sym is) (recounted old (with_all old.counters (bare_shown o)) s others m st);
-  counted = λ others m st. ap (λ l. l.counters) is ∙ ap (λ t. with_all old.counters (told_shown t.notes t.cause t.lost)) says;
+  stands = λ others m st. subst (λ l. Stands l s others m) (sym is) (recounted old (with_all old.counters (told_shown [] (Some cause) 0)) s others m st);
+  counted = λ others m st. ap (λ l. l.counters) is;
 }
 
 -- a timer has expired

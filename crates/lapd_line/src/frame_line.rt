@@ -1,8 +1,8 @@
 //! The line: one call for each thing that happens.
 
-ghost use Rattle.std.specs.Prelude.{◌≡◌, ◌≤◌, List, false, true, None, Some, IfOk, IfErr, OnOk, OnErr, nat_le};
+ghost use Rattle.std.specs.Prelude.{◌≡◌, ◌≤◌, List, [], false, true, None, Some, IfOk, IfErr, OnOk, OnErr, nat_le};
 ghost use Rattle.std.specs.Option.{option_copied};
-ghost use Rattle.lapd_line.specs.{none_counted, Owned, Holds, Store, used_slots, heard_of, came, cause_of, told, hears, answer, refusal, request_of, IsInRange, starts, IsQuiet, bare_shown, with_counted, told_in, told_beside, delivered_in, octets_of, listed, IsClear, Leads, LeadsIfHeard, answer_if_heard, config_of};
+ghost use Rattle.lapd_line.specs.{none_counted, Owned, Holds, Store, used_slots, heard_of, came, cause_of, dropped, told, hears, answer, refusal, request_of, IsInRange, starts, IsQuiet, bare_shown, with_counted, told_in, told_beside, delivered_in, octets_of, listed, IsClear, Leads, LeadsIfHeard, answer_if_heard, config_of};
 ghost use Rattle.model_bits.specs.Stream as stream;
 ghost use Rattle.model_line.specs.Event as line_event;
 ghost use Rattle.model_line.specs.Line as machine;
@@ -19,7 +19,7 @@ use lapd_frame::{Refusal, Timer};
 use lapd_link::BareReport;
 use lapd_store::Shelf;
 use lapd_tei::Teis;
-use model_bits::Heard;
+use model_bits::{Cause, Heard};
 use model_line::{Config, Fault, Request};
 use std::alloc::Global;
 
@@ -145,8 +145,19 @@ impl FrameLine {
             → told (told_beside None report.new) ≡ answer (config_of self.old) (hears (stream.dropped (cause_of fault))) m }
         ensures after { (store : Store) → Leads (hears (stream.dropped (cause_of fault))) self.old store self.new store }
     {
-        tell_drop(report, cause_of(fault));
-        self.count(report);
+        self.dropped(cause_of(fault), report);
+    }
+
+    /// What stood on the line is dropped. It is reported with its cause and counted, and changes nothing.
+    #[inline(always)]
+    pub fn dropped(&mut self, cause: Cause, report: &mut BareReport)
+        requires clear { IsClear report.old }
+        ensures says { told_in [] report.new ≡ dropped cause }
+        ensures told { (m : machine.Line) → told (told_in [] report.new) ≡ answer (config_of self.old) (hears (stream.dropped cause)) m }
+        ensures after { (store : Store) → Leads (hears (stream.dropped cause)) self.old store self.new store }
+    {
+        tell_drop(report, cause);
+        self.counters.told(&[], Some(cause), 0);
     }
 
     /// A timer expires: T200 or T203 of a link, or T201 of the check of a TEI (Q.921 clause 5.9). Where it does not

@@ -1,6 +1,6 @@
 //! The report of an event.
 
-ghost use Rattle.std.specs.Prelude.{◌≡◌, ◌≤◌, [], false, length, take, map};
+ghost use Rattle.std.specs.Prelude.{◌≡◌, ◌≤◌, [], false, true, length, take, map};
 ghost use Rattle.std.specs.Option.{option_copied};
 ghost use Rattle.lapd_c.specs.{listed, told_beside, nothing, plain_note, plain_order, ShowsReopened, with_reopened, Shows, ShowsPull, SameButContents, contents_in, contents_or_none, mark_of, orders_of};
 
@@ -63,14 +63,23 @@ impl PlainReport {
         self.more = 0;
     }
 
-    /// Shows orders alone; also of a call for the next frame, with whether it gave one, and whether another waits on its line.
+    /// Shows orders alone.
     #[inline(always)]
-    pub fn show_orders(&mut self, begun: bool, more: bool, orders: &ShortList<Order>)
-        ensures told { begun ≡ false → more ≡ false → Shows self.new (record nothing { orders = listed orders.now }) }
-        ensures pulled { ShowsPull self.new begun more (listed orders.now) }
+    pub fn show_orders(&mut self, orders: &ShortList<Order>)
+        ensures told { Shows self.new (record nothing { orders = listed orders.now }) }
+        ensures pulled { ShowsPull self.new false false (listed orders.now) }
     {
         self.show_nothing();
-        self.begun = u8::from(begun);
+        self.order_count = write_order_list(&mut self.orders, orders);
+    }
+
+    /// Shows that a frame was given to be sent: its orders, and whether another waits on its line.
+    #[inline(always)]
+    pub fn show_given(&mut self, orders: &ShortList<Order>, more: bool)
+        ensures { ShowsPull self.new true more (listed orders.now) }
+    {
+        self.show_nothing();
+        self.begun = 1;
         self.more = u8::from(more);
         self.order_count = write_order_list(&mut self.orders, orders);
     }
@@ -95,7 +104,7 @@ impl PlainReport {
         ensures { length (contents_or_none (option_copied delivered.entry)) ≤ 260
             → Shows self.new (told_beside (option_copied delivered.entry) told.now) }
     {
-        self.show_orders(false, false, &told.orders);
+        self.show_orders(&told.orders);
         self.deliver(delivered);
         self.note_count = write_notes(&mut self.notes, items(&told.notes));
         self.cause = cause_number(told.cause());

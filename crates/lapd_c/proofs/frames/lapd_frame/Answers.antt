@@ -33,5 +33,5 @@ returns-then-frame-clause-served c = λ m s w.
       still_stands (alone (after (comes c.args.line c.args.octets.now m) m)) c.tell_reopened-then-frame.ensures.card (subst (λ (e : Event). FrameCardStands c.frame.new.self (after e m)) is (c.frame.ensures.after.stands m t)),
       still_answered c.tell_reopened-then-frame.new.report c.show_orders.new.self _ c.tell_reopened-then-frame.ensures.rest
           (subst (ShowsAnswer c.show_orders.new.self) (ap told (sym (quiet_told octets c.frame.new.report (c.frame.ensures.quiet c.if-frame.true))) ∙ c.frame.ensures.told m t ∙ ap (λ (e : Event). answer e m) is)
-          (c.show_orders.ensures.told refl refl)),
+          c.show_orders.ensures.told),
     )

@@ -31,5 +31,5 @@ returns-in-Ok-Some-clause-given c = λ m s within room. let t = frames_there c.i
     refl (still_stands (alone (after (goes c.args.line) m)) c.tell_reopened.ensures.card stands) (c.has_next.ensures (after (goes c.args.line) m) stands) refl
     (subst (λ g. written g ≤ length c.next_frame.new.out) c.in-Ok-Some.field-0-is c.in-Ok-Some.ensures.fits)
     (subst (λ g. drop (written g) c.next_frame.new.out ≡ drop (written g) c.args.out.now) c.in-Ok-Some.field-0-is c.in-Ok-Some.ensures.rest)
-    (still_pulled c.tell_reopened.new.report c.show_orders.new.self true c.has_next.result (listed c.in-Ok-Some.next.orders) c.tell_reopened.ensures.rest
-    (subst (λ os. ShowsPull c.show_orders.new.self true c.has_next.result (listed os)) c.order_list.ensures c.show_orders.ensures.pulled))
+    (still_pulled c.tell_reopened.new.report c.show_given.new.self true c.has_next.result (listed c.in-Ok-Some.next.orders) c.tell_reopened.ensures.rest
+    (subst (λ os. ShowsPull c.show_given.new.self true c.has_next.result (listed os)) c.order_list.ensures c.show_given.ensures))

@@ -29,17 +29,17 @@ invariant_of-self g c = past_after g.S.Shelf.store (octet_leads g.S.Shelf.store 
 pub returns-in-Nothing-clause-frames : goal.returns-in-Nothing-clause-frames
 returns-in-Nothing-clause-frames g c = λ m s. priced m (at c.args.line (port.octet c.args.octet)) s.reached (subst (λ d. c.args.line < d.lines) (sym s.frames.config) c.requires)
 
-pub heard-requires : goal.heard-requires
-heard-requires g c = record { clear = c.nothing-bare.ensures; within = (subst (λ d. c.args.line < line_count d) (sym c.self.view_is) c.requires); something = refl }
+pub dropped-requires : goal.dropped-requires
+dropped-requires g c = record { clear = c.nothing-bare.ensures; within = (subst (λ d. c.args.line < line_count d) (sym c.self.view_is) c.requires) }
 
 pub returns-in-Dropped-clause-told : goal.returns-in-Dropped-clause-told
-returns-in-Dropped-clause-told g c = λ m s. ap port.told (told_if_there c.self.inside.ports.items c.args.line c.octet.new.self (Some c.heard.new.report) (port-in g.S.Shelf.store c.self.invariant c.self.view_is c.requires)) ∙ octet_told g.S.Shelf.store (record { past = c.self.invariant; within = (subst (λ d. c.args.line < line_count d) (sym c.self.view_is) c.requires); is = c.index_mut.ensures.value }) c.octet.ensures.gained c.octet.ensures.after (Some c.heard.new.report) (subst (λ h. Tells g.S.Shelf.store c.args.line h c.self.inside.frames (Some c.heard.new.report)) (sym (is_dropped (latest_in c.octet.new.self) c.in-Dropped.cause c.in-Dropped.ensures.told)) c.heard.ensures.told) m (stood g.S.Shelf.store c.self.view_is m s)
+returns-in-Dropped-clause-told g c = λ m s. ap port.told (told_if_there c.self.inside.ports.items c.args.line c.octet.new.self (Some c.dropped.new.report) (port-in g.S.Shelf.store c.self.invariant c.self.view_is c.requires)) ∙ octet_told g.S.Shelf.store (record { past = c.self.invariant; within = (subst (λ d. c.args.line < line_count d) (sym c.self.view_is) c.requires); is = c.index_mut.ensures.value }) c.octet.ensures.gained c.octet.ensures.after (Some c.dropped.new.report) (subst (λ h. Tells g.S.Shelf.store c.args.line h c.self.inside.frames (Some c.dropped.new.report)) (sym (is_dropped (latest_in c.octet.new.self) c.in-Dropped.cause c.in-Dropped.ensures.told)) c.dropped.ensures.told) m (stood g.S.Shelf.store c.self.view_is m s)
 
 pub returns-in-Dropped-clause-after : goal.returns-in-Dropped-clause-after
-returns-in-Dropped-clause-after g c = seen g.S.Shelf.store c.self.view_is (octet_leads g.S.Shelf.store (record { past = c.self.invariant; within = (subst (λ d. c.args.line < line_count d) (sym c.self.view_is) c.requires); is = c.index_mut.ensures.value }) c.octet.ensures.gained c.octet.ensures.after c.heard.new.self (subst (λ h. LeadsIfHeard g.S.Shelf.store c.args.line h c.self.inside.frames c.heard.new.self) (sym (is_dropped (latest_in c.octet.new.self) c.in-Dropped.cause c.in-Dropped.ensures.told)) c.heard.ensures.after))
+returns-in-Dropped-clause-after g c = seen g.S.Shelf.store c.self.view_is (octet_leads g.S.Shelf.store (record { past = c.self.invariant; within = (subst (λ d. c.args.line < line_count d) (sym c.self.view_is) c.requires); is = c.index_mut.ensures.value }) c.octet.ensures.gained c.octet.ensures.after c.dropped.new.self (subst (λ h. LeadsIfHeard g.S.Shelf.store c.args.line h c.self.inside.frames c.dropped.new.self) (sym (is_dropped (latest_in c.octet.new.self) c.in-Dropped.cause c.in-Dropped.ensures.told)) c.dropped.ensures.after))
 
 pub invariant_of-self-in-Dropped : goal.invariant_of-self-in-Dropped
-invariant_of-self-in-Dropped g c = past_after g.S.Shelf.store (octet_leads g.S.Shelf.store (record { past = c.self.invariant; within = (subst (λ d. c.args.line < line_count d) (sym c.self.view_is) c.requires); is = c.index_mut.ensures.value }) c.octet.ensures.gained c.octet.ensures.after c.heard.new.self (subst (λ h. LeadsIfHeard g.S.Shelf.store c.args.line h c.self.inside.frames c.heard.new.self) (sym (is_dropped (latest_in c.octet.new.self) c.in-Dropped.cause c.in-Dropped.ensures.told)) c.heard.ensures.after)) c.self.invariant
+invariant_of-self-in-Dropped g c = past_after g.S.Shelf.store (octet_leads g.S.Shelf.store (record { past = c.self.invariant; within = (subst (λ d. c.args.line < line_count d) (sym c.self.view_is) c.requires); is = c.index_mut.ensures.value }) c.octet.ensures.gained c.octet.ensures.after c.dropped.new.self (subst (λ h. LeadsIfHeard g.S.Shelf.store c.args.line h c.self.inside.frames c.dropped.new.self) (sym (is_dropped (latest_in c.octet.new.self) c.in-Dropped.cause c.in-Dropped.ensures.told)) c.dropped.ensures.after)) c.self.invariant
 
 pub returns-in-Dropped-clause-frames : goal.returns-in-Dropped-clause-frames
 returns-in-Dropped-clause-frames g c = λ m s. priced m (at c.args.line (port.octet c.args.octet)) s.reached (subst (λ d. c.args.line < d.lines) (sym s.frames.config) c.requires)
@@ -47,17 +47,17 @@ returns-in-Dropped-clause-frames g c = λ m s. priced m (at c.args.line (port.oc
 pub index-requires : goal.index-requires
 index-requires g c = port-there g.S.Shelf.store _ c.args.self.now c.args.line _ c.self.invariant c.self.view_is c.requires c.self.inside.ports.ok.0
 
-pub heard-requires-in-Frame : goal.heard-requires-in-Frame
-heard-requires-in-Frame g c = record { clear = c.nothing-bare-in-Frame.ensures; within = (subst (λ d. c.args.line < line_count d) (sym c.self.view_is) c.requires); something = subst (λ h. IsSome h) (sym (c.latest.ensures ∙ ap latest_in (port_put c.self.inside.ports.items c.args.line c.octet.new.self c.index.result.now (port-in g.S.Shelf.store c.self.invariant c.self.view_is c.requires) c.index.ensures))) (ended_something (latest_in c.octet.new.self) c.octet.ensures.told c.in-Frame.is) }
+pub heard-requires : goal.heard-requires
+heard-requires g c = record { clear = c.nothing-bare-in-Frame.ensures; within = (subst (λ d. c.args.line < line_count d) (sym c.self.view_is) c.requires); something = subst (λ h. IsSome h) (sym (ap latest_in (port_put c.self.inside.ports.items c.args.line c.octet.new.self c.index.result.now (port-in g.S.Shelf.store c.self.invariant c.self.view_is c.requires) c.index.ensures))) (ended_something (latest_in c.octet.new.self) c.octet.ensures.told c.in-Frame.is) }
 
 pub returns-in-Frame-clause-told : goal.returns-in-Frame-clause-told
-returns-in-Frame-clause-told g c = λ m s. ap port.told (told_if_there c.self.inside.ports.items c.args.line c.octet.new.self (Some c.heard-in-Frame.new.report) (port-in g.S.Shelf.store c.self.invariant c.self.view_is c.requires)) ∙ octet_told g.S.Shelf.store (record { past = c.self.invariant; within = (subst (λ d. c.args.line < line_count d) (sym c.self.view_is) c.requires); is = c.index_mut.ensures.value }) c.octet.ensures.gained c.octet.ensures.after (Some c.heard-in-Frame.new.report) (if_tells g.S.Shelf.store c.args.line c.self.inside.frames c.heard-in-Frame.new.report (latest_in c.octet.new.self) (ended_something (latest_in c.octet.new.self) c.octet.ensures.told c.in-Frame.is) (subst (λ h. IfSome h (λ e. (m : Card) → FrameStands g.S.Shelf.store c.self.inside.frames m → line.told (told_in (octets_of h) c.heard-in-Frame.new.report) ≡ answer (frames.at c.args.line (line.hears e)) m)) (c.latest.ensures ∙ ap latest_in (port_put c.self.inside.ports.items c.args.line c.octet.new.self c.index.result.now (port-in g.S.Shelf.store c.self.invariant c.self.view_is c.requires) c.index.ensures)) c.heard-in-Frame.ensures.told)) m (stood g.S.Shelf.store c.self.view_is m s)
+returns-in-Frame-clause-told g c = λ m s. ap port.told (told_if_there c.self.inside.ports.items c.args.line c.octet.new.self (Some c.heard.new.report) (port-in g.S.Shelf.store c.self.invariant c.self.view_is c.requires)) ∙ octet_told g.S.Shelf.store (record { past = c.self.invariant; within = (subst (λ d. c.args.line < line_count d) (sym c.self.view_is) c.requires); is = c.index_mut.ensures.value }) c.octet.ensures.gained c.octet.ensures.after (Some c.heard.new.report) (if_tells g.S.Shelf.store c.args.line c.self.inside.frames c.heard.new.report (latest_in c.octet.new.self) (ended_something (latest_in c.octet.new.self) c.octet.ensures.told c.in-Frame.is) (subst (λ h. IfSome h (λ e. (m : Card) → FrameStands g.S.Shelf.store c.self.inside.frames m → line.told (told_in (octets_of h) c.heard.new.report) ≡ answer (frames.at c.args.line (line.hears e)) m)) (ap latest_in (port_put c.self.inside.ports.items c.args.line c.octet.new.self c.index.result.now (port-in g.S.Shelf.store c.self.invariant c.self.view_is c.requires) c.index.ensures)) c.heard.ensures.told)) m (stood g.S.Shelf.store c.self.view_is m s)
 
 pub returns-in-Frame-clause-after : goal.returns-in-Frame-clause-after
-returns-in-Frame-clause-after g c = seen g.S.Shelf.store c.self.view_is (octet_leads g.S.Shelf.store (record { past = c.self.invariant; within = (subst (λ d. c.args.line < line_count d) (sym c.self.view_is) c.requires); is = c.index_mut.ensures.value }) c.octet.ensures.gained c.octet.ensures.after c.heard-in-Frame.new.self (if_leads g.S.Shelf.store c.args.line c.self.inside.frames c.heard-in-Frame.new.self (latest_in c.octet.new.self) (ended_something (latest_in c.octet.new.self) c.octet.ensures.told c.in-Frame.is) (subst (λ h. IfSome h (λ e. frame.Leads g.S.Shelf.store (frames.at c.args.line (line.hears e)) c.self.inside.frames c.heard-in-Frame.new.self)) (c.latest.ensures ∙ ap latest_in (port_put c.self.inside.ports.items c.args.line c.octet.new.self c.index.result.now (port-in g.S.Shelf.store c.self.invariant c.self.view_is c.requires) c.index.ensures)) c.heard-in-Frame.ensures.after)))
+returns-in-Frame-clause-after g c = seen g.S.Shelf.store c.self.view_is (octet_leads g.S.Shelf.store (record { past = c.self.invariant; within = (subst (λ d. c.args.line < line_count d) (sym c.self.view_is) c.requires); is = c.index_mut.ensures.value }) c.octet.ensures.gained c.octet.ensures.after c.heard.new.self (if_leads g.S.Shelf.store c.args.line c.self.inside.frames c.heard.new.self (latest_in c.octet.new.self) (ended_something (latest_in c.octet.new.self) c.octet.ensures.told c.in-Frame.is) (subst (λ h. IfSome h (λ e. frame.Leads g.S.Shelf.store (frames.at c.args.line (line.hears e)) c.self.inside.frames c.heard.new.self)) (ap latest_in (port_put c.self.inside.ports.items c.args.line c.octet.new.self c.index.result.now (port-in g.S.Shelf.store c.self.invariant c.self.view_is c.requires) c.index.ensures)) c.heard.ensures.after)))
 
 pub invariant_of-self-in-Frame : goal.invariant_of-self-in-Frame
-invariant_of-self-in-Frame g c = past_after g.S.Shelf.store (octet_leads g.S.Shelf.store (record { past = c.self.invariant; within = (subst (λ d. c.args.line < line_count d) (sym c.self.view_is) c.requires); is = c.index_mut.ensures.value }) c.octet.ensures.gained c.octet.ensures.after c.heard-in-Frame.new.self (if_leads g.S.Shelf.store c.args.line c.self.inside.frames c.heard-in-Frame.new.self (latest_in c.octet.new.self) (ended_something (latest_in c.octet.new.self) c.octet.ensures.told c.in-Frame.is) (subst (λ h. IfSome h (λ e. frame.Leads g.S.Shelf.store (frames.at c.args.line (line.hears e)) c.self.inside.frames c.heard-in-Frame.new.self)) (c.latest.ensures ∙ ap latest_in (port_put c.self.inside.ports.items c.args.line c.octet.new.self c.index.result.now (port-in g.S.Shelf.store c.self.invariant c.self.view_is c.requires) c.index.ensures)) c.heard-in-Frame.ensures.after))) c.self.invariant
+invariant_of-self-in-Frame g c = past_after g.S.Shelf.store (octet_leads g.S.Shelf.store (record { past = c.self.invariant; within = (subst (λ d. c.args.line < line_count d) (sym c.self.view_is) c.requires); is = c.index_mut.ensures.value }) c.octet.ensures.gained c.octet.ensures.after c.heard.new.self (if_leads g.S.Shelf.store c.args.line c.self.inside.frames c.heard.new.self (latest_in c.octet.new.self) (ended_something (latest_in c.octet.new.self) c.octet.ensures.told c.in-Frame.is) (subst (λ h. IfSome h (λ e. frame.Leads g.S.Shelf.store (frames.at c.args.line (line.hears e)) c.self.inside.frames c.heard.new.self)) (ap latest_in (port_put c.self.inside.ports.items c.args.line c.octet.new.self c.index.result.now (port-in g.S.Shelf.store c.self.invariant c.self.view_is c.requires) c.index.ensures)) c.heard.ensures.after))) c.self.invariant
 
 pub returns-in-Frame-clause-frames : goal.returns-in-Frame-clause-frames
 returns-in-Frame-clause-frames g c = λ m s. priced m (at c.args.line (port.octet c.args.octet)) s.reached (subst (λ d. c.args.line < d.lines) (sym s.frames.config) c.requires)

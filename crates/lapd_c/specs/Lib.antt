@@ -32,7 +32,7 @@ pub mod Counted
 pub mod Calls
 -- the words of the contracts, from where they are defined
 pub use Rattle.lapd_card.specs.Counted.{counters_in}
-pub use Rattle.lapd_card.specs.Kinds.{alone, card_in, CardStands, for_frames, for_octets, FrameCardStands, Machine, shelf_of, with_ports}
+pub use Rattle.lapd_card.specs.Kinds.{alone, card_in, CardStands, FrameCardStands, Machine, shelf_of, with_ports}
 pub use Rattle.lapd_card.specs.Ports.{told_at}
 pub use Rattle.lapd_card.specs.Stands.{Leads}
 pub use Rattle.lapd_card.specs.Waiting.{has_next, next_waiting}

@@ -3,7 +3,8 @@
 ghost use Rattle.std.specs.Borrow.{sem};
 ghost use Rattle.std.specs.Option.{option_copied_mut};
 ghost use Rattle.std.specs.Prelude.{◌≡◌, Some, None, IfSome, IfNone, option_map};
-ghost use Rattle.lapd_c.specs.{first_fault, for_octets, for_frames, fresh, Begins, IsCall, IsCardStart, card_of, IsHandle};
+ghost use Rattle.lapd_c.specs.{first_fault, fresh, Begins, IsCall, IsCardStart, card_of, IsHandle};
+ghost use Rattle.lapd_card.specs.declared.kinds.CardKind.TheVariants as kinds;
 ghost use Rattle.lapd_c.specs.Statuses as status;
 
 use crate::card_slot::CardSlot;
@@ -75,7 +76,7 @@ pub extern "C" fn lapd_card_start(
     config: &PlainConfig,
 ) -> u32
     requires { IsHandle handle.old }
-    ensures { IsCardStart for_octets config.now handle.old handle.new result }
+    ensures { IsCardStart kinds.Octets config.now handle.old handle.new result }
 {
     start(alloc, handle, config, CardKind::Octets)
 }
@@ -88,7 +89,7 @@ pub extern "C" fn lapd_card_start_frames(
     config: &PlainConfig,
 ) -> u32
     requires { IsHandle handle.old }
-    ensures { IsCardStart for_frames config.now handle.old handle.new result }
+    ensures { IsCardStart kinds.Frames config.now handle.old handle.new result }
 {
     start(alloc, handle, config, CardKind::Frames)
 }

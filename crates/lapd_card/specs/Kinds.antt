@@ -18,12 +18,12 @@ use Rattle.lapd_card.specs.FrameStands.{FrameStands}
 use Rattle.lapd_card.specs.Stands.{Stands}
 use Rattle.lapd_card.specs.declared.kinds.AnyCard.{AnyCard}
 use Rattle.lapd_card.specs.declared.kinds.AnyCard.TheVariants.{Octets, Frames}
-pub use Rattle.lapd_card.specs.declared.kinds.CardKind.{CardKind}
-pub use Rattle.lapd_card.specs.declared.kinds.CardKind.TheVariants.{Octets as for_octets, Frames as for_frames}
+use Rattle.lapd_card.specs.declared.kinds.CardKind.{CardKind}
+use Rattle.lapd_card.specs.declared.kinds.CardKind.TheVariants as kinds
 
 abbrev pub kind_of : AnyCard → CardKind
-kind_of (Octets card) = for_octets
-kind_of (Frames card) = for_frames
+kind_of (Octets card) = kinds.Octets
+kind_of (Frames card) = kinds.Frames
 
 -- The card of frames: itself, or the one inside; its configuration, and the counters of its lines.
 abbrev pub frames_of : AnyCard → frames.Held Store

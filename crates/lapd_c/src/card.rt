@@ -3,7 +3,7 @@
 ghost use Rattle.std.specs.Borrow.{sem};
 ghost use Rattle.std.specs.Option.{option_copied_mut};
 ghost use Rattle.std.specs.Prelude.{◌≡◌, Some, None, IfSome, IfNone, option_map};
-ghost use Rattle.lapd_c.specs.{first_fault, fresh, Begins, IsCall, IsCardStart, card_of, IsHandle};
+ghost use Rattle.lapd_c.specs.{first_fault, config_in, fresh, Begins, HasBegun, IsCall, IsStart, IsCardStart, card_of, IsHandle};
 ghost use Rattle.lapd_card.specs.declared.kinds.CardKind.TheVariants as kinds;
 ghost use Rattle.lapd_c.specs.Statuses as status;
 
@@ -97,7 +97,9 @@ pub extern "C" fn lapd_card_start_frames(
 // Starts a card of a kind.
 fn start(alloc: Global, handle: &mut CardHandle, config: &PlainConfig, kind: CardKind) -> u32
     requires { IsHandle handle.old }
-    ensures { IsCardStart kind config.now handle.old handle.new result }
+    ensures handle { IsHandle handle.new }
+    ensures start { IsStart card_of config.now handle.old handle.new result }
+    ensures begun { result ≡ status.ok → HasBegun (fresh kind (config_in config.now)) (card_of handle.new) }
 {
     if handle.started {
         return SECOND_START;

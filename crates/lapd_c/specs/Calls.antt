@@ -56,7 +56,7 @@ pub record IsCallAt (line : ℕ) (old new : CardHandle) (result : ℕ) : Type 0 
   pub no_card : card_of old ≡ None → (result ≡ status.no_card) × (new ≡ old)
   pub wrong_line : (m : Machine) → Stands old m → (card_in m).config.lines ≤ line → result ≡ status.wrong_line
 
--- The same of a line of a card for octets, and of one for frames: where it is one of the other kind, this is told.
+-- The same of a line of a card of octets, and of one of frames: where it is one of the other kind, this is told.
 pub record IsOctetsCall (line : ℕ) (old new : CardHandle) (result : ℕ) : Type 0 where
   pub handle : IsHandle new
   pub no_card : card_of old ≡ None → (result ≡ status.no_card) × (new ≡ old)

@@ -68,7 +68,7 @@ impl CardHandle {
     }
 }
 
-/// Starts a card for octets, on which no TEI is on any line.
+/// Starts a card of octets, on which no TEI is on any line.
 #[unsafe(no_mangle)]
 pub extern "C" fn lapd_card_start(
     alloc: Global,
@@ -81,7 +81,7 @@ pub extern "C" fn lapd_card_start(
     start(alloc, handle, config, CardKind::Octets)
 }
 
-/// Starts a card for frames, on which no TEI is on any line.
+/// Starts a card of frames, on which no TEI is on any line.
 #[unsafe(no_mangle)]
 pub extern "C" fn lapd_card_start_frames(
     alloc: Global,

@@ -1,4 +1,4 @@
-//! What happens at a card for frames: a frame that comes, a fault in place of one, and the frame that goes next; and on which
+//! What happens at a card of frames: a frame that comes, a fault in place of one, and the frame that goes next; and on which
 //! lines one waits.
 
 ghost use Rattle.std.specs.Prelude.{◌≡◌, ◌≢◌, ◌+◌, ◌≤◌, ◌<◌, true, length, Some, None, IfSome, IfOk, IfErr};

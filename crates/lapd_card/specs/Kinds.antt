@@ -1,4 +1,4 @@
--- The two kinds of cards: for octets, and for whole frames.
+-- The two kinds of cards: of octets, and of whole frames.
 use Rattle.std.specs.Prelude.{◌≡◌, ℕ, List}
 use Rattle.lapd_count.specs.declared.counters.Counters.{Counters}
 use Rattle.model_card.specs.Card.{Card}
@@ -66,7 +66,7 @@ abbrev pub stored : Machine → ℕ
 stored (with_ports m) = of_octets.stored m
 stored (alone m) = of_frames.stored m
 
--- A card for octets stands for a machine; one for frames; one of either kind.
+-- A card of octets stands for a machine; one of frames; one of either kind.
 abbrev pub CardStands : octets.Held Store → OctetCard → Type 0
 CardStands c m = Stands shelf_of c m
 

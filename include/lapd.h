@@ -4,8 +4,8 @@
  * A card takes what comes from its lines and answers with notes for layer 3, orders for timers, and what to send. It
  * is the network's side of its lines or, where `side` of its configuration says so, the user's: a private exchange's
  * end of a trunk. It is one of two kinds, as its start says. Where a driver gives and takes whole frames, as it does
- * over every controller that has flags, stuffed 0s and checks in hardware, it is a card for frames:
- * lapd_card_start_frames. Where it gives and takes the octets of the bit stream, it is a card for octets:
+ * over every controller that has flags, stuffed 0s and checks in hardware, it is a card of frames:
+ * lapd_card_start_frames. Where it gives and takes the octets of the bit stream, it is a card of octets:
  * lapd_card_start.
  *
  * A card has no callbacks, starts no thread, prints nothing, sets no errno, and takes memory in its start alone, as a
@@ -136,8 +136,8 @@ enum {
     LAPD_NO_PLACE = 24,  /* no place for one more timer of the line; tests see none where a card alone orders */
     LAPD_NO_MORE_LINKS = 25, /* the line has no link from that place on */
 
-    /* Of cards for frames. Nothing has changed. */
-    LAPD_WRONG_CARD = 26,  /* a call for octets on a card for frames, or one for frames on a card for octets */
+    /* Of cards of frames. Nothing has changed. */
+    LAPD_WRONG_CARD = 26,  /* a call for octets on a card of frames, or one for frames on a card of octets */
     LAPD_WRONG_CAUSE = 27, /* none of LAPD_ABORT, LAPD_RAGGED, LAPD_SHORT and LAPD_FCS */
     LAPD_NO_FRAME = 28,    /* no frame of the line waits to be sent */
 
@@ -291,18 +291,18 @@ typedef struct lapd_card {
 
 #define LAPD_CARD_NONE { false, LAPD_NULL }
 
-/* Starts a card for octets, on which no TEI is on any line. Takes memory, as only the starts of a card do.
+/* Starts a card of octets, on which no TEI is on any line. Takes memory, as only the starts of a card do.
  * LAPD_SECOND_START, the first bad field (LAPD_BAD_LINES to LAPD_BAD_SIDE) or LAPD_NO_MEMORY: there is no other card than
  * before. */
 LAPD_STATUS lapd_card_start(lapd_card *card, const lapd_config *config);
 
-/* Starts a card for frames in the same way. It takes less memory, as no line of it has room for a frame on its way. */
+/* Starts a card of frames in the same way. It takes less memory, as no line of it has room for a frame on its way. */
 LAPD_STATUS lapd_card_start_frames(lapd_card *card, const lapd_config *config);
 
 /* Ends a card of either kind and gives back all memory that its start took. LAPD_NO_CARD: nothing happens. */
 LAPD_STATUS lapd_card_free(lapd_card *card);
 
-/* ---- What happens at a card for octets. On a card for frames: LAPD_WRONG_CARD ------------------------------------- */
+/* ---- What happens at a card of octets. On a card of frames: LAPD_WRONG_CARD ------------------------------------- */
 
 /* Takes an octet that came from a line, bit 1 (the low bit) first. Controllers of E1 and T1 mostly have the bit that came first
  * as bit 8: turn their octets by lapd_turned, here, at lapd_pull and at lapd_exchange. */
@@ -327,7 +327,7 @@ LAPD_STATUS lapd_pull(lapd_card *card, uint32_t line, uint8_t *octet, lapd_repor
 LAPD_STATUS lapd_exchange(lapd_card *card, uint32_t line, const uint8_t *in, size_t in_length, uint8_t *out,
                           size_t out_length, size_t *steps, lapd_report *report);
 
-/* ---- What happens at a card for frames. On a card for octets: LAPD_WRONG_CARD ------------------------------------- */
+/* ---- What happens at a card of frames. On a card of octets: LAPD_WRONG_CARD ------------------------------------- */
 
 /*
  * A frame came from a line: its octets from the address to the information, without the check, which was good. One with
@@ -444,13 +444,13 @@ typedef struct lapd_head {
 } lapd_head;
 
 /* Which frame a pull of the line began last, as after one whose report says `begun`: it stays until a pull begins
- * another. The length is 0 where no pull has begun one yet. LAPD_WRONG_CARD on a card for frames, which has no pulls. */
+ * another. The length is 0 where no pull has begun one yet. LAPD_WRONG_CARD on a card of frames, which has no pulls. */
 LAPD_STATUS lapd_begun(lapd_card *card, uint32_t line, lapd_head *head);
 
 /* Which frame was heard last at the line, also where it was dropped afterwards, as for a TEI that is not on the line: it stays
  * until the next is. Of one that is too long to be kept the length is n201 and five, whatever it was. The length is 0 where
  * none was heard yet. How many were heard so far, lapd_counters tells: the sum of LAPD_HEARD_I to LAPD_HEARD_UNDEFINED, and
- * LAPD_HEARD_OVERLONG. LAPD_WRONG_CARD on a card for frames, whose caller has each frame that it hands over. */
+ * LAPD_HEARD_OVERLONG. LAPD_WRONG_CARD on a card of frames, whose caller has each frame that it hands over. */
 LAPD_STATUS lapd_heard(lapd_card *card, uint32_t line, lapd_head *head);
 
 /*
@@ -507,11 +507,11 @@ struct lapd_counters {
  * changes nothing. */
 LAPD_STATUS lapd_counters(lapd_card *card, uint32_t line, struct lapd_counters *counters);
 
-/* How many octets the card stores now, of frames, messages and contents; at most lapd_limit's. A card for frames stores
+/* How many octets the card stores now, of frames, messages and contents; at most lapd_limit's. A card of frames stores
  * none of frames that come and go. */
 LAPD_STATUS lapd_stored(lapd_card *card, uint32_t *octets);
 
-/* How many octets a card for octets of this configuration stores at most, and so also one for frames, which stores less. */
+/* How many octets a card of octets of this configuration stores at most, and so also one of frames, which stores less. */
 LAPD_STATUS lapd_limit(lapd_card *card, uint32_t *octets);
 
 /* How many lines the card has. */
@@ -584,7 +584,7 @@ LAPD_INLINE uint64_t lapd_block_octets(uint64_t octets) {
     return (octets + 15) / 16 * 16 + 16;
 }
 
-/* So many octets of memory are enough for the start of a card for frames whose configuration is in range, by blocks as above.
+/* So many octets of memory are enough for the start of a card of frames whose configuration is in range, by blocks as above.
  * This is no promise of the proofs: tests start cards in so many, on a target with 8 octets a pointer. */
 LAPD_INLINE uint64_t lapd_card_octets_frames(const lapd_config *config) {
     uint64_t lines = config->lines, slots = config->slots, links = 2u * config->terminals;
@@ -595,7 +595,7 @@ LAPD_INLINE uint64_t lapd_card_octets_frames(const lapd_config *config) {
            + lapd_block_octets(slots * config->n201) + lapd_block_octets(32 * lines);
 }
 
-/* The same of a card for octets, which has room besides for a frame that comes and one that goes on each line. */
+/* The same of a card of octets, which has room besides for a frame that comes and one that goes on each line. */
 LAPD_INLINE uint64_t lapd_card_octets(const lapd_config *config) {
     uint64_t lines = config->lines, frame = config->n201 + 6u;
     uint64_t port = lapd_block_octets(frame) + lapd_block_octets(frame * 6 / 5 + 2);

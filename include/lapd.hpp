@@ -332,7 +332,7 @@ protected:
     lapd_card card_ = LAPD_CARD_NONE;
 };
 
-/// A card for octets.
+/// A card of octets.
 class card : public any_card {
 public:
     status start(const lapd_config &config) { return of(lapd_card_start(&card_, &config)); }
@@ -345,7 +345,7 @@ public:
     status heard(uint32_t line, lapd_head &to) { return of(lapd_heard(&card_, line, &to)); }
 };
 
-/// A card for frames.
+/// A card of frames.
 class frame_card : public any_card {
 public:
     status start(const lapd_config &config) { return of(lapd_card_start_frames(&card_, &config)); }

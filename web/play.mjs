@@ -19,7 +19,7 @@ function greatestDivisor(a, b) {
   return a;
 }
 
-/** What a frame that comes to a card for frames is heard as. */
+/** What a frame that comes to a card of frames is heard as. */
 function whole(octets) {
   const least = octets.length > 2 && (octets[2] & 3) === 3 ? 3 : 4;
   return octets.length >= least ? { octets } : { cause: "short", octets, bits: 8 * octets.length };

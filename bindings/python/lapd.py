@@ -561,7 +561,7 @@ class AnyCard(_Owner):
 
 
 class Card(AnyCard):
-    """A card for octets."""
+    """A card of octets."""
 
     _start = "lapd_card_start"
 
@@ -596,7 +596,7 @@ class Card(AnyCard):
 
 
 class FrameCard(AnyCard):
-    """A card for frames."""
+    """A card of frames."""
 
     _start = "lapd_card_start_frames"
 

@@ -18,10 +18,10 @@ void pcap_frame(FILE *to, uint64_t milliseconds, bool is_sent, uint16_t side, co
                 size_t length);
 
 /* Before pcap_heads of a line is called first: sets *heard to the number of frames that were heard there until now.
- * False: there is no such card for octets, or no such line. */
+ * False: there is no such card of octets, or no such line. */
 bool pcap_begin_heads(lapd_card *card, uint32_t line, uint64_t *heard);
 
-/* Of a line of a card for octets: the frame that was heard last, where one was heard since the call before, and the one
+/* Of a line of a card of octets: the frame that was heard last, where one was heard since the call before, and the one
  * that a pull began, where its report says so; of each its first four octets. To be called with each report, and with
  * no more than four octets each way between two calls: no two frames end in so few. False: more than one frame was
  * heard meanwhile, and only the last of them is written; or there is no such card or line. */

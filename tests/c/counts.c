@@ -2,7 +2,7 @@
  * counts.c: what is counted of lines to which things happen at random: frames of every kind, whole, too long, too short,
  * and with a wrong check; timers, requests and pulls. Each counter is counted here again (counting.c), from what was sent to the
  * card, from what its reports tell, and from which frames began or were given. What began is pulled to its end, as the head of a
- * frame has no message. The card is one for octets, or for frames. For tests alone.
+ * frame has no message. The card is one of octets, or of frames. For tests alone.
  *
  *     counts SEED KIND [user]   status 1 where a counter is another, or where hardly any name has something; KIND is octets
  *                               or frames; user where the card is the user's side
@@ -42,7 +42,7 @@ static void pull(uint32_t line) {
         count_message(&counted[line], true, listeners[line].frame, listeners[line].length);
 }
 
-/* At a card for frames. */
+/* At a card of frames. */
 static void take_next(uint32_t line) {
     uint8_t octets[LAPD_MOST_FRAME];
     size_t length;

@@ -1,7 +1,7 @@
 /*
- * frames.c: cards for frames, with bad input of every kind. Frames of each length, faults at any time, a room that is too
+ * frames.c: cards of frames, with bad input of every kind. Frames of each length, faults at any time, a room that is too
  * small, calls of the other kind and buffers that come back: each leads to what lapd.h says, and a wrong call changes
- * nothing. Then a card for frames and one for octets, to which random things happen alike, tell the same, send the same
+ * nothing. Then a card of frames and one of octets, to which random things happen alike, tell the same, send the same
  * frames in the same order, and count the same. For tests alone.
  */
 #include <stdio.h>

@@ -4,7 +4,7 @@
  *
  * - Configurations: fault_of finds the field that the machine's start finds, at each edge and at random.
  * - Octets: a frame or contents of more octets than a call hands over are answered as their first ones are.
- * - Stack: none of that, nor the start of a large card for octets, takes half of the stack in a machine's memory, which is
+ * - Stack: none of that, nor the start of a large card of octets, takes half of the stack in a machine's memory, which is
  *   filled there and looked at afterwards.
  */
 #include "lapd.c"
@@ -79,7 +79,7 @@ static void configurations(void) {
 
 enum { LONGEST = 2000 };
 
-/* A machine with a card for frames, a link that is up, and room at its end for octets. */
+/* A machine with a card of frames, a link that is up, and room at its end for octets. */
 static machine *with_link(const lapd_config *config) {
     static const u8 sabme[] = {0x00, 0x81, 0x7F};
     machine *instance = filled(lapd_card_octets(config) + LONGEST);

@@ -1,7 +1,7 @@
 /*
  * interop_trunk.c: a real network against the user's side of a card. libpri, the ISDN stack of a widespread PBX, is the
  * network side of a primary rate access, point to point, with TEI 0, at one end of a socket with one frame a datagram.
- * At the other end is a card for frames through the C library, as the user's side: the private exchange's end of the
+ * At the other end is a card of frames through the C library, as the user's side: the private exchange's end of the
  * trunk. One frame in twelve is lost each way, by a seed, whatever it is.
  *
  * Layer 3 of the card sends STATUS ENQUIRY after STATUS ENQUIRY, each with a call reference of its own, which libpri

@@ -1,7 +1,7 @@
 /*
  * page.c: a loop of docs/EMBEDDING.md as a program. tests/c/run puts what the page shows into the file PAGE. Standard
- * input is the line. At a card for octets it is an octet every ten milliseconds: each note and each drop is printed at once,
- * and the octets that go out are printed at the end. At a card for frames (FRAMES) it is the octets of a frame behind their
+ * input is the line. At a card of octets it is an octet every ten milliseconds: each note and each drop is printed at once,
+ * and the octets that go out are printed at the end. At a card of frames (FRAMES) it is the octets of a frame behind their
  * number, or 0, ten milliseconds in which none comes: each frame that goes out is printed at once, too.
  */
 #include <stdio.h>

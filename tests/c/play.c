@@ -142,7 +142,7 @@ static void pull(station *b, uint32_t line, uint32_t count) {
     put_given(b, line, octets, count);
 }
 
-/* ---- A card for frames ---------------------------------------------------------------------------------------------- */
+/* ---- A card of frames ---------------------------------------------------------------------------------------------- */
 
 static void take_frame(station *b, uint32_t line, const command *c) {
     static lapd_report report;

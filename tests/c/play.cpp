@@ -125,7 +125,7 @@ void station::tell(uint32_t line) {
         want_ok(clock_.apply(line, report_, now_), "orders");
 }
 
-// ---- A card for octets ----------------------------------------------------------------------------------------------
+// ---- A card of octets ----------------------------------------------------------------------------------------------
 
 void station::receive(uint32_t line, uint8_t octet) {
     want_ok(octets_->octet(line, octet, report_), "octet");
@@ -164,7 +164,7 @@ void station::pull(uint32_t line, uint32_t count) {
         }
 }
 
-// ---- A card for frames ----------------------------------------------------------------------------------------------
+// ---- A card of frames ----------------------------------------------------------------------------------------------
 
 void station::take_frame(uint32_t line, const command &of) {
     if (of.verb == FAILED)

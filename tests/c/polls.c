@@ -1,5 +1,5 @@
 /*
- * polls.c: a terminal with TEI 64 polls (RR command, P=1) at a card for frames, and each is answered. For tests alone, which
+ * polls.c: a terminal with TEI 64 polls (RR command, P=1) at a card of frames, and each is answered. For tests alone, which
  * count the instructions and the time.
  *
  *     polls POLLS [clock]

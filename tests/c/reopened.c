@@ -1,7 +1,7 @@
 /*
  * reopened.c: a link on which contents were refused because its queue was full is told once, when it has room again. What a
  * report has to say is found here by lapd_room, over random requests, frames and timers at links with room for two, and at
- * a card for octets. For tests alone.
+ * a card of octets. For tests alone.
  */
 #include <stdio.h>
 #include <string.h>
@@ -139,7 +139,7 @@ static void happens(void) {
     }
 }
 
-/* At a card for octets: each octet, each pull, and exchanges of several octets tell alike. */
+/* At a card of octets: each octet, each pull, and exchanges of several octets tell alike. */
 static hdlc_sender senders[LINES];
 
 static void exchange(uint32_t line) {

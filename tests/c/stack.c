@@ -117,7 +117,7 @@ static void hear(hdlc_sender *sender, const uint8_t *frame, size_t length, size_
     }
 }
 
-/* The same of a card for frames: what comes, and what is then sent. */
+/* The same of a card of frames: what comes, and what is then sent. */
 static void frames(const uint8_t *const *come, const size_t *lengths, size_t count) {
     size_t takes = 0, gives = 0;
     show("lapd_card_start_frames", within(MOST_OF_START, frames_start));

@@ -1,5 +1,5 @@
 /*
- * threads.c: cards of several threads have nothing in common. Each thread has a card for frames and a clock of its own, and
+ * threads.c: cards of several threads have nothing in common. Each thread has a card of frames and a clock of its own, and
  * holds the same conversation on them again and again; each time it must hear the same. For tests alone, with lapd.c.
  */
 #include <pthread.h>

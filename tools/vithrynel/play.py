@@ -20,7 +20,7 @@ class Step(NamedTuple):
 
     line: Line
     at: int  # the clock after it, in milliseconds
-    octets: bytes  # those that came from the other side, or went to it; of a card for frames those of the frame
+    octets: bytes  # those that came from the other side, or went to it; of a card of frames those of the frame
     heard: List[Heard]  # what ended in them
     answer: List[str]
     is_of_network: bool  # what ended in them is what the network sent; else what the user did
@@ -129,7 +129,7 @@ class Play:
 
 
 def whole(octets: bytes) -> Heard:
-    """What a frame that comes to a card for frames is heard as."""
+    """What a frame that comes to a card of frames is heard as."""
     least = 3 if octets[2:3] and octets[2] & 3 == 3 else 4
     return Frame(octets) if len(octets) >= least else Drop("short", octets, 8 * len(octets))
 

@@ -11,7 +11,7 @@ use Rattle.model_card.specs.ports.Event as octet_event
 use Rattle.model_card.specs.ports.Port as port
 use Rattle.lapd_c.proofs.Contents.{contents_fit, contents_told, replies_fit}
 
--- the card that C holds, where it lies; of either kind, for octets, for frames
+-- the card that C holds, where it lies; of either kind, of octets, of frames
 pub there : {held : HeldCard} {kept : KeptCard} → held ≡ Some kept → (m : Machine) → StandsIn held m → AnyStands kept.card m
 there is m s = subst (λ h. StandsIn h m) is s
 

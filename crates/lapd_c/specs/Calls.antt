@@ -9,7 +9,9 @@ use Rattle.model_line.specs.declared.config.Config.{Config}
 use Rattle.model_line.specs.Refusal.{refusal}
 use Rattle.model_line.specs.Request.{Request}
 use Rattle.lapd_frame.specs.declared.refusals.Refusal.{Refusal}
-use Rattle.lapd_card.specs.Kinds.{CardKind, Machine, with_ports, alone, card_in, AnyStands, counters_of, for_octets, for_frames}
+use Rattle.lapd_card.specs.Kinds.{Machine, with_ports, alone, card_in, AnyStands, counters_of}
+use Rattle.lapd_card.specs.declared.kinds.CardKind.{CardKind}
+use Rattle.lapd_card.specs.declared.kinds.CardKind.TheVariants as kinds
 use Rattle.lapd_c.specs.declared.card.CardHandle.{CardHandle}
 use Rattle.lapd_c.specs.declared.kept.KeptCard.{KeptCard}
 use Rattle.lapd_c.specs.declared.plain.config.PlainConfig.{PlainConfig}
@@ -24,8 +26,8 @@ use Rattle.lapd_c.specs.Statuses as status
 
 -- The machine of a card that begins, by its kind.
 abbrev pub fresh : CardKind → Config → Machine
-fresh for_octets c = with_ports (octets.fresh c)
-fresh for_frames c = alone (frames.fresh c)
+fresh kinds.Octets c = with_ports (octets.fresh c)
+fresh kinds.Frames c = alone (frames.fresh c)
 
 -- As a card begins, it stands for a machine, nothing is counted, and no link waits for room.
 pub record Begins (m : Machine) (kept : KeptCard) : Type 0 where
@@ -54,17 +56,17 @@ pub record IsCallAt (line : ℕ) (old new : CardHandle) (result : ℕ) : Type 0 
   pub no_card : card_of old ≡ None → (result ≡ status.no_card) × (new ≡ old)
   pub wrong_line : (m : Machine) → Stands old m → (card_in m).config.lines ≤ line → result ≡ status.wrong_line
 
--- The same of a line of a card for octets, and of one for frames: where it is one of the other kind, this is told.
+-- The same of a line of a card of octets, and of one of frames: where it is one of the other kind, this is told.
 pub record IsOctetsCall (line : ℕ) (old new : CardHandle) (result : ℕ) : Type 0 where
   pub handle : IsHandle new
   pub no_card : card_of old ≡ None → (result ≡ status.no_card) × (new ≡ old)
-  pub wrong_card : kind_in old ≡ Some for_frames → result ≡ status.wrong_card
+  pub wrong_card : kind_in old ≡ Some kinds.Frames → result ≡ status.wrong_card
   pub wrong_line : (m : OctetCard) → OctetsStand old m → m.card.config.lines ≤ line → result ≡ status.wrong_line
 
 pub record IsFramesCall (line : ℕ) (old new : CardHandle) (result : ℕ) : Type 0 where
   pub handle : IsHandle new
   pub no_card : card_of old ≡ None → (result ≡ status.no_card) × (new ≡ old)
-  pub wrong_card : kind_in old ≡ Some for_octets → result ≡ status.wrong_card
+  pub wrong_card : kind_in old ≡ Some kinds.Octets → result ≡ status.wrong_card
   pub wrong_line : (m : Card) → FramesStand old m → m.config.lines ≤ line → result ≡ status.wrong_line
 
 -- What holds of each machine that stands for a card with this line: one of either kind, of octets, of frames.

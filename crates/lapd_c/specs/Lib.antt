@@ -32,7 +32,7 @@ pub mod Counted
 pub mod Calls
 -- the words of the contracts, from where they are defined
 pub use Rattle.lapd_card.specs.Counted.{counters_in}
-pub use Rattle.lapd_card.specs.Kinds.{alone, card_in, CardStands, for_frames, for_octets, FrameCardStands, Machine, shelf_of, with_ports}
+pub use Rattle.lapd_card.specs.Kinds.{alone, card_in, CardStands, FrameCardStands, Machine, shelf_of, with_ports}
 pub use Rattle.lapd_card.specs.Ports.{told_at}
 pub use Rattle.lapd_card.specs.Stands.{Leads}
 pub use Rattle.lapd_card.specs.Waiting.{IsFirstWaiting, has_next, next_waiting}
@@ -50,7 +50,7 @@ pub use Rattle.model_card.specs.ports.Stored.{limit}
 pub use Rattle.model_line.specs.Config.{first_fault}
 pub use Rattle.model_line.specs.Event.{nothing}
 pub use Rattle.lapd_c.specs.Answers.{octet_of, ShowsAnswer, ShowsReply}
-pub use Rattle.lapd_c.specs.Calls.{Begins, FramesWithLine, fresh, IsCall, IsCallAt, IsCardStart, IsFramesCall, IsOctetsCall, IsReopened, OctetsWithLine, refusal_at, WithLine}
+pub use Rattle.lapd_c.specs.Calls.{Begins, FramesWithLine, fresh, HasBegun, IsCall, IsCallAt, IsCardStart, IsFramesCall, IsOctetsCall, IsReopened, OctetsWithLine, refusal_at, WithLine}
 pub use Rattle.lapd_c.specs.Starts.{IsStart}
 pub use Rattle.lapd_c.specs.Cards.{card_of, FramesStand, IsHandle, kind_in, marks_at, OctetsStand, served_card, Stands}
 pub use Rattle.lapd_c.specs.Config.{config_fault, config_in, side_in}

@@ -3,7 +3,8 @@
 ghost use Rattle.std.specs.Borrow.{sem};
 ghost use Rattle.std.specs.Option.{option_copied_mut};
 ghost use Rattle.std.specs.Prelude.{◌≡◌, Some, None, IfSome, IfNone, option_map};
-ghost use Rattle.lapd_c.specs.{first_fault, for_octets, for_frames, fresh, Begins, IsCall, IsCardStart, card_of, IsHandle};
+ghost use Rattle.lapd_c.specs.{first_fault, config_in, fresh, Begins, HasBegun, IsCall, IsStart, IsCardStart, card_of, IsHandle};
+ghost use Rattle.lapd_card.specs.declared.kinds.CardKind.TheVariants as kinds;
 ghost use Rattle.lapd_c.specs.Statuses as status;
 
 use crate::card_slot::CardSlot;
@@ -67,7 +68,7 @@ impl CardHandle {
     }
 }
 
-/// Starts a card for octets, on which no TEI is on any line.
+/// Starts a card of octets, on which no TEI is on any line.
 #[unsafe(no_mangle)]
 pub extern "C" fn lapd_card_start(
     alloc: Global,
@@ -75,12 +76,12 @@ pub extern "C" fn lapd_card_start(
     config: &PlainConfig,
 ) -> u32
     requires { IsHandle handle.old }
-    ensures { IsCardStart for_octets config.now handle.old handle.new result }
+    ensures { IsCardStart kinds.Octets config.now handle.old handle.new result }
 {
     start(alloc, handle, config, CardKind::Octets)
 }
 
-/// Starts a card for frames, on which no TEI is on any line.
+/// Starts a card of frames, on which no TEI is on any line.
 #[unsafe(no_mangle)]
 pub extern "C" fn lapd_card_start_frames(
     alloc: Global,
@@ -88,7 +89,7 @@ pub extern "C" fn lapd_card_start_frames(
     config: &PlainConfig,
 ) -> u32
     requires { IsHandle handle.old }
-    ensures { IsCardStart for_frames config.now handle.old handle.new result }
+    ensures { IsCardStart kinds.Frames config.now handle.old handle.new result }
 {
     start(alloc, handle, config, CardKind::Frames)
 }
@@ -96,7 +97,9 @@ pub extern "C" fn lapd_card_start_frames(
 // Starts a card of a kind.
 fn start(alloc: Global, handle: &mut CardHandle, config: &PlainConfig, kind: CardKind) -> u32
     requires { IsHandle handle.old }
-    ensures { IsCardStart kind config.now handle.old handle.new result }
+    ensures handle { IsHandle handle.new }
+    ensures start { IsStart card_of config.now handle.old handle.new result }
+    ensures begun { result ≡ status.ok → HasBegun (fresh kind (config_in config.now)) (card_of handle.new) }
 {
     if handle.started {
         return SECOND_START;

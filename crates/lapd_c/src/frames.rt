@@ -1,11 +1,12 @@
-//! What happens at a card for frames: a frame that comes, a fault in place of one, and the frame that goes next; and on which
+//! What happens at a card of frames: a frame that comes, a fault in place of one, and the frame that goes next; and on which
 //! lines one waits.
 
 ghost use Rattle.std.specs.Prelude.{◌≡◌, ◌≢◌, ◌==◌, if◌then◌else◌, ◌+◌, ◌≤◌, ◌<◌, true, length, Some, None, IfSome, IfOk, IfErr};
-ghost use Rattle.lapd_c.specs.{FramesWithLine, IsFirstWaiting, has_next, next_waiting, IsCall, IsFramesCall, IsReopened, ShowsAnswer, ShowsPull, card_of, kind_in, marks_at, IsHandle, FramesStand, Counts, counters_at, for_octets, comes, fails, goes, next_at, IsGiven};
+ghost use Rattle.lapd_c.specs.{FramesWithLine, IsFirstWaiting, has_next, next_waiting, IsCall, IsFramesCall, IsReopened, ShowsAnswer, ShowsPull, card_of, kind_in, marks_at, IsHandle, FramesStand, Counts, counters_at, comes, fails, goes, next_at, IsGiven};
 ghost use Rattle.model_card.specs.Card as machine;
 ghost use Rattle.model_card.specs.Machine.{after, answer};
 ghost use Rattle.lapd_c.specs.Faults.{fault_in};
+ghost use Rattle.lapd_card.specs.declared.kinds.CardKind.TheVariants as kinds;
 ghost use Rattle.lapd_c.specs.Statuses as status;
 
 use crate::card::CardHandle;
@@ -87,7 +88,7 @@ pub extern "C" fn lapd_next_frame(
     ensures stays { (m : machine.Card) → FramesStand handle.old m → result ≢ status.ok → FramesStand handle.new m }
     ensures uncounted { (m : machine.Card) → FramesStand handle.old m → result ≢ status.ok
         → counters_at handle.new ≡ counters_at handle.old }
-    ensures other_card { kind_in handle.old ≡ Some for_octets → card_of handle.new ≡ card_of handle.old }
+    ensures other_card { kind_in handle.old ≡ Some kinds.Octets → card_of handle.new ≡ card_of handle.old }
     ensures wrong_length { FramesWithLine line handle.old (λ m. length out.old < m.config.n201 + 4
         → result ≡ status.wrong_length) }
     ensures none { FramesWithLine line handle.old (λ m. m.config.n201 + 4 ≤ length out.old → next_at line m ≡ None
@@ -121,7 +122,7 @@ pub extern "C" fn lapd_next_waiting(handle: &mut CardHandle, from: u32, line: &m
     ensures call { IsCall handle.old handle.new result }
     ensures unchanged { card_of handle.new ≡ card_of handle.old }
     ensures untold { result ≢ status.ok → line.new ≡ line.old }
-    ensures wrong_card { kind_in handle.old ≡ Some for_octets → result ≡ status.wrong_card }
+    ensures wrong_card { kind_in handle.old ≡ Some kinds.Octets → result ≡ status.wrong_card }
     ensures none { (m : machine.Card) → FramesStand handle.old m → next_waiting from m ≡ None → result ≡ status.no_frame }
     ensures told { (m : machine.Card) → FramesStand handle.old m
         → IfSome (next_waiting from m) (λ next. (result ≡ status.ok) × (line.new ≡ next)) }

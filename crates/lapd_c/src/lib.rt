@@ -19,8 +19,8 @@
 //!
 //! `tests/c/run` and `tests/c/declared`: starts; that all memory is given back; that structs, prototypes and
 //! statuses are as `lapd.h` has them, and its inline functions; every stored script, call by call and by
-//! `lapd_exchange`; that a card for frames and one for octets, to which the same happens at random, tell the same;
-//! that a gateway of 64 lines runs a day with terminals that nobody here wrote. On demand these also beside a card for
+//! `lapd_exchange`; that a card of frames and one of octets, to which the same happens at random, tell the same;
+//! that a gateway of 64 lines runs a day with terminals that nobody here wrote. On demand these also beside a card of
 //! octets and at a trunk (`tests/interop`).
 //!
 //! # Open

@@ -1,4 +1,4 @@
-//! What happens at a card for octets: one that comes, and one that goes; which frame a pull began, and which was heard last.
+//! What happens at a card of octets: one that comes, and one that goes; which frame a pull began, and which was heard last.
 
 ghost use Rattle.std.specs.Prelude.{◌≡◌, ◌≢◌};
 ghost use Rattle.lapd_c.specs.{OctetsWithLine, head_begun_at, head_heard_at, plain_head, IsOctetsCall, IsReopened, ShowsReply, octet_of, card_of, IsHandle, OctetsStand, CountsMeaning, counters_at};

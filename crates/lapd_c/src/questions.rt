@@ -38,7 +38,7 @@ pub extern "C" fn lapd_state(
     OK
 }
 
-/// How many octets the card stores now. A card for frames has none of frames on their way.
+/// How many octets the card stores now. A card of frames has none of frames on their way.
 #[unsafe(no_mangle)]
 pub extern "C" fn lapd_stored(handle: &mut CardHandle, octets: &mut u32) -> u32
     requires { IsHandle handle.old }

@@ -14,7 +14,7 @@ use Rattle.lapd_card.specs.Stands as octets_stand
 use Rattle.lapd_card.proofs.OneOctet.{IsPassedOn, meant_is, passed_after}
 use Rattle.lapd_card.specs.Kinds as kinds
 
--- what holds of each machine for which a card for octets stands, or one for frames
+-- what holds of each machine for which a card of octets stands, or one of frames
 pub by_octets : (P : Machine → Type 0) {card : AnyCard} {c : octets.Held Store} → card ≡ Octets c → ((m : OctetCard) → CardStands c m → P (with_ports m)) → (m : Machine) → AnyStands card m → P m
 by_octets P {card} {c} is h m s = go m (subst (λ card. AnyStands card m) is s)
   where
@@ -44,7 +44,7 @@ frames_lead {e} {card} {old} {new} is leads = subst (λ card. AnyLeads e card (F
   counted = by_frames (λ m. counters_in new.lines ≡ moment_counted (counters_in old.lines) (moment_of (card_in m) e)) refl leads.counted;
 })
 
--- a card for octets passes it on
+-- a card of octets passes it on
 module _ {e : port.Event} {f : line.Event} (on : IsPassedOn e f) where
   pub octets_lead : {i : ℕ} {card : AnyCard} {old new : octets.Held Store} → card ≡ Octets old → octets_stand.Leads shelf_of (octet_event.at i e) old new → AnyLeads (at i f) card (Octets new)
   octets_lead {i} {card} {old} {new} is leads = subst (λ card. AnyLeads (at i f) card (Octets new)) (sym is) (record {

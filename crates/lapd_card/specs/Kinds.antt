@@ -1,4 +1,4 @@
--- The two kinds of cards: for octets, and for whole frames.
+-- The two kinds of cards: of octets, and of whole frames.
 use Rattle.std.specs.Prelude.{◌≡◌, ℕ, List}
 use Rattle.lapd_count.specs.declared.counters.Counters.{Counters}
 use Rattle.model_card.specs.Card.{Card}
@@ -18,12 +18,12 @@ use Rattle.lapd_card.specs.FrameStands.{FrameStands}
 use Rattle.lapd_card.specs.Stands.{Stands}
 use Rattle.lapd_card.specs.declared.kinds.AnyCard.{AnyCard}
 use Rattle.lapd_card.specs.declared.kinds.AnyCard.TheVariants.{Octets, Frames}
-pub use Rattle.lapd_card.specs.declared.kinds.CardKind.{CardKind}
-pub use Rattle.lapd_card.specs.declared.kinds.CardKind.TheVariants.{Octets as for_octets, Frames as for_frames}
+use Rattle.lapd_card.specs.declared.kinds.CardKind.{CardKind}
+use Rattle.lapd_card.specs.declared.kinds.CardKind.TheVariants as kinds
 
 abbrev pub kind_of : AnyCard → CardKind
-kind_of (Octets card) = for_octets
-kind_of (Frames card) = for_frames
+kind_of (Octets card) = kinds.Octets
+kind_of (Frames card) = kinds.Frames
 
 -- The card of frames: itself, or the one inside; its configuration, and the counters of its lines.
 abbrev pub frames_of : AnyCard → frames.Held Store
@@ -66,7 +66,7 @@ abbrev pub stored : Machine → ℕ
 stored (with_ports m) = of_octets.stored m
 stored (alone m) = of_frames.stored m
 
--- A card for octets stands for a machine; one for frames; one of either kind.
+-- A card of octets stands for a machine; one of frames; one of either kind.
 abbrev pub CardStands : octets.Held Store → OctetCard → Type 0
 CardStands c m = Stands shelf_of c m
 

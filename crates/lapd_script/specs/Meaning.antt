@@ -12,7 +12,7 @@ use Rattle.lapd_script.specs.declared.command.Command.TheVariants.{Skip, Card, R
 pub data Meaning : Type 0 where
   -- nothing: the line is skipped
   skip : Meaning
-  -- a card for octets, or for frames, is started with this configuration
+  -- a card of octets, or of frames, is started with this configuration
   card : CardKind → Config → Meaning
   -- these octets come from the line of the card
   rx : ℕ → List ℕ → Meaning

@@ -32,7 +32,7 @@ pub enum FaultKind {
     WrongCard,
     /// The card does not have the line.
     BadLine,
-    /// The frame of an `in` has fewer than 3 or more than 1,028 octets, at a card for octets.
+    /// The frame of an `in` has fewer than 3 or more than 1,028 octets, at a card of octets.
     BadFrame,
     /// The clock would pass `2^63 - 1` ms.
     TimeOver,

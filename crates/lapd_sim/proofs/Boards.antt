@@ -8,6 +8,7 @@ use Rattle.lapd_card.specs.Stands as octets
 use Rattle.lapd_card.specs.FrameCard as frames_card
 use Rattle.lapd_card.specs.FrameStands as frames
 use Rattle.lapd_card.specs.Kinds as kinds
+use Rattle.lapd_card.specs.declared.kinds.CardKind.TheVariants as variants
 use Rattle.lapd_card.proofs.OneOctet.{IsPassedOn, expiry_passes, request_passes, meant_is, passed_after, passed_answer}
 use Rattle.lapd_count.specs.declared.counters.Counters.{Counters}
 use Rattle.lapd_frame.specs.declared.timers.Timer.{Timer}
@@ -118,8 +119,8 @@ module _ {w : What} {e : port.Event} {f : line_event.Event} (both : IsOfBoth w e
         ∙ ap (λ o. counts.all_counted (counters_of (Octets old)) (option_to_list (option_map (frame_moment b.card) o))) (sym (meant_is both.passes line b.card))
         ∙ octets_counted line w e both.octets (counters_of (Octets old)) b on.kind;
   }
-  lead_on (Octets old) (Frames new) leads = let is : kinds.for_frames ≡ kinds.for_octets = leads.kind in absurd (cc)
-  lead_on (Frames old) (Octets new) leads = let is : kinds.for_octets ≡ kinds.for_frames = leads.kind in absurd (cc)
+  lead_on (Octets old) (Frames new) leads = let is : variants.Frames ≡ variants.Octets = leads.kind in absurd (cc)
+  lead_on (Frames old) (Octets new) leads = let is : variants.Octets ≡ variants.Frames = leads.kind in absurd (cc)
   lead_on (Frames old) (Frames new) leads = record {
     kind = refl;
     config = leads.config;

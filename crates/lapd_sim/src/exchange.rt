@@ -27,7 +27,7 @@ impl Setup {
     ghost use Rattle.lapd_sim.specs.{Answers, Says, after_rx, at, at_expiry, downs, expiry, octet_in, pull, pulls, reply, request_of, teis_on, until, with_event, with_events};
     ghost use Rattle.lapd_sim.specs.Stands.{Stands};
 
-    /// Octets come from a line of a card for octets.
+    /// Octets come from a line of a card of octets.
     pub(crate) fn hear<T: Target>(&mut self, line: usize, octets: &[u8], page: &mut Page<T>) -> Put
         requires kind { kind_of self.old.board ≡ Octets }
         requires line { line < self.old.config.lines }
@@ -39,7 +39,7 @@ impl Setup {
         Ok(())
     }
 
-    /// An octet comes from a line of a card for octets.
+    /// An octet comes from a line of a card of octets.
     fn octet<T: Target>(&mut self, line: usize, octet: u8, page: &mut Page<T>) -> Put
         requires kind { kind_of self.old.board ≡ Octets }
         requires line { line < self.old.config.lines }
@@ -59,7 +59,7 @@ impl Setup {
         }
     }
 
-    /// A line of a card for octets takes as many octets as there is room for.
+    /// A line of a card of octets takes as many octets as there is room for.
     pub(crate) fn pull_all(&mut self, line: usize, room: &mut [u8])
         requires kind { kind_of self.old.board ≡ Octets }
         requires line { line < self.old.config.lines }
@@ -75,7 +75,7 @@ impl Setup {
         }
     }
 
-    /// A line of a card for octets takes one.
+    /// A line of a card of octets takes one.
     fn next_octet(&mut self, line: usize) -> u8
         requires kind { kind_of self.old.board ≡ Octets }
         requires line { line < self.old.config.lines }

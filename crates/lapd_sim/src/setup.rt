@@ -131,7 +131,7 @@ impl Setup {
         written(self.hear(line, octets, page))
     }
 
-    /// A frame comes from a line. At a card for octets the terminal of the line sends it, up to and with the last bit of its
+    /// A frame comes from a line. At a card of octets the terminal of the line sends it, up to and with the last bit of its
     /// closing flag.
     fn come<T: Target>(&mut self, line: u16, frame: &[u8], page: &mut Page<T>) -> Obeyed
         ensures { Answers result self.old self.new (on T.taken page.old) (on T.taken page.new) (meaning.into line frame.now) }

@@ -1,4 +1,4 @@
--- Two cards for octets on one circuit, and worked values of them.
+-- Two cards of octets on one circuit, and worked values of them.
 pub mod Circuit
 pub mod Through
 pub mod Beats

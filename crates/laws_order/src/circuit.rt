@@ -1,4 +1,4 @@
-//! Laws of two cards for octets on one circuit: a line of a card of the network's side faces a line of one of the
+//! Laws of two cards of octets on one circuit: a line of a card of the network's side faces a line of one of the
 //! user's, and each hears the octets that the other's pulls give, one by one. There is nothing to call: each law is the
 //! contract of a function that does nothing.
 //!
@@ -7,14 +7,14 @@
 //! `WorkedMixed`). `Damaged` has two cards between which octets are changed, lost or added, and at which anything
 //! happens; `WorkedDamaged` a run that meets its premise, and one that breaks what it says without. Where all has gone
 //! in a call, `Damaged` holds from there on (`Resting`); `Mixed` and `MixedCall` have a card of frames that faces one
-//! for octets. What a card for octets does at an event is the machine of `model_card::ports`. That a run of octets is,
+//! of octets. What a card of octets does at an event is the machine of `model_card::ports`. That a run of octets is,
 //! at the cards inside, a run of frames as `laws_wire` or `laws_order` has them, is shown in
 //! `proofs/OfCircuit/Projected` and `Damaged`; that frames come in so many beats, in `Comes` there.
 //!
 //! # Open
 //!
 //! That all is told in the end where octets are damaged or timers expire; calls that begin elsewhere than from nothing;
-//! how long a call takes between a card of frames and one for octets.
+//! how long a call takes between a card of frames and one of octets.
 
 ghost use Rattle.laws_order.specs.circuit.Beats.{AllIsToldInBeats};
 ghost use Rattle.laws_order.specs.circuit.Damaged.{DeliveredThoughDamaged};
@@ -23,7 +23,7 @@ ghost use Rattle.laws_order.specs.circuit.MixedCall.{CallsAreOfFrames, CallsCome
 ghost use Rattle.laws_order.specs.circuit.Resting.{CallsComeToRest};
 ghost use Rattle.laws_order.specs.circuit.Through.{CallsComeThroughInOctets};
 
-/// A call comes through, octet by octet. Two cards for octets have just begun, one of each side, with configurations in
+/// A call comes through, octet by octet. Two cards of octets have just begun, one of each side, with configurations in
 /// range and the same N201, and a line of one faces a line of the other; each has the same TEI assigned, 0 to 126, and
 /// layer 3 of one asks for the establishment of a link, of either service. Then layer 3 of either end asks to establish
 /// it, too, or to send octets as data on it, as it is granted or refused; an end's next octet is pulled and goes on its
@@ -47,7 +47,7 @@ pub fn all_is_told_in_beats()
     ensures { AllIsToldInBeats }
 {}
 
-/// What is delivered is in order, though octets are damaged. A line of a card for octets of one side faces a line of
+/// What is delivered is in order, though octets are damaged. A line of a card of octets of one side faces a line of
 /// one of the other, and the links of a service and TEI are in step there, as [`crate::delivered_in_order`] has them,
 /// to whoever watches the cards of frames inside, to which what happened is what their octets meant. Then anything
 /// happens at both: requests of any kind, expiries, pulls, octets of any value that come, and any events at the other
@@ -62,18 +62,18 @@ pub fn delivered_though_damaged()
     ensures { DeliveredThoughDamaged }
 {}
 
-/// What is delivered is in order, too, where a card of frames faces a card for octets. The controller of the first
+/// What is delivered is in order, too, where a card of frames faces a card of octets. The controller of the first
 /// takes the frames that the other's pulls begin, and gives what the card gives; what happens at the card of frames is
-/// as in [`crate::delivered_in_order`], at the card for octets as in [`delivered_though_damaged`]: a frame of the link
+/// as in [`crate::delivered_in_order`], at the card of octets as in [`delivered_though_damaged`]: a frame of the link
 /// that is heard whole was given there, behind all that were heard before it, and no more is assumed of the octets that
 /// come. So it is of two cards of either kind.
 pub fn delivered_between_kinds()
     ensures { DeliveredBetweenKinds }
 {}
 
-/// A call between a card of frames and one for octets is a call between two cards of frames (`frames`), and comes
+/// A call between a card of frames and one of octets is a call between two cards of frames (`frames`), and comes
 /// through (`through`). The line between them and the first's controller are without fault: an octet that ends anything
-/// at the card for octets ends the first frame that the other gave, whole, and what its pulls begin is taken in order.
+/// at the card of octets ends the first frame that the other gave, whole, and what its pulls begin is taken in order.
 /// Whatever is asked for in a call, as [`a_call_comes_through_in_octets`] has it, in whatever order octets are pulled
 /// and come, and frames are given and taken: from any state of the two there is a run of two cards of frames in the
 /// same call that leads to the same, so to the same that is granted, told and on its way. And where the two have just

@@ -2,7 +2,7 @@
 //!
 //! `specs/` has all that can happen to two cards, at any of their lines (`Happenings`), the laws (`Order`, `Release`,
 //! `InTheEnd`), worked runs that meet their premises and use them (`Worked`, `WorkedRelease`, `WorkedInTheEnd`), and
-//! one that breaks what is said where a premise is left out (`WorkedBroken`). `circuit` has two cards for octets. What
+//! one that breaks what is said where a premise is left out (`WorkedBroken`). `circuit` has two cards of octets. What
 //! a card does at an event is the machine of `model_card`, of frames; the wire is that of `laws_wire`, and what is seen
 //! at an end is as in the trace of `laws_trace`. Each law is the contract of a call that does nothing.
 //!

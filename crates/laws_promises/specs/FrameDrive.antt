@@ -14,7 +14,7 @@ use Rattle.model_line.specs.Request.{request_of}
 use Rattle.model_card.specs.Event.{Event, at}
 use Rattle.laws_promises.specs.declared.frame_events.FrameEvent as rust
 
--- What happens at a card for frames, its octets and contents seen without references: a frame that comes, and a
+-- What happens at a card of frames, its octets and contents seen without references: a frame that comes, and a
 -- fault in place of one, are heard as `Came` of `model_line` has it, where information fields have at most `n201` octets.
 abbrev pub event_of : ℕ → rust.FrameEvent → Event
 event_of n201 (rust.TheVariants.Frame line octets) = at line (line_event.hears (came n201 octets.now))

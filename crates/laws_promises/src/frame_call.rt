@@ -107,7 +107,7 @@ fn answer<S: Shelf, K: FrameSink>(
 ) -> Result<(), SinkFailed>
     requires { line_of event < line_count card.old }
     ensures leads { Leads S.store (event_of card.old.config.n201 event.entry) card.old card.new }
-    ensures hands { Hands K.takes K.misses K.failures (FrameStands S.store card.old) (line_of event.entry)
+    ensures hands { Hands K.takes K.misses K.failures (FrameStands S.store card.old) (event_of card.old.config.n201 event.entry).line
         (answer (event_of card.old.config.n201 event.entry)) sink.old sink.new result }
 {
     let mut report = BareReport::nothing();

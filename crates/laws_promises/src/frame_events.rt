@@ -1,4 +1,4 @@
-//! What happens at a card for frames.
+//! What happens at a card of frames.
 
 use lapd_frame::Timer;
 use model_line::{Fault, Request};

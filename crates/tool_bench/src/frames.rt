@@ -1,4 +1,4 @@
-//! A card for frames, on whose lines the same frames come and go.
+//! A card of frames, on whose lines the same frames come and go.
 
 ghost use Rattle.std.specs.Prelude.{◌≤◌, ◌^◌};
 
@@ -29,7 +29,7 @@ pub enum Whole {
     Gone,
 }
 
-/// A card for frames, and the octets of the frames that come and go.
+/// A card of frames, and the octets of the frames that come and go.
 #[derive(Drop)]
 struct Frames {
     card: FrameCard<SlabShelf>,

@@ -45,9 +45,9 @@ pub enum Work {
     SendLong,
     /// A card with so many lines.
     Card(Traffic, u16),
-    /// A card for frames, with so many lines.
+    /// A card of frames, with so many lines.
     Frames(Whole, u16),
-    /// A card for frames, on which no frame waits on any of so many lines.
+    /// A card of frames, on which no frame waits on any of so many lines.
     Waiting(u16),
     /// A card with 64 busy lines.
     Busy,

@@ -40,7 +40,7 @@ pub const NO_TIMER: u32 = 23;
 pub const NO_PLACE: u32 = 24;
 /// The line has no link from that place on.
 pub const NO_MORE_LINKS: u32 = 25;
-/// A call for octets on a card for frames, or one for frames on a card for octets.
+/// A call for octets on a card of frames, or one for frames on a card of octets.
 pub const WRONG_CARD: u32 = 26;
 /// Not the number of a cause that a controller tells.
 pub const WRONG_CAUSE: u32 = 27;

@@ -58,7 +58,7 @@ octets_at line octets = map (λ value. at line (octet value)) octets
 abbrev pub after_rx : ℕ → List ℕ → Scene → Scene
 after_rx line octets s = with_events (octets_at line octets) s
 
--- On a card for octets, the octets of a terminal that sends a frame come from its line.
+-- On a card of octets, the octets of a terminal that sends a frame come from its line.
 abbrev pub after_in : ℕ → List ℕ → Scene → Scene
 after_in line frame s =
     let terminal = terminal_at line s.setup in
@@ -86,7 +86,7 @@ after_pulls line p text = record { setup = with_taken line p.octets p.setup; tex
 abbrev pub after_pull : ℕ → ℕ → Scene → Scene
 after_pull line count s = after_pulls line (pulls count line (record { setup = s.setup; octets = [] })) s.text
 
--- `in`: a frame comes, on either kind of card. On a card for frames it is heard as `Came` of `model_line` has it.
+-- `in`: a frame comes, on either kind of card. On a card of frames it is heard as `Came` of `model_line` has it.
 abbrev pub is_heard_as : Scene → List ℕ → What
 is_heard_as s frame = hears (came s.setup.board.config.n201 frame)
 
@@ -163,7 +163,7 @@ downs line teis = flat_map (deactivations line) teis ++ at line (request asking.
 abbrev pub after_down : ℕ → Scene → Scene
 after_down line s = with_events (downs line (teis_on line s.setup.board)) s
 
--- `stored`: what the card holds, and its bound. A card for frames keeps nothing of those that came and went.
+-- `stored`: what the card holds, and its bound. A card of frames keeps nothing of those that came and went.
 abbrev pub held_in : CardKind → OctetCard → ℕ
 held_in Octets card = stored card
 held_in Frames card = cards.stored card.card
@@ -178,7 +178,7 @@ after_stored s = record s { text = s.text ++ stored_text (held s.setup.board) (l
 abbrev pub after_counters : CounterGroup → ℕ → Scene → Scene
 after_counters group line s = record s { text = s.text ++ counters_text line group (counters_at line s.setup) }
 
--- What can be wrong with a line once there is a card: it is about octets, and the card for frames, or the other way
+-- What can be wrong with a line once there is a card: it is about octets, and the card of frames, or the other way
 -- round; the card's line is not there; the frame's length, where a terminal sends it; the time.
 abbrev pub for_octets : CardKind → Result Scene FaultKind → Result Scene FaultKind
 for_octets Octets said = said

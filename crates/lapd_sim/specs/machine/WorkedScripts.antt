@@ -48,7 +48,7 @@ before_unknown : transcript (codes "card 1 8 7 8 4 4 64 260 3\n\nestablish 0 64\
 unfolding boards.reply cards.after cards.answer cards.meant lines.after lines.answer lines.takes_slot reading header_of control_of unnumbered_of teis.course teis.refusal low_bits with_order finds_place decode_pairs encode_with digits
 before_unknown = refl
 
--- a card for frames: its terminal establishes the link, the next frame is UA, and then none waits; a fault; and a frame
+-- a card of frames: its terminal establishes the link, the next frame is UA, and then none waits; a fault; and a frame
 -- that is too short
 in_frames : transcript (codes "frames 1 8 7 8 4 4 64 260 3\nassign 0 64\nin 0 00817F\nnext 0\nnext 0\nfailed 0 fcs\nin 0 00\n")
     ≡ codes "0 establish-indication 64\n0 frame 008173\n0 nothing\n0 dropped fcs\n0 dropped short\n"

@@ -1,4 +1,4 @@
--- What is done between a card of frames and one for octets is, at the card of frames inside, done on a wire of frames.
+-- What is done between a card of frames and one of octets is, at the card of frames inside, done on a wire of frames.
 use Rattle.laws_order.proofs.Vocabulary.{arith, ◌≡◌, ℕ, Bool, true, false, cond, List, [], ◌∷◌, ◌++◌, drop, Option, None, Some, refl, sym, ap, ◌∙◌, subst, append-nil, All, All-nil, All-cons, All-head, All-tail, All-append, Service, Config, is_due, Station, Wire, CanCall, calling, calls-come-through, twice-other, doing-append, IsCall, stream_frame, port_octet, call_both_call, CallComesThrough, assigned, Establish, Assign, port_of}
 use Rattle.model_line.specs.Event as line
 unfoldable use Rattle.model_card.specs.ports.Card.{meant}
@@ -25,7 +25,7 @@ module _ (service : Service) (tei : ℕ) where
   unfolding frames_done
   one-led v v' e is same = record { es = e ∷ []; talk = All-cons (IsCall service tei) e [] is (All-nil (IsCall service tei)); led = same }
 
-  -- ---- at the card for octets
+  -- ---- at the card of octets
 
   abbrev ends : Station → Station → Wire
   ends x y = record { near = x; far = y }

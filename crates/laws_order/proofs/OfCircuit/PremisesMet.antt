@@ -97,7 +97,7 @@ talk =
 pub told : IsToldAll Call 0 (both_call sends begins) after_it
 told = let x = calls-come-through-in-octets Call user network 0 0 0 sends can talk in record { near = x.near.1 gone; far = x.far.1 gone }
 
--- and so by the call between a card of frames and one for octets
+-- and so by the call between a card of frames and one of octets
 mixed-call : (es : List Doing) × All (IsCall Call 0) es × (wire_doing_all es (mixed.as_wire call_begins) ≡ mixed.as_wire (mixed.doing_all talks call_begins))
 mixed-call = calls-are-of-frames Call 0 call_begins talks are_talk
 

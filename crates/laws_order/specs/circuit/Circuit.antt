@@ -1,4 +1,4 @@
--- Two cards for octets on one circuit: a line of one faces a line of the other, and each hears the octets that the other's
+-- Two cards of octets on one circuit: a line of one faces a line of the other, and each hears the octets that the other's
 -- pulls give.
 use Rattle.std.specs.Prelude.{ℕ, List, [], ◌∷◌, ◌++◌, drop}
 use Rattle.model_line.specs.Event.{LineTold}

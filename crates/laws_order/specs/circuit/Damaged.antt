@@ -1,4 +1,4 @@
--- Two cards for octets on a circuit on which octets are damaged, lost or added: what an end hears need not be what the other's
+-- Two cards of octets on a circuit on which octets are damaged, lost or added: what an end hears need not be what the other's
 -- pulls gave.
 use Rattle.std.specs.Prelude.{◌≡◌, ◌≢◌, ◌<◌, ℕ, List, [], ◌∷◌, ◌++◌, drop, flat_map, Option, Some, option_to_list}
 use Rattle.lapd_frame.specs.declared.services.Service.{Service}

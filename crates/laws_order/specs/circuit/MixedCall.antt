@@ -1,4 +1,4 @@
--- A call between a card of frames and one for octets is a call between two cards of frames.
+-- A call between a card of frames and one of octets is a call between two cards of frames.
 use Rattle.std.specs.Prelude.{◌≡◌, ℕ, List, [], ◌∷◌, ◌++◌, drop, flat_map, All, Option, None, Some, option_to_list}
 use Rattle.lapd_frame.specs.declared.services.Service.{Service}
 use Rattle.model_line.specs.Event as line
@@ -15,7 +15,7 @@ use Rattle.laws_order.specs.circuit.Circuit.{Termination, port_of, happens}
 use Rattle.laws_order.specs.circuit.Damaged.{IsFirst}
 use Rattle.laws_order.specs.circuit.Through.{assigned}
 
--- One end is a card of frames, with the frames that it gave and that have not come yet; the other one for octets; and back on their way
+-- One end is a card of frames, with the frames that it gave and that have not come yet; the other one of octets; and back on their way
 -- are the frames that its pulls began and that the first has not taken yet.
 pub record Pair : Type 0 where
   pub near : Station

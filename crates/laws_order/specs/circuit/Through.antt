@@ -1,4 +1,4 @@
--- A call between two cards for octets: what layer 3 of each asks for, and what it is told.
+-- A call between two cards of octets: what layer 3 of each asks for, and what it is told.
 use Rattle.std.specs.Prelude.{◌≡◌, ℕ, Bool, true, false, ◌||◌, List, [], ◌∷◌, ◌++◌, map, All, None}
 use Rattle.lapd_frame.specs.declared.services.Service.{Service}
 use Rattle.model_bits.specs.Sent.{Item, idle}

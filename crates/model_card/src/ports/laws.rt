@@ -57,7 +57,7 @@ pub fn lines_isolated()
 
 /// On an idle line the octets in which a frame stands, between flags, are heard as this frame and nothing else, or, by its
 /// length, as one that is too short or overlong; those in which a fault stands are heard as what is dropped for its cause and
-/// nothing else. So a card for frames takes what a controller tells for what stood on its line.
+/// nothing else. So a card of frames takes what a controller tells for what stood on its line.
 #[tactic(auto, using(crate::proofs::OfPorts::FramesHeard::frames_are_heard))]
 pub fn frames_are_heard()
     ensures { FramesAreHeard }

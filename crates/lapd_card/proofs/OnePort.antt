@@ -5,13 +5,9 @@ use Rattle.model_card.specs.ports.Card.{after, said, fresh}
 use Rattle.model_card.specs.ports.Event.{Event, at}
 use Rattle.model_card.specs.ports.Port as port
 use Rattle.model_card.specs.ports.Port.{fresh_port}
-use Rattle.model_card.specs.ports.Reached.{IsReached}
-use Rattle.model_card.specs.ports.Run.{IsAtLine}
 unfoldable use Rattle.model_card.specs.ports.Run.{after_all}
 use Rattle.model_card.proofs.OfPorts.Reaching.{reached_sound}
 pub use Rattle.model_card.proofs.OfPorts.Reaching.{reached_after as reached-after}
-use Rattle.model_card.proofs.OfPorts.Steps.{config_after}
-use Rattle.model_line.specs.Sound.{IsInRange}
 use Rattle.lapd_card.specs.Card.{Held, line_count}
 use Rattle.lapd_card.specs.FrameCard as frame_card
 use Rattle.lapd_card.specs.FrameStands.{FrameStands}

@@ -1,10 +1,10 @@
 -- The words with which the proofs of this crate speak, from where they are defined.
-pub use Rattle.std.proofs.Common.{Bool, Err, IfErr, IfOk, IfSome, IsSome, List, None, Ok, OnOk, Option, Result, Some, [], ap, append_assoc, arith, cond, drop, drop-drop, eqb-true, false, get_or, inl, inr, is_some, length, length-append, length-drop, nat_le, nat_lt, not, option_map, option_to_list, refl, replicate, reverse, set, slice_get, subst, suc, sym, take, true, vec_len, w64, zero, ℕ, ⊎_elim, ◌%◌, ◌&&◌, ◌*◌, ◌++◌, ◌+◌, ◌-◌, ◌/◌, ◌<◌, ◌==◌, ◌^◌, ◌||◌, ◌∙◌, ◌∷◌, ◌≡◌, ◌≢◌, ◌≤◌, ◌⊎◌, true≢false, fold}
+pub use Rattle.std.proofs.Common.{Bool, Err, IfErr, IfSome, IsSome, List, None, Ok, OnOk, Option, Result, Some, [], ap, append_assoc, arith, cond, drop, drop-drop, eqb-true, false, get_or, inl, inr, is_some, length, length-append, length-drop, nat_le, nat_lt, not, option_map, option_to_list, refl, replicate, reverse, set, slice_get, subst, suc, sym, take, true, vec_len, w64, zero, ℕ, ⊎_elim, ◌&&◌, ◌*◌, ◌++◌, ◌+◌, ◌-◌, ◌/◌, ◌<◌, ◌==◌, ◌^◌, ◌||◌, ◌∙◌, ◌∷◌, ◌≡◌, ◌≢◌, ◌≤◌, ◌⊎◌, fold}
 pub use Rattle.std.proofs.Math.ListN.{drop_of_length-le}
 pub use Rattle.std.proofs.Math.Nat.{div-le_self}
 pub use Rattle.std.proofs.Math.Seq.{map-set_same, take-append_seam}
 pub use Rattle.std.proofs.lemmas.Bool.{cases_eq, false≢true, le-ltb, leb-false, lt-ltb, ltb-false, ne_eqb}
-pub use Rattle.std.proofs.lemmas.List.{drop_all, get_or-replicate, get_or-set_other, get_or-set_same, get_or_default, length-map, length-set, map-append, map-set, set-get_or, take_all}
+pub use Rattle.std.proofs.lemmas.List.{drop_all, get_or-replicate, get_or-set_other, get_or-set_same, get_or_default, length-map, length-set, map-append, map-set, take_all}
 pub use Rattle.std.proofs.lemmas.List.Elements.{All-append, All-cons, All-drop, All-head, All-nil, All-tail}
 pub use Rattle.std.proofs.lemmas.List.Folds.{fold-map}
 pub use Rattle.std.proofs.lemmas.List.Sums.{fold-append, sum_by-cons, sum_by_more}
@@ -31,10 +31,9 @@ pub use Rattle.lapd_frame.specs.declared.addresses.Side.TheVariants.{Network, Us
 pub use Rattle.lapd_frame.specs.declared.controls.Control.{Control}
 pub use Rattle.lapd_frame.specs.declared.controls.Control.TheVariants.{Ui}
 pub use Rattle.lapd_frame.specs.declared.faults.ReadFault.{ReadFault}
-pub use Rattle.lapd_frame.specs.declared.faults.ReadFault.TheVariants.{BadExtension, Short, Undefined, WrongSize}
 pub use Rattle.lapd_frame.specs.declared.notes.Note.{Note}
 pub use Rattle.lapd_frame.specs.declared.refusals.Refusal.{Refusal}
-pub use Rattle.lapd_frame.specs.declared.refusals.Refusal.TheVariants.{BadTei, NoLink, PoolFull, QueueFull, TooLong, WrongSide, WrongState}
+pub use Rattle.lapd_frame.specs.declared.refusals.Refusal.TheVariants.{BadTei, NoLink, PoolFull, QueueFull, TooLong, WrongState}
 pub use Rattle.lapd_frame.specs.declared.services.Service.{Service}
 pub use Rattle.lapd_frame.specs.declared.services.Service.TheVariants.{Call, Packet}
 pub use Rattle.lapd_frame.specs.declared.short_lists.ShortList.{ShortList}
@@ -46,12 +45,12 @@ pub use Rattle.lapd_line.specs.Counted.{bare_shown, with_counted}
 pub use Rattle.lapd_line.specs.LinkLayer.{Serves, Standing, LayerStands, aim_of_event, always}
 pub use Rattle.lapd_line.specs.Links.{GoesOn, HasTerms, IsGiven, LinkFits, LinksStand, Offers, Refuses, link_pairs, links_pairs, machine_at, terms_in}
 pub use Rattle.lapd_line.specs.Loading.{IsFree, IsNext, Loading, Loads, in_bits, in_octets, room_in, reference_in}
-pub use Rattle.lapd_line.specs.Marks.{AreMarked, IsLowestFrom, IsMark, IsMarkedAmong, NoneFrom, Sets, digit}
+pub use Rattle.lapd_line.specs.Marks.{AreMarked, IsLowestFrom, IsMark, NoneFrom, Sets, digit}
 pub use Rattle.lapd_line.specs.Octets.{OctetsLead, OctetsStand, octets_config}
 pub use Rattle.lapd_line.specs.Ports.{IsLoaded, IsSaid, PortStands, Pulls, latest_frame, or_latest, with_frame}
 pub use Rattle.lapd_line.specs.Pulls.{HasTaken, Takes, TakesNext, Took, orders_taken}
-pub use Rattle.lapd_line.specs.Reports.{gave_in, report_told, told_beside, told_if, told_in}
-pub use Rattle.lapd_line.specs.Requests.{event_of, link_refusal, management_refusal, may_ask}
+pub use Rattle.lapd_line.specs.Reports.{gave_in, report_told, told_beside, told_in}
+pub use Rattle.lapd_line.specs.Requests.{event_of, link_refusal, management_refusal}
 pub use Rattle.lapd_line.specs.Stands.{Leads, LeadsIfHeard, answer_if_heard, config_of, pairs_of as line_pairs}
 pub use Rattle.lapd_line.specs.Starts.{AreBegun, IsBegun}
 pub use Rattle.lapd_line.specs.TeiChanges.{Changing, IsAnswerTo, with_management}
@@ -61,8 +60,6 @@ pub use Rattle.lapd_line.specs.declared.frame_line.FrameLine.{FrameLine}
 pub use Rattle.lapd_line.specs.declared.link_layer.LinkLayer.{LinkLayer}
 pub use Rattle.lapd_line.specs.declared.marks.Marks.{Marks}
 pub use Rattle.lapd_link_steps.specs.declared.report.BareReport.{BareReport}
-pub use Rattle.lapd_line.specs.declared.reports.Report.{Report}
-pub use Rattle.lapd_line.specs.declared.requests.TeiRequest.{TeiRequest}
 pub use Rattle.lapd_line.specs.declared.units.QueuedUnit.{QueuedUnit}
 pub use Rattle.lapd_link.specs.Events.{received_of}
 pub use Rattle.lapd_link.specs.Outcome.{HasMessage, contents_in, given_by, told_with}
@@ -82,7 +79,7 @@ pub use Rattle.lapd_tei.specs.Machine.{Management, empty}
 pub use Rattle.lapd_tei.specs.Messages.{type_of}
 pub use Rattle.lapd_tei.specs.Outcome.{told_of}
 pub use Rattle.lapd_tei.specs.Sound.{IsAt}
-pub use Rattle.lapd_tei.specs.Table.{Places, has, is_on, place_of}
+pub use Rattle.lapd_tei.specs.Table.{Places, is_on, place_of}
 pub use Rattle.lapd_tei.specs.declared.outcome.Change.TheVariants.{Gained, Left}
 pub use Rattle.lapd_tei.specs.declared.outcome.TeiOutcome.{TeiOutcome}
 pub use Rattle.model_bits.proofs.BitLemmas.{bits-push}
@@ -90,12 +87,12 @@ pub use Rattle.model_bits.specs.Bits.{bits, low_bits, number_of}
 pub use Rattle.model_bits.specs.Framer.{Framing, last_octets, refilled, runs_low, still_held, with_idle}
 pub use Rattle.model_bits.specs.Heads.{head_of}
 pub use Rattle.model_bits.specs.OpenGap.{kept_count, octets_held, open_gap}
-pub use Rattle.model_bits.specs.Sent.{Item, frame, idle, line_text}
+pub use Rattle.model_bits.specs.Sent.{Item, frame, line_text}
 pub use Rattle.model_bits.specs.Stream.{heard_in, room_for}
 pub use Rattle.model_bits.specs.Stuffing.{unstuffed}
 pub use Rattle.model_bits.specs.declared.heads.Head.{Head}
 pub use Rattle.model_bits.specs.declared.heard.Cause.{Cause}
-pub use Rattle.model_bits.specs.declared.heard.Cause.TheVariants.{Tei, Unserved}
+pub use Rattle.model_bits.specs.declared.heard.Cause.TheVariants.{Unserved}
 pub use Rattle.model_line.proofs.AimsSound.{IsProper, aim_sound, management_event_sound}
 pub use Rattle.model_line.proofs.Drops.{drop_costs_nothing}
 pub use Rattle.model_line.proofs.LineSound.{fresh_sound}
@@ -110,12 +107,12 @@ pub use Rattle.model_line.specs.Counts.{may_send}
 pub use Rattle.model_line.specs.Effect.{Aim, at_link, at_management, at_no_link, at_none, at_units, of_aim, of_change, of_management, told_of_link, told_of_management, with_cleared, with_opened, without_units}
 pub use Rattle.model_line.specs.Event.{Event, LineTold, dropped, expiry, nothing, hears, next, gave, told}
 pub use Rattle.model_line.specs.Expiry.{aim_of_expiry, at_timer}
-pub use Rattle.model_line.specs.Laws.{cause_in, orders_in}
+pub use Rattle.model_line.specs.Laws.{orders_in}
 pub use Rattle.model_line.specs.Line.{Line, UnitData, fresh_line, has_tei, link_at, link_count, link_in, link_number, link_of, place_at, place_in, service_at, state_in, state_of, tei_at, terms, terms_at, window, with_link}
 pub use Rattle.model_line.specs.Machine.{unless_refused, unless_refused_told}
 unfoldable pub use Rattle.model_line.specs.Machine.{after, answer}
-pub use Rattle.model_line.specs.Heard.{addressed, aim_of_long, aim_of_reading, at_place, drop_for, group_tei, management_sapi, message_of, to_service, unless_at_link}
-pub use Rattle.model_line.specs.Taken.{Taken, first_taken, line_of, link_taken, message_taken, next_of, round, taken, unit_taken, with_given_frame, with_message, with_unit}
+pub use Rattle.model_line.specs.Heard.{addressed, aim_of_long, aim_of_reading, at_place, drop_for, group_tei, message_of, to_service, unless_at_link}
+pub use Rattle.model_line.specs.Taken.{Taken, first_taken, line_of, link_taken, message_taken, next_of, round, taken, unit_taken, with_given_frame, with_unit}
 pub use Rattle.model_line.specs.Refusal.{Row, bad_tei, bad_tei_or_group, first_that_holds, no_link, no_link_nor_group, pool_full, queue_full, refusal, too_long, unit_queue_full, wrong_state}
 pub use Rattle.model_line.specs.Request.{Assign, Check, ClearBusy, Data, Deactivate, Down, Establish, Release, Remove, Request, SetBusy, Unit, request_of}
 pub use Rattle.model_line.specs.Requested.{aim_of_request, at_deactivated, at_requested}
@@ -129,17 +126,13 @@ pub use Rattle.model_card.specs.ports.HeadHeard.{or_heard}
 pub use Rattle.model_card.specs.ports.Port.{fresh_port}
 pub use Rattle.model_link.proofs.TellRows.{cleared-orders, cleared-tells}
 pub use Rattle.model_link.specs.Events.{offer}
-pub use Rattle.model_link.specs.Link.{address_at, frame_of, fresh, queue_of, state_number}
-pub use Rattle.model_link.specs.Machine.{course, given, given_of}
-pub use Rattle.model_link.specs.Offers.{first_unsent, give_information, is_awaiting_acknowledgement, may_send_information, next_information, offer_among, send_acknowledgement, send_information, with_one_sent}
-pub use Rattle.model_link.specs.Requests.{refusal_for_room, serves}
+pub use Rattle.model_link.specs.Link.{frame_of, fresh, queue_of, state_number}
+pub use Rattle.model_link.specs.Machine.{given}
+pub use Rattle.model_link.specs.Requests.{serves}
 pub use Rattle.model_link.specs.Rises.{held}
 pub use Rattle.model_link.specs.Room.{room_of}
 pub use Rattle.model_link.specs.Sound.{IsWaitingFrame}
-pub use Rattle.model_link.specs.Steps.{Course, Sent, changed, ◌then◌}
+pub use Rattle.model_link.specs.Steps.{Course}
 pub use Rattle.model_link.specs.Told.{Given, LinkTold, starts}
-pub use Rattle.model_link.specs.Words.{pending_is, start}
-pub use Rattle.model_link.specs.declared.frames.ControlFrame.{ControlFrame}
 pub use Rattle.model_link.specs.declared.rooms.Room.{Room}
 pub use Rattle.model_link.specs.declared.terms.Terms.{Terms}
-pub use Rattle.model_link.specs.declared.timers.LinkTimer.TheVariants.{T200}

@@ -38,7 +38,7 @@ pub use Rattle.model_link.proofs.TellRows.{one-start}
 pub use Rattle.model_link.proofs.Unserved.{unserved-stays}
 pub use Rattle.model_link.specs.Events.{Event, Request, offer, requested}
 pub use Rattle.model_link.specs.Link.{frame_of, queue_of}
-pub use Rattle.model_link.specs.Machine.{after, course, given, given_of, received_step, step, told, told_of}
+pub use Rattle.model_link.specs.Machine.{after, course, given, given_of, received_step, told, told_of}
 pub use Rattle.model_link.specs.MultipleFrame.{data_in_7_8}
 pub use Rattle.model_link.specs.Requests.{granted, refusal, refusal_for_room, serves}
 pub use Rattle.model_link.specs.Room.{room_of}

@@ -1,21 +1,19 @@
 -- The words with which the proofs of this crate speak, from where they are defined.
-pub use Rattle.std.proofs.Common.{Bool, Err, List, None, Ok, OnOk, Option, Result, Some, [], ap, append_assoc, arith, cond, drop, false, fold, get_or, if◌then◌else◌, inr, length, length-append, map, nat_le, nat_lt, refl, replicate, set, subst, suc, sym, take, take_all, true, vec_len, zero, ℕ, ◌*◌, ◌++◌, ◌+◌, ◌-◌, ◌<◌, ◌^◌, ◌∙◌, ◌∷◌, ◌≡◌, ◌≢◌, ◌≤◌}
+pub use Rattle.std.proofs.Common.{Bool, Err, List, None, Ok, OnOk, Option, Result, Some, [], ap, append_assoc, arith, cond, drop, false, fold, get_or, if◌then◌else◌, inr, length, nat_lt, refl, replicate, set, subst, suc, sym, take, take_all, true, vec_len, zero, ℕ, ◌++◌, ◌+◌, ◌-◌, ◌<◌, ◌^◌, ◌∙◌, ◌∷◌, ◌≡◌, ◌≢◌, ◌≤◌}
 pub use Rattle.std.proofs.Math.Numerals.{suc-eq-add-one}
 pub use Rattle.std.proofs.lemmas.Bool.{false≢true, le-leb, le-ltb, lt-ltb, ltb-false, ne_eqb, true≢false}
 pub use Rattle.std.proofs.lemmas.Grind.{flat_map-append, fold-append}
 pub use Rattle.std.proofs.lemmas.List.{append-nil, length-take, map-append, take-append-drop, take_at, take_more, take_more_set}
-pub use Rattle.std.proofs.lemmas.List.Elements.{All-append, All-weaker}
+pub use Rattle.std.proofs.lemmas.List.Elements.{All-weaker}
 pub use Rattle.std.proofs.lemmas.List.Folds.{list_any_none}
 pub use Rattle.std.proofs.lemmas.Option.{none-some}
 pub use Rattle.std.specs.Io.KnownBytes.{Appends}
 pub use Rattle.std.specs.List.{flat_map}
 pub use Rattle.std.specs.Prelude.{IfErr, IfOk, IfSome, IsErr, IsTrue, filter, option_copied, ◌||◌}
-pub use Rattle.lapd_clock.specs.Timer.{AreInRange, Lengths, Timer, first_out_of_range}
+pub use Rattle.lapd_clock.specs.Timer.{AreInRange, Timer}
 pub use Rattle.lapd_clock.specs.Timers.{Timers, due_at, time_until}
-pub use Rattle.lapd_clock.specs.declared.fault.LengthFault.{LengthFault}
 pub use Rattle.lapd_count.specs.Counters.{none_counted}
 pub use Rattle.lapd_frame.specs.ShortLists.{listed}
-pub use Rattle.lapd_frame.specs.declared.refusals.Refusal.{Refusal}
 pub use Rattle.lapd_line.specs.Reports.{told_beside}
 pub use Rattle.lapd_script.specs.Faults.{fault_at, reads_failed, reads_failed_by, writes_failed, writes_failed_by}
 pub use Rattle.lapd_script.specs.Meaning.{Meaning, meant}
@@ -28,13 +26,13 @@ pub use Rattle.lapd_script.specs.declared.faults.LineFault.TheVariants.{Faulty}
 pub use Rattle.lapd_script.specs.declared.faults.PlayFault.{PlayFault}
 pub use Rattle.lapd_script.specs.declared.faults.PlayFault.TheVariants.{OutOfMemory, Read, Script, Write}
 pub use Rattle.lapd_script.specs.declared.kind.FaultKind.{FaultKind}
-pub use Rattle.lapd_script.specs.declared.kind.FaultKind.TheVariants.{BadFrame, BadLine, BadNumber, TimeOver, TooLong}
+pub use Rattle.lapd_script.specs.declared.kind.FaultKind.TheVariants.{BadFrame, BadLine, TooLong}
 pub use Rattle.lapd_script.specs.declared.lines.ScriptLines.{ScriptLines}
 pub use Rattle.lapd_card.specs.Kinds.{AnyLeads, AnyStands, CardStands, FrameCardStands, Machine, alone, card_in, config_of, counters_of, frames_of, shelf_of, with_ports}
 pub use Rattle.lapd_card.specs.declared.kinds.AnyCard.{AnyCard}
 pub use Rattle.lapd_card.specs.declared.kinds.AnyCard.TheVariants.{Frames, Octets}
 pub use Rattle.lapd_sim.specs.Boards.{Leads, OnBoard, kind_of}
-pub use Rattle.lapd_sim.specs.Obeyed.{Answers, Does, Obeys, Said, Says, StartsBy, Tells, said, said_by, said_of, said_with, said_without, scene, written}
+pub use Rattle.lapd_sim.specs.Obeyed.{Does, Obeys, Said, Says, StartsBy, Tells, said, said_by, said_of, said_with, said_without, scene, written}
 pub use Rattle.lapd_sim.specs.Pages.{PutsNone, PutsSome, Reaches, is_cut}
 pub use Rattle.lapd_sim.specs.Plays.{AreAnswered, Plays, PlaysOctets, PlaysOn, is_whole, whole_lines}
 pub use Rattle.lapd_sim.specs.Stands.{Each, Has, Stands}
@@ -44,18 +42,16 @@ pub use Rattle.lapd_transcript.specs.Counted.{counters_text}
 pub use Rattle.lapd_transcript.specs.Listened.{Hears, pulled_text}
 pub use Rattle.lapd_transcript.specs.Pages.{on}
 pub use Rattle.lapd_transcript.specs.Streams.{IsBroken, IsPut, IsSent, IsStuck, IsWritten, Output, Puts, Taken, Writes, one_failure_more}
-pub use Rattle.lapd_transcript.specs.Terminal.{Sends, after_sending, octets_sent, sending, with_frame}
+pub use Rattle.lapd_transcript.specs.Terminal.{Sends, after_sending, octets_sent}
 pub use Rattle.lapd_transcript.specs.declared.streams.WriteFailed.{WriteFailed}
-pub use Rattle.model_bits.specs.Bits.{octets_of}
 pub use Rattle.model_bits.specs.Stream.{dropped}
-pub use Rattle.model_bits.specs.Sent.{Item, frame, idle, line_text}
 pub use Rattle.model_line.proofs.Ranges.{ranges_of}
 pub use Rattle.model_line.specs.Came.{came, cause_of}
 pub use Rattle.model_line.specs.Request.{request_of}
 pub use Rattle.model_line.specs.declared.config.Config.{Config}
-pub use Rattle.lapd_sim.proofs.OfMachine.Expiries.{expiry_lowers, text_grows, until-expired, until-over}
+pub use Rattle.lapd_sim.proofs.OfMachine.Expiries.{text_grows, until-expired, until-over}
 pub use Rattle.lapd_sim.specs.machine.Board.{Event, Reply, What, after, at, card_after, expiry, hears, meant_by, next, octet, of_frames, of_octets, orders_in, pull, refused, reply_in, reply_of_frames, reply_of_octets, request, told}
 unfoldable pub use Rattle.lapd_sim.specs.machine.Board.{reply}
 pub use Rattle.lapd_sim.specs.machine.Script.{Fault, Played, after_bench, after_meaning, after_piece, after_reading, after_scene, counted, faulty, first_fault, is_too_long, not_begun, one_more, played, transcript, unless_faulty}
 pub use Rattle.lapd_sim.specs.machine.Setup.{Setup, happened, ordered, taken_at, terminal_at, with_terminal}
-pub use Rattle.lapd_sim.specs.machine.Steps.{Pulls, Scene, after_coming, after_counters, after_next, after_pull, after_rx, after_timers, after_wait, reply_text, at_expiry, at_line, can_come, expired, expiries, for_frames, for_octets, last_moment, octet_in, octets_at, one_pull, pulls, until, with_card, with_event, with_events, without_card, after_down, deactivations, downs, is_on_line, teis_on}
+pub use Rattle.lapd_sim.specs.machine.Steps.{Pulls, Scene, after_coming, after_counters, after_next, after_pull, after_rx, after_wait, reply_text, at_expiry, at_line, can_come, expired, for_frames, for_octets, last_moment, octet_in, octets_at, one_pull, pulls, until, with_card, with_event, with_events, without_card, after_down, deactivations, downs, is_on_line}

@@ -32,7 +32,7 @@ pub use Rattle.std.specs.declared.cmp.Ordering.TheVariants.{Equal, Greater, Less
 pub use Rattle.arrayvec.specs.ArrayVec.{ArrayVec}
 pub use Rattle.lapd_store.specs.Memory.{block_of, lent, octet, octet_lent, octets, octets_lent, octets_own}
 pub use Rattle.lapd_store.specs.Ownership.{Keeps, Owned, owned_octets, pairs_of}
-pub use Rattle.lapd_store.specs.RawStore.{IsApart, IsFilled, IsFreeList, contents_from, free_mark, link, list_end, octets_at, or_end, raw_store, slot_contents}
+pub use Rattle.lapd_store.specs.RawStore.{IsApart, IsFilled, IsFreeList, contents_from, free_mark, link, list_end, or_end, raw_store, slot_contents}
 pub use Rattle.lapd_store.specs.Region.{Holds, SameOutside}
 pub use Rattle.lapd_store.specs.SlabStore.{IsSoundSlab, filled, slab_store}
 pub use Rattle.lapd_store.specs.SlotRing.{SlotRing, without_oldest_ones}

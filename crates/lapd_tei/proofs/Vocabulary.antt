@@ -1,5 +1,5 @@
 -- The words with which the proofs of this crate speak, from where they are defined.
-pub use Rattle.std.proofs.Common.{Bool, IfSome, IsSome, List, None, Option, Some, [], ap, arith, cond, drop, false, get_or, inl, inr, is_some, length, length-append, length-drop, nat_le, not, refl, replicate, rules, set, subst, suc, sym, take, true, zero, ℕ, ◌&&◌, ◌++◌, ◌+◌, ◌-◌, ◌<◌, ◌==◌, ◌||◌, ◌∙◌, ◌∷◌, ◌≡◌, ◌≤◌, ◌⊎◌}
+pub use Rattle.std.proofs.Common.{Bool, IfSome, IsSome, List, None, Option, Some, [], ap, arith, cond, drop, false, get_or, is_some, length, length-append, length-drop, nat_le, not, refl, replicate, rules, set, subst, suc, sym, take, true, zero, ℕ, ◌&&◌, ◌++◌, ◌+◌, ◌-◌, ◌<◌, ◌==◌, ◌||◌, ◌∙◌, ◌∷◌, ◌≡◌, ◌≤◌, ◌⊎◌}
 pub use Rattle.std.proofs.lemmas.List.Sums.{count_by-le-length, fails_before_first, length-filter, passes_at_first}
 pub use Rattle.std.proofs.lemmas.List.FromFn.{get_or-range_with_len, length-range_with_len}
 pub use Rattle.std.proofs.lemmas.List.Folds.{Any-from_list_any, find_at, list_any_at}
@@ -13,13 +13,12 @@ pub use Rattle.std.specs.List.{All, AllByRecursion, filter, find, position_or_le
 unfoldable pub use Rattle.std.specs.List.{IsDistinct}
 pub use Rattle.std.specs.Option.{option_map}
 pub use Rattle.lapd_frame.specs.declared.refusals.Refusal.{Refusal}
-pub use Rattle.lapd_frame.specs.declared.refusals.Refusal.TheVariants.{NoLink, TeiTaken}
-pub use Rattle.lapd_tei.specs.Events.{Event, after, after_offer, check, down, expiry, message, refusal_if, remove, step, told, unless_refused}
+pub use Rattle.lapd_tei.specs.Events.{Event, after, after_offer, refusal_if, remove, told, unless_refused}
 unfoldable pub use Rattle.lapd_tei.specs.Events.{course, refusal}
 pub use Rattle.lapd_tei.specs.Laws.{Act, AreInRange, AssignsLowest, ChangesAreTold, DownGivesUp, ExpiredT201Follows, Follows, IsInRange, IsLowestFree, IsSoundThroughout, LowestIsAssigned, Moves, NewIsAssigned, OneIsLost, OneMoreWaits, T201Follows, UnservedChangesNothing, after_acts, event, pull, stop_of}
 pub use Rattle.lapd_tei.specs.Machine.{Check, First, Gained, Management, Period, Remembered, Second, TeiTold, empty, messages_limit}
-pub use Rattle.lapd_tei.specs.Messages.{Heard, IdentityAssigned, IdentityCheckRequest, IdentityCheckResponse, IdentityDenied, IdentityRemove, IdentityRequest, IdentityVerify, Message, action_of, heard_in}
-pub use Rattle.lapd_tei.specs.Rows.{assign, assign_new, count, counted, doubled, end_if_any, expire, expire_check, expire_period, is_checked, is_for, is_unanswered, join_at, may_be_checked, nothing_happens, put_on, remembered_in, removed, request, respond, responses, serve, take_off, tei_in}
+pub use Rattle.lapd_tei.specs.Messages.{Heard, IdentityAssigned, IdentityCheckRequest, IdentityDenied, IdentityRemove, IdentityRequest, Message, action_of, heard_in}
+pub use Rattle.lapd_tei.specs.Rows.{assign, assign_new, counted, doubled, end_if_any, expire, expire_check, expire_period, is_checked, is_for, join_at, remembered_in, removed, respond, responses, serve, take_off, tei_in}
 pub use Rattle.lapd_tei.specs.Sound.{IsAt, IsSound, IsSoundCheck, IsSoundMemory, IsSoundQueue, IsSoundTable, same_ri, same_tei}
 pub use Rattle.lapd_tei.specs.Table.{Places, automatic, free_place, free_tei, has, is_free, is_off, is_on, place_of}
 pub use Rattle.lapd_tei.specs.Words.{Course, Step, begin_check, begun, check_is, end_check, freed, is_of_other, latest, leave, left, lose_one, lost_after, no_room, send, unserved, with_message, withdraw}

@@ -27,7 +27,7 @@ pub use Rattle.lapd_transcript.specs.Put.{HasPut}
 pub use Rattle.lapd_transcript.specs.Shown.{fields, number_text, shown_text}
 pub use Rattle.lapd_transcript.specs.Streams.{IsBroken, IsPut, IsStuck, IsWritten, Output, Puts, Taken, Writes, joined, one_failure_more}
 pub use Rattle.lapd_transcript.specs.Terminal.{Sends, sending, with_frame}
-pub use Rattle.lapd_transcript.specs.Text.{dropped_text, frame_text, lost_text, note_text, nothing_text, octets_text, sent_text}
+pub use Rattle.lapd_transcript.specs.Text.{dropped_text, frame_text, lost_text, note_text, nothing_text, octets_text}
 pub use Rattle.lapd_transcript.specs.declared.streams.WriteFailed.{WriteFailed}
 pub use Rattle.model_bits.proofs.BitLemmas.{bits-append, length-bits, length-low_bits, number_of-low_bits}
 pub use Rattle.model_bits.proofs.Division.Unique.{length-check}

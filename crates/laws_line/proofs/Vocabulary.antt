@@ -1,11 +1,11 @@
 -- The words of std and of the crates below with which the proofs of this crate speak, from where they are defined.
-pub use Rattle.std.proofs.Common.{Bool, Err, IfSome, IsSome, List, None, Ok, Option, Result, Some, [], ap, append-nil, append_assoc, arith, cond, drop, eq-eqb, eqb-true, false, get_or, inl, inr, is_some, length, length-append, length-set, max, min, nat_le, nat_lt, not, option_map, option_to_list, refl, replicate, set, slice_get, slice_index, subst, suc, sym, take, true, true≢false, zero, zero-add, ℕ, ⊎_elim, ◌%◌, ◌&&◌, ◌*◌, ◌++◌, ◌+◌, ◌-◌, ◌/◌, ◌<◌, ◌==◌, ◌||◌, ◌↔◌, ◌∙◌, ◌∷◌, ◌≡◌, ◌≢◌, ◌≤◌, ◌⊎◌}
+pub use Rattle.std.proofs.Common.{Bool, Err, IfSome, IsSome, List, None, Ok, Option, Result, Some, [], ap, append-nil, append_assoc, arith, cond, drop, eq-eqb, eqb-true, false, get_or, inl, inr, is_some, length, length-append, length-set, nat_le, nat_lt, not, option_map, option_to_list, refl, replicate, set, slice_get, subst, suc, sym, take, true, true≢false, zero, zero-add, ℕ, ⊎_elim, ◌%◌, ◌&&◌, ◌*◌, ◌++◌, ◌+◌, ◌-◌, ◌/◌, ◌<◌, ◌==◌, ◌||◌, ◌↔◌, ◌∙◌, ◌∷◌, ◌≡◌, ◌≢◌, ◌≤◌, ◌⊎◌}
 pub use Rattle.std.proofs.Math.Nat.{mul-le-mul_right}
 pub use Rattle.std.proofs.Math.Seq.{get_or-append_right, get_or-append_seam}
 pub use Rattle.std.proofs.lemmas.Bool.{and_parts, cases_eq, cases_lt, eqb-false, le-leb, le-ltb, leb-false, leb-true, ltb-false, ltb-true}
 pub use Rattle.std.proofs.lemmas.Bool.Decides.{nat_tests}
-pub use Rattle.std.proofs.lemmas.List.{append_cancel_left, get_or-drop, get_or-replicate, get_or-set_other, get_or-set_same, get_or-take, get_or_append_left, get_or_past, length-drop, length-take-le, set-get_or, take-append-drop}
-pub use Rattle.std.proofs.lemmas.List.Elements.{All-append, All-cons, All-get_or, All-head, All-nil, All-tail, All-weaker, Contains-append_cases}
+pub use Rattle.std.proofs.lemmas.List.{append_cancel_left, get_or-drop, get_or-replicate, get_or-set_other, get_or-set_same, get_or-take, get_or_append_left, get_or_past, length-drop, length-take-le, take-append-drop}
+pub use Rattle.std.proofs.lemmas.List.Elements.{All-append, All-cons, All-get_or, All-head, All-nil, All-tail, All-weaker}
 pub use Rattle.std.proofs.lemmas.List.FromFn.{get_or-range_with_len, length-range_with_len}
 pub use Rattle.std.proofs.lemmas.List.Sums.{fold-append, sum_by-append, sum_by-cons}
 pub use Rattle.std.proofs.lemmas.Option.{none-some}
@@ -17,7 +17,7 @@ pub use Rattle.model_bits.specs.declared.heard.Cause.TheVariants.{Extension, Fcs
 pub use Rattle.model_bits.specs.Stream.{dropped as bits_dropped, Event as StreamEvent, frame as stream_frame, overlong as stream_overlong}
 pub use Rattle.model_bits.specs.StuffingLaws.{AreOctets}
 pub use Rattle.lapd_frame.proofs.Spelling.{reading-again, reading-found}
-pub use Rattle.lapd_frame.specs.Grammar.{Parts, Spells, cr_bit, head_of, one_of, row, second_octet, spelling}
+pub use Rattle.lapd_frame.specs.Grammar.{Parts, Spells, head_of, row, second_octet, spelling}
 pub use Rattle.lapd_frame.specs.Reading.{long_reading}
 unfoldable pub use Rattle.lapd_frame.specs.Reading.{control_of, header_of, reading, supervisory_of, unnumbered_of}
 pub use Rattle.lapd_frame.specs.Services.{same_service, sapi_of, service_of}
@@ -25,18 +25,17 @@ pub use Rattle.lapd_frame.specs.declared.addresses.Address.{Address}
 pub use Rattle.lapd_frame.specs.declared.addresses.Side.{Side}
 pub use Rattle.lapd_frame.specs.declared.addresses.Side.TheVariants.{Network, User}
 pub use Rattle.lapd_frame.specs.declared.controls.Control.{Control}
-pub use Rattle.lapd_frame.specs.declared.controls.Control.TheVariants.{Disc, Dm, Frmr, Information, ReceiveNotReady, ReceiveReady, Reject, Sabme, Ua, Ui, Xid as FrameXid}
+pub use Rattle.lapd_frame.specs.declared.controls.Control.TheVariants.{ReceiveReady, Ua}
 pub use Rattle.lapd_frame.specs.declared.faults.ReadFault.{ReadFault}
 pub use Rattle.lapd_frame.specs.declared.faults.ReadFault.TheVariants.{BadExtension, Short, Undefined, WrongSize}
 pub use Rattle.lapd_frame.specs.declared.notes.Note.{Note}
-pub use Rattle.lapd_frame.specs.declared.notes.Note.TheVariants.{Assigned, Data as FrameData, Doubled, Error, EstablishConfirm, EstablishIndication, ReleaseConfirm, ReleaseIndication, Removed, Unit as FrameUnit, Xid}
+pub use Rattle.lapd_frame.specs.declared.notes.Note.TheVariants.{Assigned, Doubled, Removed}
 pub use Rattle.lapd_frame.specs.declared.overlong.Long.{Long}
 pub use Rattle.lapd_frame.specs.declared.refusals.Refusal.{Refusal}
-pub use Rattle.lapd_frame.specs.declared.refusals.Refusal.TheVariants.{BadTei, ControlFull, NoLink, PoolFull, QueueFull, TableFull, TeiTaken, TooLong, WrongState}
+pub use Rattle.lapd_frame.specs.declared.refusals.Refusal.TheVariants.{PoolFull}
 pub use Rattle.lapd_frame.specs.declared.services.Service.{Service}
 pub use Rattle.lapd_frame.specs.declared.services.Service.TheVariants.{Call, Packet}
 pub use Rattle.lapd_frame.specs.declared.timers.Order.{Order}
-pub use Rattle.lapd_frame.specs.declared.timers.Order.TheVariants.{Start, Stop}
 pub use Rattle.lapd_frame.specs.declared.timers.Timer.{Timer}
 pub use Rattle.lapd_frame.specs.declared.timers.Timer.TheVariants.{T200, T201, T203}
 unfoldable pub use Rattle.lapd_seq.specs.Circle.{distance_of, named}
@@ -46,34 +45,32 @@ pub use Rattle.model_link.proofs.OwnNotes.{notes-own}
 pub use Rattle.model_link.proofs.SoundEvents.{sound-after}
 pub use Rattle.model_link.proofs.TellRows.{cleared-orders, cleared-tells, event-tells, two-orders}
 pub use Rattle.model_link.specs.Events.{ClearBusy as LinkClearBusy, Data as LinkData, Establish as LinkEstablish, Event as LinkEvent, Received as LinkReceived, Release as LinkRelease, Request as LinkRequest, SetBusy as LinkSetBusy, cleared as link_cleared, expired as link_expired, frame as link_frame, offer as link_offer, overlong as link_overlong, received as link_received, requested as link_requested, undefined as link_undefined, wrong_size as link_wrong_size}
-pub use Rattle.model_link.specs.Link.{Link, frame_of as link_frame_of, fresh, outstanding, unsent}
-pub use Rattle.model_link.specs.Machine.{after as link_after, course as link_course, given as link_given, told as link_told}
+pub use Rattle.model_link.specs.Link.{Link, frame_of as link_frame_of, fresh}
+pub use Rattle.model_link.specs.Machine.{after as link_after, given as link_given, told as link_told}
 pub use Rattle.model_link.specs.Notes.{IsOwn, is_data, is_unit}
-pub use Rattle.model_link.specs.Offers.{is_awaiting_acknowledgement, is_established, may_send_information, offer_among, with_one_sent}
+pub use Rattle.model_link.specs.Offers.{is_established, offer_among}
 pub use Rattle.model_link.specs.Sound.{IsSound as LinkIsSound, is_information}
-pub use Rattle.model_link.specs.Steps.{Course as LinkCourse, Sent, begun, ◌then◌}
+pub use Rattle.model_link.specs.Steps.{Course as LinkCourse, begun}
 pub use Rattle.model_link.specs.Told.{Given, runs, timer_at}
-pub use Rattle.model_link.specs.Words.{begin_anew, response}
+pub use Rattle.model_link.specs.Words.{response}
 pub use Rattle.model_link.specs.declared.frames.ControlFrame.{ControlFrame}
 pub use Rattle.model_link.specs.declared.states.State.{State}
-pub use Rattle.model_link.specs.declared.states.State.TheVariants.{AwaitingEstablishment, AwaitingRelease, Established, TeiAssigned, TimerRecovery}
 pub use Rattle.model_link.specs.declared.terms.Terms.{Terms}
 pub use Rattle.model_link.specs.declared.timers.LinkTimer.{LinkTimer}
-pub use Rattle.model_link.specs.declared.timers.LinkTimer.TheVariants.{T200 as LinkT200, T203 as LinkT203}
 pub use Rattle.lapd_tei.proofs.Brief.{IsBrief, told_brief}
 pub use Rattle.lapd_tei.proofs.Followed.{expired_t201_follows, t201_follows}
 pub use Rattle.lapd_tei.proofs.LawLemmas.{one_more_waits}
 pub use Rattle.lapd_tei.proofs.Memories.{remembered-on}
 pub use Rattle.lapd_tei.proofs.Pigeonholes.{one_is_free}
 pub use Rattle.lapd_tei.proofs.Tables.{at-off, at-within, free_place-is, free_tei-is, is_on-at, not_not, place_of-is}
-pub use Rattle.lapd_tei.specs.Events.{Event as TeiEvent, assign as assigning, check, down, expiry as tei_expiry, message, refusal_if, remove, step, unless_refused as tei_unless_refused, after as tei_after, told as tei_told}
+pub use Rattle.lapd_tei.specs.Events.{Event as TeiEvent, assign as assigning, check, down, expiry as tei_expiry, message, refusal_if, remove, unless_refused as tei_unless_refused, after as tei_after, told as tei_told}
 unfoldable pub use Rattle.lapd_tei.specs.Events.{course, refusal as tei_refusal}
 pub use Rattle.lapd_tei.specs.Laws.{Follows, Moves, stop_of}
-pub use Rattle.lapd_tei.specs.Machine.{Management, TeiTold}
+pub use Rattle.lapd_tei.specs.Machine.{Management}
 pub use Rattle.lapd_tei.specs.Messages.{action_of, frame_of, heard_in, heard_of_type}
-pub use Rattle.lapd_tei.specs.Rows.{assign, assign_new, count, counted as tei_counted, doubled, expire_check, expire_period, is_checked, is_unanswered, join_at, may_be_checked, nothing_happens, put_on, remembered_in, removed, respond, responses, serve, take_off, is_for as rows_is_for, request as rows_request, tei_in as rows_tei_in, verify as rows_verify}
+pub use Rattle.lapd_tei.specs.Rows.{assign, assign_new, count, counted as tei_counted, doubled, expire_check, expire_period, is_unanswered, join_at, may_be_checked, nothing_happens, remembered_in, removed, respond, responses, serve, is_for as rows_is_for, request as rows_request, tei_in as rows_tei_in, verify as rows_verify}
 pub use Rattle.lapd_tei.specs.Sound.{IsAt, IsSound as TeiIsSound, IsSoundCheck, IsSoundQueue, IsSoundTable}
-pub use Rattle.lapd_tei.specs.Table.{Places, free_place, free_tei, has, is_free, is_on, place_of}
+pub use Rattle.lapd_tei.specs.Table.{Places, free_place, free_tei, is_free, is_on, place_of}
 pub use Rattle.lapd_tei.specs.Words.{Course, Step, begin_check, begun as tei_begun, check_is, end_check, freed, is_of_other, leave, left, lose_one, lost_after, no_room, send, unserved, with_message as tei_with_message}
 pub use Rattle.lapd_tei.specs.declared.check.Period.{Period}
 pub use Rattle.lapd_tei.specs.declared.check.Period.TheVariants.{First, Second}
@@ -92,11 +89,11 @@ pub use Rattle.model_line.proofs.LineSound.{after_sound, fresh_sound}
 pub use Rattle.model_line.proofs.LinksSound.{sound_in, begin_away, begin_here}
 pub use Rattle.model_line.proofs.NextRises.{next_falls}
 pub use Rattle.model_line.proofs.NotPool.{line_not_pool}
-pub use Rattle.model_line.proofs.Numbers.{at_place as line_at_place, number_within, place_at-number, service_at-number, sum_bounded, sum_changed}
+pub use Rattle.model_line.proofs.Numbers.{number_within, place_at-number, service_at-number, sum_bounded, sum_changed}
 pub use Rattle.model_line.proofs.Offered.{fresh_gives_nothing}
 pub use Rattle.model_line.proofs.ProperAims.{expiry_proper, heard_aims, heard_proper, request_proper, skipped}
 pub use Rattle.model_line.proofs.Ranges.{ranges_of, terms_in_range}
-pub use Rattle.model_line.proofs.Sides.{WhereServed, everywhere, side_aims, side_where}
+pub use Rattle.model_line.proofs.Sides.{WhereServed, side_aims, side_where}
 pub use Rattle.model_line.proofs.Starts.{expiry_starts}
 pub use Rattle.model_line.proofs.TakenSound.{round_below}
 pub use Rattle.model_line.proofs.TakenWalk.{next_walk, taken_walk}
@@ -107,19 +104,19 @@ pub use Rattle.model_line.specs.Event.{Answer, Event, LineTold, dropped, expiry,
 pub use Rattle.model_line.specs.Expiry.{aim_of_expiry, at_timer, is_running, runs_at}
 pub use Rattle.model_line.specs.Heard.{addressed, aim_of_heard, aim_of_long, aim_of_reading, at_place, drop_for, group_tei, heard_side, management_sapi, message_of, to_service, unless_at_link}
 pub use Rattle.model_line.specs.Laws.{notes_in, orders_in}
-pub use Rattle.model_line.specs.Line.{Line, UnitData, fresh_line, has_tei, link_at, link_count, link_in, link_number, link_of, place_at, place_in, service_at, tei_at, terms, terms_at, window, with_link}
-pub use Rattle.model_line.specs.Machine.{of_request, unless_refused, unless_refused_told}
+pub use Rattle.model_line.specs.Line.{Line, UnitData, fresh_line, has_tei, link_at, link_count, link_in, link_number, place_at, place_in, service_at, tei_at, terms, terms_at, with_link}
+pub use Rattle.model_line.specs.Machine.{unless_refused, unless_refused_told}
 unfoldable pub use Rattle.model_line.specs.Machine.{after, answer, takes_slot as line_takes_slot}
-pub use Rattle.model_line.specs.Refusal.{Row, bad_tei, check_running, control_full, first_that_holds, no_link, pool_full, queue_full, table_full, tei_taken, too_long, wrong_side, wrong_state, refusal}
+pub use Rattle.model_line.specs.Refusal.{bad_tei, check_running, control_full, no_link, table_full, tei_taken, wrong_side, refusal}
 pub use Rattle.model_line.specs.Request.{Assign, Check, ClearBusy, Data, Deactivate, Down, Establish, Release, Remove, Request, SetBusy, Unit}
 pub use Rattle.model_line.specs.Requested.{aim_of_request, at_deactivated, at_requested}
-pub use Rattle.model_line.specs.Sides.{IsToGroup, at_side, group_tei as line_group_tei, group_told, has_management, managed_at, told_at, told_of_group, told_of_ui}
+pub use Rattle.model_line.specs.Sides.{IsToGroup, at_side, group_tei as line_group_tei, group_told, has_management, told_at}
 pub use Rattle.model_line.specs.Sound.{IsInRange, IsSound, IsSoundAt, IsUnitData}
 pub use Rattle.model_line.specs.Stored.{sum_of_links}
 pub use Rattle.model_line.specs.Taken.{Taken, first_taken, line_of, link_taken, message_taken, next_of, round, round_from, taken, unit_taken, with_given_frame, with_message, with_unit}
 pub use Rattle.model_line.specs.declared.config.Config.{Config}
 pub use Rattle.model_line.proofs.SoundParts.{with_units}
-pub use Rattle.model_card.proofs.CardSound.{after_is_sound, always_sound, fresh_is_sound}
+pub use Rattle.model_card.proofs.CardSound.{after_is_sound, always_sound}
 pub use Rattle.model_card.proofs.EachMoment.{each_moment, moment_of}
 pub use Rattle.model_card.proofs.Reaching.{reached-after, reached-fresh, reached-sound}
 pub use Rattle.model_card.proofs.Steps.{HasLines, after_lines, by_room, has_lines, line_sound}
@@ -127,7 +124,6 @@ pub use Rattle.model_card.specs.Card.{Card, fresh as card_fresh, is_full, line_a
 pub use Rattle.model_card.specs.Event.{Event as CardEvent, at}
 pub use Rattle.model_card.specs.Machine.{after as card_after, answer as card_answer, wants_room}
 pub use Rattle.model_card.specs.Numbered.{LinkName}
-pub use Rattle.model_card.specs.Reached.{IsReached}
 pub use Rattle.model_card.specs.Run.{AreAtLines, IsAtLine, Moment}
 unfoldable pub use Rattle.model_card.specs.Run.{after_all, moments}
 pub use Rattle.model_card.specs.Sound.{IsSound as CardIsSound}
@@ -145,17 +141,17 @@ pub use Rattle.laws_link.proofs.OfTwo.Waiting.{in-turn, nothing-given, nothing-t
 pub use Rattle.laws_link.proofs.Offering.{carried-is, given-is-offered, offer-counts, offer-leaves}
 pub use Rattle.laws_link.proofs.Once.{data-is, within-is}
 pub use Rattle.laws_link.proofs.Starting.{given-leaves}
-pub use Rattle.laws_link.specs.Accepted.{accepted, contents_asked, ends, is_loss, is_release, tells_loss}
-pub use Rattle.laws_link.specs.Heard.{contents_heard, data_due, unit_due, unit_heard}
+pub use Rattle.laws_link.specs.Accepted.{contents_asked, ends, is_loss, tells_loss}
+pub use Rattle.laws_link.specs.Heard.{contents_heard, data_due, unit_heard}
 pub use Rattle.laws_link.specs.History.{History, IsCounted, Share, share}
 pub use Rattle.laws_link.specs.InOrder.{IsInOrder}
 pub use Rattle.laws_link.specs.Known.{is_up, known, seen}
 pub use Rattle.laws_link.specs.Offered.{IsOffered}
 pub use Rattle.laws_link.specs.States.{as_heard, is_overlong}
-pub use Rattle.laws_link.specs.Telling.{told_by, told_cleared}
+pub use Rattle.laws_link.specs.Telling.{told_cleared}
 pub use Rattle.laws_link.specs.Timed.{ComesInStep, IsTimed, is_same, obey, obeyed}
-pub use Rattle.laws_link.specs.Waiting.{put, room, waiting_left}
-pub use Rattle.laws_link.specs.two.Needed.{HasItsTimer, needed}
+pub use Rattle.laws_link.specs.Waiting.{waiting_left}
+pub use Rattle.laws_link.specs.two.Needed.{HasItsTimer}
 pub use Rattle.laws_link.specs.two.Polls.{Answered, AnsweredBy, IsPollWhileUp, SaysReceived, asked_of}
 pub use Rattle.laws_link.specs.two.Waits.{Goes, GoesWhole, HasNothingToSend}
 unfoldable pub use Rattle.laws_link.specs.two.Waits.{after_offers}
@@ -171,12 +167,12 @@ pub use Rattle.laws_line.specs.Heard.{IsFor, IsHeard, IsMalformed, IsNotedOnce, 
 pub use Rattle.laws_line.specs.Knowledge.{is_up_of, link_is_up, on_by_note, on_by_request, taken_for_on, taken_for_up, up_by_note}
 pub use Rattle.laws_line.specs.Loss.{IsMoved, IsTold, is_loss_of}
 pub use Rattle.laws_line.specs.Machine.{DropsChangeNothing, LinesRise, LinesStaySound}
-pub use Rattle.laws_line.specs.Messages.{Expires, ExpiresIn, FindsNoRoom, Grants, IsAnswered, IsAssigned, IsDenied, IsOver, IsPutOn, IsSent, IsSilent as LineIsSilent, IsSpelled, IsToldAgain, IsUnmoved, KeepsTeis, Leaves, Responds, RespondsTo, Said, Says, Serves, Verifies, Waits, answered, asks, check_without, has_no_answer, is_answered, is_of_management, may_begin, new_check, responds, tei_for, verifies}
-pub use Rattle.laws_line.specs.Noted.{NotesItsOwn, noted_coming, noted_ending, noted_leaving}
-pub use Rattle.laws_line.specs.OneEvent.{IsAlone, IsGranted, IsManaged, IsOfPart, IsOneEvent, SaysNothing, noted_behind, noted_ending as line_noted_ending, of_down, of_group, of_link as line_of_link, of_management as line_of_management, of_next, of_units}
+pub use Rattle.laws_line.specs.Messages.{Expires, ExpiresIn, FindsNoRoom, Grants, IsAnswered, IsAssigned, IsDenied, IsOver, IsSent, IsSilent as LineIsSilent, IsSpelled, IsToldAgain, IsUnmoved, KeepsTeis, Leaves, Responds, RespondsTo, Said, Says, Serves, Verifies, Waits, asks, is_of_management, may_begin, new_check, responds, tei_for, verifies}
+pub use Rattle.laws_line.specs.Noted.{NotesItsOwn, noted_coming, noted_leaving}
+pub use Rattle.laws_line.specs.OneEvent.{IsAlone, IsGranted, IsManaged, IsOfPart, IsOneEvent, SaysNothing, noted_behind, of_down, of_group, of_link as line_of_link, of_management as line_of_management, of_next, of_units}
 pub use Rattle.laws_line.specs.Reasons.{HasReason, HaveReasons}
 pub use Rattle.laws_line.specs.Requests.{deactivates, of_link as requests_of_link}
-pub use Rattle.laws_line.specs.Served.{HasNothing, IsIdle, IsItsTurn, IsOfLink, IsOwed, IsServed, IsSilent, IsSilentAt, TurnStays, UnitsWait, contents_of_link, unit_asked, units_behind, units_left}
+pub use Rattle.laws_line.specs.Served.{HasNothing, IsIdle, IsItsTurn, IsOfLink, IsOwed, IsServed, IsSilent, IsSilentAt, TurnStays, UnitsWait, contents_of_link, unit_asked, units_behind}
 pub use Rattle.laws_line.specs.Share.{asked_by, asked_for, ending, is_granted, is_link, no_share, share_aimed, share_of}
 pub use Rattle.laws_line.specs.Short.{AnswersAreShort}
 pub use Rattle.laws_line.specs.Steady.{Brings, BringsMalformed, BringsMessage, HearsFrame, IsBy, IsDeactivated, IsOf, IsOfManagement, timer_of}
@@ -184,11 +180,11 @@ pub use Rattle.laws_line.specs.Timers.{HaveTheirTimers, LeavesTimers, StartsOne,
 pub use Rattle.laws_line.specs.Turns.{IsInTurn, LinksTakeTurns}
 pub use Rattle.laws_line.specs.Unmanaged.{IsUnmanaged, UsersManageNothing}
 pub use Rattle.laws_line.specs.WorkedAmong.{events, frames_first, one_comes, takes_are}
-pub use Rattle.laws_line.specs.WorkedPolled.{asked, before_poll, both_wait, call_link, is_up as line_is_up, is_valid, on_line, one_waits, poll, poll_octets, sabme_octets, small, still_on_line, two_to_go}
-pub use Rattle.laws_line.specs.WorkedSabme.{before_sabme, sabme}
+pub use Rattle.laws_line.specs.WorkedPolled.{asked, before_poll, both_wait, call_link, one_waits, poll_octets, sabme_octets, small, still_on_line, two_to_go}
+pub use Rattle.laws_line.specs.WorkedSabme.{before_sabme}
 pub use Rattle.laws_line.specs.card.Among.{AreAmong, IsIdleAmong}
 pub use Rattle.laws_line.specs.card.Brief.{CausesAreTold, LeavesOthers, LinksStay, OthersStay, TellsCause}
-pub use Rattle.laws_line.specs.card.Contents.{accepted_at, begun as line_begun, link_named, one_more, share_in}
+pub use Rattle.laws_line.specs.card.Contents.{accepted_at, link_named, one_more, share_in}
 pub use Rattle.laws_line.specs.card.GoesDown.{LinesGoDown as LineLinesGoDown, happens_at}
 pub use Rattle.laws_line.specs.card.Machine.{CardsAreReached}
 pub use Rattle.laws_line.specs.card.OneEvent.{IsOneEventIn}

@@ -1,5 +1,5 @@
 -- The words of std and of the crates below with which the proofs of this crate speak, from where they are defined.
-pub use Rattle.std.proofs.Common.{Bool, IsTrue, List, None, Option, Some, [], add-zero, ap, append-nil, append_assoc, arith, cond, drop, drop-drop, eq-eqb, eqb-true, false, fold, inl, inr, is_some, length, length-append, length-take-le, nat_lt, not, option_to_list, refl, slice_get, subst, suc, sym, take, true, true≢false, zero, ℕ, ⊎_elim, ◌%◌, ◌&&◌, ◌*◌, ◌++◌, ◌+◌, ◌-◌, ◌<◌, ◌==◌, ◌||◌, ◌∙◌, ◌∷◌, ◌≡◌, ◌≢◌, ◌≤◌, ◌⊎◌}
+pub use Rattle.std.proofs.Common.{Bool, IsTrue, List, None, Option, Some, [], add-zero, ap, append-nil, append_assoc, arith, cond, drop, drop-drop, eq-eqb, eqb-true, false, inl, inr, is_some, length, length-append, length-take-le, nat_lt, not, option_to_list, refl, slice_get, subst, suc, sym, take, true, true≢false, zero, ℕ, ⊎_elim, ◌%◌, ◌&&◌, ◌++◌, ◌+◌, ◌-◌, ◌<◌, ◌==◌, ◌||◌, ◌∙◌, ◌∷◌, ◌≡◌, ◌≢◌, ◌≤◌, ◌⊎◌}
 pub use Rattle.std.proofs.Math.Seq.{take-length}
 pub use Rattle.std.proofs.lemmas.Bool.{and_parts, and_right, cases_lt, eqb-false, false_from_ne_true, le-leb, le-ltb, leb-false, leb-true, lt-ltb, ltb-false, ltb-true, or_parts, true_from_ne_false}
 pub use Rattle.std.proofs.lemmas.List.{drop-append-le, drop_all, take_all}
@@ -12,7 +12,6 @@ pub use Rattle.std.specs.Option.{option_map_or}
 pub use Rattle.std.specs.Prelude.{All, IfSome, count_by, get_or, if◌then◌else◌, nat_le, unwrap_or}
 pub use Rattle.lapd_frame.specs.Grammar.{Parts}
 unfoldable pub use Rattle.lapd_frame.specs.Reading.{control_of, header_of, reading, supervisory_of, unnumbered_of}
-pub use Rattle.lapd_frame.specs.Services.{same_service}
 pub use Rattle.lapd_frame.specs.declared.addresses.Address.{Address}
 pub use Rattle.lapd_frame.specs.declared.controls.Control.{Control}
 pub use Rattle.lapd_frame.specs.declared.controls.Control.TheVariants.{Disc, Dm, Frmr, Information, ReceiveNotReady, ReceiveReady, Reject, Sabme, Ua, Ui, Xid}
@@ -20,61 +19,58 @@ pub use Rattle.lapd_frame.specs.declared.notes.ErrorCode.{ErrorCode}
 pub use Rattle.lapd_frame.specs.declared.notes.Note.{Note}
 pub use Rattle.lapd_frame.specs.declared.refusals.Refusal.{Refusal}
 pub use Rattle.lapd_frame.specs.declared.refusals.Refusal.TheVariants.{WrongState}
-pub use Rattle.lapd_frame.specs.declared.services.Service.{Service}
-pub use Rattle.lapd_frame.specs.declared.services.Service.TheVariants.{Call, Packet}
 pub use Rattle.lapd_frame.specs.declared.timers.Order.{Order}
-pub use Rattle.lapd_frame.specs.declared.timers.Order.TheVariants.{Start, Stop}
 pub use Rattle.lapd_frame.specs.declared.timers.Timer.{Timer}
 pub use Rattle.lapd_seq.proofs.Callers.{distance-plain, is_seq, seq-value}
 unfoldable pub use Rattle.lapd_seq.specs.Circle.{distance_of, named}
 unfoldable pub use Rattle.lapd_seq.specs.Numbers.{seq}
 pub use Rattle.lapd_seq.specs.declared.numbers.Seq.{Seq}
-pub use Rattle.model_link.proofs.Delivering.{delivery, event-delivers}
+pub use Rattle.model_link.proofs.Delivering.{event-delivers}
 pub use Rattle.model_link.proofs.Direction.{frames-append, frames_of, line_of}
 pub use Rattle.model_link.proofs.Joined.{Joined, done-at, ends-agree, joined-first, joined-turned}
 pub use Rattle.model_link.proofs.Kept.{Fits, FitsEvent, Kept, Purse, another, two}
 unfoldable pub use Rattle.model_link.proofs.Kept.{how_many}
 pub use Rattle.model_link.proofs.Leads.{Leads, Passed, bit_leads, both_ways, depending_leads, from_more, keeping_then, leaves, nothing_leads, number_leads, tested_leads, then_leads, to_less, told_ways}
-pub use Rattle.model_link.proofs.Lines.{Carried, Means, Piece, Rising, rising-low}
+pub use Rattle.model_link.proofs.Lines.{Means, Piece, rising-low}
 pub use Rattle.model_link.proofs.Numbering.{delivered-at_once}
 pub use Rattle.model_link.proofs.OwnNotes.{notes-own}
 pub use Rattle.model_link.proofs.Rows.{event_row, every_event, frame_row}
 pub use Rattle.model_link.proofs.SoundEvents.{sound-after, sound-all, sound-fresh}
 pub use Rattle.model_link.proofs.SoundRows.{named-within}
 pub use Rattle.model_link.proofs.TellRows.{event-tells}
-pub use Rattle.model_link.specs.AwaitingEstablishment.{frame_in_5, malformed_in_5, t200_in_5}
-pub use Rattle.model_link.specs.AwaitingRelease.{frame_in_6, malformed_in_6, t200_in_6}
-pub use Rattle.model_link.specs.Deliveries.{Arrived, Establishes, IsEstablished, MayEstablish, eligible, eligible_of, information_in, information_of, is_eligible, restarts}
+pub use Rattle.model_link.specs.AwaitingEstablishment.{frame_in_5}
+pub use Rattle.model_link.specs.AwaitingRelease.{frame_in_6}
+pub use Rattle.model_link.specs.Deliveries.{Arrived, Establishes, IsEstablished, MayEstablish, eligible_of, information_in, information_of, restarts}
 pub use Rattle.model_link.specs.Events.{ClearBusy, Data, Establish, Event, Received, Release, Request, SetBusy, cleared, expired, frame, offer, overlong, received, requested, undefined, wrong_size}
-pub use Rattle.model_link.specs.Link.{Link, address_at, frame_of, fresh, has_outstanding, is_asked, is_multiple_frame, is_own_busy, is_peer_busy, is_rejecting, may_repeat, outstanding}
+pub use Rattle.model_link.specs.Link.{Link, address_at, frame_of, fresh, has_outstanding, is_asked, is_multiple_frame, is_peer_busy}
 pub use Rattle.model_link.specs.Machine.{after, course, expire_running, expired_in, expired_step, frame_in, frame_step, given, given_of, is_running, malformed_in, received_step, step, told, told_of_clearing}
 unfoldable pub use Rattle.model_link.specs.Machine.{after_all}
 pub use Rattle.model_link.specs.Notes.{is_data, is_unit}
-pub use Rattle.model_link.specs.Offers.{first_unsent, give_information, give_waiting, is_awaiting_acknowledgement, is_established, may_send_information, next_information, offer_among, offer_step, send_acknowledgement, send_information, with_one_sent}
+pub use Rattle.model_link.specs.Offers.{first_unsent, give_information, give_waiting, is_awaiting_acknowledgement, is_established, may_send_information, next_information, offer_among, offer_step, send_acknowledgement, with_one_sent}
 pub use Rattle.model_link.specs.Sound.{IsInRange, IsSettledIn, IsSound, IsWaitingFrame, is_information}
 pub use Rattle.model_link.specs.Steps.{Course, Sent, Step, begun, by_bit, changed, depending_on, nothing, ◌then◌}
-pub use Rattle.model_link.specs.TeiAssigned.{establish_in_4, frame_in_4, malformed_in_4, release_in_4}
+pub use Rattle.model_link.specs.TeiAssigned.{establish_in_4, frame_in_4, release_in_4}
 pub use Rattle.model_link.specs.Told.{orders_for, runs, timer_at}
 pub use Rattle.model_link.specs.TwoEnds.{Act, Agree, Begins, Doing, End, Ends, IsUp, acting, asks, at_far, at_near, doing, expires, frame_given, loses, receives, sends, turned, with_first_lost, with_first_of, with_link, with_sent}
 unfoldable pub use Rattle.model_link.specs.TwoEnds.{StayUp, doing_all}
-pub use Rattle.model_link.specs.Words.{acknowledge, answer, asked_is, begin_anew, by_number, clear_flags, command, count_received, deliver, deliver_unit, discard, enquire, enter, error, establish_confirm, establish_indication, has_room, leave_unserved, no_timer, note, own_busy_is, peer_busy_is, pending_is, re_establish, ready_to_receive, reject, rejecting_is, release_confirm, release_indication, repeated, report_ready, response, send, send_again_from, start, unit_data, without_flags, zero_numbers}
+pub use Rattle.model_link.specs.Words.{acknowledge, answer, asked_is, begin_anew, by_number, clear_flags, command, deliver, deliver_unit, discard, enquire, enter, error, establish_confirm, establish_indication, has_room, leave_unserved, no_timer, note, own_busy_is, peer_busy_is, pending_is, re_establish, ready_to_receive, reject, rejecting_is, release_confirm, release_indication, repeated, report_ready, response, send, send_again_from, start, unit_data, without_flags, zero_numbers}
 pub use Rattle.model_link.specs.declared.frames.ControlFrame.{ControlFrame}
 pub use Rattle.model_link.specs.declared.states.State.{State}
 pub use Rattle.model_link.specs.declared.states.State.TheVariants.{AwaitingEstablishment, AwaitingRelease, Established, TeiAssigned, TimerRecovery}
 pub use Rattle.model_link.specs.declared.terms.Terms.{Terms}
 pub use Rattle.model_link.specs.declared.timers.LinkTimer.{LinkTimer}
 pub use Rattle.model_link.specs.declared.timers.LinkTimer.TheVariants.{T200, T203}
-pub use Rattle.model_link.specs.Established.{acknowledged_by_information_in_7, acknowledged_by_rej_in_7, acknowledged_by_rnr_in_7, acknowledged_in_7, frame_in_7, is_all_sent, is_beyond_acknowledged, particulars_in_7, timer_in_7, unsolicited}
-pub use Rattle.model_link.specs.MultipleFrame.{answered, clear_busy_in_7_8, contents_in_7_8, data_in_7_8, failed, information_in_7_8, is_final, release_in_7_8, set_busy_in_7_8, supervisory, ua_in_7_8}
-pub use Rattle.model_link.specs.Requests.{granted, refusal, refusal_of_contents, release_in, serves}
-pub use Rattle.model_link.specs.TimerRecovery.{acknowledged_in_8, frame_in_8, particulars_in_8, recovered, solicited, t200_in_8}
+pub use Rattle.model_link.specs.Established.{acknowledged_by_information_in_7, acknowledged_by_rej_in_7, acknowledged_by_rnr_in_7, acknowledged_in_7, frame_in_7, is_all_sent, particulars_in_7, unsolicited}
+pub use Rattle.model_link.specs.MultipleFrame.{answered, clear_busy_in_7_8, contents_in_7_8, failed, information_in_7_8, is_final, set_busy_in_7_8, supervisory}
+pub use Rattle.model_link.specs.Requests.{granted, refusal, release_in}
+pub use Rattle.model_link.specs.TimerRecovery.{acknowledged_in_8, frame_in_8, particulars_in_8, recovered, solicited}
 pub use Rattle.laws_link.specs.Accepted.{acknowledged_by, beyond, contents_asked, empties, is_loss, is_release, number_of, tells_loss}
 pub use Rattle.laws_link.specs.Beginning.{IsSeen, tells_beginning}
 pub use Rattle.laws_link.specs.Effects.{IsReleasedIn, TakesEffect}
-pub use Rattle.laws_link.specs.Expiries.{Expires, ExpiresIn, IsGivenUp, IsSent, enquiry}
-pub use Rattle.laws_link.specs.Flags.{asked_left, flag_left, owed_behind, owed_in, own_busy_left, peer_busy_left, pending_left, rejecting_heard, rejecting_left, repeats_left, takes_contents, unless_put}
+pub use Rattle.laws_link.specs.Expiries.{Expires, ExpiresIn}
+pub use Rattle.laws_link.specs.Flags.{asked_left, flag_left, owed_behind, owed_in, own_busy_left, peer_busy_left, rejecting_heard, repeats_left, takes_contents, unless_put}
 pub use Rattle.laws_link.specs.Following.{Follows}
-pub use Rattle.laws_link.specs.Heard.{IsNotedOnce, contents_heard, data_due, in_i_frame, in_sequence, in_ui_frame, unit_due, unit_heard, within}
+pub use Rattle.laws_link.specs.Heard.{IsNotedOnce, contents_heard, data_due, unit_due, unit_heard, within}
 pub use Rattle.laws_link.specs.History.{History, IsCounted, IsKept, Share, left_by, nothing_yet, share, with_share}
 unfoldable pub use Rattle.laws_link.specs.History.{with_all}
 pub use Rattle.laws_link.specs.InOrder.{IsInOrder}
@@ -85,11 +81,11 @@ pub use Rattle.laws_link.specs.Samples.{sabme, up, usual_terms}
 pub use Rattle.laws_link.specs.Sending.{GoesBackTo, MayGo, asked_from, reported}
 unfoldable pub use Rattle.laws_link.specs.Sending.{i_frames_offered, offered}
 pub use Rattle.laws_link.specs.Starting.{LeavesTimers}
-pub use Rattle.laws_link.specs.States.{as_heard, by_expiry, numbers_begin, state_after}
-pub use Rattle.laws_link.specs.Steady.{AsksFrom, BeginsBusy, EndsBusy, MayEndBy, MayLose, MovesBusy, MovesSent, is_anew, tells_anew}
-pub use Rattle.laws_link.specs.Telling.{told_by, told_with}
+pub use Rattle.laws_link.specs.States.{as_heard, numbers_begin, state_after}
+pub use Rattle.laws_link.specs.Steady.{AsksFrom, MayEndBy, MayLose, MovesBusy, MovesSent, is_anew, tells_anew}
+pub use Rattle.laws_link.specs.Telling.{told_with}
 pub use Rattle.laws_link.specs.Timed.{ComesInStep, IsTimed, IsTimedIn, StaysInStep, is_same, obeyed}
-pub use Rattle.laws_link.specs.Waiting.{answers, commands, has_next_number, is_taken, lost_by, put, to_information, waiting_left}
+pub use Rattle.laws_link.specs.Waiting.{answers, commands, put, waiting_left}
 pub use Rattle.laws_link.specs.two.Ahead.{IsAhead, IsMild, IsMildAct, IsMildRequest}
 unfoldable pub use Rattle.laws_link.specs.two.Ahead.{StayAhead}
 pub use Rattle.laws_link.specs.two.AnyOrder.{IsStill, IsTurn, IsTurnOf, load, load_of, weight, weight_at}

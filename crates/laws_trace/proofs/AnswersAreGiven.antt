@@ -1,24 +1,10 @@
 -- What answers a poll, SABME or DISC is given within a number of calls: the law.
-use Rattle.laws_trace.proofs.Vocabulary.{◌≡◌, ℕ, ◌+◌, ◌-◌, ◌<◌, ◌==◌, ◌&&◌, Bool, true, false, cond, All, List, [], ◌∷◌, ◌++◌, map, length, take, drop, filter, Some, refl, sym, ap, ◌∙◌, subst, arith, append_assoc, option_map_or, All-head, All-cons, All-nil, Service, ControlFrame, Config, Line, IsInRange, control_text, deactivates, place_in, tei_at, link_at, link_in, link_number, link_count, place_of-is, place_at-number, service_at-number, number_within, at-within, unit_frame, line_at, at, moments, fresh, fresh_link, fresh_is_sound, always_sound, config-stays, all-left, all-right, CardEvent as Event, after, Card, after_all, IsAtLine, AreAtLines, after_all-append, Always, not, and_parts, eq-eqb, Answer, managed_after, managing_is_on as is_on, has_tei, View, Outgoing, outgoing_of, trace_of, lost_in}
-use Rattle.std.proofs.Math.Seq.{take-length}
-use Rattle.std.proofs.lemmas.List.{length-map}
-use Rattle.model_card.specs.Takes.{is_take, takes_of}
+use Rattle.laws_trace.proofs.Vocabulary.{◌≡◌, ℕ, ◌+◌, ◌-◌, ◌<◌, ◌==◌, ◌&&◌, Bool, true, false, cond, All, List, [], ◌∷◌, ◌++◌, map, length, take, drop, filter, Some, refl, sym, ap, ◌∙◌, subst, arith, append_assoc, option_map_or, All-head, All-cons, All-nil, Service, ControlFrame, Config, Line, IsInRange, control_text, deactivates, place_in, tei_at, link_at, link_in, link_number, link_count, place_of-is, place_at-number, service_at-number, number_within, at-within, unit_frame, line_at, at, moments, fresh, fresh_link, fresh_is_sound, always_sound, config-stays, all-left, all-right, CardEvent as Event, after, Card, after_all, IsAtLine, AreAtLines, after_all-append, Always, not, and_parts, eq-eqb, Answer, managed_after, managing_is_on as is_on, has_tei, View, Outgoing, outgoing_of, trace_of, lost_in, take-length, length-map, is_take, takes_of, frames_given, waiting-taken, most_frames_before, changed, command_of, put_in, is_frame_of, Observed, by_event, enters, in_state, moment_of, view_of, views, outgoing_waits as waits, trace_frame_in as frame_in, Moment, units_of, text}
 use Rattle.model_line.specs.Event as line_event
-use Rattle.model_card.specs.ports.Codec.{frames_given}
 use Rattle.laws_line.specs.card.Among.{AreAmong}
 unfoldable use Rattle.laws_line.specs.card.PromisesOfTakes.{StaysAt, come_first_at}
 use Rattle.laws_line.specs.card.PromisesOfTakes.{IsNotDeactivated, is_deactivated_at}
-use Rattle.laws_line.proofs.OfCard.Wherever.{waiting-taken}
-use Rattle.laws_line.specs.Drains.{most_frames_before}
 use Rattle.laws_trace.specs.NoLossInVain.{puts_by}
-use Rattle.laws_trace.specs.ControlFrames.{changed, command_of, put_in}
-use Rattle.laws_trace.specs.LinkFrames.{is_frame_of}
-use Rattle.laws_trace.specs.Observer.{Observed, by_event, enters, in_state, moment_of, view_of, views}
-use Rattle.laws_trace.specs.Outgoing.{waits}
-use Rattle.laws_trace.specs.Trace.{frame_in}
-use Rattle.model_card.specs.Run.{Moment}
-use Rattle.laws_trace.specs.UnitsGoOut.{units_of}
-use Rattle.laws_trace.specs.FramesAreDue.{text}
 use Rattle.laws_trace.specs.AnswersAreGiven.{AreEnough, texts, go_first, begun_behind, WaitingIsGiven, AnswersAreGiven, WaitLast}
 unfoldable use Rattle.laws_trace.specs.AnswersAreGiven.{Stays, come_first}
 use Rattle.laws_line.specs.Among as at_line

@@ -1,12 +1,8 @@
 -- A request that finds the pool full finds what takes all slots: the law.
-use Rattle.laws_trace.proofs.Vocabulary.{◌≡◌, ℕ, true, sym, ap, ◌∙◌, arith, true≢false, leb-true, and_parts, Config, Card, line_at, is_full, at, by_room, fresh, after_all, card_answer as answer, Always, CardIsSound, config-stays, always_sound, fresh_is_sound}
-use Rattle.lapd_frame.specs.declared.refusals.Refusal.TheVariants.{PoolFull}
+use Rattle.laws_trace.proofs.Vocabulary.{◌≡◌, ℕ, true, sym, ap, ◌∙◌, arith, true≢false, leb-true, and_parts, Config, Card, line_at, is_full, at, by_room, fresh, after_all, card_answer as answer, Always, CardIsSound, config-stays, always_sound, fresh_is_sound, PoolFull, refused, request, Request, used}
 use Rattle.model_line.proofs.NotPool.{line_not_pool}
 use Rattle.model_line.specs.Counts.{is_pool_full}
-use Rattle.model_line.specs.Event.{refused, request}
 use Rattle.model_line.specs.Machine as lines
-use Rattle.model_line.specs.Request.{Request}
-use Rattle.model_card.specs.Card.{used}
 use Rattle.laws_trace.specs.NoSlotIsLost.{slots_taken, NoSlotIsLost}
 use Rattle.laws_trace.proofs.SlotsTaken.{taken-is}
 

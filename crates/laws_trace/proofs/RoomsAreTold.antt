@@ -1,11 +1,6 @@
 -- What is told of the room of a link: the law.
-use Rattle.laws_trace.proofs.Vocabulary.{◌≡◌, ℕ, ◌≤◌, Bool, true, false, not, cond, length, Some, None, Ok, refl, sym, ap, ◌∙◌, subst, arith, nat_lt, le-ltb, BadTei, NoLink, place_of-is, is_on-at, Room, queue_of, is_multiple_frame, room_of, Config, Line, link_of, place_in, terms, has_tei, unless, Card, line_at, free, refuses_by, Data, fresh, after_all, managing_is_on as is_on, View, view_of, Outgoing, outgoing_of, card_answer as answer, at, Always, is_up, always_sound, fresh_is_sound}
-use Rattle.model_card.specs.Card.{used}
+use Rattle.laws_trace.proofs.Vocabulary.{◌≡◌, ℕ, ◌≤◌, Bool, true, false, not, cond, length, Some, None, Ok, refl, sym, ap, ◌∙◌, subst, arith, nat_lt, le-ltb, BadTei, NoLink, place_of-is, is_on-at, Room, queue_of, is_multiple_frame, room_of, Config, Line, link_of, place_in, terms, has_tei, unless, Card, line_at, free, refuses_by, Data, fresh, after_all, managing_is_on as is_on, View, view_of, Outgoing, outgoing_of, card_answer as answer, at, Always, is_up, always_sound, fresh_is_sound, used, refused_by_the_table, request, refused, WrongState, ◌↔◌}
 use Rattle.model_card.specs.Room.{room}
-use Rattle.model_card.proofs.Refusals.{refused_by_the_table}
-use Rattle.model_line.specs.Event.{request, refused}
-use Rattle.lapd_frame.specs.declared.refusals.Refusal.TheVariants.{WrongState}
-use Rattle.std.specs.Prelude.{◌↔◌}
 use Rattle.laws_trace.specs.RoomsAreTold.{IsRoom, RoomsAreTold}
 use Rattle.laws_trace.proofs.LineAtEnd.{line-at-end, link-at-end}
 use Rattle.laws_trace.proofs.Outgoing.{view-is, kept-now}

@@ -1,8 +1,5 @@
 -- Sums over the TEIs, the places and the links of a line, and over the lines of a card.
-use Rattle.laws_trace.proofs.Vocabulary.{◌≡◌, ℕ, zero, suc, ◌+◌, ◌*◌, ◌<◌, ◌≤◌, cond, nat_lt, List, [], ◌∷◌, length, get_or, Option, Some, None, refl, sym, ap, ◌∙◌, arith, range_with_len, sum_by-cons, le-ltb, lt-ltb, none-some}
-use Rattle.std.specs.Prelude.{sum_by}
-use Rattle.std.specs.Option.{option_map_or}
-use Rattle.model_line.proofs.Numbers.{sum_changed}
+use Rattle.laws_trace.proofs.Vocabulary.{◌≡◌, ℕ, zero, suc, ◌+◌, ◌*◌, ◌<◌, ◌≤◌, cond, nat_lt, List, [], ◌∷◌, length, get_or, Option, Some, None, refl, sym, ap, ◌∙◌, arith, range_with_len, sum_by-cons, le-ltb, lt-ltb, none-some, sum_by, option_map_or, sum_changed}
 
 -- the same terms
 pub sum-same : (f g : ℕ → ℕ) (a n : ℕ) → ((j : ℕ) → j < a + n → g j ≡ f j) → sum_by g (range_with_len a n) ≡ sum_by f (range_with_len a n)

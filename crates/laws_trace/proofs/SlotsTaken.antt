@@ -1,13 +1,6 @@
 -- What the lines of a card keep, as whoever watches them has it, takes the slots of its pool.
-use Rattle.laws_trace.proofs.Vocabulary.{◌≡◌, ℕ, ◌+◌, ◌<◌, ◌==◌, ◌&&◌, true, false, cond, length, List, [], ◌∷◌, Option, Some, None, refl, sym, ap, ◌∙◌, subst, arith, range_with_len, fold, true≢false, Service, Call, Packet, queue_of, fresh_link, place_of-is, is_on-at, Config, Line, fresh_line, has_tei, place_in, unit_frame, IsInRange, IsSound, Card, line_at, is-off, fresh, CardEvent as Event, moments, after_all, AreAtLines, managing_is_on as is_on, Moment, Outgoing, keeps, nothing_yet, outgoing_of, watches, units_of, View, views, config-stays, always_sound, fresh_is_sound}
-use Rattle.std.specs.Prelude.{sum_by}
-use Rattle.std.specs.Option.{option_map_or}
-use Rattle.std.proofs.lemmas.List.{length-map}
-use Rattle.model_line.proofs.Numbers.{place_at-number, number_within}
-use Rattle.model_line.specs.Line.{link_at, link_in, link_number, tei_at, place_at}
-use Rattle.model_line.specs.Sound.{IsSoundAt}
+use Rattle.laws_trace.proofs.Vocabulary.{◌≡◌, ℕ, ◌+◌, ◌<◌, ◌==◌, ◌&&◌, true, false, cond, length, List, [], ◌∷◌, Option, Some, None, refl, sym, ap, ◌∙◌, subst, arith, range_with_len, fold, true≢false, Service, Call, Packet, queue_of, fresh_link, place_of-is, is_on-at, Config, Line, fresh_line, has_tei, place_in, unit_frame, IsInRange, IsSound, Card, line_at, is-off, fresh, CardEvent as Event, moments, after_all, AreAtLines, managing_is_on as is_on, Moment, Outgoing, keeps, nothing_yet, outgoing_of, watches, units_of, View, views, config-stays, always_sound, fresh_is_sound, sum_by, option_map_or, length-map, place_at-number, number_within, link_at, link_in, link_number, tei_at, place_at, IsSoundAt, used}
 use Rattle.model_line.specs.Stored.{slots_of, slots_by_link, sum_of_links}
-use Rattle.model_card.specs.Card.{used}
 use Rattle.laws_trace.specs.NoSlotIsLost.{kept_at, slots_taken}
 use Rattle.laws_trace.proofs.LineAtEnd.{line-at-end}
 use Rattle.laws_trace.proofs.Outgoing.{view-is, kept-now}

@@ -1,15 +1,6 @@
 -- Unit data is granted where there is room for it: the law.
-use Rattle.laws_trace.proofs.Vocabulary.{◌≡◌, ℕ, ◌≤◌, ◌==◌, ◌&&◌, ◌||◌, Bool, true, false, not, cond, nat_le, nat_lt, length, Option, Some, None, is_some, refl, sym, ap, ◌∙◌, subst, arith, lt-ltb, eqb-true, true≢false, le-ltb, leb-true, leb-false, BadTei, NoLink, place_of-is, Config, Effect, Line, has_tei, place_in, unit_frame, unless_refused_told, Card, line_at, is_full, answer_is, refusal, fresh, after_all, units_of, Always, of_request, config-stays}
-use Rattle.std.proofs.lemmas.List.{length-map}
-use Rattle.lapd_frame.specs.declared.addresses.Side.{Side}
-use Rattle.lapd_frame.specs.declared.addresses.Side.TheVariants.{User, Network}
-use Rattle.lapd_frame.specs.declared.refusals.Refusal.{Refusal}
-use Rattle.lapd_frame.specs.declared.refusals.Refusal.TheVariants.{TooLong, QueueFull, PoolFull}
+use Rattle.laws_trace.proofs.Vocabulary.{◌≡◌, ℕ, ◌≤◌, ◌==◌, ◌&&◌, ◌||◌, Bool, true, false, not, cond, nat_le, nat_lt, length, Option, Some, None, is_some, refl, sym, ap, ◌∙◌, subst, arith, lt-ltb, eqb-true, true≢false, le-ltb, leb-true, leb-false, BadTei, NoLink, place_of-is, Config, Effect, Line, has_tei, place_in, unit_frame, unless_refused_told, Card, line_at, is_full, answer_is, refusal, fresh, after_all, units_of, Always, of_request, config-stays, length-map, Side, User, Network, Refusal, TooLong, QueueFull, PoolFull, last_unit_tei, used, is_granted, manages}
 use Rattle.model_line.specs.Request.{Unit}
-use Rattle.model_line.specs.Sides.{last_unit_tei}
-use Rattle.model_card.specs.Card.{used}
-use Rattle.laws_line.specs.Share.{is_granted}
-use Rattle.laws_trace.specs.Managing.{manages}
 use Rattle.laws_trace.specs.UnitsAreGranted.{UnitsAreGranted}
 use Rattle.laws_trace.proofs.LineAtEnd.{line-at-end}
 use Rattle.laws_trace.proofs.SeenAs.{tei-seen}

@@ -1,44 +1,41 @@
 -- The words of std and of the crates below with which the proofs of this crate speak, from where they are defined.
-pub use Rattle.std.proofs.Common.{All, Bool, Err, IfSome, IsTrue, List, None, Ok, Option, Result, Some, [], ap, append-nil, append_assoc, arith, cond, drop, eq-eqb, eqb-true, false, filter, get_or, inl, inr, is_some, length, length-append, map, max, nat_le, not, option_map, refl, replicate, set, slice_get, slice_index, subst, suc, sym, take, true, true≢false, zero, ℕ, ⊎_elim, ◌%◌, ◌&&◌, ◌*◌, ◌++◌, ◌+◌, ◌-◌, ◌/◌, ◌<◌, ◌==◌, ◌||◌, ◌∙◌, ◌∷◌, ◌≡◌, ◌≢◌, ◌≤◌, ◌⊎◌}
+pub use Rattle.std.proofs.Common.{All, Bool, Err, IfSome, List, None, Ok, Option, Result, Some, [], ap, append-nil, append_assoc, arith, cond, drop, eq-eqb, eqb-true, false, filter, get_or, inl, inr, is_some, length, length-append, map, nat_le, not, option_map, refl, replicate, set, slice_get, slice_index, subst, suc, sym, take, true, true≢false, zero, ℕ, ⊎_elim, ◌%◌, ◌&&◌, ◌*◌, ◌++◌, ◌+◌, ◌-◌, ◌/◌, ◌<◌, ◌==◌, ◌||◌, ◌∙◌, ◌∷◌, ◌≡◌, ◌≢◌, ◌≤◌, ◌⊎◌}
 pub use Rattle.std.proofs.Math.Bool.{and-true, or-false, or-true, or_comm}
-pub use Rattle.std.proofs.Math.Seq.{drop-nil}
+pub use Rattle.std.proofs.Math.Seq.{drop-nil, take-length}
 pub use Rattle.std.proofs.lemmas.Bool.{and_parts, and_right, cond_both, eqb-false, false_from_ne_true, le-leb, le-ltb, leb-false, leb-true, lt-ltb, ltb-false, ltb-true, or_from, or_parts, or_right}
 pub use Rattle.std.proofs.lemmas.Grind.{flat_map-append}
-pub use Rattle.std.proofs.lemmas.List.{get_or-replicate, get_or-set_other, get_or-set_same, length-drop, length-replicate, map-append}
+pub use Rattle.std.proofs.lemmas.List.{get_or-replicate, get_or-set_other, get_or-set_same, length-drop, length-replicate, map-append, length-map}
 pub use Rattle.std.proofs.lemmas.List.Elements.{All-append, All-cons, All-drop, All-head, All-nil, All-tail, All-take, All-weaker, filter-append}
 pub use Rattle.std.proofs.lemmas.List.Sums.{fold-append, sum_by-cons}
 pub use Rattle.std.proofs.lemmas.Map.Views.{any-filter_same}
 pub use Rattle.std.proofs.lemmas.Option.{none-some}
 pub use Rattle.std.specs.List.{find, list_any, prefix_len, range_with_len}
 pub use Rattle.std.specs.Option.{option_and_then, option_map_or, option_or, unwrap_or}
-pub use Rattle.std.specs.Prelude.{IfOk, count_by, flat_map, fold, if◌then◌else◌, nat_lt, option_to_list}
+pub use Rattle.std.specs.Prelude.{IfOk, count_by, flat_map, fold, if◌then◌else◌, nat_lt, option_to_list, sum_by, ◌↔◌}
 pub use Rattle.std.specs.Result.{result_err, result_ok}
 pub use Rattle.lapd_count.specs.Counters.{More}
-pub use Rattle.lapd_count.specs.Shown.{drop_shown, heard_shown, lost_shown, note_shown}
-pub use Rattle.lapd_count.specs.declared.counter.Counter.TheVariants.{Frames, Messages, Octets, Polls}
-pub use Rattle.lapd_count.specs.declared.kinds.Kind.{Kind}
+pub use Rattle.lapd_count.specs.Shown.{heard_shown, note_shown}
 pub use Rattle.lapd_frame.proofs.AddressField.{address-again}
 pub use Rattle.lapd_frame.proofs.ControlField.{control-again}
 pub use Rattle.lapd_frame.proofs.Spelling.{reading-again, reading-found}
-pub use Rattle.lapd_frame.specs.Faults.{has_bad_extension, is_short}
-pub use Rattle.lapd_frame.specs.Grammar.{Parts, Spells, allows, cr_bit, head_of, other_side, row, spelling, takes}
-pub use Rattle.lapd_frame.specs.Reading.{address_of, checked, completed, control_of, long_reading, start_of}
+pub use Rattle.lapd_frame.specs.Grammar.{Parts, cr_bit, head_of, other_side, spelling}
+pub use Rattle.lapd_frame.specs.Reading.{checked, completed}
 unfoldable pub use Rattle.lapd_frame.specs.Reading.{header_of, reading}
 pub use Rattle.lapd_frame.specs.Services.{same_service, sapi_of, service_of}
 pub use Rattle.lapd_frame.specs.declared.addresses.Address.{Address}
 pub use Rattle.lapd_frame.specs.declared.addresses.Side.{Side}
 pub use Rattle.lapd_frame.specs.declared.addresses.Side.TheVariants.{Network, User}
 pub use Rattle.lapd_frame.specs.declared.controls.Control.{Control}
-pub use Rattle.lapd_frame.specs.declared.controls.Control.TheVariants.{Disc, Dm, Frmr, Information, ReceiveNotReady, ReceiveReady, Reject, Sabme, Ua, Ui, Xid}
+pub use Rattle.lapd_frame.specs.declared.controls.Control.TheVariants.{Disc, Dm, Frmr, Information, ReceiveNotReady, ReceiveReady, Reject, Sabme, Ua, Ui}
 pub use Rattle.lapd_frame.specs.declared.faults.ReadFault.{ReadFault}
-pub use Rattle.lapd_frame.specs.declared.faults.ReadFault.TheVariants.{BadExtension, Short, Undefined, WrongSize}
+pub use Rattle.lapd_frame.specs.declared.faults.ReadFault.TheVariants.{BadExtension}
 pub use Rattle.lapd_frame.specs.declared.notes.ErrorCode.{ErrorCode}
-pub use Rattle.lapd_frame.specs.declared.notes.ErrorCode.TheVariants.{A, C, D, F, G, H, I, L, N, O}
+pub use Rattle.lapd_frame.specs.declared.notes.ErrorCode.TheVariants.{C, F, L, N, O}
 pub use Rattle.lapd_frame.specs.declared.notes.Note.{Note}
-pub use Rattle.lapd_frame.specs.declared.notes.Note.TheVariants.{Assigned, Data as NoteData, Doubled, Error, EstablishConfirm, EstablishIndication, ReleaseConfirm, ReleaseIndication, Removed, Unit, Xid as NoteXid}
+pub use Rattle.lapd_frame.specs.declared.notes.Note.TheVariants.{Data as NoteData, Doubled, Error, EstablishConfirm, EstablishIndication, ReleaseConfirm, ReleaseIndication, Removed, Unit, Xid as NoteXid}
 pub use Rattle.lapd_frame.specs.declared.overlong.Long.{Long}
 pub use Rattle.lapd_frame.specs.declared.refusals.Refusal.{Refusal}
-pub use Rattle.lapd_frame.specs.declared.refusals.Refusal.TheVariants.{BadTei, NoLink, PoolFull, WrongState}
+pub use Rattle.lapd_frame.specs.declared.refusals.Refusal.TheVariants.{BadTei, NoLink, PoolFull, TooLong, QueueFull, WrongState}
 pub use Rattle.lapd_frame.specs.declared.services.Service.{Service}
 pub use Rattle.lapd_frame.specs.declared.services.Service.TheVariants.{Call, Packet}
 pub use Rattle.lapd_frame.specs.declared.timers.Order.{Order}
@@ -58,13 +55,13 @@ pub use Rattle.lapd_tei.specs.Laws.{Follows, HasJoined, HasLeft, IsInRange as Te
 pub use Rattle.lapd_tei.specs.Machine.{Management, TeiTold}
 pub use Rattle.lapd_tei.specs.Messages.{action_of, frame_of as message_frame, heard_in, heard_of_type, information_of}
 pub use Rattle.lapd_tei.specs.Sound.{IsAt, IsSoundCheck, IsSoundTable}
-pub use Rattle.lapd_tei.specs.Table.{Places, free_place, free_tei, has, is_free, is_on, place_of}
-pub use Rattle.lapd_tei.specs.Words.{Course as TeiCourse, begin_check, begun as tei_begun, check_is, end_check, freed, leave, lose_one, no_room, send, unserved, with_message as tei_with_message, withdraw}
+pub use Rattle.lapd_tei.specs.Table.{Places, free_place, has, is_free, is_on, place_of}
+pub use Rattle.lapd_tei.specs.Words.{Course as TeiCourse, begin_check, begun as tei_begun, end_check, freed, leave, lose_one, no_room, send, unserved, with_message as tei_with_message}
 pub use Rattle.lapd_tei.specs.declared.check.Check.{Check}
 pub use Rattle.lapd_tei.specs.declared.check.Period.{Period}
 pub use Rattle.lapd_tei.specs.declared.check.Period.TheVariants.{First, Second}
 pub use Rattle.lapd_tei.specs.declared.messages.Message.{Message}
-pub use Rattle.lapd_tei.specs.declared.messages.Message.TheVariants.{IdentityAssigned, IdentityCheckRequest, IdentityDenied, IdentityRemove}
+pub use Rattle.lapd_tei.specs.declared.messages.Message.TheVariants.{IdentityAssigned, IdentityDenied, IdentityRemove}
 pub use Rattle.lapd_tei.specs.declared.outcome.Change.{Change}
 pub use Rattle.lapd_tei.specs.declared.outcome.Change.TheVariants.{Gained, Left}
 pub use Rattle.lapd_tei.specs.declared.remembered.Remembered.{Remembered}
@@ -84,7 +81,7 @@ pub use Rattle.laws_line.proofs.Obeyed.{both-true, obeyed-append, service-same, 
 pub use Rattle.laws_line.proofs.OfCard.Meanwhile.{card-drains, card-idles, line-sound}
 pub use Rattle.laws_line.proofs.OfCard.Spelling.{head}
 pub use Rattle.laws_line.proofs.OfCard.TimersRun.{begins-timely-card, needed-run, needs-none, timely-after, timely-all}
-pub use Rattle.laws_line.proofs.OfCard.Wherever.{all-left, all-right, config-stays}
+pub use Rattle.laws_line.proofs.OfCard.Wherever.{all-left, all-right, config-stays, waiting-taken}
 pub use Rattle.laws_line.proofs.Places.{has-no-place, has-place, is-off}
 pub use Rattle.laws_line.proofs.Readings.{elsewhere, emptied, emptied-read, filled-read, same-read}
 pub use Rattle.laws_line.proofs.Serving.{none-waits, served, turn-stays, units-wait}
@@ -92,16 +89,16 @@ pub use Rattle.laws_line.proofs.TeiNotes.{ByChange, noted}
 pub use Rattle.laws_line.proofs.Tied.{Ties, expiry-ties, heard-ties, request-ties}
 pub use Rattle.laws_line.proofs.TimersFollow.{followed, nowhere, number-is, timely-line}
 pub use Rattle.laws_line.proofs.ToldOnce.{told-once}
-pub use Rattle.laws_line.specs.Drains.{control_text, frames_to_go, most_frames, way_round}
+pub use Rattle.laws_line.specs.Drains.{control_text, frames_to_go, most_frames, way_round, most_frames_before}
 pub use Rattle.laws_line.specs.Frames.{lost_in}
-pub use Rattle.laws_line.specs.Heard.{IsHeard, IsHeardAtLink, IsHeardByGroup, IsMalformed, IsTooLong, contents_in, is_data_of, is_unit_of, notes_of, tells_contents}
+pub use Rattle.laws_line.specs.Heard.{IsHeard, IsHeardAtLink, IsHeardByGroup, contents_in, is_data_of, is_unit_of, notes_of, tells_contents}
 pub use Rattle.laws_line.specs.Loss.{is_loss_of}
 pub use Rattle.laws_line.specs.Requests.{deactivates, is_deactivation, of_link}
-pub use Rattle.laws_line.specs.Served.{HasNothing, IsIdle, IsOfLink, IsOwed, IsSilent, IsSilentAt, contents_of_link, in_turn, unit_asked, units_asked, units_behind, units_left}
+pub use Rattle.laws_line.specs.Served.{HasNothing, IsIdle, IsOfLink, IsOwed, IsSilent, IsSilentAt, contents_of_link, in_turn, units_asked, units_left}
 pub use Rattle.laws_line.specs.Share.{is_granted}
 pub use Rattle.laws_line.specs.Steady.{Brings, BringsMalformed, IsBy, IsDeactivated, IsOf, timer_of}
 pub use Rattle.laws_line.specs.Timers.{HaveTheirTimers, is_needed, left_by, runs_then}
-pub use Rattle.model_card.specs.Takes.{AreTakesAt, takes_at}
+pub use Rattle.model_card.specs.Takes.{AreTakesAt, takes_at, is_take, takes_of}
 pub use Rattle.laws_line.specs.card.Timers.{AllHaveTheirTimers, one_more, runs_at_callers}
 pub use Rattle.laws_link.proofs.Starting.{none-ordered}
 pub use Rattle.laws_link.proofs.Counted.{kept-after}
@@ -111,53 +108,50 @@ pub use Rattle.laws_link.proofs.Keeping.{event-done, event-unit}
 pub use Rattle.laws_link.proofs.Offering.{given-is-offered}
 pub use Rattle.laws_link.proofs.Once.{data-is, within-is}
 pub use Rattle.laws_link.proofs.Restarts.{establishes}
-pub use Rattle.laws_link.specs.Accepted.{accepted, acknowledged, acknowledged_by, beyond, empties, ends, is_loss, is_release, number_of, number_received, tells_loss}
-pub use Rattle.laws_link.specs.Flags.{asked_left, asks_establishment, awaits_answer, busy_asked, flag_left, owed_behind, owed_in, own_busy_left, pending_left, rejecting_heard, repeats_left, takes_contents, unless_put}
-pub use Rattle.laws_link.specs.Following.{Leaves}
+pub use Rattle.laws_link.specs.Accepted.{accepted, acknowledged, empties, ends, is_loss, is_release, tells_loss}
+pub use Rattle.laws_link.specs.Flags.{asks_establishment, busy_asked, flag_left, owed_behind, owed_in, own_busy_left, pending_left, rejecting_heard, takes_contents, unless_put}
 pub use Rattle.laws_link.specs.Heard.{in_sequence, in_ui_frame, unit_heard, within}
-pub use Rattle.laws_link.specs.History.{share, with_share}
+pub use Rattle.laws_link.specs.History.{share}
 pub use Rattle.laws_link.specs.InOrder.{IsInOrder}
 pub use Rattle.laws_link.specs.Offered.{Carries, IsOffered, i_frames, number_sent}
-pub use Rattle.laws_link.specs.States.{as_heard, by_expiry, by_frame, by_received, by_request, comes_to, is_anew, is_clearing, is_faulty, is_invalid, is_overlong, leads_by_agreement, leads_by_sabme, moves, numbers_begin, receipt_of, state_after}
-pub use Rattle.laws_link.specs.Telling.{final_as, numbered_as, told_by, told_cleared, told_expired}
-pub use Rattle.laws_link.specs.Timed.{is_same, obey, obeyed}
-pub use Rattle.laws_link.specs.Waiting.{answers, answers_to, answers_up, as_command, as_response, behind, command_in, commands, has_next_number, is_taken, is_time, put, receipt_as, room, to_disc, to_information, to_sabme, to_supervisory, waiting_left}
-pub use Rattle.laws_link.specs.two.Needed.{HasItsTimer, IsCalmIn, needed, needed_in}
-pub use Rattle.laws_trace.specs.ControlFrames.{put_in}
+pub use Rattle.laws_link.specs.States.{as_heard, by_frame, by_request, comes_to, is_anew, is_clearing, leads_by_agreement, leads_by_sabme, moves, numbers_begin, state_after}
+pub use Rattle.laws_link.specs.Telling.{numbered_as, told_by}
+pub use Rattle.laws_link.specs.Timed.{obey, obeyed}
+pub use Rattle.laws_link.specs.Waiting.{answers, answers_up, as_command, as_response, command_in, commands, is_time, put, receipt_as, room, to_sabme, waiting_left}
+pub use Rattle.laws_link.specs.two.Needed.{HasItsTimer, needed_in}
+pub use Rattle.laws_trace.specs.ControlFrames.{put_in, changed, command_of}
 pub use Rattle.laws_trace.specs.Deliveries.{Deliveries, brings_next, is_unit_for, is_unit_taken}
 pub use Rattle.laws_trace.specs.FramesAreDue.{DueIsGiven, GivenIsDue, may_go, offers, text}
-pub use Rattle.laws_trace.specs.FramesAreRead.{FramesAreOctets, FramesAreRead, GivesOctets, IsSpelled, contents_given, is_of_use}
+pub use Rattle.laws_trace.specs.FramesAreRead.{FramesAreOctets, FramesAreRead, GivesOctets, IsSpelled, contents_given}
 pub use Rattle.laws_trace.specs.LinkFrames.{brought, fault_of, faulty_long, frame_of, is_for, is_frame_of, its_frame, malformed, reads}
 pub use Rattle.laws_trace.specs.Managing.{manages, Checked, Managed, asked, by_event as managing_by_event, by_message, checks, due, gives, grants, is_on as managing_is_on, leaves, led, managed_after, may_check, none_on, nothing_due, over, owes, ran_out, responded}
 pub use Rattle.laws_trace.specs.News.{NewsIsTold, brings, given_up, is_news, is_sabme, is_xid, releases, wrong, wrong_frame, wrong_number}
-pub use Rattle.laws_trace.specs.Observer.{Observed, View, anew, at_first, awaits, by_event, by_expiry as observer_by_expiry, by_frame as observer_by_frame, by_heard, by_request as observer_by_request, by_t200, enquires, enters, in_state, is_invalid as observer_is_invalid, takes_next, is_outstanding, moment_of, numbered, receipt, sends, steps, takes as observer_takes, view_behind, view_of, views, while_down, while_up}
+pub use Rattle.laws_trace.specs.Observer.{Observed, View, anew, at_first, awaits, by_event, by_expiry as observer_by_expiry, by_frame as observer_by_frame, by_heard, by_request as observer_by_request, by_t200, enquires, enters, in_state, is_invalid as observer_is_invalid, takes_next, is_outstanding, moment_of, steps, takes as observer_takes, view_behind, view_of, views, while_down, while_up}
 pub use Rattle.laws_trace.specs.Outgoing.{Outgoing, data_granted, is_empty, keeps, nothing_yet, outgoing_of, still_owes, watches, went_on, waits as outgoing_waits}
 pub use Rattle.laws_trace.specs.TeisAreManaged.{IsAsDue, TeisAreManaged, is_of_t201, is_of_teis}
-pub use Rattle.laws_trace.specs.TimersAreTimely.{TimersAreTimely, TimersRun, is_order_of, is_timer_of, renews}
+pub use Rattle.laws_trace.specs.TimersAreTimely.{TimersAreTimely, TimersRun, is_order_of, renews}
 pub use Rattle.laws_trace.specs.Trace.{Always, IsAmong, IsFront, Seen, begun as trace_begun, data_asked, frame_begun, frame_in as trace_frame_in, frames_begun, granted, heard, is_own, is_up, lost, noted as trace_noted, seen, seen_granted, seen_in, seen_told, trace, trace_of}
 pub use Rattle.laws_trace.specs.Units.{is_down, is_ui}
 pub use Rattle.laws_trace.specs.UnitsGoOut.{AllUnitsGoOut, UnitsGoOut, is_unit, units_of, waits}
 pub use Rattle.laws_trace.specs.octets.Granted.{Asked, if_granted, none_asked, request_granted, requests_of, units_to_hear, with_request}
 pub use Rattle.laws_trace.specs.octets.Pulled.{EndsInPulls}
 pub use Rattle.laws_trace.specs.octets.UnitsAreHeard.{AllUnitsAreHeard, AreFronts, UnitsAreHeard, whole_frame, whole_frames}
-pub use Rattle.model_bits.specs.Heads.{latest_frame, or_later}
+pub use Rattle.model_bits.specs.Heads.{or_later}
 pub use Rattle.model_bits.specs.Sent.{Item, idle}
-pub use Rattle.model_bits.specs.Stream.{Event as StreamEvent, frame as stream_frame, heard_in as stream_heard_in, overlong as stream_overlong}
+pub use Rattle.model_bits.specs.Stream.{Event as StreamEvent, frame as stream_frame, heard_in as stream_heard_in}
 pub use Rattle.model_bits.specs.StuffingLaws.{AreOctets}
-pub use Rattle.model_bits.specs.declared.heard.Cause.{Cause}
-pub use Rattle.model_bits.specs.declared.heard.Cause.TheVariants.{Tei, Unserved}
 pub use Rattle.model_card.proofs.CardSound.{after_is_sound, always_sound, fresh_is_sound}
-pub use Rattle.model_card.proofs.OfPorts.Codec.{asked_at, gives_at_next, neither, refined_card, refines, run_goes_on}
-pub use Rattle.model_card.proofs.OfPorts.GoingOut.{fresh_at, given_frames_are_heard}
+pub use Rattle.model_card.proofs.OfPorts.Codec.{asked_at, gives_at_next, refines, run_goes_on}
+pub use Rattle.model_card.proofs.OfPorts.GoingOut.{fresh_at, given_frames_are_heard, octets_are}
 pub use Rattle.model_card.proofs.OfPorts.HeardOctets.{heard_frames_are_octets}
 pub use Rattle.model_card.proofs.OfPorts.Pulls.{pulls_are_takes}
 pub use Rattle.model_card.proofs.OfPorts.Sound.{fresh_octets_sound}
 pub use Rattle.model_card.proofs.OfPorts.Steps.{config_stays, moments-append}
-pub use Rattle.model_card.proofs.Refusals.{answer_is}
+pub use Rattle.model_card.proofs.Refusals.{answer_is, refused_by_the_table}
 pub use Rattle.model_card.proofs.Rooms.{refuses_by}
 pub use Rattle.model_card.proofs.Runs.{after_all-append}
 pub use Rattle.model_card.proofs.Steps.{by_room, has_lines, line_sound}
-pub use Rattle.model_card.specs.Card.{Card, fresh, is_full, line_at}
+pub use Rattle.model_card.specs.Card.{Card, fresh, is_full, line_at, used}
 pub use Rattle.model_card.specs.Event.{Event as CardEvent, at}
 pub use Rattle.model_card.specs.Machine.{after, answer as card_answer}
 pub use Rattle.model_card.specs.Room.{free}
@@ -166,44 +160,41 @@ unfoldable pub use Rattle.model_card.specs.Run.{after_all, moments}
 pub use Rattle.model_card.specs.Sound.{IsSound as CardIsSound}
 pub use Rattle.model_card.specs.ports.Card.{OctetCard, after as ports_after, answer_to, fresh as ports_fresh, port_at}
 unfoldable pub use Rattle.model_card.specs.ports.Card.{meant}
-pub use Rattle.model_card.specs.ports.Codec.{frame_moment, frames_among, frames_given, given_of, meant_in, octets_of}
+pub use Rattle.model_card.specs.ports.Codec.{frame_moment, frames_among, frames_given, meant_in, octets_of}
 pub use Rattle.model_card.specs.ports.Event.{Event as PortsEvent}
-pub use Rattle.model_card.specs.ports.GoingOut.{OfEachLine, answer_of_call, as_octets, call_answered, calls_answered, frames_to_hear, octets_given}
+pub use Rattle.model_card.specs.ports.GoingOut.{OfEachLine, as_octets, calls_answered, frames_to_hear, octets_given}
 pub use Rattle.model_bits.specs.StreamLaws.{HasOctets}
 pub use Rattle.model_card.specs.ports.HeardOctets.{HearsOctets}
-pub use Rattle.model_card.specs.ports.Port.{Port, answer_of, fresh_port, gained, is_due}
+pub use Rattle.model_card.specs.ports.Port.{Port, answer_of, fresh_port}
 pub use Rattle.model_card.specs.ports.Promises.{moments_meant}
-pub use Rattle.model_card.specs.ports.Pulls.{pulls_at, pulls_behind}
 pub use Rattle.model_card.specs.ports.Run.{AreAtLines as PortsAreAtLines}
 unfoldable pub use Rattle.model_card.specs.ports.Run.{after_all as ports_after_all, meant_all}
 pub use Rattle.model_line.proofs.RoomForAll.{passed}
 pub use Rattle.model_line.proofs.AimsSound.{IsProper}
 pub use Rattle.model_line.proofs.LinksSound.{sound_in}
-pub use Rattle.model_line.proofs.Numbers.{number_within, place_at-number, service_at-number}
+pub use Rattle.model_line.proofs.Numbers.{number_within, place_at-number, service_at-number, sum_changed}
 pub use Rattle.model_line.proofs.ProperAims.{expiry_proper, heard_aims, heard_proper, request_proper}
 pub use Rattle.model_line.proofs.Ranges.{ranges_of, terms_in_range}
 pub use Rattle.model_line.proofs.Sides.{side_aims}
 pub use Rattle.model_line.proofs.TakenWalk.{round_below}
-pub use Rattle.model_line.specs.Config.{first_fault, is_within}
+pub use Rattle.model_line.specs.Config.{first_fault}
 pub use Rattle.model_line.specs.Counted.{answer_shown, shown}
 pub use Rattle.model_line.specs.Effect.{Aim, Effect, at_link, at_management, at_no_link, at_none, at_units, of_aim, of_change, of_link as line_of_link, told_of_management}
 pub use Rattle.model_line.specs.Event.{Answer, Event, LineTold, NextFrame, dropped, expiry, gave, hears, next, refused, request, told, given_in}
 pub use Rattle.model_line.specs.Expiry.{aim_of_expiry, at_timer}
-pub use Rattle.model_line.specs.Heard.{addressed, aim_of_heard, aim_of_long, aim_of_reading, at_place, drop_for, group_tei, heard_side, management_sapi, message_of, to_service, unless_at_link}
+pub use Rattle.model_line.specs.Heard.{addressed, aim_of_heard, aim_of_long, aim_of_reading, group_tei, heard_side, management_sapi, message_of}
 pub use Rattle.model_line.specs.Laws.{orders_in}
-pub use Rattle.model_line.specs.Line.{Line, UnitData, fresh_line, has_tei, link_at, link_count, link_in, link_number, link_of, place_at, place_in, service_at, state_in, state_of, tei_at, terms, window, with_link}
-pub use Rattle.model_line.specs.Machine.{aim_of, of_heard, of_request, unless_refused, unless_refused_told}
+pub use Rattle.model_line.specs.Line.{Line, UnitData, fresh_line, has_tei, link_at, link_count, link_in, link_number, link_of, place_at, place_in, service_at, state_in, state_of, tei_at, terms, with_link}
+pub use Rattle.model_line.specs.Machine.{aim_of, of_request, unless_refused, unless_refused_told}
 unfoldable pub use Rattle.model_line.specs.Machine.{after as line_after, answer, takes_slot}
-pub use Rattle.model_line.specs.Refusal.{bad_tei, check_running, control_full, no_link, pool_full, queue_full, refusal, table_full, tei_taken, too_long, wrong_side, wrong_state}
-pub use Rattle.model_line.specs.Request.{Assign, Check as Checking, ClearBusy, Data, Deactivate, Down, Establish, Release, Remove, Request, SetBusy, Unit as LineUnit}
+pub use Rattle.model_line.specs.Refusal.{bad_tei, check_running, control_full, no_link, refusal, table_full, tei_taken, wrong_side}
+pub use Rattle.model_line.specs.Request.{Assign, Check as Checking, ClearBusy, Data, Deactivate, Down, Establish, Release, Remove, Request, SetBusy}
 pub use Rattle.model_line.specs.Requested.{aim_of_request, at_deactivated, at_requested}
 pub use Rattle.model_line.specs.Room.{unless}
-pub use Rattle.model_line.specs.Sides.{IsToGroup, at_side, group_told, has_management, managed_at}
+pub use Rattle.model_line.specs.Sides.{IsToGroup, at_side, group_told, has_management, last_unit_tei}
 pub use Rattle.model_line.specs.Sound.{IsInRange, IsSound, IsSoundAt, IsUnitData}
 pub use Rattle.model_line.specs.Taken.{Taken, first_taken, frame_of as line_frame_of, line_of, next_of, round, taken, unit_frame, with_given_frame, with_message, with_unit}
 pub use Rattle.model_line.specs.declared.config.Config.{Config}
-pub use Rattle.model_line.specs.declared.config.Field.{Field}
-pub use Rattle.model_line.specs.declared.config.Field.TheVariants.{K, K16, Lines, N200, N201, Queue, Slots, Terminals, UnitQueue}
 pub use Rattle.model_link.proofs.Waits.{sapi-small}
 pub use Rattle.model_link.proofs.Delivering.{delivery, event-delivers}
 pub use Rattle.model_link.proofs.Giving.{given_is_frame}
@@ -212,19 +203,19 @@ pub use Rattle.model_link.proofs.OwnNotes.{notes-own}
 pub use Rattle.model_link.proofs.SoundRows.{named-within}
 pub use Rattle.model_link.proofs.Taking.{named-is_seq}
 pub use Rattle.model_link.proofs.TellRows.{event-tells}
-pub use Rattle.model_link.specs.Deliveries.{Arrived, MayEstablish, eligible, eligible_of, information_in, information_of as link_information_of, is_eligible, restarts}
+pub use Rattle.model_link.specs.Deliveries.{Arrived, eligible, eligible_of, information_of as link_information_of, restarts}
 pub use Rattle.model_link.specs.Events.{ClearBusy as LinkClearBusy, Data as LinkData, Establish as LinkEstablish, Event as LinkEvent, Received, Release as LinkRelease, Request as LinkRequest, SetBusy as LinkSetBusy, cleared, expired, frame, offer, overlong, received, requested, undefined, wrong_size}
-pub use Rattle.model_link.specs.Link.{Link, address_at, fresh as fresh_link, has_outstanding, is_asked, is_multiple_frame, is_own_busy, is_rejecting, may_repeat, outstanding, queue_of, state_number}
-pub use Rattle.model_link.specs.Machine.{after as link_after, course, expired_step, frame_in, given, given_of as link_given_of, malformed_in, told as link_told, told_of_clearing}
-pub use Rattle.model_link.specs.MultipleFrame.{Particulars, answered, clear_busy_in_7_8, contents_in_7_8, data_in_7_8, dropped as link_dropped, failed, in_sequence as link_in_sequence, information_in_7_8, is_final, is_next as link_is_next, out_of_sequence, sabme_in_7_8, set_busy_in_7_8, supervisory, ua_in_7_8}
+pub use Rattle.model_link.specs.Link.{Link, address_at, fresh as fresh_link, is_multiple_frame, queue_of, state_number}
+pub use Rattle.model_link.specs.Machine.{after as link_after, course, expired_step, frame_in, given, given_of as link_given_of, malformed_in, told as link_told}
+pub use Rattle.model_link.specs.MultipleFrame.{is_final, sabme_in_7_8}
 pub use Rattle.model_link.specs.Notes.{IsOwn}
-pub use Rattle.model_link.specs.Offers.{first_unsent, give_information, give_waiting, is_awaiting_acknowledgement, is_established, may_send_information, next_information, offer_among, send_acknowledgement, send_information, with_one_sent}
-pub use Rattle.model_link.specs.Requests.{refusal as link_refusal, refusal_for_room, refusal_of_contents, request_step}
+pub use Rattle.model_link.specs.Offers.{give_waiting, offer_among}
+pub use Rattle.model_link.specs.Requests.{request_step}
 pub use Rattle.model_link.specs.Room.{room_of}
 pub use Rattle.model_link.specs.Sound.{IsGiven, IsInRange as LinkIsInRange, IsSound as LinkIsSound, IsWaitingFrame, is_information}
-pub use Rattle.model_link.specs.Steps.{Course, Sent, Step, begun, by_bit, changed, depending_on, nothing, ◌then◌}
+pub use Rattle.model_link.specs.Steps.{Course, Step, begun, by_bit, depending_on, nothing, ◌then◌}
 pub use Rattle.model_link.specs.Told.{Given, is_timer, order_for, orders_for, runs, timer_at}
-pub use Rattle.model_link.specs.Words.{acknowledge, answer as link_answer, begin_anew, by_number, clear_flags, command, count_received, deliver, deliver_unit, discard, enquire, enter, error, establish_confirm, establish_indication, leave_unserved, no_timer, peer_busy_is, pending_is, re_establish, reject, rejecting_is, release_confirm, release_indication, repeated, response, send as link_send, start, unit_data, zero_numbers}
+pub use Rattle.model_link.specs.Words.{answer as link_answer, by_number, unit_data}
 pub use Rattle.model_link.specs.declared.frames.ControlFrame.{ControlFrame}
 pub use Rattle.model_link.specs.declared.rooms.Room.{Room}
 pub use Rattle.model_link.specs.declared.states.State.{State}

@@ -1,5 +1,5 @@
 -- The words with which the proofs of this crate speak, from where they are defined.
-pub use Rattle.std.proofs.Common.{Bool, Err, IsSome, List, None, Ok, Option, Some, [], ap, append-nil, append_assoc, arith, cond, eq-eqb, eqb-true, false, get_or, is_some, length, length-set, nat_le, nat_lt, not, refl, set, subst, suc, sym, true, zero, ℕ, ◌&&◌, ◌*◌, ◌++◌, ◌+◌, ◌-◌, ◌<◌, ◌==◌, ◌↔◌, ◌∙◌, ◌∷◌, ◌≡◌, ◌≤◌}
+pub use Rattle.std.proofs.Common.{Bool, Err, IsSome, List, None, Ok, Option, Some, [], ap, append-nil, append_assoc, arith, cond, eq-eqb, eqb-true, false, get_or, is_some, length, length-set, nat_le, nat_lt, not, refl, set, subst, suc, sym, true, zero, ℕ, ◌&&◌, ◌*◌, ◌++◌, ◌+◌, ◌-◌, ◌<◌, ◌==◌, ◌∙◌, ◌∷◌, ◌≡◌, ◌≤◌}
 pub use Rattle.std.proofs.Math.Dec.{eqb-suc-zero}
 pub use Rattle.std.proofs.Math.Nat.{mul-le-mul_left, sub-eq-zero_of_le}
 pub use Rattle.std.proofs.lemmas.Bool.{and_parts, le-ltb, leb-false, leb-true, lt-leb}
@@ -42,20 +42,20 @@ pub use Rattle.model_line.proofs.NextRises.{next_falls}
 pub use Rattle.model_line.proofs.RoomForAll.{places_of, slots_few, taker_finds}
 pub use Rattle.model_line.proofs.SlotsGrow.{fresh_slots, slots_grow}
 pub use Rattle.model_line.proofs.StoredBounds.{stored_few}
-pub use Rattle.model_line.specs.Counts.{is_pool_full, one}
+pub use Rattle.model_line.specs.Counts.{is_pool_full}
 pub use Rattle.model_line.specs.Effect.{Effect, of_aim}
 pub use Rattle.model_line.specs.Event.{Answer, dropped, expiry, hears, next, refused, request, told}
 pub use Rattle.model_line.specs.Laws.{cause_in, orders_in}
 pub use Rattle.model_line.specs.Line.{Line, fresh_line, link_at, link_count}
 pub use Rattle.model_line.specs.Machine.{unless_refused, unless_refused_told}
-pub use Rattle.model_line.specs.Refusal.{Row, bad_tei, bad_tei_or_group, first_that_holds, no_link, no_link_nor_group, pool_full, queue_full, refusal, too_long, unit_queue_full, wrong_state}
+pub use Rattle.model_line.specs.Refusal.{Row, first_that_holds, pool_full, refusal}
 pub use Rattle.model_line.specs.Request.{Data, Request, Unit}
 pub use Rattle.model_line.specs.Requested.{aim_of_request, carries_contents}
 pub use Rattle.model_line.specs.Room.{unless}
 pub use Rattle.model_line.specs.Sound.{IsInRange}
 pub use Rattle.model_line.specs.Stored.{slots_of, stored_in}
 pub use Rattle.model_line.specs.declared.config.Config.{Config}
-pub use Rattle.model_link.proofs.Delivering.{counted_on, delivery}
+pub use Rattle.model_link.proofs.Delivering.{counted_on}
 pub use Rattle.model_link.specs.Deliveries.{Arrived}
 pub use Rattle.model_link.specs.Told.{starts}
 pub use Rattle.model_link.specs.declared.rooms.Room.{Room}

@@ -1,5 +1,5 @@
 -- The words with which the proofs of this crate speak, from where they are defined.
-pub use Rattle.std.proofs.Common.{Bool, Err, List, None, Ok, Option, Result, Some, [], ap, append-nil, append_assoc, arith, cond, drop, false, filter_map, get_or, if◌then◌else◌, inl, inr, is_some, length, length-append, map, nat_le, nat_lt, not, option_to_list, refl, replicate, subst, suc, sym, take, true, zero, ℕ, ◌%◌, ◌&&◌, ◌*◌, ◌++◌, ◌+◌, ◌-◌, ◌<◌, ◌==◌, ◌^◌, ◌∙◌, ◌∷◌, ◌≡◌, ◌≤◌, ◌⊎◌}
+pub use Rattle.std.proofs.Common.{Bool, Err, List, None, Ok, Option, Result, Some, [], ap, append-nil, append_assoc, arith, cond, drop, false, filter_map, get_or, if◌then◌else◌, inl, inr, length, length-append, map, nat_le, nat_lt, not, option_to_list, refl, replicate, subst, suc, sym, take, true, zero, ℕ, ◌%◌, ◌&&◌, ◌*◌, ◌++◌, ◌+◌, ◌-◌, ◌<◌, ◌==◌, ◌^◌, ◌∙◌, ◌∷◌, ◌≡◌, ◌≤◌, ◌⊎◌}
 pub use Rattle.std.proofs.Math.Seq.{drop-append_seam, take-append_seam}
 pub use Rattle.std.proofs.lemmas.Bool.{eq-eqb, eqb-true, le-leb, leb-false, leb-true, lt-ltb, ltb-true, true≢false}
 pub use Rattle.std.proofs.lemmas.Bool.Decides.{nat_tests}
@@ -10,7 +10,7 @@ pub use Rattle.std.proofs.lemmas.Option.{none-some}
 pub use Rattle.std.proofs.lemmas.Str.Parse.{IsNumeralModel, numerals_by_value, tells_all_ascii_digits}
 pub use Rattle.std.specs.Char.{is_ascii_digit}
 pub use Rattle.std.specs.List.{AllByRecursion, list_all}
-pub use Rattle.std.specs.Prelude.{All, bytes_eq, codes, decimal, flat_map, fold}
+pub use Rattle.std.specs.Prelude.{All, bytes_eq, codes, decimal, fold}
 pub use Rattle.std.specs.Str.{all_ascii_digits}
 pub use Rattle.std.specs.Str.Parse.{digits_value}
 pub use Rattle.lapd_clock.proofs.Calls.{all_later}
@@ -22,9 +22,7 @@ pub use Rattle.lapd_clock.specs.Timer.{AreInRange, Lengths, Order, Start, Stop, 
 pub use Rattle.lapd_clock.specs.Timers.{Expiry, Timers, after_due, after_first_due, due_at, finds_place, first_due, is_before, next_moment, time_until, without}
 unfoldable pub use Rattle.lapd_clock.specs.Timers.{with_order}
 pub use Rattle.lapd_clock.specs.declared.fault.LengthFault.{LengthFault}
-pub use Rattle.lapd_count.specs.declared.counters.Counters.{Counters}
 pub use Rattle.lapd_frame.specs.declared.addresses.Side.TheVariants.{Network, User}
-pub use Rattle.lapd_frame.specs.declared.timers.Timer.{Timer}
 pub use Rattle.lapd_script.specs.Job.{Job, frame, job, job_or_none, limits, limits_of, run}
 pub use Rattle.lapd_script.specs.Number.{number}
 pub use Rattle.lapd_script.specs.Pieces.{line_in, pieces_of}
@@ -43,8 +41,6 @@ pub use Rattle.model_bits.specs.Bits.{bits, flag, octets_of}
 pub use Rattle.model_bits.specs.RoundTrip.{AreHeardWhole, IsHeardWhole, frames_of}
 pub use Rattle.model_bits.specs.Sent.{Item, idle, item_text, line_text}
 pub use Rattle.model_bits.specs.Stream.{heard_in}
-pub use Rattle.model_bits.specs.StuffingLaws.{AreOctets}
-pub use Rattle.model_card.proofs.Starts.{expiry_starts}
 pub use Rattle.model_line.proofs.Ranges.{Within, ranges_of}
 pub use Rattle.model_line.specs.Config.{is_within}
 pub use Rattle.model_line.specs.Sound.{IsInRange}
@@ -53,13 +49,13 @@ pub use Rattle.model_line.specs.declared.config.Field.{Field}
 pub use Rattle.model_line.specs.declared.config.Field.TheVariants.{Control, Lines, N201, Slots, Terminals}
 unfoldable pub use Rattle.model_link.specs.Told.{starts}
 pub use Rattle.lapd_sim.specs.machine.Asked.{LimitsAreOfCards, limits_of_card, limits_words}
-pub use Rattle.lapd_sim.specs.machine.Board.{after, AreAtLines, Board, Event, IsAtLine, Moment, at, expiry, fresh, hears, next, octet, orders_in, pull, request}
+pub use Rattle.lapd_sim.specs.machine.Board.{after, AreAtLines, Board, Event, IsAtLine, at, expiry, fresh, hears, next, octet, orders_in, pull, request}
 unfoldable pub use Rattle.lapd_sim.specs.machine.Board.{after_all, moments, reply}
 pub use Rattle.lapd_sim.specs.machine.Events.{HasRun, RunsOnBoards, ScriptsAreRuns, board_meant, coming_events, events_from, events_until, expiry_events, first_board, line_events, meant_events, read_events, script_events, unless_fault}
 pub use Rattle.lapd_sim.specs.machine.Heard.{FramesAreHeard, all_sent}
 pub use Rattle.lapd_sim.specs.machine.Replies.{TranscriptsAreReplies, line_moments, meant_moments, moments_from, octet_given, read_moments, read_text, replies_text, text_from}
 pub use Rattle.lapd_sim.specs.machine.Script.{Fault, Played, after_bench, after_reading, after_scene, faulty, is_too_long, not_begun, one_more, played, unless_faulty}
 pub use Rattle.lapd_sim.specs.machine.Setup.{Setup, begun, happened, ordered, taken_at, terminal_at, with_terminal}
-pub use Rattle.lapd_sim.specs.machine.Steps.{Pulls, Scene, after_coming, after_counters, after_down, after_in, after_next, after_pull, after_rx, after_timers, after_wait, at_expiry, at_line, can_come, downs, expired, expiries, for_frames, for_octets, held, last_moment, moment_of, octet_in, octets_at, is_heard_as, one_pull, pulls, reply_text, request_for, teis_on, until, with_card, with_event, with_events, with_timers, without_card}
+pub use Rattle.lapd_sim.specs.machine.Steps.{Pulls, Scene, after_coming, after_in, after_pull, after_rx, after_timers, after_wait, at_expiry, at_line, can_come, downs, expired, expiries, for_frames, for_octets, held, last_moment, moment_of, octet_in, octets_at, is_heard_as, one_pull, pulls, reply_text, request_for, teis_on, until, with_card, with_event, with_events, with_timers, without_card}
 pub use Rattle.lapd_sim.specs.machine.Waits.{AllLater, WaitsLeaveNothingDue}
 pub use Rattle.lapd_sim.specs.machine.Within.{ScriptsStayWithin, bound_of}

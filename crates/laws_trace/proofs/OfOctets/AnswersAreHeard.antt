@@ -1,14 +1,11 @@
 -- What answers a poll, SABME or DISC is heard within a number of pulls: the law.
-use Rattle.laws_trace.proofs.Vocabulary.{◌≡◌, ℕ, ◌+◌, ◌<◌, ◌≤◌, All, List, ◌++◌, map, sym, ap, ◌∙◌, subst, Service, Config, IsInRange, control_text, link_at, link_count, line_at, all-left, all-right, Card, OctetCard, OfEachLine, octets_given, refines, port_at, meant_all, outgoing_of, ports_fresh as fresh, PortsEvent as Event, PortsAreAtLines as AreAtLines, ports_after_all as after_all}
+use Rattle.laws_trace.proofs.Vocabulary.{◌≡◌, ℕ, ◌+◌, ◌<◌, ◌≤◌, All, List, ◌++◌, map, sym, ap, ◌∙◌, subst, Service, Config, IsInRange, control_text, link_at, link_count, line_at, all-left, all-right, Card, OctetCard, OfEachLine, octets_given, refines, port_at, meant_all, outgoing_of, ports_fresh as fresh, PortsEvent as Event, PortsAreAtLines as AreAtLines, ports_after_all as after_all, octets_are, config_stays, most_frames_before}
 use Rattle.model_card.specs.Card as cards
 use Rattle.model_card.specs.Event as frames
 use Rattle.model_card.specs.Run as runs
 use Rattle.model_card.specs.ports.Pulls.{most_pulls_behind, pulls_of}
 use Rattle.model_card.specs.ports.Run.{IsAtLine}
-use Rattle.model_card.proofs.OfPorts.GoingOut.{octets_are}
 use Rattle.model_card.proofs.OfPorts.Reaching.{after_all_append, reached_fresh, reached_after_all}
-use Rattle.model_card.proofs.OfPorts.Steps.{config_stays}
-use Rattle.laws_line.specs.Drains.{most_frames_before}
 use Rattle.laws_line.specs.card.PromisesOfTakes.{StaysAt, IsNotDeactivated, come_first_at}
 use Rattle.laws_line.specs.card.WaitingIsHeard.{AreHeardSince}
 use Rattle.laws_line.proofs.OfCard.GoingOut.{waiting_heard}

@@ -1,5 +1,5 @@
 -- The words with which the proofs of this crate speak, from where they are defined.
-pub use Rattle.std.proofs.Common.{Bool, IfSome, List, None, Option, Some, [], ap, append-nil, append_assoc, arith, cond, drop, eq-eqb, eqb-true, false, flat_map, get_or, inl, inr, length, length-append, length-drop, length-set, map, nat_eq, nat_le, nat_lt, not, option_and_then, option_map, option_to_list, refl, replicate, reverse, set, slice_get, slice_index, subst, suc, sym, take, true, zero, ℕ, ◌%◌, ◌&&◌, ◌*◌, ◌++◌, ◌+◌, ◌-◌, ◌/◌, ◌<◌, ◌==◌, ◌∙◌, ◌∷◌, ◌≡◌, ◌≤◌, ◌⊎◌}
+pub use Rattle.std.proofs.Common.{Bool, IfSome, List, None, Option, Some, [], ap, append-nil, append_assoc, arith, cond, drop, eq-eqb, eqb-true, false, flat_map, get_or, inl, inr, length, length-append, length-drop, length-set, map, nat_le, nat_lt, not, option_and_then, option_map, option_to_list, refl, replicate, reverse, set, slice_get, slice_index, subst, suc, sym, take, true, zero, ℕ, ◌%◌, ◌&&◌, ◌*◌, ◌++◌, ◌+◌, ◌-◌, ◌/◌, ◌<◌, ◌==◌, ◌∙◌, ◌∷◌, ◌≡◌, ◌≤◌, ◌⊎◌}
 pub use Rattle.std.proofs.Math.Nat.{mul-le-mul_left, mul-le-mul_right}
 pub use Rattle.std.proofs.Math.Seq.{drop-append_seam}
 pub use Rattle.std.proofs.lemmas.Bool.{and_left, cases_lt, le-ltb, leb-true, lt-ltb, ltb-false, ltb-true, ne_eqb, or_from}
@@ -11,7 +11,6 @@ pub use Rattle.std.proofs.lemmas.List.Sums.{sum_by-append, sum_by-cons, sum_by-s
 pub use Rattle.std.proofs.lemmas.Option.{none-some}
 pub use Rattle.std.specs.Option.{option_map_or}
 pub use Rattle.std.specs.Prelude.{All, count_by, filter, fold, map, sum_by}
-pub use Rattle.lapd_frame.specs.declared.refusals.Refusal.TheVariants.{PoolFull}
 pub use Rattle.model_bits.proofs.BitLemmas.{bits-append, bits-push, length-bits, low_bits-mod, low_bits-number_of_n}
 pub use Rattle.model_bits.proofs.Division.Unique.{is_good-check, length-check}
 pub use Rattle.model_bits.proofs.Hearing.{heard_at-abort, heard_at-one, open_gap-abort, open_gap-one, open_gap-zero}
@@ -26,15 +25,15 @@ pub use Rattle.model_bits.specs.Bits.{bits, flag, number_of}
 unfoldable pub use Rattle.model_bits.specs.Bits.{low_bits}
 pub use Rattle.model_bits.specs.Check.{check, is_good}
 pub use Rattle.model_bits.specs.Framer.{item_octets, last_octets}
-pub use Rattle.model_bits.specs.OpenGap.{given_up_event, kept_count, one_more, open_gap, run_of}
+pub use Rattle.model_bits.specs.OpenGap.{kept_count, open_gap, run_of}
 pub use Rattle.model_bits.specs.Sent.{Item, frame, frame_text, idle, item_text, line_text}
-pub use Rattle.model_bits.specs.Stream.{closed_by_flag, ends_flag, gap_event, given_up, has_abort, heard_at, heard_in, heard_until, is_short, judged, room_for, since_flag, text_event}
+pub use Rattle.model_bits.specs.Stream.{closed_by_flag, ends_flag, gap_event, given_up, heard_at, heard_in, heard_until, judged, room_for, since_flag, text_event}
 pub use Rattle.model_bits.specs.Stuffing.{octets_sent, stuffed}
 pub use Rattle.model_bits.specs.StuffingLaws.{AreOctets}
 pub use Rattle.model_bits.specs.declared.heard.Cause.{Cause}
 pub use Rattle.model_bits.specs.RoundTrip.{AreHeardWhole, frames_of}
 pub use Rattle.model_card.specs.Card.{Card, line_at}
-pub use Rattle.model_line.specs.Came.{came, cause_of, is_too_short}
+pub use Rattle.model_line.specs.Came.{came, cause_of}
 pub use Rattle.model_line.specs.Counts.{hears_frame, hears_long_frame, is_frame, is_long_frame}
 pub use Rattle.model_line.specs.Sound.{IsInRange}
 pub use Rattle.model_line.specs.declared.config.Config.{Config}
@@ -45,7 +44,7 @@ pub use Rattle.model_line.specs.Line.{Line}
 pub use Rattle.model_line.specs.Taken.{Taken, next_of, taken}
 pub use Rattle.model_card.specs.ports.Card.{OctetCard, answer_to, card_after, fresh, port_at, said}
 unfoldable pub use Rattle.model_card.specs.ports.Card.{after, answer, meant}
-pub use Rattle.model_card.specs.ports.Codec.{GoesOn, IsAnswered, IsTextOf, PortGoesOn, Refines, Says, SaysSo, asked_among, asked_of, asked_with, come_of, frame_moment, frames_among, frames_given, given_of, heard_by, heard_of, meant_in, octet_come, octet_pulled, octets_come, octets_of, octets_pulled, pulled_of}
+pub use Rattle.model_card.specs.ports.Codec.{GoesOn, IsAnswered, IsTextOf, PortGoesOn, Refines, Says, SaysSo, asked_among, asked_with, come_of, frames_among, frames_given, given_of, heard_by, heard_of, meant_in, octet_come, octet_pulled, octets_come, octets_of, octets_pulled, pulled_of}
 pub use Rattle.model_card.specs.ports.Event.{Event}
 pub use Rattle.model_card.specs.ports.Laws.{CardsStaySound, DropsAreWithoutEffect, FramesLinear, LinesIsolated, OctetsAreACodec, RunIsMoments, StoredWithinLimit, reply_of}
 pub use Rattle.model_card.specs.ports.Port.{Answer, Port, answer_of, fresh_port, gained, is_due, item_of, left_of, next_octet, octet, pull, told, with_item, with_octet}

@@ -29,7 +29,10 @@ impl Entity {
             State::TeiAssigned => self.frame_in_4(terms, told, control, octets),
             State::AwaitingEstablishment => self.frame_in_5(terms, told, control, octets),
             State::AwaitingRelease => self.frame_in_6(terms, told, control, octets),
-            State::Established => self.frame_in_7(terms, told, command, control, octets),
+            State::Established => {
+                let recovering = false;
+                self.frame_in_7_8(terms, told, recovering, command, control, octets);
+            }
             State::TimerRecovery => self.frame_in_8(terms, told, command, control, octets),
         }
     }

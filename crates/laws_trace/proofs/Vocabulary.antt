@@ -98,7 +98,7 @@ pub use Rattle.laws_line.specs.Served.{HasNothing, IsIdle, IsOfLink, IsOwed, IsS
 pub use Rattle.laws_line.specs.Share.{is_granted}
 pub use Rattle.laws_line.specs.Steady.{Brings, BringsMalformed, IsBy, IsDeactivated, IsOf, timer_of}
 pub use Rattle.laws_line.specs.Timers.{HaveTheirTimers, is_needed, left_by, runs_then}
-pub use Rattle.model_card.specs.Takes.{AreTakesAt, takes_at, is_take, takes_of}
+pub use Rattle.model_card.specs.Takes.{AreTakesAt, takes_at, is_take, takes_of, frames_given, octets_of}
 pub use Rattle.laws_line.specs.card.Timers.{AllHaveTheirTimers, one_more, runs_at_callers}
 pub use Rattle.laws_link.proofs.Starting.{none-ordered}
 pub use Rattle.laws_link.proofs.Counted.{kept-after}
@@ -160,7 +160,7 @@ unfoldable pub use Rattle.model_card.specs.Run.{after_all, moments}
 pub use Rattle.model_card.specs.Sound.{IsSound as CardIsSound}
 pub use Rattle.model_card.specs.ports.Card.{OctetCard, after as ports_after, answer_to, fresh as ports_fresh, port_at}
 unfoldable pub use Rattle.model_card.specs.ports.Card.{meant}
-pub use Rattle.model_card.specs.ports.Codec.{frame_moment, frames_among, frames_given, meant_in, octets_of}
+pub use Rattle.model_card.specs.ports.Codec.{frame_moment, frames_among, meant_in}
 pub use Rattle.model_card.specs.ports.Event.{Event as PortsEvent}
 pub use Rattle.model_card.specs.ports.GoingOut.{OfEachLine, as_octets, calls_answered, frames_to_hear, octets_given}
 pub use Rattle.model_bits.specs.StreamLaws.{HasOctets}

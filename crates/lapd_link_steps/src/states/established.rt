@@ -1,6 +1,6 @@
 //! State 7, multiple frame established.
 
-ghost use Rattle.std.specs.Prelude.{◌≡◌, ℕ, Bool, List, length};
+ghost use Rattle.std.specs.Prelude.{ℕ, Bool, List};
 ghost use Rattle.lapd_link_steps.specs.{IsValid, va_of, vs_of, Terms, Entity, DoesBy, HasRoom, Tells, effect_of};
 ghost use Rattle.model_link.specs.Established as row;
 ghost use Rattle.lapd_link_steps.specs.Does.{Does};
@@ -8,30 +8,11 @@ ghost use Rattle.lapd_link_steps.specs.Does.{Does};
 use crate::entity::Entity;
 use crate::report::BareReport;
 use crate::states::multiple_frame::Bearer;
-use lapd_frame::{Control, ErrorCode};
+use lapd_frame::ErrorCode;
 use lapd_seq::Seq;
 use model_link::{LinkTimer, State, Terms};
 
 impl Entity {
-    // A frame with so many octets of information.
-    #[inline(always)]
-    pub(crate) fn frame_in_7(
-        &mut self,
-        terms: &Terms,
-        told: &mut BareReport,
-        command: bool,
-        control: Control,
-        octets: usize,
-    )
-        requires { HasRoom 2 2 told.old }
-        ensures tells { Tells 2 2 told.old told.new }
-        ensures does { (info : List ℕ) → length info ≡ octets →
-            Does terms.now info (row.frame_in_7 terms.now command info control) self.old told.old self.new told.new }
-    {
-        let recovering = false;
-        self.frame_in_7_8(terms, told, recovering, command, control, octets);
-    }
-
     // What a valid N(R) does, by the frame that brought it. It is the same for a final frame and another.
     #[inline(always)]
     pub(crate) fn acknowledged_in_7(&mut self, told: &mut BareReport, nr: Seq, by: Bearer)

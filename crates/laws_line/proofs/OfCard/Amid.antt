@@ -4,7 +4,7 @@ use Rattle.laws_line.proofs.Vocabulary.{◌≡◌, ℕ, ◌+◌, ◌-◌, ◌<�
 use Rattle.model_line.specs.Machine as lines
 unfoldable use Rattle.model_line.specs.Machine.{answer as line_answer}
 unfoldable use Rattle.model_card.specs.Run.{moments}
-use Rattle.model_card.specs.ports.Codec.{frames_given, given_of}
+use Rattle.model_card.specs.Takes.{frames_given, given_of}
 use Rattle.laws_line.proofs.Among.{no-farther-off, other-waits}
 use Rattle.laws_line.proofs.OfCard.InOrder.{InOrder, in-order, among-behind}
 use Rattle.laws_line.proofs.OfCard.Meanwhile.{at-another, at-next, few-lines, is-call, line-sound}

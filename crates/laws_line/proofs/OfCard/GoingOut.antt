@@ -11,7 +11,8 @@ unfoldable use Rattle.model_line.specs.Machine.{takes_slot}
 use Rattle.model_card.specs.Event as frames
 use Rattle.model_card.specs.Run as runs
 use Rattle.model_card.specs.ports.Card.{OctetCard, port_at}
-use Rattle.model_card.specs.ports.Codec.{frames_among, frames_given, octets_of}
+use Rattle.model_card.specs.ports.Codec.{frames_among}
+use Rattle.model_card.specs.Takes.{frames_given, octets_of}
 use Rattle.model_card.specs.ports.Event.{Event}
 use Rattle.model_card.specs.ports.GoingOut.{GoOut, as_octets, call_answered, calls_answered}
 use Rattle.model_card.specs.ports.Port.{Port, item_of}

@@ -9,8 +9,7 @@ use Rattle.model_card.specs.Card.{Card, line_at}
 use Rattle.model_card.specs.Event.{Event, at}
 use Rattle.model_card.specs.Machine.{after, answer}
 use Rattle.model_card.specs.Run.{after_all, moments}
-use Rattle.model_card.specs.ports.Codec.{frames_given}
-use Rattle.model_card.specs.Takes.{AreTakesAt, is_take, takes_at, takes_of}
+use Rattle.model_card.specs.Takes.{frames_given, AreTakesAt, is_take, takes_at, takes_of}
 use Rattle.laws_line.specs.card.Among.{AreAmong}
 
 -- Wherever in a list of events: of the card after any front of it, and of the events behind that.

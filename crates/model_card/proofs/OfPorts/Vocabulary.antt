@@ -44,7 +44,8 @@ pub use Rattle.model_line.specs.Line.{Line}
 pub use Rattle.model_line.specs.Taken.{Taken, next_of, taken}
 pub use Rattle.model_card.specs.ports.Card.{OctetCard, answer_to, card_after, fresh, port_at, said}
 unfoldable pub use Rattle.model_card.specs.ports.Card.{after, answer, meant}
-pub use Rattle.model_card.specs.ports.Codec.{GoesOn, IsAnswered, IsTextOf, PortGoesOn, Refines, Says, SaysSo, asked_among, asked_with, come_of, frames_among, frames_given, given_of, heard_by, heard_of, meant_in, octet_come, octet_pulled, octets_come, octets_of, octets_pulled, pulled_of}
+pub use Rattle.model_card.specs.ports.Codec.{GoesOn, IsAnswered, IsTextOf, PortGoesOn, Refines, Says, SaysSo, asked_among, asked_with, come_of, frames_among, heard_by, heard_of, meant_in, octet_come, octet_pulled, octets_come, octets_pulled, pulled_of}
+pub use Rattle.model_card.specs.Takes.{frames_given, given_of, octets_of}
 pub use Rattle.model_card.specs.ports.Event.{Event}
 pub use Rattle.model_card.specs.ports.Laws.{CardsStaySound, DropsAreWithoutEffect, FramesLinear, LinesIsolated, OctetsAreACodec, RunIsMoments, StoredWithinLimit, reply_of}
 pub use Rattle.model_card.specs.ports.Port.{Answer, Port, answer_of, fresh_port, gained, is_due, item_of, left_of, next_octet, octet, pull, told, with_item, with_octet}

@@ -6,10 +6,11 @@ use Rattle.model_bits.specs.Bits.{bits}
 use Rattle.model_bits.specs.Sent.{Item, idle, frame, line_text}
 use Rattle.model_bits.specs.Stream as stream
 use Rattle.model_line.specs.Event as line
-use Rattle.model_line.specs.Event.{NextFrame, nothing, given_in}
+use Rattle.model_line.specs.Event.{nothing}
 use Rattle.model_card.specs.Event as frames
 use Rattle.model_card.specs.Machine as machine
 use Rattle.model_card.specs.Run as runs
+use Rattle.model_card.specs.Takes.{frames_given}
 use Rattle.model_card.specs.ports.Event.{Event}
 use Rattle.model_card.specs.ports.Port as port
 use Rattle.model_card.specs.ports.Port.{Answer, Port, left_of}
@@ -70,7 +71,7 @@ pub record Refines (m : OctetCard) (events : List Event) : Type 0 where
   pub moments : flat_map meant_in (moments m events) ≡ runs.moments m.card (meant_all m events)
   pub at_lines : AreAtLines m events → runs.AreAtLines m.card (meant_all m events)
 
--- What a list of events of frames has at a line: what is heard there,
+-- What a list of events of frames has at a line: what is heard there.
 abbrev pub heard_by : line.Event → List stream.Event
 heard_by (line.hears e) = e ∷ []
 heard_by other = []
@@ -80,16 +81,6 @@ heard_of number e = if e.line == number then heard_by e.what else []
 
 abbrev pub heard_at : ℕ → List frames.Event → List stream.Event
 heard_at number events = flat_map (heard_of number) events
-
--- and what moments have: the frames that are given there.
-abbrev pub octets_of : NextFrame → List ℕ
-octets_of next = next.octets
-
-abbrev pub given_of : ℕ → runs.Moment → List (List ℕ)
-given_of number m = if m.event.line == number then option_to_list (option_map octets_of (given_in m.answer)) else []
-
-abbrev pub frames_given : ℕ → List runs.Moment → List (List ℕ)
-frames_given number ms = flat_map (given_of number) ms
 
 -- The frames among the items of a line.
 abbrev pub frames_among : List Item → List (List ℕ)

@@ -8,7 +8,8 @@ use Rattle.model_line.specs.Event.{NextFrame}
 use Rattle.model_line.specs.Sound.{IsInRange}
 use Rattle.model_card.specs.Run as runs
 use Rattle.model_card.specs.ports.Card.{fresh}
-use Rattle.model_card.specs.ports.Codec.{octets_pulled, frames_given}
+use Rattle.model_card.specs.ports.Codec.{octets_pulled}
+use Rattle.model_card.specs.Takes.{frames_given}
 use Rattle.model_card.specs.ports.Event.{Event}
 use Rattle.model_card.specs.ports.Promises.{moments_meant}
 use Rattle.model_card.specs.ports.Run.{moments, AreAtLines}

@@ -17,7 +17,7 @@ returns-in-AwaitingRelease-clause-does c = λ info len.
 
 pub returns-in-Established-clause-does : goal.returns-in-Established-clause-does
 returns-in-Established-clause-does c = λ info len.
-    by_state (λ s. frame_in s c.args.terms.now c.args.command info c.args.control) Established c.in-Established.is (c.frame_in_7.ensures.does info len)
+    by_state (λ s. frame_in s c.args.terms.now c.args.command info c.args.control) Established c.in-Established.is (c.frame_in_7_8.ensures.does info len)
 
 pub returns-in-TimerRecovery-clause-does : goal.returns-in-TimerRecovery-clause-does
 returns-in-TimerRecovery-clause-does c = λ info len.

@@ -88,7 +88,7 @@ one_comes : come_first small 0 (on ++ at 0 sabme ∷ []) (on_0 (Unit Call 127 (7
 unfolding come_first moments lines.after lines.answer lines.takes_slot teis.course teis.refusal reading header_of control_of unnumbered_of
 one_comes = refl
 
--- Where no call gives a frame, the law is broken; and where one RR is given, and two polls were heard.
+-- Where no call gives a frame, the law is broken.
 pub none_there : {X : Type 0} (x : X) (front back : List X) → [] ≡ front ++ x ∷ back → ⊥
 none_there x [] back e = cc e
 none_there x (y ∷ front) back e = cc e

@@ -1,4 +1,4 @@
--- Worked values: unit data is granted while there is room for it; and a card that refuses all, which breaks the law.
+-- Worked values: unit data is granted while there is room for it.
 use Rattle.std.specs.Prelude.{◌≡◌, Bool, true, false, List, [], ◌∷◌, refl}
 use Rattle.lapd_frame.specs.declared.services.Service.TheVariants.{Call}
 use Rattle.lapd_tei.specs.Events as teis
@@ -26,10 +26,3 @@ first_granted = refl
 second_refused : grants (on_0 (Assign 64) ∷ on_0 (Unit Call 64 (6 ∷ [])) ∷ []) ≡ false
 unfolding after_all lines.after lines.answer lines.takes_slot teis.course teis.refusal
 second_refused = refl
-
--- So a card that refused the first would break the law.
-abbrev Same : Bool → Bool → Type 0
-Same a b = a ≡ b
-
-refuses_none : Same false true → ⊥
-refuses_none e = cc e

@@ -1,6 +1,5 @@
--- Worked values: data that is granted takes a place; and a link that loses what had not gone, and tells nobody, which breaks
--- the law.
-use Rattle.std.specs.Prelude.{◌≡◌, ℕ, ◌+◌, true, false, List, [], ◌∷◌, ◌++◌, length, Ok, refl}
+-- Worked values: data that is granted takes a place, until it is acknowledged, or layer 3 learns that it is lost.
+use Rattle.std.specs.Prelude.{◌≡◌, ◌+◌, true, false, List, [], ◌∷◌, ◌++◌, length, Ok, refl}
 use Rattle.lapd_frame.specs.declared.notes.ErrorCode.TheVariants.{F}
 use Rattle.lapd_frame.specs.declared.notes.Note.TheVariants.{Error, ReleaseIndication}
 use Rattle.lapd_frame.specs.declared.services.Service.TheVariants.{Call, Packet}
@@ -54,10 +53,3 @@ one_more = refl
 none_more : went_on true (link_after one_heard) (link_after (one_heard ++ comes (0x00 ∷ 0x81 ∷ 0x7F ∷ []) ∷ [])) ≡ 0
 unfolding moments lines.after lines.answer lines.takes_slot teis.course teis.refusal seq distance_of named reading header_of control_of unnumbered_of supervisory_of
 none_more = refl
-
--- Where all places were left while contents are kept, the law would be broken.
-abbrev pub Same : ℕ → ℕ → Type 0
-Same m n = m ≡ n
-
-lost_silently : Same (8 + 1) 8 → ⊥
-lost_silently e = cc e

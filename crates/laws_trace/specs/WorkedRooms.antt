@@ -1,6 +1,5 @@
--- Worked values: what is told of the room of a link, and of a full pool; and what breaks the laws: a room that tells V(S) as
--- V(A), and a pool that is full too early.
-use Rattle.std.specs.Prelude.{◌≡◌, ℕ, List, [], ◌∷◌, ◌++◌, Ok, refl}
+-- Worked values: what is told of the room of a link, and of a full pool.
+use Rattle.std.specs.Prelude.{◌≡◌, List, [], ◌∷◌, ◌++◌, Ok, refl}
 use Rattle.lapd_frame.specs.declared.refusals.Refusal.TheVariants.{PoolFull}
 use Rattle.lapd_frame.specs.declared.services.Service.TheVariants.{Call}
 use Rattle.lapd_frame.specs.Reading.{reading, header_of, control_of, unnumbered_of, supervisory_of}
@@ -18,7 +17,6 @@ use Rattle.model_card.specs.Room.{room}
 use Rattle.model_card.specs.Run.{moments, after_all}
 use Rattle.laws_line.specs.card.Worked.{usual, on_0, up}
 use Rattle.laws_trace.specs.Outgoing.{outgoing_of}
-use Rattle.laws_trace.specs.WorkedKept.{Same}
 use Rattle.laws_trace.specs.WorkedObserver.{link_after}
 use Rattle.laws_trace.specs.NoSlotIsLost.{slots_taken}
 use Rattle.laws_trace.specs.WorkedUnits.{calls, comes, unit}
@@ -40,9 +38,6 @@ one_kept = refl
 none_heard : (link_after gone).acknowledged ≡ 0
 unfolding moments lines.after lines.answer lines.takes_slot teis.course teis.refusal seq distance_of named reading header_of control_of unnumbered_of supervisory_of
 none_heard = refl
-
-sent_is_told : Same 1 0 → ⊥
-sent_is_told e = cc e
 
 -- A link in state 4 keeps nothing, and all of eight places are left.
 abbrev on : List Event
@@ -80,6 +75,3 @@ third_refused = refl
 one_taken : slots_taken two_slots (on_0 (unit 8) ∷ []) ≡ 1
 unfolding moments lines.after lines.answer lines.takes_slot
 one_taken = refl
-
-half_is_not_full : Same 1 2 → ⊥
-half_is_not_full e = cc e

@@ -110,11 +110,11 @@ pub fn what_is_given_is_due()
 /// next frame of the line among the events that follow, behind those, so that each frame, of two alike, too, has a call
 /// of its own (`answers`). So it is of all that waits on the link, whatever was lost (`waiting`). This holds whatever
 /// else happens, as long as the TEI stays on the line, as whoever watches it knows, and the link is not deactivated,
-/// once the calls are more than go before: four messages of TEI management, unit data, for each control frame of the
-/// link that waits before it at most one frame of every link, and at most one of each link that comes before its own in
-/// the round, with each message of TEI management and each unit data that comes meanwhile; so 72 calls are enough with
-/// eight terminals, 4 unit data and 4 control frames where none of these comes (Q.921 clauses 5.5.1.2, 5.5.3.2, 5.6.2
-/// to 5.6.7, 5.7 and 5.8.1, and profile).
+/// once the calls are more than the configuration lets go before: four messages of TEI management (on the user's side
+/// there is none), all unit data that may wait, one frame of every link for each other control frame that the link has
+/// room for, and one of each other link, with each message of TEI management and each unit data that comes meanwhile;
+/// so 72 calls are enough with eight terminals, 4 unit data and 4 control frames where none of these comes (Q.921
+/// clauses 5.5.1.2, 5.5.3.2, 5.6.2 to 5.6.7, 5.7 and 5.8.1, and profile).
 pub fn answers_are_given()
     ensures answers { Always AnswersAreGiven }
     ensures waiting { Always WaitingIsGiven }
@@ -200,12 +200,12 @@ pub fn news_is_told()
 
 /// Rooms are told as they are. Of each link whose TEI is on the line the places of its queue are those that
 /// `FrameCard::room` tells as left and those of the contents that the link keeps, as [`what_is_given_is_due`] has them:
-/// so contents take a place until they are acknowledged, or layer 3 learns that they are lost, and none is lost silently.
-/// The slots of the pool are those that it tells as left and those that are taken, as [`no_slot_is_lost`] has them. Of a
-/// link in state 7 or 8 V(A) is told, which is the N(R) that was heard of it last, 0 where none was since its numbers
-/// began; and what is left, of the queue and of the pool, is what the next request for data would be refused for. In
-/// the other states that is refused for the state, so no data is granted there that nothing keeps (Q.921 clauses
-/// 3.5.2.3, 5.5.1.1, 5.5.1.2, 5.5.3.1, 5.5.3.2 and 5.7, and profile).
+/// so contents take a place until they are acknowledged, or layer 3 learns that they are lost, and none is lost
+/// silently. The slots of the pool are those that it tells as left and those that are taken, as [`no_slot_is_lost`] has
+/// them. Of a link in state 7 or 8 V(A) is told, which is the N(R) that was heard of it last, 0 where none was since
+/// its numbers began; and what is left, of the queue and of the pool, is what the next request for at most N201 octets
+/// of data would be refused for. In the other states that is refused for the state, so no data is granted there that
+/// nothing keeps (Q.921 clauses 3.5.2.3, 5.5.1.1, 5.5.1.2, 5.5.3.1, 5.5.3.2 and 5.7, and profile).
 pub fn rooms_are_told()
     ensures { Always RoomsAreTold }
 {}

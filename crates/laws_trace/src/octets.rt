@@ -2,8 +2,9 @@
 //!
 //! Each law holds from a fresh card of octets of a configuration in range, for every list of events at its lines, and for
 //! every line. They are composed of the laws of the trace and of ports (`model_card::ports`), and speak of the octets that
-//! pulls gave and of the requests that were granted. `specs/octets` has what is granted (`Granted`), when a line was pulled
-//! long enough (`Pulled`), a file for each law, and worked values (`Worked`). Each law is the contract of a call that does nothing.
+//! pulls gave and of the requests that were granted, `answers_are_heard` also of what the events come to at the card of frames.
+//! `specs/octets` has what is granted (`Granted`), when a line was pulled long enough (`Pulled`), a file for each law, and worked
+//! values (`Worked`, `WorkedAnswers`). Each law is the contract of a call that does nothing.
 
 ghost use Rattle.model_card.specs.ports.GoingOut.{OfEachLine};
 ghost use Rattle.laws_trace.specs.octets.AnswersAreHeard.{AnswersAreHeard, AllThatWaitsIsHeard};
@@ -38,12 +39,13 @@ pub fn frames_go_out()
 /// requests and pulls came to at the card of frames is an event of the line, and the answer to it tells no frame as
 /// lost, each control frame that is due by it is heard by who receives the octets that the pulls of the line give
 /// behind that, behind those that waited before, each, of two alike, too, as a frame of its own (`answers`); and so are
-/// all that wait on the link, whatever was lost (`waiting`). This holds whatever comes between the pulls, as long as
-/// the TEI stays on the line and the link is not deactivated, once they are as many as the configuration says: each of
-/// the frames that `answers_are_given` lets go before, and one frame behind, counts as the longest; so with eight
-/// terminals, 4 unit data, 4 control frames and N201 of 260, where no message of TEI management and no unit data comes
-/// meanwhile, 23,370 pulls are enough (Q.921 clauses 2.2 to 2.7, 5.5.1.2, 5.5.3.2, 5.6.2 to 5.6.7, 5.7 and 5.8.1, and
-/// profile).
+/// all that wait on the link, whatever was lost (`waiting`). A frame alike that was on its way already may count as one
+/// of these; that each has a call of its own, `answers_are_given` says. This holds whatever comes between the pulls, as
+/// long as the TEI stays on the line and the link is not deactivated, once they are as many as the configuration says:
+/// each of the frames that `answers_are_given` lets go before, and one frame behind, counts as the longest; so with
+/// eight terminals, 4 unit data, 4 control frames and N201 of 260, where no message of TEI management and no unit data
+/// comes meanwhile, 23,370 pulls are enough (Q.921 clauses 2.2 to 2.7, 5.5.1.2, 5.5.3.2, 5.6.2 to 5.6.7, 5.7 and 5.8.1,
+/// and profile).
 pub fn answers_are_heard()
     ensures answers { OfEachLine AnswersAreHeard }
     ensures waiting { OfEachLine AllThatWaitsIsHeard }

@@ -1,7 +1,9 @@
 /*
  * blocks.h: a heap between two addresses, for heap.c and module.c. Blocks lie one after the other. In front of each stands a
- * header of 16 octets, which says how large the block is and whether it is free; free neighbours are joined when the first
- * that fits is looked for. Who includes it has the types of stdint.h and lapd_memory.h, and rattle_alloc.
+ * header of 16 octets, which says how large the block is and whether it is free. A search takes the first block that fits,
+ * and joins free neighbours on its way. It goes on from the block that was taken last, so that a start, which takes thousands
+ * and gives none back, passes each block once; what it left on its way it looks for when nothing else fits. After a block was
+ * given back it begins at the first block again. Who includes it has the types of stdint.h and lapd_memory.h, and rattle_alloc.
  */
 #ifndef LAPD_BLOCKS_H
 #define LAPD_BLOCKS_H
@@ -45,7 +47,7 @@ static void take(unit *header, uint32_t units) {
     header->block.used = 1;
 }
 
-/* Takes the first free block with so many units; NULL where there is none. */
+/* Takes the first free block with so many units, from a block on; NULL where there is none. */
 static unit *first_fit(unit *header, const unit *end, uint32_t units) {
     for (; header < end; header += 1 + header->block.units) {
         if (header->block.used)
@@ -59,6 +61,24 @@ static unit *first_fit(unit *header, const unit *end, uint32_t units) {
     return NULL;
 }
 
+/* The block that was taken last, if none was given back since: it is in use, so no search joins it to another. And so many
+ * units no block before it has. */
+static unit *latest;
+static uint32_t refused = UINT32_MAX;
+
+/* Takes a free block of the heap with so many units; NULL where there is none. */
+static unit *fit(unit *first, const unit *end, uint32_t units) {
+    unit *found = first_fit(latest != NULL ? latest : first, end, units);
+    if (found == NULL && latest != NULL && units < refused) {
+        found = first_fit(first, latest, units);
+        if (found == NULL)
+            refused = units;
+    }
+    if (found != NULL)
+        latest = found;
+    return found;
+}
+
 static rattle_tried answer(unit *header) {
     static unit nothing;
     rattle_tried tried = {header != NULL, header != NULL ? header + 1 : &nothing};
@@ -67,6 +87,8 @@ static rattle_tried answer(unit *header) {
 
 void rattle_dealloc(void *at) {
     ((unit *)at)[-1].block.used = 0;
+    latest = NULL;
+    refused = UINT32_MAX;
 }
 
 rattle_tried rattle_realloc(void *at, size_t old_octets, size_t octets, size_t alignment) {

@@ -5,8 +5,8 @@
  *
  *     cc -DLAPD_HEAP_OCTETS=65536 $(pkg-config --cflags lapd) -c heap.c
  *
- * Cards and clocks take memory as they start and give it back as they end, so time does not matter here. One call at a
- * time: starts and frees, also of different cards, must not run side by side.
+ * Cards and clocks take memory as they start and give it back as they end. One call at a time: starts and frees, also of
+ * different cards, must not run side by side.
  */
 #include <stdint.h>
 
@@ -31,5 +31,5 @@ rattle_tried rattle_alloc(size_t octets, size_t alignment) {
         region = (unit *)(((uintptr_t)room + UNIT - 1) / UNIT * UNIT);
         lay(region, region + UNITS);
     }
-    return answer(first_fit(region, region + UNITS, units_of(octets)));
+    return answer(fit(region, region + UNITS, units_of(octets)));
 }

@@ -3,7 +3,7 @@
  * of memory that the library asks for, over the module's own memory, from where its data end.
  *
  * tools/vithrynel/wasm.py compiles it, for wasm64, freestanding, by the kit's clang, which has no headers. The heap is that of
- * blocks.h. Where no block fits, the memory grows, unless its owner has said where the heap lies.
+ * blocks.h. Where no block fits, the memory grows, unless its owner has said where the heap lies, or its engine refuses that.
  *
  *     module_take    a place for what a caller hands over, of so many octets; 0 where there is none
  *     module_give    takes it back
@@ -16,6 +16,7 @@ typedef __UINT64_TYPE__ uint64_t;
 typedef _Bool bool;
 enum { false, true };
 #define NULL ((void *)0)
+#define UINT32_MAX 0xFFFFFFFFu
 
 typedef struct {
     bool there;
@@ -26,7 +27,8 @@ rattle_tried rattle_alloc(size_t octets, size_t alignment);
 
 #include "blocks.h"
 
-enum { PAGE = 65536, MOST = 0x7FFFFFFF };
+/* No memory of 32-bit addresses has more pages. */
+enum { PAGE = 65536, MOST_PAGES = 65536, MOST = 0x7FFFFFFF };
 
 extern char __heap_base[];
 static unit *first, *end;
@@ -47,10 +49,11 @@ void module_heap(uintptr_t from, uintptr_t to) {
     set_up(from, to);
 }
 
-/* Makes room for a block at the end. */
+/* Makes room for a block at the end. A refusal is answered as -1 of 32 or of 64 bits: the module is compiled for addresses of
+ * 64 bits and turned to 32. */
 static bool grow(uint32_t units) {
     size_t pages = ((size_t)units + 1) * UNIT / PAGE + 1;
-    if (is_fixed || __builtin_wasm_memory_grow(0, pages) == (size_t)-1)
+    if (is_fixed || __builtin_wasm_memory_grow(0, pages) > MOST_PAGES)
         return false;
     unit *added = end;
     end += pages * (PAGE / UNIT);
@@ -65,7 +68,7 @@ static unit *block_of(size_t octets) {
         set_up((uintptr_t)__heap_base, __builtin_wasm_memory_size(0) * PAGE);
     unit *found;
     do
-        found = first_fit(first, end, units_of(octets));
+        found = fit(first, end, units_of(octets));
     while (found == NULL && grow(units_of(octets)));
     return found;
 }

@@ -9,9 +9,15 @@
  * lapd_card_start.
  *
  * A card has no callbacks, starts no thread, prints nothing, sets no errno, and takes memory in its start alone, as a
- * clock does. Link as pkg-config says of lapd (-llapd -llapd_malloc), or of lapd-shared. A program without malloc brings
- * three functions of memory of its own, which lapd_memory.h declares. The library is built for Linux on every x86-64 and
- * 64-bit ARM processor, and for each other processor as one file in C99, lapd.c, with this header.
+ * clock does. The library comes in two ways, with this header for both:
+ *
+ *  - as one file in C99, lapd.c, for every processor of 32 or 64 bits, x86-64 among them: cc program.c lapd.c. A program
+ *    without malloc has one region of memory (-DLAPD_HEAP_OCTETS=N), or two functions of its own (-DLAPD_OWN_MEMORY).
+ *  - built by the toolchain, for Linux on every x86-64 and 64-bit ARM processor. Link as pkg-config says of lapd, for the
+ *    archives, or of lapd-shared (-llapd); or in CMake with lapd::lapd of find_package(lapd). A program without malloc
+ *    brings three functions of its own.
+ *
+ * lapd_memory.h declares the functions of memory.
  *
  * What the caller promises, and no call can test:
  *
@@ -21,7 +27,7 @@
  *    proofs take each as a place of its own. Where it could happen by mistake, the call says what to do.
  *  - A card or a clock is used by one call at a time, also where an interrupt comes: a second call would meet it half
  *    changed, and nothing tells of that. Other cards and clocks may be used meanwhile. Where starts and frees run at
- *    the same time, the three functions of memory must allow it (malloc's do, heap.c's do not).
+ *    the same time, the functions of memory must allow it (malloc's do, heap.c's do not).
  *  - It begins as LAPD_CARD_NONE or LAPD_CLOCK_NONE, no copy of it is used, and its fields are left alone.
  *
  * No card and no clock is const, also where a call only asks: an export of the toolchain's cannot read through a const
@@ -40,13 +46,15 @@
 #include <stddef.h>
 #include <stdint.h>
 
-/* What a call answers. One that is not looked at is warned of in C++17 and C23; `(void)` before the call says that it is meant
- * so. */
+/* What a call answers. One that is not looked at is warned of, in C++17 and C23 by their own attribute and before them by that of
+ * GCC and Clang. `(void)!` before the call says that it is meant so: in C99, GCC warns of `(void)` alone, too. */
 #ifndef LAPD_NODISCARD
 #if defined(__cplusplus) && __cplusplus >= 201703L
 #define LAPD_NODISCARD [[nodiscard]]
 #elif defined(__STDC_VERSION__) && __STDC_VERSION__ > 201710L && defined(__has_c_attribute)
 #define LAPD_NODISCARD [[nodiscard]]
+#elif defined(__GNUC__)
+#define LAPD_NODISCARD __attribute__((warn_unused_result))
 #else
 #define LAPD_NODISCARD
 #endif
@@ -315,11 +323,11 @@ LAPD_STATUS lapd_pull(lapd_card *card, uint32_t line, uint8_t *octet, lapd_repor
  * Takes and gives octets in turn: step 2i takes in[i], step 2i+1 gives out[i]. Goes on from step *steps, up to and with
  * the first step that has something to tell (a note, an order, a cause, a frame lost, contents, a frame begun), or to
  * the end; *steps is then the next step, and the report is that of this step, or tells nothing where no step had
- * anything to tell. For room of a link it does not stop: the report has it as it is at the end of the call (lapd.c, for
- * other processors, stops after 256 octets where a link has room again then). LAPD_WRONG_LENGTH: the two lengths differ,
- * or *steps is beyond twice the length. For a step that has nothing to tell no report is written. `in` and `out` are two
- * buffers: what is proved of the octets that are taken holds while none of them is written over. With one buffer call
- * lapd_octet and lapd_pull in turn.
+ * anything to tell. For room of a link it does not stop: the report has it as it is at the end of the call (lapd.c stops
+ * after 256 octets where a link has room again then). LAPD_WRONG_LENGTH: the two lengths differ, or *steps is beyond
+ * twice the length. For a step that has nothing to tell no report is written. `in` and `out` are two buffers: what is
+ * proved of the octets that are taken holds while none of them is written over. With one buffer call lapd_octet and
+ * lapd_pull in turn.
  *
  *     for (size_t steps = 0; steps < 2 * n && lapd_exchange(&card, line, in, n, out, n, &steps, &report) == LAPD_OK;)
  *         ... what the report tells ...
@@ -488,8 +496,9 @@ enum {
     /* control frames and messages that found no room to wait */
     LAPD_LOST = 61,
     /* messages of TEI management heard and begun (clause 5.3.1, table 8), by their type: of the UI frames above, those with
-     * SAPI 63 and TEI 127 whose information begins with the entity identifier 15, whether or not they are otherwise well formed
-     * and are served. The network's side begins those that assign, deny, check and remove, and hears the others */
+     * SAPI 63 and FF as the second octet (TEI 127 and its extension bit) whose information begins with the entity identifier 15,
+     * whether or not they are otherwise well formed and are served. The network's side begins those that assign, deny, check
+     * and remove, and hears the others */
     LAPD_HEARD_REQUEST = 62, LAPD_HEARD_ASSIGNED = 63, LAPD_HEARD_DENIED = 64, LAPD_HEARD_CHECK_REQUEST = 65,
     LAPD_HEARD_CHECK_RESPONSE = 66, LAPD_HEARD_REMOVE = 67, LAPD_HEARD_VERIFY = 68,
     LAPD_BEGUN_REQUEST = 69, LAPD_BEGUN_ASSIGNED = 70, LAPD_BEGUN_DENIED = 71, LAPD_BEGUN_CHECK_REQUEST = 72,

@@ -1,6 +1,10 @@
 /*
- * lapd_memory.h: the three functions of memory that liblapd.a asks for, for who writes them (C99 and C++). A program
- * that links liblapd_malloc.a, as pkg-config has it, or heap.c, needs no more than lapd.h.
+ * lapd_memory.h: the functions of memory that the library asks for, for who writes them (C99 and C++).
+ *
+ *  - lapd.c with -DLAPD_OWN_MEMORY asks for two, rattle_alloc and rattle_dealloc. Without that it needs no more than
+ *    lapd.h.
+ *  - liblapd.a asks for all three. A program that links liblapd_malloc.a, as pkg-config has it, or heap.c, needs no more
+ *    than lapd.h.
  *
  * The library calls them in lapd_card_start, lapd_clock_start and the two frees alone.
  */
@@ -23,7 +27,8 @@ typedef struct {
 /* A block of so many octets, which begins at a multiple of the alignment: a power of two, and 16 at most. */
 rattle_tried rattle_alloc(size_t octets, size_t alignment);
 
-/* The block with another size; what it held stays, as far as it fits. Where there is none, the old block stays. */
+/* For liblapd.a alone: the block with another size; what it held stays, as far as it fits. Where there is none, the old
+ * block stays. */
 rattle_tried rattle_realloc(void *at, size_t old_octets, size_t octets, size_t alignment);
 
 /* Takes a block back. */

@@ -4,16 +4,24 @@ import { Editor, beginOf, lineOf } from "./editor.mjs";
 import { Card, USUAL, cardLineIn } from "./card.mjs";
 import { Player } from "./player.mjs";
 import { Shown } from "./shown.mjs";
+import { element } from "./lists.mjs";
 import { MOST_OCTETS, fragmentOf, save, scriptIn } from "./links.mjs";
 
 const PATIENCE = 120; // milliseconds from a key to a play
 const NARROW = "(max-width: 760px)"; // as page.css has it
+const LOW = "(max-height: 500px)"; // as page.css has it
 
 const byId = (id) => document.getElementById(id);
 const data = JSON.parse(byId("data").textContent);
 
 /** Octets of base64. */
 const octetsOfText = (text) => Uint8Array.from(atob(text), (it) => it.charCodeAt(0));
+
+/** What a kind of fault means, as Help has it, behind a colon. */
+function explanationOf(kind) {
+  const found = [...byId("faults").rows].find((it) => it.cells[0].textContent === kind);
+  return found ? `: ${found.cells[1].textContent}` : "";
+}
 
 /** The page as a whole. */
 class Page {
@@ -24,7 +32,7 @@ class Page {
     this.shown = new Shown(byId, (line) => this.lead(line));
     this.upTo = null; // the last line that is played; null: all are
     this.name = "script";
-    byId("card").open = !matchMedia(NARROW).matches;
+    byId("card").open = !matchMedia(`${NARROW}, ${LOW}`).matches;
     this.fillMenu();
     this.listen();
   }
@@ -55,6 +63,7 @@ class Page {
     byId("save").addEventListener("click", () => save(`${this.name}.transcript`, this.shown.transcript, "text/plain"));
     byId("help").addEventListener("click", ({ target }) => target.closest("table button") && this.insert(target.textContent));
     window.addEventListener("hashchange", () => this.fromAddress());
+    matchMedia(LOW).addEventListener("change", ({ matches }) => matches && this.closeCard());
     document.addEventListener("keydown", (event) => {
       const act = event.key === "Enter" && event.ctrlKey ? () => this.playTo(this.editor.line()) : keys[event.key];
       if (!act) return;
@@ -109,7 +118,6 @@ class Page {
     this.card.show(cardLineIn(text));
     this.shown.begin();
     this.editor.mark({ end: this.upTo });
-    byId("how-far").textContent = this.upTo === null ? "all is played" : `played up to line ${this.upTo}`;
     this.player.play(new TextEncoder().encode(script), (message) => this.told(message));
   }
 
@@ -119,12 +127,23 @@ class Page {
       if (!byId("progress").hidden) this.judge("It is being played.", false, null);
     } else if (message.failed !== undefined) {
       this.judge(`Not played: ${message.failed}`, true, null);
+      this.tellHowFar("not played");
     } else if (message.ended) {
-      const { status, fault, line, clock } = message.ended;
-      const words = status ? fault : `No fault. The script's clock stands at ${clock} ms.`;
-      this.judge(words, status !== 0, status ? { line, words: fault.split(": ").slice(1).join(": ") } : null);
-      this.shown.mark(this.upTo ?? this.editor.marks.here, this.upTo !== null);
+      this.ended(message.ended);
     }
+  }
+
+  ended({ status, fault, line, clock }) {
+    if (status) {
+      const words = fault.split(": ").slice(1).join(": ");
+      this.judge(fault, true, { line, words });
+      byId("verdict").append(element("span", "meaning", explanationOf(words)));
+      this.tellHowFar(`played up to the fault in line ${line}`);
+    } else {
+      this.judge(`No fault. The script's clock stands at ${clock} ms.`, false, null);
+      this.tellHowFar(this.upTo === null ? "all is played" : `played up to line ${this.upTo}`);
+    }
+    this.shown.mark(this.upTo ?? this.editor.marks.here, this.upTo !== null);
   }
 
   judge(words, isFaulty, fault) {
@@ -133,10 +152,20 @@ class Page {
     this.editor.mark({ fault });
   }
 
+  tellHowFar(words) {
+    byId("how-far").textContent = words;
+  }
+
+  /** Where the window gets low, the form would take all of it. One that is being filled in stays. */
+  closeCard() {
+    if (!byId("card").contains(document.activeElement)) byId("card").open = false;
+  }
+
   stop() {
     this.player.stop();
     this.shown.stopped();
     this.judge("Stopped: what the ladder shows is not all.", true, null);
+    this.tellHowFar("stopped");
   }
 
   /** Goes on, or back, by a line that is not skipped. */
@@ -179,7 +208,7 @@ class Page {
     focused.focus();
   }
 
-  /** Puts a line behind that of the caret. */
+  /** Puts a line after that of the caret, and shows what comes of it. */
   insert(text) {
     const { value } = this.editor;
     const found = value.indexOf("\n", byId("text").selectionEnd);
@@ -187,6 +216,8 @@ class Page {
     const isOpen = at > 0 && value[at - 1] !== "\n";
     this.editor.replace(at, at, `${isOpen ? "\n" : ""}${text}\n`);
     this.editor.show(lineOf(value, at) + Number(isOpen), true);
+    this.shown.open("ladder");
+    if (matchMedia(NARROW).matches) byId("editor").scrollIntoView({ block: "nearest" });
   }
 
   copyLink() {

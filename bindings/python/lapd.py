@@ -1,8 +1,9 @@
-"""LAPD for line cards (ITU-T Q.921, modulo 128), over the shared library that tools/install leaves.
+"""LAPD for line cards (ITU-T Q.921, modulo 128), over the shared library that tools/install leaves, or one of lapd.c.
 
     import lapd
 
-    config = lapd.Config(lines=1, terminals=8, k=7, k16=7, queue=8, unit_queue=4, control=4, slots=64, n201=260, n200=3)
+    # Basic access: windows of 1 for call control and 3 for packet mode (Q.921, 5.9.5)
+    config = lapd.Config(lines=1, terminals=8, k=1, k16=3, queue=8, unit_queue=4, control=4, slots=64, n201=260, n200=3)
     with lapd.FrameCard(config) as card, lapd.Clock(config) as timers:
         timers.apply(0, card.assign(0, 64), now=0)
         report = card.frame(0, bytes.fromhex("00817F"))         # SABME of TEI 64
@@ -15,8 +16,12 @@ refused request raises an `Error` with its `Status`, and what an event led to co
 the call can't be handed raises a ValueError. Cards and clocks end with their `with`, or by `close`. A card or a clock is used
 by one thread at a time.
 
+Words stand in another order than in C where a call is about a link: the TEI comes first, and its service last, which is
+Service.CALL where it is left out. So `lapd_data(&card, line, LAPD_PACKET, 64, contents, length, &report)` is
+`card.data(line, 64, contents, Service.PACKET)`.
+
 The library is the file that LAPD_LIBRARY names in the environment; else ../../lib/liblapd.so.1 beside this file, as it is
-installed; else liblapd.so.1 where the system looks.
+installed; else liblapd.so.1 in this file's folder; else liblapd.so.1 where the system looks.
 """
 import ctypes
 import dataclasses
@@ -242,8 +247,9 @@ _ANSWERS: Dict[str, Any] = {**{f"lapd_{it}_text": ctypes.c_char_p for it in ("st
 
 
 def _path() -> str:
-    beside = os.path.join(os.path.dirname(os.path.abspath(__file__)), "..", "..", "lib", "liblapd.so.1")
-    return os.environ.get("LAPD_LIBRARY") or (beside if os.path.exists(beside) else "liblapd.so.1")
+    folder, name = os.path.dirname(os.path.abspath(__file__)), "liblapd.so.1"
+    beside = [os.path.join(folder, *it, name) for it in (("..", "..", "lib"), ())]
+    return os.environ.get("LAPD_LIBRARY") or next(filter(os.path.exists, beside), name)
 
 
 @functools.lru_cache(None)

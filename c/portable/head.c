@@ -1,16 +1,4 @@
-/* ---- What may be chosen ------------------------------------------------------------------------------------------ */
-
-/*
- * -DLAPD_MALLOC                cards and clocks lie in memory of malloc
- * -DLAPD_OWN_MEMORY            they lie in memory of the program's rattle_alloc and rattle_dealloc, as declared below
- * -DLAPD_HEAP_OCTETS=N         neither: they lie in one static region of so many octets
- * -DLAPD_BIG_END_FIRST=0|1     the order of octets, where the compiler does not tell it as GCC and Clang do
- * -DLAPD_UNTESTED              accesses to a card's memory are not tested: the proofs say that each is inside of it, where the
- *                              steps behind them are right, and the stack in it suffices, which is only tested
- */
-#if !defined(LAPD_MALLOC) && !defined(LAPD_OWN_MEMORY) && !defined(LAPD_HEAP_OCTETS)
-#define LAPD_HEAP_OCTETS 131072
-#endif
+/* ---- Numbers, and a machine's memory ------------------------------------------------------------------------------ */
 
 #ifndef LAPD_BIG_END_FIRST
 #ifndef __BYTE_ORDER__
@@ -19,8 +7,9 @@
 #define LAPD_BIG_END_FIRST (__BYTE_ORDER__ == __ORDER_BIG_ENDIAN__)
 #endif
 
-/* ---- A card's memory --------------------------------------------------------------------------------------------- */
-
+#include <stdbool.h>
+#include <stddef.h>
+#include <stdint.h>
 #include <stdlib.h>
 #include <string.h>
 
@@ -42,17 +31,17 @@ typedef int64_t s64;
 /* What cannot be, by the proofs, ends the program. */
 #define TRAP() abort()
 #define UNREACHABLE TRAP()
-#define FUNC_PROLOGUE const u32 limit = (u32)instance->octets; (void)limit
 #define FUNC_EPILOGUE
 
 /* Only the place of a load or a store is tested, not how far ahead of it it goes: that is less than AHEAD, and it takes WIDEST
- * octets at most. So what passes the test stays inside the block that was allocated, which has BEHIND octets more. */
+ * octets at most. So what passes the test stays inside the block that was allocated, which has BEHIND octets more. How large
+ * the memory is, LIMIT says. */
 enum { BEHIND = AHEAD + WIDEST };
 #ifdef LAPD_UNTESTED
-#define TEST(at) (void)limit
+#define TEST(at) (void)most
 #define TEST_BLOCK(at, count) (void)0
 #else
-#define TEST(at) do { if (UNLIKELY((at) > limit)) TRAP(); } while (0)
+#define TEST(at) do { if (UNLIKELY((at) > most)) TRAP(); } while (0)
 #define TEST_BLOCK(at, count) do { if (UNLIKELY((u64)(at) + (count) > instance->octets)) TRAP(); } while (0)
 #endif
 
@@ -71,14 +60,14 @@ enum { BEHIND = AHEAD + WIDEST };
 
 /* Loads and stores: so many bits of memory, read as a signed or unsigned number, as a value of the machine. */
 #define DEFINE_LOAD(name, bits, as, value)                                                  \
-    static inline value name(const machine *instance, u32 limit, u64 at, u32 ahead) {       \
+    static inline value name(const machine *instance, u32 most, u64 at, u32 ahead) {        \
         u##bits octets;                                                                     \
         TEST(at);                                                                           \
         memcpy(&octets, instance->data + (size_t)at + ahead, sizeof octets);                \
         return (value)(as)TURNED_##bits(octets);                                            \
     }
 #define DEFINE_STORE(name, bits, value)                                                     \
-    static inline void name(machine *instance, u32 limit, u64 at, u32 ahead, value number) { \
+    static inline void name(machine *instance, u32 most, u64 at, u32 ahead, value number) { \
         u##bits octets = (u##bits)number;                                                   \
         TEST(at);                                                                           \
         octets = TURNED_##bits(octets);                                                     \

@@ -30,16 +30,6 @@ static inline void memory_copy(machine *instance, machine *same, u32 to, u32 fro
     memmove(instance->data + to, instance->data + from, count);
 }
 
-/* A card's memory does not grow: what it needs is known at its start. */
-static inline u32 wasm_rt_grow_memory(machine *instance, u32 pages) {
-    (void)instance;
-    (void)pages;
-    return 0xFFFFFFFF;
-}
-
-#define LOAD_DATA(memory, at, octets, count) memcpy(instance->data + (at), octets, count)
-#define wasm_rt_allocate_memory(memory, least, most) (void)0
-
 /* ---- Instructions of WebAssembly that C has not ------------------------------------------------------------------- */
 
 #if defined(__GNUC__)

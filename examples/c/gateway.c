@@ -9,13 +9,13 @@ uint32_t gateway_start(gateway *own, const lapd_config *config) {
         return status;
     status = lapd_clock_start(&own->timers, config);
     if (status != LAPD_OK)
-        (void)lapd_card_free(&own->card);
+        (void)!lapd_card_free(&own->card);
     return status;
 }
 
 void gateway_end(gateway *own) {
-    (void)lapd_clock_free(&own->timers);
-    (void)lapd_card_free(&own->card);
+    (void)!lapd_clock_free(&own->timers);
+    (void)!lapd_card_free(&own->card);
 }
 
 /* The clock would refuse the moment only after the card had served the event, so each call asks first. */

@@ -7,7 +7,8 @@
 #include <string.h>
 #include <time.h>
 
-const lapd_config linecard_config = {.lines = 1, .terminals = 8, .k = 7, .k16 = 7, .queue = 8, .unit_queue = 4,
+/* Basic access: windows of 1 for call control and 3 for packet mode (Q.921, 5.9.5). */
+const lapd_config linecard_config = {.lines = 1, .terminals = 8, .k = 1, .k16 = 3, .queue = 8, .unit_queue = 4,
                                      .control = 4, .slots = 64, .n201 = 260, .n200 = 3};
 
 bool linecard_is_ok(const linecard *own, uint32_t status, const char *call) {
@@ -106,8 +107,8 @@ bool linecard_begin(linecard *own) {
 }
 
 bool linecard_end(linecard *own) {
-    (void)lapd_clock_free(&own->timers);
-    (void)lapd_card_free(&own->card);
+    (void)!lapd_clock_free(&own->timers);
+    (void)!lapd_card_free(&own->card);
     return linecard_close(own, own->record, "record");
 }
 

@@ -340,8 +340,8 @@ static void sum_up(wire_end *end) {
 static void finish(wire_end *end) {
     if (end->record != NULL && fclose(end->record) != 0)
         fail(end, "its record cannot be written");
-    (void)lapd_clock_free(&end->timers);
-    (void)lapd_card_free(&end->card);
+    (void)!lapd_clock_free(&end->timers);
+    (void)!lapd_card_free(&end->card);
 }
 
 /* ---- Words ------------------------------------------------------------------------------------------------------ */

@@ -52,24 +52,24 @@ static size_t make_frames(unsigned frames, const uint8_t *head, size_t head_leng
 
 static void by_calls(size_t count) {
     for (size_t i = 0; i < count; i++) {
-        lapd_octet(&card, 0, stream[i], &report);
+        (void)!lapd_octet(&card, 0, stream[i], &report);
         delivered += report.delivered;
-        lapd_pull(&card, 0, &out[i], &report);
+        (void)!lapd_pull(&card, 0, &out[i], &report);
     }
 }
 
 static void by_clock(size_t count) {
     lapd_due due;
     for (size_t i = 0; i < count; i++) {
-        lapd_octet(&card, 0, stream[i], &report);
+        (void)!lapd_octet(&card, 0, stream[i], &report);
         delivered += report.delivered;
         if (report.order_count != 0)
-            lapd_clock_apply_report(&timers, 0, &report, 0);
+            (void)!lapd_clock_apply_report(&timers, 0, &report, 0);
         if (lapd_clock_due(&timers, 0, &due) == LAPD_OK)
-            lapd_expire(&card, due.line, &due.timer, &report);
-        lapd_pull(&card, 0, &out[i], &report);
+            (void)!lapd_expire(&card, due.line, &due.timer, &report);
+        (void)!lapd_pull(&card, 0, &out[i], &report);
         if (report.order_count != 0)
-            lapd_clock_apply_report(&timers, 0, &report, 0);
+            (void)!lapd_clock_apply_report(&timers, 0, &report, 0);
     }
 }
 
@@ -77,7 +77,7 @@ static void by_exchange(size_t count) {
     for (size_t from = 0; from < count; from += CHUNK) {
         size_t length = count - from < CHUNK ? count - from : CHUNK;
         for (size_t steps = 0; steps < 2 * length;) {
-            lapd_exchange(&card, 0, stream + from, length, out + from, length, &steps, &report);
+            (void)!lapd_exchange(&card, 0, stream + from, length, out + from, length, &steps, &report);
             delivered += report.delivered;
         }
     }

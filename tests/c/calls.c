@@ -81,7 +81,7 @@ static unsigned i_frames;
 /* The next octet of line 0. */
 static void pull(uint8_t *octet) {
     lapd_head head;
-    lapd_pull(&card, 0, octet, &report);
+    wants(lapd_pull(&card, 0, octet, &report) == LAPD_OK, "no octet is given");
     if (report.begun && lapd_begun(&card, 0, &head) == LAPD_OK && head.octets[2] % 2 == 0)
         i_frames++;
 }
@@ -91,7 +91,7 @@ static void hear(hdlc_sender *sender, const uint8_t *frame, size_t length, lapd_
     hdlc_load(sender, frame, length);
     for (size_t left = hdlc_left(sender), i = 0; i < left; i += 8) {
         uint8_t octet = hdlc_octet(sender);
-        lapd_octet(&card, 0, octet, &report);
+        wants(lapd_octet(&card, 0, octet, &report) == LAPD_OK, "no octet is taken");
         if (report.delivered)
             *told = report;
         pull(&octet);
@@ -164,7 +164,7 @@ static void rooms(void) {
     wants(has_room(1, 0, 1), "another room with a full pool");
     wants(lapd_data(&card, 0, LAPD_CALL, 64, NULL, 0, &report) == LAPD_REFUSED_POOL_FULL, "not refused for the pool");
     for (uint8_t i = 0, octet; i < 16; i++)
-        lapd_pull(&card, 1, &octet, &report);
+        wants(lapd_pull(&card, 1, &octet, &report) == LAPD_OK, "no octet of another line");
     wants(has_room(1, 1, 1), "another room after unit data");
     wants(lapd_data(&card, 0, LAPD_CALL, 64, NULL, 0, &report) == LAPD_OK, "the last place is refused");
     wants(has_room(0, 0, 1), "another room with nothing left");
@@ -196,7 +196,7 @@ static void lengths(void) {
     wants(lapd_clock_set_lengths(&clock, 5, 5, UINT32_MAX) == LAPD_WRONG_TIME, "T201 of more than an hour");
     wants(lapd_clock_apply(&clock, 0, &start, 100) == LAPD_OK, "no T200");
     wants(lapd_clock_next(&clock, &moment) == LAPD_OK && moment == 101, "a wrong call has changed the lengths");
-    lapd_clock_free(&clock);
+    wants(lapd_clock_free(&clock) == LAPD_OK, "a clock stays");
 }
 
 /* Of line 0 the counter is this. */
@@ -227,7 +227,9 @@ static unsigned released, ended;
 static uint64_t now(void) { return 0; }
 
 /* Each link that was up tells its release; the line itself, if a check ran, that its timer stops. */
-static void layer_3(const lapd_report *told) {
+static void layer_3(uint32_t line, const lapd_report *told) {
+    if (line != 0 || !lapd_tells(told))
+        return;
     if (told->note_count == 0) {
         wants(told->order_count == 1 && told->orders[0].order == LAPD_STOP && told->orders[0].timer.timer == LAPD_T201, "a line that is down orders something else");
         ended++;
@@ -237,15 +239,31 @@ static void layer_3(const lapd_report *told) {
     released++;
 }
 
-/* As docs/EMBEDDING.md has it. */
-static void goes_down(uint32_t line) {
-    uint8_t place = 0;
-    while (lapd_line_down(&card, line, &place, &report) == LAPD_OK)
-        if (lapd_tells(&report)) {
-            lapd_clock_apply_report(&timers, line, &report, now());
-            layer_3(&report);
-        }
+static uint32_t carried_out(uint32_t line, uint32_t status) {
+    if (status == LAPD_OK)
+        status = lapd_clock_apply_report(&timers, line, &report, now());
+    if (status == LAPD_OK)
+        layer_3(line, &report);
+    return status;
 }
+
+static int fail(const char *text) {
+    wants(false, text);
+    return 1;
+}
+
+/* As docs/EMBEDDING.md has it. */
+static int is_down(uint32_t line) {
+    uint8_t place = 0;
+    uint32_t status = LAPD_OK;
+    while (status == LAPD_OK)
+        status = carried_out(line, lapd_line_down(&card, line, &place, &report));
+    if (status != LAPD_NO_MORE_LINKS)
+        return fail(lapd_status_text(status));
+    return 0;
+}
+
+static void goes_down(uint32_t line) { wants(is_down(line) == 0, "a line does not go down"); }
 
 /* How many links of the line are up. */
 static unsigned count_up(uint32_t line) {
@@ -263,7 +281,7 @@ static void nothing_waits(void) {
     unsigned begun = 0;
     wants(lapd_unit(&card, 0, LAPD_CALL, LAPD_GROUP_TEI, &octet, 1, &report) == LAPD_OK, "no unit data");
     wants(lapd_check(&card, 0, 64, &report) == LAPD_OK, "no check");
-    lapd_clock_apply_report(&timers, 0, &report, now());
+    wants(lapd_clock_apply_report(&timers, 0, &report, now()) == LAPD_OK, "no place for T201");
     wants(lapd_clock_next(&timers, &moment) == LAPD_OK && moment == 1000, "no T201");
     goes_down(0);
     wants(ended == 1 && lapd_clock_next(&timers, &moment) == LAPD_NO_TIMER, "a check runs on a line that is down");
@@ -294,7 +312,7 @@ static void line_down(unsigned links) {
     wants(place == 0xFF, "the line goes down twice");
     wants(lapd_line_down(&card, 0, &place, &report) == LAPD_NO_MORE_LINKS, "a link behind the last");
     wants(lapd_line_down(&card, LINES, &place, &report) == LAPD_WRONG_LINE, "no line goes down");
-    lapd_clock_free(&timers);
+    wants(lapd_clock_free(&timers) == LAPD_OK, "a clock stays");
 }
 
 int main(void) {
@@ -317,6 +335,6 @@ int main(void) {
     look_at(0, 2 * sizeof teis);
     wants(lapd_remove(&card, 0, 126, &report) == LAPD_OK, "the TEI stays");
     look_at(0, 2 * sizeof teis - 2);
-    lapd_card_free(&card);
+    wants(lapd_card_free(&card) == LAPD_OK, "the card stays");
     return failed;
 }

@@ -24,7 +24,7 @@ def skip(what, why, required="CC_TESTS"):
         print(f"c: SKIPPED: {what}, since {why}")
 
 
-def run(words, stdin=None, env=None, given=None, timeout=120):
+def run(words, stdin=None, env=None, given=None, timeout=600):
     """Runs a program, whose input is a file, or octets that are given."""
     source = {"stdin": stdin} if given is None else {"input": given}
     return subprocess.run(words, **source, capture_output=True, env={**os.environ, **(env or {})}, timeout=timeout)

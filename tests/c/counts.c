@@ -34,7 +34,7 @@ static unsigned below(unsigned most) {
 static void pull(uint32_t line) {
     uint8_t octet;
     lapd_head head;
-    lapd_pull(&card, line, &octet, &report);
+    (void)!lapd_pull(&card, line, &octet, &report);
     count_told(&counted[line], &report);
     if (report.begun && lapd_begun(&card, line, &head) == LAPD_OK)
         count_head(&counted[line], true, head.octets, head.length);
@@ -53,7 +53,7 @@ static void take_next(uint32_t line) {
 }
 
 static void octet_comes(uint32_t line, uint8_t octet) {
-    lapd_octet(&card, line, octet, &report);
+    (void)!lapd_octet(&card, line, octet, &report);
     count_told(&counted[line], &report);
 }
 
@@ -104,7 +104,7 @@ static void noise_comes(uint32_t line) {
     static const uint8_t causes[] = {LAPD_ABORT, LAPD_RAGGED, LAPD_SHORT, LAPD_FCS};
     const uint8_t *noise = noises[below(3)];
     if (for_frames) {
-        lapd_frame_failed(&card, line, causes[below(sizeof causes)], &report);
+        (void)!lapd_frame_failed(&card, line, causes[below(sizeof causes)], &report);
         count_told(&counted[line], &report);
         return;
     }
@@ -120,7 +120,7 @@ static void frame_comes(uint32_t line) {
         noise_comes(line);
     count_heard(&counted[line], octets, length);
     if (for_frames) {
-        lapd_frame(&card, line, octets, length, &report);
+        (void)!lapd_frame(&card, line, octets, length, &report);
         count_told(&counted[line], &report);
         return;
     }
@@ -144,7 +144,7 @@ static void asks(uint32_t line) {
 
 static void expires(uint32_t line) {
     lapd_timer timer = {(uint8_t)(LAPD_T200 + below(3)), below(2) ? LAPD_CALL : LAPD_PACKET, (uint8_t)(64 + below(4))};
-    lapd_expire(&card, line, &timer, &report);
+    (void)!lapd_expire(&card, line, &timer, &report);
     count_told(&counted[line], &report);
 }
 
@@ -188,7 +188,7 @@ int main(int count, char **words) {
         counted[line].side = config.side;
         counted[line].n201 = config.n201;
         for (uint8_t tei = 64; tei < 67; tei++)
-            lapd_assign(&card, line, tei, &report);
+            failed |= lapd_assign(&card, line, tei, &report) != LAPD_OK;
     }
     for (unsigned i = 0; i < TURNS; i++)
         happens(below(LINES));
@@ -197,6 +197,6 @@ int main(int count, char **words) {
     for (uint32_t line = 0; line < LINES; line++)
         failed |= !counts_the_same(&counted[line], &card, line, "counts");
     printf("counts: %u of %d names\n", names(), LAPD_COUNTERS);
-    lapd_card_free(&card);
+    failed |= lapd_card_free(&card) != LAPD_OK;
     return failed || names() < (config.side == LAPD_USER ? 46 : 52);
 }

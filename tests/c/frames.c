@@ -14,6 +14,7 @@ enum { LINES = 2, ROUNDS = 40000 };
 
 static const lapd_config config = {LINES, 8, 7, 7, 8, 4, 4, 8, 260, 3, LAPD_NETWORK};
 static const lapd_config narrow = {1, 1, 1, 1, 1, 1, 2, 1, 8, 0, LAPD_NETWORK};
+static const lapd_config primary = {1, 1, 7, 7, 8, 4, 4, 20, 260, 3, LAPD_NETWORK};
 static const uint8_t sabme[] = {0x00, 0x81, 0x7F}, ua[] = {0x00, 0x81, 0x73}, from_terminal[] = {0x02, 0x81, 0x73};
 static int failed;
 
@@ -186,7 +187,7 @@ static bool is_same(const lapd_report *one, const lapd_report *two) {
 
 /* An octet comes; how many of its frame, or fault, have told something so far. */
 static unsigned hear_octet(pair *both, uint32_t line, uint8_t octet, unsigned tells, lapd_report *told) {
-    lapd_octet(&both->octets, line, octet, &report);
+    wants(lapd_octet(&both->octets, line, octet, &report) == LAPD_OK, "no octet is taken");
     if (!lapd_tells(&report))
         return tells;
     if (tells == 0)
@@ -295,13 +296,13 @@ static void take_next(pair *both, uint32_t line) {
     uint32_t status = next(&both->frames, line);
     wants((status == LAPD_OK) == waits, "a line that waits gives no frame, or one that does not gives one");
     do
-        lapd_pull(&both->octets, line, &octet, &pulled);
+        wants(lapd_pull(&both->octets, line, &octet, &pulled) == LAPD_OK, "no octet is given");
     while (!pulled.begun && ++pulls < 400);
     wants((status == LAPD_OK) == pulled.begun, "a frame waits on one card alone");
     if (status != LAPD_OK)
         return;
     both->sent++;
-    lapd_begun(&both->octets, line, &head);
+    wants(lapd_begun(&both->octets, line, &head) == LAPD_OK, "no frame has begun");
     wants(is_same(&report, &pulled), "the next frame has other orders");
     wants(head.length == length && memcmp(head.octets, out, length < 4 ? length : 4) == 0, "another frame is next");
     wants(report.more == is_waiting(&both->frames, line), "more is told that does not wait, or none where one does");
@@ -353,7 +354,7 @@ static bool knows_the_same(pair *both) {
         uint32_t answers[2];
         memset(rooms, 0, sizeof rooms);
         for (int i = 0; i < 2; i++) {
-            lapd_state(cards[i], link % 2, LAPD_CALL, (uint8_t)(64 + link / 2), &states[i]);
+            same = lapd_state(cards[i], link % 2, LAPD_CALL, (uint8_t)(64 + link / 2), &states[i]) == LAPD_OK && same;
             answers[i] = lapd_room(cards[i], link % 2, LAPD_CALL, (uint8_t)(64 + link / 2), &rooms[i]);
         }
         same = same && states[0] == states[1] && answers[0] == answers[1] && memcmp(&rooms[0], &rooms[1], sizeof rooms[0]) == 0;
@@ -364,9 +365,9 @@ static bool knows_the_same(pair *both) {
         same = same && memcmp(&counters[0], &counters[1], sizeof counters[0]) == 0;
     }
     for (int i = 0; i < 2; i++) {
-        lapd_stored(cards[i], &stored[i]);
-        lapd_limit(cards[i], &limits[i]);
-        lapd_lines(cards[i], &lines[i]);
+        same = lapd_stored(cards[i], &stored[i]) == LAPD_OK && same;
+        same = lapd_limit(cards[i], &limits[i]) == LAPD_OK && same;
+        same = lapd_lines(cards[i], &lines[i]) == LAPD_OK && same;
     }
     return same && stored[0] <= stored[1] && limits[0] == limits[1] && lines[0] == lines[1];
 }
@@ -380,8 +381,7 @@ static void both_kinds(void) {
             wants(knows_the_same(&both), "the two cards differ");
     }
     wants(both.told > ROUNDS / 20 && both.sent > ROUNDS / 40 && both.delivered > ROUNDS / 400, "little has happened");
-    lapd_card_free(&both.frames);
-    lapd_card_free(&both.octets);
+    wants(lapd_card_free(&both.frames) == LAPD_OK && lapd_card_free(&both.octets) == LAPD_OK, "a pair stays");
 }
 
 /* A buffer goes round: what was given comes back from where it was written. */
@@ -399,11 +399,13 @@ static void first_try(void) {
     uint8_t frame[LAPD_MOST_FRAME + 1] = {0};
     lay_paint();
     wants(lapd_card_start_frames(&card, &config) == LAPD_OK, "no card for a first try");
-    static const uint8_t sabme[] = {0x00, 0x81, 0x7F};                     /* of TEI 64 */
-    lapd_assign(&card, 0, 64, &report);
-    lapd_frame(&card, 0, sabme, sizeof sabme, &report);                    /* tells that the link is up */
-    lapd_next_frame(&card, 0, frame, sizeof frame, &length, &report);      /* UA: 00 81 73 */
-    wants(length == 3 && memcmp(frame, ua, 3) == 0, "a first try is not answered");
+    static const uint8_t sabme[] = {0x00, 0x81, 0x7F};                                /* of TEI 64 */
+    uint32_t status = lapd_assign(&card, 0, 64, &report);
+    if (status == LAPD_OK)
+        status = lapd_frame(&card, 0, sabme, sizeof sabme, &report);                  /* tells that the link is up */
+    if (status == LAPD_OK)
+        status = lapd_next_frame(&card, 0, frame, sizeof frame, &length, &report);    /* UA: 00 81 73 */
+    wants(status == LAPD_OK && length == 3 && memcmp(frame, ua, 3) == 0, "a first try is not answered");
     wants(lapd_card_free(&card) == LAPD_OK, "the card of a first try stays");
 }
 
@@ -412,14 +414,18 @@ static void first_trunk(void) {
     lapd_card card = LAPD_CARD_NONE;
     uint8_t frame[LAPD_MOST_FRAME + 1] = {0};
     lay_paint();
-    lapd_config trunk = config;
+    lapd_config trunk = primary;
     trunk.side = LAPD_USER;
-    uint32_t status = lapd_card_start_frames(&card, &trunk);
     static const uint8_t ua_of_network[] = {0x00, 0x01, 0x73};
-    lapd_assign(&card, 0, 0, &report);                                     /* TEI 0 is on the line, and stays there */
-    lapd_establish(&card, 0, LAPD_CALL, 0, &report);
-    lapd_next_frame(&card, 0, frame, sizeof frame, &length, &report);      /* SABME of the user's side: 00 01 7F */
-    lapd_frame(&card, 0, ua_of_network, sizeof ua_of_network, &report);    /* tells that the link is up */
+    uint32_t status = lapd_card_start_frames(&card, &trunk);
+    if (status == LAPD_OK)
+        status = lapd_assign(&card, 0, 0, &report);                        /* TEI 0 is on the line, and stays there */
+    if (status == LAPD_OK)
+        status = lapd_establish(&card, 0, LAPD_CALL, 0, &report);
+    if (status == LAPD_OK)
+        status = lapd_next_frame(&card, 0, frame, sizeof frame, &length, &report);       /* SABME, user's: 00 01 7F */
+    if (status == LAPD_OK)
+        status = lapd_frame(&card, 0, ua_of_network, sizeof ua_of_network, &report);     /* tells that the link is up */
     wants(status == LAPD_OK && length == 3 && memcmp(frame, "\x00\x01\x7F", 3) == 0, "a trunk is not established");
     wants(report.note_count == 1 && report.notes[0].note == LAPD_ESTABLISH_CONFIRM, "a trunk is not up");
     wants(lapd_card_free(&card) == LAPD_OK, "the card of a trunk stays");

@@ -1,6 +1,6 @@
 /*
- * handed.c: what lapd.c's own parts decide of a call is what its machine decides. For tests alone; it has lapd.c in it, with
- * -DLAPD_MALLOC, so that it can ask the machine itself.
+ * handed.c: what lapd.c's own parts decide of a call is what its machine decides. For tests alone; it has lapd.c in it, so
+ * that it can ask the machine itself.
  *
  * - Configurations: fault_of finds the field that the machine's start finds, at each edge and at random.
  * - Octets: a frame or contents of more octets than a call hands over are answered as their first ones are.

@@ -59,8 +59,10 @@ static int holds(const lapd_config *config, const kind *of) {
     if (one != LAPD_OK || other != LAPD_OK)
         fprintf(stderr, "%u lines in %llu octets: %s, %s\n", config->lines, (unsigned long long)octets,
                 lapd_status_text(one), lapd_status_text(other));
-    lapd_card_free(&card);
-    lapd_clock_free(&clock);
+    if (one == LAPD_OK)
+        one = lapd_card_free(&card);
+    if (other == LAPD_OK)
+        other = lapd_clock_free(&clock);
     rattle_dealloc(rest);
     return one == LAPD_OK && other == LAPD_OK;
 }
@@ -77,8 +79,8 @@ static int refuses(const lapd_config *config, const kind *of) {
         }
         uint32_t status = of->start(&card, config);
         refused += status == LAPD_NO_MEMORY;
-        if (status == LAPD_OK)
-            lapd_card_free(&card);
+        if (status == LAPD_OK && lapd_card_free(&card) != LAPD_OK)
+            return 0;
         rattle_dealloc(rest);
     }
     if (refused < 5)

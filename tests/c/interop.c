@@ -110,8 +110,16 @@ static void call_control(const uint8_t *message, size_t length) {
     }
 }
 
+/* A call that has to succeed. */
+static void did(uint32_t status, const char *what) {
+    if (status == LAPD_OK)
+        return;
+    printf("FAILED: %s: %s\n", what, lapd_status_text(status));
+    exit(1);
+}
+
 static void tell(const lapd_report *report) {
-    lapd_clock_apply_report(&timers, 0, report, now);
+    did(lapd_clock_apply_report(&timers, 0, report, now), "orders");
     for (const lapd_note *note = report->notes; note < report->notes + report->note_count; note++) {
         printf("  %s %u%s%c\n", lapd_note_text(note), note->tei, note->error ? " " : "", note->error ? note->error : ' ');
         if (note->note == LAPD_ASSIGNED) {
@@ -146,17 +154,17 @@ static void turn_card(void) {
             size_t length = take_frame(&from_terminal, frame);
             hdlc_load(&sender, frame, length);
         }
-        lapd_octet(&card, 0, hdlc_octet(&sender), &report);
+        did(lapd_octet(&card, 0, hdlc_octet(&sender), &report), "an octet");
         if (report.cause != 0)
             printf("  dropped %s\n", lapd_cause_text(report.cause));
         tell(&report);
-        lapd_pull(&card, 0, &octet, &report);
+        did(lapd_pull(&card, 0, &octet, &report), "a pull");
         tell(&report);
         if (hdlc_hear(&listener, octet))
             put_frame(&to_terminal, listener.frame, listener.length);
     }
     for (lapd_due due; lapd_clock_due(&timers, now, &due) == LAPD_OK;) {
-        lapd_expire(&card, due.line, &due.timer, &report);
+        did(lapd_expire(&card, due.line, &due.timer, &report), "an expiry");
         tell(&report);
     }
 }
@@ -230,7 +238,7 @@ static void disconnect(uint8_t reference) {
 
 static uint8_t state(void) {
     uint8_t answer = 0;
-    lapd_state(&card, 0, LAPD_CALL, (uint8_t)seen.tei, &answer);
+    did(lapd_state(&card, 0, LAPD_CALL, (uint8_t)seen.tei, &answer), "a state");
     return answer;
 }
 
@@ -271,22 +279,22 @@ int main(void) {
     disconnect(5);
     step("the network hangs up", &seen.cleared, 3, 8000);
 
-    lapd_check(&card, 0, (uint8_t)seen.tei, &report);
+    did(lapd_check(&card, 0, (uint8_t)seen.tei, &report), "a check");
     tell(&report);
     step("an identity check, which the terminal answers", NULL, 0, 3000);
     want_state(7);
 
-    lapd_release(&card, 0, LAPD_CALL, (uint8_t)seen.tei, &report);
+    did(lapd_release(&card, 0, LAPD_CALL, (uint8_t)seen.tei, &report), "a release");
     tell(&report);
     step("layer 3 releases the link", &seen.down, 1, 8000);
     want_state(4);
-    lapd_remove(&card, 0, (uint8_t)seen.tei, &report);
+    did(lapd_remove(&card, 0, (uint8_t)seen.tei, &report), "a removal");
     tell(&report);
     want_state(0);
     step("its TEI is removed, and it asks for one again", &seen.assigned, 2, 8000);
     step("and comes up again", &seen.up, 2, 8000);
     printf("interop: all steps passed, %u errors noted\n", seen.errors);
-    lapd_clock_free(&timers);
-    lapd_card_free(&card);
+    did(lapd_clock_free(&timers), "the end of the clock");
+    did(lapd_card_free(&card), "the end of the card");
     return 0;
 }

@@ -78,7 +78,8 @@ static void answer_came(const uint8_t *octets, size_t length) {
 }
 
 static void tell(const lapd_report *report) {
-    lapd_clock_apply_report(&timers, 0, report, now);
+    if (lapd_clock_apply_report(&timers, 0, report, now) != LAPD_OK)
+        fail("an order finds no place");
     for (const lapd_note *note = report->notes; note < report->notes + report->note_count; note++) {
         if (note->note == LAPD_DATA_INDICATION) {
             answer_came(report->contents, report->length);
@@ -202,7 +203,5 @@ int main(int words, char **argv) {
         fail("nothing was lost");
     printf("interop_trunk: all steps passed; lost were %u of %u frames of the network and %u of %u of the user; %u errors\n",
            lost_from_network, from_network, lost_from_user, from_user, errors);
-    lapd_clock_free(&timers);
-    lapd_card_free(&card);
-    return 0;
+    return lapd_clock_free(&timers) != LAPD_OK || lapd_card_free(&card) != LAPD_OK;
 }

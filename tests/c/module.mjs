@@ -7,17 +7,25 @@ import { readFileSync } from "node:fs";
 
 const folder = process.argv[2];
 const module = new WebAssembly.Module(readFileSync(`${folder}/lapd.wasm`));
-const declared = [...readFileSync(`${folder}/lapd.d.ts`, "utf8").matchAll(/^    (\w+)[(:]/gm)].map((found) => found[1]);
+const declarations = readFileSync(`${folder}/lapd.d.ts`, "utf8");
+const declared = [...declarations.matchAll(/^    (\w+)[(:]/gm)].map((found) => found[1]);
+// The places that the example at the top takes have room for their structs.
+const taken = [...declarations.matchAll(/(\w+) = lapd.module_take\((\d+)n\)/g)].map((found) => [found[1], BigInt(found[2])]);
+const sizes = taken.map(([name]) => BigInt(declarations.match(new RegExp(`^// lapd_${name}, (\\d+) octets:$`, "m"))?.[1] ?? 0));
 const exported = WebAssembly.Module.exports(module).map((it) => it.name);
 if (WebAssembly.Module.imports(module).length || declared.sort().join() !== exported.sort().join()) {
     console.error(`exports ${exported}, declared ${declared}`);
     process.exit(1);
 }
+if (taken.map(([name]) => name).join() !== "card,config,report" || taken.some(([, octets], at) => octets !== sizes[at])) {
+    console.error(`the example takes ${taken}, the structs have ${sizes}`);
+    process.exit(1);
+}
 const lapd = new WebAssembly.Instance(module).exports;
 const memory = (at, length) => new Uint8Array(lapd.memory.buffer, Number(at), length);
-const [card, config, report, place] = [16n, 22n, 300n, 16n].map((octets) => lapd.module_take(octets));
+const [card, config, report, place] = [...sizes, 16n].map((octets) => lapd.module_take(octets));
 memory(card, 16).fill(0);
-new Uint16Array(lapd.memory.buffer, Number(config), 11).set([1, 8, 7, 7, 8, 4, 4, 64, 260, 3, 0]);
+new Uint16Array(lapd.memory.buffer, Number(config), 11).set([1, 8, 1, 3, 8, 4, 4, 64, 260, 3, 0]);
 const want = (status, wanted = 0) => {
     if (status !== wanted) throw new Error(`status ${status}`);
 };

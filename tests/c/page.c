@@ -9,8 +9,12 @@
 
 #include "lapd.h"
 
-static const lapd_config config = {.lines = 1, .terminals = 8, .k = 7, .k16 = 7, .queue = 8, .unit_queue = 4,
-                                   .control = 4, .slots = 64, .n201 = 260, .n200 = 3};
+/* basic access: 16 kbit/s, a bus with up to eight TEIs */
+static const lapd_config basic = {.lines = 1, .terminals = 8, .k = 1, .k16 = 3, .queue = 8, .unit_queue = 4,
+                                  .control = 4, .slots = 132, .n201 = 260, .n200 = 3};
+/* primary rate: 64 kbit/s, one TEI */
+static const lapd_config primary = {.lines = 1, .terminals = 1, .k = 7, .k16 = 7, .queue = 8, .unit_queue = 4,
+                                    .control = 4, .slots = 20, .n201 = 260, .n200 = 3};
 static uint64_t moment;
 
 static int fail(const char *text) {
@@ -28,8 +32,8 @@ static size_t frame_that_came(uint8_t *frame, size_t room) {
     return (size_t)length <= room ? fread(frame, 1, (size_t)length, stdin) : 0;
 }
 
-static void frame_to_send(const uint8_t *frame, size_t length) {
-    printf("0 frame ");
+static void frame_to_send(uint32_t line, const uint8_t *frame, size_t length) {
+    printf("%u frame ", line);
     for (size_t i = 0; i < length; i++)
         printf("%02X", frame[i]);
     printf("\n");
@@ -58,18 +62,40 @@ static uint64_t now(void) {
     return moment;
 }
 
-static void layer_3(const lapd_report *report) {
-    for (int i = 0; i < report->note_count; i++) {
-        const lapd_note *note = &report->notes[i];
-        printf("0 %s %u", lapd_note_text(note), note->tei);
+static void layer_3(uint32_t line, const lapd_report *told) {
+    for (int i = 0; i < told->note_count; i++) {
+        const lapd_note *note = &told->notes[i];
+        printf("%u %s %u", line, lapd_note_text(note), note->tei);
         if (note->note == LAPD_ERROR_INDICATION)
             printf(" %c", note->error);
         printf("\n");
     }
-    if (report->cause)
-        printf("0 dropped %s\n", lapd_cause_text(report->cause));
+    if (told->cause)
+        printf("%u dropped %s\n", line, lapd_cause_text(told->cause));
+}
+
+static lapd_card card = LAPD_CARD_NONE;
+static lapd_clock timers = LAPD_CLOCK_NONE;
+static lapd_report report;
+
+static uint32_t carried_out(uint32_t line, uint32_t status) {
+    if (status == LAPD_OK)
+        status = lapd_clock_apply_report(&timers, line, &report, now());
+    if (status == LAPD_OK)
+        layer_3(line, &report);              /* notes, contents, room */
+    return status;
+}
+
+/* What the page says of its two configurations: that the other one starts, too, and how many octets each takes. */
+static bool is_as_said(void) {
+    lapd_card other = LAPD_CARD_NONE;
+    return lapd_card_start_frames(&other, &primary) == LAPD_OK && lapd_card_free(&other) == LAPD_OK
+           && lapd_card_octets(&basic) == 41040 && lapd_card_octets_frames(&basic) == 40208
+           && lapd_card_octets(&primary) == 8112 && lapd_card_octets_frames(&primary) == 7280;
 }
 
 int main(void) {
+    if (!is_as_said())
+        return fail("docs/EMBEDDING.md says otherwise of its configurations");
 #include PAGE
 }

@@ -380,8 +380,8 @@ int main(int words, char **argv) {
             kind = obey(&b, &c);
     }
     hand_over(&b);
-    lapd_card_free(&b.card);
-    lapd_clock_free(&b.clock);
+    (void)!lapd_card_free(&b.card);
+    (void)!lapd_clock_free(&b.clock);
     if (kind == NO_MEMORY)
         fprintf(stderr, "%s\n", fault_text(kind));
     else if (kind != NO_FAULT)

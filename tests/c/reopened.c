@@ -78,7 +78,7 @@ static void send(uint32_t line, uint8_t service, uint8_t tei) {
 static size_t frame_of(uint32_t line, uint8_t service, uint8_t tei, uint8_t *frame) {
     struct lapd_room room = {0, 0, 0};
     uint32_t what = chance(12);
-    (void)lapd_room(&card, line, service, tei, &room);
+    (void)!lapd_room(&card, line, service, tei, &room);
     frame[0] = (uint8_t)(4 * service + 2 * (what == 2));
     frame[1] = (uint8_t)(2 * tei + 1);
     frame[2] = what == 0 ? 0x7F : what == 1 ? 0x53 : what == 2 ? 0x73 : 0x01;

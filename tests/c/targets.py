@@ -139,7 +139,7 @@ def one_file(portable, folder):
     with first.c alone it is a program that says the same, in each way to take memory."""
     again = f"{folder}/again"
     if tool("portable", again):
-        for name in ("lapd.c", "lapd.h", "README"):
+        for name in ("lapd.c", "lapd.h", "lapd_memory.h", "README"):
             check(f"{name} is the same when made again", read(f"{again}/{name}") == read(f"{portable.folder}/{name}"), "another file")
     check("the size of lapd.c", os.path.getsize(f"{portable.folder}/lapd.c") <= 1500000, os.path.getsize(f"{portable.folder}/lapd.c"))
     rows = [it.split() for it in run(["nm", f"{folder}/portable.o"]).stdout.decode().splitlines()]
@@ -152,9 +152,12 @@ def one_file(portable, folder):
         said = run([*compiler, "-std=c99", *STRICT, "-pedantic", "-fsyntax-only", f"{portable.folder}/lapd.c"], timeout=LONG)
         check(f"{name} warns of nothing in lapd.c", said.returncode == 0, said.stderr.decode()[:600])
     small = "-DLAPD_HEAP_OCTETS=20000"
-    ways = {"": FIRST, "-DLAPD_MALLOC": FIRST, "-DLAPD_HEAP_OCTETS=120000": FIRST, "-DLAPD_UNTESTED": FIRST, small: b"out of memory\n"}
+    ways = {"": FIRST, "-DLAPD_MALLOC": FIRST, "-DLAPD_HEAP_OCTETS=120000": FIRST, "-DLAPD_UNTESTED": FIRST, "-DLAPD_SYMBOLS": FIRST,
+            small: b"out of memory\n"}
     for flag, (compiled, said) in zip(ways, in_parallel(lambda it: first_with(portable, it, folder), ways)):
         check(f"first.c with lapd.c {flag}", said == ways[flag], f"{compiled} {said}")
+    two = run(["cc", "-fsyntax-only", "-DLAPD_HEAP_OCTETS=120000", "-DLAPD_OWN_MEMORY", f"{portable.folder}/lapd.c"], timeout=LONG)
+    check("two choices of memory are refused", two.returncode != 0 and b"Choose one" in two.stderr, two.stderr.decode()[:600])
 
 
 def first_with(portable, flag, folder):
@@ -171,7 +174,7 @@ FIRST = b"0 establish-indication 64\n0 tx 7E008173C4127E\nstored 0 limit 17470\n
 def inside(portable, folder):
     """What lapd.c's own parts decide is what the machine decides (handed.c, which has lapd.c in it)."""
     path = f"{folder}/handed"
-    said = run(["cc", "-std=c99", "-O1", *STRICT, f"-I{portable.folder}", "-DLAPD_MALLOC", "-o", path, f"{HERE}/handed.c"], timeout=LONG)
+    said = run(["cc", "-std=c99", "-O1", *STRICT, f"-I{portable.folder}", "-o", path, f"{HERE}/handed.c"], timeout=LONG)
     check("handed.c compiles", said.returncode == 0, said.stderr.decode()[:600])
     if said.returncode == 0:
         ran = run([path])
@@ -181,8 +184,7 @@ def inside(portable, folder):
 def costs(folder):
     """A poll by frames takes at most three times as many instructions as with the proved library."""
     if not shutil.which("valgrind") or not os.path.exists(archive("lapd_c")):
-        print("c: SKIPPED: what a poll costs, since there is no valgrind, or not the proved library beside lapd.c")
-        return
+        return skip("what a poll costs", "there is no valgrind, or not the proved library beside lapd.c", REQUIRED)
     native, portable = (a_poll(name, library, folder)
                         for name, library in (("native", archive("lapd_c")), ("portable", f"{folder}/libportable.a")))
     check("what a poll costs", 0 < portable <= 3 * native, f"{portable} instructions, and {native} with the proved library")
@@ -203,24 +205,28 @@ def a_poll(name, library, folder):
 
 
 def threads(portable, folder):
-    """Cards of several threads have nothing in common; where the compiler has a sanitizer of threads, it says the same."""
-    words = ["cc", "-std=c99", "-O0", *STRICT, f"-I{portable.folder}", "-DLAPD_MALLOC", "-o", f"{folder}/threads"]
+    """Cards of several threads have nothing in common, also as they start and end; where the compiler has a sanitizer of
+    threads, it says the same."""
+    words = ["cc", "-std=c99", "-O0", *STRICT, f"-I{portable.folder}", "-o", f"{folder}/threads"]
     sources = [f"{HERE}/threads.c", f"{portable.folder}/lapd.c", "-lpthread"]
     if run([*words, "-fsanitize=thread", *sources], timeout=LONG).returncode or run([f"{folder}/threads"]).returncode not in (0, 1, 66):
-        print("c: SKIPPED: a sanitizer of threads, since the compiler has none here")
+        skip("a sanitizer of threads", "the compiler has none here", REQUIRED)
         run([*words, *sources], timeout=LONG)
     ran = run([f"{folder}/threads"])
     check("threads", ran.returncode == 0, ran.stderr.decode()[:600])
 
 
 def engine(folder):
-    """lapd.wasm in a JavaScript engine: the conversation of first.c, and its exports as lapd.d.ts has them."""
+    """lapd.wasm in a JavaScript engine: the conversation of first.c, its exports as lapd.d.ts has them, and what it does with
+    little memory and with much."""
     node = shutil.which("node")
     if not node:
         skip("lapd.wasm", "there is no node (Debian: apt-get install nodejs)", REQUIRED)
     elif tool("module", f"{folder}/module"):
         said = run([node, f"{HERE}/module.mjs", f"{folder}/module"])
         check("lapd.wasm in node", (said.returncode, said.stdout) == (0, FIRST), (said.stdout + said.stderr).decode()[:600])
+        said = run([node, f"{HERE}/limits.mjs", f"{folder}/module/lapd.wasm"])
+        check("lapd.wasm with little memory, and with much", said.returncode == 0, (said.stdout + said.stderr).decode()[:600])
 
 
 def told(name, words, folder, **env):

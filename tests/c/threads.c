@@ -1,6 +1,6 @@
 /*
  * threads.c: cards of several threads have nothing in common. Each thread has a card of frames and a clock of its own, and
- * holds the same conversation on them again and again; each time it must hear the same. For tests alone, with lapd.c.
+ * starts, uses and frees them again and again; each time it must hear the same. For tests alone, with lapd.c.
  */
 #include <pthread.h>
 #include <stdio.h>
@@ -8,7 +8,7 @@
 
 #include "lapd.h"
 
-enum { THREADS = 4, CARDS = 8, POLLS = 500 };
+enum { THREADS = 32, CARDS = 8, POLLS = 60 };
 
 /* A card is started, a link comes up, is polled with data both ways, and the card ends. */
 static bool converses(void) {

@@ -22,46 +22,50 @@ static uint64_t now(void) {
     return 0;
 }
 
-static void layer_3(const lapd_report *of) {
+static void layer_3(uint32_t at, const lapd_report *of) {
     for (int i = 0; i < of->note_count; i++)
-        snprintf(told + strlen(told), sizeof told - strlen(told), "%s %u %u\n", lapd_note_text(&of->notes[i]), of->notes[i].tei,
-                 of->length);
+        snprintf(told + strlen(told), sizeof told - strlen(told), "%u %s %u %u\n", at, lapd_note_text(&of->notes[i]),
+                 of->notes[i].tei, of->length);
+}
+
+static uint32_t carried_out(uint32_t at, uint32_t status) {
+    if (status == LAPD_OK)
+        status = lapd_clock_apply_report(&timers, at, &report, now());
+    if (status == LAPD_OK)
+        layer_3(at, &report);
+    return status;
 }
 
 /* One block of the timeslot: what came is replaced by what goes. */
-static void serve(uint8_t *timeslot, size_t length) {
+static bool serve(uint8_t *timeslot, size_t length) {
     uint8_t in[LENGTH], out[LENGTH];
+    uint32_t status = LAPD_OK;
     for (size_t i = 0; i < length; i++)
         in[i] = lapd_turned(timeslot[i]);
-    for (size_t steps = 0; steps < 2 * length;) {
-        if (lapd_exchange(&card, line, in, length, out, length, &steps, &report) != LAPD_OK)
-            return;
-        lapd_clock_apply_report(&timers, line, &report, now());
-        layer_3(&report);
-    }
-    for (size_t i = 0; i < length; i++)
+    for (size_t steps = 0; status == LAPD_OK && steps < 2 * length;)
+        status = carried_out(line, lapd_exchange(&card, line, in, length, out, length, &steps, &report));
+    for (size_t i = 0; status == LAPD_OK && i < length; i++)
         timeslot[i] = lapd_turned(out[i]);
+    return status == LAPD_OK;
 }
 
 /* The same of eight octets of 56 kbit/s. */
-static void serve_56(uint8_t *timeslot) {
+static bool serve_56(uint8_t *timeslot) {
     uint8_t in[7], out[7];
+    uint32_t status = LAPD_OK;
     uint64_t bits = 0;
     for (size_t i = 0; i < 8; i++)
         bits |= (uint64_t)(lapd_turned(timeslot[i]) & 0x7F) << 7 * i;
     for (size_t i = 0; i < 7; i++)
         in[i] = (uint8_t)(bits >> 8 * i);
-    for (size_t steps = 0; steps < 14;) {
-        if (lapd_exchange(&card, line, in, 7, out, 7, &steps, &report) != LAPD_OK)
-            return;
-        lapd_clock_apply_report(&timers, line, &report, now());
-        layer_3(&report);
-    }
+    for (size_t steps = 0; status == LAPD_OK && steps < 14;)
+        status = carried_out(line, lapd_exchange(&card, line, in, 7, out, 7, &steps, &report));
     bits = 0;
-    for (size_t i = 0; i < 7; i++)
+    for (size_t i = 0; status == LAPD_OK && i < 7; i++)
         bits |= (uint64_t)out[i] << 8 * i;
-    for (size_t i = 0; i < 8; i++)
+    for (size_t i = 0; status == LAPD_OK && i < 8; i++)
         timeslot[i] = lapd_turned((uint8_t)(bits >> 7 * i | 0x80));
+    return status == LAPD_OK;
 }
 
 /* ---- A line: so many bits of each octet are the channel's, the first as bit 8 ---------------------------------------- */
@@ -96,11 +100,7 @@ static bool passes(uint8_t *timeslot, size_t length, int bits) {
         for (int at = 0; at < bits; at++)
             timeslot[i] = (uint8_t)(timeslot[i] | sent() << (7 - at));
     }
-    if (bits == 8)
-        serve(timeslot, length);
-    else
-        serve_56(timeslot);
-    bool is_good = true;
+    bool is_good = bits == 8 ? serve(timeslot, length) : serve_56(timeslot);
     for (size_t i = 0; i < length; i++) {
         for (int at = 0; at < bits; at++)
             hears(timeslot[i] >> (7 - at) & 1);
@@ -110,7 +110,7 @@ static bool passes(uint8_t *timeslot, size_t length, int bits) {
 }
 
 static const uint8_t sabme[] = {0x00, 0x81, 0x7F}, data[] = {0x00, 0x81, 0x00, 0x00, 0xAB, 0xCD, 0xEF};
-static const char all_told[] = "establish-indication 64 0\ndata 64 3\n", all_frames[] = "008173\n00810102\n";
+static const char all_told[] = "0 establish-indication 64 0\n0 data 64 3\n", all_frames[] = "008173\n00810102\n";
 
 /* A terminal over so many bits of each octet, in blocks of so many. */
 static bool talks(int bits, size_t length) {
@@ -125,8 +125,7 @@ static bool talks(int bits, size_t length) {
     hdlc_load(&sender, data, sizeof data);
     for (int i = 0; i < 60; i++)
         is_good = passes(timeslot, length, bits) && is_good;
-    lapd_card_free(&card);
-    lapd_clock_free(&timers);
+    is_good = lapd_card_free(&card) == LAPD_OK && lapd_clock_free(&timers) == LAPD_OK && is_good;
     if (strcmp(told, all_told) != 0 || strcmp(frames, all_frames) != 0)
         fprintf(stderr, "%d bits, blocks of %u:\n%s%s", bits, (unsigned)length, told, frames);
     return is_good && strcmp(told, all_told) == 0 && strcmp(frames, all_frames) == 0;

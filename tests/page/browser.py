@@ -169,12 +169,19 @@ class Browser:
         self.ask("Input.dispatchKeyEvent", type="keyDown", **keys, **more)
         self.ask("Input.dispatchKeyEvent", type="keyUp", **keys)
 
-    def size(self, width: int, height: int, is_dark: bool = False, is_phone: bool = False, scale: float = 1) -> None:
-        self.ask("Emulation.setDeviceMetricsOverride", width=width, height=height, deviceScaleFactor=scale, mobile=is_phone)
+    def size(self, width: int, height: int, is_dark: bool = False, is_phone: bool = False, is_forced: bool = False) -> None:
+        """A window of this size; with `is_forced` in the reader's own colours, as a system of high contrast has them."""
+        self.ask("Emulation.setDeviceMetricsOverride", width=width, height=height, deviceScaleFactor=1, mobile=is_phone)
         self.ask("Emulation.setTouchEmulationEnabled", enabled=is_phone)
         scheme = {"name": "prefers-color-scheme", "value": "dark" if is_dark else "light"}
-        self.ask("Emulation.setEmulatedMedia", features=[scheme])
+        forced = {"name": "forced-colors", "value": "active" if is_forced else "none"}
+        self.ask("Emulation.setEmulatedMedia", features=[scheme, forced])
+
+    def shot(self, clip: Optional[dict] = None) -> bytes:
+        """A picture of the page, or of a part of it."""
+        more = {"clip": {**clip, "scale": 1}} if clip else {}
+        return base64.b64decode(self.ask("Page.captureScreenshot", format="png", **more)["data"])
 
     def picture(self, path: str) -> None:
         with open(path, "wb") as it:
-            it.write(base64.b64decode(self.ask("Page.captureScreenshot", format="png")["data"]))
+            it.write(self.shot())

@@ -69,14 +69,53 @@ def has_menu(page: Page, scripts: List[Played]) -> Iterator[str]:
 
 
 def marks_faults(page: Page, scripts: List[Played]) -> Iterator[str]:
-    """A fault is told on its line while one types, and goes as the line is mended."""
+    """A fault is told on its line while one types, with how far it is played, and goes as the line is mended."""
     page.open()
     got = page.type("card 1 8 7 8 4 4 64 260 3\nassign 0 64\nin 0 0081Z\nstored\n")
-    if (got["faulty"], got["band"], got["verdict"]) != (["3"], "bad octets", "line 3: bad octets"):
+    if (got["faulty"], got["band"]) != (["3"], "bad octets") or not got["verdict"].startswith("line 3: bad octets: HEX is"):
         yield f"{got['faulty']} {got['band']} {got['verdict']}"
+    if got["howFar"] != "played up to the fault in line 3":
+        yield f"beside a fault: {got['howFar']}"
     got = page.type("card 1 8 7 8 4 4 64 260 3\nassign 0 64\nin 0 00817F\nstored\n")
-    if got["faulty"] or got["band"] or "No fault." not in got["verdict"]:
-        yield f"{got['faulty']} {got['band']} {got['verdict']}"
+    if got["faulty"] or got["band"] or "No fault." not in got["verdict"] or got["howFar"] != "all is played":
+        yield f"{got['faulty']} {got['band']} {got['verdict']} {got['howFar']}"
+
+
+def explains_faults(page: Page, scripts: List[Played]) -> Iterator[str]:
+    """What each kind of fault means stands in Help, and beside the fault."""
+    page.open()
+    rows = page.browser.value("[...document.getElementById('faults').rows].map((it) => [...it.cells].map((it) => it.textContent))")
+    meanings, met = dict(rows[1:]), set()
+    for it in (it for it in scripts if it.fault and it.is_text()):
+        kind = it.fault.partition(": ")[2]
+        if kind not in meanings:
+            yield f"{it.name}: Help does not have {kind}"
+        elif kind not in met:
+            met.add(kind)
+            got = page.browser.value(f"shown({json.dumps(fragment(it.script))})")
+            if got["verdict"] != f"{it.fault}: {meanings[kind]}":
+                yield f"{it.name}: {got['verdict']}"
+    if len(met) < 10:
+        yield f"only {sorted(met)} came"
+
+
+def puts_examples(page: Page, scripts: List[Played]) -> Iterator[str]:
+    """An example of Help goes into the script, and Help makes room for what comes of it; on a phone, too."""
+    for size in ((1360, 860), (390, 780)):
+        page.open(size=size, is_phone=size[0] < 760)
+        page.type("card 1 8 7 8 4 4 64 260 3\nassign 0 64\n")
+        page.click("#tab-help")
+        if page.browser.value("/on the (left|right)/.test(document.getElementById('help').innerText)"):
+            yield f"at {size[0]} pixels Help says where the script is"
+        page.browser.value("document.getElementById('text').setSelectionRange(1000, 1000)")
+        page.browser.value("[...document.querySelectorAll('#frames button')].find((it) => it.textContent === 'in 0 00817F').click()")
+        page.browser.until("document.getElementById('text').value.endsWith('\\nin 0 00817F\\n')", 5)
+        page.browser.until("isPlayed()", 5)
+        got = page.look()
+        if not any("establish-indication 64" in row[1] for row in got["ladders"][0]["rows"]):
+            yield f"at {size[0]} pixels: {got['ladders']}"
+        if page.browser.value("[document.getElementById('ladder').hidden, document.getElementById('help').hidden]") != [False, True]:
+            yield f"at {size[0]} pixels Help stays over the ladder"
 
 
 def loses_a_frame(page: Page, scripts: List[Played]) -> Iterator[str]:
@@ -267,8 +306,9 @@ def can_be_stopped(page: Page, scripts: List[Played]) -> Iterator[str]:
         page.browser.until("isPlayed()", 2)
     except Lost as lost:
         yield str(lost)
-    if not page.look()["verdict"].startswith("Stopped"):
-        yield f"verdict {page.look()['verdict']}"
+    got = page.look()
+    if not got["verdict"].startswith("Stopped") or got["howFar"] != "stopped":
+        yield f"verdict {got['verdict']}, {got['howFar']}"
     got = page.choose("conversation/call")
     if "No fault." not in got["verdict"]:
         yield f"after a stop: {got['verdict']}"
@@ -289,11 +329,70 @@ def fits(page: Page, scripts: List[Played]) -> Iterator[str]:
             yield f"at {width} pixels it is {wide} wide"
 
 
+def is_read_when_low(page: Page, scripts: List[Played]) -> Iterator[str]:
+    """On a phone that is held sideways the card's form is closed, and script, verdict, steps and ladder are on the screen."""
+    is_open = "document.getElementById('card').open"
+    for width, height in ((844, 390), (800, 360), (932, 430)):
+        page.open(size=(width, height), is_phone=True)
+        if page.browser.value(is_open):
+            yield f"at {width} x {height} the form is open"
+        for name, least in (("text", 90), ("verdict", 10), ("steps", 20), ("ladder", 150)):
+            box = page.browser.value(f"boxOf('#{name}')")
+            if box["height"] < least or box["top"] < 0 or box["bottom"] > height:
+                yield f"at {width} x {height}: {name} is {box}"
+        page.browser.value(f"{is_open} = true")
+        page.browser.value("document.getElementById('steps').scrollIntoView()")
+        if page.browser.value("boxOf('#steps')")["bottom"] > height + 1:
+            yield f"at {width} x {height} an open form keeps the steps off the screen"
+    page.open(size=(1000, 700))
+    if not page.browser.value(is_open):
+        yield "the form is closed where there is room"
+    page.browser.value("document.querySelector('#fields [name=K]').focus()")
+    page.browser.size(1000, 420)
+    page.browser.until("innerHeight === 420", 5)
+    if not page.browser.value(is_open):
+        yield "the form is closed while it is filled in"
+    page.browser.size(1000, 700)
+    page.browser.until("innerHeight === 700", 5)
+    page.browser.value("document.activeElement.blur()")
+    page.browser.size(1000, 420)
+    try:
+        page.browser.until(f"!{is_open}", 5)
+    except Lost:
+        yield "the form stays open as the window gets low"
+
+
+def draws_arrows(page: Page, scripts: List[Played]) -> Iterator[str]:
+    """Each arrow's shaft and head are seen, with colours of the reader's own, too: without them it is another picture."""
+    rows = next(it for it in scripts if it.name == "rows")
+    page.open(fragment(rows.script))
+    kinds = page.browser.value("[...new Set([...document.querySelectorAll('.arrow')].map((it) => it.className))]")
+    if len(kinds) < 6:
+        yield f"only {kinds}"
+    for is_forced in (False, True):
+        page.browser.size(1360, 860, is_forced=is_forced)
+        for kind in kinds:
+            shaft = f"document.querySelector({json.dumps('.' + '.'.join(kind.split(' ')) + ' .shaft')})"
+            page.browser.value(f"{shaft}.scrollIntoView({{ block: 'center' }})")
+            box = page.browser.value(f"(({{ left, right, top }}) => ({{ left, right, top }}))({shaft}.getBoundingClientRect())")
+            middle = {"x": box["left"] + 20, "y": box["top"] - 2, "width": box["right"] - box["left"] - 40, "height": 6}
+            end = box["left"] - 2 if "leftwards" in kind else box["right"] - 12
+            head = {"x": end, "y": box["top"] - 8, "width": 14, "height": 18}
+            for name, clip in (("shaft", middle), ("head", head)):
+                seen = page.browser.shot(clip)
+                page.browser.value(f"{shaft}.style.visibility = 'hidden'")
+                if page.browser.shot(clip) == seen:
+                    yield f"the {name} of {kind} is not seen{' with forced colours' if is_forced else ''}"
+                page.browser.value(f"{shaft}.style.visibility = ''")
+
+
 TESTS = {
     "opens": opens,
     "shows all": shows_all,
     "has a menu": has_menu,
     "marks faults": marks_faults,
+    "explains faults": explains_faults,
+    "puts examples": puts_examples,
     "loses a frame": loses_a_frame,
     "makes no markup": makes_no_markup,
     "steps": steps,
@@ -303,11 +402,15 @@ TESTS = {
     "is awake": is_awake,
     "can be stopped": can_be_stopped,
     "fits": fits,
+    "is read when low": is_read_when_low,
+    "draws arrows": draws_arrows,
 }
 
 
 STORED = (1320, 680, False, False)  # of docs/pictures
 VIEWS = {
+    "forced": (1360, 860, False, False, True),
+    "low": (844, 390, False, True),
     "light": (1360, 860, False, False),
     "dark": (1360, 860, True, False),
     "phone": (390, 1400, False, True),
@@ -315,7 +418,7 @@ VIEWS = {
 }
 
 
-def picture(page: Page, view: Tuple[int, int, bool, bool], path: str) -> Iterator[str]:
+def picture(page: Page, view: Tuple, path: str) -> Iterator[str]:
     """A picture of the script in which a frame is lost, with the row of REJ chosen."""
     page.open()
     page.browser.size(*view)

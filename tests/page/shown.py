@@ -2,7 +2,7 @@
 import base64
 import json
 import os
-from typing import Iterator, List
+from typing import Iterator, List, Tuple
 
 from browser import Browser
 from vithrynel.story import BESIDE, COMMENT, FAULT, PAUSE
@@ -29,7 +29,12 @@ window.look = () => ({
   faulty: [...document.querySelectorAll("#gutter .is-faulty")].map((it) => it.textContent),
   band: document.querySelector(".band.fault")?.textContent ?? "",
   text: document.getElementById("text").value,
+  howFar: document.getElementById("how-far").textContent,
 });
+window.boxOf = (selector) => {
+  const { left, top, right, bottom, width, height } = document.querySelector(selector).getBoundingClientRect();
+  return { left, top, right, bottom, width, height };
+};
 window.isPlayed = () => document.body.dataset.state === "played";
 window.played = async () => {
   for (let at = 0; !isPlayed(); at += 1) await new Promise((go) => setTimeout(go, at < 50 ? 2 : 20));
@@ -123,8 +128,8 @@ class Page:
         self.browser = browser
         self.url = f"file://{os.path.abspath(path)}"
 
-    def open(self, more: str = "") -> None:
-        self.browser.size(1360, 860)
+    def open(self, more: str = "", size: Tuple[int, int] = (1360, 860), is_phone: bool = False) -> None:
+        self.browser.size(*size, is_phone=is_phone)
         self.browser.open("about:blank")
         self.browser.open(self.url + more)
         self.browser.until("document.body?.dataset.state === 'played'")

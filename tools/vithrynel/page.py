@@ -3,6 +3,7 @@ program and the scripts of the menu as data."""
 import base64
 import functools
 import hashlib
+import html
 import json
 import os
 import re
@@ -19,6 +20,7 @@ WEB = os.path.join(ROOT, "web")
 IMPORT = re.compile(r'^import \{[^}]*\} from "\./(\w+\.mjs)";\n', re.M)
 NAMED = re.compile(r"^(?:export )?(?:async )?(?:function\*?|class|const|let) (\w+)", re.M)
 EXPORT = re.compile(r"^export ", re.M)
+FAULTS = re.compile(r"^## Faults of a script\n.*?^\|---\|---\|\n((?:\|[^\n]*\n)+)", re.M | re.S)  # of docs/FORMAT.md
 FIRST = "lapdsim"  # the name of the script that README.md begins with
 SPELLINGS = "language"  # the group of scripts that show how lines may be spelled
 MOST_OCTETS = 600_000
@@ -116,6 +118,20 @@ def subjects() -> List[dict]:
     ]
 
 
+def cell(words: str) -> str:
+    """A cell of a table of Markdown as one of HTML."""
+    return "<td>" + re.sub(r"`([^`]+)`", r"<code>\1</code>", html.escape(words, quote=False)) + "</td>"
+
+
+def faults() -> str:
+    """The kinds of faults and what each means, as docs/FORMAT.md has them: rows of a table."""
+    found = FAULTS.search(text_of(f"{ROOT}/docs/FORMAT.md"))
+    if not found:
+        raise Fault("docs/FORMAT.md: there is no table of faults")
+    rows = re.findall(r"^\| (.+?) \| (.+) \|$", found[1], re.M)
+    return "".join(f"<tr>{cell(kind)}{cell(where)}</tr>\n" for kind, where in rows)
+
+
 def sum_of(text: str) -> str:
     return "'sha256-" + base64.b64encode(hashlib.sha256(text.encode()).digest()).decode() + "'"
 
@@ -141,10 +157,14 @@ def page(module: bytes) -> str:
         "POLICY": "; ".join(policy),
         "STYLE": css,
         "VERSION": version(),
-        "HELP": source("help.html"),
+        "HELP": source("help.html").replace("@FAULTS@", faults()),
         "DATA": json.dumps(data, separators=(",", ":")).replace("<", "\\u003c"),
         "PAGE": script,
     }
     if "</script" in script or "</style" in css:
         raise Fault("web/: a script or a style ends its own element")
-    return re.sub(r"@([A-Z]+)@", lambda it: parts[it[1]], source("page.html"))
+    whole = re.sub(r"@([A-Z]+)@", lambda it: parts[it[1]], source("page.html"))
+    octets = len(whole.encode())
+    if octets >= MOST_OCTETS:
+        raise Fault(f"the page has {octets} octets: {MOST_OCTETS} are too many")
+    return whole

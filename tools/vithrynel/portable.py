@@ -1,19 +1,18 @@
-"""The card as one file in C99, for each processor: made by wabt's wasm2c from the module of tools/vithrynel/wasm.py, between the
+"""The card as one file in C99, for each processor: what machine.py has of the module of tools/vithrynel/wasm.py, between the
 parts of c/portable, and what turns a caller's structs to the module's memory and back. A function a step:
 
-    machine       what wasm2c makes of the module, without its own head: the parts are found by what they say
     marshalling   a struct's fields to the module's memory, or from there, by the table that header.structs has
     call          a function of lapd.h over the machine's
     portable      the whole file
 """
 import re
 import tempfile
-from typing import Dict, List, NamedTuple, Tuple
+from typing import Dict, List, Tuple
 
-from .crates import ROOT, sum_of, uses
 from .header import Field, Function, Parameter, Struct, functions, numbers, structs
-from .static_library import NotBuilt, built, made_of, module
-from .wasm import need, put, run, versions, wasm
+from .machine import AHEAD, WIDEST, Machine, asked_for, comment, content, machine
+from .static_library import built, module
+from .wasm import need, put, wasm
 
 # Each function of these has its own text in c/portable/card.c; the others are written here.
 BY_HAND = ("lapd_version", "lapd_card_start", "lapd_card_start_frames", "lapd_clock_start", "lapd_card_free", "lapd_clock_free",
@@ -34,54 +33,9 @@ RUN, REPORT = 256, -(-structs()["lapd_report"].octets // 16) * 16
 # Octets of stack in a machine's memory, where C's own has the rest; calls were seen to take less than half, and one that takes
 # more ends the program, as the stack lies at the memory's beginning.
 STACK = 8192
-# A load or a store goes less than so far ahead of the place that is tested, and takes eight octets at most.
-AHEAD, WIDEST = 512, 8
 WIDTH = {"uint8_t": 8, "uint16_t": 16, "uint32_t": 32, "uint64_t": 64, "size_t": 64}
 LOADS = {8: "i32_load8_u", 16: "i32_load16_u", 32: "i32_load", 64: "i64_load"}
 STORES = {8: "i32_store8", 16: "i32_store16", 32: "i32_store", 64: "i64_store"}
-
-
-# ---- What wasm2c makes ------------------------------------------------------------------------------------------------
-
-class Machine(NamedTuple):
-    """Parts of wasm2c's output: the fields of an instance, and all functions with their prototypes and data."""
-    fields: str
-    functions: str
-    heap_base: int
-
-
-def part(text: str, pattern: str, what: str) -> str:
-    found = re.findall(pattern, text, re.M | re.S)
-    if len(found) != 1:
-        raise NotBuilt(f"wasm2c writes another form than that of wabt 1.0.32: {what}")
-    return found[0]
-
-
-def machine(wasm: str, folder: str) -> Machine:
-    run(["wasm2c", "-n", "machine", wasm, "-o", "machine.c"], folder)
-    with open(f"{folder}/machine.h", encoding="ascii") as file:
-        fields = part(file.read(), r"^typedef struct Z_machine_instance_t \{\n(.*?)  wasm_rt_memory_t w2c_memory;\n\}", "an instance")
-    with open(f"{folder}/machine.c", encoding="ascii") as file:
-        text = file.read()
-    body = part(text, r"^  func_types\[\d+\] = [^\n]*\n\}\n\n(static \w+ w2c_.*?)^/\* export: 'memory' \*/$", "functions")
-    base = part(body, r"instance->w2c___heap_base = (\d+)ull;", "where the heap begins")
-    body = body.replace(part(body, r"^(static void init_data_instances\([^)]*\) \{\n\}\n)", "data that are put in later"), "")
-    return Machine(plain(fields), plain(body), int(base))
-
-
-def plain(body: str) -> str:
-    """wasm2c's text without indentation, for a machine whose memory lies behind its fields."""
-    body = re.sub(r"^ +", "", body, flags=re.M)
-    body = re.sub(r"\bZ_machine_instance_t ?\* ?", "machine *", body)
-    body = body.replace("instance->w2c_memory.pages", "(u32)(instance->octets / 65536)")
-    body = body.replace("&instance->w2c_memory", "instance").replace("instance->w2c_memory", "instance")
-    return re.sub(r"\b(i\d\d_(?:load|store)\w*)\(instance, (\(u64\)\(w2c_i\d+\))(?: \+ (\d+)u?)?", access, body)
-
-
-def access(found: "re.Match[str]") -> str:
-    """The beginning of a load or a store: its place, and how far ahead of it it goes, where that is near enough."""
-    name, at, ahead = found[1], found[2], int(found[3] or 0)
-    return f"{name}(instance, limit, {at}, {ahead}" if ahead < AHEAD else f"{name}(instance, limit, {at} + {ahead}, 0"
 
 
 # ---- A caller's structs and the machine's memory -------------------------------------------------------------------------
@@ -95,7 +49,7 @@ def moved(kind: str, at: str, ahead: int, value: str, is_put: bool) -> str:
     if width == 8:
         return f"instance->data[{to}] = {value};" if is_put else f"{value} = instance->data[{to}];"
     assert ahead < AHEAD
-    words = f"(instance, limit, {at}, {ahead}"
+    words = f"(instance, LIMIT, {at}, {ahead}"
     cast = "u32" if width < 64 else "u64"
     return f"{STORES[width]}{words}, ({cast}){value});" if is_put else f"{value} = ({kind}){LOADS[width]}{words});"
 
@@ -223,11 +177,6 @@ def exports() -> List[str]:
 
 # ---- The file ---------------------------------------------------------------------------------------------------------------
 
-def content(path: str) -> str:
-    with open(f"{ROOT}/{path}", encoding="utf-8") as file:
-        return file.read()
-
-
 def functions_of_memory(*paths: str) -> str:
     """What these of c/ say of memory, but how a block gets another size, which no card of a machine's own asks."""
     text = "\n\n".join(re.sub(r"\A/\*.*?\*/\n", "", content(it), flags=re.S).strip() for it in paths)
@@ -236,11 +185,11 @@ def functions_of_memory(*paths: str) -> str:
 
 
 def memory() -> str:
-    declared = "rattle_tried rattle_alloc(size_t octets, size_t alignment);\nvoid rattle_dealloc(void *at);"
-    own = re.sub("^", "static ", declared, flags=re.M)
-    return ("/* A block of memory, or that there is none: as lapd_memory.h has it. */\n"
-            "typedef struct {\n    bool there;\n    void *at;\n} rattle_tried;\n\n"
-            f"#ifdef LAPD_OWN_MEMORY\n{declared}\n#else\n{own}\n#endif\n\n"
+    """Where cards and clocks lie, as choices.c has it."""
+    own = ("/* A block of memory, or that there is none: as lapd_memory.h has it. */\n"
+           "typedef struct {\n    bool there;\n    void *at;\n} rattle_tried;\n\n"
+           "static rattle_tried rattle_alloc(size_t octets, size_t alignment);\nstatic void rattle_dealloc(void *at);")
+    return (f'#ifdef LAPD_OWN_MEMORY\n#include "lapd_memory.h"\n#else\n{own}\n#endif\n\n'
             f"#ifdef LAPD_MALLOC\n\n{functions_of_memory('c/malloc.c')}\n\n"
             f"#elif !defined(LAPD_OWN_MEMORY)\n\n{functions_of_memory('c/blocks.h', 'c/heap.c')}\n\n#endif\n")
 
@@ -260,18 +209,14 @@ def own_octets(made: Machine) -> int:
     return -(-made.heap_base // 16) * 16 + 16 + REPORT + other_octets() + AHEAD + WIDEST + 64
 
 
-def asked_for(memory: str, rest: str) -> str:
-    """The loads and stores of c/portable/memory.c that the rest calls: some compilers warn of the others."""
-    return re.sub(r"^DEFINE_(?:LOAD|STORE)\((\w+), .*\n", lambda it: it[0] if f"{it[1]}(" in rest else "", memory, flags=re.M)
-
-
 def portable(made: Machine, head: str) -> str:
     struct = (f"/* A card or a clock: WebAssembly's globals and memory. */\ntypedef struct {{\n{made.fields}u64 octets;\n"
               "u8 data[];\n} machine;\n")
     movers = marshalling()
     loads = asked_for(content("c/portable/memory.c"), made.functions + movers)
     return "\n".join([
-        head, '#include "lapd.h"\n', f"enum {{ AHEAD = {AHEAD}, WIDEST = {WIDEST} }};\n", content("c/portable/head.c"), memory(), struct, loads,
+        head, content("c/portable/choices.c"), f"enum {{ AHEAD = {AHEAD}, WIDEST = {WIDEST} }};\n", content("c/portable/head.c"), memory(),
+        struct, content("c/portable/fixed.c"), loads,
         "/* ---- What wasm2c made of the proved library ---- */\n", made.functions,
         f"enum {{ PLACES = {-(-made.heap_base // 16) * 16}, REPORT_OCTETS = {REPORT}, OTHER_OCTETS = {other_octets()}, RUN = {RUN} }};\n",
         "/* So many octets of the caller's, or as many of them as say all that a call asks. */\n"
@@ -280,48 +225,49 @@ def portable(made: Machine, head: str) -> str:
 
 
 NAME = "lapd_c"
+WRITTEN = ("lapd.c", "lapd.h", "lapd_memory.h", "README")
 COMMENT = """\
-/*
- * lapd.c: the whole of lapd.h in one file, for each processor. Written by tools/portable of Vithrynel; not to be edited.
- *
- * {from_what}
- *
- * The library is proved, each function of it, in Rattle. Proofs end with its code as the kit's compiler has it. From there on
- * nothing is proved, and all is tested: that code is compiled for WebAssembly by the kit's clang, its addresses are lowered by
- * wasm-opt, and wasm2c writes the module as C; the parts around it, which turn a caller's structs to the module's memory and
- * back, are the repository's. Each card and each clock has such a memory of its own, which does not grow.
- */
+lapd.c: the whole of lapd.h in one file, for each processor. Written by tools/portable of Vithrynel; not to be edited.
+
+{made}
+
+Each card and each clock has a memory of its own, which does not grow. Parts around the machine turn a caller's structs to its
+memory and back; they are the repository's.
 """
 README = """\
 lapd.c and lapd.h: LAPD for line cards (ITU-T Q.921, modulo 128), in C99, for each processor of 32 or 64 bits.
 
     cc -std=c99 -O2 -o program program.c lapd.c
 
-lapd.h says what each function does. Cards and clocks lie in one static region: -DLAPD_HEAP_OCTETS=N says how large it is
-(131072 if left out), or -DLAPD_MALLOC takes malloc, or -DLAPD_OWN_MEMORY the program's rattle_alloc and rattle_dealloc. A
-card takes lapd_card_octets(&config) octets and {own} more (one for frames lapd_card_octets_frames(&config) and as many), a clock
-lapd_clock_octets(&config) and {own} more. Starts and ends run one at a time, unless the functions of memory allow more; else
-cards of several threads have nothing in common. No access leaves a card's block: one that would ends the program by abort(),
-which no run has shown; -DLAPD_UNTESTED leaves that test out. A compiler that does not tell the order of
-octets as GCC does wants -DLAPD_BIG_END_FIRST=0 or 1.
+lapd.h says what each function does.
+
+{memory}
 """
+MEMORY = """\
+Cards and clocks lie in memory of malloc. Then cards of several threads have nothing in common, also as they start and
+end. A program without malloc says -DLAPD_HEAP_OCTETS=N: they lie in one static region of N octets, and starts and ends
+run one at a time. Or it says -DLAPD_OWN_MEMORY: they lie in memory of its own rattle_alloc and rattle_dealloc, which
+lapd_memory.h declares. A card takes lapd_card_octets(&config) octets and {own} more (one for frames
+lapd_card_octets_frames(&config) and as many), and a clock lapd_clock_octets(&config) and {own} more.
+
+No access leaves a card's block: one that would ends the program by abort(), which no run has shown; -DLAPD_UNTESTED
+leaves that test out. A compiler that does not tell the order of octets as GCC does wants -DLAPD_BIG_END_FIRST=0 or 1."""
 
 
-def comment(wasm: str) -> str:
-    made = [f"From crates/{NAME}, whose sources have the sum", f"{made_of(uses(), NAME)}, by", *versions("wasm-opt", "wasm2c"),
-            "through a module with the sum", f"{sum_of(wasm)}."]
-    return COMMENT.format(from_what="\n * ".join(made))
+def card_of(over_gate: bool, folder: str) -> Tuple[str, str]:
+    """lapd.c by all steps, in a folder that is empty; and what is to be said of its memory."""
+    need("wasm-opt", "wasm2c")
+    built(NAME, over_gate=over_gate, with_module=True)
+    module_of = wasm(module(NAME), exports(), folder, STACK)
+    made = machine(module_of, folder)
+    return portable(made, comment(COMMENT, module_of)), MEMORY.format(own=own_octets(made))
 
 
 def written(to: str, over_gate: bool = False) -> None:
-    """lapd.c, lapd.h and a page, in a folder, by all steps."""
-    need("wasm-opt", "wasm2c")
-    built(NAME, over_gate=over_gate, with_module=True)
+    """lapd.c, its headers and a page, in a folder."""
     with tempfile.TemporaryDirectory(prefix="portable-") as folder:
-        module_of = wasm(module(NAME), exports(), folder, STACK)
-        made = machine(module_of, folder)
-        for name, text in (("lapd.c", portable(made, comment(module_of))), ("lapd.h", content("include/lapd.h")),
-                           ("README", README.format(own=own_octets(made)))):
+        card, memory_of = card_of(over_gate, folder)
+        for name, text in zip(WRITTEN, (card, content("include/lapd.h"), content("include/lapd_memory.h"), README.format(memory=memory_of))):
             with open(f"{folder}/{name}", "w", encoding="utf-8") as file:
                 file.write(text)
-        put(folder, ["lapd.c", "lapd.h", "README"], to)
+        put(folder, list(WRITTEN), to)

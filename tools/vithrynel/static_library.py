@@ -1,12 +1,15 @@
 """Static libraries of the repository: proved and built for a processor. Beside an archive for x86-64 lies the compiler's
-module that it was made from, which tools/vithrynel/wasm.py compiles on for WebAssembly."""
+module that it was made from, which tools/vithrynel/wasm.py compiles on for WebAssembly. Of a program the module alone is
+kept: `rt` builds the program."""
+import contextlib
+import fcntl
 import os
 import re
 import shlex
 import subprocess
 import sys
 import tempfile
-from typing import Dict, List, NamedTuple, Set, Tuple
+from typing import Dict, Iterator, List, NamedTuple, Set, Tuple
 
 from .crates import (ROOT, closure, is_newer, need_toolchain, note, noted, plan, proved, rlib, sum_of_sources, unproved, uses)
 
@@ -39,8 +42,17 @@ def archive(name: str, processor: str = HOST) -> str:
 
 
 def module(name: str) -> str:
-    """The compiler's module of the archive for x86-64."""
+    """The compiler's module of the archive for x86-64, or of a program."""
     return f"{ROOT}/crates/{name}/out/{name}.bc"
+
+
+def is_program(name: str) -> bool:
+    return os.path.exists(f"{ROOT}/crates/{name}/src/main.rt")
+
+
+def left_of(name: str, processor: str) -> str:
+    """What is left of a crate that is built."""
+    return module(name) if is_program(name) else archive(name, processor)
 
 
 def kit() -> str:
@@ -74,60 +86,84 @@ def keeping(toolchain: str, folder: str, kept: str) -> str:
     return folder
 
 
-def words_of_build(crates: Dict[str, List[str]], name: str, processor: str, toolchain: str) -> List[str]:
+def words_of_build(crates: Dict[str, List[str]], name: str, processor: str, toolchain: str, to: str) -> List[str]:
     """The words by which the kit's compiler proves a crate over libraries that are there, and builds it, as `rt` has them."""
-    root, below, to = kit(), closure(crates, name) - {name}, archive(name, processor)
-    words = ["--crate-name", name, "src/lib.rt", "--extern", f"std={root}/rlibs/std.rlib"]
+    root, below = kit(), closure(crates, name) - {name}
+    words = ["--crate-name", name, "src/main.rt" if is_program(name) else "src/lib.rt", "--extern", f"std={root}/rlibs/std.rlib"]
     for it in crates[name]:
         words += ["--extern", f"{it}={rlib(it) if it in below else f'{root}/rlibs/{it}.rlib'}"]
     for folder in [f"{root}/rlibs", *(os.path.dirname(rlib(it)) for it in sorted(below))]:
         words += ["-L", f"dependency={folder}"]
     words += ["--antt-project", f"{root}/rattle/logic/antt-project.json", "--logic-built", f"{root}/logic_built"]
     words += ["--jobs", os.environ.get("RT_JOBS") or str(len(os.sched_getaffinity(0))), "--links", f"{name}="]
-    words += ["--crate-type", "staticlib", "--toolchain", toolchain, "--backend", "llvm"]
+    words += [] if is_program(name) else ["--crate-type", "staticlib"]
+    words += ["--toolchain", toolchain, "--backend", "llvm"]
     words += [f"--target={PROCESSORS[processor].target}", f"--cpu={PROCESSORS[processor].cpu}", "-o", to]
     if not are_of_gate(crates, below):
-        # `rt lib` left what it checked of the crate itself, too
+        # `rt lib` and `rt run` left what they checked of the crate itself, too
         words += ["--incremental", "out/incremental"]
+    os.makedirs(f"{ROOT}/crates/{name}/out", exist_ok=True)
     os.makedirs(os.path.dirname(to), exist_ok=True)
     return [f"{root}/bin/rattle", "build", *words]
 
 
 def compiled(crates: Dict[str, List[str]], name: str, processor: str) -> Tuple[bool, str]:
-    """Proves the crate over the libraries below it, which are there, and builds its archive."""
+    """Proves the crate over the libraries below it, which are there, and builds its archive; of a program, an object that is not
+    kept."""
     if processor != HOST:
-        return proved(words_of_build(crates, name, processor, f"{kit()}/toolchain"), name, 1)
+        return proved(words_of_build(crates, name, processor, f"{kit()}/toolchain", archive(name, processor)), name, 1)
     with tempfile.TemporaryDirectory(prefix="toolchain-") as folder:
         toolchain = keeping(f"{kit()}/toolchain", f"{folder}/toolchain", f"{folder}/module.bc")
-        is_built, said = proved(words_of_build(crates, name, processor, toolchain), name, 1)
+        to = f"{folder}/program.o" if is_program(name) else archive(name, processor)
+        is_built, said = proved(words_of_build(crates, name, processor, toolchain, to), name, 1)
         if is_built:
             with open(f"{folder}/module.bc", "rb") as source, open(module(name), "wb") as target:
                 target.write(source.read())
         return is_built, said
 
 
+@contextlib.contextmanager
+def alone(name: str) -> Iterator[None]:
+    """One builds a crate at a time: tests that need it may run side by side."""
+    os.makedirs(f"{ROOT}/crates/{name}/out", exist_ok=True)
+    with open(f"{ROOT}/crates/{name}/out/alone", "w", encoding="ascii") as file:
+        fcntl.flock(file, fcntl.LOCK_EX)
+        yield
+
+
 def built(name: str, processor: str = HOST, over_gate: bool = False, with_module: bool = False) -> str:
     """Has the archive proved and built where it is not there, made from these sources; its path. With the compiler's module
-    beside it, where that is asked for. Where `rt lib` would have to prove crates below, `over_gate` ends with NOT_TRIED."""
+    beside it, where that is asked for; of a program the module alone. Where `rt` would have to prove crates below, `over_gate`
+    ends with NOT_TRIED."""
     crates = uses()
-    of, path = made_of(crates, name, processor), archive(name, processor)
-    is_there = noted(path) == of or over_gate and is_newer(path, closure(crates, name), *TOOLS)
-    if is_there and not (with_module and noted(module(name)) != of):
-        return path
-    need_toolchain()
-    below = closure(crates, name) - {name}
+    of, path = made_of(crates, name, processor), left_of(name, processor)
+
+    def is_there() -> bool:
+        is_of_these = noted(path) == of or over_gate and is_newer(path, closure(crates, name), *TOOLS)
+        return is_of_these and not (with_module and noted(module(name)) != of)
+
+    if not is_there():
+        need_toolchain()
+        with alone(name):
+            if not is_there():
+                build(crates, name, processor, over_gate)
+    return path
+
+
+def build(crates: Dict[str, List[str]], name: str, processor: str, over_gate: bool) -> None:
+    """Proves and builds it, and notes what it was made from."""
+    of, path, below = made_of(crates, name, processor), left_of(name, processor), closure(crates, name) - {name}
     if not are_of_gate(crates, below):
+        words = ["rt", "run", "--", "--version"] if is_program(name) else ["rt", "lib"]
         if over_gate:
-            raise NotBuilt(f"`rt lib` in crates/{name} would have to prove it", NOT_TRIED)
+            raise NotBuilt(f"`{' '.join(words[:2])}` in crates/{name} would have to prove it", NOT_TRIED)
         missing = [*unproved(crates, below), name]
         print(f"library: proves {plan(missing)}", file=sys.stderr, flush=True)
-        is_built, said = proved(["rt", "lib"], name, len(missing))
+        is_built, said = proved(words, name, len(missing))
         if not is_built:
             raise NotBuilt("\n".join([*said.splitlines()[-8:], "it was not built"]))
     is_built, said = compiled(crates, name, processor)
     if not is_built or not re.search(r"^logic=proved ", said, re.M) or not os.path.exists(path):
         raise NotBuilt("\n".join([*said.splitlines()[-8:], "it was not built"]))
-    note(path, of)
-    if processor == HOST:
-        note(module(name), of)
-    return path
+    for it in {path, module(name)} if processor == HOST else {path}:
+        note(it, of)

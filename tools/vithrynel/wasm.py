@@ -1,9 +1,10 @@
-"""From a proved static library of the repository to a WebAssembly module, a function a step:
+"""From a proved static library of the repository, or a program, to a WebAssembly module, a function a step:
 
     the compiler's module   what the kit's compiler hands to its clang (static_library.built keeps it)
     for_wasm                the kit's clang compiles it for WebAssembly with addresses of 64 bits: as wide as the kit takes them
     memory_for_wasm         and c/module.c, the functions of memory that the library asks for
-    linked                  the kit's linker makes a module of both, with the exports that are asked for, and no import
+    linked                  the kit's linker makes a module of both, with the exports that are asked for; imports are what a
+                            program asks of its system, and a library has none
     lowered                 wasm-opt turns its memory to addresses of 32 bits, which each engine takes; arguments stay as they are
 """
 import os
@@ -52,11 +53,11 @@ def clang() -> str:
     return f"{kit()}/toolchain/bin/clang"
 
 
-def for_wasm(source: str, folder: str, level: str = "-O2") -> str:
+def for_wasm(source: str, folder: str) -> str:
     """The compiler's module as an object for WebAssembly. Its functions name a processor that this target has not; clang says
     so, and goes on."""
     try:
-        run([clang(), *TARGET, *SECTIONS, "-Wno-override-module", level, "-c", "-x", "ir", source, "-o", "module.o"], folder)
+        run([clang(), *TARGET, *SECTIONS, "-Wno-override-module", "-O2", "-c", "-x", "ir", source, "-o", "module.o"], folder)
     except NotBuilt as fault:
         if NO_TARGET not in str(fault):
             raise
@@ -70,11 +71,11 @@ def memory_for_wasm(folder: str) -> str:
     return f"{folder}/memory.o"
 
 
-def linked(objects: List[str], exports: Iterable[str], folder: str, stack: int = STACK) -> str:
+def linked(objects: List[str], exports: Iterable[str], folder: str, stack: int = STACK, has_imports: bool = False) -> str:
     """The module, with addresses of 64 bits. The linker is told by its name for what it links."""
     linker = f"{folder}/wasm-ld"
     os.symlink(clang(), linker)
-    words = ["-mwasm64", "--no-entry", "--strip-all", "-z", f"stack-size={stack}"]
+    words = ["-mwasm64", "--no-entry", "--strip-all", "-z", f"stack-size={stack}", *["--allow-undefined"] * has_imports]
     run([linker, *words, *(f"--export={it}" for it in exports), *objects, "-o", "wide.wasm"], folder)
     return f"{folder}/wide.wasm"
 
@@ -85,11 +86,11 @@ def lowered(wide: str, folder: str) -> str:
     return f"{folder}/module.wasm"
 
 
-def wasm(source: str, exports: Iterable[str], folder: str, stack: int = STACK, level: str = "-O2") -> str:
+def wasm(source: str, exports: Iterable[str], folder: str, stack: int = STACK, has_imports: bool = False) -> str:
     """All steps from the compiler's module: the path of module.wasm in the folder, which is to be empty."""
     need("wasm-opt")
-    objects = [for_wasm(source, folder, level), memory_for_wasm(folder)]
-    return lowered(linked(objects, exports, folder, stack), folder)
+    objects = [for_wasm(source, folder), memory_for_wasm(folder)]
+    return lowered(linked(objects, exports, folder, stack, has_imports), folder)
 
 
 def wasm_of(name: str, exports: Iterable[str], to: str, over_gate: bool = False) -> None:

@@ -1,5 +1,5 @@
 -- What a framer stands for, one item or one octet more.
-use Rattle.lapd_bits.proofs.Vocabulary.{◌≡◌, ℕ, ◌<◌, ◌≤◌, List, [], ◌∷◌, ◌++◌, length, ap, sym, ◌∙◌, arith, ⊎_elim, append_assoc, length-append, lt-ltb, le-ltb, cases_lt, bits, flag, low_bits, Item, idle, item_text, frame, first_four, head_of, Framing, Stands, refilled, with_idle, still_held, last_octets, begun_of, length-low_bits, bits-push, line_text-push, last_octets-push, latest-push}
+use Rattle.lapd_bits.proofs.Vocabulary.{◌≡◌, ℕ, ◌<◌, ◌≤◌, List, [], ◌∷◌, ◌++◌, length, ap, sym, ◌∙◌, arith, ⊎_elim, append_assoc, length-append, lt-ltb, le-ltb, cases_lt, bits, flag, low_bits, Item, idle, item_text, frame, first_four, head_of, Framing, FramerStands, refilled, with_idle, still_held, last_octets, begun_of, length-low_bits, bits-push, line_text-push, last_octets-push, latest-push}
 
 -- a frame of these octets begins with them
 pub begun_by : (octets first : List ℕ) (size : ℕ) → first ≡ first_four octets → length octets ≡ size → 1 ≤ length octets
@@ -7,7 +7,7 @@ pub begun_by : (octets first : List ℕ) (size : ℕ) → first ≡ first_four o
 begun_by octets first size four long some = grind (arith, lt-ltb)
 
 -- One octet more is given.
-pub Stands-octet : (old new : Framing) (octet : ℕ) (items : List Item) (given : List ℕ) → low_bits 8 octet ++ new.left ≡ refilled old.left → new.held ≡ still_held new.left old.held → new.begun ≡ old.begun → Stands old items given → Stands new (with_idle old.left items) (given ++ octet ∷ [])
+pub Stands-octet : (old new : Framing) (octet : ℕ) (items : List Item) (given : List ℕ) → low_bits 8 octet ++ new.left ≡ refilled old.left → new.held ≡ still_held new.left old.held → new.begun ≡ old.begun → FramerStands old items given → FramerStands new (with_idle old.left items) (given ++ octet ∷ [])
 Stands-octet old new octet items given bits_are held_is begun_is s =
     let moved : bits given ++ (low_bits 8 octet ++ new.left) ≡ bits (given ++ octet ∷ []) ++ new.left =
     sym (append_assoc (bits given) (low_bits 8 octet) new.left) ∙ ap (λ l. l ++ new.left) (sym (bits-push given octet)) in
@@ -40,5 +40,5 @@ Stands-octet old new octet items given bits_are held_is begun_is s =
     (cases_lt (length old.left) 8)
 
 -- One frame more is loaded.
-pub Stands-load : (old new : Framing) (octets : List ℕ) (latest : ℕ) (items : List Item) (given : List ℕ) → new.left ≡ old.left ++ item_text (frame octets) → new.held ≡ still_held new.left latest → latest ≡ length octets → new.begun ≡ head_of octets → Stands old items given → Stands new (items ++ frame octets ∷ []) given
+pub Stands-load : (old new : Framing) (octets : List ℕ) (latest : ℕ) (items : List Item) (given : List ℕ) → new.left ≡ old.left ++ item_text (frame octets) → new.held ≡ still_held new.left latest → latest ≡ length octets → new.begun ≡ head_of octets → FramerStands old items given → FramerStands new (items ++ frame octets ∷ []) given
 Stands-load old new octets latest items given left_is held_is latest_is begun_is s = grind (arith, length-append, line_text-push, append_assoc, le-ltb, last_octets-push, latest-push)

@@ -1,6 +1,6 @@
 -- What a deframer takes with an octet, and what it lends until the next.
 use Rattle.lapd_bits.proofs.Vocabulary.{arith, ◌≡◌, ℕ, Bool, List, [], ◌∷◌, ◌++◌, Option, length, reverse, sym, ap, ◌∙◌, append-nil, option_to_list, option_map, same_from_push, bits, low_bits, Event, heard_until, heard_in, room_for, open_gap, HoldsGap, HoldsPast, IsContent, IsJoined, Takes, with_bits, unstuffed_after, quiet}
-use Rattle.lapd_bits.specs.Deframer.{Stands}
+use Rattle.lapd_bits.specs.Deframer.{DeframerStands}
 use Rattle.lapd_bits.specs.declared.deframer.Deframer.{Deframer}
 use Rattle.lapd_bits.specs.declared.ended.Ended.TheVariants as ended
 use Rattle.lapd_bits.proofs.BitSteps.{with_bits-octet}
@@ -14,8 +14,8 @@ heard_more : (n201 : ℕ) (past : List ℕ) (octet room : ℕ) (e : Option Event
 heard_more n201 past octet room e is told = grind (arith, with_bits-octet, option_to_list)
 
 -- A deframer that has taken an octet, and lends what it brings, stands for the octets with it.
-pub Stands-takes : (n201 octet : ℕ) (past : List ℕ) (old new : Deframer) → Stands n201 old past → Takes octet old new new.ended
-    → Stands n201 new (past ++ octet ∷ [])
+pub Stands-takes : (n201 octet : ℕ) (past : List ℕ) (old new : Deframer) → DeframerStands n201 old past → Takes octet old new new.ended
+    → DeframerStands n201 new (past ++ octet ∷ [])
 Stands-takes n201 octet past old new h t = grind (arith, with_bits-octet, heard_more, option_to_list, same_from_push)
 
 -- an octet that ends nothing, of which this is the content

@@ -48,7 +48,7 @@ pub use Rattle.model_bits.proofs.StuffingShape.{ones_after-stuffed, stuffed-unst
 pub use Rattle.model_bits.specs.Bits.{bits, flag, number_of, same_bits}
 unfoldable pub use Rattle.model_bits.specs.Bits.{low_bits}
 pub use Rattle.model_bits.specs.Check.{brought_down, check, dividend, is_good, plus, remainder, residue}
-pub use Rattle.model_bits.specs.Framer.{Framing, Stands, last_octets, refilled, still_held, with_idle}
+pub use Rattle.model_bits.specs.Framer.{Framing, FramerStands, last_octets, refilled, still_held, with_idle}
 pub use Rattle.model_bits.specs.Heads.{first_four, head_of}
 pub use Rattle.model_bits.specs.OpenGap.{closed_event, kept_count, octets_held, open_gap, run_of}
 pub use Rattle.model_bits.specs.Sent.{Item, frame, frame_text, idle, item_text}

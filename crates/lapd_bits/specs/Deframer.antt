@@ -1,6 +1,6 @@
 -- What a deframer holds of the octets that a line has brought so far.
 --
--- A deframer keeps no past: `Stands` says what its fields are after these octets. At the start `ones` is 7: with no
+-- A deframer keeps no past: `DeframerStands` says what its fields are after these octets. At the start `ones` is 7: with no
 -- bit before, no flag can be on its way.
 --
 -- The bits of the flag that closes a gap are taken in as they come, since a flag is known only at its last bit. So
@@ -67,7 +67,7 @@ latest_of deframer = event_in deframer.octets.items deframer.ended
 
 -- A deframer for information fields of `n201` octets stands for the octets that a line has brought so far, and
 -- still has what the latest of them brought.
-pub record Stands (n201 : ℕ) (deframer : Deframer) (octets : List ℕ) : Type 0 where
+pub record DeframerStands (n201 : ℕ) (deframer : Deframer) (octets : List ℕ) : Type 0 where
   pub room : length deframer.octets.items ≡ room_for n201
   pub holds : HoldsPast deframer.octets.items deframer.ones deframer.gap (reverse (bits octets))
   pub latest : (past : List ℕ) (octet : ℕ) → octets ≡ past ++ octet ∷ []

@@ -39,7 +39,7 @@ impl Deframer {
     ghost use Rattle.std.specs.Borrow.{sem};
     ghost use Rattle.std.specs.Io.BufRead.{Rests};
     ghost use Rattle.lapd_bits.specs.contracts.deframer.Deframer.{the_row};
-    ghost use Rattle.lapd_bits.specs.Deframer.{Stands, HoldsGap, latest_of};
+    ghost use Rattle.lapd_bits.specs.Deframer.{DeframerStands, HoldsGap, latest_of};
     ghost use Rattle.model_bits.specs.OpenGap.{open_gap, octets_held, given_up_event, closed_event};
     ghost use Rattle.model_bits.specs.Heard.{heard_of};
     ghost use Rattle.lapd_bits.specs.Ended.{event_in, without_octets};
@@ -53,7 +53,7 @@ impl Deframer {
     /// [`StartFault::OutOfMemory`] where the memory for the longest frame can't be had.
     pub fn start(alloc: Global, n201: u16) -> Result<Deframer, StartFault>
         requires { n201 ≤ 1024 }
-        ensures fresh { IfOk result (λ deframer. Stands n201 deframer []) }
+        ensures fresh { IfOk result (λ deframer. DeframerStands n201 deframer []) }
         // No octet has ended anything.
         ensures silent { IfOk result (λ deframer. latest_of deframer ≡ None) }
     {
@@ -71,11 +71,11 @@ impl Deframer {
     #[inline(always)]
     pub fn octet(&mut self, octet: u8) -> Heard<'_>
         // What is heard in all the octets so far has gained exactly this event.
-        ensures heard { (n201 : ℕ) (past : List ℕ) → Stands n201 self.old past
+        ensures heard { (n201 : ℕ) (past : List ℕ) → DeframerStands n201 self.old past
             → heard_in n201 (past ++ octet ∷ []) ≡ heard_in n201 past ++ option_to_list (heard_of result) }
         // The deframer stands for the octets with this one, once the loan is over.
         ensures* after { sem 𝓛 (Rests the_row self.entry
-            (λ v. (n201 : ℕ) (past : List ℕ) → Stands n201 self.old past → Stands n201 v (past ++ octet ∷ []))) }
+            (λ v. (n201 : ℕ) (past : List ℕ) → DeframerStands n201 self.old past → DeframerStands n201 v (past ++ octet ∷ []))) }
     {
         // All changes are made in a step that answers without references, since the toolchain proves no loan
         // beside a later write.
@@ -88,10 +88,10 @@ impl Deframer {
     #[inline(always)]
     pub fn step(&mut self, octet: u8) -> Ended
         // What is heard in all the octets so far has gained exactly what the deframer lends now,
-        ensures heard { (n201 : ℕ) (past : List ℕ) → Stands n201 self.old past
+        ensures heard { (n201 : ℕ) (past : List ℕ) → DeframerStands n201 self.old past
             → heard_in n201 (past ++ octet ∷ []) ≡ heard_in n201 past ++ option_to_list (latest_of self.new) }
         // for which the deframer stands for the octets with this one.
-        ensures after { (n201 : ℕ) (past : List ℕ) → Stands n201 self.old past → Stands n201 self.new (past ++ octet ∷ []) }
+        ensures after { (n201 : ℕ) (past : List ℕ) → DeframerStands n201 self.old past → DeframerStands n201 self.new (past ++ octet ∷ []) }
         // The answer tells what it is, and how long where it is a frame.
         ensures told { result ≡ without_octets (latest_of self.new) }
     {
@@ -112,7 +112,7 @@ impl Deframer {
     pub fn latest(&self) -> Heard<'_>
         ensures lent { heard_of result ≡ latest_of self.now }
         // It is what the latest octet brought.
-        ensures heard { (n201 : ℕ) (past : List ℕ) (octet : ℕ) → Stands n201 self.now (past ++ octet ∷ [])
+        ensures heard { (n201 : ℕ) (past : List ℕ) (octet : ℕ) → DeframerStands n201 self.now (past ++ octet ∷ [])
             → heard_in n201 (past ++ octet ∷ []) ≡ heard_in n201 past ++ option_to_list (heard_of result) }
     {
         match self.ended {
@@ -128,7 +128,7 @@ impl Deframer {
 
     /// How many whole octets of the open gap are kept, four once there are too many to keep; 0 where none is open.
     pub fn held(&self) -> u32
-        ensures held { (n201 : ℕ) (past : List ℕ) → Stands n201 self.now past → result ≡ octets_held n201 past }
+        ensures held { (n201 : ℕ) (past : List ℕ) → DeframerStands n201 self.now past → result ≡ octets_held n201 past }
     {
         match self.gap {
             Some(gap) => gap.held() as u32,

@@ -3,7 +3,7 @@ ghost use Rattle.std.specs.Prelude.{◌≡◌, ℕ, ◌+◌, ◌<◌, ◌≤◌,
 ghost use Rattle.model_bits.specs.Bits.{low_bits, flag, number_of};
 ghost use Rattle.model_bits.specs.Heads.{head_of};
 ghost use Rattle.model_bits.specs.Sent.{Item, frame, item_text};
-ghost use Rattle.model_bits.specs.Framer.{Framing, Stands, refilled, with_idle, still_held};
+ghost use Rattle.model_bits.specs.Framer.{Framing, FramerStands, refilled, with_idle, still_held};
 
 use crate::check::fcs_of_both;
 use crate::heads::keep_first_four;
@@ -58,7 +58,7 @@ impl Framer {
     pub fn start(alloc: Global, n201: u16) -> Result<Framer, StartFault>
         requires { n201 ≤ 1024 }
         ensures begins { IfOk result (λ framer. framer ≡ record { left = flag; held = 0; begun = None; room = n201 }) }
-        ensures stands { IfOk result (λ framer. Stands framer [] []) }
+        ensures stands { IfOk result (λ framer. FramerStands framer [] []) }
     {
         // A 0 more for five 1s at most, the bits that were left, and a flag.
         let room = (usize::from(n201) + 6) * 6 / 5 + 2;
@@ -138,8 +138,8 @@ impl Framer {
         ensures held { self.new.held ≡ length head.now + length info.now }
         ensures begun { self.new.begun ≡ head_of (head.now ++ info.now) }
         ensures room { self.new.room ≡ self.old.room }
-        ensures stands { (items : List Item) (given : List ℕ) → Stands self.old items given
-            → Stands self.new (items ++ frame (head.now ++ info.now) ∷ []) given }
+        ensures stands { (items : List Item) (given : List ℕ) → FramerStands self.old items given
+            → FramerStands self.new (items ++ frame (head.now ++ info.now) ∷ []) given }
     {
         let check = fcs_of_both(head, info);
         // No 1 of the bits that are left counts.
@@ -168,8 +168,8 @@ impl Framer {
         ensures held { self.new.held ≡ still_held self.new.left self.old.held }
         ensures begun { self.new.begun ≡ self.old.begun }
         ensures room { self.new.room ≡ self.old.room }
-        ensures stands { (items : List Item) (given : List ℕ) → Stands self.old items given
-            → Stands self.new (with_idle self.old.left items) (given ++ result ∷ []) }
+        ensures stands { (items : List Item) (given : List ℕ) → FramerStands self.old items given
+            → FramerStands self.new (with_idle self.old.left items) (given ++ result ∷ []) }
     {
         if self.busy() {
             let octet = self.octets[self.next];

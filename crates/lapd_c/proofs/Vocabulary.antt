@@ -21,7 +21,7 @@ pub use Rattle.lapd_c.specs.Answers.{ShowsAnswer, ShowsReply}
 pub use Rattle.lapd_c.specs.ClockSlots.{HeldClock, clock_owns, heap}
 pub use Rattle.lapd_c.specs.Exchange.{answer_after, card_after, tells_nothing, step_event, with_step}
 unfoldable pub use Rattle.lapd_c.specs.Exchange.{AllQuiet, given_after, steps_made}
-pub use Rattle.lapd_c.specs.Frames.{comes, goes, next_at}
+pub use Rattle.lapd_c.specs.Frames.{frame_comes, goes, next_at}
 pub use Rattle.lapd_card.specs.Kinds.{AnyStands, CardStands, FrameCardStands, Machine, alone, card_in, shelf_of, with_ports}
 pub use Rattle.lapd_c.specs.Laws.{ContentsFit, contents_in}
 pub use Rattle.lapd_c.specs.Links.{AreFree, state_at}

@@ -1,5 +1,5 @@
 -- Whole frames: one that comes, and one that is given.
-use Rattle.lapd_c.proofs.Vocabulary.{arith, ◌≡◌, ℕ, Bool, true, List, drop, Option, sym, ap, subst, None, option_map, Config, NextFrame, gave_in, next_in, Card, at, moment_counted, moment_of, Counters, Store, AnyCard, alone, AnyStands, FrameCardStands, comes, goes, next_at}
+use Rattle.lapd_c.proofs.Vocabulary.{arith, ◌≡◌, ℕ, Bool, true, List, drop, Option, sym, ap, subst, None, option_map, Config, NextFrame, gave_in, next_in, Card, at, moment_counted, moment_of, Counters, Store, AnyCard, alone, AnyStands, FrameCardStands, frame_comes, goes, next_at}
 use Rattle.std.proofs.Common.{Some, IfSome, length, ◌≤◌}
 use Rattle.std.proofs.Math.Nat.{min-eq_left}
 use Rattle.std.proofs.lemmas.List.{length-take}
@@ -16,7 +16,7 @@ use Rattle.lapd_card.specs.FrameCard as frames
 use Rattle.lapd_card.proofs.OneOctet.{none_leaves, none_counts}
 
 -- a frame that comes at a card is heard by the configuration of its machine
-pub comes_at : (i : ℕ) (frame : List ℕ) (c : frames.Held Store) (m : Card) → FrameCardStands c m → at i (line.hears (came c.config.n201 frame)) ≡ comes i frame m
+pub comes_at : (i : ℕ) (frame : List ℕ) (c : frames.Held Store) (m : Card) → FrameCardStands c m → at i (line.hears (came c.config.n201 frame)) ≡ frame_comes i frame m
 comes_at i frame c m s = ap (λ (config : Config). at i (line.hears (came config.n201 frame))) (sym s.config)
 
 -- what is written is the frame that is next

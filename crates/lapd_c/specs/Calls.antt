@@ -17,7 +17,7 @@ use Rattle.lapd_c.specs.declared.kept.KeptCard.{KeptCard}
 use Rattle.lapd_c.specs.declared.plain.config.PlainConfig.{PlainConfig}
 use Rattle.lapd_c.specs.declared.plain.reports.PlainReport.{PlainReport}
 use Rattle.lapd_c.specs.CardSlots.{HeldCard}
-use Rattle.lapd_c.specs.Cards.{card_of, kind_in, marks_at, IsHandle, Stands, OctetsStand, FramesStand}
+use Rattle.lapd_c.specs.Cards.{card_of, kind_in, marks_at, IsHandle, HandleStands, OctetsStand, FramesStand}
 use Rattle.lapd_c.specs.Config.{config_in}
 use Rattle.lapd_c.specs.LinkMarks.{AreUnmarked}
 use Rattle.lapd_c.specs.Reopened.{TellsReopened}
@@ -54,7 +54,7 @@ pub record IsCall (old new : CardHandle) (result : ℕ) : Type 0 where
 pub record IsCallAt (line : ℕ) (old new : CardHandle) (result : ℕ) : Type 0 where
   pub handle : IsHandle new
   pub no_card : card_of old ≡ None → (result ≡ status.no_card) × (new ≡ old)
-  pub wrong_line : (m : Machine) → Stands old m → (card_in m).config.lines ≤ line → result ≡ status.wrong_line
+  pub wrong_line : (m : Machine) → HandleStands old m → (card_in m).config.lines ≤ line → result ≡ status.wrong_line
 
 -- The same of a line of a card of octets, and of one of frames: where it is one of the other kind, this is told.
 pub record IsOctetsCall (line : ℕ) (old new : CardHandle) (result : ℕ) : Type 0 where
@@ -71,7 +71,7 @@ pub record IsFramesCall (line : ℕ) (old new : CardHandle) (result : ℕ) : Typ
 
 -- What holds of each machine that stands for a card with this line: one of either kind, of octets, of frames.
 abbrev pub WithLine : ℕ → CardHandle → (Machine → Type 0) → Type 0
-WithLine line h holds = (m : Machine) → Stands h m → line < (card_in m).config.lines → holds m
+WithLine line h holds = (m : Machine) → HandleStands h m → line < (card_in m).config.lines → holds m
 
 abbrev pub OctetsWithLine : ℕ → CardHandle → (OctetCard → Type 0) → Type 0
 OctetsWithLine line h holds = (m : OctetCard) → OctetsStand h m → line < m.card.config.lines → holds m

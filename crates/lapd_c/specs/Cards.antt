@@ -40,11 +40,11 @@ abbrev pub StandsIn : HeldCard → Machine → Type 0
 StandsIn None m = ⊥
 StandsIn (Some kept) m = AnyStands kept.card m
 
-abbrev pub Stands : CardHandle → Machine → Type 0
-Stands h m = StandsIn (card_of h) m
+abbrev pub HandleStands : CardHandle → Machine → Type 0
+HandleStands h m = StandsIn (card_of h) m
 
 abbrev pub OctetsStand : CardHandle → OctetCard → Type 0
-OctetsStand h m = Stands h (with_ports m)
+OctetsStand h m = HandleStands h (with_ports m)
 
 abbrev pub FramesStand : CardHandle → Card → Type 0
-FramesStand h m = Stands h (alone m)
+FramesStand h m = HandleStands h (alone m)

@@ -62,7 +62,7 @@ pub record IsThrough (line : ℕ) (taken : List ℕ) (from n : ℕ) (m : OctetCa
   pub report : ShowsReply r (told nothing)
 
 -- The last step was the first to have something to tell, and the report tells it.
-pub record IsTold (line : ℕ) (taken : List ℕ) (from n : ℕ) (m : OctetCard) (to : ℕ) (r : PlainReport) : Type 0 where
+pub record TellsAtLast (line : ℕ) (taken : List ℕ) (from n : ℕ) (m : OctetCard) (to : ℕ) (r : PlainReport) : Type 0 where
   pub before : ℕ
   pub last : n ≡ before + 1
   pub made : to ≡ from + n
@@ -75,7 +75,7 @@ pub record Exchanged (line : ℕ) (taken : List ℕ) (from : ℕ) (m : OctetCard
   pub n : ℕ
   pub stands : CardStands card (card_after line taken from n m)
   pub octets : given' ≡ given_after line taken from n m given
-  pub ended : IsThrough line taken from n m to r ⊎ IsTold line taken from n m to r
+  pub ended : IsThrough line taken from n m to r ⊎ TellsAtLast line taken from n m to r
 
 abbrev pub ExchangedBy : ℕ → List ℕ → ℕ → OctetCard → AnyCard → List ℕ → List ℕ → ℕ → PlainReport → Type 0
 ExchangedBy line taken from m (Octets card) given given' to r = Exchanged line taken from m card given given' to r

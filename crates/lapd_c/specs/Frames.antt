@@ -9,8 +9,8 @@ use Rattle.model_card.specs.Event.{Event, at}
 use Rattle.model_card.specs.Machine.{answer}
 
 -- At a line of a card a frame comes; a fault is told in place of one; the next frame is called for.
-abbrev pub comes : ℕ → List ℕ → Card → Event
-comes line octets m = at line (hears (came m.config.n201 octets))
+abbrev pub frame_comes : ℕ → List ℕ → Card → Event
+frame_comes line octets m = at line (hears (came m.config.n201 octets))
 
 abbrev pub fails : ℕ → Fault → Event
 fails line fault = at line (hears (dropped (cause_of fault)))

@@ -52,12 +52,12 @@ pub use Rattle.model_line.specs.Event.{nothing}
 pub use Rattle.lapd_c.specs.Answers.{octet_of, ShowsAnswer, ShowsReply}
 pub use Rattle.lapd_c.specs.Calls.{Begins, FramesWithLine, fresh, HasBegun, IsCall, IsCallAt, IsCardStart, IsFramesCall, IsOctetsCall, IsReopened, OctetsWithLine, refusal_at, WithLine}
 pub use Rattle.lapd_c.specs.Starts.{IsStart}
-pub use Rattle.lapd_c.specs.Cards.{card_of, FramesStand, IsHandle, kind_in, marks_at, OctetsStand, served_card, Stands}
+pub use Rattle.lapd_c.specs.Cards.{card_of, FramesStand, IsHandle, kind_in, marks_at, OctetsStand, served_card, HandleStands}
 pub use Rattle.lapd_c.specs.Config.{config_fault, config_in, side_in}
 pub use Rattle.lapd_c.specs.Counted.{counters_at, Counts, CountsMeaning}
 pub use Rattle.lapd_c.specs.Counters.{plain_counters}
 pub use Rattle.lapd_c.specs.Exchange.{Exchanged, ExchangedIn, is_exchange, tells_nothing, step_event, steps_made, with_step}
-pub use Rattle.lapd_c.specs.Frames.{comes, fails, goes, IsGiven, next_at}
+pub use Rattle.lapd_c.specs.Frames.{frame_comes, fails, goes, IsGiven, next_at}
 pub use Rattle.lapd_c.specs.Heads.{plain_head}
 pub use Rattle.lapd_c.specs.LinkMarks.{AreMarked, AreUnmarked, marks_of, MarksBecome}
 pub use Rattle.lapd_c.specs.Links.{FirstFrom, IsNext, NoneFrom}

@@ -1,7 +1,7 @@
 //! What happens at a card of either kind: a timer that expires, a request.
 
 ghost use Rattle.std.specs.Prelude.{◌≡◌, ◌≢◌, ◌<◌, None, IfSome, IfOk, IfErr};
-ghost use Rattle.lapd_c.specs.{WithLine, refusal_at, IsCallAt, IsReopened, ShowsAnswer, WaitsFor, refused_place, refusal_status, request_in, timer_in, card_of, kind_in, marks_at, served_card, IsHandle, Stands, Counts, counters_at};
+ghost use Rattle.lapd_c.specs.{WithLine, refusal_at, IsCallAt, IsReopened, ShowsAnswer, WaitsFor, refused_place, refusal_status, request_in, timer_in, card_of, kind_in, marks_at, served_card, IsHandle, HandleStands, Counts, counters_at};
 ghost use Rattle.model_card.specs.Event.{at};
 ghost use Rattle.model_line.specs.Event as line_event;
 ghost use Rattle.lapd_c.specs.Statuses as status;
@@ -28,7 +28,7 @@ pub extern "C" fn lapd_expire(
     ensures unchanged { result ≢ status.ok → (card_of handle.new ≡ card_of handle.old) × (report.new ≡ report.old) }
     ensures wrong_timer { WithLine line handle.old (λ m. IfErr (timer_in timer.now) (λ wrong. result ≡ wrong)) }
     ensures served { WithLine line handle.old (λ m. IfOk (timer_in timer.now) (λ expired. (result ≡ status.ok)
-        × Stands handle.new (after (at line (line_event.expiry expired)) m)
+        × HandleStands handle.new (after (at line (line_event.expiry expired)) m)
         × ShowsAnswer report.new (answer (at line (line_event.expiry expired)) m))) }
     ensures counted { WithLine line handle.old (λ m. IfOk (timer_in timer.now) (λ expired.
         Counts (at line (line_event.expiry expired)) (card_in m) (counters_at handle.old) (counters_at handle.new))) }
@@ -65,7 +65,7 @@ pub extern "C" fn lapd_request(
     ensures refused { WithLine line handle.old (λ m. IfOk (request_in request service tei contents.now) (λ asked.
         IfSome (refusal_at line asked (card_in m)) (λ why. result ≡ refusal_status why))) }
     ensures served { WithLine line handle.old (λ m. IfOk (request_in request service tei contents.now) (λ asked.
-        refusal_at line asked (card_in m) ≡ None → (result ≡ status.ok) × Stands handle.new (after (at line (line_event.request asked)) m)
+        refusal_at line asked (card_in m) ≡ None → (result ≡ status.ok) × HandleStands handle.new (after (at line (line_event.request asked)) m)
         × ShowsAnswer report.new (answer (at line (line_event.request asked)) m))) }
     ensures counted { WithLine line handle.old (λ m. IfOk (request_in request service tei contents.now) (λ asked.
         refusal_at line asked (card_in m) ≡ None → Counts (at line (line_event.request asked)) (card_in m) (counters_at handle.old) (counters_at handle.new))) }

@@ -2,7 +2,7 @@
 //! lines one waits.
 
 ghost use Rattle.std.specs.Prelude.{◌≡◌, ◌≢◌, ◌==◌, if◌then◌else◌, ◌+◌, ◌≤◌, ◌<◌, true, length, Some, None, IfSome, IfOk, IfErr};
-ghost use Rattle.lapd_c.specs.{FramesWithLine, IsFirstWaiting, has_next, next_waiting, IsCall, IsFramesCall, IsReopened, ShowsAnswer, ShowsPull, card_of, kind_in, marks_at, IsHandle, FramesStand, Counts, counters_at, comes, fails, goes, next_at, IsGiven};
+ghost use Rattle.lapd_c.specs.{FramesWithLine, IsFirstWaiting, has_next, next_waiting, IsCall, IsFramesCall, IsReopened, ShowsAnswer, ShowsPull, card_of, kind_in, marks_at, IsHandle, FramesStand, Counts, counters_at, frame_comes, fails, goes, next_at, IsGiven};
 ghost use Rattle.model_card.specs.Card as machine;
 ghost use Rattle.model_card.specs.Machine.{after, answer};
 ghost use Rattle.lapd_c.specs.Faults.{fault_in};
@@ -26,9 +26,9 @@ pub extern "C" fn lapd_frame(
     ensures call { IsFramesCall line handle.old handle.new result }
     ensures unchanged { result ≢ status.ok → (card_of handle.new ≡ card_of handle.old) × (report.new ≡ report.old) }
     ensures served { FramesWithLine line handle.old (λ m. (result ≡ status.ok)
-        × FramesStand handle.new (after (comes line octets.now m) m)
-        × ShowsAnswer report.new (answer (comes line octets.now m) m)) }
-    ensures counted { FramesWithLine line handle.old (λ m. Counts (comes line octets.now m) m (counters_at handle.old) (counters_at handle.new)) }
+        × FramesStand handle.new (after (frame_comes line octets.now m) m)
+        × ShowsAnswer report.new (answer (frame_comes line octets.now m) m)) }
+    ensures counted { FramesWithLine line handle.old (λ m. Counts (frame_comes line octets.now m) m (counters_at handle.old) (counters_at handle.new)) }
     ensures reopened { IsReopened line handle.old handle.new result report.new }
 {
     lend!(kept of handle, Frames(card), line);

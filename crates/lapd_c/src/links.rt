@@ -11,7 +11,7 @@ use crate::plain::{LINK_PLACES, NO_MORE_LINKS, OK, PlainLink, service_at};
 use lapd_card::FrameCard;
 use lapd_store::RawShelf;
 
-/// The first link of a line from a place on, and the place behind it.
+/// Finds the first link of a line at or after `place`, and sets `place` to the one after it.
 #[unsafe(no_mangle)]
 pub extern "C" fn lapd_next_link(
     handle: &mut CardHandle,

@@ -2,7 +2,7 @@
 
 ghost use Rattle.std.specs.Prelude.{◌≡◌, ◌≢◌, ◌≤◌, ◌<◌, IfSome, IfOk, IfErr, get_or};
 ghost use Rattle.std.specs.Option.{unwrap_or};
-ghost use Rattle.lapd_c.specs.{WithLine, limit, none_counted, IsCall, IsCallAt, plain_counters, plain_room, refusal_status, link_in, card_of, served_card, IsHandle, Stands};
+ghost use Rattle.lapd_c.specs.{WithLine, limit, none_counted, IsCall, IsCallAt, plain_counters, plain_room, refusal_status, link_in, card_of, served_card, IsHandle, HandleStands};
 ghost use Rattle.model_card.specs.Card as machine;
 ghost use Rattle.model_card.specs.Room.{room as machine_room};
 ghost use Rattle.lapd_c.specs.Statuses as status;
@@ -45,7 +45,7 @@ pub extern "C" fn lapd_stored(handle: &mut CardHandle, octets: &mut u32) -> u32
     ensures call { IsCall handle.old handle.new result }
     ensures unchanged { card_of handle.new ≡ card_of handle.old }
     ensures untold { result ≢ status.ok → octets.new ≡ octets.old }
-    ensures told { (m : Machine) → Stands handle.old m → (result ≡ status.ok) × (octets.new ≡ stored m) }
+    ensures told { (m : Machine) → HandleStands handle.old m → (result ≡ status.ok) × (octets.new ≡ stored m) }
 {
     lend!(kept of handle);
     *octets = kept.card.stored();
@@ -59,7 +59,7 @@ pub extern "C" fn lapd_limit(handle: &mut CardHandle, octets: &mut u32) -> u32
     ensures call { IsCall handle.old handle.new result }
     ensures unchanged { card_of handle.new ≡ card_of handle.old }
     ensures untold { result ≢ status.ok → octets.new ≡ octets.old }
-    ensures told { (m : Machine) → Stands handle.old m → (result ≡ status.ok) × (octets.new ≡ limit (card_in m).config) }
+    ensures told { (m : Machine) → HandleStands handle.old m → (result ≡ status.ok) × (octets.new ≡ limit (card_in m).config) }
 {
     lend!(kept of handle);
     *octets = kept.card.frames().limit();
@@ -73,7 +73,7 @@ pub extern "C" fn lapd_lines(handle: &mut CardHandle, lines: &mut u32) -> u32
     ensures call { IsCall handle.old handle.new result }
     ensures unchanged { card_of handle.new ≡ card_of handle.old }
     ensures untold { result ≢ status.ok → lines.new ≡ lines.old }
-    ensures told { (m : Machine) → Stands handle.old m → (result ≡ status.ok) × (lines.new ≡ (card_in m).config.lines) }
+    ensures told { (m : Machine) → HandleStands handle.old m → (result ≡ status.ok) × (lines.new ≡ (card_in m).config.lines) }
 {
     lend!(kept of handle);
     *lines = kept.card.lines().min(MOST_LINES) as u32;

@@ -4,7 +4,7 @@ use Rattle.model_card.specs.ports.Port as port
 use Rattle.model_card.specs.ports.Port.{fresh_port}
 use Rattle.model_card.specs.ports.Stored.{held_at}
 use Rattle.lapd_card.specs.Card.{Held}
-use Rattle.lapd_card.specs.Stands.{Stands, HasPast}
+use Rattle.lapd_card.specs.Stands.{OctetCardStands, HasPast}
 use Rattle.lapd_card.proofs.Amounts.{limit_small}
 use Rattle.lapd_card.proofs.OnePort.{Called, ports-all}
 
@@ -27,7 +27,7 @@ module _ {S : Type 0} (store : S → Store) {card self : Held S} (same : card �
   pub frames_small : {n : ℕ} → n ≤ limit card.frames.config → n ≤ 2232192
   frames_small few = grind (arith, limit_small)
 
-  pub of_machine : {items : List Port} → items ≡ card.ports → (m : OctetCard) → Stands store card m → length items ≡ length m.ports
+  pub of_machine : {items : List Port} → items ≡ card.ports → (m : OctetCard) → OctetCardStands store card m → length items ≡ length m.ports
   of_machine is m s = ap length is ∙ s.ports.count
 
   -- the ports so far, in a loop over them
@@ -42,5 +42,5 @@ module _ {S : Type 0} (store : S → Store) {card self : Held S} (same : card �
     pub few_held : {held one : ℕ} → held ≤ 2232192 + i * 530 → one ≤ 530 → i < length items → Fits w32 (held + one)
     few_held so_far few here = grind (arith, few_ports)
 
-    pub all_held : length items ≤ i → (m : OctetCard) → Stands store card m → sum_by (held_at m.card.config.n201) (take i m.ports) ≡ sum_by (held_at m.card.config.n201) m.ports
+    pub all_held : length items ≤ i → (m : OctetCard) → OctetCardStands store card m → sum_by (held_at m.card.config.n201) (take i m.ports) ≡ sum_by (held_at m.card.config.n201) m.ports
     all_held all m s = ap (sum_by (held_at m.card.config.n201)) (take_all i m.ports (omega (arith, all, of_machine is m s)))

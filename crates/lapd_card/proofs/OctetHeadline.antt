@@ -27,11 +27,11 @@ use Rattle.model_card.proofs.OfPorts.Steps.{config_stays}
 use Rattle.model_card.proofs.OfPorts.Stored.{stored_within_limit}
 use Rattle.lapd_card.specs.Card.{Held, line_count}
 use Rattle.lapd_card.specs.Drive.{line_of, events_of, RefusedByTheTable, IsTextual}
-use Rattle.lapd_card.specs.Stands.{Stands}
+use Rattle.lapd_card.specs.Stands.{OctetCardStands}
 use Rattle.lapd_card.proofs.OneOctet.{request_passes, passed_answer, passed_after}
 
 -- the events are at lines of the machine
-pub events_at_lines : {S : Type 0} (store : S → Store) (card : Held S) (events : List rust.Event) → All (λ e. line_of e < line_count card) events → (m : OctetCard) → Stands store card m → AreAtLines m (events_of events)
+pub events_at_lines : {S : Type 0} (store : S → Store) (card : Held S) (events : List rust.Event) → All (λ e. line_of e < line_count card) events → (m : OctetCard) → OctetCardStands store card m → AreAtLines m (events_of events)
 events_at_lines store card events within m s =
     All-map (IsAtLine m) event_of events (All-weaker (λ e. line_of e < line_count card) (λ e. IsAtLine m (event_of e)) (λ e below. subst (λ c. line_of e < c.lines) (sym s.frames.config) below) events within)
 
@@ -59,23 +59,23 @@ textual m events s within number few = record {
 
 -- The laws hold of the events of a list, of each front of it, and of each front of that of a card as it begins.
 pub record Laws {S : Type 0} (store : S → Store) (card : Held S) (list : List Event) : Type 0 where
-  pub by_event : (m : OctetCard) → Stands store card m → ArePriced m.card (meant_all m list)
-  pub drops : (m : OctetCard) → Stands store card m → AreDropsWithoutCost m list
-  pub without_effect : (m : OctetCard) → Stands store card m → AreDropsWithoutEffect m list
-  pub within_limit : (m : OctetCard) (count : ℕ) → Stands store card m → IsWithinLimit m (take count list)
-  pub amortised : (m : OctetCard) (count : ℕ) → Stands store card m → IsAmortised m.card (meant_all m (take count list))
-  pub amortised_from_zero : (count : ℕ) → Stands store card (fresh card.frames.config) → IsAmortisedFromZero card.frames.config (meant_all (fresh card.frames.config) (take count list))
-  pub six_octets_a_frame : (count : ℕ) → Stands store card (fresh card.frames.config) → HasSixOctetsAFrame card.frames.config (take count list)
-  pub seven_octets_a_reject : (count : ℕ) → Stands store card (fresh card.frames.config) → HasSevenOctetsAReject card.frames.config (take count list)
-  pub linear : (count : ℕ) → Stands store card (fresh card.frames.config) → IsLinear card.frames.config (take count list)
-  pub isolated : (count : ℕ) → Stands store card (fresh card.frames.config) → IsIsolated card.frames.config (take count list)
-  pub never_full : (count : ℕ) → Stands store card (fresh card.frames.config) → IsNeverFull card.frames.config (meant_all (fresh card.frames.config) (take count list))
-  pub numbered : (m : OctetCard) (count : ℕ) → Stands store card m → IsNumbered m.card (meant_all m (take count list))
-  pub from_zero : (count : ℕ) → Stands store card (fresh card.frames.config) → IsNumberedFromZero card.frames.config (meant_all (fresh card.frames.config) (take count list))
-  pub codec : (m : OctetCard) (count : ℕ) → Stands store card m → Refines m (take count list)
-  pub textual : (m : OctetCard) (count : ℕ) → Stands store card m → IsTextual m (take count list)
+  pub by_event : (m : OctetCard) → OctetCardStands store card m → ArePriced m.card (meant_all m list)
+  pub drops : (m : OctetCard) → OctetCardStands store card m → AreDropsWithoutCost m list
+  pub without_effect : (m : OctetCard) → OctetCardStands store card m → AreDropsWithoutEffect m list
+  pub within_limit : (m : OctetCard) (count : ℕ) → OctetCardStands store card m → IsWithinLimit m (take count list)
+  pub amortised : (m : OctetCard) (count : ℕ) → OctetCardStands store card m → IsAmortised m.card (meant_all m (take count list))
+  pub amortised_from_zero : (count : ℕ) → OctetCardStands store card (fresh card.frames.config) → IsAmortisedFromZero card.frames.config (meant_all (fresh card.frames.config) (take count list))
+  pub six_octets_a_frame : (count : ℕ) → OctetCardStands store card (fresh card.frames.config) → HasSixOctetsAFrame card.frames.config (take count list)
+  pub seven_octets_a_reject : (count : ℕ) → OctetCardStands store card (fresh card.frames.config) → HasSevenOctetsAReject card.frames.config (take count list)
+  pub linear : (count : ℕ) → OctetCardStands store card (fresh card.frames.config) → IsLinear card.frames.config (take count list)
+  pub isolated : (count : ℕ) → OctetCardStands store card (fresh card.frames.config) → IsIsolated card.frames.config (take count list)
+  pub never_full : (count : ℕ) → OctetCardStands store card (fresh card.frames.config) → IsNeverFull card.frames.config (meant_all (fresh card.frames.config) (take count list))
+  pub numbered : (m : OctetCard) (count : ℕ) → OctetCardStands store card m → IsNumbered m.card (meant_all m (take count list))
+  pub from_zero : (count : ℕ) → OctetCardStands store card (fresh card.frames.config) → IsNumberedFromZero card.frames.config (meant_all (fresh card.frames.config) (take count list))
+  pub codec : (m : OctetCard) (count : ℕ) → OctetCardStands store card m → Refines m (take count list)
+  pub textual : (m : OctetCard) (count : ℕ) → OctetCardStands store card m → IsTextual m (take count list)
 
-pub laws : {S : Type 0} (store : S → Store) (card : Held S) (list : List Event) → ((m : OctetCard) → Stands store card m → AreAtLines m list) → Laws store card list
+pub laws : {S : Type 0} (store : S → Store) (card : Held S) (list : List Event) → ((m : OctetCard) → OctetCardStands store card m → AreAtLines m list) → Laws store card list
 laws store card list within = record {
   by_event = λ m s. meaning ArePriced frames_by_event.in_runs m list (reached_sound m s.reached) (within m s);
   drops = λ m s. drops_are_without_effect.cost m list (reached_sound m s.reached) (within m s);
@@ -104,8 +104,8 @@ laws store card list within = record {
     meaning_first P law c es range at_lines = law c (meant_all (fresh c) es) range ((refines (fresh c) es).at_lines at_lines)
 
     -- and a law of octets of each front
-    front : (P : OctetCard → List Event → Type 0) → ((m : OctetCard) (es : List Event) → IsSoundOctetCard m → AreAtLines m es → P m es) → (m : OctetCard) (count : ℕ) → Stands store card m → P m (take count list)
+    front : (P : OctetCard → List Event → Type 0) → ((m : OctetCard) (es : List Event) → IsSoundOctetCard m → AreAtLines m es → P m es) → (m : OctetCard) (count : ℕ) → OctetCardStands store card m → P m (take count list)
     front P law m count s = law m (take count list) (reached_sound m s.reached) (All-take (IsAtLine m) count list (within m s))
 
-    first : (P : Config → List Event → Type 0) → ((c : Config) (es : List Event) → IsInRange c → AreAtLines (fresh c) es → P c es) → (count : ℕ) → Stands store card (fresh card.frames.config) → P card.frames.config (take count list)
+    first : (P : Config → List Event → Type 0) → ((c : Config) (es : List Event) → IsInRange c → AreAtLines (fresh c) es → P c es) → (count : ℕ) → OctetCardStands store card (fresh card.frames.config) → P card.frames.config (take count list)
     first P law count s = law card.frames.config (take count list) s.reached.config (All-take (IsAtLine (fresh card.frames.config)) count list (within (fresh card.frames.config) s))

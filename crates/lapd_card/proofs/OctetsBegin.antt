@@ -6,7 +6,7 @@ use Rattle.model_card.proofs.OfPorts.Reaching.{reached_fresh}
 use Rattle.model_card.specs.Card as cards
 use Rattle.lapd_card.specs.FrameCard as frame_card
 use Rattle.lapd_card.specs.FrameStands.{FrameStands}
-use Rattle.lapd_card.specs.Stands.{Stands}
+use Rattle.lapd_card.specs.Stands.{OctetCardStands}
 
 abbrev pub IsFreshPort : ℕ → Port → Type 0
 IsFreshPort n201 x = PortStands n201 x fresh_port
@@ -24,7 +24,7 @@ fresh_ports n201 count ports is all = record {
 }
 
 pub fresh_stands : {S : Type 0} (store : S → Store) (c : Config) {frames : frame_card.Held S} {ports : List Port} → frames.config ≡ c → FrameStands store frames (cards.fresh c)
-    → PortsStand c.n201 ports (replicate c.lines fresh_port) → Stands store (record { frames = frames; ports = ports }) (fresh c)
+    → PortsStand c.n201 ports (replicate c.lines fresh_port) → OctetCardStands store (record { frames = frames; ports = ports }) (fresh c)
 fresh_stands store c {frames} {ports} same stands there = record {
   frames = stands;
   ports = subst (λ d. PortsStand d.n201 ports (replicate c.lines fresh_port)) (sym same) there;

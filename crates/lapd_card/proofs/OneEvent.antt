@@ -52,20 +52,20 @@ module _ {S : Type 0} (store : S → Store) where
     event_leads e takes {y} {t} {w} leads looked = one_leads store call e y t w leads looked (λ m s. has_room i e takes m)
 
     -- and answers what its line answers
-    pub answers : (e : line_event.Event) (P : line_event.Answer → Type 0) → ((others : List Owned) (l : machine.Line) → line.Stands x (store card.shelf) others l → P (lines.answer (config_of x) e l))
+    pub answers : (e : line_event.Event) (P : line_event.Answer → Type 0) → ((others : List Owned) (l : machine.Line) → line.LineStands x (store card.shelf) others l → P (lines.answer (config_of x) e l))
         → (m : Card) → FrameStands store self m → wants_room (at i e) m ≡ false → P (answer (at i e) m)
     answers e P says m s room = subst P (sym (answer_served i e m room)) (one_holds store call (λ c l. P (lines.answer c e l)) says m s)
 
-    pub event_says : (e : line_event.Event) → TakesNoSlot e → (P : line_event.Answer → Type 0) → ((others : List Owned) (l : machine.Line) → line.Stands x (store card.shelf) others l → P (lines.answer (config_of x) e l))
+    pub event_says : (e : line_event.Event) → TakesNoSlot e → (P : line_event.Answer → Type 0) → ((others : List Owned) (l : machine.Line) → line.LineStands x (store card.shelf) others l → P (lines.answer (config_of x) e l))
         → (m : Card) → FrameStands store self m → P (answer (at i e) m)
     event_says e takes P says m s = answers e P says m s (has_room i e takes m)
 
-    pub event_told : (e : line_event.Event) → TakesNoSlot e → {r : line_event.Answer} → ((others : List Owned) (l : machine.Line) → line.Stands x (store card.shelf) others l → r ≡ lines.answer (config_of x) e l)
+    pub event_told : (e : line_event.Event) → TakesNoSlot e → {r : line_event.Answer} → ((others : List Owned) (l : machine.Line) → line.LineStands x (store card.shelf) others l → r ≡ lines.answer (config_of x) e l)
         → (m : Card) → FrameStands store self m → r ≡ answer (at i e) m
     event_told e takes {r} told = event_says e takes (λ a. r ≡ a) told
 
     -- What is heard, if anything is, it serves so too.
-    pub heard_told : (o : Option stream.Event) {r : line_event.Answer} → ((others : List Owned) (l : machine.Line) → line.Stands x (store card.shelf) others l → r ≡ line.answer_if_heard (config_of x) o l)
+    pub heard_told : (o : Option stream.Event) {r : line_event.Answer} → ((others : List Owned) (l : machine.Line) → line.LineStands x (store card.shelf) others l → r ≡ line.answer_if_heard (config_of x) o l)
         → IfSome o (λ e. (m : Card) → FrameStands store self m → r ≡ answer (at i (line_event.hears e)) m)
     heard_told None says = tt
     heard_told (Some e) says = event_told (line_event.hears e) (heard_takes e) says
@@ -82,7 +82,7 @@ module _ {S : Type 0} (store : S → Store) where
 
     -- the line refuses by what the card holds
     pub refusal_is : (r : Request) (slots : ℕ) (o : Option Refusal) → slots ≡ card.config.slots
-        → ((others : List Owned) (l : machine.Line) → line.Stands x (store card.shelf) others l → refusal (config_of x) (nat_le slots (used_slots (store card.shelf))) r l ≡ o)
+        → ((others : List Owned) (l : machine.Line) → line.LineStands x (store card.shelf) others l → refusal (config_of x) (nat_le slots (used_slots (store card.shelf))) r l ≡ o)
         → (m : Card) → FrameStands store self m → refusal m.config (is_full m) r (line_at i m) ≡ o
     refusal_is r slots o is says m s =
         let (most, taken) = free card self call.same m s slots is in
@@ -92,7 +92,7 @@ module _ {S : Type 0} (store : S → Store) where
 
     -- and has room by what it leaves free
     pub room_is : (service : Service) (tei slots : ℕ) (r : Result Room Refusal) → slots ≡ card.config.slots
-        → ((others : List Owned) (l : machine.Line) → line.Stands x (store card.shelf) others l → r ≡ room_in (config_of x) (slots - used_slots (store card.shelf)) service tei l)
+        → ((others : List Owned) (l : machine.Line) → line.LineStands x (store card.shelf) others l → r ≡ room_in (config_of x) (slots - used_slots (store card.shelf)) service tei l)
         → (m : Card) → FrameStands store self m → r ≡ room i service tei m
     room_is service tei slots r is says m s =
         let (most, taken) = free card self call.same m s slots is in
@@ -101,7 +101,7 @@ module _ {S : Type 0} (store : S → Store) where
         ∙ ap (λ n. room_in m.config (m.config.slots - n) service tei (line_at i m)) taken
 
     -- the state of a link is that of its line's
-    pub state_is : (service : Service) (tei : ℕ) (r : Option ℕ) → ((others : List Owned) (l : machine.Line) → line.Stands x (store card.shelf) others l → r ≡ machine.state_of service tei l)
+    pub state_is : (service : Service) (tei : ℕ) (r : Option ℕ) → ((others : List Owned) (l : machine.Line) → line.LineStands x (store card.shelf) others l → r ≡ machine.state_of service tei l)
         → (m : Card) → FrameStands store self m → r ≡ state i service tei m
     state_is service tei r is m s =
         one_says store call (λ c l. machine.state_of service tei l) r is m s
@@ -116,12 +116,12 @@ refuses_so number service tei m (Err why) is = tt
 -- A request, as a line answers it to a card: refused, where the table has a row for it, and else accepted.
 pub record Requested {S : Type 0} (store : S → Store) (r : Request) (card : Held S) (i slots : ℕ) (x : FrameLine) (result : Result Unit Refusal) (o : BareReport) (y : FrameLine) (t : S) (w : Marks) : Type 0 where
   pub most : slots ≡ card.config.slots
-  pub refused : IfErr result (λ why. (others : List Owned) (l : machine.Line) → line.Stands x (store card.shelf) others l → refusal (config_of x) (nat_le slots (used_slots (store card.shelf))) r l ≡ Some why)
-  pub accepted : OnOk result ((others : List Owned) (l : machine.Line) → line.Stands x (store card.shelf) others l → refusal (config_of x) (nat_le slots (used_slots (store card.shelf))) r l ≡ None)
+  pub refused : IfErr result (λ why. (others : List Owned) (l : machine.Line) → line.LineStands x (store card.shelf) others l → refusal (config_of x) (nat_le slots (used_slots (store card.shelf))) r l ≡ Some why)
+  pub accepted : OnOk result ((others : List Owned) (l : machine.Line) → line.LineStands x (store card.shelf) others l → refusal (config_of x) (nat_le slots (used_slots (store card.shelf))) r l ≡ None)
   pub unchanged : OnErr result (y ≡ x)
   pub kept : OnErr result (t ≡ card.shelf)
   pub unmarked : OnErr result (w ≡ card.waiting)
-  pub told : OnOk result ((others : List Owned) (l : machine.Line) → line.Stands x (store card.shelf) others l → line_event.told (told_beside None o) ≡ lines.answer (config_of x) (line_event.request r) l)
+  pub told : OnOk result ((others : List Owned) (l : machine.Line) → line.LineStands x (store card.shelf) others l → line_event.told (told_beside None o) ≡ lines.answer (config_of x) (line_event.request r) l)
   pub leads : OnOk result (line.Leads (line_event.request r) x (store card.shelf) y (store t))
   pub looked : OnOk result (Looked i card.waiting y w)
 

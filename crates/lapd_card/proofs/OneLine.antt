@@ -25,8 +25,8 @@ module _ {S : Type 0} (store : S → Store) where
   pub record Focused (c : Config) (lines : List FrameLine) (s : Store) (ms : List machine.Line) (i : ℕ) (x : FrameLine) : Type 0 where
     pub config : config_of x ≡ c
     pub rest : List Owned
-    pub stands : line.Stands x s rest (get_or ms i (machine.fresh_line c))
-    pub back : (t : Store) (y : FrameLine) (l : machine.Line) → SameLimits s t → config_of y ≡ config_of x → line.Stands y t rest l → LinesStand c (set lines i y) t (set ms i l)
+    pub stands : line.LineStands x s rest (get_or ms i (machine.fresh_line c))
+    pub back : (t : Store) (y : FrameLine) (l : machine.Line) → SameLimits s t → config_of y ≡ config_of x → line.LineStands y t rest l → LinesStand c (set lines i y) t (set ms i l)
 
   focused : (c : Config) (lines : List FrameLine) (s : Store) (ms : List machine.Line) (i : ℕ) (x : FrameLine) → i < length lines → x ≡ get_or lines i x → LinesStand c lines s ms → Focused c lines s ms i x
   focused c lines s ms i x within is stand =
@@ -42,7 +42,7 @@ module _ {S : Type 0} (store : S → Store) where
         back = put_back l within_ms focus;
       }
     where
-      put_back : (m : machine.Line) → i < length ms → (focus : FocusPair owned (IsFit c) s lines ms i x m []) → (t : Store) (y : FrameLine) (l : machine.Line) → SameLimits s t → config_of y ≡ config_of x → line.Stands y t focus.rest l → LinesStand c (set lines i y) t (set ms i l)
+      put_back : (m : machine.Line) → i < length ms → (focus : FocusPair owned (IsFit c) s lines ms i x m []) → (t : Store) (y : FrameLine) (l : machine.Line) → SameLimits s t → config_of y ≡ config_of x → line.LineStands y t focus.rest l → LinesStand c (set lines i y) t (set ms i l)
       put_back m within_ms focus t y l limits config stands =
           let both = focus.back t y l (record { config = config ∙ focus.holds.config; store = t; others = focus.rest; stands = stands }) (held_of y t focus.rest l stands) in
           record {
@@ -85,7 +85,7 @@ module _ {S : Type 0} (store : S → Store) where
         (subst (λ c. LinesStand c card.lines (store card.shelf) m.lines) (sym s.config) s.lines)
 
     -- it stands for a line of a machine
-    pub one_serves : (others : List Owned) × (l : machine.Line) × line.Stands x (store card.shelf) others l
+    pub one_serves : (others : List Owned) × (l : machine.Line) × line.LineStands x (store card.shelf) others l
     one_serves =
         let (m, s) = call.past in
         let focus = focused_at m (subst (λ c. FrameStands store c m) call.same s) in
@@ -99,13 +99,13 @@ module _ {S : Type 0} (store : S → Store) where
         (focused_at m stood).config ∙ stood.config
 
     -- what is said of every past of the line is said of the line of the machine
-    pub one_holds : (P : Config → machine.Line → Type 0) → ((others : List Owned) (l : machine.Line) → line.Stands x (store card.shelf) others l → P (config_of x) l)
+    pub one_holds : (P : Config → machine.Line → Type 0) → ((others : List Owned) (l : machine.Line) → line.LineStands x (store card.shelf) others l → P (config_of x) l)
         → (m : Card) → FrameStands store self m → P m.config (line_at i m)
     one_holds P holds m s =
         let focus = focused_at m s in
         subst (λ d. P d (line_at i m)) focus.config (holds focus.rest (line_at i m) focus.stands)
 
-    pub one_says : {X : Type 0} (f : Config → machine.Line → X) (r : X) → ((others : List Owned) (l : machine.Line) → line.Stands x (store card.shelf) others l → r ≡ f (config_of x) l)
+    pub one_says : {X : Type 0} (f : Config → machine.Line → X) (r : X) → ((others : List Owned) (l : machine.Line) → line.LineStands x (store card.shelf) others l → r ≡ f (config_of x) l)
         → (m : Card) → FrameStands store self m → r ≡ f m.config (line_at i m)
     one_says f r says = one_holds (λ c l. r ≡ f c l) says
 
@@ -137,7 +137,7 @@ module _ {S : Type 0} (store : S → Store) where
             lines = subst (λ n. LinesStand card.config (set card.lines i y) (store t) n.lines) (sym is)
                 (subst (λ c. LinesStand c (set card.lines i y) (store t) (set m.lines i (lines.after m.config e (line_at i m)))) own.config
                 (focus.back (store t) y _ leads.limits leads.config
-                (subst (λ d. line.Stands y (store t) focus.rest (lines.after d e (line_at i m))) focus.config stands)));
+                (subst (λ d. line.LineStands y (store t) focus.rest (lines.after d e (line_at i m))) focus.config stands)));
             slots = subst (λ n. card.config.slots ≤ n) (sym leads.limits.slots) own.slots;
             waiting = subst (λ n. AreMarked w (waits_on n)) (sym is)
                 (waiting_set i m l looked.told card.waiting w within (omega (arith, within, (reached-sound m s.reached).count)) told looked.sets own.waiting);

@@ -32,7 +32,7 @@ use Rattle.lapd_card.specs.Drive.{CostsAs, IsPriced}
 use Rattle.lapd_card.specs.FrameCard as frame_card
 use Rattle.lapd_card.specs.FrameStands as frame
 use Rattle.lapd_card.specs.FrameStands.{FrameStands}
-use Rattle.lapd_card.specs.Stands.{Stands, Leads}
+use Rattle.lapd_card.specs.Stands.{OctetCardStands, Leads}
 use Rattle.lapd_card.proofs.OnePort.{Called, port_holds, gone_on, with_config, reached-after}
 
 -- ---- what an event costs
@@ -97,11 +97,11 @@ module _ {S : Type 0} (store : S → Store) {card : Held S} {i : ℕ} {x : Port}
     stays : (f : frame_card.Held S) (h : Option stream.Event) → LeadsIfHeard store i h card.frames f → f.config ≡ card.frames.config
     stays f h same = grind arith
 
-    frames_stand : (f : frame_card.Held S) (h : Option stream.Event) → LeadsIfHeard store i h card.frames f → (m : OctetCard) → Stands store card m
+    frames_stand : (f : frame_card.Held S) (h : Option stream.Event) → LeadsIfHeard store i h card.frames f → (m : OctetCard) → OctetCardStands store card m
         → FrameStands store f (option_map_or (card_after m.card) (heard_at i h) m.card)
     frames_stand f h same m s = grind arith
 
-    frames_count : (f : frame_card.Held S) (h : Option stream.Event) → LeadsIfHeard store i h card.frames f → (m : OctetCard) → Stands store card m
+    frames_count : (f : frame_card.Held S) (h : Option stream.Event) → LeadsIfHeard store i h card.frames f → (m : OctetCard) → OctetCardStands store card m
         → counters_in f.lines ≡ all_counted (counters_in card.frames.lines) (option_to_list (option_map (frame_moment m) (heard_at i h)))
     frames_count f h same m s = grind arith
 
@@ -121,11 +121,11 @@ module _ {S : Type 0} (store : S → Store) {card : Held S} {i : ℕ} {x : Port}
           ∙ ap (λ h. all_counted (counters_in card.frames.lines) (option_to_list (option_map (frame_moment m) (heard_at i h)))) (sym is);
     }
 
-    tells : (h : Option stream.Event) (bare : Option BareReport) → Tells store i h card.frames bare → (m : OctetCard) → Stands store card m
+    tells : (h : Option stream.Event) (bare : Option BareReport) → Tells store i h card.frames bare → (m : OctetCard) → OctetCardStands store card m
         → port.told (told_if (octets_of h) bare) ≡ option_map_or answer_of (option_map (answer_to m.card) (heard_at i h)) (port.told line.nothing)
     tells h bare none m s = grind arith
 
-    pub octet_told : (bare : Option BareReport) → Tells store i (latest_in y) card.frames bare → (m : OctetCard) → Stands store card m
+    pub octet_told : (bare : Option BareReport) → Tells store i (latest_in y) card.frames bare → (m : OctetCard) → OctetCardStands store card m
         → port.told (told_if (latest_frame y) bare) ≡ answer (at i (port.octet value)) m
     unfolding answer meant
     octet_told bare says m s =
@@ -166,7 +166,7 @@ module _ {e : port.Event} {f : line.Event} (on : IsPassedOn e f) where
     config = leads.config;
     stands = λ m s.
         let is = passed_after i m in
-        subst (Stands store (record { frames = g; ports = card.ports })) (sym is)
+        subst (OctetCardStands store (record { frames = g; ports = card.ports })) (sym is)
         (record {
           frames = leads.stands m.card s.frames;
           ports = with_config leads.config s.ports;
@@ -178,7 +178,7 @@ module _ {e : port.Event} {f : line.Event} (on : IsPassedOn e f) where
   }
 
   pub passed_told : {S : Type 0} (store : S → Store) {card : Held S} (i : ℕ) {r : line.Answer} → ((m : Card) → FrameStands store card.frames m → r ≡ machine.answer (frames.at i f) m)
-      → (m : OctetCard) → Stands store card m → answer_of r ≡ answer (at i e) m
+      → (m : OctetCard) → OctetCardStands store card m → answer_of r ≡ answer (at i e) m
   passed_told store i says m s = ap answer_of (says m.card s.frames) ∙ sym (passed_answer i m)
 
 -- what is refused is answered so
@@ -249,8 +249,8 @@ Gives mid taken_one pulled new =
 
 module _ {S : Type 0} (store : S → Store) {card : Held S} {i : ℕ} {x : Port} (call : Called store card i x) where
   -- no frame is taken
-  module _ {pulled : Pulled} {y : Port} (gives : Gives x None pulled y) (nothing : (m : OctetCard) → Stands store card m → frame_begun (said (at i port.pull) m) ≡ None) where
-    pulls_none : (m : OctetCard) → Stands store card m → Pulls m.card.config.n201 (port_at i m) (said (at i port.pull) m) pulled y
+  module _ {pulled : Pulled} {y : Port} (gives : Gives x None pulled y) (nothing : (m : OctetCard) → OctetCardStands store card m → frame_begun (said (at i port.pull) m) ≡ None) where
+    pulls_none : (m : OctetCard) → OctetCardStands store card m → Pulls m.card.config.n201 (port_at i m) (said (at i port.pull) m) pulled y
     unfolding meant
     pulls_none m s =
         let there = port_holds store call m s in
@@ -259,7 +259,7 @@ module _ {S : Type 0} (store : S → Store) {card : Held S} {i : ℕ} {x : Port}
         (record { text = port_text there; due = said_if_due m.card i (is_due (port_at i m)); orders = ap (option_map port.orders_with) (sym none) })
         (subst (λ o. PortStands m.card.config.n201 x (with_frame o (port_at i m))) (sym none) there)
 
-    pub none_told : (m : OctetCard) → Stands store card m → pulled_of pulled ≡ answer (at i port.pull) m
+    pub none_told : (m : OctetCard) → OctetCardStands store card m → pulled_of pulled ≡ answer (at i port.pull) m
     unfolding answer
     none_told m s = (pulls_none m s).told
 
@@ -278,17 +278,17 @@ module _ {S : Type 0} (store : S → Store) {card : Held S} {i : ℕ} {x : Port}
   module _ {f : frame_card.Held S} {mid y : Port} (taken_one : Option (ShortList Order)) {pulled : Pulled} (few : length x.framer.left < 8)
       (loaded : (m : Card) → FrameStands store card.frames m → IsLoaded (machine.answer (frames.at i line.next) m) (orders_taken taken_one) x mid)
       (leads : frame.Leads store (frames.at i line.next) card.frames f) (gives : Gives mid taken_one pulled y) where
-    due : (m : OctetCard) → Stands store card m → is_due (port_at i m) ≡ true
+    due : (m : OctetCard) → OctetCardStands store card m → is_due (port_at i m) ≡ true
     due m s = due_is (port_holds store call m s) ∙ lt-ltb (length x.framer.left) 8 few
 
-    pulls_next : (m : OctetCard) → Stands store card m → Pulls m.card.config.n201 (port_at i m) (Some (machine.answer (frames.at i line.next) m.card)) pulled y
+    pulls_next : (m : OctetCard) → OctetCardStands store card m → Pulls m.card.config.n201 (port_at i m) (Some (machine.answer (frames.at i line.next) m.card)) pulled y
     pulls_next m s =
         let there = port_holds store call m s in
         let one = loaded m.card s.frames in
         gives m.card.config.n201 (port_at i m) (Some (machine.answer (frames.at i line.next) m.card))
         (record { text = port_text there; due = sym (due m s); orders = one.orders }) (one.stands m.card.config.n201 (port_at i m) there)
 
-    pub next_told : (m : OctetCard) → Stands store card m → pulled_of pulled ≡ answer (at i port.pull) m
+    pub next_told : (m : OctetCard) → OctetCardStands store card m → pulled_of pulled ≡ answer (at i port.pull) m
     unfolding answer meant
     next_told m s = grind (arith, pulls_next, due)
 

@@ -11,7 +11,7 @@ pub use Rattle.model_card.proofs.OfPorts.Reaching.{reached_after as reached-afte
 use Rattle.lapd_card.specs.Card.{Held, line_count}
 use Rattle.lapd_card.specs.FrameCard as frame_card
 use Rattle.lapd_card.specs.FrameStands.{FrameStands}
-use Rattle.lapd_card.specs.Stands.{Stands, HasPast, Leads}
+use Rattle.lapd_card.specs.Stands.{OctetCardStands, HasPast, Leads}
 
 -- ---- the ports
 
@@ -81,11 +81,11 @@ module _ {S : Type 0} (store : S → Store) where
     pub within : i < line_count card
     pub is : x ≡ get_or card.ports i x
 
-  at_lines : {card : Held S} {i : ℕ} (m : OctetCard) → Stands store card m → i < line_count card → i < m.card.config.lines
+  at_lines : {card : Held S} {i : ℕ} (m : OctetCard) → OctetCardStands store card m → i < line_count card → i < m.card.config.lines
   at_lines {i = i} m s within = subst (λ c. i < c.lines) (sym s.frames.config) within
 
   -- it stands for that of the machine
-  pub port_holds : {card : Held S} {i : ℕ} {x : Port} → Called card i x → (m : OctetCard) → Stands store card m → PortStands m.card.config.n201 x (port_at i m)
+  pub port_holds : {card : Held S} {i : ℕ} {x : Port} → Called card i x → (m : OctetCard) → OctetCardStands store card m → PortStands m.card.config.n201 x (port_at i m)
   port_holds {card} {i} {x} call m s =
       subst (λ c. PortStands c.n201 x (port_at i m)) (sym s.frames.config)
       (subst (λ y. PortStands card.frames.config.n201 y (port_at i m)) (sym call.is)
@@ -98,8 +98,8 @@ module _ {S : Type 0} (store : S → Store) where
 
   -- where the card of frames and one port have gone on, the card has
   pub gone_on : {card : Held S} {i : ℕ} (e : port.Event) {f : frame_card.Held S} {y : Port} → i < line_count card → f.config ≡ card.frames.config
-      → (m : OctetCard) → Stands store card m → FrameStands store f (after (at i e) m).card → PortStands m.card.config.n201 y (port.after e (said (at i e) m) (port_at i m))
-      → Stands store (record { frames = f; ports = set card.ports i y }) (after (at i e) m)
+      → (m : OctetCard) → OctetCardStands store card m → FrameStands store f (after (at i e) m).card → PortStands m.card.config.n201 y (port.after e (said (at i e) m) (port_at i m))
+      → OctetCardStands store (record { frames = f; ports = set card.ports i y }) (after (at i e) m)
   unfolding after
   gone_on {card} {i} e {f} {y} within config m s frames one = record {
     frames = frames;
@@ -114,13 +114,13 @@ module _ {S : Type 0} (store : S → Store) where
   pub seen : {e : Event} {card self new : Held S} → card ≡ self → Leads store e card new → Leads store e self new
   seen {e} {new = new} same leads = subst (λ c. Leads store e c new) same leads
 
-  pub stood : {card self : Held S} → card ≡ self → (m : OctetCard) → Stands store self m → Stands store card m
-  stood same m s = subst (λ c. Stands store c m) (sym same) s
+  pub stood : {card self : Held S} → card ≡ self → (m : OctetCard) → OctetCardStands store self m → OctetCardStands store card m
+  stood same m s = subst (λ c. OctetCardStands store c m) (sym same) s
 
   pub put_twice : {e : Event} {card : Held S} {f : frame_card.Held S} (ports : List Port) (i : ℕ) (x y : Port) → Leads store e card (record { frames = f; ports = set ports i y })
       → Leads store e card (record { frames = f; ports = set (set ports i x) i y })
   put_twice {e} {card} {f} ports i x y leads = subst (λ ps. Leads store e card (record { frames = f; ports = ps })) (sym (set-set ports i x y)) leads
 
   -- what holds of the card of frames inside
-  pub inside : {card self : Held S} → card ≡ self → {P : Card → Type 0} → ((m : Card) → FrameStands store card.frames m → P m) → (m : OctetCard) → Stands store self m → P m.card
+  pub inside : {card self : Held S} → card ≡ self → {P : Card → Type 0} → ((m : Card) → FrameStands store card.frames m → P m) → (m : OctetCard) → OctetCardStands store self m → P m.card
   inside same holds m s = holds m.card (stood same m s).frames

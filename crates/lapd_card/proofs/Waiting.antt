@@ -29,7 +29,7 @@ use Rattle.lapd_store.specs.Store.{Store}
 -- A line was looked at after a call, and is marked if a frame waits on it.
 pub record Looked (i : ℕ) (old : Marks) (y : FrameLine) (new : Marks) : Type 0 where
   pub told : Bool
-  pub says : (s : Store) (others : List Owned) (l : machine.Line) → line.Stands y s others l → told ≡ lines.has_next (config_of y) l
+  pub says : (s : Store) (others : List Owned) (l : machine.Line) → line.LineStands y s others l → told ≡ lines.has_next (config_of y) l
   pub sets : Sets i told old new
 
 -- a mark says whether its test holds

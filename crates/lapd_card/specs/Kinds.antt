@@ -15,7 +15,7 @@ use Rattle.lapd_card.specs.Card as octets
 use Rattle.lapd_card.specs.Counted.{counters_in}
 use Rattle.lapd_card.specs.FrameCard as frames
 use Rattle.lapd_card.specs.FrameStands.{FrameStands}
-use Rattle.lapd_card.specs.Stands.{Stands}
+use Rattle.lapd_card.specs.Stands.{OctetCardStands}
 use Rattle.lapd_card.specs.declared.kinds.AnyCard.{AnyCard}
 use Rattle.lapd_card.specs.declared.kinds.AnyCard.TheVariants.{Octets, Frames}
 use Rattle.lapd_card.specs.declared.kinds.CardKind.{CardKind}
@@ -68,7 +68,7 @@ stored (alone m) = of_frames.stored m
 
 -- A card of octets stands for a machine; one of frames; one of either kind.
 abbrev pub CardStands : octets.Held Store → OctetCard → Type 0
-CardStands c m = Stands shelf_of c m
+CardStands c m = OctetCardStands shelf_of c m
 
 abbrev pub FrameCardStands : frames.Held Store → Card → Type 0
 FrameCardStands c m = FrameStands shelf_of c m

@@ -15,7 +15,7 @@ pub record IsFit (c : Config) (p : FrameLine × machine.Line) : Type 0 where
   pub config : config_of p.0 ≡ c
   pub store : Store
   pub others : List Owned
-  pub stands : line.Stands p.0 store others p.1
+  pub stands : line.LineStands p.0 store others p.1
 
 -- The slots that it owns there, with their contents.
 abbrev pub owned : FrameLine × machine.Line → List Owned
@@ -32,7 +32,7 @@ pub record LinesStand (c : Config) (lines : List FrameLine) (store : Store) (ms 
 -- Lines as they begin.
 pub record IsFresh (c : Config) (l : FrameLine) : Type 0 where
   pub config : config_of l ≡ c
-  pub stands : (store : Store) (others : List Owned) → c.n201 ≤ store.width → Holds store others → line.Stands l store others (machine.fresh_line c)
+  pub stands : (store : Store) (others : List Owned) → c.n201 ≤ store.width → Holds store others → line.LineStands l store others (machine.fresh_line c)
   pub counters : l.counters ≡ none_counted
 
 pub record AreFresh (c : Config) (lines : List FrameLine) : Type 0 where

@@ -15,14 +15,14 @@ use Rattle.lapd_store.specs.Store.{Store}
 
 -- A card of octets stands for a machine: its card of frames does for the one inside, and its ports do for the machine's; and
 -- the machine is one that a list of events reaches.
-pub record Stands {S : Type 0} (store : S → Store) (card : Held S) (m : machine.OctetCard) : Type 0 where
+pub record OctetCardStands {S : Type 0} (store : S → Store) (card : Held S) (m : machine.OctetCard) : Type 0 where
   pub frames : FrameStands store card.frames m.card
   pub ports : PortsStand card.frames.config.n201 card.ports m.ports
   pub reached : IsReached m
 
 -- There is a machine for which it stands.
 abbrev pub HasPast : {S : Type 0} → (S → Store) → Held S → Type 0
-HasPast store card = (m : machine.OctetCard) × Stands store card m
+HasPast store card = (m : machine.OctetCard) × OctetCardStands store card m
 
 -- What an event at a machine means to the card of frames is counted there; what means nothing is not.
 abbrev pub meaning_counted : List Counters → machine.OctetCard → Event → List Counters
@@ -32,5 +32,5 @@ meaning_counted all m event = all_counted all (meant_in (record { card = m; even
 -- after the event; and what it means is counted.
 pub record Leads {S : Type 0} (store : S → Store) (event : Event) (old new : Held S) : Type 0 where
   pub config : new.frames.config ≡ old.frames.config
-  pub stands : (m : machine.OctetCard) → Stands store old m → Stands store new (after event m)
-  pub counted : (m : machine.OctetCard) → Stands store old m → counters_in new.frames.lines ≡ meaning_counted (counters_in old.frames.lines) m event
+  pub stands : (m : machine.OctetCard) → OctetCardStands store old m → OctetCardStands store new (after event m)
+  pub counted : (m : machine.OctetCard) → OctetCardStands store old m → counters_in new.frames.lines ≡ meaning_counted (counters_in old.frames.lines) m event

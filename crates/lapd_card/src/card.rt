@@ -50,7 +50,7 @@ impl<S: Shelf> Card<S> {
     ghost use Rattle.lapd_card.specs.contracts.card.Card.{the_row};
     ghost use Rattle.lapd_card.specs.Card.{line_count};
     ghost use Rattle.lapd_card.specs.Reply.{answer_of_result};
-    ghost use Rattle.lapd_card.specs.Stands.{Stands, Leads};
+    ghost use Rattle.lapd_card.specs.Stands.{OctetCardStands, Leads};
 
     /// The card of frames inside: what is asked of neither kind of card alone, as [`FrameCard::room`] and
     /// [`FrameCard::counters`]. A frame is counted as it is heard when its closing flag comes, and one that is sent when a
@@ -72,13 +72,13 @@ impl<S: Shelf> Card<S> {
     /// lent until the card's next event.
     pub fn octet(&mut self, line: usize, octet: u8) -> Report<'_>
         requires { line < line_count self.old }
-        ensures told { (m : machine.OctetCard) → Stands S.store self.old m
+        ensures told { (m : machine.OctetCard) → OctetCardStands S.store self.old m
             → told (report_told result) ≡ answer (at line (port.octet octet)) m }
         // What may be sent rises by two at most for the frame that it ends, and by k more where that is an REJ with a
         // valid N(R); else by nothing.
-        ensures frames { (m : machine.OctetCard) → Stands S.store self.old m → IsPriced (at line (port.octet octet)) m }
+        ensures frames { (m : machine.OctetCard) → OctetCardStands S.store self.old m → IsPriced (at line (port.octet octet)) m }
         // Where it names a cause, why the octet or its frame was dropped, what may be sent stays as it is.
-        ensures dropped { (m : machine.OctetCard) → Stands S.store self.old m → IsSome result.cause
+        ensures dropped { (m : machine.OctetCard) → OctetCardStands S.store self.old m → IsSome result.cause
             → may_send (after (at line (port.octet octet)) m).card ≡ may_send m.card }
         ensures* after { sem 𝓛 (Rests (the_row S.row S.Shelf) self.entry (λ v. Leads S.store (at line (port.octet octet)) self.old v)) }
     {
@@ -91,10 +91,10 @@ impl<S: Shelf> Card<S> {
     #[inline(always)]
     pub fn hear(&mut self, line: usize, octet: u8) -> Option<BareReport>
         requires { line < line_count self.old }
-        ensures told { (m : machine.OctetCard) → Stands S.store self.old m
+        ensures told { (m : machine.OctetCard) → OctetCardStands S.store self.old m
             → told (told_if_at self.new.ports line result) ≡ answer (at line (port.octet octet)) m }
         ensures after { Leads S.store (at line (port.octet octet)) self.old self.new }
-        ensures frames { (m : machine.OctetCard) → Stands S.store self.old m → IsPriced (at line (port.octet octet)) m }
+        ensures frames { (m : machine.OctetCard) → OctetCardStands S.store self.old m → IsPriced (at line (port.octet octet)) m }
     {
         match self.ports[line].octet(octet) {
             Ended::Nothing => None,
@@ -129,13 +129,13 @@ impl<S: Shelf> Card<S> {
     /// A timer of a line expired. One that does not run has no effect, and nothing is reported.
     pub fn expire(&mut self, line: usize, timer: Timer) -> Report<'static>
         requires { line < line_count self.old }
-        ensures told { (m : machine.OctetCard) → Stands S.store self.old m
+        ensures told { (m : machine.OctetCard) → OctetCardStands S.store self.old m
             → told (report_told result) ≡ answer (at line (port.expiry timer)) m }
         ensures after { Leads S.store (at line (port.expiry timer)) self.old self.new }
         // It starts one timer at most, so applying the orders of what falls due comes to an end.
         ensures starts { starts (report_told result).orders ≤ 1 }
         // What may be sent rises by k + 1 where the timer was running, else by nothing.
-        ensures frames { (m : machine.OctetCard) → Stands S.store self.old m → RisesByExpiry line timer m.card }
+        ensures frames { (m : machine.OctetCard) → OctetCardStands S.store self.old m → RisesByExpiry line timer m.card }
     {
         let mut bare = BareReport::nothing();
         self.frames.expire(line, timer, &mut bare);
@@ -150,16 +150,16 @@ impl<S: Shelf> Card<S> {
     /// where the card holds as many contents as its configuration has slots.
     pub fn request(&mut self, line: usize, request: Request<'_>) -> Result<Report<'static>, Refusal>
         requires { line < line_count self.old }
-        ensures refused { IfErr result (λ why. (m : machine.OctetCard) → Stands S.store self.old m
+        ensures refused { IfErr result (λ why. (m : machine.OctetCard) → OctetCardStands S.store self.old m
             → refusal m.card.config (frames.is_full m.card) (request_of request.entry) (frames.line_at line m.card) ≡ Some why) }
         ensures unchanged { OnErr result (self.new ≡ self.old) }
-        ensures accepted { IfOk result (λ report. (m : machine.OctetCard) → Stands S.store self.old m
+        ensures accepted { IfOk result (λ report. (m : machine.OctetCard) → OctetCardStands S.store self.old m
             → refusal m.card.config (frames.is_full m.card) (request_of request.entry) (frames.line_at line m.card) ≡ None) }
-        ensures told { (m : machine.OctetCard) → Stands S.store self.old m
+        ensures told { (m : machine.OctetCard) → OctetCardStands S.store self.old m
             → answer_of_result result ≡ answer (at line (port.request (request_of request.entry))) m }
         ensures after { Leads S.store (at line (port.request (request_of request.entry))) self.old self.new }
         // What may be sent rises by one where it is accepted, else by nothing.
-        ensures frames { (m : machine.OctetCard) → Stands S.store self.old m → RisesByRequest line (request_of request.entry) m.card }
+        ensures frames { (m : machine.OctetCard) → OctetCardStands S.store self.old m → RisesByRequest line (request_of request.entry) m.card }
     {
         let mut bare = BareReport::nothing();
         self.frames.request(line, request, &mut bare)?;
@@ -171,10 +171,10 @@ impl<S: Shelf> Card<S> {
     #[inline(always)]
     pub fn pull(&mut self, line: usize) -> Pulled
         requires { line < line_count self.old }
-        ensures told { (m : machine.OctetCard) → Stands S.store self.old m → pulled_of result ≡ answer (at line port.pull) m }
+        ensures told { (m : machine.OctetCard) → OctetCardStands S.store self.old m → pulled_of result ≡ answer (at line port.pull) m }
         ensures after { Leads S.store (at line port.pull) self.old self.new }
         // Where it begins a frame, what may be sent falls by one or two; else it stays.
-        ensures frames { (m : machine.OctetCard) → Stands S.store self.old m → IsPriced (at line port.pull) m }
+        ensures frames { (m : machine.OctetCard) → OctetCardStands S.store self.old m → IsPriced (at line port.pull) m }
     {
         if !self.ports[line].is_due() {
             return self.ports[line].give(None);
@@ -191,7 +191,7 @@ impl<S: Shelf> Card<S> {
     fn pull_next(&mut self, line: usize) -> Pulled
         requires within { line < line_count self.old }
         requires few { IfSome (slice_get self.old.ports line) (λ port. length port.framer.left < 8) }
-        ensures told { (m : machine.OctetCard) → Stands S.store self.old m → pulled_of result ≡ answer (at line port.pull) m }
+        ensures told { (m : machine.OctetCard) → OctetCardStands S.store self.old m → pulled_of result ≡ answer (at line port.pull) m }
         ensures after { Leads S.store (at line port.pull) self.old self.new }
     {
         let orders = self.frames.load_next(line, &mut self.ports[line]);
@@ -201,7 +201,7 @@ impl<S: Shelf> Card<S> {
     /// The state of the link of a service with this TEI, by its number in Q.921: 4 to 8. None where the card has no such
     /// line, or the TEI is not on it.
     pub fn state(&self, line: usize, service: Service, tei: u8) -> Option<u8>
-        ensures { (m : machine.OctetCard) → Stands S.store self.now m → result ≡ frames.state line service tei m.card }
+        ensures { (m : machine.OctetCard) → OctetCardStands S.store self.now m → result ≡ frames.state line service tei m.card }
     {
         self.frames.state(line, service, tei)
     }
@@ -210,7 +210,7 @@ impl<S: Shelf> Card<S> {
     /// pull that has begun a frame it is that frame, until a pull begins another.
     pub fn begun(&self, line: usize) -> Option<Head>
         requires { line < line_count self.now }
-        ensures { (m : machine.OctetCard) → Stands S.store self.now m → result ≡ head_begun_at line m }
+        ensures { (m : machine.OctetCard) → OctetCardStands S.store self.now m → result ≡ head_begun_at line m }
     {
         self.ports[line].begun()
     }
@@ -219,7 +219,7 @@ impl<S: Shelf> Card<S> {
     /// none was heard yet. Of a frame that is too long to be kept, the length is N201 and five octets, whatever it was.
     pub fn latest_heard(&self, line: usize) -> Option<Head>
         requires { line < line_count self.now }
-        ensures { (m : machine.OctetCard) → Stands S.store self.now m → result ≡ head_heard_at line m }
+        ensures { (m : machine.OctetCard) → OctetCardStands S.store self.now m → result ≡ head_heard_at line m }
     {
         self.ports[line].heard()
     }

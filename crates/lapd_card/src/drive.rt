@@ -19,7 +19,7 @@ ghost use Rattle.lapd_card.specs.Card.{line_count};
 ghost use Rattle.lapd_card.specs.Counted.{counters_in};
 ghost use Rattle.lapd_card.specs.Drive.{line_of, events_of, RefusedByTheTable, IsTextual};
 ghost use Rattle.lapd_card.specs.Sink.{Hands, MissesNext, Taken, one_failure_more};
-ghost use Rattle.lapd_card.specs.Stands.{Stands, Leads};
+ghost use Rattle.lapd_card.specs.Stands.{OctetCardStands, Leads};
 
 use crate::card::Card;
 use crate::replies::Reply;
@@ -95,20 +95,20 @@ impl<S: Shelf> Card<S> {
         ensures config { self.new.frames.config ≡ self.old.frames.config }
 
         // All of them, where the sink took every reply.
-        ensures ran { OnOk result ((m : machine.OctetCard) → Stands S.store self.old m
-            → Stands S.store self.new (run m (events_of events.now)).card) }
-        ensures taken { OnOk result ((m : machine.OctetCard) → Stands S.store self.old m
+        ensures ran { OnOk result ((m : machine.OctetCard) → OctetCardStands S.store self.old m
+            → OctetCardStands S.store self.new (run m (events_of events.now)).card) }
+        ensures taken { OnOk result ((m : machine.OctetCard) → OctetCardStands S.store self.old m
             → Taken K.takes sink.old (run m (events_of events.now)).replies sink.new) }
-        ensures counters { OnOk result ((m : machine.OctetCard) → Stands S.store self.old m
+        ensures counters { OnOk result ((m : machine.OctetCard) → OctetCardStands S.store self.old m
             → counters_in self.new.frames.lines ≡ all_counted (counters_in self.old.frames.lines) (moments m.card (meant_all m (events_of events.now)))) }
 
         // Those up to the one whose reply it did not take.
-        ensures stopped { IfErr result (λ fault. (m : machine.OctetCard) → Stands S.store self.old m
-            → Stands S.store self.new (run m (take (fault.at + 1) (events_of events.now))).card) }
-        ensures taken_before { IfErr result (λ fault. (m : machine.OctetCard) → Stands S.store self.old m
+        ensures stopped { IfErr result (λ fault. (m : machine.OctetCard) → OctetCardStands S.store self.old m
+            → OctetCardStands S.store self.new (run m (take (fault.at + 1) (events_of events.now))).card) }
+        ensures taken_before { IfErr result (λ fault. (m : machine.OctetCard) → OctetCardStands S.store self.old m
             → MissesNext K.takes K.misses (run m (take fault.at (events_of events.now))).replies
             (run m (take (fault.at + 1) (events_of events.now))).replies sink.old sink.new) }
-        ensures counters_before { IfErr result (λ fault. (m : machine.OctetCard) → Stands S.store self.old m
+        ensures counters_before { IfErr result (λ fault. (m : machine.OctetCard) → OctetCardStands S.store self.old m
             → counters_in self.new.frames.lines ≡ all_counted (counters_in self.old.frames.lines) (moments m.card (meant_all m (take (fault.at + 1) (events_of events.now))))) }
 
         // The replies of `run` are the answers of `moments`, and its card is that of `after_all`: all below speaks of
@@ -118,35 +118,35 @@ impl<S: Shelf> Card<S> {
         ensures counters_add_up { CountersAreNumbers }
 
         // In every moment of the run of all events.
-        ensures by_event { (m : machine.OctetCard) → Stands S.store self.old m → ArePriced m.card (meant_all m (events_of events.now)) }
-        ensures drops { (m : machine.OctetCard) → Stands S.store self.old m → AreDropsWithoutCost m (events_of events.now) }
-        ensures without_effect { (m : machine.OctetCard) → Stands S.store self.old m
+        ensures by_event { (m : machine.OctetCard) → OctetCardStands S.store self.old m → ArePriced m.card (meant_all m (events_of events.now)) }
+        ensures drops { (m : machine.OctetCard) → OctetCardStands S.store self.old m → AreDropsWithoutCost m (events_of events.now) }
+        ensures without_effect { (m : machine.OctetCard) → OctetCardStands S.store self.old m
             → AreDropsWithoutEffect m (events_of events.now) }
 
         // After every front of the list, from every card or, where it says `fresh`, from one that has just begun.
-        ensures within_limit { (m : machine.OctetCard) (count : ℕ) → Stands S.store self.old m
+        ensures within_limit { (m : machine.OctetCard) (count : ℕ) → OctetCardStands S.store self.old m
             → IsWithinLimit m (take count (events_of events.now)) }
-        ensures amortised { (m : machine.OctetCard) (count : ℕ) → Stands S.store self.old m
+        ensures amortised { (m : machine.OctetCard) (count : ℕ) → OctetCardStands S.store self.old m
             → IsAmortised m.card (meant_all m (take count (events_of events.now))) }
-        ensures amortised_from_zero { (count : ℕ) → Stands S.store self.old (machine.fresh self.old.frames.config)
+        ensures amortised_from_zero { (count : ℕ) → OctetCardStands S.store self.old (machine.fresh self.old.frames.config)
             → IsAmortisedFromZero self.old.frames.config (meant_all (machine.fresh self.old.frames.config) (take count (events_of events.now))) }
-        ensures six_octets_a_frame { (count : ℕ) → Stands S.store self.old (machine.fresh self.old.frames.config)
+        ensures six_octets_a_frame { (count : ℕ) → OctetCardStands S.store self.old (machine.fresh self.old.frames.config)
             → HasSixOctetsAFrame self.old.frames.config (take count (events_of events.now)) }
-        ensures seven_octets_a_reject { (count : ℕ) → Stands S.store self.old (machine.fresh self.old.frames.config)
+        ensures seven_octets_a_reject { (count : ℕ) → OctetCardStands S.store self.old (machine.fresh self.old.frames.config)
             → HasSevenOctetsAReject self.old.frames.config (take count (events_of events.now)) }
-        ensures linear { (count : ℕ) → Stands S.store self.old (machine.fresh self.old.frames.config)
+        ensures linear { (count : ℕ) → OctetCardStands S.store self.old (machine.fresh self.old.frames.config)
             → IsLinear self.old.frames.config (take count (events_of events.now)) }
-        ensures isolated { (count : ℕ) → Stands S.store self.old (machine.fresh self.old.frames.config)
+        ensures isolated { (count : ℕ) → OctetCardStands S.store self.old (machine.fresh self.old.frames.config)
             → IsIsolated self.old.frames.config (take count (events_of events.now)) }
-        ensures never_full { (count : ℕ) → Stands S.store self.old (machine.fresh self.old.frames.config)
+        ensures never_full { (count : ℕ) → OctetCardStands S.store self.old (machine.fresh self.old.frames.config)
             → IsNeverFull self.old.frames.config (meant_all (machine.fresh self.old.frames.config) (take count (events_of events.now))) }
-        ensures numbered { (m : machine.OctetCard) (count : ℕ) → Stands S.store self.old m
+        ensures numbered { (m : machine.OctetCard) (count : ℕ) → OctetCardStands S.store self.old m
             → IsNumbered m.card (meant_all m (take count (events_of events.now))) }
-        ensures from_zero { (count : ℕ) → Stands S.store self.old (machine.fresh self.old.frames.config)
+        ensures from_zero { (count : ℕ) → OctetCardStands S.store self.old (machine.fresh self.old.frames.config)
             → IsNumberedFromZero self.old.frames.config (meant_all (machine.fresh self.old.frames.config) (take count (events_of events.now))) }
-        ensures codec { (m : machine.OctetCard) (count : ℕ) → Stands S.store self.old m
+        ensures codec { (m : machine.OctetCard) (count : ℕ) → OctetCardStands S.store self.old m
             → Refines m (take count (events_of events.now)) }
-        ensures textual { (m : machine.OctetCard) (count : ℕ) → Stands S.store self.old m
+        ensures textual { (m : machine.OctetCard) (count : ℕ) → OctetCardStands S.store self.old m
             → IsTextual m (take count (events_of events.now)) }
     {
         for (at, event) in events.iter().enumerate() {
@@ -161,7 +161,7 @@ impl<S: Shelf> Card<S> {
     fn answer<K: Sink>(&mut self, event: Event<'_>, sink: &mut K) -> Result<(), SinkFailed>
         requires { line_of event < line_count self.old }
         ensures leads { Leads S.store (event_of event.entry) self.old self.new }
-        ensures hands { Hands K.takes K.misses K.failures (Stands S.store self.old) (line_of event.entry)
+        ensures hands { Hands K.takes K.misses K.failures (OctetCardStands S.store self.old) (line_of event.entry)
             (answer (event_of event.entry)) sink.old sink.new result }
     {
         match event {
@@ -180,7 +180,7 @@ impl<S: Shelf> Card<S> {
     ) -> Result<(), SinkFailed>
         requires { line < line_count self.old }
         ensures leads { Leads S.store (at line (port.request (request_of request.entry))) self.old self.new }
-        ensures hands { Hands K.takes K.misses K.failures (Stands S.store self.old) line
+        ensures hands { Hands K.takes K.misses K.failures (OctetCardStands S.store self.old) line
             (answer (at line (port.request (request_of request.entry)))) sink.old sink.new result }
     {
         match self.request(line, request) {

@@ -93,9 +93,9 @@ impl<S: Shelf> FrameCard<S> {
         // What may be sent rises by two at most for the frame, and by k more where that is an REJ with a valid N(R).
         ensures frames { (m : machine.Card) → FrameStands S.store self.old m → RisesByHeard line (came self.old.config.n201 octets.now) m }
     {
-        let lane = &mut self.lines[line];
-        let is_quiet = lane.frame(octets, report, &mut self.shelf);
-        self.waiting.set(line, lane.has_next());
+        let frame_line = &mut self.lines[line];
+        let is_quiet = frame_line.frame(octets, report, &mut self.shelf);
+        self.waiting.set(line, frame_line.has_next());
         is_quiet
     }
 
@@ -123,9 +123,9 @@ impl<S: Shelf> FrameCard<S> {
             → told (told_beside None report.new) ≡ answer (at line (hears (stream.dropped (cause_of fault)))) m }
         ensures after { Leads S.store (at line (hears (stream.dropped (cause_of fault)))) self.old self.new }
     {
-        let lane = &mut self.lines[line];
-        lane.failed(fault, report);
-        self.waiting.set(line, lane.has_next());
+        let frame_line = &mut self.lines[line];
+        frame_line.failed(fault, report);
+        self.waiting.set(line, frame_line.has_next());
     }
 
     /// Takes what the port of a line has heard, and tells in the report what it led to.
@@ -139,9 +139,9 @@ impl<S: Shelf> FrameCard<S> {
             → told (told_in (octets_of (latest_in port.now)) report.new) ≡ answer (at line (hears e)) m) }
         ensures after { IfSome (latest_in port.now) (λ e. Leads S.store (at line (hears e)) self.old self.new) }
     {
-        let lane = &mut self.lines[line];
-        lane.heard(port.latest(), report, &mut self.shelf);
-        self.waiting.set(line, lane.has_next());
+        let frame_line = &mut self.lines[line];
+        frame_line.heard(port.latest(), report, &mut self.shelf);
+        self.waiting.set(line, frame_line.has_next());
     }
 
     /// The port of a line has dropped something, which is told in the report with its cause.
@@ -154,9 +154,9 @@ impl<S: Shelf> FrameCard<S> {
             → told (told_in [] report.new) ≡ answer (at line (hears (stream.dropped cause))) m }
         ensures after { Leads S.store (at line (hears (stream.dropped cause))) self.old self.new }
     {
-        let lane = &mut self.lines[line];
-        lane.dropped(cause, report);
-        self.waiting.set(line, lane.has_next());
+        let frame_line = &mut self.lines[line];
+        frame_line.dropped(cause, report);
+        self.waiting.set(line, frame_line.has_next());
     }
 
     /// Writes the next frame to be sent on a line in front of `out`, from its address to its information, without its
@@ -190,9 +190,9 @@ impl<S: Shelf> FrameCard<S> {
         if out.len() < room {
             return Err(RoomTooSmall { room });
         }
-        let lane = &mut self.lines[line];
-        let given = lane.next_frame(out, &mut self.shelf);
-        self.waiting.set(line, lane.has_next());
+        let frame_line = &mut self.lines[line];
+        let given = frame_line.next_frame(out, &mut self.shelf);
+        self.waiting.set(line, frame_line.has_next());
         Ok(given)
     }
 
@@ -206,9 +206,9 @@ impl<S: Shelf> FrameCard<S> {
             → IsLoaded (answer (at line next) m) (orders_taken result) port.old port.new }
         ensures after { Leads S.store (at line next) self.old self.new }
     {
-        let lane = &mut self.lines[line];
-        let orders = lane.load_next(port, &mut self.shelf);
-        self.waiting.set(line, lane.has_next());
+        let frame_line = &mut self.lines[line];
+        let orders = frame_line.load_next(port, &mut self.shelf);
+        self.waiting.set(line, frame_line.has_next());
         orders
     }
 
@@ -247,9 +247,9 @@ impl<S: Shelf> FrameCard<S> {
         // What may be sent rises by k + 1 where the timer was running, else by nothing.
         ensures frames { (m : machine.Card) → FrameStands S.store self.old m → RisesByExpiry line timer m }
     {
-        let lane = &mut self.lines[line];
-        lane.expire(timer, report, &mut self.shelf);
-        self.waiting.set(line, lane.has_next());
+        let frame_line = &mut self.lines[line];
+        frame_line.expire(timer, report, &mut self.shelf);
+        self.waiting.set(line, frame_line.has_next());
     }
 
     /// Serves a request of layer 3 or management at a line. One that is refused changes nothing, on this line or any other.
@@ -278,15 +278,15 @@ impl<S: Shelf> FrameCard<S> {
         // What may be sent rises by one where it is accepted, else by nothing.
         ensures frames { (m : machine.Card) → FrameStands S.store self.old m → RisesByRequest line (request_of request.entry) m }
     {
-        let lane = &mut self.lines[line];
-        match lane.request(
+        let frame_line = &mut self.lines[line];
+        match frame_line.request(
             request,
             report,
             &mut self.shelf,
             u32::from(self.config.slots),
         ) {
             Ok(()) => {
-                self.waiting.set(line, lane.has_next());
+                self.waiting.set(line, frame_line.has_next());
                 Ok(())
             }
             Err(why) => Err(why),

@@ -44,7 +44,7 @@ impl<S: Shelf> FrameCard<S> {
 }
 
 impl<S: Shelf> Card<S> {
-    ghost use Rattle.lapd_card.specs.Stands.{Stands};
+    ghost use Rattle.lapd_card.specs.Stands.{OctetCardStands};
 
     /// A card of octets with these sizes and limits, over a shelf on which nothing lies, as [`FrameCard::start`] has it. No
     /// octet has come.
@@ -57,7 +57,7 @@ impl<S: Shelf> Card<S> {
         ensures otherwise { IfNone (start_fault config (S.store shelf)) (IsOkUnless result OutOfMemory) }
         ensures config { IfOk result (λ card. card.frames.config ≡ config) }
         ensures shelf { IfOk result (λ card. card.frames.shelf ≡ shelf) }
-        ensures fresh { IfOk result (λ card. Stands S.store card (octets.fresh config)) }
+        ensures fresh { IfOk result (λ card. OctetCardStands S.store card (octets.fresh config)) }
         ensures counters { IfOk result (λ card. counters_in card.frames.lines ≡ replicate config.lines none_counted) }
     {
         let frames = FrameCard::start(alloc, config, shelf)?;

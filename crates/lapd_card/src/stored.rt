@@ -5,7 +5,7 @@ ghost use Rattle.model_card.specs.Stored as frames;
 ghost use Rattle.model_card.specs.ports.Card as machine;
 ghost use Rattle.model_card.specs.ports.Stored.{stored, limit};
 ghost use Rattle.model_line.specs.Sound.{IsInRange};
-ghost use Rattle.lapd_card.specs.Stands.{Stands};
+ghost use Rattle.lapd_card.specs.Stands.{OctetCardStands};
 
 use crate::card::Card;
 use lapd_line::Config;
@@ -36,7 +36,7 @@ impl<S: Shelf> Card<S> {
     /// How many octets the card stores now: of frames that are received and sent, of control frames and messages that wait,
     /// of assignments that are remembered, and of contents in slots. They are never more than [`limit`] says.
     pub fn stored(&self) -> u32
-        ensures { (m : machine.OctetCard) → Stands S.store self.now m → result ≡ stored m }
+        ensures { (m : machine.OctetCard) → OctetCardStands S.store self.now m → result ≡ stored m }
     {
         let mut held = self.frames.stored();
         for port in &self.ports {

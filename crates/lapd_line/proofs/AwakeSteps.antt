@@ -1,4 +1,4 @@
--- Which links are awake, as one is looked at, begins or is cleared.
+-- Which links have a frame, as one is looked at, begins or is cleared.
 use Rattle.lapd_line.proofs.Vocabulary.{◌≡◌, ◌≢◌, ℕ, ◌<◌, zero, suc, Bool, true, false, List, [], ◌∷◌, replicate, set, slice_get, is_some, option_map_or, refl, ap, sym, ◌∙◌, arith, cases_eq, get_or-set_other, Link, Terms, given, fresh_gives_nothing, Marks, IsMark, AreMarked, Sets, digit, AreAwake, gives, gives_at, HasTerms, machine_at, terms_in}
 use Rattle.model_link.specs.Link as machine
 
@@ -31,7 +31,7 @@ gives_other : (old new : List Link) (ms : List machine.Link) (number other : ℕ
     → gives_at new (set ms number l) other ≡ gives_at old ms other
 gives_other old new ms number other l apart same = grind (arith, slice_get, get_or-set_other)
 
--- a link has become another, and is awake if that gives something
+-- a link has become another, and has a frame if that gives something
 pub awake_set : (a b : Marks) (old new : List Link) (ms : List machine.Link) (number : ℕ) (l : machine.Link) (w : Bool) (t : Terms) → Sets number w a b → terms_in new ≡ terms_in old → HasTerms new number t
     → w ≡ gives (machine_at (set ms number l) number) t → AreAwake a old ms → AreAwake b new (set ms number l)
 awake_set a b old new ms number l w t sets same has told h = grind (arith, marked_one, gives_has, gives_other, slice_get)
@@ -61,7 +61,7 @@ all_fresh (suc n) (suc number) = all_fresh n number
 pub awake_first : (a : Marks) (links : List Link) (n : ℕ) → AreMarked a (λ number. false) → AreAwake a links (replicate n machine.fresh)
 awake_first a links n h = marked_as a (λ number. false) (gives_at links (replicate n machine.fresh)) (λ number. sym (gives_fresh links (replicate n machine.fresh) number (all_fresh n number))) h
 
--- a link that is awake gives something, and one that is asleep gives nothing
+-- a link that has a frame gives something, and one that has none gives nothing
 pub awake_gives : (a : Marks) (links : List Link) (ms : List machine.Link) (number : ℕ) (t : Terms) (b : Bool) → number < 64 → AreAwake a links ms → HasTerms links number t → IsMark a number b
     → is_some (given t (machine_at ms number)) ≡ b
 awake_gives a links ms number t b few h has is = grind (arith, gives_has, marked, unmarked)

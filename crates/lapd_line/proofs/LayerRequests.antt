@@ -99,20 +99,20 @@ module _ (e : LinkLayer) (s : Store) (others : List Owned) (m : Line) (st : Laye
 same_step : (t : Terms) (l : machine.Link) (full : Bool) (request : link.Request) → links.refusal t l full request ≡ None → answers.course t (link.requested request full) l ≡ answers.course t (link.requested request false) l
 same_step t l full request granted = grind (arith, granted_same)
 
-pub asked_serves : (e : LinkLayer) (s t : Store) (new : List Link) (awake : Marks) (service : Service) (tei place number : ℕ) (full : Bool) (request : link.Request) (answer : BareReport) (outcome : BareReport) {looked : Bool}
+pub asked_serves : (e : LinkLayer) (s t : Store) (new : List Link) (has_frame : Marks) (service : Service) (tei place number : ℕ) (full : Bool) (request : link.Request) (answer : BareReport) (outcome : BareReport) {looked : Bool}
     → Standing e s → place_of tei e.teis.places ≡ Some place → (place ≤ 8 → number ≡ link_number place service)
-    → TellsOf number new looked → Sets number looked e.awake awake → Refuses number full request e.links s None
+    → TellsOf number new looked → Sets number looked e.has_frame has_frame → Refuses number full request e.links s None
     → all.Serves number (link.requested request full) [] e.links s new t answer
     → told_in [] outcome ≡ told_of_link (told_with [] answer)
-    → Serves (λ m. at_requested service tei request (place_in m tei)) [] e s (record e { links = new; awake = awake }) t outcome
-asked_serves e s t new awake service tei place number full request answer outcome standing here exact looks sets refuses served told =
+    → Serves (λ m. at_requested service tei request (place_in m tei)) [] e s (record e { links = new; has_frame = has_frame }) t outcome
+asked_serves e s t new has_frame service tei place number full request answer outcome standing here exact looks sets refuses served told =
     let at = (place_of-is e.teis.places tei place here).1 in
     let same : number ≡ link_number place service = numbered e s tei place standing at exact in
     let whole = at_link_serves {octets = []} {outcome = outcome} standing at exact looks sets served told in
     record {
       config = refl;
       limits = whole.limits;
-      stands = λ others m st. subst (λ o. LayerStands (record e { links = new; awake = awake }) t others o.line) (one others m st at same) (whole.stands others m st);
+      stands = λ others m st. subst (λ o. LayerStands (record e { links = new; has_frame = has_frame }) t others o.line) (one others m st at same) (whole.stands others m st);
       told = λ others m st. whole.told others m st ∙ ap (λ o. o.told) (one others m st at same);
     }
   where

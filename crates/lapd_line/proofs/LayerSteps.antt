@@ -23,7 +23,7 @@ stands_as {e} st teis units t rest l same wide sound management addressed held =
   addressed = addressed;
   capacity = same.3 ∙ st.capacity;
   turn = same.1 ∙ st.turn;
-  awake = subst (AreAwake e.awake e.links) (sym same.0) st.awake;
+  has_frame = subst (AreAwake e.has_frame e.links) (sym same.0) st.has_frame;
   held = held;
 }
 
@@ -35,12 +35,12 @@ pub links_part : (e : LinkLayer) (s : Store) (others : List Owned) (m : Line) �
 links_part e s others m st = grind (arith, append_assoc)
 
 -- the way back: where the links and their machines have changed, and the turn, and nothing else
-pub links_turned : (e : LinkLayer) (s t : Store) (others : List Owned) (m : Line) (new : List Link) (ms : List machine.Link) (awake : Marks) (turn turn' : ℕ)
+pub links_turned : (e : LinkLayer) (s t : Store) (others : List Owned) (m : Line) (new : List Link) (ms : List machine.Link) (has_frame : Marks) (turn turn' : ℕ)
     → LayerStands e s others m → terms_in new ≡ terms_in e.links → SameLimits s t
     → IsSound e.config (record m { links = ms; turn = turn })
-    → LinksStand e.config new t (beside_links e m others) ms → AreAwake awake new ms → turn ≡ turn'
-    → LayerStands (record e { links = new; awake = awake; turn = turn' }) t others (record m { links = ms; turn = turn })
-links_turned e s t others m new ms awake turn turn' st same limits sound stand are_awake turns = record {
+    → LinksStand e.config new t (beside_links e m others) ms → AreAwake has_frame new ms → turn ≡ turn'
+    → LayerStands (record e { links = new; has_frame = has_frame; turn = turn' }) t others (record m { links = ms; turn = turn })
+links_turned e s t others m new ms has_frame turn turn' st same limits sound stand are_awake turns = record {
   range = st.range;
   wide = stand.wide;
   sound = sound;
@@ -51,16 +51,16 @@ links_turned e s t others m new ms awake turn turn' st same limits sound stand a
   addressed = st.addressed;
   capacity = st.capacity;
   turn = turns;
-  awake = are_awake;
+  has_frame = are_awake;
   held = subst (Holds t) (sym (append_assoc (links_pairs new ms) (unit_pairs e.units.waiting m.units) others)) stand.held;
 }
 
-pub links_back : (e : LinkLayer) (s t : Store) (others : List Owned) (m : Line) (new : List Link) (ms : List machine.Link) (awake : Marks)
+pub links_back : (e : LinkLayer) (s t : Store) (others : List Owned) (m : Line) (new : List Link) (ms : List machine.Link) (has_frame : Marks)
     → LayerStands e s others m → terms_in new ≡ terms_in e.links → SameLimits s t
     → IsSound e.config (record m { links = ms })
-    → LinksStand e.config new t (beside_links e m others) ms → AreAwake awake new ms
-    → LayerStands (record e { links = new; awake = awake }) t others (record m { links = ms })
-links_back e s t others m new ms awake st same limits sound stand are_awake = links_turned e s t others m new ms awake m.turn e.turn st same limits sound stand are_awake st.turn
+    → LinksStand e.config new t (beside_links e m others) ms → AreAwake has_frame new ms
+    → LayerStands (record e { links = new; has_frame = has_frame }) t others (record m { links = ms })
+links_back e s t others m new ms has_frame st same limits sound stand are_awake = links_turned e s t others m new ms has_frame m.turn e.turn st same limits sound stand are_awake st.turn
 
 -- the link of a service with the TEI at a place: where it is, and its parameters
 pub record Named (e : LinkLayer) (service : Service) (tei place : ℕ) : Type 0 where
@@ -107,11 +107,11 @@ number_low {e} {s} service (others, m, st) at exact =
     omega (arith, number_there service (others, m, st) at exact, st.count, (ranges_of e.config st.range).terminals.most)
 
 -- an event of a link
-pub at_link_serves : {e : LinkLayer} {s t : Store} {new : List Link} {awake : Marks} {service : Service} {tei place number : ℕ} {what : event.Event} {info octets : List ℕ} {answer : BareReport} {outcome : BareReport} {looked : Bool}
-    → Standing e s → IsAt e.teis.places place tei → (place ≤ 8 → number ≡ link_number place service) → TellsOf number new looked → Sets number looked e.awake awake
+pub at_link_serves : {e : LinkLayer} {s t : Store} {new : List Link} {has_frame : Marks} {service : Service} {tei place number : ℕ} {what : event.Event} {info octets : List ℕ} {answer : BareReport} {outcome : BareReport} {looked : Bool}
+    → Standing e s → IsAt e.teis.places place tei → (place ≤ 8 → number ≡ link_number place service) → TellsOf number new looked → Sets number looked e.has_frame has_frame
     → links.Serves number what info e.links s new t answer → told_in octets outcome ≡ told_of_link (told_with info answer)
-    → Serves (always (at_link service tei place what)) octets e s (record e { links = new; awake = awake }) t outcome
-at_link_serves {e} {s} {t} {new} {awake} {service} {tei} {place} {number} {what} {info} {answer = answer} {looked = looked} standing at exact looks sets serves is_told =
+    → Serves (always (at_link service tei place what)) octets e s (record e { links = new; has_frame = has_frame }) t outcome
+at_link_serves {e} {s} {t} {new} {has_frame} {service} {tei} {place} {number} {what} {info} {answer = answer} {looked = looked} standing at exact looks sets serves is_told =
     let same = numbered e s tei place standing at exact in
     let served = subst (λ n. links.Serves n what info e.links s new t answer) same serves in
     record {
@@ -123,8 +123,8 @@ at_link_serves {e} {s} {t} {new} {awake} {service} {tei} {place} {number} {what}
           let stand = served.goes_on e.config (terms e.config service tei) (beside_links e m others) m.links n.has_terms (links_part e s others m st) in
           let has : HasTerms new (link_number place service) (terms e.config service tei) = subst (λ l. slice_get l (link_number place service) ≡ Some (terms e.config service tei)) (sym served.terms) n.has_terms in
           let told = subst (λ n. TellsOf n new looked) same looks e.config (terms e.config service tei) t (beside_links e m others) _ has stand in
-          links_back e s t others m new _ awake st served.terms served.limits sound stand
-          (awake_set e.awake awake e.links new m.links (link_number place service) _ looked (terms e.config service tei) (subst (λ n. Sets n looked e.awake awake) same sets) served.terms has told st.awake);
+          links_back e s t others m new _ has_frame st served.terms served.limits sound stand
+          (awake_set e.has_frame has_frame e.links new m.links (link_number place service) _ looked (terms e.config service tei) (subst (λ n. Sets n looked e.has_frame has_frame) same sets) served.terms has told st.has_frame);
       told = λ others m st.
           let n = named e s others m service tei place st at in
           is_told ∙ ap told_of_link (served.told e.config (terms e.config service tei) (beside_links e m others) m.links n.has_terms (links_part e s others m st));

@@ -5,11 +5,11 @@ use Rattle.lapd_count.specs.Counters.{with_more}
 use Rattle.model_line.specs.Line as machine
 use Rattle.lapd_line.specs.LinkLayer.{LayerStands}
 use Rattle.lapd_line.specs.Reports.{octets_of}
-use Rattle.lapd_line.specs.Stands.{Stands}
+use Rattle.lapd_line.specs.Stands.{LineStands}
 use Rattle.lapd_line.proofs.Silent.{expiry_silent, silent_told}
 
 -- what was counted is no matter for what a line stands for
-pub recounted : (l : FrameLine) (k : Counters) (s : Store) (others : List Owned) (m : machine.Line) → Stands l s others m → Stands (record l { counters = k }) s others m
+pub recounted : (l : FrameLine) (k : Counters) (s : Store) (others : List Owned) (m : machine.Line) → LineStands l s others m → LineStands (record l { counters = k }) s others m
 recounted l k s others m st = record { layer = st.layer }
 
 -- The entities have gone on with an event of which this is shown, and it was counted.
@@ -21,20 +21,20 @@ counted_twice k a b = sym (fold-append with_more k a b)
 
 -- So it leads the line on.
 pub leads_on : {event : Event} {old new : FrameLine} {s t : Store} {e : LinkLayer} (all : List More) → e.config ≡ config_of old → SameLimits s t
-    → ((others : List Owned) (m : machine.Line) → Stands old s others m → LayerStands e t others (after (config_of old) event m))
-    → ((others : List Owned) (m : machine.Line) → Stands old s others m → shown (config_of old) event (answer (config_of old) event m) ≡ all)
+    → ((others : List Owned) (m : machine.Line) → LineStands old s others m → LayerStands e t others (after (config_of old) event m))
+    → ((others : List Owned) (m : machine.Line) → LineStands old s others m → shown (config_of old) event (answer (config_of old) event m) ≡ all)
     → new ≡ gone_on old e all → Leads event old s new t
 leads_on {event} {old} {t = t} all config limits goes are is = record {
   config = ap config_of is ∙ config;
   limits = limits;
   stands = λ others m st.
-      subst (λ l. Stands l t others (after (config_of old) event m)) (sym is) (record { layer = goes others m st });
+      subst (λ l. LineStands l t others (after (config_of old) event m)) (sym is) (record { layer = goes others m st });
   counted = λ others m st. ap (λ l. l.counters) is ∙ ap (with_all old.counters) (sym (are others m st));
 }
 
 -- what is heard is served
 pub heard_told : (old : FrameLine) {s : Store} {e : LinkLayer} {t : Store} {o : BareReport} (h : Option stream.Event) → Serves (aim_of_event (config_of old) h) (octets_of h) old.layer s e t o
-    → (others : List Owned) (m : machine.Line) → Stands old s others m → told (told_in (octets_of h) o) ≡ answer_if_heard (config_of old) h m
+    → (others : List Owned) (m : machine.Line) → LineStands old s others m → told (told_in (octets_of h) o) ≡ answer_if_heard (config_of old) h m
 unfolding answer
 heard_told old None served others m st = ap told (served.told others m st.layer)
 heard_told old (Some x) served others m st = ap told (served.told others m st.layer)
@@ -61,7 +61,7 @@ unfolding after answer
 dropped_leads {old} s cause is = record {
   config = ap config_of is;
   limits = record { slots = refl; width = refl };
-  stands = λ others m st. subst (λ l. Stands l s others m) (sym is) (recounted old (with_all old.counters (told_shown [] (Some cause) 0)) s others m st);
+  stands = λ others m st. subst (λ l. LineStands l s others m) (sym is) (recounted old (with_all old.counters (told_shown [] (Some cause) 0)) s others m st);
   counted = λ others m st. ap (λ l. l.counters) is;
 }
 

@@ -1,6 +1,6 @@
 -- What a call on one link does to all of them: it is taken out of the list, and put back.
 use Rattle.lapd_line.proofs.Vocabulary.{◌≡◌, ℕ, ◌<◌, ◌≤◌, List, length, get_or, set, option_map, Result, OnOk, refl, sym, ap, subst, ◌∙◌, arith, Option, Bool, length-map, length-set, get_or_default, map-set_same, slice_get-map, slice_get-get_or, same_Some, Owned, Store, SameLimits, FocusPair, focus_pair, Link, Offer, BareReport, terms_of, told_with, Terms, offer, Service, Config, terms, window, LinkFits, LinksStand, HasTerms, machine_at, link_pairs, terms_in, IsGiven, Offers, Refuses, Refusal, GoesOn}
-use Rattle.lapd_link.specs.Stands.{Stands}
+use Rattle.lapd_link.specs.Stands.{LinkStands}
 use Rattle.model_link.specs.Events.{Event, Request}
 use Rattle.model_link.specs.Requests.{refusal}
 use Rattle.model_link.specs.Link as machine
@@ -10,12 +10,12 @@ use Rattle.lapd_line.specs.Links.{Serves}
 -- the link at a place, the machine for it, and what the shelf holds beside what it owns; and the way back
 pub record Taken (c : Config) (links : List Link) (s : Store) (others : List Owned) (ms : List machine.Link) (number : ℕ) (x : Link) : Type 0 where
   pub rest : List Owned
-  pub stands : Stands x s rest (machine_at ms number)
+  pub stands : LinkStands x s rest (machine_at ms number)
   pub queue : (terms_of x).queue ≡ c.queue
   pub control : (terms_of x).control ≡ c.control
   pub put_back : (t : Store) (y : Link) (l : machine.Link) → SameLimits s t → (terms_of y).n201 ≤ c.n201 → (terms_of y).queue ≡ c.queue → (terms_of y).control ≡ c.control
-      → Stands y t rest l → LinksStand c (set links number y) t others (set ms number l)
-  pub back : (t : Store) (y : Link) (l : machine.Link) → SameLimits s t → terms_of y ≡ terms_of x → Stands y t rest l
+      → LinkStands y t rest l → LinksStand c (set links number y) t others (set ms number l)
+  pub back : (t : Store) (y : Link) (l : machine.Link) → SameLimits s t → terms_of y ≡ terms_of x → LinkStands y t rest l
       → LinksStand c (set links number y) t others (set ms number l)
 
 pub take_link : (c : Config) (links : List Link) (s : Store) (others : List Owned) (ms : List machine.Link) (number : ℕ) (x : Link) → number < length links → x ≡ get_or links number x → LinksStand c links s others ms → Taken c links s others ms number x
@@ -36,7 +36,7 @@ take_link c links s others ms number x within is st =
     f : FocusPair link_pairs (LinkFits c) s links ms number x m others
     f = focus_pair link_pairs (LinkFits c) s links ms number x m others within (omega (arith, within, st.same)) is (get_or_default ms number machine.fresh m (omega (arith, within, st.same))) st.fits st.held
 
-    put : (t : Store) (y : Link) (l : machine.Link) → SameLimits s t → (terms_of y).n201 ≤ c.n201 → (terms_of y).queue ≡ c.queue → (terms_of y).control ≡ c.control → Stands y t f.rest l → LinksStand c (set links number y) t others (set ms number l)
+    put : (t : Store) (y : Link) (l : machine.Link) → SameLimits s t → (terms_of y).n201 ≤ c.n201 → (terms_of y).queue ≡ c.queue → (terms_of y).control ≡ c.control → LinkStands y t f.rest l → LinksStand c (set links number y) t others (set ms number l)
     put t y l limits narrow queue control st' =
         let fits : LinkFits c (y, l) = record { fits = st'.fits; lengths = st'.kept.lengths; narrow = narrow; queue = queue; control = control } in
         let both = f.back t y l fits st'.kept.held in
@@ -63,21 +63,21 @@ module _ {items links : List Link} {number : ℕ} {x : Link} (view : items ≡ l
   part c {s} others ms st = take_link c links s others ms number x within is st
 
   -- it stands, beside what others own
-  pub part_stands : {s : Store} → (c : Config) × (others : List Owned) × (ms : List machine.Link) × LinksStand c links s others ms → (others : List Owned) × (m : machine.Link) × Stands x s others m
+  pub part_stands : {s : Store} → (c : Config) × (others : List Owned) × (ms : List machine.Link) × LinksStand c links s others ms → (others : List Owned) × (m : machine.Link) × LinkStands x s others m
   part_stands (c, others, ms, st) = let f = part c others ms st in (f.rest, machine_at ms number, f.stands)
 
   -- what is so of it, whatever stands beside it, is so of the machine at its place
-  pub of_part : (P : Terms → machine.Link → Type 0) {s : Store} → ((others : List Owned) (m : machine.Link) → Stands x s others m → P (terms_of x) m)
+  pub of_part : (P : Terms → machine.Link → Type 0) {s : Store} → ((others : List Owned) (m : machine.Link) → LinkStands x s others m → P (terms_of x) m)
       → (c : Config) (terms : Terms) (others : List Owned) (ms : List machine.Link) → HasTerms links number terms → LinksStand c links s others ms → P terms (machine_at ms number)
   of_part P holds c terms others ms has st =
       let f = part c others ms st in
       subst (λ u. P u (machine_at ms number)) (terms_at links number x terms within is has) (holds f.rest (machine_at ms number) f.stands)
 
-  pub refuses : {s : Store} (full : Bool) (r : Request) {why : Option Refusal} → ((others : List Owned) (m : machine.Link) → Stands x s others m → refusal (terms_of x) m full r ≡ why)
+  pub refuses : {s : Store} (full : Bool) (r : Request) {why : Option Refusal} → ((others : List Owned) (m : machine.Link) → LinkStands x s others m → refusal (terms_of x) m full r ≡ why)
       → Refuses number full r links s why
   refuses full r {why} = of_part (λ u m. refusal u m full r ≡ why)
 
-  goes_on : (e : Event) {s t : Store} {y : Link} → ((others : List Owned) (m : machine.Link) → Stands x s others m → Stands y t others (after (terms_of x) e m))
+  goes_on : (e : Event) {s t : Store} {y : Link} → ((others : List Owned) (m : machine.Link) → LinkStands x s others m → LinkStands y t others (after (terms_of x) e m))
       → terms_of y ≡ terms_of x → SameLimits s t → GoesOn number e links s (set links number y) t
   goes_on e {t = t} {y} stands same limits = λ c terms others ms has st.
       let f = part c others ms st in
@@ -85,8 +85,8 @@ module _ {items links : List Link} {number : ℕ} {x : Link} (view : items ≡ l
       (f.back t y _ limits same (stands f.rest (machine_at ms number) f.stands))
 
   pub serves : {y : Link} {s t : Store} {e : Event} {info : List ℕ} {answer : BareReport}
-      → ((others : List Owned) (m : machine.Link) → Stands x s others m → Stands y t others (after (terms_of x) e m))
-      → ((others : List Owned) (m : machine.Link) → Stands x s others m → told_with info answer ≡ told (terms_of x) e m)
+      → ((others : List Owned) (m : machine.Link) → LinkStands x s others m → LinkStands y t others (after (terms_of x) e m))
+      → ((others : List Owned) (m : machine.Link) → LinkStands x s others m → told_with info answer ≡ told (terms_of x) e m)
       → terms_of y ≡ terms_of x → SameLimits s t → Serves number e info links s (set items number y) t answer
   serves {y} {s} {t} {e} {info} {answer} stands is_told same limits =
       subst (λ l. Serves number e info links s (set l number y) t answer) (sym view) (record {
@@ -98,8 +98,8 @@ module _ {items links : List Link} {number : ℕ} {x : Link} (view : items ≡ l
 
   -- what it has to give
   pub offers : {y : Link} {o : Option Offer}
-      → ((s : Store) (others : List Owned) (m : machine.Link) → Stands x s others m → Stands y s others (after (terms_of x) offer m))
-      → ((s : Store) (others : List Owned) (m : machine.Link) → Stands x s others m → IsGiven s (terms_of x) m o)
+      → ((s : Store) (others : List Owned) (m : machine.Link) → LinkStands x s others m → LinkStands y s others (after (terms_of x) offer m))
+      → ((s : Store) (others : List Owned) (m : machine.Link) → LinkStands x s others m → IsGiven s (terms_of x) m o)
       → terms_of y ≡ terms_of x → Offers number links (set items number y) o
   offers {y} {o} stands is_given same =
       subst (λ l. Offers number links (set l number y) o) (sym view) (record {

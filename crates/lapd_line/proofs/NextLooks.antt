@@ -39,19 +39,19 @@ some_among c m from (suc n) number low high some =
     ]
 
 module _ (e : LinkLayer) (s : Store) (others : List Owned) (m : Line) (st : LayerStands e s others m) where
-  -- a link that is awake is there,
-  pub there : (number : ℕ) → number < 64 → IsMark e.awake number true → number < link_count e.config
-  there number few awake = go (slice_get (terms_in e.links) number) refl (marked (gives_at e.links m.links number) (sym awake ∙ st.awake number few))
+  -- a link that has a frame is there,
+  pub there : (number : ℕ) → number < 64 → IsMark e.has_frame number true → number < link_count e.config
+  there number few has_frame = go (slice_get (terms_in e.links) number) refl (marked (gives_at e.links m.links number) (sym has_frame ∙ st.has_frame number few))
     where
       go : (o : Option Terms) → slice_get (terms_in e.links) number ≡ o → option_map_or (gives (machine_at m.links number)) (slice_get (terms_in e.links) number) false ≡ true → number < link_count e.config
       go None is some = absurd (false≢true (sym (ap (λ o. option_map_or (gives (machine_at m.links number)) o false) is) ∙ some))
       go (Some t) is some = omega (arith, slice_get_within (terms_in e.links) number t is, length-map e.links terms_of, st.count)
 
   -- and is one from which a frame is taken
-  link_gives : (number : ℕ) → number < link_count e.config → IsMark e.awake number true → is_some (link_taken e.config m number) ≡ true
-  link_gives number few awake =
+  link_gives : (number : ℕ) → number < link_count e.config → IsMark e.has_frame number true → is_some (link_taken e.config m number) ≡ true
+  link_gives number few has_frame =
       let k = known e s others m number few st in
-      let some : is_some (given k.t (link_at number m)) ≡ true = awake_gives e.awake e.links m.links number k.t true (low_link e s number (others, m, st) few) st.awake k.has awake in
+      let some : is_some (given k.t (link_at number m)) ≡ true = awake_gives e.has_frame e.links m.links number k.t true (low_link e s number (others, m, st) few) st.has_frame k.has has_frame in
       some_map (with_given_frame e.config m number (terms_at e.config number m)) (given (terms_at e.config number m) (link_at number m)) ∙ go k (given k.t (link_at number m)) refl some
     where
       go : (k : Known e m number) (o : Option Given) → given k.t (link_at number m) ≡ o → is_some (given k.t (link_at number m)) ≡ true → is_some (given (terms_at e.config number m) (link_at number m)) ≡ true
@@ -60,8 +60,8 @@ module _ (e : LinkLayer) (s : Store) (others : List Owned) (m : Line) (st : Laye
           let same : k.t ≡ terms_at e.config number m = same_Some _ _ (sym k.has ∙ k.some g is) in
           ap (λ t. is_some (given t (link_at number m))) (sym same) ∙ some
 
-  -- so a link gives a frame exactly where one is awake
-  links_wait : (b : Bool) → (b ≡ false → AreMarked e.awake (λ number. false)) → (b ≡ true → (number : ℕ) × (number < 64) × IsMark e.awake number true)
+  -- so a link gives a frame exactly where one is marked
+  links_wait : (b : Bool) → (b ≡ false → AreMarked e.has_frame (λ number. false)) → (b ≡ true → (number : ℕ) × (number < 64) × IsMark e.has_frame number true)
       → is_some (first_taken e.config m (round e.config m)) ≡ b
   links_wait b none some =
       ap is_some (sym (round_is e s others m st)) ∙ some_or (among e.turn (link_count e.config - e.turn) e.config m) (among 0 (e.turn - 0) e.config m) ∙ go b refl
@@ -83,9 +83,9 @@ module _ (e : LinkLayer) (s : Store) (others : List Owned) (m : Line) (st : Laye
           ap (λ x. x || is_some (among 0 (e.turn - 0) e.config m)) (silent is e.turn (n - e.turn) (omega (arith, turn)))
           ∙ silent is 0 (e.turn - 0) (omega (arith, turn)) ∙ sym is
       go true is =
-          let (number, low, awake) = some is in
-          let within = there number low awake in
-          let gives_one = link_gives number within awake in
+          let (number, low, has_frame) = some is in
+          let within = there number low has_frame in
+          let gives_one = link_gives number within has_frame in
           let some_one : (is_some (among e.turn (n - e.turn) e.config m) || is_some (among 0 (e.turn - 0) e.config m)) ≡ true = elim (cases_lt number e.turn) [
             | inl before ↦
                 ap (λ x. is_some (among e.turn (n - e.turn) e.config m) || x) (some_among e.config m 0 (e.turn - 0) number (omega arith) (omega (arith, before)) gives_one)
@@ -100,7 +100,7 @@ module _ (e : LinkLayer) (s : Store) (others : List Owned) (m : Line) (st : Laye
       → is_some (first_taken e.config m (round e.config m)) ≡ link → (message || (unit || link)) ≡ has_next e.config m
   waits_is message unit link is_message is_unit is_link = grind (arith, is_some, some_map, slice_get, unit_waits, some_or)
 
-  pub waits_with_link : (true ≡ false → AreMarked e.awake (λ number. false)) → (true ≡ true → (number : ℕ) × (number < 64) × IsMark e.awake number true) → true ≡ has_next e.config m
+  pub waits_with_link : (true ≡ false → AreMarked e.has_frame (λ number. false)) → (true ≡ true → (number : ℕ) × (number < 64) × IsMark e.has_frame number true) → true ≡ has_next e.config m
   waits_with_link none some =
       let message : Bool = is_some (offered e.config.side e.teis) in
       let unit : Bool = is_some (slice_get e.units.waiting 0) in
@@ -109,6 +109,6 @@ module _ (e : LinkLayer) (s : Store) (others : List Owned) (m : Line) (st : Laye
   pub waits_with_message : ((side : Side) → true ≡ is_some (offered side e.teis)) → true ≡ has_next e.config m
   waits_with_message is_message = waits_is true (is_some (slice_get e.units.waiting 0)) (is_some (first_taken e.config m (round e.config m))) (is_message e.config.side) refl refl
 
-  pub waits_with_unit : {unit : Bool} → (false ≡ false → AreMarked e.awake (λ number. false)) → (false ≡ true → (number : ℕ) × (number < 64) × IsMark e.awake number true)
+  pub waits_with_unit : {unit : Bool} → (false ≡ false → AreMarked e.has_frame (λ number. false)) → (false ≡ true → (number : ℕ) × (number < 64) × IsMark e.has_frame number true)
       → ((side : Side) → false ≡ is_some (offered side e.teis)) → unit ≡ is_some (slice_get e.units.waiting 0) → unit ≡ has_next e.config m
   waits_with_unit {unit} none some is_message is_unit = sym (or_false unit) ∙ waits_is false unit false (is_message e.config.side) is_unit (links_wait false none some)

@@ -5,7 +5,7 @@ use Rattle.std.proofs.lemmas.Slice.{drop-append-drop}
 use Rattle.model_line.specs.Event as line_event
 use Rattle.model_line.specs.Line as machine
 use Rattle.lapd_line.specs.Waiting.{has_next}
-use Rattle.lapd_line.specs.Stands.{Stands}
+use Rattle.lapd_line.specs.Stands.{LineStands}
 use Rattle.lapd_line.proofs.LineSteps.{recounted}
 use Rattle.lapd_line.proofs.MessageSteps.{message_is, type_counted}
 use Rattle.lapd_count.specs.declared.counter.Way.TheVariants.{Begun}
@@ -24,7 +24,7 @@ next_taken {old} {s} {e} {t} {f} {g} {orders} h = record {
   uncounted = refl;
 }
   where
-    stands : (others : List Owned) (m : machine.Line) (o : Option Taken) (os : Option (List Order)) → Took o os m e t others f g → Stands (record old { layer = e }) t others (option_map_or line_of o m)
+    stands : (others : List Owned) (m : machine.Line) (o : Option Taken) (os : Option (List Order)) → Took o os m e t others f g → LineStands (record old { layer = e }) t others (option_map_or line_of o m)
     stands others m o os has = grind arith
 
     given : (others : List Owned) (m : machine.Line) (o : Option Taken) (os : Option (List Order)) → Took o os m e t others f g → IsNext (option_map next_of o) os f g
@@ -47,7 +47,7 @@ nothing_waits c m none = grind (arith, is_some)
 module _ {old : FrameLine} {s : Store} {f : Loading} {mid : FrameLine} {t : Store} {g : Loading} {given : Option (List Order)} (h : TakesNext old s f mid t g given) where
   -- and the line goes on, where what this shows is counted
   pub next_leads : (k : Counters) (all : List More) → k ≡ with_all mid.counters all
-      → ((others : List Owned) (m : machine.Line) → Stands old s others m → answer_shown (config_of old).side (answer (config_of old) next m) ≡ all)
+      → ((others : List Owned) (m : machine.Line) → LineStands old s others m → answer_shown (config_of old).side (answer (config_of old) next m) ≡ all)
       → Leads next old s (record mid { counters = k }) t
   next_leads k all is are = record {
     config = h.config;
@@ -57,7 +57,7 @@ module _ {old : FrameLine} {s : Store} {f : Loading} {mid : FrameLine} {t : Stor
   }
 
   -- no frame was taken
-  pub gave_none : given ≡ None → (others : List Owned) (m : machine.Line) → Stands old s others m → (answer (config_of old) next m ≡ gave None) × (g ≡ f)
+  pub gave_none : given ≡ None → (others : List Owned) (m : machine.Line) → LineStands old s others m → (answer (config_of old) next m ≡ gave None) × (g ≡ f)
   gave_none none others m st = go (option_map next_of (taken (config_of old) m)) refl (subst (λ o. IsNext (option_map next_of (taken (config_of old) m)) o f g) none (h.next others m st))
     where
       go : (o : Option line_event.NextFrame) → option_map next_of (taken (config_of old) m) ≡ o → IsNext o None f g → (answer (config_of old) next m ≡ gave None) × (g ≡ f)
@@ -75,7 +75,7 @@ pub record Gave (c : Config) (m : machine.Line) (orders : List Order) (f g : Loa
   pub message : message_shown Begun frame.octets ≡ type_counted (option_map type_of (slice_get m.management.waiting 0))
 
 pub gave_one : {old : FrameLine} {s : Store} {f : Loading} {mid : FrameLine} {t : Store} {g : Loading} {given : Option (List Order)} {orders : List Order} → TakesNext old s f mid t g given → given ≡ Some orders
-    → (others : List Owned) (m : machine.Line) → Stands old s others m → Gave (config_of old) m orders f g
+    → (others : List Owned) (m : machine.Line) → LineStands old s others m → Gave (config_of old) m orders f g
 unfolding answer
 gave_one {old} {f = f} {g = g} {orders = orders} h some others m st =
     go (taken (config_of old) m) refl (subst (λ o. IsNext (option_map next_of (taken (config_of old) m)) o f g) some (h.next others m st)) (taken_sound (config_of old) st.layer.range m st.layer.sound)
@@ -106,19 +106,19 @@ written_in before octets frame k count is = grind (arith, length-append, drop-ap
 
 module _ {old : FrameLine} {s : Store} {mid : FrameLine} {t : Store} {before octets : List ℕ} {n k place there : ℕ} {given : Option (List Order)} (orders : ShortList Order)
     (h : TakesNext old s (in_octets before n place) mid t (in_octets octets k there) given) (some : given ≡ Some (listed orders)) where
-  pub is_written : (others : List Owned) × (m : machine.Line) × Stands old s others m → IsWritten before octets k
+  pub is_written : (others : List Owned) × (m : machine.Line) × LineStands old s others m → IsWritten before octets k
   is_written (others, m, st) =
       let one = gave_one h some others m st in
       written_in before octets one.frame.octets k one.loaded.1.0 one.loaded.1.1
 
-  pub octets_shown : (others : List Owned) (m : machine.Line) → Stands old s others m
+  pub octets_shown : (others : List Owned) (m : machine.Line) → LineStands old s others m
       → answer_shown (config_of old).side (answer (config_of old) next m) ≡ begun_shown (config_of old).side (take k octets)
   octets_shown others m st =
       let one = gave_one h some others m st in
       given_is (config_of old) m one.frame (take k octets) one.is (sym (front one.frame.octets (drop k before) octets k (sym one.loaded.1.0) one.loaded.1.1))
 
   -- and is what the machine gives
-  pub gave_is : (others : List Owned) (m : machine.Line) → Stands old s others m → gave_in octets (Some (record { length = k; orders = orders })) ≡ answer (config_of old) next m
+  pub gave_is : (others : List Owned) (m : machine.Line) → LineStands old s others m → gave_in octets (Some (record { length = k; orders = orders })) ≡ answer (config_of old) next m
   gave_is others m st =
       let one = gave_one h some others m st in
       let octets_are : take k octets ≡ one.frame.octets = front one.frame.octets (drop k before) octets k (sym one.loaded.1.0) one.loaded.1.1 in

@@ -8,7 +8,7 @@ use Rattle.model_card.specs.ports.Line.{OctetLine, said, after, answer}
 use Rattle.model_card.specs.ports.Port as port
 use Rattle.model_card.specs.ports.Port.{gained, is_due, frame_begun, pull}
 use Rattle.lapd_line.specs.Reports.{pulled_of}
-use Rattle.lapd_line.specs.Stands.{Stands}
+use Rattle.lapd_line.specs.Stands.{LineStands}
 use Rattle.lapd_line.specs.declared.line.Line.{Line}
 use Rattle.lapd_line.specs.declared.port.Port.{Port}
 use Rattle.lapd_line.specs.declared.pulled.Pulled.{Pulled}
@@ -47,7 +47,7 @@ octet_leads {old} {new} {s} {t} {value} h brings goes_on leads = go h brings lea
       stands = λ others l st.
           subst (λ x. OctetsStand new t others (hearing c value l x)) (sym (is c.n201 l.port st.port))
           (record {
-            frames = subst (λ x. Stands new.frames x others l.line) (sym kept) (subst (λ x. Stands x s others l.line) (sym same) st.frames);
+            frames = subst (λ x. LineStands new.frames x others l.line) (sym kept) (subst (λ x. LineStands x s others l.line) (sym same) st.frames);
             port = there (ap config_of same) l st.port;
           });
       counted = λ others l st. ap (λ x. x.counters) same ∙ ap (counted_if old l) (sym (is c.n201 l.port st.port));
@@ -125,7 +125,7 @@ module _ (old : Line) (s : Store) (pulled : Pulled) (new : Port) (gives : PullsA
     config = refl;
     limits = record { slots = refl; width = refl };
     stands = λ others l st. record {
-      frames = subst (Stands old.frames s others) (sym (begins_nothing (octets_config old) l old.frames.counters (is_due l.port) (nothing others l st)).0) st.frames;
+      frames = subst (LineStands old.frames s others) (sym (begins_nothing (octets_config old) l old.frames.counters (is_due l.port) (nothing others l st)).0) st.frames;
       port = (pulls_none others l st).after;
     };
     counted = λ others l st. sym (begins_nothing (octets_config old) l old.frames.counters (is_due l.port) (nothing others l st)).1;
@@ -136,7 +136,7 @@ is_called : {old : Line} {s : Store} → length old.port.framer.left < 8 → (ot
 is_called {old} few others l st = due_is st.port ∙ lt-ltb (length old.port.framer.left) 8 few
 
 module _ (old : Line) (s : Store) (mid : Port) (taken_one : Option (ShortList Order)) (pulled : Pulled) (new : Port) (few : length old.port.framer.left < 8)
-    (loaded : (others : List Owned) (m : lines.Line) → Stands old.frames s others m → IsLoaded (line_answer (octets_config old) next m) (orders_taken taken_one) old.port mid)
+    (loaded : (others : List Owned) (m : lines.Line) → LineStands old.frames s others m → IsLoaded (line_answer (octets_config old) next m) (orders_taken taken_one) old.port mid)
     (gives : PullsAs mid taken_one pulled new) where
   pulls_next : (others : List Owned) (l : OctetLine) → OctetsStand old s others l
       → Pulls (octets_config old).n201 l.port (Some (line_answer (octets_config old) next l.line)) pulled new

@@ -9,7 +9,7 @@ use Rattle.model_line.specs.Line as lines
 use Rattle.model_card.specs.ports.Codec.{IsTextOf}
 use Rattle.model_card.specs.ports.Port as machine
 use Rattle.model_card.specs.ports.Port.{gained, is_due, next_octet, with_item, frame_begun, orders_with, pull, pulled}
-use Rattle.lapd_line.specs.Stands.{Stands}
+use Rattle.lapd_line.specs.Stands.{LineStands}
 use Rattle.lapd_line.specs.declared.port.Port.{Port}
 use Rattle.lapd_line.proofs.MessageSteps.{head_and_message, type_counted}
 use Rattle.lapd_line.proofs.NextSteps.{gave_none, gave_one, given_is}
@@ -66,14 +66,14 @@ reframed port g = record port { framer = g }
 
 module _ {old : FrameLine} {s : Store} {mid : FrameLine} {t : Store} (port : Port) {g : Framing} {given : Option (List Order)}
     (h : TakesNext old s (in_bits port.framer) mid t (in_bits g) given) where
-  pub none_loaded : {orders : Option (List Order)} → given ≡ None → orders ≡ None → (others : List Owned) (m : lines.Line) → Stands old s others m
+  pub none_loaded : {orders : Option (List Order)} → given ≡ None → orders ≡ None → (others : List Owned) (m : lines.Line) → LineStands old s others m
       → IsLoaded (answer (config_of old) next m) orders port (reframed port g)
   none_loaded {orders} none as_none others m st =
       let (is, same) = gave_none h none others m st in
       subst (λ a. IsLoaded a orders port (reframed port g)) (sym is)
       (record { orders = as_none; stands = λ n201 p there. subst (λ f. PortStands n201 (reframed port f) p) (sym (same_framing same)) there })
 
-  pub one_loaded : {orders : List Order} → given ≡ Some orders → (others : List Owned) (m : lines.Line) → Stands old s others m
+  pub one_loaded : {orders : List Order} → given ≡ Some orders → (others : List Owned) (m : lines.Line) → LineStands old s others m
       → IsLoaded (answer (config_of old) next m) (Some orders) port (reframed port g)
   one_loaded {orders} some others m st =
       let one = gave_one h some others m st in
@@ -85,7 +85,7 @@ module _ {old : FrameLine} {s : Store} {mid : FrameLine} {t : Store} (port : Por
 
   -- and what is shown of it is its head, and the message that waited first
   pub head_is : {orders : List Order} {head : Option Head} {type : Option ℕ} → given ≡ Some orders → head ≡ g.begun → type ≡ option_map type_of (slice_get old.layer.teis.waiting 0)
-      → (others : List Owned) (m : lines.Line) → Stands old s others m
+      → (others : List Owned) (m : lines.Line) → LineStands old s others m
       → answer_shown (config_of old).side (answer (config_of old) next m) ≡ option_map_or (λ x. head_shown (config_of old).side x ++ type_counted type) head []
   head_is {head = head} {type = type} some is first others m st =
       let one = gave_one h some others m st in
@@ -98,7 +98,7 @@ pub record Gives (f g : Framing) (octet : ℕ) : Type 0 where
   pub value : octet ≡ number_of (take 8 (refilled f.left))
   pub bits : low_bits 8 octet ++ g.left ≡ refilled f.left
   pub room : g.room ≡ f.room
-  pub stands : (items : List Item) (given : List ℕ) → framer.Stands f items given → framer.Stands g (with_idle f.left items) (given ++ octet ∷ [])
+  pub stands : (items : List Item) (given : List ℕ) → framer.FramerStands f items given → framer.FramerStands g (with_idle f.left items) (given ++ octet ∷ [])
 
 -- a frame that was just loaded leaves enough bits for an octet
 loaded : (p : machine.Port) (one : NextFrame) (left : List Bool) → IsTextOf p → line_text (p.items ++ frame one.octets ∷ []) ≡ bits p.given ++ left → runs_low left ≡ false
@@ -108,7 +108,7 @@ loaded p one left text is =
 
 -- where none was loaded but an item is due, an idle flag goes on
 goes_on : (p : machine.Port) (f : Framing) (said : Option Answer) → is_some said ≡ is_due p → IsTextOf p
-    → framer.Stands f (with_frame (frame_begun said) p).items p.given
+    → framer.FramerStands f (with_frame (frame_begun said) p).items p.given
     → record (with_frame (frame_begun said) p) { items = with_idle f.left (with_frame (frame_begun said) p).items } ≡ with_item said p
 goes_on p f said due text st = grind (arith, left_is, loaded)
 
@@ -116,7 +116,7 @@ same_given : (p : machine.Port) (o : Option NextFrame) → (with_frame o p).give
 same_given p o = grind arith
 
 -- the octet that a port gives next is the framer's
-next_is : (q : machine.Port) (f g : Framing) (octet : ℕ) → Gives f g octet → framer.Stands f q.items q.given
+next_is : (q : machine.Port) (f g : Framing) (octet : ℕ) → Gives f g octet → framer.FramerStands f q.items q.given
     → next_octet (record q { items = with_idle f.left q.items }) ≡ octet
 next_is q f g octet h st =
     let r : machine.Port = record q { items = with_idle f.left q.items } in
@@ -133,7 +133,7 @@ module _ {port : Port} {g : Framing} {octet : ℕ} (gives : Gives port.framer g 
   begun = with_frame (frame_begun said) p
 
   item_is : record begun { items = with_idle port.framer.left begun.items } ≡ with_item said p
-  item_is = goes_on p port.framer said is.due is.text (subst (framer.Stands port.framer begun.items) (same_given p (frame_begun said)) st.sent)
+  item_is = goes_on p port.framer said is.due is.text (subst (framer.FramerStands port.framer begun.items) (same_given p (frame_begun said)) st.sent)
 
   octet_is : next_octet (with_item said p) ≡ octet
   octet_is = ap next_octet (sym item_is) ∙ next_is begun port.framer g octet gives st.sent

@@ -39,13 +39,13 @@ known e s others m number few st = go (tei_at (place_at number) m) refl (st.soun
 pub low_link : (e : LinkLayer) (s : Store) (number : ℕ) → Standing e s → number < link_count e.config → number < 64
 low_link e s number (others, m, st) few = omega (arith, few, (ranges_of e.config st.range).terminals.most)
 
--- a link that is awake gives something
+-- a link that has a frame gives something
 none_given : (store : Store) (o : Option Offer) → o ≡ None → given_by store o ≡ None
 none_given store o is = ap (given_by store) is
 
-pub awake_offers : (e : LinkLayer) (s : Store) (number : ℕ) (new : List Link) (o : Option Offer) → number < link_count e.config → Standing e s → IsMark e.awake number true → Offers number e.links new o
+pub awake_offers : (e : LinkLayer) (s : Store) (number : ℕ) (new : List Link) (o : Option Offer) → number < link_count e.config → Standing e s → IsMark e.has_frame number true → Offers number e.links new o
     → is_some o ≡ true
-awake_offers e s number new o few (others, m, st) awake offers = go o refl
+awake_offers e s number new o few (others, m, st) has_frame offers = go o refl
   where
     k : Known e m number
     k = known e s others m number few st
@@ -54,7 +54,7 @@ awake_offers e s number new o few (others, m, st) awake offers = go o refl
     go (Some x) is = refl
     go None is =
         let given_none : None ≡ given k.t (link_at number m) = sym (none_given s o is) ∙ (offers.given e.config k.t s (beside_links e m others) m.links k.has (links_part e s others m st)).given in
-        ap is_some given_none ∙ awake_gives e.awake e.links m.links number k.t true (low_link e s number (others, m, st) few) st.awake k.has awake
+        ap is_some given_none ∙ awake_gives e.has_frame e.links m.links number k.t true (low_link e s number (others, m, st) few) st.has_frame k.has has_frame
 
 -- what a link gives, for a line that the entities stand for
 record Gives (e : LinkLayer) (s : Store) (m : Line) (number : ℕ) (o : Offer) : Type 0 where
@@ -104,7 +104,7 @@ can_send e s number new o info few (others, m, st) offers is =
 
 -- what a link gives is sent
 pub link_sent : (e : LinkLayer) (s : Store) (f g : Loading) (number : ℕ) (new : List Link) (o : Offer) (info : List ℕ) (after : LinkLayer) → number < link_count e.config
-    → (looked : Bool) × TellsOf number new looked × Sets number looked e.awake after.awake → after ≡ record e { links = new; awake = after.awake; turn = number + 1 }
+    → (looked : Bool) × TellsOf number new looked × Sets number looked e.has_frame after.has_frame → after ≡ record e { links = new; has_frame = after.has_frame; turn = number + 1 }
     → Offers number e.links new (Some o) → info ≡ unwrap_or (contents_in s o.contents) [] → room_in g ≡ room_in f → reference_in g ≡ reference_in f
     → ((t : Terms) → HasTerms new number t → Loads (spelling e.config.side (record (frame_of t o.frame) { info = info })) f g)
     → Takes (λ c m. link_taken c m number) e s f after s g (Some (listed o.orders))
@@ -123,13 +123,13 @@ link_sent e s f g number new o info after few (looked, looks, sets) rest offers 
           subst (λ x. IfSome x (TakesSoundly e.config m)) same (link_sound e.config st.range m st.sound number few) in
           let stand = offers.goes_on s e.config t (beside_links e m others) m.links gave.has (links_part e s others m st) in
           let has_t = still e number new t offers.terms gave.has in
-          let are_awake = awake_set e.awake after.awake e.links new m.links number _ looked t sets offers.terms has_t (looks e.config t s (beside_links e m others) _ has_t stand) st.awake in
-          let has : HasTaken (with_given_frame e.config m number t what) (listed o.orders) (record e { links = new; awake = after.awake; turn = number + 1 }) s others f g = record {
+          let are_awake = awake_set e.has_frame after.has_frame e.links new m.links number _ looked t sets offers.terms has_t (looks e.config t s (beside_links e m others) _ has_t stand) st.has_frame in
+          let has : HasTaken (with_given_frame e.config m number t what) (listed o.orders) (record e { links = new; has_frame = after.has_frame; turn = number + 1 }) s others f g = record {
             orders = refl;
-            stands = links_turned e s s others m new _ after.awake (number + 1) (number + 1) st offers.terms (record { slots = refl; width = refl }) sound.line stand are_awake refl;
+            stands = links_turned e s s others m new _ after.has_frame (number + 1) (number + 1) st offers.terms (record { slots = refl; width = refl }) sound.line stand are_awake refl;
             loaded = subst (λ x. Loads (spelling e.config.side (record (frame_of t o.frame) { info = x })) f g) is (loaded t has_t);
           } in
-          subst (λ x. Took x (Some (listed o.orders)) m (record e { links = new; awake = after.awake; turn = number + 1 }) s others f g) (sym same) has;
+          subst (λ x. Took x (Some (listed o.orders)) m (record e { links = new; has_frame = after.has_frame; turn = number + 1 }) s others f g) (sym same) has;
     })
 
 -- more links, one after another
@@ -175,12 +175,12 @@ no_value : {A : Type 0} (o : Option A) → is_some o ≡ false → o ≡ None
 no_value o none = grind arith
 
 -- links that are asleep have nothing to give
-pub asleep_gives_nothing : (e : LinkLayer) (s : Store) (others : List Owned) (m : Line) (number : ℕ) → number < link_count e.config → LayerStands e s others m → IsMark e.awake number false → link_taken e.config m number ≡ None
+pub asleep_gives_nothing : (e : LinkLayer) (s : Store) (others : List Owned) (m : Line) (number : ℕ) → number < link_count e.config → LayerStands e s others m → IsMark e.has_frame number false → link_taken e.config m number ≡ None
 asleep_gives_nothing e s others m number few st asleep =
     let k = known e s others m number few st in
     let low = low_link e s number (others, m, st) few in
     ap (λ g. option_map (with_given_frame e.config m number (terms_at e.config number m)) g)
-    (k.none (no_value (given k.t (link_at number m)) (awake_gives e.awake e.links m.links number k.t false low st.awake k.has asleep)))
+    (k.none (no_value (given k.t (link_at number m)) (awake_gives e.has_frame e.links m.links number k.t false low st.has_frame k.has asleep)))
 
 pub none_of : (c : Config) (m : Line) (from n : ℕ) → ((number : ℕ) → from ≤ number → number < from + n → link_taken c m number ≡ None) → among from n c m ≡ None
 none_of c m from zero none = refl
@@ -189,7 +189,7 @@ none_of c m from (suc n) none =
     ∙ none_of c m (from + 1) n (λ number low high. none number (omega (arith, low)) (omega (arith, high)))
 
 -- so they are passed over
-pub passed : (from number : ℕ) {a : LinkLayer} {s : Store} {f : Loading} → number ≤ link_count a.config → ((n : ℕ) → from ≤ n → n < number → IsMark a.awake n false)
+pub passed : (from number : ℕ) {a : LinkLayer} {s : Store} {f : Loading} → number ≤ link_count a.config → ((n : ℕ) → from ≤ n → n < number → IsMark a.has_frame n false)
     → from ≤ number → Takes (among from (number - from)) a s f a s f None
 passed from number {a} {s} {f} within asleep order = record {
   config = refl;
@@ -212,7 +212,7 @@ found_some from number to (Some orders) some order within before now = found fro
 found_some from number to None some order within before now = absurd (false≢true some)
 
 pub found_first : (from number to : ℕ) {a c : LinkLayer} {s u : Store} {f h : Loading} (orders : Option (ShortList Order)) → is_some orders ≡ true → from ≤ number → number < to → to ≤ link_count a.config
-    → ((n : ℕ) → from ≤ n → n < number → IsMark a.awake n false) → Takes (λ c m. link_taken c m number) a s f c u h (orders_taken orders)
+    → ((n : ℕ) → from ≤ n → n < number → IsMark a.has_frame n false) → Takes (λ c m. link_taken c m number) a s f c u h (orders_taken orders)
     → Takes (among from (to - from)) a s f c u h (orders_taken orders)
 found_first from number to orders some order within few asleep now =
     found_some from number to (orders_taken orders) (taken_some orders some) order within (passed from number (omega (arith, within, few)) asleep order) now

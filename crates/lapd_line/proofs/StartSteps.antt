@@ -6,7 +6,7 @@ use Rattle.lapd_line.proofs.AwakeSteps.{awake_first}
 
 -- a link that was just started
 pub begun : (c : Config) (x : Link) → IsInRange c
-    → ((store : Store) (others : List Owned) → 8 ≤ store.width → Holds store others → link.Stands x store others fresh)
+    → ((store : Store) (others : List Owned) → 8 ≤ store.width → Holds store others → link.LinkStands x store others fresh)
     → (terms_of x).queue ≡ c.queue → (terms_of x).control ≡ c.control → IsBegun c x
 begun c x ranged h queue control =
     let st = h (empty_store 0 8) [] (omega arith) (Holds-empty 0 8) in
@@ -33,10 +33,10 @@ absurd_none : {A : Type 0} {x : ℕ} → None ≡ Some x → A
 absurd_none h = cc
 
 -- the entities, of parts that were just started
-pub layer_fresh : (c : Config) (teis : Management) (links : List Link) (units : UnitRing) (awake : Marks) → IsInRange c → teis ≡ empty c.terminals → AreBegun c links → units ≡ empty_ring c.unit_queue → AreMarked awake (λ number. false)
+pub layer_fresh : (c : Config) (teis : Management) (links : List Link) (units : UnitRing) (has_frame : Marks) → IsInRange c → teis ≡ empty c.terminals → AreBegun c links → units ≡ empty_ring c.unit_queue → AreMarked has_frame (λ number. false)
     → (store : Store) (others : List Owned) → c.n201 ≤ store.width → Holds store others
-    → LayerStands (record { config = c; teis = teis; links = links; units = units; turn = 0; awake = awake }) store others (fresh_line c)
-layer_fresh c teis links units awake ranged is_teis b is_units none store others wide held = record {
+    → LayerStands (record { config = c; teis = teis; links = links; units = units; turn = 0; has_frame = has_frame }) store others (fresh_line c)
+layer_fresh c teis links units has_frame ranged is_teis b is_units none store others wide held = record {
   range = ranged;
   wide = wide;
   sound = fresh_sound c ranged;
@@ -49,7 +49,7 @@ layer_fresh c teis links units awake ranged is_teis b is_units none store others
   addressed = subst (λ u. AreFor u.waiting []) (sym is_units) tt;
   capacity = ap (λ u. u.capacity) is_units;
   turn = refl;
-  awake = awake_first awake links (link_count c) none;
+  has_frame = awake_first has_frame links (link_count c) none;
   held = subst (λ ps. Holds store ((ps ++ unit_pairs units.waiting []) ++ others)) (sym (subst (λ n. links_pairs links (replicate n fresh) ≡ []) b.count (no_pairs c links b.begun)))
       (subst (λ u. Holds store (unit_pairs u.waiting [] ++ others)) (sym is_units) held);
 }

@@ -5,14 +5,14 @@ use Rattle.lapd_link.specs.Stands as link
 use Rattle.model_link.specs.Link as machine
 use Rattle.model_line.specs.Line as machine_line
 use Rattle.lapd_line.specs.LinkLayer.{LayerStands}
-use Rattle.lapd_line.specs.Stands.{Stands}
+use Rattle.lapd_line.specs.Stands.{LineStands}
 use Rattle.lapd_line.specs.Units as units
 use Rattle.lapd_line.proofs.HeldSteps.{sum_next}
 use Rattle.lapd_line.proofs.LayerSteps.{stands_as}
 use Rattle.lapd_line.proofs.PullTakesUnits.{as_many}
 
 -- what a line owns is held beside what others own
-pub held_of : (x : FrameLine) (s : Store) (others : List Owned) (m : machine_line.Line) → Stands x s others m → Holds s (line_pairs x m ++ others)
+pub held_of : (x : FrameLine) (s : Store) (others : List Owned) (m : machine_line.Line) → LineStands x s others m → Holds s (line_pairs x m ++ others)
 held_of x s others m st = st.layer.held
 
 -- and where another shelf holds it, the entities stand there too,
@@ -21,8 +21,8 @@ pub on_shelf : {e : LinkLayer} {s t : Store} {others rest : List Owned} {m : mac
 on_shelf {e} {t = t} {rest = rest} {m} st wide held = stands_as st e.teis e.units t rest m (refl, refl, refl, refl) wide st.sound st.management st.addressed held
 
 -- and so does the line
-pub stands_on : (x : FrameLine) (s : Store) (others : List Owned) (m : machine_line.Line) → Stands x s others m → (t : Store) (rest : List Owned) → (config_of x).n201 ≤ t.width → Holds t (line_pairs x m ++ rest)
-    → Stands x t rest m
+pub stands_on : (x : FrameLine) (s : Store) (others : List Owned) (m : machine_line.Line) → LineStands x s others m → (t : Store) (rest : List Owned) → (config_of x).n201 ≤ t.width → Holds t (line_pairs x m ++ rest)
+    → LineStands x t rest m
 stands_on x s others m st t rest wide held = record { layer = on_shelf st.layer wide held }
 
 -- a sum over the places of a list is the sum over its elements
@@ -78,8 +78,8 @@ octets_owned {e} {s} {others} {m} st =
     omega (arith, octets_of_links e s others m st, octets_of_units e.units.waiting m.units st.addressed, owned_octets-append (links_pairs e.links m.links) (unit_pairs e.units.waiting m.units))
 
 -- and so does a line
-pub slots-pairs : (x : FrameLine) (s : Store) (others : List Owned) (m : machine_line.Line) → Stands x s others m → length (line_pairs x m) ≡ slots_of (config_of x) m
+pub slots-pairs : (x : FrameLine) (s : Store) (others : List Owned) (m : machine_line.Line) → LineStands x s others m → length (line_pairs x m) ≡ slots_of (config_of x) m
 slots-pairs x s others m st = slots_owned st.layer
 
-pub octets-pairs : (x : FrameLine) (s : Store) (others : List Owned) (m : machine_line.Line) → Stands x s others m → owned_octets (line_pairs x m) ≡ octets_of (config_of x) m
+pub octets-pairs : (x : FrameLine) (s : Store) (others : List Owned) (m : machine_line.Line) → LineStands x s others m → owned_octets (line_pairs x m) ≡ octets_of (config_of x) m
 octets-pairs x s others m st = octets_owned st.layer

@@ -48,15 +48,15 @@ module _ (e : LinkLayer) (before : Management) (what : teis.Event) (outcome : Te
   followed s others m st = grind arith
 
   -- so they stand again, where the links do
-  pub rebuilt : (s t : Store) (others : List Owned) (m : Line) (new : List Link) (ms : List machine.Link) (awake : Marks)
+  pub rebuilt : (s t : Store) (others : List Owned) (m : Line) (new : List Link) (ms : List machine.Link) (has_frame : Marks)
       → LayerStands (with_management before e) s others m
       → LinksStand e.config new t (unit_pairs e.units.waiting m.units ++ others) ms
       → length new ≡ length e.links
       → ((number tei : ℕ) → number < link_count e.config → get_or e.teis.places (place_at number) None ≡ Some tei → HasTerms new number (terms e.config (service_at number) tei))
-      → AreAwake awake new ms
+      → AreAwake has_frame new ms
       → (of_management e.config what m).line ≡ record m { management = e.teis; links = ms }
-      → LayerStands (record e { links = new; awake = awake }) t others (record m { management = e.teis; links = ms })
-  rebuilt s t others m new ms awake st stand count has_terms are_awake line = record {
+      → LayerStands (record e { links = new; has_frame = has_frame }) t others (record m { management = e.teis; links = ms })
+  rebuilt s t others m new ms has_frame st stand count has_terms are_awake line = record {
     range = st.range;
     wide = stand.wide;
     sound = subst (IsSound e.config) line (management_event_sound e.config st.range m what st.sound is.range);
@@ -67,7 +67,7 @@ module _ (e : LinkLayer) (before : Management) (what : teis.Event) (outcome : Te
     addressed = st.addressed;
     capacity = st.capacity;
     turn = st.turn;
-    awake = are_awake;
+    has_frame = are_awake;
     held = subst (Holds t) (sym (append_assoc (links_pairs new ms) (unit_pairs e.units.waiting m.units) others)) stand.held;
   }
 
@@ -82,9 +82,9 @@ module _ (e : LinkLayer) (before : Management) (what : teis.Event) (outcome : Te
         let all : of_management e.config what m ≡ record { line = record m { management = e.teis }; told = told_of_management (told_of outcome) } =
         followed s others m st ∙ ap (λ c. of_change e.config c (told_of_management (told_of outcome)) (record m { management = e.teis })) none in
         subst (λ l. LayerStands e s others l) (sym (ap (λ x. x.line) all))
-        (rebuilt s s others m e.links m.links e.awake st (links_part (with_management before e) s others m st) refl
+        (rebuilt s s others m e.links m.links e.has_frame st (links_part (with_management before e) s others m st) refl
         (λ number tei few at. st.terms number tei few (ap (λ b. get_or b.places (place_at number) None) st.management ∙ ap (λ p. get_or p (place_at number) None) (sym same) ∙ at))
-        st.awake (ap (λ x. x.line) all));
+        st.has_frame (ap (λ x. x.line) all));
     told = λ others m st. told ∙ ap (λ x. x.told) (sym (followed s others m st ∙ ap (λ c. of_change e.config c (told_of_management (told_of outcome)) (record m { management = e.teis })) none));
   }
 
@@ -104,7 +104,7 @@ module _ (e : LinkLayer) (before : Management) (what : teis.Event) (outcome : Te
         let all : of_management e.config what m ≡ record { line = with_opened place (record m { management = e.teis }); told = told_of_management (told_of outcome) } =
         followed s others m st ∙ ap (λ c. of_change e.config c (told_of_management (told_of outcome)) (record m { management = e.teis })) gained in
         subst (λ l. LayerStands (record e { links = two }) s others l) (sym (ap (λ x. x.line) all))
-        (rebuilt s s others m two _ e.awake st (second _ _ (first _ _ (links_part (with_management before e) s others m st))) count (has_terms s others m st there) (are_awake s others m st there) (ap (λ x. x.line) all));
+        (rebuilt s s others m two _ e.has_frame st (second _ _ (first _ _ (links_part (with_management before e) s others m st))) count (has_terms s others m st there) (are_awake s others m st there) (ap (λ x. x.line) all));
     told = λ others m st. told ∙ ap (λ x. x.told) (sym (followed s others m st ∙ ap (λ c. of_change e.config c (told_of_management (told_of outcome)) (record m { management = e.teis })) gained));
   }
     where
@@ -122,11 +122,11 @@ module _ (e : LinkLayer) (before : Management) (what : teis.Event) (outcome : Te
 
       -- they were asleep, as the place was free, and begin with nothing to give
       are_awake : (s' : Store) (others : List Owned) (m : Line) → LayerStands (with_management before e) s' others m → HasJoined before.places e.teis.places tei place
-          → AreAwake e.awake two (set (set m.links call machine.fresh) packet machine.fresh)
+          → AreAwake e.has_frame two (set (set m.links call machine.fresh) packet machine.fresh)
       are_awake s' others m st there =
-          awake_begun e.awake one two (set m.links call machine.fresh) packet (λ other apart. ap (λ l. slice_get l other) second_terms ∙ slice_get-set_other (terms_in one) packet other _ apart)
+          awake_begun e.has_frame one two (set m.links call machine.fresh) packet (λ other apart. ap (λ l. slice_get l other) second_terms ∙ slice_get-set_other (terms_in one) packet other _ apart)
           (get_or-set_other m.links call packet machine.fresh machine.fresh (λ q. omega (arith, q)) ∙ free_link {e = with_management before e} Packet place st there.within there.was_free)
-          (awake_begun e.awake e.links one m.links call (λ other apart. ap (λ l. slice_get l other) first_terms ∙ slice_get-set_other (terms_in e.links) call other _ apart) (free_link {e = with_management before e} Call place st there.within there.was_free) st.awake)
+          (awake_begun e.has_frame e.links one m.links call (λ other apart. ap (λ l. slice_get l other) first_terms ∙ slice_get-set_other (terms_in e.links) call other _ apart) (free_link {e = with_management before e} Call place st there.within there.was_free) st.has_frame)
 
       has_terms : (s' : Store) (others : List Owned) (m : Line) → LayerStands (with_management before e) s' others m → HasJoined before.places e.teis.places tei place
           → (number tei' : ℕ) → number < link_count e.config → get_or e.teis.places (place_at number) None ≡ Some tei' → HasTerms two number (terms e.config (service_at number) tei')
@@ -163,19 +163,19 @@ module _ (e : LinkLayer) (before : Management) (what : teis.Event) (outcome : Te
               ∙ st.terms number tei' few (ap (λ b. get_or b.places (place_at number) None) st.management ∙ sym (get_or-set_other before.places place (place_at number) (Some tei) None other) ∙ places_are)
 
   -- A TEI has left the line.
-  pub left : (s u t : Store) (octets : List ℕ) (o : BareReport) (tei place : ℕ) (one two : List Link) (call packet : BareReport) (mid awake : Marks) → outcome.change ≡ Some (Left tei place)
-      → Sets (link_number place Call) false e.awake mid → Sets (link_number place Packet) false mid awake
+  pub left : (s u t : Store) (octets : List ℕ) (o : BareReport) (tei place : ℕ) (one two : List Link) (call packet : BareReport) (mid has_frame : Marks) → outcome.change ≡ Some (Left tei place)
+      → Sets (link_number place Call) false e.has_frame mid → Sets (link_number place Packet) false mid has_frame
       → links.Serves (link_number place Call) event.cleared [] e.links s one u call
       → links.Serves (link_number place Packet) event.cleared [] one u two t packet
       → told_in octets o ≡ with_cleared (told_of_link (told_with [] call)) (told_of_link (told_with [] packet)) (told_of_management (told_of outcome))
-      → Serves (always (at_management what)) octets (with_management before e) s (record e { links = two; awake = awake }) t o
-  left s u t octets o tei place one two call packet mid awake gone sleeps sleeps_too first second told = record {
+      → Serves (always (at_management what)) octets (with_management before e) s (record e { links = two; has_frame = has_frame }) t o
+  left s u t octets o tei place one two call packet mid has_frame gone sleeps sleeps_too first second told = record {
     config = refl;
     limits = record { slots = second.limits.slots ∙ first.limits.slots; width = second.limits.width ∙ first.limits.width };
     stands = λ others m st.
         let all = followed s others m st ∙ ap (λ c. of_change e.config c (told_of_management (told_of outcome)) (record m { management = e.teis })) gone in
-        subst (λ l. LayerStands (record e { links = two; awake = awake }) t others l) (sym (ap (λ x. x.line) all))
-        (rebuilt s t others m two _ awake st (both s others m st).1 (same_many two e.links same_terms) (has_terms s others m st) (are_awake m st.awake) (ap (λ x. x.line) all));
+        subst (λ l. LayerStands (record e { links = two; has_frame = has_frame }) t others l) (sym (ap (λ x. x.line) all))
+        (rebuilt s t others m two _ has_frame st (both s others m st).1 (same_many two e.links same_terms) (has_terms s others m st) (are_awake m st.has_frame) (ap (λ x. x.line) all));
     told = λ others m st.
         let all = followed s others m st ∙ ap (λ c. of_change e.config c (told_of_management (told_of outcome)) (record m { management = e.teis })) gone in
         told
@@ -203,11 +203,11 @@ module _ (e : LinkLayer) (before : Management) (what : teis.Event) (outcome : Te
       same_terms = second.terms ∙ first.terms
 
       -- they begin anew, and have nothing to give
-      are_awake : (m : Line) → AreAwake e.awake e.links m.links
-          → AreAwake awake two (set (one_of m.links) (link_number place Packet) (answers.after (terms e.config Packet tei) event.cleared (machine_at (one_of m.links) (link_number place Packet))))
+      are_awake : (m : Line) → AreAwake e.has_frame e.links m.links
+          → AreAwake has_frame two (set (one_of m.links) (link_number place Packet) (answers.after (terms e.config Packet tei) event.cleared (machine_at (one_of m.links) (link_number place Packet))))
       are_awake m h =
-          awake_cleared mid awake one two (one_of m.links) (link_number place Packet) sleeps_too second.terms
-          (awake_cleared e.awake mid e.links one m.links (link_number place Call) sleeps first.terms h)
+          awake_cleared mid has_frame one two (one_of m.links) (link_number place Packet) sleeps_too second.terms
+          (awake_cleared e.has_frame mid e.links one m.links (link_number place Call) sleeps first.terms h)
 
       has_terms : (s' : Store) (others : List Owned) (m : Line) → LayerStands (with_management before e) s' others m
           → (number tei' : ℕ) → number < link_count e.config → get_or e.teis.places (place_at number) None ≡ Some tei' → HasTerms two number (terms e.config (service_at number) tei')

@@ -19,7 +19,7 @@ gives m terms = is_some (given terms m)
 abbrev pub gives_at : List Link → List machine.Link → ℕ → Bool
 gives_at links ms number = option_map_or (gives (machine_at ms number)) (slice_get (terms_in links) number) false
 
--- Those are awake that have something to give, and no others.
+-- Marked are the links that have a frame to give, and no others.
 abbrev pub AreAwake : Marks → List Link → List machine.Link → Type 0
 AreAwake marks links ms = AreMarked marks (gives_at links ms)
 

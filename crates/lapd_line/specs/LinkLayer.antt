@@ -32,8 +32,8 @@ pub record LayerStands (e : LinkLayer) (store : Store) (others : List Owned) (m 
   pub addressed : AreFor e.units.waiting m.units
   pub capacity : e.units.capacity ≡ e.config.unit_queue
   pub turn : m.turn ≡ e.turn
-  -- those links are awake that have something to give
-  pub awake : AreAwake e.awake e.links m.links
+  -- the links that have a frame to give
+  pub has_frame : AreAwake e.has_frame e.links m.links
   pub held : Holds store ((links_pairs e.links m.links ++ unit_pairs e.units.waiting m.units) ++ others)
 
 -- There is a past that they stand for.

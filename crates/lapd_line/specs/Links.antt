@@ -59,8 +59,8 @@ GoesOn number e old s new t =
     → LinksStand c new t others (set ms number (after terms e (machine_at ms number)))
 
 -- And it is answered with what that machine tells.
-abbrev pub IsTold : ℕ → Event → List ℕ → List Link → Store → BareReport → Type 0
-IsTold number e info old s report =
+abbrev pub IsAnswered : ℕ → Event → List ℕ → List Link → Store → BareReport → Type 0
+IsAnswered number e info old s report =
     (c : Config) (terms : Terms) (others : List Owned) (ms : List machine.Link) → HasTerms old number terms → LinksStand c old s others ms
     → told_with info report ≡ told terms e (machine_at ms number)
 
@@ -68,7 +68,7 @@ pub record Serves (number : ℕ) (e : Event) (info : List ℕ) (old : List Link)
   pub terms : terms_in new ≡ terms_in old
   pub limits : SameLimits s t
   pub goes_on : GoesOn number e old s new t
-  pub told : IsTold number e info old s report
+  pub told : IsAnswered number e info old s report
 
 -- A request of the link at a place is refused for this reason, or not.
 abbrev pub Refuses : ℕ → Bool → Request → List Link → Store → Option Refusal → Type 0

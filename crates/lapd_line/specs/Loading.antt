@@ -32,7 +32,7 @@ reference_in (in_octets octets n place) = place
 -- front are the frame, and those behind them stay.
 abbrev pub Loads : List ℕ → Loading → Loading → Type 0
 Loads octets (in_bits f) (in_bits g) =
-    ((items : List Item) (given : List ℕ) → framer.Stands f items given → framer.Stands g (items ++ frame octets ∷ []) given)
+    ((items : List Item) (given : List ℕ) → framer.FramerStands f items given → framer.FramerStands g (items ++ frame octets ∷ []) given)
     × (g.begun ≡ head_of octets)
 Loads octets (in_octets before n place) (in_octets after m there) = (m ≡ length octets) × (after ≡ octets ++ drop m before)
 Loads octets (in_bits f) (in_octets after m there) = ⊥

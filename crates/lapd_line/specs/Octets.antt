@@ -10,13 +10,13 @@ use Rattle.model_card.specs.ports.Line.{OctetLine, after}
 use Rattle.model_card.specs.ports.Port.{Event, meant}
 use Rattle.lapd_line.specs.declared.line.Line.{Line}
 use Rattle.lapd_line.specs.Ports.{PortStands}
-use Rattle.lapd_line.specs.Stands.{Stands, config_of}
+use Rattle.lapd_line.specs.Stands.{LineStands, config_of}
 
 abbrev pub octets_config : Line → Config
 octets_config line = config_of line.frames
 
 pub record OctetsStand (line : Line) (store : Store) (others : List Owned) (l : OctetLine) : Type 0 where
-  pub frames : Stands line.frames store others l.line
+  pub frames : LineStands line.frames store others l.line
   pub port : PortStands (octets_config line).n201 line.port l.port
 
 -- What an event shows of what it means to the line of frames is counted.

@@ -18,8 +18,8 @@ use Rattle.lapd_line.specs.declared.pulled.Pulled.{Pulled}
 use Rattle.lapd_line.specs.Reports.{octets_of, pulled_of}
 
 pub record PortStands (n201 : ℕ) (port : Port) (p : machine.Port) : Type 0 where
-  pub received : deframer.Stands n201 port.deframer p.received
-  pub sent : framer.Stands port.framer p.items p.given
+  pub received : deframer.DeframerStands n201 port.deframer p.received
+  pub sent : framer.FramerStands port.framer p.items p.given
   pub room : port.framer.room ≡ n201
   pub latest : port.heard ≡ head_heard n201 p
   pub limit : port.too_long ≡ n201 + 5

@@ -47,6 +47,6 @@ pub record TakesNext (old : FrameLine) (s : Store) (f : Loading) (new : FrameLin
   pub limits : SameLimits s t
   pub room : room_in g ≡ room_in f
   pub reference : reference_in g ≡ reference_in f
-  pub stands : (others : List Owned) (m : Line) → line.Stands old s others m → line.Stands new t others (after (config_of old) next m)
-  pub next : (others : List Owned) (m : Line) → line.Stands old s others m → IsNext (option_map next_of (taken (config_of old) m)) orders f g
+  pub stands : (others : List Owned) (m : Line) → line.LineStands old s others m → line.LineStands new t others (after (config_of old) next m)
+  pub next : (others : List Owned) (m : Line) → line.LineStands old s others m → IsNext (option_map next_of (taken (config_of old) m)) orders f g
   pub uncounted : new.counters ≡ old.counters

@@ -29,7 +29,7 @@ pairs_of line m = links_pairs line.layer.links m.links ++ unit_pairs line.layer.
 
 -- A line stands for a past beside others on its shelf: its entities do, and the shelf holds exactly what the line and the
 -- others own.
-pub record Stands (line : FrameLine) (store : Store) (others : List Owned) (m : machine.Line) : Type 0 where
+pub record LineStands (line : FrameLine) (store : Store) (others : List Owned) (m : machine.Line) : Type 0 where
   pub layer : LayerStands line.layer store others m
 
 -- An event leads a line and its shelf from one value to another: for every past, and every list of what others own, for
@@ -38,8 +38,8 @@ pub record Stands (line : FrameLine) (store : Store) (others : List Owned) (m : 
 pub record Leads (event : Event) (old : FrameLine) (s : Store) (new : FrameLine) (t : Store) : Type 0 where
   pub config : config_of new ≡ config_of old
   pub limits : SameLimits s t
-  pub stands : (others : List Owned) (m : machine.Line) → Stands old s others m → Stands new t others (after (config_of old) event m)
-  pub counted : (others : List Owned) (m : machine.Line) → Stands old s others m → new.counters ≡ counted (config_of old) event m old.counters
+  pub stands : (others : List Owned) (m : machine.Line) → LineStands old s others m → LineStands new t others (after (config_of old) event m)
+  pub counted : (others : List Owned) (m : machine.Line) → LineStands old s others m → new.counters ≡ counted (config_of old) event m old.counters
 
 -- What is heard, if anything is, leads a line on; else all stays.
 abbrev pub LeadsIfHeard : Option stream.Event → FrameLine → Store → FrameLine → Store → Type 0

@@ -45,6 +45,6 @@ impl LinkLayer {
         let number = link_number(place, service);
         self.links.expire(number, timer, report, shelf);
         report.cause = None;
-        self.awake.set(number, self.links.has_frame(number));
+        self.has_frame.set(number, self.links.has_frame(number));
     }
 }

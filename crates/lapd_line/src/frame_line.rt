@@ -36,7 +36,7 @@ pub struct FrameLine {
 }
 
 impl FrameLine {
-    ghost use Rattle.lapd_line.specs.Stands.{Stands};
+    ghost use Rattle.lapd_line.specs.Stands.{LineStands};
 
     /// A line of a card with these sizes and limits, all in range. No TEI is on it.
     ///
@@ -48,7 +48,7 @@ impl FrameLine {
         ensures config { IfOk result (λ line. config_of line ≡ config.now) }
         // On a shelf that is wide enough it stands for an empty past, whatever the others own.
         ensures fresh { IfOk result (λ line. (store : Store) (others : List Owned) → config.now.n201 ≤ store.width
-            → Holds store others → Stands line store others (machine.fresh_line config.now)) }
+            → Holds store others → LineStands line store others (machine.fresh_line config.now)) }
         ensures counters { IfOk result (λ line. line.counters ≡ none_counted) }
     {
         let teis = Teis::start(alloc, usize::from(config.terminals))?;
@@ -60,7 +60,7 @@ impl FrameLine {
             links,
             units,
             turn: 0,
-            awake: Marks::none(),
+            has_frame: Marks::none(),
         };
         Ok(FrameLine {
             layer,
@@ -78,8 +78,8 @@ impl FrameLine {
         shelf: &mut S,
     ) -> bool
         requires clear { IsClear report.old }
-        requires stands { (others : List Owned) × (m : machine.Line) × Stands self.old (S.store shelf.old) others m }
-        ensures told { (others : List Owned) (m : machine.Line) → Stands self.old (S.store shelf.old) others m
+        requires stands { (others : List Owned) × (m : machine.Line) × LineStands self.old (S.store shelf.old) others m }
+        ensures told { (others : List Owned) (m : machine.Line) → LineStands self.old (S.store shelf.old) others m
             → told (told_in (octets_of (heard_of heard.entry)) report.new) ≡ answer_if_heard (config_of self.old) (heard_of heard.entry) m }
         ensures after { LeadsIfHeard (heard_of heard.entry) self.old (S.store shelf.old) self.new (S.store shelf.new) }
         ensures quiet { result ≡ true → IsQuiet report.new }
@@ -118,8 +118,8 @@ impl FrameLine {
     #[inline(always)]
     pub fn frame<S: Shelf>(&mut self, octets: &[u8], report: &mut BareReport, shelf: &mut S) -> bool
         requires clear { IsClear report.old }
-        requires stands { (others : List Owned) × (m : machine.Line) × Stands self.old (S.store shelf.old) others m }
-        ensures told { (others : List Owned) (m : machine.Line) → Stands self.old (S.store shelf.old) others m
+        requires stands { (others : List Owned) × (m : machine.Line) × LineStands self.old (S.store shelf.old) others m }
+        ensures told { (others : List Owned) (m : machine.Line) → LineStands self.old (S.store shelf.old) others m
             → told (told_in (octets_of (Some (came (config_of self.old).n201 octets.now))) report.new) ≡ answer (config_of self.old) (hears (came (config_of self.old).n201 octets.now)) m }
         ensures after { Leads (hears (came (config_of self.old).n201 octets.now)) self.old (S.store shelf.old) self.new (S.store shelf.new) }
         ensures quiet { result ≡ true → IsQuiet report.new }
@@ -164,8 +164,8 @@ impl FrameLine {
     /// run, nothing happens (profile).
     pub fn expire<S: Shelf>(&mut self, timer: Timer, report: &mut BareReport, shelf: &mut S)
         requires clear { IsClear report.old }
-        requires stands { (others : List Owned) × (m : machine.Line) × Stands self.old (S.store shelf.old) others m }
-        ensures told { (others : List Owned) (m : machine.Line) → Stands self.old (S.store shelf.old) others m
+        requires stands { (others : List Owned) × (m : machine.Line) × LineStands self.old (S.store shelf.old) others m }
+        ensures told { (others : List Owned) (m : machine.Line) → LineStands self.old (S.store shelf.old) others m
             → told (told_beside None report.new) ≡ answer (config_of self.old) (line_event.expiry timer) m }
         // It starts one timer at most.
         ensures starts { starts (listed report.new.orders) ≤ 1 }
@@ -190,16 +190,16 @@ impl FrameLine {
         slots: u32,
     ) -> Result<(), Refusal>
         requires clear { IsClear report.old }
-        requires stands { (others : List Owned) × (m : machine.Line) × Stands self.old (S.store shelf.old) others m }
+        requires stands { (others : List Owned) × (m : machine.Line) × LineStands self.old (S.store shelf.old) others m }
         requires slots { slots ≤ (S.store shelf.old).slots }
-        ensures refused { IfErr result (λ why. (others : List Owned) (m : machine.Line) → Stands self.old (S.store shelf.old) others m
+        ensures refused { IfErr result (λ why. (others : List Owned) (m : machine.Line) → LineStands self.old (S.store shelf.old) others m
             → refusal (config_of self.old) (nat_le slots (used_slots (S.store shelf.old))) (request_of request.entry) m ≡ Some why) }
         ensures unchanged { OnErr result (self.new ≡ self.old) }
         ensures kept { OnErr result (shelf.new ≡ shelf.old) }
         ensures untold { OnErr result (report.new ≡ report.old) }
-        ensures accepted { OnOk result ((others : List Owned) (m : machine.Line) → Stands self.old (S.store shelf.old) others m
+        ensures accepted { OnOk result ((others : List Owned) (m : machine.Line) → LineStands self.old (S.store shelf.old) others m
             → refusal (config_of self.old) (nat_le slots (used_slots (S.store shelf.old))) (request_of request.entry) m ≡ None) }
-        ensures told { OnOk result ((others : List Owned) (m : machine.Line) → Stands self.old (S.store shelf.old) others m
+        ensures told { OnOk result ((others : List Owned) (m : machine.Line) → LineStands self.old (S.store shelf.old) others m
             → told (told_beside None report.new) ≡ answer (config_of self.old) (line_event.request (request_of request.entry)) m) }
         ensures after { OnOk result (
             Leads (line_event.request (request_of request.entry)) self.old (S.store shelf.old) self.new (S.store shelf.new)) }

@@ -8,7 +8,7 @@
 //! [`FrameLine::load_next`]). A [`Line`] is both together, and answers as `OctetLine` of `model_card::ports` does.
 //!
 //! - `frame_line`: the calls: what is heard, a timer that expires, a request; `came`, what a controller's frames and faults are
-//!   heard as; `next_frame`, what goes out, and `outlet`, where to; `looks`: the state of a link, how much room it has, and how
+//!   heard as; `next_frame`, what goes out, and `outlet`, where to; `queries`: the state of a link, how much room it has, and how
 //!   many octets the line stores.
 //! - `port`: the octets of a line; `line`: a line with its port.
 //! - `link_layer`: what the calls change: TEI management, links and units; `addressing`, what is heard; `expiries`, timers;
@@ -33,13 +33,13 @@ mod held;
 mod line;
 mod link_layer;
 mod links;
-mod looks;
 mod marks;
 mod next_frame;
 mod outlet;
 mod port;
 mod pulled;
 mod pulls;
+mod queries;
 mod reports;
 mod requests;
 mod tei_changes;

@@ -24,7 +24,7 @@ pub(crate) struct LinkLayer {
     /// The link at which the next round begins.
     pub(crate) turn: usize,
     /// The links that have something to give, by their numbers.
-    pub(crate) awake: Marks,
+    pub(crate) has_frame: Marks,
 }
 
 /// A link by its number: two links a place, that of call control first. No table has more than eight places.
@@ -62,6 +62,6 @@ impl LinkLayer {
         self.links.receive(number, received, report, shelf);
         report.start = start;
         report.cause = None;
-        self.awake.set(number, self.links.has_frame(number));
+        self.has_frame.set(number, self.links.has_frame(number));
     }
 }

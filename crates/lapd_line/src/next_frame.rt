@@ -83,14 +83,14 @@ fn put(out: &mut [u8], at: usize, octets: &[u8])
 
 impl FrameLine {
     ghost use Rattle.lapd_line.specs.{IsLoaded, gave_in, written, Leads, config_of};
-    ghost use Rattle.lapd_line.specs.Stands.{Stands};
+    ghost use Rattle.lapd_line.specs.Stands.{LineStands};
 
     /// Writes the next frame to be sent in front of `out`, without its check: a message of TEI management, else unit data,
     /// else a frame of a link, each link in its turn (profile); none where none waits. There is room for the longest.
     pub fn next_frame<S: Shelf>(&mut self, out: &mut [u8], shelf: &mut S) -> Option<NextFrame>
-        requires stands { (others : List Owned) × (m : machine.Line) × Stands self.old (S.store shelf.old) others m }
+        requires stands { (others : List Owned) × (m : machine.Line) × LineStands self.old (S.store shelf.old) others m }
         requires room { (config_of self.old).n201 + 4 ≤ length out.old }
-        ensures gave { (others : List Owned) (m : machine.Line) → Stands self.old (S.store shelf.old) others m
+        ensures gave { (others : List Owned) (m : machine.Line) → LineStands self.old (S.store shelf.old) others m
             → gave_in out.new result ≡ answer (config_of self.old) line_event.next m }
         ensures fits { written result ≤ length out.new }
         ensures rest { drop (written result) out.new ≡ drop (written result) out.old }
@@ -114,10 +114,10 @@ impl FrameLine {
         port: &mut Port,
         shelf: &mut S,
     ) -> Option<ShortList<Order>>
-        requires stands { (others : List Owned) × (m : machine.Line) × Stands self.old (S.store shelf.old) others m }
+        requires stands { (others : List Owned) × (m : machine.Line) × LineStands self.old (S.store shelf.old) others m }
         requires few { length port.old.framer.left < 8 }
         requires room { port.old.framer.room ≡ (config_of self.old).n201 }
-        ensures loaded { (others : List Owned) (m : machine.Line) → Stands self.old (S.store shelf.old) others m
+        ensures loaded { (others : List Owned) (m : machine.Line) → LineStands self.old (S.store shelf.old) others m
             → IsLoaded (answer (config_of self.old) line_event.next m) (orders_taken result) port.old port.new }
         ensures after { Leads line_event.next self.old (S.store shelf.old) self.new (S.store shelf.new) }
     {
@@ -133,7 +133,7 @@ impl FrameLine {
     /// Takes the next frame, and counts nothing.
     #[inline(always)]
     fn take<O: Outlet, S: Shelf>(&mut self, out: &mut O, shelf: &mut S) -> Option<ShortList<Order>>
-        requires stands { (others : List Owned) × (m : machine.Line) × Stands self.old (S.store shelf.old) others m }
+        requires stands { (others : List Owned) × (m : machine.Line) × LineStands self.old (S.store shelf.old) others m }
         requires free { IsFree (O.loading out.old) }
         requires room { (config_of self.old).n201 ≤ room_in (O.loading out.old) }
         ensures { TakesNext self.old (S.store shelf.old) (O.loading out.old) self.new (S.store shelf.new) (O.loading out.new) (orders_taken result) }

@@ -52,7 +52,7 @@ impl LinkLayer {
         self.take_first(out, shelf)
     }
 
-    /// What the first of these links has to give. It is the first that is awake; where none is, that costs no call.
+    /// What the first of these links has to give. It is the first that has a frame; where none is, that costs no call.
     #[tactic(auto, using(crate::proofs::PullTakesRound::first_within, crate::proofs::PullTakesRound::first_marked))]
     #[inline(always)]
     fn take_first<O: Outlet, S: Shelf>(
@@ -65,11 +65,11 @@ impl LinkLayer {
         requires room { self.old.config.n201 ≤ room_in (O.loading out.old) }
         ensures { Takes (λ c m. first_taken c m (round c m)) self.old (S.store shelf.now) (O.loading out.old) self.new (S.store shelf.now) (O.loading out.new) (orders_taken result) }
     {
-        let number = self.awake.first_around(self.turn)?;
+        let number = self.has_frame.first_around(self.turn)?;
         self.take_link(number, out, shelf)
     }
 
-    /// What a link that is awake has to give.
+    /// What a link that has a frame has to give.
     // It is compiled into the rounds, so that what it answers is not copied on its way.
     #[inline(always)]
     fn take_link<O: Outlet, S: Shelf>(
@@ -82,7 +82,7 @@ impl LinkLayer {
         requires free { IsFree (O.loading out.old) }
         requires room { self.old.config.n201 ≤ room_in (O.loading out.old) }
         requires within { number < link_count self.old.config }
-        requires awake { IsMark self.old.awake number true }
+        requires has_frame { IsMark self.old.has_frame number true }
         ensures given { IsSome result }
         ensures taken { Takes (λ c m. link_taken c m number) self.old (S.store shelf.now) (O.loading out.old) self.new (S.store shelf.now) (O.loading out.new) (orders_taken result) }
     {
@@ -103,15 +103,15 @@ impl LinkLayer {
         requires free { IsFree (O.loading out.old) }
         requires frame { (terms : Terms) × HasTerms self.old.links number terms × IsFrame (frame_of terms frame) }
         requires info { length info.now ≤ room_in (O.loading out.old) }
-        ensures awake { (looked : Bool) × TellsOf number self.old.links looked × Sets number looked self.old.awake self.new.awake }
-        ensures rest { self.new ≡ record self.old { awake = self.new.awake; turn = number + 1 } }
+        ensures has_frame { (looked : Bool) × TellsOf number self.old.links looked × Sets number looked self.old.has_frame self.new.has_frame }
+        ensures rest { self.new ≡ record self.old { has_frame = self.new.has_frame; turn = number + 1 } }
         ensures room { room_in (O.loading out.new) ≡ room_in (O.loading out.old) }
         ensures reference { reference_in (O.loading out.new) ≡ reference_in (O.loading out.old) }
         ensures loaded { (terms : Terms) → HasTerms self.old.links number terms
             → Loads (spelling self.old.config.side (record (frame_of terms frame) { info = info.now })) (O.loading out.old) (O.loading out.new) }
     {
         let address = self.links.address(number, frame.command);
-        self.awake.set(number, self.links.has_frame(number));
+        self.has_frame.set(number, self.links.has_frame(number));
         load(out, self.config.side, address, frame.control, info);
         self.turn = number + 1;
     }

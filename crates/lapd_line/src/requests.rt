@@ -148,7 +148,7 @@ impl LinkLayer {
         match self.links.request(number, request, report, shelf, slots) {
             Ok(()) => {
                 report.cause = None;
-                self.awake.set(number, self.links.has_frame(number));
+                self.has_frame.set(number, self.links.has_frame(number));
                 Ok(())
             }
             Err(why) => Err(why),
@@ -183,7 +183,7 @@ impl LinkLayer {
         let number = link_number(place, service);
         self.links.clear(number, report, shelf);
         report.cause = None;
-        self.awake.set(number, self.links.has_frame(number));
+        self.has_frame.set(number, self.links.has_frame(number));
         Ok(())
     }
 

@@ -106,9 +106,9 @@ impl LinkLayer {
         let mut call = BareReport::nothing();
         let mut packet = BareReport::nothing();
         self.links.clear(first, &mut call, shelf);
-        self.awake.set(first, false);
+        self.has_frame.set(first, false);
         self.links.clear(second, &mut packet, shelf);
-        self.awake.set(second, false);
+        self.has_frame.set(second, false);
         tell_management(report, told);
         tell_cleared(report, &call, &packet);
     }

@@ -1,5 +1,5 @@
 -- Requests of layer 3.
-use Rattle.lapd_link.proofs.Vocabulary.{◌≡◌, ℕ, ◌<◌, Bool, Bor, true, List, [], ◌∷◌, ◌++◌, length, drop, Option, Some, None, sym, ap, subst, ◌∙◌, arith, length-append, if◌then◌else◌, drop-append-le, Store, Owned, Keeps, Refusal, WrongState, Terms, Request, requested, Course, begun, data_in_7_8, serves, refusal, refusal_for_room, granted, course, Entity, BareReport, Agrees, IsClear, Took, begun-resting, Link, LinkRequest, Data, request_of, Stands, Stays, terms_of}
+use Rattle.lapd_link.proofs.Vocabulary.{◌≡◌, ℕ, ◌<◌, Bool, Bor, true, List, [], ◌∷◌, ◌++◌, length, drop, Option, Some, None, sym, ap, subst, ◌∙◌, arith, length-append, if◌then◌else◌, drop-append-le, Store, Owned, Keeps, Refusal, WrongState, Terms, Request, requested, Course, begun, data_in_7_8, serves, refusal, refusal_for_room, granted, course, Entity, BareReport, Agrees, IsClear, Took, begun-resting, Link, LinkRequest, Data, request_of, LinkStands, Stays, terms_of}
 use Rattle.model_link.specs.Link as machine
 use Rattle.lapd_link.proofs.Ending.{reached}
 
@@ -13,7 +13,7 @@ granted-course t r pool_is_full m none =
     ap (λ (o : Option Refusal). elim o as (λ _. Course) [ None ↦ granted t r (begun m) | Some _ ↦ begun m ]) (sym none)
 
 -- contents that were put on the shelf and at the end of the queue
-pub transferred : {link : Link} {store : Store} {others : List Owned} {m : machine.Link} {none : BareReport} (octets : List ℕ) → Stands link store others m → length link.queue.slots < link.queue.capacity → IsClear none → Agrees (terms_of link) [] (machine.queue_of m ++ octets ∷ []) (data_in_7_8 octets (begun m)) link.entity none
+pub transferred : {link : Link} {store : Store} {others : List Owned} {m : machine.Link} {none : BareReport} (octets : List ℕ) → LinkStands link store others m → length link.queue.slots < link.queue.capacity → IsClear none → Agrees (terms_of link) [] (machine.queue_of m ++ octets ∷ []) (data_in_7_8 octets (begun m)) link.entity none
 transferred {m = m} octets s place nothing =
     record {
       fits =
@@ -43,11 +43,11 @@ granted_as {r} {r'} {old} {link} {link'} {store} {store'} {t} {t'} {others} {m} 
     (subst (λ x. Granted r' old link' store' x others m) (sym told) h)))
 
 -- the rows of the entity did it,
-pub by_rows : {link : Link} {store : Store} {others : List Owned} {m : machine.Link} {e : Entity} {t : BareReport} (r : LinkRequest) → Took (terms_of link) [] (granted (terms_of link) (request_of r)) link.entity e t → Stands link store others m → Granted r link (record link { entity = e }) store t others m
+pub by_rows : {link : Link} {store : Store} {others : List Owned} {m : machine.Link} {e : Entity} {t : BareReport} (r : LinkRequest) → Took (terms_of link) [] (granted (terms_of link) (request_of r)) link.entity e t → LinkStands link store others m → Granted r link (record link { entity = e }) store t others m
 by_rows {m = m} r took s = record { messages = machine.queue_of m; kept = s.kept; agrees = reached took s }
 
 -- or contents went to the end of the queue
-pub by_contents : {old link : Link} {store new : Store} {others : List Owned} {m : machine.Link} {none : BareReport} (octets : Bor (List ℕ)) → Stands old store others m → length old.queue.slots < old.queue.capacity → IsClear none
+pub by_contents : {old link : Link} {store new : Store} {others : List Owned} {m : machine.Link} {none : BareReport} (octets : Bor (List ℕ)) → LinkStands old store others m → length old.queue.slots < old.queue.capacity → IsClear none
     → ((messages : List (List ℕ)) (others : List Owned) → Keeps store old.queue.slots messages others → Keeps new link.queue.slots (messages ++ octets.now ∷ []) others)
     → link.entity ≡ old.entity → Stays old link → Granted (Data octets) old link new none others m
 by_contents {old} {link} {others = others} {m} {none} octets s place nothing kept entity stays = record {

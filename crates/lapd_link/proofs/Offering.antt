@@ -1,5 +1,5 @@
 -- Offers.
-use Rattle.lapd_link.proofs.Vocabulary.{◌≡◌, ℕ, suc, zero, ◌+◌, ◌<◌, ◌≤◌, Bool, true, false, IsTrue, cond, List, [], ◌∷◌, length, drop, get_or, Option, Some, None, MatchOption, refl, sym, ap, subst, ◌∙◌, arith, length-drop, IfSome, IsSome, All, slice_get, get_or-drop, slice_get_within, get_or_from_slice_get, seq, ReceiveReady, IsFrame, allows, takes, row, sapi_of, Service, Call, Packet, frame_of, IsInRange, IsWaitingFrame, Store, IsUsed, contents_of, Owned, Keeps, Keeps-at, Keeps-used, Order, ControlFrame, T200, Terms, orders_for, Sent, Course, begun, ◌then◌, changed, pending_is, response, start, course, after, given, given_of, sound-after, Entity, BareReport, IsClear, Agrees, fits-resting, begun-resting, rests-after, Link, contents_in, HasMessage, Stands, terms_of}
+use Rattle.lapd_link.proofs.Vocabulary.{◌≡◌, ℕ, suc, zero, ◌+◌, ◌<◌, ◌≤◌, Bool, true, false, IsTrue, cond, List, [], ◌∷◌, length, drop, get_or, Option, Some, None, MatchOption, refl, sym, ap, subst, ◌∙◌, arith, length-drop, IfSome, IsSome, All, slice_get, get_or-drop, slice_get_within, get_or_from_slice_get, seq, ReceiveReady, IsFrame, allows, takes, row, sapi_of, Service, Call, Packet, frame_of, IsInRange, IsWaitingFrame, Store, IsUsed, contents_of, Owned, Keeps, Keeps-at, Keeps-used, Order, ControlFrame, T200, Terms, orders_for, Sent, Course, begun, ◌then◌, changed, pending_is, response, start, course, after, given, given_of, sound-after, Entity, BareReport, IsClear, Agrees, fits-resting, begun-resting, rests-after, Link, contents_in, HasMessage, LinkStands, terms_of}
 use Rattle.model_link.specs.Link as machine
 use Rattle.model_link.specs.Events as event
 use Rattle.model_link.specs.Offers as offers
@@ -92,26 +92,26 @@ frames-sent t [] c range frames begins =
     (good-by t (offers.is_awaiting_acknowledgement sent.link) sent (start T200 sent) (is-frame t (offers.next_information c.link) range refl refl) (is-frame t (offers.next_information c.link) range refl refl))
     (good-by t c.link.pending (offers.send_acknowledgement c) c (is-frame t (response (ReceiveReady (seq c.link.r) false)) range refl refl) begins)
 
-pub frame-offered : {link : Link} {store : Store} {others : List Owned} {m : machine.Link} (given : rows.Given) → Stands link store others m → (course (terms_of link) event.offer m).sent ≡ done.given_of (machine.queue_of m) (Some given) → IsFrame (frame_of (terms_of link) given.frame)
+pub frame-offered : {link : Link} {store : Store} {others : List Owned} {m : machine.Link} (given : rows.Given) → LinkStands link store others m → (course (terms_of link) event.offer m).sent ≡ done.given_of (machine.queue_of m) (Some given) → IsFrame (frame_of (terms_of link) given.frame)
 unfolding Good
 frame-offered {link} {m = m} given s sent =
     subst (Good (terms_of link)) sent (frames-sent (terms_of link) m.waiting (begun m) s.fits.range s.fits.sound.frames tt)
 
 -- The course of an offer,
-pub offered : {link : Link} {store : Store} {others : List Owned} {m : machine.Link} {queued : ℕ} {none : BareReport} {e' : Entity} {t' : BareReport} {given : Option rows.Given} → Stands link store others m → IsClear none → queued ≡ length link.queue.slots → done.Gives (terms_of link) (offers.offer_step (terms_of link)) queued link.entity none e' t' given → Agrees (terms_of link) [] (machine.queue_of m) (course (terms_of link) event.offer m) e' t'
+pub offered : {link : Link} {store : Store} {others : List Owned} {m : machine.Link} {queued : ℕ} {none : BareReport} {e' : Entity} {t' : BareReport} {given : Option rows.Given} → LinkStands link store others m → IsClear none → queued ≡ length link.queue.slots → done.Gives (terms_of link) (offers.offer_step (terms_of link)) queued link.entity none e' t' given → Agrees (terms_of link) [] (machine.queue_of m) (course (terms_of link) event.offer m) e' t'
 offered {link} {m = m} {e' = e'} {t'} s nothing many gives =
     subst (λ (c : Course). Agrees (terms_of link) [] (machine.queue_of m) (offers.offer_step (terms_of link) c) e' t')
     (begun-resting [] s.fits.rests nothing)
     (gives.step [] (machine.queue_of m) (done.past_at m) (omega (arith, many, s.kept.lengths)) nothing.released refl (fits-resting s.fits.rests (few s) nothing))
 
 -- what it sends,
-pub offered-sent : {link : Link} {store : Store} {others : List Owned} {m : machine.Link} {queued : ℕ} {none : BareReport} {e' : Entity} {t' : BareReport} {given : Option rows.Given} → Stands link store others m → IsClear none → queued ≡ length link.queue.slots → done.Gives (terms_of link) (offers.offer_step (terms_of link)) queued link.entity none e' t' given → (course (terms_of link) event.offer m).sent ≡ done.given_of (machine.queue_of m) given
+pub offered-sent : {link : Link} {store : Store} {others : List Owned} {m : machine.Link} {queued : ℕ} {none : BareReport} {e' : Entity} {t' : BareReport} {given : Option rows.Given} → LinkStands link store others m → IsClear none → queued ≡ length link.queue.slots → done.Gives (terms_of link) (offers.offer_step (terms_of link)) queued link.entity none e' t' given → (course (terms_of link) event.offer m).sent ≡ done.given_of (machine.queue_of m) given
 offered-sent {link} {m = m} s nothing many gives =
     ap (λ (c : Course). (offers.offer_step (terms_of link) c).sent) (sym (begun-resting [] s.fits.rests nothing))
     ∙ gives.sent [] (machine.queue_of m) (done.past_at m) (omega (arith, many, s.kept.lengths)) nothing.released refl (fits-resting s.fits.rests (few s) nothing)
 
 -- and what the link stands for afterwards
-pub stands-offered : {link : Link} {store : Store} {others : List Owned} {m : machine.Link} {e' : Entity} {t' : BareReport} → Stands link store others m → Agrees (terms_of link) [] (machine.queue_of m) (course (terms_of link) event.offer m) e' t' → Stands (record link { entity = e' }) store others (after (terms_of link) event.offer m)
+pub stands-offered : {link : Link} {store : Store} {others : List Owned} {m : machine.Link} {e' : Entity} {t' : BareReport} → LinkStands link store others m → Agrees (terms_of link) [] (machine.queue_of m) (course (terms_of link) event.offer m) e' t' → LinkStands (record link { entity = e' }) store others (after (terms_of link) event.offer m)
 stands-offered {link} {store} {others} {m} s agrees =
     record {
       fits =

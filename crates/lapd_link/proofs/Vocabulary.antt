@@ -14,7 +14,7 @@ pub use Rattle.lapd_frame.specs.declared.services.Service.TheVariants.{Call, Pac
 pub use Rattle.lapd_frame.specs.declared.timers.Order.{Order}
 pub use Rattle.lapd_link.specs.Events.{info_of, received_of, request_of}
 pub use Rattle.lapd_link.specs.Outcome.{HasMessage, contents_in, told_with}
-pub use Rattle.lapd_link.specs.Stands.{HasPlace, HasRoom, Reaches, Stands, Stays, slots_of, terms_of}
+pub use Rattle.lapd_link.specs.Stands.{HasPlace, HasRoom, Reaches, LinkStands, Stays, slots_of, terms_of}
 pub use Rattle.lapd_link.specs.declared.link.Link.{Link}
 pub use Rattle.lapd_link.specs.declared.received.Received.{Received}
 pub use Rattle.lapd_link.specs.declared.requests.LinkRequest.{LinkRequest}

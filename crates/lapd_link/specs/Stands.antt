@@ -36,7 +36,7 @@ pub record Fits (link : Link) (m : machine.Link) : Type 0 where
 
 -- A link stands for a link of the machine, beside what others own on the shelf: the shelf keeps the contents of the
 -- machine's queue in the slots of the link's, and what others own, and nothing else.
-pub record Stands (link : Link) (store : Store) (others : List Owned) (m : machine.Link) : Type 0 where
+pub record LinkStands (link : Link) (store : Store) (others : List Owned) (m : machine.Link) : Type 0 where
   pub fits : Fits link m
   pub wide : (terms_of link).n201 ≤ store.width
   pub kept : Keeps store (slots_of link) (machine.queue_of m) others

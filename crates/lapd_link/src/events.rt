@@ -15,19 +15,19 @@ use lapd_store::Shelf;
 use model_link::{LinkTimer, Terms};
 
 impl Link {
-    ghost use Rattle.lapd_link.specs.Stands.{Stands};
+    ghost use Rattle.lapd_link.specs.Stands.{LinkStands};
 
     /// Something came from the terminal with the link's address. What is delivered is lent from the frame.
     pub fn frame<'a, S: Shelf>(&mut self, received: Received<'a>, shelf: &mut S) -> Outcome<'a>
-        requires { (others : List Owned) × (m : machine.Link) × Stands self.old (S.store shelf.old) others m }
-        ensures stands { (others : List Owned) (m : machine.Link) → Stands self.old (S.store shelf.old) others m →
-            Stands self.new (S.store shelf.new) others (after (terms_of self.old) (event.received (received_of received.entry)) m) }
-        ensures told { (others : List Owned) (m : machine.Link) → Stands self.old (S.store shelf.old) others m →
+        requires { (others : List Owned) × (m : machine.Link) × LinkStands self.old (S.store shelf.old) others m }
+        ensures stands { (others : List Owned) (m : machine.Link) → LinkStands self.old (S.store shelf.old) others m →
+            LinkStands self.new (S.store shelf.new) others (after (terms_of self.old) (event.received (received_of received.entry)) m) }
+        ensures told { (others : List Owned) (m : machine.Link) → LinkStands self.old (S.store shelf.old) others m →
             told_of result ≡ told (terms_of self.old) (event.received (received_of received.entry)) m }
-        ensures frames { (others : List Owned) (m : machine.Link) → Stands self.old (S.store shelf.old) others m →
+        ensures frames { (others : List Owned) (m : machine.Link) → LinkStands self.old (S.store shelf.old) others m →
             RisesByEvent (terms_of self.old) (event.received (received_of received.entry)) m }
         // What the state does not serve changes nothing.
-        ensures unserved { (others : List Owned) (m : machine.Link) → Stands self.old (S.store shelf.old) others m → result.unserved ≡ true →
+        ensures unserved { (others : List Owned) (m : machine.Link) → LinkStands self.old (S.store shelf.old) others m → result.unserved ≡ true →
             after (terms_of self.old) (event.received (received_of received.entry)) m ≡ m }
         ensures terms { terms_of self.new ≡ terms_of self.old }
         ensures limits { SameLimits (S.store shelf.old) (S.store shelf.new) }
@@ -50,16 +50,16 @@ impl Link {
         report: &mut BareReport,
         shelf: &mut S,
     )
-        requires stands { (others : List Owned) × (m : machine.Link) × Stands self.old (S.store shelf.old) others m }
+        requires stands { (others : List Owned) × (m : machine.Link) × LinkStands self.old (S.store shelf.old) others m }
         requires clear { IsClear report.old }
-        ensures stands { (others : List Owned) (m : machine.Link) → Stands self.old (S.store shelf.old) others m →
-            Stands self.new (S.store shelf.new) others (after (terms_of self.old) (event.received (received_of received.entry)) m) }
-        ensures told { (others : List Owned) (m : machine.Link) → Stands self.old (S.store shelf.old) others m →
+        ensures stands { (others : List Owned) (m : machine.Link) → LinkStands self.old (S.store shelf.old) others m →
+            LinkStands self.new (S.store shelf.new) others (after (terms_of self.old) (event.received (received_of received.entry)) m) }
+        ensures told { (others : List Owned) (m : machine.Link) → LinkStands self.old (S.store shelf.old) others m →
             told_with (info_of received.entry) report.new ≡ told (terms_of self.old) (event.received (received_of received.entry)) m }
-        ensures frames { (others : List Owned) (m : machine.Link) → Stands self.old (S.store shelf.old) others m →
+        ensures frames { (others : List Owned) (m : machine.Link) → LinkStands self.old (S.store shelf.old) others m →
             RisesByEvent (terms_of self.old) (event.received (received_of received.entry)) m }
         // What the state does not serve changes nothing.
-        ensures unserved { (others : List Owned) (m : machine.Link) → Stands self.old (S.store shelf.old) others m → report.new.unserved ≡ true →
+        ensures unserved { (others : List Owned) (m : machine.Link) → LinkStands self.old (S.store shelf.old) others m → report.new.unserved ≡ true →
             after (terms_of self.old) (event.received (received_of received.entry)) m ≡ m }
         ensures terms { terms_of self.new ≡ terms_of self.old }
         ensures limits { SameLimits (S.store shelf.old) (S.store shelf.new) }
@@ -72,12 +72,12 @@ impl Link {
     /// A timer expires. One that does not run changes nothing. In the report nothing is told yet.
     pub fn expire<S: Shelf>(&mut self, timer: LinkTimer, report: &mut BareReport, shelf: &mut S)
         requires clear { IsClear report.old }
-        requires stands { (others : List Owned) × (m : machine.Link) × Stands self.old (S.store shelf.old) others m }
-        ensures stands { (others : List Owned) (m : machine.Link) → Stands self.old (S.store shelf.old) others m →
-            Stands self.new (S.store shelf.new) others (after (terms_of self.old) (event.expired timer) m) }
-        ensures told { (others : List Owned) (m : machine.Link) → Stands self.old (S.store shelf.old) others m →
+        requires stands { (others : List Owned) × (m : machine.Link) × LinkStands self.old (S.store shelf.old) others m }
+        ensures stands { (others : List Owned) (m : machine.Link) → LinkStands self.old (S.store shelf.old) others m →
+            LinkStands self.new (S.store shelf.new) others (after (terms_of self.old) (event.expired timer) m) }
+        ensures told { (others : List Owned) (m : machine.Link) → LinkStands self.old (S.store shelf.old) others m →
             told_with [] report.new ≡ told (terms_of self.old) (event.expired timer) m }
-        ensures frames { (others : List Owned) (m : machine.Link) → Stands self.old (S.store shelf.old) others m →
+        ensures frames { (others : List Owned) (m : machine.Link) → LinkStands self.old (S.store shelf.old) others m →
             RisesByEvent (terms_of self.old) (event.expired timer) m }
         // At most one timer is started.
         ensures starts { starts (listed report.new.orders) ≤ 1 }
@@ -93,13 +93,13 @@ impl Link {
     /// yet.
     pub fn clear<S: Shelf>(&mut self, report: &mut BareReport, shelf: &mut S)
         requires clear { IsClear report.old }
-        requires stands { (others : List Owned) × (m : machine.Link) × Stands self.old (S.store shelf.old) others m }
-        ensures stands { (others : List Owned) (m : machine.Link) → Stands self.old (S.store shelf.old) others m →
-            Stands self.new (S.store shelf.new) others (after (terms_of self.old) event.cleared m) }
-        ensures told { (others : List Owned) (m : machine.Link) → Stands self.old (S.store shelf.old) others m →
+        requires stands { (others : List Owned) × (m : machine.Link) × LinkStands self.old (S.store shelf.old) others m }
+        ensures stands { (others : List Owned) (m : machine.Link) → LinkStands self.old (S.store shelf.old) others m →
+            LinkStands self.new (S.store shelf.new) others (after (terms_of self.old) event.cleared m) }
+        ensures told { (others : List Owned) (m : machine.Link) → LinkStands self.old (S.store shelf.old) others m →
             told_with [] report.new ≡ told (terms_of self.old) event.cleared m }
         // It may send no more than before.
-        ensures frames { (others : List Owned) (m : machine.Link) → Stands self.old (S.store shelf.old) others m →
+        ensures frames { (others : List Owned) (m : machine.Link) → LinkStands self.old (S.store shelf.old) others m →
             RisesByEvent (terms_of self.old) event.cleared m }
         ensures terms { terms_of self.new ≡ terms_of self.old }
         ensures limits { SameLimits (S.store shelf.old) (S.store shelf.new) }

@@ -23,7 +23,7 @@ pub struct Link {
 }
 
 impl Link {
-    ghost use Rattle.lapd_link.specs.Stands.{Stands};
+    ghost use Rattle.lapd_link.specs.Stands.{LinkStands};
 
     /// A link that is down, with room for `queue` contents (1 to 127) and `control` control frames that wait (2 to 16).
     /// It is opened before it serves: until then its service and its TEI are any.
@@ -36,7 +36,7 @@ impl Link {
         requires queue_high { queue ≤ 127 }
         requires control_low { 2 ≤ control }
         requires control_high { control ≤ 16 }
-        ensures fresh { IfOk result (λ link. (store : Store) (others : List Owned) → 8 ≤ store.width → Holds store others → Stands link store others machine.fresh) }
+        ensures fresh { IfOk result (λ link. (store : Store) (others : List Owned) → 8 ≤ store.width → Holds store others → LinkStands link store others machine.fresh) }
         ensures queue { IfOk result (λ link. (terms_of link).queue ≡ queue) }
         ensures control { IfOk result (λ link. (terms_of link).control ≡ control) }
     {
@@ -71,9 +71,9 @@ impl Link {
         requires n200 { n200 ≤ 10 }
         requires n201_low { 8 ≤ n201 }
         requires n201_high { n201 ≤ 260 }
-        requires down { (store : Store) × (others : List Owned) × (m : machine.Link) × Stands self.old store others m × (m.state ≡ TeiAssigned) }
+        requires down { (store : Store) × (others : List Owned) × (m : machine.Link) × LinkStands self.old store others m × (m.state ≡ TeiAssigned) }
         ensures terms { terms_of self.new ≡ record (terms_of self.old) { service = service; tei = tei; k = k; n200 = n200; n201 = n201 } }
-        ensures fresh { (store : Store) (others : List Owned) (m : machine.Link) → n201 ≤ store.width → Stands self.old store others m → Stands self.new store others machine.fresh }
+        ensures fresh { (store : Store) (others : List Owned) (m : machine.Link) → n201 ≤ store.width → LinkStands self.old store others m → LinkStands self.new store others machine.fresh }
     {
         self.terms = Terms {
             service,
@@ -89,15 +89,15 @@ impl Link {
 
     /// The link's state, 4 to 8 (annex B).
     pub fn state(&self) -> u8
-        ensures { (store : Store) (others : List Owned) (m : machine.Link) → Stands self.now store others m → result ≡ machine.state_number m.state }
+        ensures { (store : Store) (others : List Owned) (m : machine.Link) → LinkStands self.now store others m → result ≡ machine.state_number m.state }
     {
         self.entity.state().number()
     }
 
     /// The octets of the control frames that wait, without frame checks: 3 or 4 each.
     pub fn held(&self) -> u32
-        requires { (store : Store) × (others : List Owned) × (m : machine.Link) × Stands self.now store others m }
-        ensures { (store : Store) (others : List Owned) (m : machine.Link) → Stands self.now store others m → result ≡ held (terms_of self.now) m }
+        requires { (store : Store) × (others : List Owned) × (m : machine.Link) × LinkStands self.now store others m }
+        ensures { (store : Store) (others : List Owned) (m : machine.Link) → LinkStands self.now store others m → result ≡ held (terms_of self.now) m }
     {
         self.entity.held()
     }

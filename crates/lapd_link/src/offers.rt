@@ -24,29 +24,29 @@ pub struct Offer {
 }
 
 impl Link {
-    ghost use Rattle.lapd_link.specs.Stands.{Stands};
+    ghost use Rattle.lapd_link.specs.Stands.{LinkStands};
 
     /// The next frame to be sent, if there is one: the control frame that has waited longest; else, in state 7, an I-frame
     /// with the first contents that are unsent, where the terminal is not busy and the window is open; else the
     /// acknowledgement that is owed.
     #[inline(always)]
     pub fn offer(&mut self) -> Option<Offer>
-        requires { (store : Store) × (others : List Owned) × (m : machine.Link) × Stands self.old store others m }
-        ensures stands { (store : Store) (others : List Owned) (m : machine.Link) → Stands self.old store others m →
-            Stands self.new store others (after (terms_of self.old) event.offer m) }
-        ensures given { (store : Store) (others : List Owned) (m : machine.Link) → Stands self.old store others m →
+        requires { (store : Store) × (others : List Owned) × (m : machine.Link) × LinkStands self.old store others m }
+        ensures stands { (store : Store) (others : List Owned) (m : machine.Link) → LinkStands self.old store others m →
+            LinkStands self.new store others (after (terms_of self.old) event.offer m) }
+        ensures given { (store : Store) (others : List Owned) (m : machine.Link) → LinkStands self.old store others m →
             given_by store result ≡ given (terms_of self.old) m }
         // It is a frame, and the contents of an I-frame lie in a slot that is in use.
-        ensures frame { (store : Store) (others : List Owned) (m : machine.Link) → Stands self.old store others m →
+        ensures frame { (store : Store) (others : List Owned) (m : machine.Link) → LinkStands self.old store others m →
             IfSome result (λ offer. IsFrame (frame_of (terms_of self.old) offer.frame)) }
-        ensures slot { (store : Store) (others : List Owned) (m : machine.Link) → Stands self.old store others m →
+        ensures slot { (store : Store) (others : List Owned) (m : machine.Link) → LinkStands self.old store others m →
             IfSome result (λ offer. IfSome offer.contents (HasMessage store (terms_of self.old).n201)) }
-        ensures used { (store : Store) (others : List Owned) (m : machine.Link) → Stands self.old store others m →
+        ensures used { (store : Store) (others : List Owned) (m : machine.Link) → LinkStands self.old store others m →
             IfSome result (λ offer. IfSome offer.contents (λ slot. IsUsed store slot)) }
-        ensures frames { (store : Store) (others : List Owned) (m : machine.Link) → Stands self.old store others m →
+        ensures frames { (store : Store) (others : List Owned) (m : machine.Link) → LinkStands self.old store others m →
             RisesByEvent (terms_of self.old) event.offer m }
         // A frame that goes was waiting, with at most one other that it makes needless.
-        ensures falls { (store : Store) (others : List Owned) (m : machine.Link) → Stands self.old store others m →
+        ensures falls { (store : Store) (others : List Owned) (m : machine.Link) → LinkStands self.old store others m →
             may_send (terms_of self.old) m ≤ may_send (terms_of self.old) (after (terms_of self.old) event.offer m) + 2 * sent (terms_of self.old) event.offer m }
         ensures terms { terms_of self.new ≡ terms_of self.old }
     {
@@ -68,7 +68,7 @@ impl Link {
     /// Whether it has a frame to give.
     #[inline(always)]
     pub fn has_frame(&self) -> bool
-        ensures { (store : Store) (others : List Owned) (m : machine.Link) → Stands self.now store others m →
+        ensures { (store : Store) (others : List Owned) (m : machine.Link) → LinkStands self.now store others m →
             result ≡ is_some (given (terms_of self.now) m) }
     {
         self.entity.has_frame(&self.terms, self.queue.len())

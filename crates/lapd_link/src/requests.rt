@@ -28,7 +28,7 @@ pub enum LinkRequest<'a> {
 }
 
 impl Link {
-    ghost use Rattle.lapd_link.specs.Stands.{Stands, HasRoom};
+    ghost use Rattle.lapd_link.specs.Stands.{LinkStands, HasRoom};
 
     /// Layer 3 asks for something, where all users of the shelf together may hold `slots` contents, at most as many as
     /// the shelf has slots. In the report nothing is told yet.
@@ -46,21 +46,21 @@ impl Link {
         shelf: &mut S,
         slots: u32,
     ) -> Result<(), Refusal>
-        requires stands { (others : List Owned) × (m : machine.Link) × Stands self.old (S.store shelf.old) others m }
+        requires stands { (others : List Owned) × (m : machine.Link) × LinkStands self.old (S.store shelf.old) others m }
         requires clear { IsClear report.old }
         requires slots { slots ≤ (S.store shelf.old).slots }
-        ensures refused { IfErr result (λ refusal. (others : List Owned) (m : machine.Link) → Stands self.old (S.store shelf.old) others m →
+        ensures refused { IfErr result (λ refusal. (others : List Owned) (m : machine.Link) → LinkStands self.old (S.store shelf.old) others m →
             asked.refusal (terms_of self.old) m (nat_le slots (used_slots (S.store shelf.old))) (request_of request.entry) ≡ Some refusal) }
         ensures unchanged { OnErr result (self.new ≡ self.old) }
         ensures shelf_unchanged { OnErr result (shelf.new ≡ shelf.old) }
         ensures untold { OnErr result (report.new ≡ report.old) }
-        ensures granted { OnOk result ((others : List Owned) (m : machine.Link) → Stands self.old (S.store shelf.old) others m →
+        ensures granted { OnOk result ((others : List Owned) (m : machine.Link) → LinkStands self.old (S.store shelf.old) others m →
             asked.refusal (terms_of self.old) m (nat_le slots (used_slots (S.store shelf.old))) (request_of request.entry) ≡ None) }
-        ensures stands { OnOk result ((others : List Owned) (m : machine.Link) → Stands self.old (S.store shelf.old) others m →
-            Stands self.new (S.store shelf.new) others (after (terms_of self.old) (event.requested (request_of request.entry) (nat_le slots (used_slots (S.store shelf.old)))) m)) }
-        ensures told { OnOk result ((others : List Owned) (m : machine.Link) → Stands self.old (S.store shelf.old) others m →
+        ensures stands { OnOk result ((others : List Owned) (m : machine.Link) → LinkStands self.old (S.store shelf.old) others m →
+            LinkStands self.new (S.store shelf.new) others (after (terms_of self.old) (event.requested (request_of request.entry) (nat_le slots (used_slots (S.store shelf.old)))) m)) }
+        ensures told { OnOk result ((others : List Owned) (m : machine.Link) → LinkStands self.old (S.store shelf.old) others m →
             told_with [] report.new ≡ told (terms_of self.old) (event.requested (request_of request.entry) (nat_le slots (used_slots (S.store shelf.old)))) m) }
-        ensures frames { (others : List Owned) (m : machine.Link) → Stands self.old (S.store shelf.old) others m →
+        ensures frames { (others : List Owned) (m : machine.Link) → LinkStands self.old (S.store shelf.old) others m →
             RisesByEvent (terms_of self.old) (event.requested (request_of request.entry) (nat_le slots (used_slots (S.store shelf.old)))) m }
         ensures terms { terms_of self.new ≡ terms_of self.old }
         ensures limits { SameLimits (S.store shelf.old) (S.store shelf.new) }
@@ -76,7 +76,7 @@ impl Link {
 
     // Why a request is refused.
     fn refusal(&self, request: LinkRequest<'_>, pool_is_full: bool) -> Option<Refusal>
-        ensures machine { (store : Store) (others : List Owned) (m : machine.Link) → Stands self.now store others m →
+        ensures machine { (store : Store) (others : List Owned) (m : machine.Link) → LinkStands self.now store others m →
             result ≡ asked.refusal (terms_of self.now) m pool_is_full (request_of request.entry) }
         ensures room { IfNone result (HasRoom (request_of request.entry) self.now pool_is_full) }
     {
@@ -91,7 +91,7 @@ impl Link {
 
     // Why so many octets of contents are refused.
     fn refusal_of_contents(&self, octets: usize, pool_is_full: bool) -> Option<Refusal>
-        ensures machine { (store : Store) (others : List Owned) (m : machine.Link) (contents : List ℕ) → Stands self.now store others m → length contents ≡ octets →
+        ensures machine { (store : Store) (others : List Owned) (m : machine.Link) (contents : List ℕ) → LinkStands self.now store others m → length contents ≡ octets →
             result ≡ asked.refusal_of_contents (terms_of self.now) m pool_is_full contents }
         ensures room { IfNone result ((octets ≤ (terms_of self.now).n201) × (length self.now.queue.slots < (terms_of self.now).queue) × (pool_is_full ≡ false)) }
     {
@@ -110,10 +110,10 @@ impl Link {
     // Does what is asked for, which is not refused.
     #[inline(always)]
     fn grant<S: Shelf>(&mut self, request: LinkRequest<'_>, report: &mut BareReport, shelf: &mut S)
-        requires stands { (others : List Owned) × (m : machine.Link) × Stands self.old (S.store shelf.old) others m }
+        requires stands { (others : List Owned) × (m : machine.Link) × LinkStands self.old (S.store shelf.old) others m }
         requires clear { IsClear report.old }
         requires place { HasPlace (request_of request) self.old (S.store shelf.old) }
-        ensures reaches { (others : List Owned) (m : machine.Link) → Stands self.old (S.store shelf.old) others m →
+        ensures reaches { (others : List Owned) (m : machine.Link) → LinkStands self.old (S.store shelf.old) others m →
             Reaches [] m (asked.granted (terms_of self.old) (request_of request.entry) (begun m)) self.new (S.store shelf.new) others report.new }
         ensures stays { Stays self.old self.new }
         ensures limits { SameLimits (S.store shelf.old) (S.store shelf.new) }

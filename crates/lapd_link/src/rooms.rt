@@ -9,13 +9,13 @@ use lapd_store::Shelf;
 use model_link::Room;
 
 impl Link {
-    ghost use Rattle.lapd_link.specs.Stands.{Stands};
+    ghost use Rattle.lapd_link.specs.Stands.{LinkStands};
 
     /// How much room the link has for contents, where all users of the shelf together may hold `slots`, and V(A). It
     /// says what a request to send more will be refused for; each acknowledgement of contents lets `queue` and V(A)
     /// rise by one.
     pub fn room<S: Shelf>(&self, shelf: &S, slots: u32) -> Room
-        ensures { (others : List Owned) (m : machine.Link) → Stands self.now (S.store shelf.now) others m
+        ensures { (others : List Owned) (m : machine.Link) → LinkStands self.now (S.store shelf.now) others m
             → result ≡ room_of (terms_of self.now) (slots - used_slots (S.store shelf.now)) m }
     {
         Room {

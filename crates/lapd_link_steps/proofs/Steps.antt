@@ -1,5 +1,5 @@
 -- How steps are put together. The answer for a row is the chain of its words.
-use Rattle.lapd_link_steps.proofs.Vocabulary.{◌≡◌, ℕ, Bool, true, false, IsTrue, cond, ◌+◌, ◌⊎◌, List, Option, Some, None, MatchOption, inl, inr, refl, sym, ap, subst, arith, ◌∙◌, Seq, IsNamed, named, Stands, State, Terms, Link, Sent, Course, Step, ◌then◌, nothing, depending_on, by_bit, changed, acknowledge, by_number, pending_is, start, T200, failed, Entity, BareReport, Past, past_of, link_of, course_of, Fits, Agrees, Does, DoesBy}
+use Rattle.lapd_link_steps.proofs.Vocabulary.{◌≡◌, ℕ, Bool, true, false, IsTrue, cond, ◌+◌, ◌⊎◌, List, Option, Some, None, MatchOption, inl, inr, refl, sym, ap, subst, arith, ◌∙◌, Seq, IsNamed, named, WindowStands, State, Terms, Link, Sent, Course, Step, ◌then◌, nothing, depending_on, by_bit, changed, acknowledge, by_number, pending_is, start, T200, failed, Entity, BareReport, Past, past_of, link_of, course_of, Fits, Agrees, Does, DoesBy}
 use Rattle.lapd_frame.specs.declared.notes.ErrorCode.TheVariants as code
 use Rattle.model_link.specs.Offers as offers
 use Rattle.model_link.specs.Words as word
@@ -22,7 +22,7 @@ does_nothing = record { step = λ messages p fits. record { fits = fits; is = re
 -- a flag, RC or the state is set
 still-fits : {terms : Terms} {messages : List (List ℕ)} {e e' : Entity} {t : BareReport} {p : Past} → e'.window ≡ e.window → e'.vr ≡ e.vr → e'.waiting ≡ e.waiting → Fits terms messages e t p → Fits terms messages e' t p
 still-fits {p = p} same still ring fits =
-    record { window = subst (λ w. Stands w p.a p.s) (sym same) fits.window; received = still ∙ fits.received; ring = ap (λ w. w.capacity) ring ∙ fits.ring; queue = fits.queue; few = fits.few }
+    record { window = subst (λ w. WindowStands w p.a p.s) (sym same) fits.window; received = still ∙ fits.received; ring = ap (λ w. w.capacity) ring ∙ fits.ring; queue = fits.queue; few = fits.few }
 
 module _ {terms : Terms} {info : List ℕ} {e : Entity} {t : BareReport} where
   pub peer_busy_set : {b : Bool} → Does terms info (word.peer_busy_is b) e t (record e { peer_busy = b }) t
@@ -46,7 +46,7 @@ module _ {terms : Terms} {info : List ℕ} {e : Entity} {t : BareReport} where
   pub state_set : {state : State} → Does terms info (word.enter state) e t (record e { state = state }) t
   state_set = record { step = λ messages p fits. record { fits = still-fits refl refl refl fits; is = refl } }
 
-  pub one_sent : {w : Window} → ((a s : ℕ) → Stands e.window a s → Stands w a (s + 1)) → Does terms info (changed offers.with_one_sent) e t (record e { window = w }) t
+  pub one_sent : {w : Window} → ((a s : ℕ) → WindowStands e.window a s → WindowStands w a (s + 1)) → Does terms info (changed offers.with_one_sent) e t (record e { window = w }) t
   one_sent plain = record { step = λ messages p fits. record { fits = record { window = plain p.a p.s fits.window; received = fits.received; ring = fits.ring; queue = fits.queue; few = fits.few }; is = refl } }
 
   pub repeats_more : Does terms info word.repeated e t (record e { repeats = e.repeats + 1 }) t
@@ -132,7 +132,7 @@ number_unnamed {messages = messages} nr step {p = p} None right done fits = done
 number_unnamed nr step (Some n) wrong done fits = absurd (cc)
 
 abbrev Tells_named : Entity → Seq → Bool → Type 0
-Tells_named e nr result = (a s : ℕ) → Stands e.window a s → MatchOption (named a s nr) (result ≡ false) (λ n. IsTrue result × IsNamed a s nr n)
+Tells_named e nr result = (a s : ℕ) → WindowStands e.window a s → MatchOption (named a s nr) (result ≡ false) (λ n. IsTrue result × IsNamed a s nr n)
 
 pub number_yes : {terms : Terms} {info : List ℕ} {nr : Seq} {step : ℕ → Step} {e e' : Entity} {t t' : BareReport} (b : Bool) → Tells_named e nr b → b ≡ true → DoesBy terms info nr step e t e' t' → Does terms info (by_number terms nr step) e t e' t'
 number_yes {nr = nr} {e = e} b told is done =

@@ -27,7 +27,7 @@ pub use Rattle.lapd_link_steps.specs.declared.states.multiple_frame.Bearer.TheVa
 pub use Rattle.lapd_link_steps.specs.declared.report.BareReport.{BareReport}
 pub use Rattle.lapd_seq.specs.Circle.{IsNamed, named}
 pub use Rattle.lapd_seq.specs.Numbers.{seq}
-pub use Rattle.lapd_seq.specs.Windows.{Stands}
+pub use Rattle.lapd_seq.specs.Windows.{WindowStands}
 pub use Rattle.lapd_seq.specs.declared.numbers.Seq.{Seq}
 pub use Rattle.model_link.specs.Established.{unsolicited}
 pub use Rattle.model_link.specs.Link.{Link, frame_of, has_outstanding, is_asked, is_own_busy, is_peer_busy, is_rejecting, may_repeat, queue_of}

@@ -28,7 +28,7 @@ fresh_past = record { contents = []; a = 0; s = 0; r = 0; sent = None; zeroed = 
 
 pub record IsFresh (control : ℕ) (e : Entity) : Type 0 where
   pub link : link_of e fresh_past ≡ fresh
-  pub window : window.Stands e.window 0 0
+  pub window : window.WindowStands e.window 0 0
   pub received : e.vr ≡ seq 0
   pub ring : e.waiting.capacity ≡ control
 
@@ -42,7 +42,7 @@ abbrev pub past_at : Link → Past
 past_at m = record { contents = m.contents; a = m.a; s = m.s; r = m.r; sent = None; zeroed = false }
 
 pub record Rests (terms : Terms) (e : Entity) (m : Link) : Type 0 where
-  pub window : window.Stands e.window m.a m.s
+  pub window : window.WindowStands e.window m.a m.s
   pub received : e.vr ≡ seq m.r
   pub ring : e.waiting.capacity ≡ terms.control
   pub is : link_of e (past_at m) ≡ m

@@ -11,7 +11,7 @@ pub use Rattle.lapd_frame.specs.Reading.{start_of}
 pub use Rattle.lapd_frame.specs.declared.addresses.Side.TheVariants.{Network}
 pub use Rattle.lapd_frame.specs.declared.controls.Control.TheVariants.{Dm, Ua}
 pub use Rattle.lapd_seq.specs.Circle.{IsNamed, IsValid, named}
-pub use Rattle.lapd_seq.specs.Windows.{Stands, outstanding_of, va_of, vs_of}
+pub use Rattle.lapd_seq.specs.Windows.{WindowStands, outstanding_of, va_of, vs_of}
 pub use Rattle.model_link.specs.Link.{Link, frame_of, queue_of}
 pub use Rattle.model_link.specs.Machine.{cleared_step, expire_running, expired_step, frame_step, given}
 pub use Rattle.model_link.specs.Steps.{changed}

@@ -7,7 +7,7 @@ use Rattle.model_link.specs.declared.states.State.TheVariants.{AwaitingEstablish
 use Rattle.model_link.specs.declared.terms.Terms.{Terms}
 use Rattle.model_link.specs.Link.{is_asked, has_outstanding}
 use Rattle.model_link.specs.Steps.{Step, ◌then◌, nothing, depending_on}
-use Rattle.model_link.specs.Words.{asked_is, clear_flags, command, enter, pending_is, ready_to_receive, repeats_are, response, send, establish_indication, establish_confirm, discard, start, by_number}
+use Rattle.model_link.specs.Words.{asked_is, clear_flags, command, enter, pending_is, rr_or_rnr, repeats_are, response, send, establish_indication, establish_confirm, discard, start, by_number}
 use Rattle.model_link.specs.Machine.{malformed_in, told_of_clearing}
 use Rattle.model_link.specs.MultipleFrame.{Particulars, answered, is_final}
 use Rattle.model_link.specs.Established.{either_way, particulars_in_7}
@@ -26,7 +26,7 @@ establishing t asked =
 
 -- RR or RNR tells whether own busy is on, as the answer to a command or unasked.
 abbrev pub ready_reported : Terms → Bool → Step
-ready_reported t pf c = (send t (response (ready_to_receive pf c.link)) then pending_is false) c
+ready_reported t pf c = (send t (response (rr_or_rnr pf c.link)) then pending_is false) c
 
 -- Where contents are outstanding, all are lost, and layer 3 is told (Q.921 clauses 5.5.1.2 and 5.7).
 abbrev pub renewed : Terms → Step

@@ -68,7 +68,7 @@ course_of info e t p = record {
 -- and V(R) are the remainders of its numbers, and the messages without those that are to be released are the contents
 -- from the first that is not acknowledged on.
 pub record Fits (terms : Terms) (messages : List (List ℕ)) (e : Entity) (t : BareReport) (p : Past) : Type 0 where
-  pub window : window.Stands e.window p.a p.s
+  pub window : window.WindowStands e.window p.a p.s
   pub received : e.vr ≡ seq p.r
   pub ring : e.waiting.capacity ≡ terms.control
   pub queue : drop t.released messages ≡ drop p.a p.contents

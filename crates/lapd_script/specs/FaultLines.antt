@@ -29,10 +29,10 @@ abbrev pub frame_line : FrameFault → List ℕ
 frame_line fault = frame_words fault ++ codes "\n"
 
 -- The line has been written, or a write of it failed.
-abbrev pub IsTold : List ℕ → Taken → Taken → Type 0
-IsTold line old new = (r : Result Unit WriteFailed) × Writes r old new line
+abbrev pub IsWrittenOrFails : List ℕ → Taken → Taken → Type 0
+IsWrittenOrFails line old new = (r : Result Unit WriteFailed) × Writes r old new line
 
 -- After a job: where all was done nothing has been written, else the line of its fault.
 abbrev pub TellsOf : {E : Type 0} → (E → List ℕ) → Result Unit E → Taken → Taken → Type 0
 TellsOf line_of (Ok _) old new = new ≡ old
-TellsOf line_of (Err fault) old new = IsTold (line_of fault) old new
+TellsOf line_of (Err fault) old new = IsWrittenOrFails (line_of fault) old new

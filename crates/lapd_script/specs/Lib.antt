@@ -20,7 +20,7 @@ pub mod Shown
 pub use Rattle.lapd_frame.specs.declared.addresses.Side.{Side}
 pub use Rattle.lapd_transcript.specs.Streams.{Writes}
 pub use Rattle.lapd_script.specs.Cause.{cause}
-pub use Rattle.lapd_script.specs.FaultLines.{frame_line, IsTold, play_line}
+pub use Rattle.lapd_script.specs.FaultLines.{frame_line, IsWrittenOrFails, play_line}
 pub use Rattle.lapd_script.specs.Job.{job, job_or_none, limits_of, seen}
 pub use Rattle.lapd_script.specs.Meaning.{into, IsCounted, meant_by, rx}
 pub use Rattle.lapd_script.specs.Number.{number, within}

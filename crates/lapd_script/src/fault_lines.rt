@@ -1,7 +1,7 @@
 //! The lines that tell why the program has not done what its words ask for, and its exit status then.
 
 ghost use Rattle.std.specs.Prelude.{◌≡◌, codes};
-ghost use Rattle.lapd_script.specs.{frame_line, play_line, IsTold, Writes};
+ghost use Rattle.lapd_script.specs.{frame_line, play_line, IsWrittenOrFails, Writes};
 
 use crate::faults::PlayFault;
 use crate::shown::FrameFault;
@@ -17,7 +17,7 @@ const WRONG_WORDS: u8 = 2;
 /// nothing else.
 pub fn refuse<F: Target>(fault: PlayFault, faults: &mut F) -> u8
     ensures status { result ≡ 1 }
-    ensures told { IsTold (play_line fault) (F.taken faults.old) (F.taken faults.new) }
+    ensures told { IsWrittenOrFails (play_line fault) (F.taken faults.old) (F.taken faults.new) }
 {
     let _ = write_fault(fault, faults);
     FAILED
@@ -26,7 +26,7 @@ pub fn refuse<F: Target>(fault: PlayFault, faults: &mut F) -> u8
 /// The same of a frame that is not shown.
 pub fn refuse_digits<F: Target>(fault: FrameFault, faults: &mut F) -> u8
     ensures status { result ≡ 1 }
-    ensures told { IsTold (frame_line fault) (F.taken faults.old) (F.taken faults.new) }
+    ensures told { IsWrittenOrFails (frame_line fault) (F.taken faults.old) (F.taken faults.new) }
 {
     let _ = faults.write(fault.line());
     FAILED
@@ -35,7 +35,7 @@ pub fn refuse_digits<F: Target>(fault: FrameFault, faults: &mut F) -> u8
 /// Writes the line that tells of words that ask for nothing that there is, and answers the exit status after it.
 pub fn refuse_words<F: Target>(faults: &mut F) -> u8
     ensures status { result ≡ 2 }
-    ensures told { IsTold (codes "usage\n") (F.taken faults.old) (F.taken faults.new) }
+    ensures told { IsWrittenOrFails (codes "usage\n") (F.taken faults.old) (F.taken faults.new) }
 {
     let _ = faults.write(b"usage\n");
     WRONG_WORDS

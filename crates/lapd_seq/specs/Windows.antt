@@ -17,5 +17,5 @@ abbrev pub outstanding_of : Window → ℕ
 outstanding_of window = distance_of (va_of window) (vs_of window)
 
 -- The first a I-frames are acknowledged and the first s are sent, as the window has it.
-abbrev pub Stands : Window → ℕ → ℕ → Type 0
-Stands window a s = AreNumbers (va_of window) (vs_of window) a s
+abbrev pub WindowStands : Window → ℕ → ℕ → Type 0
+WindowStands window a s = AreNumbers (va_of window) (vs_of window) a s

@@ -3,7 +3,7 @@
 ghost use Rattle.std.specs.Prelude.{◌≡◌, ℕ, ◌+◌, ◌<◌, ◌≤◌, ◌↔◌, IsTrue};
 ghost use Rattle.lapd_seq.specs.Numbers.{seq};
 ghost use Rattle.lapd_seq.specs.Circle.{distance_of, IsValid, IsNamed};
-ghost use Rattle.lapd_seq.specs.Windows.{va_of, vs_of, outstanding_of, Stands};
+ghost use Rattle.lapd_seq.specs.Windows.{va_of, vs_of, outstanding_of, WindowStands};
 
 use crate::circle::distance;
 use crate::numbers::Seq;
@@ -22,7 +22,7 @@ pub struct Window {
 impl Window {
     /// The window of a link that has just been established: nothing sent.
     pub fn new() -> Self
-        ensures numbers { Stands result 0 0 }
+        ensures numbers { WindowStands result 0 0 }
         ensures count { outstanding_of result ≡ 0 }
     {
         Window {
@@ -35,7 +35,7 @@ impl Window {
     /// where there is none.
     pub fn va(&self) -> Seq
         ensures held { result ≡ va_of self.now }
-        ensures plain { (a s : ℕ) → Stands self.now a s → result ≡ seq a }
+        ensures plain { (a s : ℕ) → WindowStands self.now a s → result ≡ seq a }
         ensures valid { IsValid (va_of self.now) result (vs_of self.now) }
     {
         self.va
@@ -44,7 +44,7 @@ impl Window {
     /// V(S), the number of the next I-frame to be sent.
     pub fn vs(&self) -> Seq
         ensures held { result ≡ vs_of self.now }
-        ensures plain { (a s : ℕ) → Stands self.now a s → result ≡ seq s }
+        ensures plain { (a s : ℕ) → WindowStands self.now a s → result ≡ seq s }
         ensures valid { IsValid (va_of self.now) result (vs_of self.now) }
     {
         self.vs
@@ -54,8 +54,8 @@ impl Window {
     pub fn outstanding(&self) -> u8
         ensures held { result ≡ outstanding_of self.now }
         ensures bound { result < 128 }
-        ensures plain { (a s : ℕ) → Stands self.now a s → a + result ≡ s }
-        ensures stands { Stands self.now (va_of self.now).value ((va_of self.now).value + result) }
+        ensures plain { (a s : ℕ) → WindowStands self.now a s → a + result ≡ s }
+        ensures stands { WindowStands self.now (va_of self.now).value ((va_of self.now).value + result) }
     {
         distance(self.va, self.vs)
     }
@@ -63,7 +63,7 @@ impl Window {
     /// Whether every I-frame that was sent is acknowledged: V(A) is V(S).
     pub fn is_settled(&self) -> bool
         ensures held { IsTrue result ↔ (outstanding_of self.now ≡ 0) }
-        ensures plain { (a s : ℕ) → Stands self.now a s → (IsTrue result ↔ (a ≡ s)) }
+        ensures plain { (a s : ℕ) → WindowStands self.now a s → (IsTrue result ↔ (a ≡ s)) }
     {
         self.outstanding() == 0
     }
@@ -71,7 +71,7 @@ impl Window {
     /// Whether `nr` names the next I-frame to be sent: N(R) is V(S). A valid one then acknowledges all that were sent.
     pub fn names_next(&self, nr: Seq) -> bool
         ensures held { IsTrue result ↔ (nr ≡ vs_of self.now) }
-        ensures plain { (a s n : ℕ) → Stands self.now a s → IsNamed a s nr n → (IsTrue result ↔ (n ≡ s)) }
+        ensures plain { (a s n : ℕ) → WindowStands self.now a s → IsNamed a s nr n → (IsTrue result ↔ (n ≡ s)) }
     {
         nr == self.vs
     }
@@ -82,7 +82,7 @@ impl Window {
         ensures held { result ≡ distance_of (va_of self.now) nr }
         ensures bound { result < 128 }
         ensures within { result ≤ outstanding_of self.now }
-        ensures plain { (a s n : ℕ) → Stands self.now a s → IsNamed a s nr n → a + result ≡ n }
+        ensures plain { (a s n : ℕ) → WindowStands self.now a s → IsNamed a s nr n → a + result ≡ n }
     {
         distance(self.va, nr)
     }
@@ -91,7 +91,7 @@ impl Window {
     /// 5.9.5). Any `k` is taken; where it is at most 127, a yes allows `advance`.
     pub fn may_send(&self, k: u8) -> bool
         ensures held { IsTrue result ↔ (outstanding_of self.now < k) }
-        ensures plain { (a s : ℕ) → Stands self.now a s → (IsTrue result ↔ (s < a + k)) }
+        ensures plain { (a s : ℕ) → WindowStands self.now a s → (IsTrue result ↔ (s < a + k)) }
     {
         self.outstanding() < k
     }
@@ -102,7 +102,7 @@ impl Window {
         ensures held { vs_of self.new ≡ seq ((vs_of self.old).value + 1) }
         ensures same { va_of self.new ≡ va_of self.old }
         ensures count { outstanding_of self.new ≡ outstanding_of self.old + 1 }
-        ensures plain { (a s : ℕ) → Stands self.old a s → Stands self.new a (s + 1) }
+        ensures plain { (a s : ℕ) → WindowStands self.old a s → WindowStands self.new a (s + 1) }
     {
         self.vs = self.vs.next();
     }
@@ -114,7 +114,7 @@ impl Window {
         ensures same { vs_of self.new ≡ vs_of self.old }
         ensures count { distance_of (va_of self.old) nr + outstanding_of self.new ≡ outstanding_of self.old }
         ensures valid { IsValid (va_of self.new) nr (vs_of self.new) }
-        ensures plain { (a s n : ℕ) → Stands self.old a s → IsNamed a s nr n → Stands self.new n s }
+        ensures plain { (a s n : ℕ) → WindowStands self.old a s → IsNamed a s nr n → WindowStands self.new n s }
     {
         self.va = nr;
     }
@@ -125,14 +125,14 @@ impl Window {
         ensures held { vs_of self.new ≡ nr }
         ensures same { va_of self.new ≡ va_of self.old }
         ensures count { outstanding_of self.new ≡ distance_of (va_of self.old) nr }
-        ensures plain { (a s n : ℕ) → Stands self.old a s → IsNamed a s nr n → Stands self.new a n }
+        ensures plain { (a s n : ℕ) → WindowStands self.old a s → IsNamed a s nr n → WindowStands self.new a n }
     {
         self.vs = nr;
     }
 }
 
 impl Default for Window {
-    ghost is_default = { λ window. Stands window 0 0 };
+    ghost is_default = { λ window. WindowStands window 0 0 };
 
     /// `Window::new`.
     fn default() -> Self {

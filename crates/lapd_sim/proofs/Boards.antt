@@ -1,5 +1,5 @@
 -- What happens on a card of either kind.
-use Rattle.lapd_sim.proofs.Vocabulary.{◌≡◌, ◌+◌, ◌<◌, ◌≤◌, ℕ, Some, refl, sym, ap, ◌∙◌, subst, arith, Store, Config, ranges_of, Reply, Event, What, at, of_octets, of_frames, reply, after, card_after, meant_by, reply_in, reply_of_octets, reply_of_frames, told, Setup, Scene, happened, ordered, fold, orders_in, reply_text, with_event, Output, IsPut, IsStuck, Puts, Octets, Frames, shelf_of, kind_of, config_of, counters_of, OnBoard, Leads, [], scene, Tells, Stands, Each, Sends, Hears, AnyCard, AnyLeads, AnyStands, CardStands, FrameCardStands, Machine, alone, with_ports, card_in, frames_of, expiry, request, List, Result, Ok, Err}
+use Rattle.lapd_sim.proofs.Vocabulary.{◌≡◌, ◌+◌, ◌<◌, ◌≤◌, ℕ, Some, refl, sym, ap, ◌∙◌, subst, arith, Store, Config, ranges_of, Reply, Event, What, at, of_octets, of_frames, reply, after, card_after, meant_by, reply_in, reply_of_octets, reply_of_frames, told, Setup, Scene, happened, ordered, fold, orders_in, reply_text, with_event, Output, IsPut, IsStuck, Puts, Octets, Frames, shelf_of, kind_of, config_of, counters_of, OnBoard, Leads, [], scene, Tells, SetupStands, Each, Sends, Hears, AnyCard, AnyLeads, AnyStands, CardStands, FrameCardStands, Machine, alone, with_ports, card_in, frames_of, expiry, request, List, Result, Ok, Err}
 use Rattle.std.specs.Option.{option_map_or}
 use Rattle.lapd_sim.specs.declared.setup.Setup as rust
 use Rattle.model_card.specs.Card.{Card}
@@ -183,8 +183,8 @@ module _ (s : rust.Setup) (card : frames_card.Held Store) (is : s.board ≡ Fram
 
 -- and all but board and clock stays.
 module _ (event : Event) (old new : rust.Setup) (leads : Leads event old.board new.board) (config : new.config ≡ old.config) (moment : new.moment ≡ old.moment)
-    (terminals : new.terminals ≡ old.terminals) (listeners : new.listeners ≡ old.listeners) (m : Setup) (stands : Stands old m) where
-  pub goes_on : (r : Reply) → r ≡ reply event m.board → new.clock ≡ fold (ordered event.line old.moment) old.clock (orders_in r) → Stands new (happened m event)
+    (terminals : new.terminals ≡ old.terminals) (listeners : new.listeners ≡ old.listeners) (m : Setup) (stands : SetupStands old m) where
+  pub goes_on : (r : Reply) → r ≡ reply event m.board → new.clock ≡ fold (ordered event.line old.moment) old.clock (orders_in r) → SetupStands new (happened m event)
   goes_on r is clock = record {
     config = stands.config ∙ sym config;
     board = leads.stands m.board stands.board;
@@ -198,6 +198,6 @@ module _ (event : Event) (old new : rust.Setup) (leads : Leads event old.board n
 
   -- and it has been told
   pub told_on : {E : Type 0} (result : Result Unit E) (a b : Output) (r : Reply) → r ≡ reply event m.board → new.clock ≡ fold (ordered event.line old.moment) old.clock (orders_in r)
-      → Puts result a b (reply_text event.line r) → Tells result a b (Stands new) (with_event (scene m) event)
+      → Puts result a b (reply_text event.line r) → Tells result a b (SetupStands new) (with_event (scene m) event)
   told_on (Ok x) a b r is clock put = (subst (λ z. IsPut a b (reply_text event.line z)) is put, goes_on r is clock)
   told_on (Err x) a b r is clock put = subst (λ z. IsStuck a b (reply_text event.line z)) is put

@@ -3,6 +3,7 @@ pub mod Vocabulary
 pub mod Orders
 pub mod Expiries
 pub mod Kept
+pub mod Kinds
 pub mod Runs
 pub mod Meanings
 pub mod Events

@@ -1,5 +1,5 @@
 -- How far a script has been played.
-use Rattle.lapd_sim.proofs.Vocabulary.{arith, ◌≡◌, ℕ, ◌+◌, ◌^◌, ◌<◌, ◌≤◌, ◌++◌, List, [], ◌∷◌, length, fold, true, false, cond, Bool, Option, None, Some, Result, Ok, Err, refl, sym, ap, ◌∙◌, subst, append_assoc, nat_lt, inr, ◌||◌, lt-ltb, le-ltb, ltb-false, true≢false, none-some, append-nil, fold-append, FaultKind, TooLong, Meaning, read, Output, IsPut, IsStuck, puts_then, stuck_more, puts_nothing, pieces_of, line_in, Played, Fault, played, one_more, not_begun, counted, faulty, is_too_long, after_reading, after_meaning, after_bench, after_scene, after_piece, unless_faulty, transcript, first_fault, Scene, with_card, without_card, LineFault, Faulty, PlayFault, Read, Write, Script, OutOfMemory, ScriptLines, fault_at, PutsSome, AreLeft, IsTooLong, Advances, held, Said, Does, Obeys, StartsBy, said, said_by, said_of, said_with, said_without, scene, PlaysOn, AreAnswered, Has, Stands}
+use Rattle.lapd_sim.proofs.Vocabulary.{arith, ◌≡◌, ℕ, ◌+◌, ◌^◌, ◌<◌, ◌≤◌, ◌++◌, List, [], ◌∷◌, length, fold, true, false, cond, Bool, Option, None, Some, Result, Ok, Err, refl, sym, ap, ◌∙◌, subst, append_assoc, nat_lt, inr, ◌||◌, lt-ltb, le-ltb, ltb-false, true≢false, none-some, append-nil, fold-append, FaultKind, TooLong, Meaning, read, Output, IsPut, IsStuck, puts_then, stuck_more, puts_nothing, pieces_of, line_in, Played, Fault, played, one_more, not_begun, counted, faulty, is_too_long, after_reading, after_meaning, after_bench, after_scene, after_piece, unless_faulty, transcript, first_fault, Scene, with_card, without_card, LineFault, Faulty, PlayFault, Read, Write, Script, OutOfMemory, ScriptLines, fault_at, PutsSome, AreLeft, IsTooLong, Advances, held, Said, Does, Obeys, StartsBy, said, said_by, said_of, said_with, said_without, scene, PlaysOn, AreAnswered, Has, SetupStands}
 use Rattle.lapd_sim.specs.machine.Setup as machine
 use Rattle.lapd_sim.specs.declared.setup.Setup.{Setup}
 use Rattle.lapd_script.specs.declared.faults.LineFault.TheVariants as line
@@ -299,10 +299,10 @@ pub starts : (before setup : Option Setup) (a : Output) (meaning : Meaning) (lin
 starts before setup a meaning line m e h is k = grind (arith, has_none, starts_as)
 
 -- a line that the card obeys
-goes_as : (r : Result Unit LineFault) (setup : Setup) (a b : Output) (m : machine.Setup) (x : Result Scene FaultKind) → Obeys r a b (Stands setup) x
+goes_as : (r : Result Unit LineFault) (setup : Setup) (a b : Output) (m : machine.Setup) (x : Result Scene FaultKind) → Obeys r a b (SetupStands setup) x
     → Does r a b (Some m) (Has (Some setup)) (said_with x)
 goes_as r setup a b m x h = grind arith
 
 pub goes : (before : Option Setup) (old new : Setup) (r : Result Unit LineFault) (a b : Output) (meaning : Meaning) (line : List ℕ) (m : Option machine.Setup) → before ≡ Some old → Has before m → Ok meaning ≡ read line
-    → ((n : machine.Setup) → Stands old n → Obeys r a b (Stands new) (with_card meaning (scene n))) → Does r a b m (Has (Some new)) (said line m)
+    → ((n : machine.Setup) → SetupStands old n → Obeys r a b (SetupStands new) (with_card meaning (scene n))) → Does r a b m (Has (Some new)) (said line m)
 goes before old new r a b meaning line m e h is k = grind (arith, goes_as)

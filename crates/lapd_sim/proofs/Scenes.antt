@@ -1,12 +1,12 @@
 -- What a line of a script says at a setup.
-use Rattle.lapd_sim.proofs.Vocabulary.{◌≡◌, ℕ, ◌<◌, ◌≤◌, nat_lt, List, [], length, cond, true, Result, Ok, Err, OnOk, refl, sym, ap, ◌∙◌, subst, lt-ltb, le-leb, CardKind, kind_of, BadLine, BadFrame, Config, Output, Puts, WriteFailed, Setup, FaultKind, Scene, at_line, after_coming, can_come, for_octets, for_frames, with_card, LineFault, Obeys, Tells, scene, written, Stands}
+use Rattle.lapd_sim.proofs.Vocabulary.{◌≡◌, ℕ, ◌<◌, ◌≤◌, nat_lt, List, [], length, cond, true, Result, Ok, Err, OnOk, refl, sym, ap, ◌∙◌, subst, lt-ltb, le-leb, CardKind, kind_of, BadLine, BadFrame, Config, Output, Puts, WriteFailed, Setup, FaultKind, Scene, at_line, after_coming, can_come, for_octets, for_frames, with_card, LineFault, Obeys, Tells, scene, written, SetupStands}
 use Rattle.lapd_script.specs.Meaning as meaning
 use Rattle.lapd_script.specs.declared.command.CardKind.TheVariants.{Octets, Frames}
 use Rattle.lapd_sim.specs.declared.setup.Setup as rust
 use Rattle.lapd_script.specs.declared.faults.LineFault.TheVariants.{Write}
 
 -- at a line that is there, on a card of the right kind
-module _ (s : rust.Setup) (m : Setup) (stands : Stands s m) {at_it line : ℕ} (e : line ≡ at_it) (less : line < s.config.lines) where
+module _ (s : rust.Setup) (m : Setup) (stands : SetupStands s m) {at_it line : ℕ} (e : line ≡ at_it) (less : line < s.config.lines) where
   within : line < m.board.config.lines
   within = subst (λ (c : Config). line < c.lines) (sym stands.config) less
 

@@ -32,10 +32,10 @@ pub use Rattle.lapd_card.specs.Kinds.{AnyLeads, AnyStands, CardStands, FrameCard
 pub use Rattle.lapd_card.specs.declared.kinds.AnyCard.{AnyCard}
 pub use Rattle.lapd_card.specs.declared.kinds.AnyCard.TheVariants.{Frames, Octets}
 pub use Rattle.lapd_sim.specs.Boards.{Leads, OnBoard, kind_of}
-pub use Rattle.lapd_sim.specs.Obeyed.{Does, Obeys, Said, Says, StartsBy, Tells, said, said_by, said_of, said_with, said_without, scene, written}
+pub use Rattle.lapd_sim.specs.Obeyed.{Does, Obeys, Said, SetupSays, StartsBy, Tells, said, said_by, said_of, said_with, said_without, scene, written}
 pub use Rattle.lapd_sim.specs.Pages.{PutsNone, PutsSome, Reaches, is_cut}
 pub use Rattle.lapd_sim.specs.Plays.{AreAnswered, Plays, PlaysOctets, PlaysOn, is_whole, whole_lines}
-pub use Rattle.lapd_sim.specs.Stands.{Each, Has, Stands}
+pub use Rattle.lapd_sim.specs.Stands.{Each, Has, SetupStands}
 pub use Rattle.lapd_store.specs.Store.{Store}
 pub use Rattle.lapd_transcript.proofs.Known.{appends_nothing, broken_more, puts_nothing, puts_then, puts_unwritten, puts_written, stuck_more, writes_then}
 pub use Rattle.lapd_transcript.specs.Counted.{counters_text}

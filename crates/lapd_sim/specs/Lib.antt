@@ -14,7 +14,7 @@ pub use Rattle.lapd_card.specs.Kinds.{config_of, counters_of}
 pub use Rattle.lapd_frame.specs.ShortLists.{listed}
 pub use Rattle.lapd_line.specs.Reports.{told_beside}
 pub use Rattle.lapd_script.specs.Bound.{bound}
-pub use Rattle.lapd_script.specs.FaultLines.{IsTold, play_line}
+pub use Rattle.lapd_script.specs.FaultLines.{IsWrittenOrFails, play_line}
 pub use Rattle.lapd_script.specs.Faults.{reads_failed_by, writes_failed_by}
 pub use Rattle.lapd_script.specs.Job.{frame, job, limits, run}
 pub use Rattle.lapd_script.specs.Meaning.{meant}
@@ -33,7 +33,7 @@ pub use Rattle.model_bits.specs.Stream.{dropped}
 pub use Rattle.model_line.specs.Came.{came, cause_of}
 pub use Rattle.model_line.specs.Request.{request_of}
 pub use Rattle.lapd_sim.specs.Boards.{kind_of, OnBoard}
-pub use Rattle.lapd_sim.specs.Obeyed.{Answers, Begins, Does, said, Says, StartsBy, written}
+pub use Rattle.lapd_sim.specs.Obeyed.{Answers, Begins, Does, said, SetupSays, StartsBy, written}
 pub use Rattle.lapd_sim.specs.Pages.{is_cut, PutsNone, PutsSome, Reaches}
 pub use Rattle.lapd_sim.specs.Plays.{Shows}
 pub use Rattle.lapd_sim.specs.Serves.{Frames, Runs}

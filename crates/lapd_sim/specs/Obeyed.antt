@@ -13,7 +13,7 @@ use Rattle.lapd_sim.specs.machine.Steps.{Scene, begun_with, with_card, without_c
 use Rattle.lapd_sim.specs.declared.setup.Setup as rust
 use Rattle.lapd_script.specs.declared.faults.LineFault.{LineFault}
 use Rattle.lapd_script.specs.declared.faults.LineFault.TheVariants.{Faulty, Write, OutOfMemory}
-use Rattle.lapd_sim.specs.Stands.{Has, Stands}
+use Rattle.lapd_sim.specs.Stands.{Has, SetupStands}
 
 -- The scene in which nothing has been said yet.
 abbrev pub scene : Setup → Scene
@@ -37,11 +37,11 @@ Obeys (Err Write) old new stands said = Breaks old new said
 Obeys (Err OutOfMemory) old new stands said = ⊥
 
 -- So it is from each setup that one stands for: of what happens, and of a line.
-abbrev pub Says : {E : Type 0} → Result Unit E → (old new : rust.Setup) → (before after : Output) → (Scene → Scene) → Type 0
-Says result old new before after happens = (m : Setup) → Stands old m → Tells result before after (Stands new) (happens (scene m))
+abbrev pub SetupSays : {E : Type 0} → Result Unit E → (old new : rust.Setup) → (before after : Output) → (Scene → Scene) → Type 0
+SetupSays result old new before after happens = (m : Setup) → SetupStands old m → Tells result before after (SetupStands new) (happens (scene m))
 
 abbrev pub Answers : Result Unit LineFault → (old new : rust.Setup) → (before after : Output) → Meaning → Type 0
-Answers result old new before after meaning = (m : Setup) → Stands old m → Obeys result before after (Stands new) (with_card meaning (scene m))
+Answers result old new before after meaning = (m : Setup) → SetupStands old m → Obeys result before after (SetupStands new) (with_card meaning (scene m))
 
 -- What a line comes to at which only a write can fail.
 abbrev pub written : Result Unit WriteFailed → Result Unit LineFault

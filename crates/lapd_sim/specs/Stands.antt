@@ -14,7 +14,7 @@ Each R (x ∷ xs) (y ∷ ys) = R x y × Each R xs ys
 Each R _ _ = ⊥
 
 -- The card, its counters, its clock and the moment; each terminal, and what each listener has heard.
-pub record Stands (b : Setup) (m : machine.Setup) : Type 0 where
+pub record SetupStands (b : Setup) (m : machine.Setup) : Type 0 where
   pub config : m.board.config ≡ b.config
   pub board : OnBoard b.board m.board
   pub counters : counters_of b.board ≡ m.counters
@@ -26,5 +26,5 @@ pub record Stands (b : Setup) (m : machine.Setup) : Type 0 where
 -- Before the card line there is no setup.
 abbrev pub Has : Option Setup → Option machine.Setup → Type 0
 Has None None = Unit {0}
-Has (Some b) (Some m) = Stands b m
+Has (Some b) (Some m) = SetupStands b m
 Has _ _ = ⊥

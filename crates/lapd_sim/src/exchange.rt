@@ -24,14 +24,14 @@ const LAST_MOMENT: u64 = (1 << 63) - 1;
 const TEIS: u8 = 127;
 
 impl Setup {
-    ghost use Rattle.lapd_sim.specs.{Answers, Says, after_rx, at, at_expiry, downs, expiry, octet_in, pull, pulls, reply, request_of, teis_on, until, with_event, with_events};
-    ghost use Rattle.lapd_sim.specs.Stands.{Stands};
+    ghost use Rattle.lapd_sim.specs.{Answers, SetupSays, after_rx, at, at_expiry, downs, expiry, octet_in, pull, pulls, reply, request_of, teis_on, until, with_event, with_events};
+    ghost use Rattle.lapd_sim.specs.Stands.{SetupStands};
 
     /// Octets come from a line of a card of octets.
     pub(crate) fn hear<T: Target>(&mut self, line: usize, octets: &[u8], page: &mut Page<T>) -> Put
         requires kind { kind_of self.old.board ≡ Octets }
         requires line { line < self.old.config.lines }
-        ensures { Says result self.old self.new (on T.taken page.old) (on T.taken page.new) (after_rx line octets.now) }
+        ensures { SetupSays result self.old self.new (on T.taken page.old) (on T.taken page.new) (after_rx line octets.now) }
     {
         for octet in octets {
             self.octet(line, *octet, page)?;
@@ -45,7 +45,7 @@ impl Setup {
         requires line { line < self.old.config.lines }
         ensures config { self.new.config ≡ self.old.config }
         ensures kind { kind_of self.new.board ≡ kind_of self.old.board }
-        ensures told { Says result self.old self.new (on T.taken page.old) (on T.taken page.new) (λ s. with_event s (at line (event.octet octet))) }
+        ensures told { SetupSays result self.old self.new (on T.taken page.old) (on T.taken page.new) (λ s. with_event s (at line (event.octet octet))) }
     {
         let AnyCard::Octets(card) = &mut self.board else {
             unreachable!();
@@ -65,10 +65,10 @@ impl Setup {
         requires line { line < self.old.config.lines }
         ensures config { self.new.config ≡ self.old.config }
         ensures kind { kind_of self.new.board ≡ kind_of self.old.board }
-        ensures pulled { (m : machine.Setup) → Stands self.old m
+        ensures pulled { (m : machine.Setup) → SetupStands self.old m
             → room.new ≡ (pulls (length room.old) line (record { setup = m; octets = [] })).octets }
-        ensures after { (m : machine.Setup) → Stands self.old m
-            → Stands self.new (pulls (length room.old) line (record { setup = m; octets = [] })).setup }
+        ensures after { (m : machine.Setup) → SetupStands self.old m
+            → SetupStands self.new (pulls (length room.old) line (record { setup = m; octets = [] })).setup }
     {
         for place in room.iter_mut() {
             *place = self.next_octet(line);
@@ -81,8 +81,8 @@ impl Setup {
         requires line { line < self.old.config.lines }
         ensures config { self.new.config ≡ self.old.config }
         ensures kind { kind_of self.new.board ≡ kind_of self.old.board }
-        ensures pulled { (m : machine.Setup) → Stands self.old m → result ≡ octet_in (reply (at line pull) m.board) }
-        ensures after { (m : machine.Setup) → Stands self.old m → Stands self.new (machine.happened m (at line pull)) }
+        ensures pulled { (m : machine.Setup) → SetupStands self.old m → result ≡ octet_in (reply (at line pull) m.board) }
+        ensures after { (m : machine.Setup) → SetupStands self.old m → SetupStands self.new (machine.happened m (at line pull)) }
     {
         let AnyCard::Octets(card) = &mut self.board else {
             unreachable!();
@@ -101,7 +101,7 @@ impl Setup {
     ) -> Put
         requires { line < self.old.config.lines }
         ensures config { self.new.config ≡ self.old.config }
-        ensures told { Says result self.old self.new (on T.taken page.old) (on T.taken page.new)
+        ensures told { SetupSays result self.old self.new (on T.taken page.old) (on T.taken page.new)
             (λ s. with_event s (at line (event.request (request_of request.entry)))) }
     {
         let mut report = BareReport::nothing();
@@ -116,7 +116,7 @@ impl Setup {
         requires { 127 ≤ length room.old }
         ensures size { length room.new ≡ length room.old }
         ensures few { result ≤ 127 }
-        ensures teis { (m : machine.Setup) → Stands self.now m → take result room.new ≡ teis_on line m.board }
+        ensures teis { (m : machine.Setup) → SetupStands self.now m → take result room.new ≡ teis_on line m.board }
     {
         let mut count = 0;
         let frames = self.board.frames();
@@ -132,7 +132,7 @@ impl Setup {
     /// The line is down: both links of its TEIs, which these are, are given up, and then what waits and is of no link.
     pub(crate) fn give_up<T: Target>(&mut self, line: usize, teis: &[u8], page: &mut Page<T>) -> Put
         requires { line < self.old.config.lines }
-        ensures { Says result self.old self.new (on T.taken page.old) (on T.taken page.new) (with_events (downs line teis.now)) }
+        ensures { SetupSays result self.old self.new (on T.taken page.old) (on T.taken page.new) (with_events (downs line teis.now)) }
     {
         for tei in teis {
             self.ask(line, Request::Deactivate(Service::Call, *tei), page)?;
@@ -155,7 +155,7 @@ impl Setup {
     /// All that falls due until a moment is applied, each at its moment.
     fn until<T: Target>(&mut self, end: u64, page: &mut Page<T>) -> Put
         requires { end < 2 ^ 63 }
-        ensures { Says result self.old self.new (on T.taken page.old) (on T.taken page.new) (until end) }
+        ensures { SetupSays result self.old self.new (on T.taken page.old) (on T.taken page.new) (until end) }
     {
         while let Some((line, timer)) = self.due(end) {
             self.expire(line, timer, page)?;
@@ -169,7 +169,7 @@ impl Setup {
         requires { end < 2 ^ 63 }
         ensures line { IfSome result (λ due. due.0 < self.new.config.lines) }
         ensures due { result ≡ clocks.due_at self.old.clock end }
-        ensures after { IfSome result (λ due. (m : machine.Setup) → Stands self.old m → Stands self.new (at_expiry end m)) }
+        ensures after { IfSome result (λ due. (m : machine.Setup) → SetupStands self.old m → SetupStands self.new (at_expiry end m)) }
         // The time that running timers still run until the end has fallen by more than what a timer could run that is started
         // now.
         ensures nearer { IfSome result (λ due.
@@ -187,7 +187,7 @@ impl Setup {
     /// A timer of a line expires. One timer is started at most.
     fn expire<T: Target>(&mut self, line: usize, timer: Timer, page: &mut Page<T>) -> Put
         requires { line < self.old.config.lines }
-        ensures told { Says result self.old self.new (on T.taken page.old) (on T.taken page.new) (λ s. with_event s (at line (expiry timer))) }
+        ensures told { SetupSays result self.old self.new (on T.taken page.old) (on T.taken page.new) (λ s. with_event s (at line (expiry timer))) }
         ensures one { (end : ℕ) → clocks.time_until end self.new.clock ≤ clocks.time_until end self.old.clock + (end - self.old.moment) }
     {
         let mut report = BareReport::nothing();

@@ -16,15 +16,20 @@ ghost use Rattle.lapd_sim.specs.{LimitsAreOfCards, RunsOnBoards, ScriptsAreRuns,
 /// that a line takes, or what is heard and a call for the next frame; a request; and for a wait the expiries that fall due, one
 /// after the other.
 ///
-/// The configuration is in range (`in_range`), and each event is at a line of the card (`at_lines`). The laws of runs
-/// of a card ask for nothing else of a configuration and of events, except one: that the pool is never full asks for
-/// slots enough, too, which a card line may give or not. So each law of a card that has just begun holds of each
-/// script: what is stored, numbered, sent and pulled is as they say. [`scripts_stay_within`] says so of what is stored.
+/// The configuration is in range (`in_range`). Each event is at a line of the card (`at_lines`), and is an event of a
+/// card of its kind (`of_kind`): of octets, or of frames. So by [`runs_on_boards`] the script is a run of that card, and
+/// by [`transcripts_are_replies`] its moments are those of the script's lines.
+///
+/// The laws of runs of a card ask for nothing else of a configuration and of events, with two exceptions. That the pool
+/// is never full asks for slots enough, which a card line may give or not. And `octets` of `frames_are_read` asks that
+/// what comes and what is granted are octets. So each other law of a card that has just begun holds of each script.
+/// [`scripts_stay_within`] says so of what is stored.
 pub fn scripts_are_runs()
     ensures { ScriptsAreRuns }
 {}
 
-/// What a script is played on is a card of octets or one of frames: runs on it are runs of that card.
+/// What a script is played on is a card of octets or one of frames. Runs on it are runs of that card: they lead to the
+/// same card (`octets`, `frames`), and have the same moments, with the same answers (`octet_moments`, `frame_moments`).
 #[tactic(auto, using(crate::proofs::OfMachine::OnBoards::runs_on_boards))]
 pub fn runs_on_boards()
     ensures { RunsOnBoards }

@@ -1,7 +1,7 @@
 //! The program's work: what its words ask for, its fault lines and its exit status.
 
 ghost use Rattle.std.specs.Prelude.{◌≡◌, ◌≢◌, ◌≤◌, ◌↔◌, ◌++◌, ℕ, Bool, List, Result, Some, None, decimal, codes};
-ghost use Rattle.lapd_sim.specs.{bound, job, run, frame, limits, texts, PlayFault, Write, FrameFault, play_line, IsTold, Shows, Frames, Runs, side_of};
+ghost use Rattle.lapd_sim.specs.{bound, job, run, frame, limits, texts, PlayFault, Write, FrameFault, play_line, IsWrittenOrFails, Shows, Frames, Runs, side_of};
 
 use crate::player::play;
 use lapd_frame::Side;
@@ -29,7 +29,7 @@ pub fn serve<S: Source, T: Target, F: Target>(
     ensures range { result ≤ 2 }
     ensures wrong_words { (result ≡ 2) ↔ (job (texts words.now) ≡ None) }
     // Other words are told by one line, and where all was done nothing is told.
-    ensures usage { job (texts words.now) ≡ None → IsTold (codes "usage\n") (F.taken faults.old) (F.taken faults.new) }
+    ensures usage { job (texts words.now) ≡ None → IsWrittenOrFails (codes "usage\n") (F.taken faults.old) (F.taken faults.new) }
     ensures untold { result ≡ 0 → F.taken faults.new ≡ F.taken faults.old }
     ensures no_read_failed { result ≢ 1 → S.failures source.new ≡ S.failures source.old }
     ensures no_write_failed { result ≢ 1 → (T.taken target.new).failures ≡ (T.taken target.old).failures }
@@ -49,7 +49,7 @@ pub fn serve<S: Source, T: Target, F: Target>(
     ensures bound { (l t c s n : ℕ) → job (texts words.now) ≡ Some (limits l t c s n)
         → Shows result (decimal (bound l t c s n) ++ codes "\n") (T.taken target.old) (T.taken target.new) }
     ensures bound_fault { (l t c s n : ℕ) → job (texts words.now) ≡ Some (limits l t c s n) → result ≡ 1
-        → IsTold (play_line Write) (F.taken faults.old) (F.taken faults.new) }
+        → IsWrittenOrFails (play_line Write) (F.taken faults.old) (F.taken faults.new) }
 {
     match job(words) {
         Some(Job::Run) => match play(alloc, source, target) {

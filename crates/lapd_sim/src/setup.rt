@@ -41,11 +41,11 @@ pub(crate) struct Setup {
 
 impl Setup {
     ghost use Rattle.lapd_sim.specs.{Answers, BadLine, Begins, Output, WrongCard, on};
-    ghost use Rattle.lapd_sim.specs.Stands.{Stands};
+    ghost use Rattle.lapd_sim.specs.Stands.{SetupStands};
 
     /// A card as a card line has it begin, at which nothing has happened.
     pub(crate) fn start(alloc: Global, plan: Plan) -> Result<Setup, LineFault>
-        ensures { Begins result plan.kind plan.config Stands }
+        ensures { Begins result plan.kind plan.config SetupStands }
     {
         let board = begin(alloc, plan)?;
         let lines = usize::from(plan.config.lines);

@@ -20,7 +20,7 @@ octets_of-few (a ∷ b ∷ c ∷ d ∷ e ∷ f ∷ g ∷ i ∷ more) h = absurd 
 octets_of-few _ h = refl
 
 -- what is left of a line's octets after those that were given before
-octets_since : (framer : Framing) (items : List Item) (given octets : List ℕ) (tail : List Bool) → AreOctets octets → framing.Stands framer items (given ++ octets)
+octets_since : (framer : Framing) (items : List Item) (given octets : List ℕ) (tail : List Bool) → AreOctets octets → framing.FramerStands framer items (given ++ octets)
     → octets_of (drop (8 * length given) (line_text items ++ tail)) ≡ octets ++ octets_of (framer.left ++ tail)
 octets_since framer items given octets tail are_octets s =
     let text : line_text items ++ tail ≡ bits given ++ (bits octets ++ (framer.left ++ tail)) =
@@ -34,16 +34,16 @@ octets_since framer items given octets tail are_octets s =
 -- ---- the items of a terminal that sends a frame
 
 -- how many bits are left tells whether the last octet is whole
-length-text : (framer : Framing) (items : List Item) (given : List ℕ) → framing.Stands framer items given → length (line_text items) ≡ 8 * length given + length framer.left
+length-text : (framer : Framing) (items : List Item) (given : List ℕ) → framing.FramerStands framer items given → length (line_text items) ≡ 8 * length given + length framer.left
 length-text framer items given s = ap length s.text ∙ length-append (bits given) framer.left ∙ ap (λ n. n + length framer.left) (length-bits given)
 
-whole_where : (framer : Framing) (octets : List ℕ) (t : Terminal) (given : List ℕ) → framing.Stands framer (with_frame octets t.items) given → length framer.left ≡ 0 → with_frame octets t.items ≡ sending octets t
+whole_where : (framer : Framing) (octets : List ℕ) (t : Terminal) (given : List ℕ) → framing.FramerStands framer (with_frame octets t.items) given → length framer.left ≡ 0 → with_frame octets t.items ≡ sending octets t
 whole_where framer octets t given s none =
     let items = with_frame octets t.items in
     let whole : length (line_text items) % 8 ≡ 0 = omega (arith, length-text framer items given s, none) in
     sym (ap (λ n. if n == 0 then items else items ++ idle ∷ []) whole)
 
-rest_where : (framer : Framing) (octets : List ℕ) (t : Terminal) (given : List ℕ) → framing.Stands framer (with_frame octets t.items) given → 0 < length framer.left → length framer.left < 8
+rest_where : (framer : Framing) (octets : List ℕ) (t : Terminal) (given : List ℕ) → framing.FramerStands framer (with_frame octets t.items) given → 0 < length framer.left → length framer.left < 8
     → with_idle framer.left (with_frame octets t.items) ≡ sending octets t
 rest_where framer octets t given s some few =
     let items = with_frame octets t.items in
@@ -88,25 +88,25 @@ with_one octets octet are small = All-append (λ x. x < 256) octets (octet ∷ [
     one (suc n) d k = absurd (omega arith)
 
 -- nothing yet
-pub nothing_put : (framer : Framing) (items : List Item) (given : List ℕ) → framing.Stands framer items given → HasPut framer given [] items
+pub nothing_put : (framer : Framing) (items : List Item) (given : List ℕ) → framing.FramerStands framer items given → HasPut framer given [] items
 nothing_put framer items given s = grind (arith, append-nil)
 
 -- How an octet leads a framer on.
 abbrev pub Steps : Framing → Framing → ℕ → Type 0
-Steps old new octet = (items : List Item) (given : List ℕ) → framing.Stands old items given → framing.Stands new (with_idle old.left items) (given ++ octet ∷ [])
+Steps old new octet = (items : List Item) (given : List ℕ) → framing.FramerStands old items given → framing.FramerStands new (with_idle old.left items) (given ++ octet ∷ [])
 
 -- one octet of a framer that is busy
 pub put_more : (old new : Framing) (before octets : List ℕ) (octet : ℕ) (items : List Item) → octet < 256 → 8 ≤ length old.left → Steps old new octet
     → HasPut old before octets items → HasPut new before (octets ++ octet ∷ []) items
 put_more old new before octets octet items small busy steps put = record {
   are_octets = with_one octets octet put.are_octets small;
-  stands = subst (λ l. framing.Stands new items l) (append_assoc before octets (octet ∷ []))
-      (subst (λ b. framing.Stands new (if b then items ++ idle ∷ [] else items) ((before ++ octets) ++ octet ∷ [])) (le-ltb (length old.left) 8 busy) (steps items (before ++ octets) put.stands));
+  stands = subst (λ l. framing.FramerStands new items l) (append_assoc before octets (octet ∷ []))
+      (subst (λ b. framing.FramerStands new (if b then items ++ idle ∷ [] else items) ((before ++ octets) ++ octet ∷ [])) (le-ltb (length old.left) 8 busy) (steps items (before ++ octets) put.stands));
 }
 
 -- a frame that is loaded
 pub loaded_put : (old loaded : Framing) (before octets sent given : List ℕ) (items : List Item) → sent ≡ given
-    → ((items : List Item) (given : List ℕ) → framing.Stands old items given → framing.Stands loaded (items ++ frame sent ∷ []) given)
+    → ((items : List Item) (given : List ℕ) → framing.FramerStands old items given → framing.FramerStands loaded (items ++ frame sent ∷ []) given)
     → HasPut old before octets items → HasPut loaded before octets (items ++ frame given ∷ [])
 loaded_put old loaded before octets sent given items is loads put = grind arith
 
@@ -120,8 +120,8 @@ pub rest_put : (old new : Framing) (sent : List ℕ) (t : Terminal) (before octe
     → HasPut old before octets (with_frame sent t.items) → HasPut new before (octets ++ octet ∷ []) (sending sent t)
 rest_put old new sent t before octets octet small some few steps put = record {
   are_octets = with_one octets octet put.are_octets small;
-  stands = subst (λ l. framing.Stands new (sending sent t) l) (append_assoc before octets (octet ∷ []))
-      (subst (λ items. framing.Stands new items ((before ++ octets) ++ octet ∷ [])) (rest_where old sent t (before ++ octets) put.stands some few)
+  stands = subst (λ l. framing.FramerStands new (sending sent t) l) (append_assoc before octets (octet ∷ []))
+      (subst (λ items. framing.FramerStands new items ((before ++ octets) ++ octet ∷ [])) (rest_where old sent t (before ++ octets) put.stands some few)
       (steps (with_frame sent t.items) (before ++ octets) put.stands));
 }
 

@@ -19,4 +19,4 @@ pulled_text line before octets = sent_text line octets ++ flat_map (frame_text l
 
 -- A listener has heard these octets, in which frames have up to 1,024 octets of information (profile).
 abbrev pub Hears : Deframer → List ℕ → Type 0
-Hears listener taken = deframing.Stands 1024 listener taken
+Hears listener taken = deframing.DeframerStands 1024 listener taken

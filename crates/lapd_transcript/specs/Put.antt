@@ -7,4 +7,4 @@ use Rattle.model_bits.specs.StuffingLaws.{AreOctets}
 -- These octets, after those before; all are the beginning of these items.
 pub record HasPut (framer : framing.Framing) (before octets : List ℕ) (items : List Item) : Type 0 where
   pub are_octets : AreOctets octets
-  pub stands : framing.Stands framer items (before ++ octets)
+  pub stands : framing.FramerStands framer items (before ++ octets)

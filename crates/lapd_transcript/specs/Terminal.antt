@@ -30,5 +30,5 @@ after_sending octets t = record { items = sending octets t; given = t.given + le
 -- A sender has put these items on its line, and given so many octets of them.
 pub record Sends (t : rust.Terminal) (m : Terminal) : Type 0 where
   pub octets : List ℕ
-  pub stands : framing.Stands t.framer m.items octets
+  pub stands : framing.FramerStands t.framer m.items octets
   pub given : length octets ≡ m.given

@@ -1,7 +1,6 @@
 -- A control frame that waits is taken by one of so many calls also where other events of its line are between them.
-use Rattle.laws_line.proofs.Vocabulary.{◌≡◌, ℕ, ◌+◌, ◌-◌, ◌<◌, ◌≤◌, Bool, false, cond, List, [], ◌∷◌, ◌++◌, length, Option, Some, refl, sym, ap, ◌∙◌, ◌⊎◌, inl, inr, arith, append_assoc, append-nil, length-append, eq-eqb, Service, Parts, ControlFrame, State, Terms, Link, event-follows, as_heard, is_overlong, waiting_left, Change, one_more_waits, Config, hears, request, next, LineTold, Answer, Aim, of_change, of_aim, Line, link_count, service_at, place_at, tei_at, terms, link_at, Taken, taken, IsInRange, after_sound, Event, expiry, after, answer, IsSound, deactivates, IsBy, frames_before, control_text, after_events, is_take, takes_in, go_first, comes_first, come_first, StaysOnLine, IsTakenIn, link_overlong, link_offer, link_received, link_frame, link_cleared, LinkEvent, link_after}
+use Rattle.laws_line.proofs.Vocabulary.{◌≡◌, ℕ, ◌+◌, ◌-◌, ◌<◌, ◌≤◌, Bool, false, cond, List, [], ◌∷◌, ◌++◌, Option, Some, sym, ap, ◌∙◌, ◌⊎◌, inl, inr, arith, append_assoc, append-nil, length-append, eq-eqb, Service, Parts, ControlFrame, State, Terms, Link, event-follows, as_heard, is_overlong, waiting_left, Change, one_more_waits, Config, LineTold, Answer, Aim, of_change, of_aim, Line, link_count, service_at, place_at, tei_at, terms, link_at, IsInRange, Event, after, answer, IsSound, deactivates, IsBy, frames_before, is_take, go_first, link_overlong, link_offer, link_received, link_frame, link_cleared, LinkEvent, link_after}
 use Rattle.laws_line.proofs.Happening.{Happens, event-happens}
-use Rattle.laws_line.proofs.Ordered.{next-goes}
 use Rattle.laws_line.proofs.Downs.{by-down}
 
 -- What an event that is no call for the next frame leaves of whose turn it is, and what it brings.
@@ -18,9 +17,6 @@ by-aim c l aim = grind (arith, by-change, one_more_waits, length-append, by-down
 meanwhile : (c : Config) (e : Event) (l : Line) → is_take e ≡ false → Meanwhile l (after c e l)
 unfolding after
 meanwhile c e l other = grind (arith, by-aim)
-
-pub one-at-most : (c : Config) (e : Event) (l : Line) → comes_first c e l ≤ 1
-one-at-most c e l = grind (arith, meanwhile)
 
 -- What waits of a link stays before what comes.
 Waits : List ControlFrame → List ControlFrame → Type 0
@@ -72,61 +68,3 @@ module _ (c : Config) (ranged : IsInRange c) (number tei : ℕ) (few : number < 
   pub other-waits : (e : Event) (l : Line) → is_take e ≡ false → deactivates (service_at number) tei e ≡ false → IsSound c l → tei_at (place_at number) l ≡ Some tei → tei_at (place_at number) (after c e l) ≡ Some tei
       → (before : List ControlFrame) (f : ControlFrame) (behind : List ControlFrame) → Waiting l before f behind → (behind' : List ControlFrame) × Waiting (after c e l) before f behind'
   other-waits e l apart up s at at' before f behind waits = still-waits e l (stays e l apart up at at' (event-happens c e l number s few)) before f behind waits
-
-  sooner : (e : Event) (es : List Event) (l : Line) (frame : List ℕ) → IsTakenIn c es (after c e l) frame → IsTakenIn c (e ∷ es) l frame
-  unfolding after_events
-  sooner e es l frame x = record { front = e ∷ x.front; back = x.back; split = ap (λ es. e ∷ es) x.split; one = x.one; taken_is = x.taken_is; is = x.is }
-
-  at-once : (es : List Event) (l : Line) (t : Taken) (frame : List ℕ) → taken c l ≡ Some t → t.frame ≡ frame → IsTakenIn c (next ∷ es) l frame
-  unfolding after_events
-  at-once es l t frame some is = record { front = []; back = es; split = refl; one = t; taken_is = some; is = is }
-
-  Rest : ControlFrame → Event → List Event → Line → Type 0
-  Rest f e es l =
-      (before behind : List ControlFrame) → Waiting (after c e l) before f behind
-      → frames_before c (after c e l) number (length before) + come_first c es (after c e l) < takes_in es → IsTakenIn c es (after c e l) (control_text c number tei f)
-
-  by-take : (f : ControlFrame) (es : List Event) (l : Line) → IsSound c l → tei_at (place_at number) l ≡ Some tei → (before behind : List ControlFrame) → Waiting l before f behind
-      → frames_before c l number (length before) + come_first c (next ∷ es) l < takes_in (next ∷ es) → Rest f next es l → IsTakenIn c (next ∷ es) l (control_text c number tei f)
-  unfolding come_first Rest
-  by-take f es l s at before behind waits less more = go (next-goes c ranged number tei few l s at f behind before waits)
-    where
-      fewer : (before' : List ControlFrame) → frames_before c (after c next l) number (length before') + 1 ≤ frames_before c l number (length before)
-          → frames_before c (after c next l) number (length before') + come_first c es (after c next l) < takes_in es
-      fewer before' nearer = grind arith
-
-      go : ((t : Taken) × (taken c l ≡ Some t) × (t.frame ≡ control_text c number tei f) × (before ≡ []))
-          ⊎ ((before' : List ControlFrame) × (frames (after c next l) ≡ before' ++ f ∷ behind) × (frames_before c (after c next l) number (length before') + 1 ≤ frames_before c l number (length before)))
-          → IsTakenIn c (next ∷ es) l (control_text c number tei f)
-      go (inl (t, some, is, first)) = at-once es l t (control_text c number tei f) some is
-      go (inr (before', waits', nearer)) = sooner next es l (control_text c number tei f) (more before' behind waits' (fewer before' nearer))
-
-  by-other : (f : ControlFrame) (e : Event) (es : List Event) (l : Line) → is_take e ≡ false → deactivates (service_at number) tei e ≡ false → IsSound c l → tei_at (place_at number) l ≡ Some tei → tei_at (place_at number) (after c e l) ≡ Some tei
-      → (before behind : List ControlFrame) → Waiting l before f behind
-      → frames_before c l number (length before) + come_first c (e ∷ es) l < takes_in (e ∷ es) → Rest f e es l → IsTakenIn c (e ∷ es) l (control_text c number tei f)
-  unfolding come_first Rest
-  by-other f e es l apart up s at at' before behind waits less more = grind (arith, other-waits, meanwhile, sooner)
-
-  on-first : (es : List Event) (l : Line) → StaysOnLine c number tei es l → tei_at (place_at number) l ≡ Some tei
-  unfolding StaysOnLine
-  on-first [] l on = on
-  on-first (e ∷ es) l on = on.0
-
-  pub taken-in : (f : ControlFrame) (es : List Event) (l : Line) → IsSound c l → StaysOnLine c number tei es l → (before behind : List ControlFrame) → Waiting l before f behind
-      → frames_before c l number (length before) + come_first c es l < takes_in es → IsTakenIn c es l (control_text c number tei f)
-  unfolding StaysOnLine Rest
-  taken-in f [] l s on before behind waits less = absurd (omega (arith, less))
-  taken-in f (next ∷ es) l s on before behind waits less =
-      by-take f es l s on.0 before behind waits less (λ before' behind' waits' less'. taken-in f es (after c next l) (after_sound c ranged next l s) on.2 before' behind' waits' less')
-  taken-in f (hears e ∷ es) l s on before behind waits less =
-      grind (arith, by-other, on-first, after_sound, (taken-in f es (after c (hears e) l) (after_sound c ranged (hears e) l s) on.2))
-  taken-in f (expiry timer ∷ es) l s on before behind waits less =
-      grind (
-        arith,
-        by-other,
-        on-first,
-        after_sound,
-        (taken-in f es (after c (expiry timer) l) (after_sound c ranged (expiry timer) l s) on.2),
-      )
-  taken-in f (request r ∷ es) l s on before behind waits less =
-      grind (arith, by-other, on-first, after_sound, (taken-in f es (after c (request r) l) (after_sound c ranged (request r) l s) on.2))

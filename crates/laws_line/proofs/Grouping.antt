@@ -1,5 +1,5 @@
 -- What the user's side hears of the network for the group: unit data, and messages of TEI management.
-use Rattle.laws_line.proofs.Vocabulary.{◌≡◌, ℕ, ◌==◌, cond, List, Option, Some, None, Ok, refl, ap, ◌∙◌, arith, le-leb, Tei, Unserved, Address, Control, Service, Parts, Spells, reading, service_of, sapi_of, reading-again, place_of-is, Config, hears, Aim, at_none, Line, place_in, drop_for, management_sapi, to_service, addressed, message_of, aim_of_reading, heard_side, group_told, told_at, at_side, IsToGroup, dropped, after, answer, at_place, line_group_tei as group_tei, IsSound, OnlyTells, IsToManagement, link_frame, LinkReceived, stream_frame}
+use Rattle.laws_line.proofs.Vocabulary.{◌≡◌, ℕ, ◌==◌, cond, List, Option, Some, None, Ok, refl, ap, ◌∙◌, arith, le-leb, Tei, Unserved, Address, Control, Service, Parts, reading, service_of, sapi_of, place_of-is, Config, hears, Aim, at_none, Line, place_in, drop_for, management_sapi, to_service, addressed, message_of, aim_of_reading, heard_side, group_told, told_at, at_side, IsToGroup, dropped, after, answer, at_place, line_group_tei as group_tei, IsSound, OnlyTells, IsToManagement, link_frame, LinkReceived, stream_frame}
 use Rattle.laws_line.proofs.Causing.{to-group}
 use Rattle.laws_line.proofs.Hearing.{sapi-is, by-none}
 
@@ -32,10 +32,6 @@ group-read c l parts octets service s read to =
     ∙ ap (at_side c parts) (for-nobody c l parts.address service (link_frame parts) (message_of parts.control parts.info) s to.sapi to.group)
     ∙ ap at_none (grind (arith, le-leb)))
 
-pub group-unit : (c : Config) (l : Line) (parts : Parts) (octets : List ℕ) (service : Service) → IsSound c l → Spells (heard_side c) parts octets
-    → IsToGroup c parts service → OnlyTells (group_told service parts.info) l (after c (hears (stream_frame octets)) l) (answer c (hears (stream_frame octets)) l)
-group-unit c l parts octets service s spelled to = group-read c l parts octets service s (reading-again (heard_side c) parts octets spelled) to
-
 -- What is for TEI management is not served.
 module _ (c : Config) (parts : Parts) (to : IsToManagement c parts) where
   no-unit : at_none (told_at c c.side parts (dropped Unserved)) ≡ drop_for Unserved
@@ -51,7 +47,3 @@ managed-read c l parts octets read to =
     ((ap (aim_of_reading c l) read)
     ∙ ap (at_side c parts) (to-group c l parts.address (link_frame parts) (message_of parts.control parts.info) to.sapi to.group)
     ∙ by-control c parts to parts.control)
-
-pub managed-dropped : (c : Config) (l : Line) (parts : Parts) (octets : List ℕ) → Spells (heard_side c) parts octets
-    → IsToManagement c parts → OnlyTells (dropped Unserved) l (after c (hears (stream_frame octets)) l) (answer c (hears (stream_frame octets)) l)
-managed-dropped c l parts octets spelled to = managed-read c l parts octets (reading-again (heard_side c) parts octets spelled) to

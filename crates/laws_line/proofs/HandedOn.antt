@@ -1,28 +1,9 @@
 -- What is handed on of what is heard.
-use Rattle.laws_line.proofs.Vocabulary.{arith, ◌≡◌, ℕ, Bool, true, false, cond, ◌==◌, List, [], ◌∷◌, Option, Some, None, Result, Ok, Err, is_some, refl, sym, ap, ◌∙◌, ◌⊎◌, inl, inr, list_any, option_or, All-head, All-tail, none-some, Cause, Extension, Sapi, Tei, Unserved, Address, ReadFault, BadExtension, Undefined, WrongSize, Short, Long, Note, Refusal, Service, Timer, T201, Parts, reading, long_reading, service_of, reading-found, Terms, LinkTimer, IsOwn, Link, is_data, is_unit, notes-own, event-tells, contents_heard, unit_heard, data_due, delivered-was-heard, event-unit, data-is, within-is, place_of-is, Config, hears, request, next, nothing, Aim, at_none, at_link, at_management, of_aim, at_timer, aim_of_expiry, Line, place_in, link_in, terms, unless_refused_told, drop_for, management_sapi, to_service, addressed, message_of, aim_of_reading, aim_of_long, heard_side, aim_of_heard, group_told, IsToGroup, side_aims, Request, Establish, at_requested, at_deactivated, aim_of_request, IsInRange, sound_in, All, T200, T203, Event, expiry, answer, unless_refused, group_tei, at_place, refusal, IsSound, IsFor, IsTo, contents_in, due, is_data_of, is_unit_of, IsHeard, link_undefined, link_overlong, LinkReceived, link_received, LinkEstablish, link_expired, link_frame, link_requested, LinkRequest, link_wrong_size, LinkEvent, link_told, stream_overlong, bits_dropped, stream_frame, StreamEvent, tei_expiry, TeiEvent}
+use Rattle.laws_line.proofs.Vocabulary.{arith, ◌≡◌, ℕ, Bool, true, false, cond, ◌==◌, List, [], ◌∷◌, Option, Some, None, Result, Ok, Err, is_some, refl, sym, ap, ◌∙◌, ◌⊎◌, inl, inr, list_any, option_or, All-head, All-tail, none-some, Cause, Extension, Sapi, Tei, Unserved, Address, ReadFault, BadExtension, Undefined, WrongSize, Short, Long, Note, Refusal, Service, Timer, T201, Parts, reading, long_reading, service_of, reading-found, Terms, LinkTimer, IsOwn, Link, is_data, is_unit, notes-own, event-tells, contents_heard, unit_heard, delivered-was-heard, event-unit, within-is, place_of-is, Config, hears, request, next, nothing, Aim, at_none, at_link, at_management, of_aim, at_timer, aim_of_expiry, Line, place_in, link_in, terms, unless_refused_told, drop_for, management_sapi, to_service, addressed, message_of, aim_of_reading, aim_of_long, heard_side, aim_of_heard, group_told, IsToGroup, side_aims, Request, Establish, at_requested, at_deactivated, aim_of_request, IsInRange, sound_in, All, T200, T203, Event, expiry, answer, unless_refused, group_tei, at_place, refusal, IsSound, IsTo, contents_in, is_data_of, is_unit_of, IsHeard, link_undefined, link_overlong, LinkReceived, link_received, LinkEstablish, link_expired, link_frame, link_requested, LinkRequest, link_wrong_size, LinkEvent, link_told, stream_overlong, bits_dropped, stream_frame, StreamEvent, tei_expiry, TeiEvent}
 use Rattle.model_link.specs.Sound as link_sound
 use Rattle.laws_line.proofs.Told.{its-own}
-use Rattle.laws_line.proofs.Hearing.{sapi-is, spelled-for, read-event}
+use Rattle.laws_line.proofs.Hearing.{sapi-is}
 use Rattle.laws_line.proofs.Downs.{by-down}
-
--- What a frame brings to layer 3 is handed on.
-pub due-read : (c : Config) (l : Line) (service : Service) (tei place : ℕ) (parts : Parts) (octets : List ℕ) → IsInRange c → IsSound c l
-    → reading (heard_side c) octets ≡ Ok parts → IsTo l service tei place parts.address
-    → contents_in (answer c (hears (stream_frame octets)) l) ≡ due (terms c service tei) parts (link_in l service place)
-due-read c l service tei place parts octets ranged s read f =
-    let t = terms c service tei in
-    let e = link_received (link_frame parts) in
-    let says = (read-event c l service tei place parts octets read f).answer_is in
-    let sound = sound_in c ranged l s service tei place (place_of-is l.management.places tei place f.on_line).1 in
-    ap contents_in says.is ∙ says.contents
-    ∙ ap (λ d. option_or d (link_told t e (link_in l service place)).unit) (data-is t (link_in l service place) e)
-    ∙ ap (option_or (data_due t e (link_in l service place))) (event-unit t (link_in l service place) sound e)
-
-pub due-is : (c : Config) (l : Line) (service : Service) (tei place : ℕ) (parts : Parts) (octets : List ℕ) → IsInRange c → IsSound c l
-    → IsFor c l service tei place parts octets
-    → contents_in (answer c (hears (stream_frame octets)) l) ≡ due (terms c service tei) parts (link_in l service place)
-due-is c l service tei place parts octets ranged s f =
-    let x = spelled-for c l service tei place parts octets f in due-read c l service tei place parts octets ranged s x.0 x.1
 
 -- Notes of data, and of unit data, are the link's own.
 own-data : (t : Terms) (n : Note) → IsOwn t n → (is_data_of t.service t.tei n ≡ is_data n) × (is_unit_of t.service t.tei n ≡ is_unit n)

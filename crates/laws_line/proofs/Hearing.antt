@@ -1,5 +1,5 @@
 -- What is heard brings to a link.
-use Rattle.laws_line.proofs.Vocabulary.{arith, ◌≡◌, ℕ, ◌==◌, List, Some, Ok, refl, ◌∙◌, none-some, Cause, Unserved, Address, Service, Parts, reading, long_reading, service_of, sapi_of, same_service, reading-again, Config, LineTold, hears, Aim, at_none, at_link, Line, place_in, drop_for, addressed, aim_of_reading, aim_of_long, heard_side, aim_of_heard, eqb-true, dropped, after, answer, IsFor, IsTo, IsMalformed, IsTooLong, IsOneHeard as IsOneEvent, OnlyTells, link_received, link_frame, LinkReceived, stream_overlong, bits_dropped, stream_frame, StreamEvent}
+use Rattle.laws_line.proofs.Vocabulary.{arith, ◌≡◌, ℕ, ◌==◌, List, Some, Ok, refl, ◌∙◌, none-some, Cause, Unserved, Address, Service, Parts, reading, long_reading, service_of, sapi_of, same_service, Config, LineTold, hears, Aim, at_none, at_link, Line, place_in, drop_for, addressed, aim_of_reading, aim_of_long, heard_side, aim_of_heard, eqb-true, dropped, after, answer, IsTo, IsMalformed, IsTooLong, IsOneHeard as IsOneEvent, OnlyTells, link_received, link_frame, LinkReceived, stream_overlong, bits_dropped, stream_frame, StreamEvent}
 
 -- The SAPI of a service.
 pub same-sapi : (a b : Service) → (sapi_of a == sapi_of b) ≡ same_service a b
@@ -37,16 +37,6 @@ pub read-event : (c : Config) (l : Line) (service : Service) (tei place : ℕ) (
     → IsOneEvent c l (after c (hears (stream_frame octets)) l) (answer c (hears (stream_frame octets)) l) service tei place (link_received (link_frame parts))
 read-event c l service tei place parts octets read f =
     by-aim c l (stream_frame octets) service tei place (link_frame parts) (read-aim c l service tei place parts octets read f)
-
--- as one is that is spelled for it
-pub spelled-for : (c : Config) (l : Line) (service : Service) (tei place : ℕ) (parts : Parts) (octets : List ℕ) → IsFor c l service tei place parts octets
-    → (reading (heard_side c) octets ≡ Ok parts) × IsTo l service tei place parts.address
-spelled-for c l service tei place parts octets f = grind (arith, reading-again)
-
-pub one-event : (c : Config) (l : Line) (service : Service) (tei place : ℕ) (parts : Parts) (octets : List ℕ) → IsFor c l service tei place parts octets
-    → IsOneEvent c l (after c (hears (stream_frame octets)) l) (answer c (hears (stream_frame octets)) l) service tei place (link_received (link_frame parts))
-one-event c l service tei place parts octets f =
-    by-aim c l (stream_frame octets) service tei place (link_frame parts) (let s = spelled-for c l service tei place parts octets f in read-aim c l service tei place parts octets s.0 s.1)
 
 -- A frame that the grammar does not have.
 pub malformed-event : (c : Config) (l : Line) (service : Service) (tei place : ℕ) (address : Address) (octets : List ℕ) (what : LinkReceived)

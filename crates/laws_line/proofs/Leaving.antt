@@ -1,8 +1,7 @@
 -- What waits on a link stays in its order, until it is taken.
-use Rattle.laws_line.proofs.Vocabulary.{◌≡◌, ℕ, zero, suc, ◌<◌, List, [], ◌∷◌, ◌++◌, slice_get, get_or, Option, Some, None, refl, sym, ap, ◌∙◌, ◌⊎◌, inl, inr, ⊎_elim, arith, ◌≤◌, IfSome, option_or, unwrap_or, cases_eq, get_or-set_same, get_or-set_other, spelling, ControlFrame, Terms, Link, Given, Goes, GoesWhole, after_offers, in-turn, Config, next, Line, UnitData, link_count, service_at, place_at, tei_at, terms, terms_at, link_at, Taken, with_unit, with_given_frame, link_taken, first_taken, taken, IsInRange, after_sound, next_walk, option_map, link_frame_of as frame_of, begun as course_begun, after, IsSound, HasNothing, after_takes, frames_to_go, control_text, IsTakenWithin, link_offer, link_given, link_after}
+use Rattle.laws_line.proofs.Vocabulary.{◌≡◌, ℕ, ◌<◌, List, [], ◌∷◌, ◌++◌, slice_get, Option, Some, refl, ap, ◌∙◌, ◌⊎◌, inl, inr, ⊎_elim, arith, IfSome, option_or, unwrap_or, cases_eq, get_or-set_same, get_or-set_other, spelling, ControlFrame, Terms, Link, Given, Goes, GoesWhole, after_offers, in-turn, Config, next, Line, UnitData, link_count, service_at, place_at, tei_at, terms, terms_at, link_at, Taken, with_unit, with_given_frame, link_taken, first_taken, taken, IsInRange, next_walk, option_map, link_frame_of as frame_of, begun as course_begun, after, IsSound, control_text, link_offer, link_given, link_after}
 use Rattle.model_link.specs.Offers
 use Rattle.model_line.specs.Taken as taking
-use Rattle.laws_line.proofs.Draining.{drains}
 
 -- the first that waits is what an offer gives, and the others stay
 pub first-goes : (t : Terms) (l : Link) (f : ControlFrame) (fs : List ControlFrame) → l.waiting ≡ f ∷ fs → GoesWhole f (link_given t l)
@@ -53,48 +52,10 @@ next-moves c number l s few =
     next_walk c l (Moved c number l) (Moves c number l) (grind (arith, either, option_map, slice_get, by-unit, by-round)) (record { places = refl; fate = inl refl })
     (λ t x. record { places = x.places; fate = ⊎_elim (λ same. inl same) (λ (y : Gave c number l t). inr (t, y.given, refl, y.is, y.frame, y.link)) x.fate })
 
--- A frame is taken at once, or by a later call.
-pub now : (c : Config) (n : ℕ) (l : Line) (t : Taken) (text : List ℕ) → taken c l ≡ Some t → t.frame ≡ text → IsTakenWithin c (suc n) l text
-unfolding after_takes
-now c n l t text e is = record { takes = 0; few = omega arith; one = t; taken_is = e; is = is }
-
-pub later : (c : Config) (n : ℕ) (l : Line) (text : List ℕ) → IsTakenWithin c n (after c next l) text → IsTakenWithin c (suc n) l text
-unfolding after_takes
-later c n l text h = let few : h.takes < n = h.few in record { takes = suc h.takes; few = omega arith; one = h.one; taken_is = h.taken_is; is = h.is }
-
 pub not-empty : (before : List ControlFrame) (f : ControlFrame) (behind : List ControlFrame) → before ++ f ∷ behind ≡ [] → ⊥
 not-empty [] f behind e = cc
 not-empty (b ∷ bs) f behind e = cc
 
 module _ (c : Config) (ranged : IsInRange c) (number tei : ℕ) (few : number < link_count c) where
-  pub same-place : (l l' : Line) → l'.management.places ≡ l.management.places → tei_at (place_at number) l ≡ Some tei → tei_at (place_at number) l' ≡ Some tei
-  same-place l l' e at = ap (λ ps. get_or ps (place_at number) None) e ∙ at
-
   pub text-is : (l : Line) (f : ControlFrame) (g : Given) → tei_at (place_at number) l ≡ Some tei → Goes f g → taking.frame_of c (terms_at c number l) g ≡ control_text c number tei f
   text-is l f g at h = (grind arith) ∙ ap (λ t. spelling c.side (frame_of t f)) (ap (λ o. terms c (service_at number) (unwrap_or o 0)) at)
-
-  pub goes-out : (n : ℕ) (l : Line) → IsSound c l → tei_at (place_at number) l ≡ Some tei → (before : List ControlFrame) (f : ControlFrame) (behind : List ControlFrame)
-      → (link_at number l).waiting ≡ before ++ f ∷ behind → HasNothing c (after_takes c n l) → IsTakenWithin c n l (control_text c number tei f)
-  unfolding after_takes
-  goes-out zero l s at before f behind e h = absurd (not-empty before f behind (sym e ∙ (h.links number few tei at).waiting))
-  goes-out (suc n) l s at before f behind e h =
-      let p = next-moves c number l s few in
-      let s' = after_sound c ranged next l s in
-      step n l at before f behind e p.fate
-      (λ before' e'. goes-out n (after c next l) s' (same-place l (after c next l) p.places at) before' f behind e' h)
-    where
-      step : (n : ℕ) (l : Line) → tei_at (place_at number) l ≡ Some tei → (before : List ControlFrame) (f : ControlFrame) (behind : List ControlFrame)
-          → (link_at number l).waiting ≡ before ++ f ∷ behind
-          → (link_at number (after c next l) ≡ link_at number l)
-          ⊎ ((t : Taken) × (g : Given) × (taken c l ≡ Some t) × (link_given (terms_at c number l) (link_at number l) ≡ Some g)
-          × (t.frame ≡ taking.frame_of c (terms_at c number l) g) × (link_at number (after c next l) ≡ link_after (terms_at c number l) link_offer (link_at number l)))
-          → ((before' : List ControlFrame) → (link_at number (after c next l)).waiting ≡ before' ++ f ∷ behind → IsTakenWithin c n (after c next l) (control_text c number tei f))
-          → IsTakenWithin c (suc n) l (control_text c number tei f)
-      step n l at before f behind e (inl same) more = later c n l _ (more before (ap (λ (x : Link). x.waiting) same ∙ e))
-      step n l at [] f behind e (inr (t, g, some, given, frame, moved)) more = grind (arith, now, text-is, first-goes)
-      step n l at (b ∷ bs) f behind e (inr (t, g, some, given, frame, moved)) more =
-          later c n l _ (more bs (ap (λ (x : Link). x.waiting) moved ∙ others-wait (terms_at c number l) (link_at number l) b (bs ++ f ∷ behind) e))
-
-  pub waits-and-goes : (n : ℕ) (l : Line) → IsSound c l → tei_at (place_at number) l ≡ Some tei → (before : List ControlFrame) (f : ControlFrame) (behind : List ControlFrame)
-      → (link_at number l).waiting ≡ before ++ f ∷ behind → frames_to_go c l ≤ n → IsTakenWithin c n l (control_text c number tei f)
-  waits-and-goes n l s at before f behind e less = goes-out n l s at before f behind e (drains c ranged n l s less)

@@ -2,7 +2,6 @@
 pub mod Vocabulary
 pub mod MachineLaws
 pub mod Downs
-pub mod Kept
 pub mod Asked
 pub mod Told
 pub mod Silence
@@ -15,7 +14,6 @@ pub mod LinkMoves
 pub mod Obeyed
 pub mod Following
 pub mod TimersFollow
-pub mod Restarting
 pub mod Granting
 pub mod Managing
 pub mod Tied
@@ -26,15 +24,10 @@ pub mod Readings
 pub mod TeiNotes
 pub mod Noting
 pub mod Knowing
-pub mod KnowingTeis
-pub mod Messaging
 pub mod GroupAims
 pub mod Causing
 pub mod Grouping
-pub mod Unmanaged
 pub mod Parts
-pub mod Telling
-pub mod Reasoning
 pub mod Noted
 pub mod Going
 pub mod Exact
@@ -44,7 +37,6 @@ pub mod Bounds
 pub mod Leaving
 pub mod InRounds
 pub mod Ordered
-pub mod Polled
 pub mod Soon
 pub mod Among
 pub mod Premises

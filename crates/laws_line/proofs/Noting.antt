@@ -1,5 +1,5 @@
 -- What notes say: those of a link of this link alone, and those of TEI management of TEIs alone.
-use Rattle.laws_line.proofs.Vocabulary.{arith, ◌≡◌, ℕ, ◌==◌, ◌&&◌, Bool, false, List, [], ◌∷◌, refl, fold, All-head, All-tail, Note, Service, same_service, seen, known, IsOwn, Terms, All, up_by_note, on_by_note}
+use Rattle.laws_line.proofs.Vocabulary.{arith, ◌≡◌, ℕ, ◌==◌, ◌&&◌, Bool, false, List, [], ◌∷◌, refl, fold, All-head, All-tail, Note, Service, same_service, seen, known, IsOwn, Terms, All, up_by_note}
 use Rattle.laws_line.proofs.Told.{its-own}
 
 pub own-notes : (t : Terms) (up : Bool) (ns : List Note) → All (IsOwn t) ns → fold (up_by_note t.service t.tei) up ns ≡ known up ns
@@ -14,7 +14,3 @@ module _ (t : Terms) (service : Service) (tei : ℕ) (other : (same_service t.se
   pub other-notes : (up : Bool) (ns : List Note) → All (IsOwn t) ns → fold (up_by_note service tei) up ns ≡ up
   other-notes up [] all = refl
   other-notes up (n ∷ ns) all = grind (arith, other-note, All-head, All-tail, (other-notes up ns (All-tail (IsOwn t) n ns all)))
-
-pub link-notes : (t : Terms) (tei : ℕ) (on : Bool) (ns : List Note) → All (IsOwn t) ns → fold (on_by_note tei) on ns ≡ on
-link-notes t tei on [] all = refl
-link-notes t tei on (n ∷ ns) all = grind (arith, All-head, All-tail, (link-notes t tei on ns (All-tail (IsOwn t) n ns all)))

@@ -1,13 +1,9 @@
 -- Lemmas.
 pub mod MachineLaws
 pub mod Spelling
-pub mod Keeping
-pub mod Serving
 pub mod Hearing
 pub mod TimersRun
 pub mod OneEvent
-pub mod Watching
-pub mod Knowing
 pub mod Meanwhile
 pub mod InOrder
 pub mod Amid

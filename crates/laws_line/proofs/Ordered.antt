@@ -1,11 +1,11 @@
 -- A control frame that waits is taken in its turn: after the messages, the unit data, and at most one frame of each other
 -- link for each of its own that goes before it.
-use Rattle.laws_line.proofs.Vocabulary.{◌≡◌, ◌≢◌, ℕ, zero, suc, ◌+◌, ◌<◌, ◌≤◌, List, [], ◌∷◌, ◌++◌, length, drop, slice_get, Option, Some, None, refl, sym, ap, subst, ◌∙◌, ◌⊎◌, inl, inr, ⊎_elim, arith, option_map_or, option_or, cases_eq, get_or-set_same, get_or-set_other, ControlFrame, Given, GoesWhole, Message, Config, next, Line, UnitData, link_count, place_at, tei_at, terms_at, link_at, Taken, with_unit, with_given_frame, link_taken, first_taken, round, taken, line_of, IsInRange, after_sound, option_map, after, with_message, IsSound, IsInTurn, way_round, frames_before, IsEnough, control_text, IsTakenWithin, link_given, nat_le, leb-true}
+use Rattle.laws_line.proofs.Vocabulary.{◌≡◌, ◌≢◌, ℕ, ◌+◌, ◌<◌, ◌≤◌, List, [], ◌∷◌, ◌++◌, length, drop, slice_get, Option, Some, None, refl, sym, ap, subst, ◌∙◌, ◌⊎◌, inl, inr, ⊎_elim, arith, option_map_or, option_or, cases_eq, get_or-set_same, get_or-set_other, ControlFrame, Given, GoesWhole, Message, Config, next, Line, UnitData, link_count, place_at, tei_at, terms_at, link_at, Taken, with_unit, with_given_frame, link_taken, first_taken, round, taken, line_of, IsInRange, option_map, after, with_message, IsSound, IsInTurn, way_round, frames_before, control_text, link_given, nat_le, leb-true}
 use Rattle.lapd_tei.specs.Messages as messages
 use Rattle.laws_line.proofs.InTurn.{links_take_turns}
 use Rattle.laws_line.proofs.Serving.{none-waits}
 use Rattle.laws_line.proofs.InRounds.{comes-first}
-use Rattle.laws_line.proofs.Leaving.{first-goes, others-wait, now, later, not-empty, same-place, text-is, next-moves, waits-and-goes}
+use Rattle.laws_line.proofs.Leaving.{first-goes, others-wait, not-empty, text-is}
 
 -- What is taken is the frame, or it comes nearer.
 abbrev pub Nearer : Config → ℕ → Line → List ControlFrame → ControlFrame → List ControlFrame → ℕ → Line → Type 0
@@ -77,27 +77,3 @@ module _ (c : Config) (ranged : IsInRange c) (number tei : ℕ) (few : number < 
   pub next-goes : (before : List ControlFrame) → (link_at number l).waiting ≡ before ++ f ∷ behind → Goes before (after c next l)
   unfolding after
   next-goes before e = by-taken before e (taken c l) refl
-
--- A call after the other.
-pub taken-in-order : (c : Config) → IsInRange c → (number tei : ℕ) → number < link_count c → (f : ControlFrame) (behind : List ControlFrame) (n : ℕ) (l : Line) → IsSound c l
-    → tei_at (place_at number) l ≡ Some tei → (before : List ControlFrame) → (link_at number l).waiting ≡ before ++ f ∷ behind → frames_before c l number (length before) < n
-    → IsTakenWithin c n l (control_text c number tei f)
-taken-in-order c ranged number tei few f behind zero l s at before e less = absurd (omega (arith, less))
-taken-in-order c ranged number tei few f behind (suc n) l s at before e less =
-    go (next-goes c ranged number tei few l s at f behind before e)
-    (λ before' e' less'.
-    taken-in-order c ranged number tei few f behind n (after c next l) (after_sound c ranged next l s)
-    (same-place c ranged number tei few l (after c next l) (next-moves c number l s few).places at) before' e' less')
-  where
-    go : Goes c ranged number tei few l s at f behind before (after c next l)
-        → ((before' : List ControlFrame) → (link_at number (after c next l)).waiting ≡ before' ++ f ∷ behind → frames_before c (after c next l) number (length before') < n
-        → IsTakenWithin c n (after c next l) (control_text c number tei f))
-        → IsTakenWithin c (suc n) l (control_text c number tei f)
-    go (inl (t, some, is, first)) more = now c n l t (control_text c number tei f) some is
-    go (inr (before', e', nearer)) more = later c n l (control_text c number tei f) (more before' e' (omega (arith, less, nearer)))
-
-pub enough-goes : (c : Config) → IsInRange c → (number tei : ℕ) → number < link_count c → (n : ℕ) (l : Line) → IsSound c l → tei_at (place_at number) l ≡ Some tei
-    → (before : List ControlFrame) (f : ControlFrame) (behind : List ControlFrame) → (link_at number l).waiting ≡ before ++ f ∷ behind → IsEnough c n l number (length before)
-    → IsTakenWithin c n l (control_text c number tei f)
-enough-goes c ranged number tei few n l s at before f behind e (inl less) = waits-and-goes c ranged number tei few n l s at before f behind e less
-enough-goes c ranged number tei few n l s at before f behind e (inr less) = taken-in-order c ranged number tei few f behind n l s at before e less

@@ -1,5 +1,5 @@
 -- Lines that meet what the laws of what waits ask, and what those give.
-use Rattle.laws_line.proofs.Vocabulary.{◌+◌, ◌≤◌, length, refl, inl, arith, hears, request, fresh_line, Assign, after_sound, fresh_sound, IsSound, IsEnough, small, sabme_octets, poll_octets, before_poll, call_link, one_waits, asked, two_to_go, before_sabme, stream_frame}
+use Rattle.laws_line.proofs.Vocabulary.{◌+◌, ◌≤◌, length, refl, arith, hears, request, fresh_line, Assign, after_sound, fresh_sound, IsSound, small, sabme_octets, poll_octets, before_poll, call_link, one_waits, asked, before_sabme, stream_frame}
 
 pub before-sound : IsSound small before_poll
 before-sound =
@@ -7,9 +7,6 @@ before-sound =
 
 pub room : length (call_link before_poll).waiting + 1 ≤ 2
 room = omega (arith, one_waits)
-
-pub enough : IsEnough small 2 asked 0 (length (call_link before_poll).waiting)
-enough = inl (omega (arith, two_to_go))
 
 -- Behind the poll two frames wait: the second is taken within the calls that are enough for whatever waits,
 pub asked-sound : IsSound small asked

@@ -1,6 +1,5 @@
 -- What a configuration lets go before a control frame that waits.
-use Rattle.laws_line.proofs.Vocabulary.{◌≡◌, ℕ, ◌+◌, ◌≤◌, ◌<◌, List, ◌∷◌, ◌++◌, length, Some, arith, length-append, nat_le, mul-le-mul_right, leb-false, ControlFrame, Config, Line, link_count, place_at, tei_at, link_at, IsInRange, IsSound, frames_before, control_text, IsTakenWithin, most_frames_before}
-use Rattle.laws_line.proofs.Ordered.{enough-goes}
+use Rattle.laws_line.proofs.Vocabulary.{◌≡◌, ℕ, ◌+◌, ◌≤◌, ◌<◌, List, ◌∷◌, ◌++◌, length, Some, arith, length-append, nat_le, mul-le-mul_right, leb-false, ControlFrame, Config, Line, link_count, place_at, tei_at, link_at, IsInRange, IsSound, frames_before, most_frames_before}
 
 -- by numbers alone
 pub few-before : (c : Config) (l : Line) → IsSound c l → (number others : ℕ) → number < link_count c → others + 1 ≤ c.control
@@ -16,8 +15,3 @@ module _ (c : Config) (ranged : IsInRange c) (l : Line) (s : IsSound c l) (numbe
 
   pub others-fit : length before + 1 ≤ c.control
   others-fit = grind (arith, length-append, ring)
-
-pub goes-soon : (c : Config) → IsInRange c → (l : Line) → IsSound c l → (number tei : ℕ) → number < link_count c
-    → tei_at (place_at number) l ≡ Some tei → (before : List ControlFrame) (f : ControlFrame) (behind : List ControlFrame)
-    → (link_at number l).waiting ≡ before ++ f ∷ behind → (n : ℕ) → most_frames_before c < n → IsTakenWithin c n l (control_text c number tei f)
-goes-soon c ranged l s number tei few at before f behind waits n enough = grind (arith, enough-goes, others-fit, few-before)

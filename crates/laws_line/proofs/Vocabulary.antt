@@ -1,31 +1,29 @@
 -- The words of std and of the crates below with which the proofs of this crate speak, from where they are defined.
-pub use Rattle.std.proofs.Common.{Bool, Err, IfSome, IsSome, List, None, Ok, Option, Result, Some, [], ap, append-nil, append_assoc, arith, cond, drop, eq-eqb, eqb-true, false, get_or, inl, inr, is_some, length, length-append, length-set, nat_le, nat_lt, not, option_map, option_to_list, refl, replicate, set, slice_get, subst, suc, sym, take, true, true≢false, zero, zero-add, ℕ, ⊎_elim, ◌%◌, ◌&&◌, ◌*◌, ◌++◌, ◌+◌, ◌-◌, ◌/◌, ◌<◌, ◌==◌, ◌||◌, ◌↔◌, ◌∙◌, ◌∷◌, ◌≡◌, ◌≢◌, ◌≤◌, ◌⊎◌}
+pub use Rattle.std.proofs.Common.{Bool, Err, IfSome, List, None, Ok, Option, Result, Some, [], ap, append-nil, append_assoc, arith, cond, drop, eq-eqb, eqb-true, false, get_or, inl, inr, is_some, length, length-append, length-set, nat_le, nat_lt, not, option_map, option_to_list, refl, replicate, set, slice_get, subst, suc, sym, take, true, true≢false, zero, zero-add, ℕ, ⊎_elim, ◌&&◌, ◌*◌, ◌++◌, ◌+◌, ◌-◌, ◌<◌, ◌==◌, ◌↔◌, ◌∙◌, ◌∷◌, ◌≡◌, ◌≢◌, ◌≤◌, ◌⊎◌}
 pub use Rattle.std.proofs.Math.Nat.{mul-le-mul_right}
 pub use Rattle.std.proofs.Math.Seq.{get_or-append_right, get_or-append_seam}
 pub use Rattle.std.proofs.lemmas.Bool.{and_parts, cases_eq, cases_lt, eqb-false, le-leb, le-ltb, leb-false, leb-true, ltb-false, ltb-true}
-pub use Rattle.std.proofs.lemmas.Bool.Decides.{nat_tests}
-pub use Rattle.std.proofs.lemmas.List.{append_cancel_left, get_or-drop, get_or-replicate, get_or-set_other, get_or-set_same, get_or-take, get_or_append_left, get_or_past, length-drop, length-take-le, take-append-drop}
-pub use Rattle.std.proofs.lemmas.List.Elements.{All-append, All-cons, All-get_or, All-head, All-nil, All-tail, All-weaker}
+pub use Rattle.std.proofs.lemmas.List.{get_or-drop, get_or-replicate, get_or-set_other, get_or-set_same, get_or-take, get_or_append_left, get_or_past, length-drop, length-take-le, take-append-drop}
+pub use Rattle.std.proofs.lemmas.List.Elements.{All-append, All-cons, All-get_or, All-head, All-nil, All-tail}
 pub use Rattle.std.proofs.lemmas.List.FromFn.{get_or-range_with_len, length-range_with_len}
 pub use Rattle.std.proofs.lemmas.List.Sums.{fold-append, sum_by-append, sum_by-cons}
 pub use Rattle.std.proofs.lemmas.Option.{none-some}
-pub use Rattle.std.specs.List.{filter, find, list_any, prefix_len, range_with_len}
+pub use Rattle.std.specs.List.{list_any, prefix_len, range_with_len}
 pub use Rattle.std.specs.Option.{option_map_or, option_or, unwrap_or}
 pub use Rattle.std.specs.Prelude.{All, Contains, count_by, fold, map, sum_by}
 pub use Rattle.model_bits.specs.declared.heard.Cause.{Cause}
 pub use Rattle.model_bits.specs.declared.heard.Cause.TheVariants.{Extension, Fcs, Sapi, Tei, Unserved}
 pub use Rattle.model_bits.specs.Stream.{dropped as bits_dropped, Event as StreamEvent, frame as stream_frame, overlong as stream_overlong}
 pub use Rattle.model_bits.specs.StuffingLaws.{AreOctets}
-pub use Rattle.lapd_frame.proofs.Spelling.{reading-again, reading-found}
-pub use Rattle.lapd_frame.specs.Grammar.{Parts, Spells, head_of, row, second_octet, spelling}
+pub use Rattle.lapd_frame.proofs.Spelling.{reading-found}
+pub use Rattle.lapd_frame.specs.Grammar.{Parts, head_of, row, second_octet, spelling}
 pub use Rattle.lapd_frame.specs.Reading.{long_reading}
 unfoldable pub use Rattle.lapd_frame.specs.Reading.{control_of, header_of, reading, supervisory_of, unnumbered_of}
 pub use Rattle.lapd_frame.specs.Services.{same_service, sapi_of, service_of}
 pub use Rattle.lapd_frame.specs.declared.addresses.Address.{Address}
 pub use Rattle.lapd_frame.specs.declared.addresses.Side.{Side}
-pub use Rattle.lapd_frame.specs.declared.addresses.Side.TheVariants.{Network, User}
+pub use Rattle.lapd_frame.specs.declared.addresses.Side.TheVariants.{Network}
 pub use Rattle.lapd_frame.specs.declared.controls.Control.{Control}
-pub use Rattle.lapd_frame.specs.declared.controls.Control.TheVariants.{ReceiveReady, Ua}
 pub use Rattle.lapd_frame.specs.declared.faults.ReadFault.{ReadFault}
 pub use Rattle.lapd_frame.specs.declared.faults.ReadFault.TheVariants.{BadExtension, Short, Undefined, WrongSize}
 pub use Rattle.lapd_frame.specs.declared.notes.Note.{Note}
@@ -52,7 +50,6 @@ pub use Rattle.model_link.specs.Offers.{is_established, offer_among}
 pub use Rattle.model_link.specs.Sound.{IsSound as LinkIsSound, is_information}
 pub use Rattle.model_link.specs.Steps.{Course as LinkCourse, begun}
 pub use Rattle.model_link.specs.Told.{Given, runs, timer_at}
-pub use Rattle.model_link.specs.Words.{response}
 pub use Rattle.model_link.specs.declared.frames.ControlFrame.{ControlFrame}
 pub use Rattle.model_link.specs.declared.states.State.{State}
 pub use Rattle.model_link.specs.declared.terms.Terms.{Terms}
@@ -60,57 +57,52 @@ pub use Rattle.model_link.specs.declared.timers.LinkTimer.{LinkTimer}
 pub use Rattle.lapd_tei.proofs.Brief.{IsBrief, told_brief}
 pub use Rattle.lapd_tei.proofs.Followed.{expired_t201_follows, t201_follows}
 pub use Rattle.lapd_tei.proofs.LawLemmas.{one_more_waits}
-pub use Rattle.lapd_tei.proofs.Memories.{remembered-on}
-pub use Rattle.lapd_tei.proofs.Pigeonholes.{one_is_free}
-pub use Rattle.lapd_tei.proofs.Tables.{at-off, at-within, free_place-is, free_tei-is, is_on-at, not_not, place_of-is}
+pub use Rattle.lapd_tei.proofs.Tables.{at-off, at-within, is_on-at, not_not, place_of-is}
 pub use Rattle.lapd_tei.specs.Events.{Event as TeiEvent, assign as assigning, check, down, expiry as tei_expiry, message, refusal_if, remove, unless_refused as tei_unless_refused, after as tei_after, told as tei_told}
 unfoldable pub use Rattle.lapd_tei.specs.Events.{course, refusal as tei_refusal}
 pub use Rattle.lapd_tei.specs.Laws.{Follows, Moves, stop_of}
 pub use Rattle.lapd_tei.specs.Machine.{Management}
-pub use Rattle.lapd_tei.specs.Messages.{action_of, frame_of, heard_in, heard_of_type}
-pub use Rattle.lapd_tei.specs.Rows.{assign, assign_new, count, counted as tei_counted, doubled, expire_check, expire_period, is_unanswered, join_at, may_be_checked, nothing_happens, remembered_in, removed, respond, responses, serve, is_for as rows_is_for, request as rows_request, tei_in as rows_tei_in, verify as rows_verify}
-pub use Rattle.lapd_tei.specs.Sound.{IsAt, IsSound as TeiIsSound, IsSoundCheck, IsSoundQueue, IsSoundTable}
-pub use Rattle.lapd_tei.specs.Table.{Places, free_place, free_tei, is_free, is_on, place_of}
-pub use Rattle.lapd_tei.specs.Words.{Course, Step, begin_check, begun as tei_begun, check_is, end_check, freed, is_of_other, leave, left, lose_one, lost_after, no_room, send, unserved, with_message as tei_with_message}
+pub use Rattle.lapd_tei.specs.Messages.{frame_of, heard_in, heard_of_type}
+pub use Rattle.lapd_tei.specs.Rows.{assign, assign_new, count, counted as tei_counted, doubled, expire_check, expire_period, is_unanswered, join_at, may_be_checked, nothing_happens, remembered_in, removed, respond, responses, serve}
+pub use Rattle.lapd_tei.specs.Sound.{IsAt, IsSound as TeiIsSound, IsSoundCheck, IsSoundTable}
+pub use Rattle.lapd_tei.specs.Table.{Places, is_on, place_of}
+pub use Rattle.lapd_tei.specs.Words.{Course, Step, begin_check, begun as tei_begun, check_is, end_check, leave, left, lose_one, no_room, send, unserved}
 pub use Rattle.lapd_tei.specs.declared.check.Period.{Period}
 pub use Rattle.lapd_tei.specs.declared.check.Period.TheVariants.{First, Second}
 pub use Rattle.lapd_tei.specs.declared.messages.Message.{Message}
-pub use Rattle.lapd_tei.specs.declared.messages.Message.TheVariants.{IdentityAssigned, IdentityCheckRequest, IdentityDenied, IdentityRemove}
+pub use Rattle.lapd_tei.specs.declared.messages.Message.TheVariants.{IdentityRemove}
 pub use Rattle.lapd_tei.specs.declared.outcome.Change.{Change}
 pub use Rattle.lapd_tei.specs.declared.outcome.Change.TheVariants.{Gained, Left}
-pub use Rattle.lapd_tei.specs.declared.remembered.Remembered.{Remembered}
 pub use Rattle.lapd_tei.proofs.GivenUp.{down_gives_up}
 pub use Rattle.lapd_tei.specs.declared.check.Check.{Check as TeiCheck}
 pub use Rattle.model_line.proofs.AimsSound.{IsProper}
-pub use Rattle.model_line.proofs.Drops.{drop_costs_nothing, heard_leaves}
 pub use Rattle.model_line.proofs.EventsReject.{event_rejects}
 pub use Rattle.model_line.proofs.EventsRise.{event_rises}
 pub use Rattle.model_line.proofs.LineSound.{after_sound, fresh_sound}
 pub use Rattle.model_line.proofs.LinksSound.{sound_in, begin_away, begin_here}
 pub use Rattle.model_line.proofs.NextRises.{next_falls}
-pub use Rattle.model_line.proofs.NotPool.{line_not_pool}
 pub use Rattle.model_line.proofs.Numbers.{number_within, place_at-number, service_at-number, sum_bounded, sum_changed}
 pub use Rattle.model_line.proofs.Offered.{fresh_gives_nothing}
-pub use Rattle.model_line.proofs.ProperAims.{expiry_proper, heard_aims, heard_proper, request_proper, skipped}
-pub use Rattle.model_line.proofs.Ranges.{ranges_of, terms_in_range}
+pub use Rattle.model_line.proofs.ProperAims.{expiry_proper, heard_aims, heard_proper, request_proper}
+pub use Rattle.model_line.proofs.Ranges.{terms_in_range}
 pub use Rattle.model_line.proofs.Sides.{WhereServed, side_aims, side_where}
 pub use Rattle.model_line.proofs.Starts.{expiry_starts}
 pub use Rattle.model_line.proofs.TakenSound.{round_below}
 pub use Rattle.model_line.proofs.TakenWalk.{next_walk, taken_walk}
-pub use Rattle.model_line.specs.Counts.{is_given, is_pool_full, may_send, one}
+pub use Rattle.model_line.specs.Counts.{is_given, may_send, one}
 pub use Rattle.model_line.specs.Deliveries.{is_change_at}
 pub use Rattle.model_line.specs.Effect.{Aim, Effect, at_link, at_management, at_no_link, at_none, at_units, of_aim, of_change, of_link, of_management, told_of_link, told_of_management, without_units}
 pub use Rattle.model_line.specs.Event.{Answer, Event, LineTold, dropped, expiry, gave, hears, next, nothing, refused, request, told}
 pub use Rattle.model_line.specs.Expiry.{aim_of_expiry, at_timer, is_running, runs_at}
 pub use Rattle.model_line.specs.Heard.{addressed, aim_of_heard, aim_of_long, aim_of_reading, at_place, drop_for, group_tei, heard_side, management_sapi, message_of, to_service, unless_at_link}
 pub use Rattle.model_line.specs.Laws.{notes_in, orders_in}
-pub use Rattle.model_line.specs.Line.{Line, UnitData, fresh_line, has_tei, link_at, link_count, link_in, link_number, place_at, place_in, service_at, tei_at, terms, terms_at, with_link}
+pub use Rattle.model_line.specs.Line.{Line, UnitData, fresh_line, link_at, link_count, link_in, link_number, place_at, place_in, service_at, tei_at, terms, terms_at, with_link}
 pub use Rattle.model_line.specs.Machine.{unless_refused, unless_refused_told}
 unfoldable pub use Rattle.model_line.specs.Machine.{after, answer, takes_slot as line_takes_slot}
-pub use Rattle.model_line.specs.Refusal.{bad_tei, check_running, control_full, no_link, table_full, tei_taken, wrong_side, refusal}
+pub use Rattle.model_line.specs.Refusal.{refusal}
 pub use Rattle.model_line.specs.Request.{Assign, Check, ClearBusy, Data, Deactivate, Down, Establish, Release, Remove, Request, SetBusy, Unit}
 pub use Rattle.model_line.specs.Requested.{aim_of_request, at_deactivated, at_requested}
-pub use Rattle.model_line.specs.Sides.{IsToGroup, at_side, group_tei as line_group_tei, group_told, has_management, told_at}
+pub use Rattle.model_line.specs.Sides.{IsToGroup, at_side, group_tei as line_group_tei, group_told, told_at}
 pub use Rattle.model_line.specs.Sound.{IsInRange, IsSound, IsSoundAt, IsUnitData}
 pub use Rattle.model_line.specs.Stored.{sum_of_links}
 pub use Rattle.model_line.specs.Taken.{Taken, first_taken, line_of, link_taken, message_taken, next_of, round, round_from, taken, unit_taken, with_given_frame, with_message, with_unit}
@@ -119,31 +111,26 @@ pub use Rattle.model_line.proofs.SoundParts.{with_units}
 pub use Rattle.model_card.proofs.CardSound.{after_is_sound, always_sound}
 pub use Rattle.model_card.proofs.EachMoment.{each_moment, moment_of}
 pub use Rattle.model_card.proofs.Reaching.{reached-after, reached-fresh, reached-sound}
-pub use Rattle.model_card.proofs.Steps.{HasLines, after_lines, by_room, has_lines, line_sound}
+pub use Rattle.model_card.proofs.Steps.{by_room, has_lines, line_sound}
 pub use Rattle.model_card.specs.Card.{Card, fresh as card_fresh, is_full, line_at}
 pub use Rattle.model_card.specs.Event.{Event as CardEvent, at}
 pub use Rattle.model_card.specs.Machine.{after as card_after, answer as card_answer, wants_room}
-pub use Rattle.model_card.specs.Numbered.{LinkName}
-pub use Rattle.model_card.specs.Run.{AreAtLines, IsAtLine, Moment}
+pub use Rattle.model_card.specs.Run.{AreAtLines, IsAtLine}
 unfoldable pub use Rattle.model_card.specs.Run.{after_all, moments}
 pub use Rattle.model_card.specs.Sound.{IsSound as CardIsSound}
 pub use Rattle.model_card.specs.Takes.{AreTakesAt, is_take, takes_at, takes_of}
 pub use Rattle.laws_link.proofs.Delivered.{delivered-was-heard}
 pub use Rattle.laws_link.proofs.Follows.{event-follows}
 pub use Rattle.laws_link.proofs.InOrder.{given-in-order}
-pub use Rattle.laws_link.proofs.Keeping.{Comes, event-done, event-unit, restarted, same-comes}
+pub use Rattle.laws_link.proofs.Keeping.{event-unit}
 pub use Rattle.laws_link.proofs.KnownRows.{layer_3_knows}
 pub use Rattle.laws_link.proofs.MayGo.{goes-not, none-goes}
 pub use Rattle.laws_link.proofs.Obeying.{comes-in-step, leaves-others, stays-in-step}
-pub use Rattle.laws_link.proofs.OfTwo.Answering.{poll-answered, unnumbered-answered}
 pub use Rattle.laws_link.proofs.OfTwo.Needing.{is-timed, timely-after, timely-fresh}
 pub use Rattle.laws_link.proofs.OfTwo.Waiting.{in-turn, nothing-given, nothing-to_send}
-pub use Rattle.laws_link.proofs.Offering.{carried-is, given-is-offered, offer-counts, offer-leaves}
-pub use Rattle.laws_link.proofs.Once.{data-is, within-is}
-pub use Rattle.laws_link.proofs.Starting.{given-leaves}
-pub use Rattle.laws_link.specs.Accepted.{contents_asked, ends, is_loss, tells_loss}
-pub use Rattle.laws_link.specs.Heard.{contents_heard, data_due, unit_heard}
-pub use Rattle.laws_link.specs.History.{History, IsCounted, Share, share}
+pub use Rattle.laws_link.proofs.Offering.{carried-is, given-is-offered, offer-counts}
+pub use Rattle.laws_link.proofs.Once.{within-is}
+pub use Rattle.laws_link.specs.Heard.{contents_heard, unit_heard}
 pub use Rattle.laws_link.specs.InOrder.{IsInOrder}
 pub use Rattle.laws_link.specs.Known.{is_up, known, seen}
 pub use Rattle.laws_link.specs.Offered.{IsOffered}
@@ -152,44 +139,35 @@ pub use Rattle.laws_link.specs.Telling.{told_cleared}
 pub use Rattle.laws_link.specs.Timed.{ComesInStep, IsTimed, is_same, obey, obeyed}
 pub use Rattle.laws_link.specs.Waiting.{waiting_left}
 pub use Rattle.laws_link.specs.two.Needed.{HasItsTimer}
-pub use Rattle.laws_link.specs.two.Polls.{Answered, AnsweredBy, IsPollWhileUp, SaysReceived, asked_of}
 pub use Rattle.laws_link.specs.two.Waits.{Goes, GoesWhole, HasNothingToSend}
 unfoldable pub use Rattle.laws_link.specs.two.Waits.{after_offers}
-pub use Rattle.laws_line.specs.Among.{IsTakenIn, comes_first, go_first, takes_in}
-unfoldable pub use Rattle.laws_line.specs.Among.{StaysOnLine, after_events, come_first}
-pub use Rattle.laws_line.specs.Causes.{AreThere, HasCause, HaveCauses, Hears, IsTaken}
+pub use Rattle.laws_line.specs.Among.{go_first}
+unfoldable pub use Rattle.laws_line.specs.Among.{after_events}
 pub use Rattle.laws_line.specs.Deactivated.{DeactivationsGiveUp, stopped}
-pub use Rattle.laws_line.specs.Drains.{IsAnsweredWithin, IsEnough, IsIdling, IsTakenWithin, control_text, frames_before, frames_to_go, link_to_go, most_frames, most_frames_before, to_go_at_link, way_round}
+pub use Rattle.laws_line.specs.Drains.{IsIdling, control_text, frames_before, frames_to_go, link_to_go, most_frames, most_frames_before, to_go_at_link, way_round}
 unfoldable pub use Rattle.laws_line.specs.Drains.{after_takes}
-pub use Rattle.laws_line.specs.Frames.{lost_in}
 pub use Rattle.laws_line.specs.GoesDown.{GivesUp, IsDown, LinesGoDown, TakeDown, takes_down}
-pub use Rattle.laws_line.specs.Heard.{IsFor, IsHeard, IsMalformed, IsNotedOnce, IsOneEvent as IsOneHeard, IsTo, IsToManagement, IsTooLong, OnlyTells, contents_in, due, is_data_of, is_unit_of, notes_of, tells_contents}
-pub use Rattle.laws_line.specs.Knowledge.{is_up_of, link_is_up, on_by_note, on_by_request, taken_for_on, taken_for_up, up_by_note}
-pub use Rattle.laws_line.specs.Loss.{IsMoved, IsTold, is_loss_of}
-pub use Rattle.laws_line.specs.Machine.{DropsChangeNothing, LinesRise, LinesStaySound}
-pub use Rattle.laws_line.specs.Messages.{Expires, ExpiresIn, FindsNoRoom, Grants, IsAnswered, IsAssigned, IsDenied, IsOver, IsSent, IsSilent as LineIsSilent, IsSpelled, IsToldAgain, IsUnmoved, KeepsTeis, Leaves, Responds, RespondsTo, Said, Says, Serves, Verifies, Waits, asks, is_of_management, may_begin, new_check, responds, tei_for, verifies}
+pub use Rattle.laws_line.specs.Heard.{IsHeard, IsMalformed, IsNotedOnce, IsOneEvent as IsOneHeard, IsTo, IsToManagement, IsTooLong, OnlyTells, contents_in, is_data_of, is_unit_of, notes_of, tells_contents}
+pub use Rattle.laws_line.specs.Knowledge.{is_up_of, taken_for_up, up_by_note}
+pub use Rattle.laws_line.specs.Loss.{IsMoved}
+pub use Rattle.laws_line.specs.Machine.{LinesRise, LinesStaySound}
 pub use Rattle.laws_line.specs.Noted.{NotesItsOwn, noted_coming, noted_leaving}
 pub use Rattle.laws_line.specs.OneEvent.{IsAlone, IsGranted, IsManaged, IsOfPart, IsOneEvent, SaysNothing, noted_behind, of_down, of_group, of_link as line_of_link, of_management as line_of_management, of_next, of_units}
-pub use Rattle.laws_line.specs.Reasons.{HasReason, HaveReasons}
 pub use Rattle.laws_line.specs.Requests.{deactivates, of_link as requests_of_link}
 pub use Rattle.laws_line.specs.Served.{HasNothing, IsIdle, IsItsTurn, IsOfLink, IsOwed, IsServed, IsSilent, IsSilentAt, TurnStays, UnitsWait, contents_of_link, unit_asked, units_behind}
-pub use Rattle.laws_line.specs.Share.{asked_by, asked_for, ending, is_granted, is_link, no_share, share_aimed, share_of}
+pub use Rattle.laws_line.specs.Share.{is_granted}
 pub use Rattle.laws_line.specs.Short.{AnswersAreShort}
 pub use Rattle.laws_line.specs.Steady.{Brings, BringsMalformed, BringsMessage, HearsFrame, IsBy, IsDeactivated, IsOf, IsOfManagement, timer_of}
-pub use Rattle.laws_line.specs.Timers.{HaveTheirTimers, LeavesTimers, StartsOne, is_needed, left_by, link_needs, runs_then}
+pub use Rattle.laws_line.specs.Timers.{HaveTheirTimers, is_needed, left_by, link_needs, runs_then}
 pub use Rattle.laws_line.specs.Turns.{IsInTurn, LinksTakeTurns}
-pub use Rattle.laws_line.specs.Unmanaged.{IsUnmanaged, UsersManageNothing}
-pub use Rattle.laws_line.specs.WorkedAmong.{events, frames_first, one_comes, takes_are}
-pub use Rattle.laws_line.specs.WorkedPolled.{asked, before_poll, both_wait, call_link, one_waits, poll_octets, sabme_octets, small, still_on_line, two_to_go}
+pub use Rattle.laws_line.specs.WorkedPolled.{asked, before_poll, call_link, one_waits, poll_octets, sabme_octets, small}
 pub use Rattle.laws_line.specs.WorkedSabme.{before_sabme}
 pub use Rattle.laws_line.specs.card.Among.{AreAmong, IsIdleAmong}
 pub use Rattle.laws_line.specs.card.Brief.{CausesAreTold, LeavesOthers, LinksStay, OthersStay, TellsCause}
-pub use Rattle.laws_line.specs.card.Contents.{accepted_at, link_named, one_more, share_in}
 pub use Rattle.laws_line.specs.card.GoesDown.{LinesGoDown as LineLinesGoDown, happens_at}
 pub use Rattle.laws_line.specs.card.Machine.{CardsAreReached}
 pub use Rattle.laws_line.specs.card.OneEvent.{IsOneEventIn}
-pub use Rattle.laws_line.specs.card.Promises.{BeginsAnew, HasOneEvent, IsCountedIn, IsNew, IsServedIn, NotesTell, RunsWhatIsNeeded}
+pub use Rattle.laws_line.specs.card.Promises.{HasOneEvent, RunsWhatIsNeeded}
 pub use Rattle.laws_line.specs.card.PromisesOfTakes.{CallsComeToAnEnd, IsNotDeactivated, WaitingIsTaken, Wherever, is_deactivated_at}
 unfoldable pub use Rattle.laws_line.specs.card.PromisesOfTakes.{StaysAt, come_first_at}
 pub use Rattle.laws_line.specs.card.Timers.{AllHaveTheirTimers, one_more as line_one_more, runs_at_callers}
-pub use Rattle.laws_link.proofs.Counted.{counted}

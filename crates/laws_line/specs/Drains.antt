@@ -1,17 +1,15 @@
 -- What calls for the next frame alone come to.
-use Rattle.std.specs.Prelude.{◌≡◌, ◌⊎◌, ℕ, zero, suc, ◌+◌, ◌-◌, ◌*◌, ◌<◌, ◌≤◌, ◌&&◌, not, max, min, false, List, length, Some, None, nat_le, if◌then◌else◌}
-use Rattle.lapd_frame.specs.declared.services.Service.{Service}
+use Rattle.std.specs.Prelude.{◌≡◌, ℕ, zero, suc, ◌+◌, ◌-◌, ◌*◌, ◌&&◌, not, max, min, List, length, None, nat_le, if◌then◌else◌}
 use Rattle.lapd_frame.specs.Grammar.{spelling}
 use Rattle.model_link.specs.declared.frames.ControlFrame.{ControlFrame}
 use Rattle.model_link.specs.declared.terms.Terms.{Terms}
 use Rattle.model_link.specs.Link.{Link, frame_of, outstanding, unsent}
 use Rattle.model_link.specs.Offers.{is_established}
-use Rattle.laws_link.specs.two.Polls.{SaysReceived}
 use Rattle.model_line.specs.declared.config.Config.{Config}
 use Rattle.model_line.specs.Event.{next}
-use Rattle.model_line.specs.Line.{Line, link_number, link_count, service_at, link_at, link_in, terms, terms_at}
+use Rattle.model_line.specs.Line.{Line, link_count, service_at, link_at, terms, terms_at}
 use Rattle.model_line.specs.Machine.{after}
-use Rattle.model_line.specs.Taken.{Taken, taken}
+use Rattle.model_line.specs.Taken.{taken}
 use Rattle.model_line.specs.Stored.{sum_of_links}
 use Rattle.laws_line.specs.Served.{HasNothing}
 
@@ -47,30 +45,9 @@ abbrev pub frames_before : Config → Line → ℕ → ℕ → ℕ
 frames_before c l number others =
     length l.management.waiting + length l.units + others * link_count c + way_round (link_count c) l.turn number
 
--- So many calls are enough for a control frame that has so many others of its link before it: as many as frames are to go, or
--- more than go before it.
-abbrev pub IsEnough : Config → ℕ → Line → ℕ → ℕ → Type 0
-IsEnough c n l number others = (frames_to_go c l ≤ n) ⊎ (frames_before c l number others < n)
-
 -- A control frame of a link as it goes, with the SAPI of its service and its TEI.
 abbrev pub control_text : Config → ℕ → ℕ → ControlFrame → List ℕ
 control_text c number tei f = spelling c.side (frame_of (terms c (service_at number) tei) f)
-
--- One of the first n calls takes this frame.
-pub record IsTakenWithin (c : Config) (n : ℕ) (l : Line) (frame : List ℕ) : Type 0 where
-  pub takes : ℕ
-  pub few : takes < n
-  pub one : Taken
-  pub taken_is : taken c (after_takes c takes l) ≡ Some one
-  pub is : one.frame ≡ frame
-
--- One of them takes the answer to a poll: a response RR, RNR or REJ with F=1, of the link of that service and TEI, which says
--- how much it has received.
-pub record IsAnsweredWithin (c : Config) (n : ℕ) (service : Service) (tei place : ℕ) (l : Line) : Type 0 where
-  pub answer : ControlFrame
-  pub is_response : answer.command ≡ false
-  pub says : SaysReceived (link_in l service place).r answer.control
-  pub goes : IsTakenWithin c n l (control_text c (link_number place service) tei answer)
 
 -- After n calls nothing waits that may go, the next one takes no frame, and the line is as it was.
 pub record IsIdling (c : Config) (n : ℕ) (l : Line) : Type 0 where

@@ -15,24 +15,15 @@ use Rattle.lapd_frame.specs.Grammar.{Parts, Spells}
 use Rattle.lapd_frame.specs.Reading.{reading, long_reading}
 use Rattle.lapd_frame.specs.Services.{sapi_of, same_service}
 use Rattle.model_link.specs.Events as link
-use Rattle.model_link.specs.declared.terms.Terms.{Terms}
-use Rattle.model_link.specs.Link.{Link}
 use Rattle.model_link.specs.Machine as links
 use Rattle.model_link.specs.Notes.{is_data, is_unit}
 use Rattle.model_link.specs.Told as link_told
-use Rattle.laws_link.specs.Heard.{in_i_frame, in_ui_frame, data_due, unit_due}
+use Rattle.laws_link.specs.Heard.{in_i_frame, in_ui_frame}
 use Rattle.model_line.specs.declared.config.Config.{Config}
 use Rattle.model_line.specs.Event.{Event, hears, LineTold, Answer, told}
 use Rattle.model_line.specs.Line.{Line, link_number, place_in, link_in, with_link, terms}
 use Rattle.model_line.specs.Heard.{heard_side}
 use Rattle.model_line.specs.Sides.{group_tei, IsToGroup}
-
--- The frame is spelled by the grammar, as the other side's, with the SAPI of a service, and with a TEI on the line.
-pub record IsFor (c : Config) (l : Line) (service : Service) (tei place : ℕ) (parts : Parts) (octets : List ℕ) : Type 0 where
-  pub spelled : Spells (heard_side c) parts octets
-  pub sapi : parts.address.sapi ≡ sapi_of service
-  pub tei_is : parts.address.tei ≡ tei
-  pub on_line : place_in l tei ≡ Some place
 
 -- An address names a link: the SAPI of a service, and a TEI on the line.
 pub record IsTo (l : Line) (service : Service) (tei place : ℕ) (address : Address) : Type 0 where
@@ -55,7 +46,7 @@ IsTooLong c address head link.overlong = long_reading (heard_side c) head ≡ Ok
 IsTooLong c address head other = ⊥
 
 -- An answer says what a link tells: its notes, the contents of an I-frame or of a UI, its orders, and what it loses.
-pub record Says (t : link_told.LinkTold) (answer : Answer) : Type 0 where
+pub record AnswerTells (t : link_told.LinkTold) (answer : Answer) : Type 0 where
   pub own : LineTold
   pub is : answer ≡ told own
   pub notes : own.notes ≡ t.notes
@@ -67,7 +58,7 @@ pub record Says (t : link_told.LinkTold) (answer : Answer) : Type 0 where
 -- the link does.
 pub record IsOneEvent (c : Config) (before after : Line) (answer : Answer) (service : Service) (tei place : ℕ) (event : link.Event) : Type 0 where
   pub line : after ≡ with_link (link_number place service) (links.after (terms c service tei) event (link_in before service place)) before
-  pub answer_is : Says (links.told (terms c service tei) event (link_in before service place)) answer
+  pub answer_is : AnswerTells (links.told (terms c service tei) event (link_in before service place)) answer
 
 -- What is for no part of the line changes nothing, and this is all that is answered.
 pub record OnlyTells (t : LineTold) (before after : Line) (answer : Answer) : Type 0 where
@@ -99,11 +90,6 @@ IsData service tei parts contents answer =
 abbrev pub IsUnit : Service → ℕ → Parts → List ℕ → Answer → Type 0
 IsUnit service tei parts contents answer =
     (in_ui_frame parts.control parts.info ≡ Some contents) × (list_any (is_unit_of service tei) (notes_of answer) ≡ true)
-
--- What a frame brings to layer 3 at its link: the information of an I-frame in sequence, where the link may take it, or of
--- a UI; at most N201 octets (clauses 5.2.3, 5.6.2 and 5.6.6).
-abbrev pub due : Terms → Parts → Link → Option (List ℕ)
-due t parts l = option_or (data_due t (link.received (link.frame parts)) l) (unit_due t (link.received (link.frame parts)))
 
 -- Contents that are handed on are noted once, as data or as unit data; where none are, nothing is noted as such.
 abbrev pub tells_contents : Note → Bool

@@ -10,10 +10,6 @@ pub mod Steady
 pub mod GoesDown
 pub mod OneEvent
 pub mod Knowledge
-pub mod Messages
-pub mod Causes
-pub mod Unmanaged
-pub mod Reasons
 pub mod Noted
 pub mod Machine
 pub mod Deactivated

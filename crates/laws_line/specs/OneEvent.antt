@@ -18,7 +18,7 @@ use Rattle.model_line.specs.Request.{Request, Down}
 use Rattle.model_line.specs.Sides.{IsToGroup}
 use Rattle.laws_line.specs.Frames.{lost_in}
 use Rattle.laws_line.specs.GoesDown.{GivesUp}
-use Rattle.laws_line.specs.Heard.{Says, notes_of}
+use Rattle.laws_line.specs.Heard.{AnswerTells, notes_of}
 use Rattle.laws_line.specs.Loss.{IsMoved}
 use Rattle.laws_line.specs.Share.{is_granted}
 use Rattle.laws_line.specs.Steady.{HearsFrame, IsOf, IsOfManagement}
@@ -26,7 +26,7 @@ use Rattle.laws_line.specs.Steady.{HearsFrame, IsOf, IsOfManagement}
 -- One link has this event, and nothing else changes; the line answers what the link tells.
 pub record IsAlone (c : Config) (before after : Line) (answer : Answer) (service : Service) (tei place : ℕ) (event : link.Event) : Type 0 where
   pub line : after ≡ with_link (link_number place service) (links.after (terms c service tei) event (link_in before service place)) before
-  pub answer_is : Says (links.told (terms c service tei) event (link_in before service place)) answer
+  pub answer_is : AnswerTells (links.told (terms c service tei) event (link_in before service place)) answer
 
 -- TEI management has this event, and nothing else changes, but that the links of a TEI that comes or leaves are as ones that
 -- begin. Behind what it notes is noted what the links of a TEI that leaves tell as they end, that of call control first.

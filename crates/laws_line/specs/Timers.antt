@@ -1,21 +1,18 @@
 -- The timers of a line: which are needed, which run at a caller's that obeys the orders in the answers, and which calls for
 -- the next frame start.
-use Rattle.std.specs.Prelude.{◌≡◌, ◌⊎◌, ℕ, Bool, false, List, [], Some, is_some, if◌then◌else◌}
+use Rattle.std.specs.Prelude.{ℕ, Bool, false, is_some, if◌then◌else◌}
 use Rattle.std.specs.Option.{option_map_or}
 use Rattle.lapd_frame.specs.declared.services.Service.{Service}
-use Rattle.lapd_frame.specs.declared.timers.Order.{Order}
 use Rattle.lapd_frame.specs.declared.timers.Timer.{Timer}
 use Rattle.lapd_frame.specs.declared.timers.Timer.TheVariants.{T200, T203, T201}
 use Rattle.model_link.specs.declared.timers.LinkTimer.{LinkTimer}
 use Rattle.model_link.specs.declared.timers.LinkTimer.TheVariants as link_timer
 use Rattle.laws_link.specs.Timed.{is_same, obeyed}
 use Rattle.model_link.specs.Told.{runs}
-use Rattle.laws_link.specs.Starting.{StartsT200}
 use Rattle.laws_link.specs.two.Needed.{needed, HasItsTimer}
-use Rattle.model_line.specs.declared.config.Config.{Config}
-use Rattle.model_line.specs.Event.{Event, hears, expiry, request, next, Answer}
+use Rattle.model_line.specs.Event.{Event, expiry, Answer}
 use Rattle.model_line.specs.Laws.{orders_in}
-use Rattle.model_line.specs.Line.{Line, service_at, place_at, tei_at, place_in, link_in, link_at, terms}
+use Rattle.model_line.specs.Line.{Line, place_in, link_in, link_at}
 
 -- A timer of a link is needed where the link's TEI is on the line, and its state needs it.
 abbrev pub link_needs : LinkTimer → Service → Line → ℕ → Bool
@@ -42,18 +39,3 @@ runs_then timer running event answer = obeyed timer (left_by event timer running
 -- Each link of the line runs the timer that it needs.
 pub record HaveTheirTimers (l : Line) : Type 0 where
   pub links : (number : ℕ) → HasItsTimer (link_at number l)
-
--- A call for the next frame orders nothing; or it takes an I-frame of a link on the line whose T200 does not run, and
--- then starts this T200, and stops the link's T203 where it runs (clause 5.6.1). So no such call starts a timer anew that
--- runs.
-pub record StartsOne (c : Config) (before after : Line) (orders : List Order) : Type 0 where
-  pub number : ℕ
-  pub tei : ℕ
-  pub on_line : tei_at (place_at number) before ≡ Some tei
-  pub starts : StartsT200 (terms c (service_at number) tei) (link_at number before) (link_at number after) orders
-
-abbrev pub LeavesTimers : Config → Event → Line → Line → Answer → Type 0
-LeavesTimers c next before after answer = (orders_in answer ≡ []) ⊎ StartsOne c before after (orders_in answer)
-LeavesTimers c (hears e) before after answer = Unit {0}
-LeavesTimers c (expiry timer) before after answer = Unit {0}
-LeavesTimers c (request r) before after answer = Unit {0}

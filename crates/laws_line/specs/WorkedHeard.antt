@@ -1,6 +1,6 @@
 -- Worked values: an I-frame and a UI are heard, and their contents are handed on; and a frame that the grammar refuses.
-use Rattle.std.specs.Prelude.{◌≡◌, true, false, [], ◌∷◌, Some, None, refl}
-use Rattle.laws_line.specs.WorkedWords.{list_any, Fcs, Information, Call, Packet, Parts, reading, header_of, control_of, unnumbered_of, seq, distance_of, named, LineEvent as Event, Answer, hears, told, dropped, link_in, state_in, terms, after, answer, contents_in, due, is_data_of, is_unit_of, notes_of, IsNotedOnce}
+use Rattle.std.specs.Prelude.{[], ◌≡◌, true, false, ◌∷◌, Some, None, refl}
+use Rattle.laws_line.specs.WorkedWords.{list_any, Fcs, Information, Call, Packet, Parts, reading, header_of, control_of, unnumbered_of, seq, distance_of, named, LineEvent as Event, Answer, hears, told, dropped, state_in, after, answer, contents_in, is_data_of, is_unit_of, notes_of, IsNotedOnce}
 use Rattle.model_bits.specs.Stream as stream
 use Rattle.lapd_tei.specs.Events as teis
 use Rattle.laws_line.specs.Worked.{usual, both_up}
@@ -12,14 +12,6 @@ i_frame = hears (stream.frame (0x00 ∷ 0x81 ∷ 0x00 ∷ 0x00 ∷ 0x41 ∷ []))
 -- Its contents are due, since it is I-frame 0, and none was received before;
 abbrev pub information : Parts
 information = record { address = record { sapi = 0; command = true; tei = 64 }; control = Information (seq 0) (seq 0) false; info = 0x41 ∷ [] }
-
-contents_due : due (terms usual Call 64) information (link_in both_up Call 0) ≡ Some (0x41 ∷ [])
-unfolding seq reading header_of control_of unnumbered_of teis.course teis.refusal
-contents_due = refl
-
-another_due : due (terms usual Call 64) (record information { control = Information (seq 1) (seq 0) false }) (link_in both_up Call 0) ≡ None
-unfolding seq reading header_of control_of unnumbered_of teis.course teis.refusal
-another_due = refl
 
 -- they are handed on, and data of this link is noted, once, of no other.
 abbrev told_of_it : Answer

@@ -1,6 +1,6 @@
 -- Worked values: a terminal asks for a TEI, and what TEI management says.
 use Rattle.std.specs.Prelude.{◌≡◌, ℕ, true, false, List, [], ◌∷◌, refl}
-use Rattle.laws_line.specs.WorkedWords.{Ui, T201, reading, header_of, control_of, unnumbered_of, Message, IdentityAssigned, IdentityDenied, IdentityCheckRequest, IdentityRemove, Config, LineEvent as Event, hears, expiry, Line, fresh_line, has_tei, after, answer, Assign, Check, Hears, lost_in, asks}
+use Rattle.laws_line.specs.WorkedWords.{T201, reading, header_of, control_of, unnumbered_of, Message, IdentityAssigned, IdentityDenied, IdentityCheckRequest, IdentityRemove, Config, LineEvent as Event, hears, expiry, Line, fresh_line, has_tei, after, answer, Assign, Check, lost_in}
 use Rattle.model_bits.specs.Stream as stream
 use Rattle.lapd_tei.specs.Events as teis
 use Rattle.laws_line.specs.Worked.{usual, heard}
@@ -9,21 +9,6 @@ use Rattle.laws_line.specs.WorkedServed.{asked}
 -- The identity request by Ri 1234 is heard: a terminal asks;
 abbrev pub asking : Event
 asking = hears (stream.frame (0xFC ∷ 0xFF ∷ 0x03 ∷ 0x0F ∷ 0x12 ∷ 0x34 ∷ 0x01 ∷ 0xFF ∷ []))
-
-it_asks : Hears usual asking (asks 0x1234)
-unfolding reading header_of control_of unnumbered_of
-it_asks = record {
-  network = refl;
-  octets = 0xFC ∷ 0xFF ∷ 0x03 ∷ 0x0F ∷ 0x12 ∷ 0x34 ∷ 0x01 ∷ 0xFF ∷ [];
-  by = refl;
-  parts = record { address = record { sapi = 63; command = true; tei = 127 }; control = Ui false; info = 0x0F ∷ 0x12 ∷ 0x34 ∷ 0x01 ∷ 0xFF ∷ [] };
-  read = refl;
-  sapi = refl;
-  group = refl;
-  poll = false;
-  control = refl;
-  says = record { high = 0x12; low = 0x34; ri_is = refl; octets = refl };
-}
 
 -- TEI 64 is told to it, and is on the line.
 told_64 : (after usual asking (fresh_line usual)).management.waiting ≡ IdentityAssigned 0x1234 64 ∷ []

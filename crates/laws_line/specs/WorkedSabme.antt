@@ -1,6 +1,6 @@
 -- Worked values: a SABME. They are what the law of SABME and DISC asks of a line.
-use Rattle.std.specs.Prelude.{◌≡◌, true, [], length, Some, refl}
-use Rattle.laws_line.specs.WorkedWords.{Sabme, Ua, Parts, reading, header_of, control_of, unnumbered_of, supervisory_of, seq, distance_of, named, asked_of, hears, request, Line, fresh_line, place_in, after, Assign, frames_to_go}
+use Rattle.std.specs.Prelude.{[], ◌≡◌, true, length, Some, refl}
+use Rattle.laws_line.specs.WorkedWords.{Sabme, Parts, reading, header_of, control_of, unnumbered_of, supervisory_of, seq, distance_of, named, hears, request, Line, fresh_line, place_in, after, Assign, frames_to_go}
 use Rattle.model_bits.specs.Stream as stream
 use Rattle.lapd_tei.specs.Events as teis
 use Rattle.laws_line.specs.WorkedPolled.{small, sabme_octets, call_link}
@@ -15,11 +15,6 @@ before_sabme = after small (request (Assign 64)) (fresh_line small)
 pub on_line : place_in before_sabme 64 ≡ Some 0
 unfolding after reading header_of control_of unnumbered_of supervisory_of teis.course teis.refusal seq distance_of named
 on_line = refl
-
--- In state 4, UA with F=1 is asked for; nothing waits.
-pub asked : asked_of (call_link before_sabme).state (Sabme true) ≡ Some (Ua true)
-unfolding after reading header_of control_of unnumbered_of supervisory_of teis.course teis.refusal seq distance_of named
-asked = refl
 
 pub none_waits : length (call_link before_sabme).waiting ≡ 0
 unfolding after reading header_of control_of unnumbered_of supervisory_of teis.course teis.refusal seq distance_of named

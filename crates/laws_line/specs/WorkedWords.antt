@@ -48,25 +48,18 @@ pub use Rattle.model_card.specs.Promises.{IsNotRefusedForPool, IsWithinLimit}
 pub use Rattle.model_card.specs.Run.{Moment, run}
 unfoldable pub use Rattle.model_card.specs.Run.{after_all, moments}
 pub use Rattle.model_card.specs.Stored.{limit, stored}
-pub use Rattle.laws_line.specs.Among.{takes_in}
-unfoldable pub use Rattle.laws_line.specs.Among.{after_events, come_first}
-pub use Rattle.laws_line.specs.Causes.{Hears}
+unfoldable pub use Rattle.laws_line.specs.Among.{after_events}
 pub use Rattle.laws_line.specs.Drains.{frames_before, frames_to_go, most_frames, most_frames_before, way_round}
 pub use Rattle.laws_line.specs.Frames.{lost_in}
 pub use Rattle.laws_line.specs.GoesDown.{GivesUp}
-pub use Rattle.laws_line.specs.Heard.{IsNotedOnce, contents_in, due, is_data_of, is_unit_of, notes_of}
-pub use Rattle.laws_line.specs.Messages.{asks}
+pub use Rattle.laws_line.specs.Heard.{IsNotedOnce, contents_in, is_data_of, is_unit_of, notes_of}
 pub use Rattle.laws_line.specs.Noted.{noted_coming, noted_ending, noted_leaving}
 pub use Rattle.laws_line.specs.OneEvent.{SaysNothing, noted_behind}
 pub use Rattle.laws_line.specs.Served.{HasNothing, units_asked}
-pub use Rattle.laws_line.specs.Share.{asked_by, ending, no_share, share_of}
 pub use Rattle.laws_line.specs.card.Among.{AreAmong}
 pub use Rattle.laws_line.specs.card.Brief.{LinksStay, TellsCause}
-pub use Rattle.laws_line.specs.card.Contents.{accepted_at, history}
-pub use Rattle.laws_line.specs.card.Knowledge.{up_by_notes}
 pub use Rattle.laws_line.specs.card.Timers.{runs_at_callers}
 pub use Rattle.laws_link.specs.History.{History}
 pub use Rattle.laws_link.specs.States.{state_after}
 pub use Rattle.laws_link.specs.Telling.{told_by}
 pub use Rattle.laws_link.specs.Waiting.{waiting_left}
-pub use Rattle.laws_link.specs.two.Polls.{asked_of}

@@ -1,7 +1,5 @@
 -- What a card does with what it is given and what it hears, and worked values of it and of its machine.
-pub mod Contents
 pub mod OneEvent
-pub mod Knowledge
 pub mod Promises
 pub mod Timers
 pub mod Machine
@@ -9,7 +7,6 @@ pub mod Laws
 pub mod WorkedCard
 pub mod Worked
 pub mod WorkedTimers
-pub mod WorkedNotes
 pub mod Among
 pub mod PromisesOfTakes
 pub mod WaitingIsHeard

@@ -2,7 +2,7 @@
 
 ghost use Rattle.laws_line.specs.Deactivated.{DeactivationsGiveUp};
 ghost use Rattle.laws_line.specs.GoesDown.{LinesGoDown};
-ghost use Rattle.laws_line.specs.Machine.{DropsChangeNothing, LinesRise, LinesStaySound};
+ghost use Rattle.laws_line.specs.Machine.{LinesRise, LinesStaySound};
 
 /// A line is sound as it begins, and each event keeps it so: TEI management and the links are, the links of free
 /// places are as they begin, and no queue holds more than it may.
@@ -18,13 +18,6 @@ pub fn lines_stay_sound()
 #[tactic(auto, using(crate::proofs::MachineLaws::lines_rise))]
 pub fn lines_rise()
     ensures { LinesRise }
-{}
-
-/// Where the answer to what is heard names a cause, whichever, the cause is all that it says, the line is afterwards what
-/// it was, and so what may be sent stays as it is.
-#[tactic(auto, using(crate::proofs::MachineLaws::drops_change_nothing))]
-pub fn drops_change_nothing()
-    ensures { DropsChangeNothing }
 {}
 
 /// A link that is deactivated, where its TEI is on the line, is in state 4 afterwards, as one that begins: nothing is

@@ -1,12 +1,6 @@
 //! What the notes of a line tell.
 
-ghost use Rattle.laws_line.specs.Laws.{NotesTell, NothingElseIsNoted};
-
-/// By notes layer 3 knows which links are up, and management which TEIs are on the line, as the law
-/// of this name of `laws_line::card` has it.
-pub fn notes_tell()
-    ensures { NotesTell }
-{}
+ghost use Rattle.laws_line.specs.Laws.{NothingElseIsNoted};
 
 /// All that is noted is of one event of a link, or of one TEI that comes or leaves. Of a link of a TEI on the line it is
 /// what the table of notes has for the event. Of a TEI that comes, that it was assigned, if a terminal asked for it; of

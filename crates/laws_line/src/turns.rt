@@ -1,14 +1,6 @@
-//! Whose turn it is, and how short answers are. Each law is the contract of a call that does nothing.
+//! How short answers are. The law is the contract of a call that does nothing.
 
 ghost use Rattle.laws_line.specs.Short.{AnswersAreShort};
-ghost use Rattle.laws_line.specs.Turns.{LinksTakeTurns};
-
-/// Links take turns: a frame of a link that is taken is that of the first link in the round that has one, and the
-/// next round begins with the link after it. So no link that has something to give is passed over, and one that was
-/// served waits until the round comes back to it.
-pub fn links_take_turns()
-    ensures { LinksTakeTurns }
-{}
 
 /// An answer has at most four notes and at most four orders for timers, so a list of four holds each. A line answers
 /// most of both where a TEI leaves it: one of TEI management and one of each of its two links. That to a call for the next frame

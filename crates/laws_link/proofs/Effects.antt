@@ -1,5 +1,5 @@
 -- What comes of a request that is granted.
-use Rattle.laws_link.proofs.Vocabulary.{◌≡◌, ℕ, ◌+◌, ◌≤◌, Bool, true, false, cond, List, [], ◌∷◌, ◌++◌, length, take, drop, length-take-le, Option, None, Some, arith, ◌⊎◌, nat_lt, cases_lt, lt-ltb, le-ltb, drop_all, drop-append-le, Refusal, WrongState, State, ControlFrame, Terms, Link, IsSound, Course, begun, ◌then◌, IsReleasedIn, TakesEffect, ClearBusy, Release, Request, requested, course, own_busy_is, report_ready}
+use Rattle.laws_link.proofs.Vocabulary.{◌≡◌, ℕ, ◌+◌, ◌≤◌, Bool, true, false, cond, List, [], ◌∷◌, ◌++◌, length, take, drop, length-take-le, Option, None, Some, arith, ◌⊎◌, nat_lt, cases_lt, lt-ltb, le-ltb, drop_all, drop-append-le, Refusal, WrongState, State, ControlFrame, Terms, Link, IsSound, Course, begun, ◌then◌, IsReleasedIn, TakesEffect, ClearBusy, Release, Request, requested, course, own_busy_is, report_receiver_status}
 use Rattle.model_link.specs.Requests
 
 -- A frame that is put behind those that wait.
@@ -18,7 +18,7 @@ module _ (t : Terms) (l : Link) where
       → let c = Requests.release_in here t (begun l) in (l.state ≡ here → IsReleasedIn here t l c.link c.notes c.lost)
   released here s most = grind (arith, put, emptied)
 
-  ends-busy : (b : Bool) → l.own_busy ≡ b → Takes ClearBusy (cond b ((own_busy_is false then report_ready t) (begun l)) (begun l))
+  ends-busy : (b : Bool) → l.own_busy ≡ b → Takes ClearBusy (cond b ((own_busy_is false then report_receiver_status t) (begun l)) (begun l))
   ends-busy b e = grind (arith, put)
 
   granted : (request : Request) → Requests.serves l.state request ≡ true → l.a ≤ length l.contents → Takes request (Requests.granted t request (begun l))

@@ -29,10 +29,6 @@ pub restarted : (loss : Bool) (all : List (List ℕ)) (a : ℕ)
     → Comes (record { restarts = true; empties = loss; accepted = []; acknowledged = 0 }) all a (cond loss [] (drop a all)) 0
 restarted loss all a = grind (arith, append-nil)
 
--- an event that is none of the link's
-pub same-comes : (all : List (List ℕ)) (a : ℕ) → Comes (record { restarts = false; empties = false; accepted = []; acknowledged = 0 }) all a all a
-same-comes all a = record { contents = sym (append-nil all); acknowledged = sym (add-zero a); kept = sym (append-nil (drop a all)) }
-
 -- the share of a row
 abbrev row : Bool → Bool → ℕ → Share
 row zeroed loss n = record { restarts = zeroed; empties = loss; accepted = []; acknowledged = n }

@@ -11,14 +11,9 @@ pub mod Offering
 pub mod Alone
 pub mod MayGo
 pub mod GoingBack
-pub mod Owing
-pub mod Beginning
 pub mod InOrder
 pub mod Starting
-pub mod Ordinary
-pub mod Steady
 pub mod Effects
-pub mod Expiries
 pub mod Columns
 pub mod EachRow
 pub mod Placing
@@ -29,6 +24,5 @@ pub mod InStep
 pub mod Obeying
 pub mod Timing
 pub mod TimedRows
-pub mod Losing
 pub mod Restarts
 pub mod OfTwo

@@ -1,11 +1,7 @@
 -- Lemmas.
 pub mod Waiting
-pub mod Answering
-pub mod Unanswered
 pub mod Gapping
 pub mod GapsMet
-pub mod Finals
-pub mod FinalRows
 pub mod Heeding
 pub mod HeedingEvents
 pub mod Awaiting
@@ -45,5 +41,4 @@ pub mod EndedMet
 pub mod AnyOrder
 pub mod AnyOrderRuns
 pub mod AnyOrderMet
-pub mod Holding
 pub mod Premises

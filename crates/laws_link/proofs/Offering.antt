@@ -37,18 +37,6 @@ pub carried-is : (all : List (List ℕ)) (j : ℕ) (command : Bool) (control : C
     → IsOffered all j (record { command = command; control = control }) contents → contents ≡ cond (is_information control) (slice_get all j) None
 carried-is all j command control contents x = grind arith
 
--- An offer leaves the contents and V(A);
-pub record Left (l : Link) (c : Course) : Type 0 where
-  pub contents : c.link.contents ≡ l.contents
-  pub acknowledged : c.link.a ≡ l.a
-
-module _ (t : Terms) (l : Link) where
-  leaving : (ws : List ControlFrame) → Left l (offer_among t ws (begun l))
-  leaving ws = grind (arith, both_ways)
-
-  pub offer-leaves : Left l (course t offer l)
-  offer-leaves = leaving l.waiting
-
 -- and V(S) counts the I-frame that it gives.
 abbrev counts-it : Terms → Link → Course → Type 0
 counts-it t l c = c.link.s ≡ l.s + cond (option_map_or is_i_frame (given_of t l c c.sent) false) 1 0

@@ -1,5 +1,5 @@
 -- A link that awaits something has its timer: the rows by state, and every event.
-use Rattle.laws_link.proofs.Vocabulary.{arith, ◌≡◌, ℕ, ◌+◌, Bool, true, false, cond, ◌&&◌, List, [], ◌∷◌, Option, Some, None, refl, Control, Ua, Dm, Refusal, State, TeiAssigned, AwaitingEstablishment, AwaitingRelease, Established, LinkTimer, T200, ControlFrame, Terms, Link, fresh, runs, Course, begun, changed, Leads, IsTimed, IsTimedIn, told_ways, Event, Request, frame, received, pending_is, start, give_information, is_established, offer_among, with_one_sent, after, after_all, course, expired_in, frame_in, frame_step}
+use Rattle.laws_link.proofs.Vocabulary.{arith, ◌≡◌, ℕ, ◌+◌, Bool, true, false, cond, ◌&&◌, List, Option, Some, None, refl, Control, Ua, Dm, Refusal, State, TeiAssigned, AwaitingEstablishment, AwaitingRelease, Established, LinkTimer, T200, ControlFrame, Terms, Link, runs, Course, begun, changed, Leads, IsTimed, IsTimedIn, told_ways, Event, Request, frame, received, pending_is, start, give_information, is_established, offer_among, with_one_sent, after, course, expired_in, frame_in, frame_step}
 use Rattle.model_link.specs.Requests
 use Rattle.laws_link.proofs.Timing.{TimedBy, At, Ends, at_ends, failed_timed, ends, rows}
 
@@ -60,11 +60,3 @@ event-timed t e l h = grind (arith, failed_timed, ends, here, told_ways, expired
 
 pub timed-after : (t : Terms) (e : Event) (l : Link) → IsTimed l → IsTimed (after t e l)
 timed-after t e l h = record { timer = to-law (after t e l).state (after t e l) (event-timed t e l h).timer }
-
-pub timed-all : (t : Terms) (es : List Event) (l : Link) → IsTimed l → IsTimed (after_all t es l)
-unfolding after_all
-timed-all t [] l h = h
-timed-all t (e ∷ es) l h = timed-all t es (after t e l) (timed-after t e l h)
-
-pub timed-fresh : IsTimed fresh
-timed-fresh = record { timer = refl }

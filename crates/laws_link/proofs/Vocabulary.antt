@@ -12,7 +12,6 @@ pub use Rattle.std.specs.Option.{option_map_or}
 pub use Rattle.std.specs.Prelude.{All, IfSome, count_by, get_or, if◌then◌else◌, nat_le, unwrap_or}
 pub use Rattle.lapd_frame.specs.Grammar.{Parts}
 unfoldable pub use Rattle.lapd_frame.specs.Reading.{control_of, header_of, reading, supervisory_of, unnumbered_of}
-pub use Rattle.lapd_frame.specs.declared.addresses.Address.{Address}
 pub use Rattle.lapd_frame.specs.declared.controls.Control.{Control}
 pub use Rattle.lapd_frame.specs.declared.controls.Control.TheVariants.{Disc, Dm, Frmr, Information, ReceiveNotReady, ReceiveReady, Reject, Sabme, Ua, Ui, Xid}
 pub use Rattle.lapd_frame.specs.declared.notes.ErrorCode.{ErrorCode}
@@ -28,12 +27,10 @@ pub use Rattle.lapd_seq.specs.declared.numbers.Seq.{Seq}
 pub use Rattle.model_link.proofs.Delivering.{event-delivers}
 pub use Rattle.model_link.proofs.Direction.{frames-append, frames_of, line_of}
 pub use Rattle.model_link.proofs.Joined.{Joined, done-at, ends-agree, joined-first, joined-turned}
-pub use Rattle.model_link.proofs.Kept.{Fits, FitsEvent, Kept, Purse, another, two}
-unfoldable pub use Rattle.model_link.proofs.Kept.{how_many}
+pub use Rattle.model_link.proofs.Kept.{Fits, FitsEvent, Kept}
 pub use Rattle.model_link.proofs.Leads.{Leads, Passed, bit_leads, both_ways, depending_leads, from_more, keeping_then, leaves, nothing_leads, number_leads, tested_leads, then_leads, to_less, told_ways}
 pub use Rattle.model_link.proofs.Lines.{Means, Piece, rising-low}
 pub use Rattle.model_link.proofs.Numbering.{delivered-at_once}
-pub use Rattle.model_link.proofs.OwnNotes.{notes-own}
 pub use Rattle.model_link.proofs.Rows.{event_row, every_event, frame_row}
 pub use Rattle.model_link.proofs.SoundEvents.{sound-after, sound-all, sound-fresh}
 pub use Rattle.model_link.proofs.SoundRows.{named-within}
@@ -41,9 +38,9 @@ pub use Rattle.model_link.proofs.TellRows.{event-tells}
 pub use Rattle.model_link.specs.AwaitingEstablishment.{frame_in_5}
 pub use Rattle.model_link.specs.AwaitingRelease.{frame_in_6}
 pub use Rattle.model_link.specs.Deliveries.{Arrived, Establishes, IsEstablished, MayEstablish, eligible_of, information_in, information_of, restarts}
-pub use Rattle.model_link.specs.Events.{ClearBusy, Data, Establish, Event, Received, Release, Request, SetBusy, cleared, expired, frame, offer, overlong, received, requested, undefined, wrong_size}
+pub use Rattle.model_link.specs.Events.{ClearBusy, Data, Establish, Event, Release, Request, SetBusy, cleared, expired, frame, offer, overlong, received, requested, undefined, wrong_size}
 pub use Rattle.model_link.specs.Link.{Link, address_at, frame_of, fresh, has_outstanding, is_asked, is_multiple_frame, is_peer_busy}
-pub use Rattle.model_link.specs.Machine.{after, course, expire_running, expired_in, expired_step, frame_in, frame_step, given, given_of, is_running, malformed_in, received_step, step, told, told_of_clearing}
+pub use Rattle.model_link.specs.Machine.{after, course, expire_running, expired_in, expired_step, frame_in, frame_step, given, given_of, is_running, malformed_in, step, told, told_of_clearing}
 unfoldable pub use Rattle.model_link.specs.Machine.{after_all}
 pub use Rattle.model_link.specs.Notes.{is_data, is_unit}
 pub use Rattle.model_link.specs.Offers.{first_unsent, give_information, give_waiting, is_awaiting_acknowledgement, is_established, may_send_information, next_information, offer_among, offer_step, send_acknowledgement, with_one_sent}
@@ -51,9 +48,9 @@ pub use Rattle.model_link.specs.Sound.{IsInRange, IsSettledIn, IsSound, IsWaitin
 pub use Rattle.model_link.specs.Steps.{Course, Sent, Step, begun, by_bit, changed, depending_on, nothing, ◌then◌}
 pub use Rattle.model_link.specs.TeiAssigned.{establish_in_4, frame_in_4, release_in_4}
 pub use Rattle.model_link.specs.Told.{orders_for, runs, timer_at}
-pub use Rattle.model_link.specs.TwoEnds.{Act, Agree, Begins, Doing, End, Ends, IsUp, acting, asks, at_far, at_near, doing, expires, frame_given, loses, receives, sends, turned, with_first_lost, with_first_of, with_link, with_sent}
+pub use Rattle.model_link.specs.TwoEnds.{Step as EndStep, Agree, Begins, StepAt, Endpoint, Ends, IsUp, acting, requests, at_far, at_near, doing, expires, frame_given, loses, receives, sends, turned, without_first, with_first_of, with_link, with_sent}
 unfoldable pub use Rattle.model_link.specs.TwoEnds.{StayUp, doing_all}
-pub use Rattle.model_link.specs.Words.{acknowledge, answer, asked_is, begin_anew, by_number, clear_flags, command, deliver, deliver_unit, discard, enquire, enter, error, establish_confirm, establish_indication, has_room, leave_unserved, no_timer, note, own_busy_is, peer_busy_is, pending_is, re_establish, ready_to_receive, reject, rejecting_is, release_confirm, release_indication, repeated, report_ready, response, send, send_again_from, start, unit_data, without_flags, zero_numbers}
+pub use Rattle.model_link.specs.Words.{acknowledge, answer, asked_is, begin_anew, by_number, clear_flags, command, deliver, deliver_unit, discard, enquire, enter, error, establish_confirm, establish_indication, has_room, leave_unserved, no_timer, note, own_busy_is, peer_busy_is, pending_is, re_establish, rr_or_rnr, release_confirm, release_indication, repeated, report_receiver_status, response, send, send_again_from, start, unit_data, zero_numbers}
 pub use Rattle.model_link.specs.declared.frames.ControlFrame.{ControlFrame}
 pub use Rattle.model_link.specs.declared.states.State.{State}
 pub use Rattle.model_link.specs.declared.states.State.TheVariants.{AwaitingEstablishment, AwaitingRelease, Established, TeiAssigned, TimerRecovery}
@@ -64,46 +61,35 @@ pub use Rattle.model_link.specs.Established.{acknowledged_by_information_in_7, a
 pub use Rattle.model_link.specs.MultipleFrame.{answered, clear_busy_in_7_8, contents_in_7_8, failed, information_in_7_8, is_final, set_busy_in_7_8, supervisory}
 pub use Rattle.model_link.specs.Requests.{granted, refusal, release_in}
 pub use Rattle.model_link.specs.TimerRecovery.{acknowledged_in_8, frame_in_8, particulars_in_8, recovered, solicited}
-pub use Rattle.laws_link.specs.Accepted.{acknowledged_by, beyond, contents_asked, empties, is_loss, is_release, number_of, tells_loss}
-pub use Rattle.laws_link.specs.Beginning.{IsSeen, tells_beginning}
+pub use Rattle.laws_link.specs.Accepted.{acknowledged_by, beyond, contents_asked, is_loss, is_release, number_of, tells_loss}
 pub use Rattle.laws_link.specs.Effects.{IsReleasedIn, TakesEffect}
-pub use Rattle.laws_link.specs.Expiries.{Expires, ExpiresIn}
 pub use Rattle.laws_link.specs.Flags.{asked_left, flag_left, owed_behind, owed_in, own_busy_left, peer_busy_left, rejecting_heard, repeats_left, takes_contents, unless_put}
 pub use Rattle.laws_link.specs.Following.{Follows}
 pub use Rattle.laws_link.specs.Heard.{IsNotedOnce, contents_heard, data_due, unit_due, unit_heard, within}
-pub use Rattle.laws_link.specs.History.{History, IsCounted, IsKept, Share, left_by, nothing_yet, share, with_share}
-unfoldable pub use Rattle.laws_link.specs.History.{with_all}
+pub use Rattle.laws_link.specs.History.{IsKept, Share, left_by, share, with_share}
 pub use Rattle.laws_link.specs.InOrder.{IsInOrder}
 pub use Rattle.laws_link.specs.Known.{is_up, is_up_in, known, seen}
 pub use Rattle.laws_link.specs.Offered.{IsOffered, i_frames, is_i_frame}
-pub use Rattle.laws_link.specs.Owing.{HasReceipt, IsBegunAgain, Owes, receipt}
 pub use Rattle.laws_link.specs.Samples.{sabme, up, usual_terms}
-pub use Rattle.laws_link.specs.Sending.{GoesBackTo, MayGo, asked_from, reported}
-unfoldable pub use Rattle.laws_link.specs.Sending.{i_frames_offered, offered}
-pub use Rattle.laws_link.specs.Starting.{LeavesTimers}
+pub use Rattle.laws_link.specs.Sending.{MayGo}
 pub use Rattle.laws_link.specs.States.{as_heard, numbers_begin, state_after}
-pub use Rattle.laws_link.specs.Steady.{AsksFrom, MayEndBy, MayLose, MovesBusy, MovesSent, is_anew, tells_anew}
 pub use Rattle.laws_link.specs.Telling.{told_with}
 pub use Rattle.laws_link.specs.Timed.{ComesInStep, IsTimed, IsTimedIn, StaysInStep, is_same, obeyed}
 pub use Rattle.laws_link.specs.Waiting.{answers, commands, put, waiting_left}
-pub use Rattle.laws_link.specs.two.Ahead.{IsAhead, IsMild, IsMildAct, IsMildRequest}
+pub use Rattle.laws_link.specs.two.Ahead.{IsAhead, KeepsLinksUp, KeepsLinkUp, IsNotRelease}
 unfoldable pub use Rattle.laws_link.specs.two.Ahead.{StayAhead}
 pub use Rattle.laws_link.specs.two.AnyOrder.{IsStill, IsTurn, IsTurnOf, load, load_of, weight, weight_at}
 unfoldable pub use Rattle.laws_link.specs.two.AnyOrder.{AreTurns}
 pub use Rattle.laws_link.specs.two.BusyOver.{BothHaveArrived, HasDroppedNothing, with_near_told, with_near_untold}
-pub use Rattle.laws_link.specs.two.CutOff.{HasMissing, IsCutOff, IsCutOffWith, IsSilent, IsSilentWith, with_t200_expired}
-pub use Rattle.laws_link.specs.two.Gaps.{IsFirstGap, i_frame}
+pub use Rattle.laws_link.specs.two.CutOff.{HasMissing, IsCutOff, IsCutOffWith, CanRecoverFrom, CanRecoverFromWith, with_t200_expired}
 pub use Rattle.laws_link.specs.two.Heeds.{Heeds, HeedsIn}
-pub use Rattle.laws_link.specs.two.Holding.{begun as link_begun, by_act, by_frame}
-unfoldable pub use Rattle.laws_link.specs.two.Holding.{far_history, near_history}
 pub use Rattle.laws_link.specs.two.Needed.{HasItsTimer, IsCalmIn, needed_in}
-pub use Rattle.laws_link.specs.two.OwnBusy.{GetsThrough, IsBusyItself, IsDropped, IsOpenItself, with_far_busy, with_near_busy}
-pub use Rattle.laws_link.specs.two.Polls.{Answered, AnsweredBy, IsPollWith, IsValidAt, SaysReceived, asked_of, finals, is_final_response, is_poll, polls}
+pub use Rattle.laws_link.specs.two.OwnBusy.{GetsThrough, IsBusyItself, IsDropped, IsUpAndIdle, with_far_busy, with_near_busy}
 pub use Rattle.laws_link.specs.two.Rounds.{HasArrived, HasUnsent, IsReady, IsTaken}
 unfoldable pub use Rattle.laws_link.specs.two.Rounds.{rounds}
-pub use Rattle.laws_link.specs.two.Timely.{IsHushed, IsNoneOpen, IsTimelyAct, IsTimelyDoing, is_answer, is_enquiry}
+pub use Rattle.laws_link.specs.two.Timely.{CanRecover, IsNoneOpen, IsTimelyStep, IsTimelyStepAt, is_answer, is_enquiry}
 unfoldable pub use Rattle.laws_link.specs.two.Timely.{StayTimely}
-pub use Rattle.laws_link.specs.two.Waits.{GoesWhole, HasNothingToSend, turns}
+pub use Rattle.laws_link.specs.two.Waits.{GoesWhole, HasNothingToSend}
 unfoldable pub use Rattle.laws_link.specs.two.Waits.{after_offers}
 pub use Rattle.laws_link.specs.two.WorkedAnyOrder.{settled, settling}
 pub use Rattle.laws_link.specs.two.WorkedBusyOver.{kept}

@@ -1,5 +1,5 @@
 -- What a link keeps, from event to event, and since its numbers began.
-use Rattle.std.specs.Prelude.{◌≡◌, ℕ, ◌+◌, Bool, List, [], ◌∷◌, ◌++◌, drop, take, if◌then◌else◌}
+use Rattle.std.specs.Prelude.{◌≡◌, ℕ, ◌+◌, Bool, List, [], ◌++◌, drop, take, if◌then◌else◌}
 use Rattle.model_link.specs.declared.terms.Terms.{Terms}
 use Rattle.model_link.specs.Link.{Link, queue_of}
 use Rattle.model_link.specs.Events.{Event}
@@ -40,9 +40,6 @@ pub record History : Type 0 where
   pub accepted : List (List ℕ)
   pub acknowledged : ℕ
 
-abbrev pub nothing_yet : History
-nothing_yet = record { accepted = []; acknowledged = 0 }
-
 abbrev pub kept_of : History → List (List ℕ)
 kept_of h = drop h.acknowledged h.accepted
 
@@ -53,12 +50,3 @@ with_share h share =
     if share.restarts then record { accepted = left_by share (kept_of h); acknowledged = 0 }
     else if share.empties then record { accepted = take h.acknowledged h.accepted; acknowledged = h.acknowledged }
     else record { accepted = h.accepted ++ share.accepted; acknowledged = h.acknowledged + share.acknowledged }
-
-unfoldable pub with_all : Terms → List Event → Link → History → History
-with_all t [] l h = h
-with_all t (e ∷ es) l h = with_all t es (after t e l) (with_share h (share t e l))
-
--- A link holds the contents of its history, and V(A) counts those that are acknowledged (Q.921 clause 3.5.2.3).
-pub record IsCounted (h : History) (l : Link) : Type 0 where
-  pub accepted : l.contents ≡ h.accepted
-  pub acknowledged : l.a ≡ h.acknowledged

@@ -4,13 +4,9 @@ pub mod History
 pub mod Offered
 pub mod Heard
 pub mod Sending
-pub mod Owing
 pub mod InOrder
-pub mod Starting
 pub mod Steady
 pub mod Effects
-pub mod Expiries
-pub mod Beginning
 pub mod States
 pub mod Waiting
 pub mod Flags

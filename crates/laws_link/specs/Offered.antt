@@ -1,5 +1,5 @@
 -- What a link gives to be sent.
-use Rattle.std.specs.Prelude.{◌≡◌, ◌⊎◌, ℕ, ◌+◌, ◌%◌, Bool, false, List, slice_get, Option, None, Some, if◌then◌else◌}
+use Rattle.std.specs.Prelude.{◌≡◌, ℕ, ◌%◌, Bool, false, List, slice_get, Option, None, Some, if◌then◌else◌}
 use Rattle.std.specs.Option.{option_map_or}
 use Rattle.lapd_seq.specs.declared.numbers.Seq.{Seq}
 use Rattle.lapd_frame.specs.declared.controls.Control.{Control}
@@ -8,7 +8,7 @@ use Rattle.model_link.specs.declared.terms.Terms.{Terms}
 use Rattle.model_link.specs.declared.frames.ControlFrame.{ControlFrame}
 use Rattle.model_link.specs.Link.{Link}
 use Rattle.model_link.specs.Events.{Event, offer}
-use Rattle.model_link.specs.Machine.{after, given}
+use Rattle.model_link.specs.Machine.{given}
 use Rattle.model_link.specs.Sound.{is_information}
 use Rattle.model_link.specs.Told.{Given}
 
@@ -36,9 +36,3 @@ is_i_frame g = is_information g.frame.control
 abbrev pub i_frames : Terms → Event → Link → ℕ
 i_frames t offer l = if option_map_or is_i_frame (given t l) false then 1 else 0
 i_frames t other l = 0
-
--- V(S) goes on by each I-frame that is given. An event that gives none leaves it, or takes it back to V(A): I-frames
--- carry contents one after the other, but where all that is not acknowledged is sent again, or goes, or the numbers begin
--- anew (Q.921 clauses 3.5.2.2, 5.6.4 and 5.6.7).
-abbrev pub GoesOn : ℕ → Link → Link → Type 0
-GoesOn i_frames before after = (after.s ≡ before.s + i_frames) ⊎ ((i_frames ≡ 0) × (after.s ≡ after.a))

@@ -34,8 +34,8 @@ received_as (Err (WrongSize address)) = wrong_size
 received_as (Err BadExtension) = undefined
 received_as (Err Short) = undefined
 
-abbrev pub comes : List ℕ → Event
-comes octets = received (received_as (reading User octets))
+abbrev pub frame_comes : List ℕ → Event
+frame_comes octets = received (received_as (reading User octets))
 
 -- A request while the shelf has free slots.
 abbrev pub ask : Request → Event
@@ -79,7 +79,7 @@ told_after t es e l = told t e (after_all t es l)
 
 -- A link that the terminal has established, its UA sent.
 abbrev pub sabme : Event
-sabme = comes (0x00 ∷ 0x81 ∷ 0x7F ∷ [])
+sabme = frame_comes (0x00 ∷ 0x81 ∷ 0x7F ∷ [])
 
 abbrev pub up : Link
 up = after_all usual_terms (sabme ∷ offer ∷ []) fresh

@@ -1,15 +1,10 @@
 -- Worked values: contents that are accepted, sent, acknowledged and lost.
 use Rattle.std.specs.Prelude.{◌≡◌, true, List, [], ◌∷◌, replicate, Some, None, refl}
-use Rattle.laws_link.specs.WorkedWords.{seq, distance_of, named, supervisory_of, unnumbered_of, control_of, header_of, reading, queue_of, Event, Data, Release, offer, after_all, usual_terms, comes, ask, sabme, up, empties, nothing_yet, share, with_all, i_frames, unit_due}
+use Rattle.laws_link.specs.WorkedWords.{seq, distance_of, named, supervisory_of, unnumbered_of, control_of, header_of, reading, queue_of, Event, Data, Release, offer, after_all, usual_terms, frame_comes, ask, sabme, up, empties, share, i_frames, unit_due}
 
 -- Three contents are accepted, two I-frames are given, and an RR with N(R) 1 comes.
 abbrev three : List Event
-three = ask (Data (1 ∷ [])) ∷ ask (Data (2 ∷ [])) ∷ ask (Data (3 ∷ [])) ∷ offer ∷ offer ∷ comes (0x02 ∷ 0x81 ∷ 0x01 ∷ 0x02 ∷ []) ∷ []
-
-three_accepted : with_all usual_terms three up nothing_yet
-    ≡ record { accepted = (1 ∷ []) ∷ (2 ∷ []) ∷ (3 ∷ []) ∷ []; acknowledged = 1 }
-unfolding seq distance_of named reading header_of control_of unnumbered_of supervisory_of after_all with_all
-three_accepted = refl
+three = ask (Data (1 ∷ [])) ∷ ask (Data (2 ∷ [])) ∷ ask (Data (3 ∷ [])) ∷ offer ∷ offer ∷ frame_comes (0x02 ∷ 0x81 ∷ 0x01 ∷ 0x02 ∷ []) ∷ []
 
 three_kept : queue_of (after_all usual_terms three up)
     ≡ (2 ∷ []) ∷ (3 ∷ []) ∷ []
@@ -27,12 +22,6 @@ sabme_empties : share usual_terms sabme (after_all usual_terms three up)
 unfolding seq distance_of named reading header_of control_of unnumbered_of supervisory_of after_all
 sabme_empties = refl
 
--- Where nothing is outstanding, they stay: contents 2 is number 0 of the new list.
-sabme_leaves : with_all usual_terms (ask (Data (1 ∷ [])) ∷ offer ∷ comes (0x02 ∷ 0x81 ∷ 0x01 ∷ 0x02 ∷ []) ∷ ask (Data (2 ∷ [])) ∷ sabme ∷ []) up nothing_yet
-    ≡ record { accepted = (2 ∷ []) ∷ []; acknowledged = 0 }
-unfolding seq distance_of named reading header_of control_of unnumbered_of supervisory_of after_all with_all
-sabme_leaves = refl
-
 -- A release that is not refused empties.
 release_empties : empties usual_terms (ask Release) (after_all usual_terms three up)
     ≡ true
@@ -40,12 +29,12 @@ unfolding seq distance_of named reading header_of control_of unnumbered_of super
 release_empties = refl
 
 -- Unit data is told up to N201 octets.
-unit_told : unit_due usual_terms (comes (0x00 ∷ 0x81 ∷ 0x03 ∷ 0xCB ∷ []))
+unit_told : unit_due usual_terms (frame_comes (0x00 ∷ 0x81 ∷ 0x03 ∷ 0xCB ∷ []))
     ≡ Some (0xCB ∷ [])
 unfolding seq reading header_of control_of unnumbered_of supervisory_of
 unit_told = refl
 
-unit_too_long : unit_due usual_terms (comes (0x00 ∷ 0x81 ∷ 0x03 ∷ replicate 261 0x55))
+unit_too_long : unit_due usual_terms (frame_comes (0x00 ∷ 0x81 ∷ 0x03 ∷ replicate 261 0x55))
     ≡ None
 unfolding seq reading header_of control_of unnumbered_of supervisory_of
 unit_too_long = refl

@@ -1,6 +1,6 @@
 -- Worked values: what an event leaves of a link.
 use Rattle.std.specs.Prelude.{◌≡◌, true, false, List, [], ◌∷◌, refl}
-use Rattle.laws_link.specs.WorkedWords.{seq, distance_of, named, supervisory_of, unnumbered_of, control_of, header_of, reading, ReceiveReady, ReceiveNotReady, Reject, Sabme, Call, State, AwaitingEstablishment, Established, TimerRecovery, T203, ControlFrame, Link, fresh, Event, SetBusy, expired, after, after_all, usual_terms, comes, ask, sabme, up, as_heard, state_after, numbers_begin, put, peer_busy_left, pending_left, told_by}
+use Rattle.laws_link.specs.WorkedWords.{seq, distance_of, named, supervisory_of, unnumbered_of, control_of, header_of, reading, ReceiveReady, ReceiveNotReady, Reject, Sabme, Call, State, AwaitingEstablishment, Established, TimerRecovery, T203, ControlFrame, Link, fresh, Event, SetBusy, expired, after, after_all, usual_terms, frame_comes, ask, sabme, up, as_heard, state_after, numbers_begin, put, peer_busy_left, pending_left, told_by}
 use Rattle.lapd_frame.specs.declared.notes.ErrorCode.TheVariants as code
 use Rattle.lapd_frame.specs.declared.notes.Note.TheVariants as notes
 
@@ -16,16 +16,16 @@ by_sabme : led sabme fresh ≡ Established
 unfolding seq distance_of named reading header_of control_of unnumbered_of supervisory_of after_all
 by_sabme = refl
 
-by_number : led (comes (0x02 ∷ 0x81 ∷ 0x01 ∷ 0x0A ∷ [])) up ≡ AwaitingEstablishment
+by_number : led (frame_comes (0x02 ∷ 0x81 ∷ 0x01 ∷ 0x0A ∷ [])) up ≡ AwaitingEstablishment
 unfolding seq distance_of named reading header_of control_of unnumbered_of supervisory_of after_all
 by_number = refl
 
-by_number_puts : puts (comes (0x02 ∷ 0x81 ∷ 0x01 ∷ 0x0A ∷ [])) up ≡ record { command = true; control = Sabme true } ∷ []
+by_number_puts : puts (frame_comes (0x02 ∷ 0x81 ∷ 0x01 ∷ 0x0A ∷ [])) up ≡ record { command = true; control = Sabme true } ∷ []
 unfolding seq distance_of named reading header_of control_of unnumbered_of supervisory_of after_all
 by_number_puts = refl
 
 -- RNR says that the terminal is busy.
-by_rnr : peer_busy_left (comes (0x02 ∷ 0x81 ∷ 0x05 ∷ 0x00 ∷ [])) up Established ≡ true
+by_rnr : peer_busy_left (frame_comes (0x02 ∷ 0x81 ∷ 0x05 ∷ 0x00 ∷ [])) up Established ≡ true
 unfolding seq distance_of named reading header_of control_of unnumbered_of supervisory_of after_all
 by_rnr = refl
 
@@ -39,29 +39,29 @@ unfolding seq distance_of named reading header_of control_of unnumbered_of super
 by_t203_puts = refl
 
 -- RR with P=1 is answered by RR, and under own busy by RNR; I-frame 1 with P=1, before I-frame 0, by REJ.
-to_poll : puts (comes (0x00 ∷ 0x81 ∷ 0x01 ∷ 0x01 ∷ [])) up ≡ record { command = false; control = ReceiveReady (seq 0) true } ∷ []
+to_poll : puts (frame_comes (0x00 ∷ 0x81 ∷ 0x01 ∷ 0x01 ∷ [])) up ≡ record { command = false; control = ReceiveReady (seq 0) true } ∷ []
 unfolding seq distance_of named reading header_of control_of unnumbered_of supervisory_of after_all
 to_poll = refl
 
-to_poll_when_busy : puts (comes (0x00 ∷ 0x81 ∷ 0x01 ∷ 0x01 ∷ [])) (after usual_terms (ask SetBusy) up)
+to_poll_when_busy : puts (frame_comes (0x00 ∷ 0x81 ∷ 0x01 ∷ 0x01 ∷ [])) (after usual_terms (ask SetBusy) up)
     ≡ record { command = false; control = ReceiveNotReady (seq 0) true } ∷ []
 unfolding seq distance_of named reading header_of control_of unnumbered_of supervisory_of after_all
 to_poll_when_busy = refl
 
-to_gap : puts (comes (0x00 ∷ 0x81 ∷ 0x02 ∷ 0x01 ∷ 0x41 ∷ [])) up ≡ record { command = false; control = Reject (seq 0) true } ∷ []
+to_gap : puts (frame_comes (0x00 ∷ 0x81 ∷ 0x02 ∷ 0x01 ∷ 0x41 ∷ [])) up ≡ record { command = false; control = Reject (seq 0) true } ∷ []
 unfolding seq distance_of named reading header_of control_of unnumbered_of supervisory_of after_all
 to_gap = refl
 
 -- An acknowledgement that is owed for I-frame 0 is owed still after UI; and UA with F=1 in state 7 begins no numbers.
-owed : pending_left (comes (0x00 ∷ 0x81 ∷ 0x03 ∷ 0xCB ∷ [])) (after usual_terms (comes (0x00 ∷ 0x81 ∷ 0x00 ∷ 0x00 ∷ 0x41 ∷ [])) up) Established ≡ true
+owed : pending_left (frame_comes (0x00 ∷ 0x81 ∷ 0x03 ∷ 0xCB ∷ [])) (after usual_terms (frame_comes (0x00 ∷ 0x81 ∷ 0x00 ∷ 0x00 ∷ 0x41 ∷ [])) up) Established ≡ true
 unfolding seq distance_of named reading header_of control_of unnumbered_of supervisory_of after_all
 owed = refl
 
-ua_begins_none : numbers_begin (comes (0x02 ∷ 0x81 ∷ 0x73 ∷ [])) Established Established ≡ false
+ua_begins_none : numbers_begin (frame_comes (0x02 ∷ 0x81 ∷ 0x73 ∷ [])) Established Established ≡ false
 unfolding seq distance_of named reading header_of control_of unnumbered_of supervisory_of after_all
 ua_begins_none = refl
 
 -- That UA is told as error C.
-ua_told : told_by usual_terms (comes (0x02 ∷ 0x81 ∷ 0x73 ∷ [])) up Established ≡ notes.Error Call 64 code.C ∷ []
+ua_told : told_by usual_terms (frame_comes (0x02 ∷ 0x81 ∷ 0x73 ∷ [])) up Established ≡ notes.Error Call 64 code.C ∷ []
 unfolding seq distance_of named reading header_of control_of unnumbered_of supervisory_of after_all
 ua_told = refl

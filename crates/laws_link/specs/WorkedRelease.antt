@@ -1,6 +1,6 @@
 -- Worked values: links are established and released.
 use Rattle.std.specs.Prelude.{◌≡◌, true, false, [], ◌∷◌, None, Some, refl}
-use Rattle.laws_link.specs.WorkedWords.{seq, distance_of, named, Call, Packet, Start, Stop, WrongState, supervisory_of, unnumbered_of, control_of, header_of, reading, TeiAssigned, AwaitingEstablishment, Established, T200, T203, fresh, Establish, Release, expired, offer, cleared, refusal, after, after_all, told, price_of_all, usual_terms, with_n200, packet, comes, ask, out, notes, lost, told_after, sabme, up}
+use Rattle.laws_link.specs.WorkedWords.{seq, distance_of, named, Call, Packet, Start, Stop, WrongState, supervisory_of, unnumbered_of, control_of, header_of, reading, TeiAssigned, AwaitingEstablishment, Established, T200, T203, fresh, Establish, Release, expired, offer, cleared, refusal, after, after_all, told, price_of_all, usual_terms, with_n200, packet, frame_comes, ask, out, notes, lost, told_after, sabme, up}
 use Rattle.lapd_frame.specs.declared.notes.Note.TheVariants as tell
 use Rattle.lapd_frame.specs.declared.notes.ErrorCode.TheVariants as code
 use Rattle.lapd_frame.specs.declared.timers.Timer.TheVariants as timer
@@ -33,55 +33,55 @@ unfolding seq distance_of named reading header_of control_of unnumbered_of super
 never_repeated_told = refl
 
 -- Establish, and UA with F=1: an establish confirm, T203 in place of T200, state 7.
-confirmed : told_after usual_terms (ask Establish ∷ offer ∷ []) (comes (0x02 ∷ 0x81 ∷ 0x73 ∷ [])) fresh
+confirmed : told_after usual_terms (ask Establish ∷ offer ∷ []) (frame_comes (0x02 ∷ 0x81 ∷ 0x73 ∷ [])) fresh
     ≡ record { notes = tell.EstablishConfirm Call 64 ∷ []; delivered = None; unit = None; orders = Stop (timer.T200 Call 64) ∷ Start (timer.T203 Call 64) ∷ []; lost = 0; unserved = false }
 unfolding seq distance_of named reading header_of control_of unnumbered_of supervisory_of after_all out notes lost price_of_all
 confirmed = refl
 
-confirmed_state : (after_all usual_terms (ask Establish ∷ offer ∷ comes (0x02 ∷ 0x81 ∷ 0x73 ∷ []) ∷ []) fresh).state
+confirmed_state : (after_all usual_terms (ask Establish ∷ offer ∷ frame_comes (0x02 ∷ 0x81 ∷ 0x73 ∷ []) ∷ []) fresh).state
     ≡ Established
 unfolding seq distance_of named reading header_of control_of unnumbered_of supervisory_of after_all out notes lost price_of_all
 confirmed_state = refl
 
 -- UA with F=0 is error D, and state 5 stays.
-not_confirmed : told_after usual_terms (ask Establish ∷ offer ∷ []) (comes (0x02 ∷ 0x81 ∷ 0x63 ∷ [])) fresh
+not_confirmed : told_after usual_terms (ask Establish ∷ offer ∷ []) (frame_comes (0x02 ∷ 0x81 ∷ 0x63 ∷ [])) fresh
     ≡ record { notes = tell.Error Call 64 code.D ∷ []; delivered = None; unit = None; orders = []; lost = 0; unserved = false }
 unfolding seq distance_of named reading header_of control_of unnumbered_of supervisory_of after_all out notes lost price_of_all
 not_confirmed = refl
 
-not_confirmed_state : (after_all usual_terms (ask Establish ∷ offer ∷ comes (0x02 ∷ 0x81 ∷ 0x63 ∷ []) ∷ []) fresh).state
+not_confirmed_state : (after_all usual_terms (ask Establish ∷ offer ∷ frame_comes (0x02 ∷ 0x81 ∷ 0x63 ∷ []) ∷ []) fresh).state
     ≡ AwaitingEstablishment
 unfolding seq distance_of named reading header_of control_of unnumbered_of supervisory_of after_all out notes lost price_of_all
 not_confirmed_state = refl
 
 -- State 7, and DM with F=0: error E, SABME, state 5.
-begun_again : told usual_terms (comes (0x02 ∷ 0x81 ∷ 0x0F ∷ [])) up
+begun_again : told usual_terms (frame_comes (0x02 ∷ 0x81 ∷ 0x0F ∷ [])) up
     ≡ record { notes = tell.Error Call 64 code.E ∷ []; delivered = None; unit = None; orders = Start (timer.T200 Call 64) ∷ Stop (timer.T203 Call 64) ∷ []; lost = 0; unserved = false }
 unfolding seq distance_of named reading header_of control_of unnumbered_of supervisory_of after_all out notes lost price_of_all
 begun_again = refl
 
-begun_again_out : out usual_terms (comes (0x02 ∷ 0x81 ∷ 0x0F ∷ []) ∷ offer ∷ offer ∷ []) up
+begun_again_out : out usual_terms (frame_comes (0x02 ∷ 0x81 ∷ 0x0F ∷ []) ∷ offer ∷ offer ∷ []) up
     ≡ (0x02 ∷ 0x81 ∷ 0x7F ∷ []) ∷ []
 unfolding seq distance_of named reading header_of control_of unnumbered_of supervisory_of after_all out notes lost price_of_all
 begun_again_out = refl
 
-begun_again_state : (after_all usual_terms (comes (0x02 ∷ 0x81 ∷ 0x0F ∷ []) ∷ []) up).state
+begun_again_state : (after_all usual_terms (frame_comes (0x02 ∷ 0x81 ∷ 0x0F ∷ []) ∷ []) up).state
     ≡ AwaitingEstablishment
 unfolding seq distance_of named reading header_of control_of unnumbered_of supervisory_of after_all out notes lost price_of_all
 begun_again_state = refl
 
 -- State 7, Release, and UA with F=1: DISC, a release confirm, state 4.
-released : out usual_terms (ask Release ∷ offer ∷ comes (0x02 ∷ 0x81 ∷ 0x73 ∷ []) ∷ offer ∷ []) up
+released : out usual_terms (ask Release ∷ offer ∷ frame_comes (0x02 ∷ 0x81 ∷ 0x73 ∷ []) ∷ offer ∷ []) up
     ≡ (0x02 ∷ 0x81 ∷ 0x53 ∷ []) ∷ []
 unfolding seq distance_of named reading header_of control_of unnumbered_of supervisory_of after_all out notes lost price_of_all
 released = refl
 
-released_told : told_after usual_terms (ask Release ∷ offer ∷ []) (comes (0x02 ∷ 0x81 ∷ 0x73 ∷ [])) up
+released_told : told_after usual_terms (ask Release ∷ offer ∷ []) (frame_comes (0x02 ∷ 0x81 ∷ 0x73 ∷ [])) up
     ≡ record { notes = tell.ReleaseConfirm Call 64 ∷ []; delivered = None; unit = None; orders = Stop (timer.T200 Call 64) ∷ []; lost = 0; unserved = false }
 unfolding seq distance_of named reading header_of control_of unnumbered_of supervisory_of after_all out notes lost price_of_all
 released_told = refl
 
-released_state : (after_all usual_terms (ask Release ∷ offer ∷ comes (0x02 ∷ 0x81 ∷ 0x73 ∷ []) ∷ []) up).state
+released_state : (after_all usual_terms (ask Release ∷ offer ∷ frame_comes (0x02 ∷ 0x81 ∷ 0x73 ∷ []) ∷ []) up).state
     ≡ TeiAssigned
 unfolding seq distance_of named reading header_of control_of unnumbered_of supervisory_of after_all out notes lost price_of_all
 released_state = refl
@@ -103,39 +103,39 @@ unfolding seq distance_of named reading header_of control_of unnumbered_of super
 established_state = refl
 
 -- The terminal's DISC in state 7: UA, a release indication, T203 stopped, state 4.
-released_by_the_terminal : told usual_terms (comes (0x00 ∷ 0x81 ∷ 0x53 ∷ [])) up
+released_by_the_terminal : told usual_terms (frame_comes (0x00 ∷ 0x81 ∷ 0x53 ∷ [])) up
     ≡ record { notes = tell.ReleaseIndication Call 64 ∷ []; delivered = None; unit = None; orders = Stop (timer.T203 Call 64) ∷ []; lost = 0; unserved = false }
 unfolding seq distance_of named reading header_of control_of unnumbered_of supervisory_of after_all out notes lost price_of_all
 released_by_the_terminal = refl
 
-released_by_the_terminal_out : out usual_terms (comes (0x00 ∷ 0x81 ∷ 0x53 ∷ []) ∷ offer ∷ offer ∷ []) up
+released_by_the_terminal_out : out usual_terms (frame_comes (0x00 ∷ 0x81 ∷ 0x53 ∷ []) ∷ offer ∷ offer ∷ []) up
     ≡ (0x00 ∷ 0x81 ∷ 0x73 ∷ []) ∷ []
 unfolding seq distance_of named reading header_of control_of unnumbered_of supervisory_of after_all out notes lost price_of_all
 released_by_the_terminal_out = refl
 
-released_by_the_terminal_state : (after usual_terms (comes (0x00 ∷ 0x81 ∷ 0x53 ∷ [])) up).state
+released_by_the_terminal_state : (after usual_terms (frame_comes (0x00 ∷ 0x81 ∷ 0x53 ∷ [])) up).state
     ≡ TeiAssigned
 unfolding seq distance_of named reading header_of control_of unnumbered_of supervisory_of after_all out notes lost price_of_all
 released_by_the_terminal_state = refl
 
 -- SABME once and then four times with P=0, none pulled: the fifth UA is lost.
-fifth_is_lost : told_after usual_terms (sabme ∷ comes (0x00 ∷ 0x81 ∷ 0x6F ∷ []) ∷ comes (0x00 ∷ 0x81 ∷ 0x6F ∷ []) ∷ comes (0x00 ∷ 0x81 ∷ 0x6F ∷ []) ∷ []) (comes (0x00 ∷ 0x81 ∷ 0x6F ∷ [])) fresh
+fifth_is_lost : told_after usual_terms (sabme ∷ frame_comes (0x00 ∷ 0x81 ∷ 0x6F ∷ []) ∷ frame_comes (0x00 ∷ 0x81 ∷ 0x6F ∷ []) ∷ frame_comes (0x00 ∷ 0x81 ∷ 0x6F ∷ []) ∷ []) (frame_comes (0x00 ∷ 0x81 ∷ 0x6F ∷ [])) fresh
     ≡ record { notes = tell.Error Call 64 code.F ∷ []; delivered = None; unit = None; orders = Start (timer.T203 Call 64) ∷ []; lost = 1; unserved = false }
 unfolding seq distance_of named reading header_of control_of unnumbered_of supervisory_of after_all out notes lost price_of_all
 fifth_is_lost = refl
 
-fifth_is_lost_out : out usual_terms (sabme ∷ comes (0x00 ∷ 0x81 ∷ 0x6F ∷ []) ∷ comes (0x00 ∷ 0x81 ∷ 0x6F ∷ []) ∷ comes (0x00 ∷ 0x81 ∷ 0x6F ∷ []) ∷ comes (0x00 ∷ 0x81 ∷ 0x6F ∷ []) ∷ offer ∷ offer ∷ offer ∷ offer ∷ offer ∷ []) fresh
+fifth_is_lost_out : out usual_terms (sabme ∷ frame_comes (0x00 ∷ 0x81 ∷ 0x6F ∷ []) ∷ frame_comes (0x00 ∷ 0x81 ∷ 0x6F ∷ []) ∷ frame_comes (0x00 ∷ 0x81 ∷ 0x6F ∷ []) ∷ frame_comes (0x00 ∷ 0x81 ∷ 0x6F ∷ []) ∷ offer ∷ offer ∷ offer ∷ offer ∷ offer ∷ []) fresh
     ≡ (0x00 ∷ 0x81 ∷ 0x73 ∷ []) ∷ (0x00 ∷ 0x81 ∷ 0x63 ∷ []) ∷ (0x00 ∷ 0x81 ∷ 0x63 ∷ []) ∷ (0x00 ∷ 0x81 ∷ 0x63 ∷ []) ∷ []
 unfolding seq distance_of named reading header_of control_of unnumbered_of supervisory_of after_all out notes lost price_of_all
 fifth_is_lost_out = refl
 
 -- A packet link has SAPI 16.
-packet_established : told packet (comes (0x40 ∷ 0x81 ∷ 0x7F ∷ [])) fresh
+packet_established : told packet (frame_comes (0x40 ∷ 0x81 ∷ 0x7F ∷ [])) fresh
     ≡ record { notes = tell.EstablishIndication Packet 64 ∷ []; delivered = None; unit = None; orders = Start (timer.T203 Packet 64) ∷ []; lost = 0; unserved = false }
 unfolding seq distance_of named reading header_of control_of unnumbered_of supervisory_of after_all out notes lost price_of_all
 packet_established = refl
 
-packet_established_out : out packet (comes (0x40 ∷ 0x81 ∷ 0x7F ∷ []) ∷ offer ∷ []) fresh
+packet_established_out : out packet (frame_comes (0x40 ∷ 0x81 ∷ 0x7F ∷ []) ∷ offer ∷ []) fresh
     ≡ (0x40 ∷ 0x81 ∷ 0x73 ∷ []) ∷ []
 unfolding seq distance_of named reading header_of control_of unnumbered_of supervisory_of after_all out notes lost price_of_all
 packet_established_out = refl
@@ -157,7 +157,7 @@ unfolding seq distance_of named reading header_of control_of unnumbered_of super
 cleared_in_6 = refl
 
 -- States 4, 5 and 6 don't serve RR, and the request for what is there already is refused.
-unserved_in_4 : told usual_terms (comes (0x00 ∷ 0x81 ∷ 0x01 ∷ 0x01 ∷ [])) fresh
+unserved_in_4 : told usual_terms (frame_comes (0x00 ∷ 0x81 ∷ 0x01 ∷ 0x01 ∷ [])) fresh
     ≡ record { notes = []; delivered = None; unit = None; orders = []; lost = 0; unserved = true }
 unfolding seq distance_of named reading header_of control_of unnumbered_of supervisory_of after_all out notes lost price_of_all
 unserved_in_4 = refl

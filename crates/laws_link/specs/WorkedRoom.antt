@@ -1,6 +1,6 @@
 -- Worked values: the room of a link.
 use Rattle.std.specs.Prelude.{◌≡◌, [], ◌∷◌, None, Some, refl}
-use Rattle.laws_link.specs.WorkedWords.{seq, distance_of, named, QueueFull, PoolFull, supervisory_of, unnumbered_of, control_of, header_of, reading, Link, fresh, Data, offer, after_all, room_of, refusal_for, usual_terms, with_k_and_queue, comes, ask, sabme}
+use Rattle.laws_link.specs.WorkedWords.{seq, distance_of, named, QueueFull, PoolFull, supervisory_of, unnumbered_of, control_of, header_of, reading, Link, fresh, Data, offer, after_all, room_of, refusal_for, usual_terms, with_k_and_queue, frame_comes, ask, sabme}
 
 -- With k 1 and places for two contents, two leave no place, however many slots are free; once the terminal has
 -- acknowledged the first, there is one.
@@ -11,7 +11,7 @@ no_place : room_of (with_k_and_queue 1 2) 5 both ≡ record { queue = 0; pool = 
 unfolding seq distance_of named reading header_of control_of unnumbered_of supervisory_of after_all
 no_place = refl
 
-one_place : room_of (with_k_and_queue 1 2) 6 (after_all (with_k_and_queue 1 2) (comes (0x02 ∷ 0x81 ∷ 0x01 ∷ 0x02 ∷ []) ∷ []) both)
+one_place : room_of (with_k_and_queue 1 2) 6 (after_all (with_k_and_queue 1 2) (frame_comes (0x02 ∷ 0x81 ∷ 0x01 ∷ 0x02 ∷ []) ∷ []) both)
     ≡ record { queue = 1; pool = 6; va = 1 }
 unfolding seq distance_of named reading header_of control_of unnumbered_of supervisory_of after_all
 one_place = refl

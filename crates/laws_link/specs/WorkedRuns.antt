@@ -1,12 +1,12 @@
 -- Worked values: long runs.
 use Rattle.std.specs.Prelude.{◌≡◌, ℕ, ◌+◌, ◌*◌, ◌%◌, List, [], ◌∷◌, ◌++◌, length, replicate, zero, suc, refl}
-use Rattle.laws_link.specs.WorkedWords.{seq, distance_of, named, Call, supervisory_of, unnumbered_of, control_of, header_of, reading, fresh, Event, Data, offer, after_all, may_send, price_of_all, usual_terms, packet, comes, ask, pulls, out, notes, lost, up}
+use Rattle.laws_link.specs.WorkedWords.{seq, distance_of, named, Call, supervisory_of, unnumbered_of, control_of, header_of, reading, fresh, Event, Data, offer, after_all, may_send, price_of_all, usual_terms, packet, frame_comes, ask, pulls, out, notes, lost, up}
 use Rattle.lapd_frame.specs.declared.notes.Note.TheVariants as tell
 
 -- 129 I-frames numbered 0 to 127 and 0 again, each acknowledged before the next.
 abbrev numbered_frames : ℕ → ℕ → List Event
 numbered_frames zero n = []
-numbered_frames (suc more) n = comes (0x00 ∷ 0x81 ∷ (2 * (n % 128)) ∷ 0x00 ∷ 0x41 ∷ []) ∷ offer ∷ numbered_frames more (n + 1)
+numbered_frames (suc more) n = frame_comes (0x00 ∷ 0x81 ∷ (2 * (n % 128)) ∷ 0x00 ∷ 0x41 ∷ []) ∷ offer ∷ numbered_frames more (n + 1)
 
 abbrev acknowledgements : ℕ → ℕ → List (List ℕ)
 acknowledgements zero n = []
@@ -33,7 +33,7 @@ seven_contents = replicate 7 (ask (Data (0x41 ∷ []))) ++ pulls 7
 
 abbrev rejections : ℕ → List Event
 rejections zero = []
-rejections (suc more) = comes (0x02 ∷ 0x81 ∷ 0x09 ∷ 0x00 ∷ []) ∷ pulls 7 ++ rejections more
+rejections (suc more) = frame_comes (0x02 ∷ 0x81 ∷ 0x09 ∷ 0x00 ∷ []) ∷ pulls 7 ++ rejections more
 
 rejected_fifty_times : length (out usual_terms (seven_contents ++ rejections 50) up)
     ≡ 357
@@ -46,18 +46,18 @@ unfolding seq distance_of named reading header_of control_of unnumbered_of super
 rejected_fifty_times_price = refl
 
 -- Fifty REJ commands with P=1 and N(R) 0, none of whose answers is pulled: 46 answers are lost.
-fifty_polls : lost usual_terms (replicate 50 (comes (0x00 ∷ 0x81 ∷ 0x09 ∷ 0x01 ∷ []))) up
+fifty_polls : lost usual_terms (replicate 50 (frame_comes (0x00 ∷ 0x81 ∷ 0x09 ∷ 0x01 ∷ []))) up
     ≡ 46
 unfolding seq distance_of named reading header_of control_of unnumbered_of supervisory_of after_all out notes lost price_of_all
 fifty_polls = refl
 
-fifty_polls_out : out usual_terms (replicate 50 (comes (0x00 ∷ 0x81 ∷ 0x09 ∷ 0x01 ∷ [])) ++ pulls 5) up
+fifty_polls_out : out usual_terms (replicate 50 (frame_comes (0x00 ∷ 0x81 ∷ 0x09 ∷ 0x01 ∷ [])) ++ pulls 5) up
     ≡ (0x00 ∷ 0x81 ∷ 0x01 ∷ 0x01 ∷ []) ∷ (0x00 ∷ 0x81 ∷ 0x01 ∷ 0x01 ∷ []) ∷ (0x00 ∷ 0x81 ∷ 0x01 ∷ 0x01 ∷ []) ∷ (0x00 ∷ 0x81 ∷ 0x01 ∷ 0x01 ∷ []) ∷ []
 unfolding seq distance_of named reading header_of control_of unnumbered_of supervisory_of after_all out notes lost price_of_all
 fifty_polls_out = refl
 
 -- A packet link with k 3 sends three I-frames of seven.
-packet_window : length (out packet (comes (0x40 ∷ 0x81 ∷ 0x7F ∷ []) ∷ offer ∷ replicate 7 (ask (Data (0x41 ∷ []))) ++ pulls 9) fresh)
+packet_window : length (out packet (frame_comes (0x40 ∷ 0x81 ∷ 0x7F ∷ []) ∷ offer ∷ replicate 7 (ask (Data (0x41 ∷ []))) ++ pulls 9) fresh)
     ≡ 4
 unfolding seq distance_of named reading header_of control_of unnumbered_of supervisory_of after_all out notes lost price_of_all
 packet_window = refl

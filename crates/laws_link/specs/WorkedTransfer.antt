@@ -1,38 +1,38 @@
 -- Worked values: I-frames come and go.
 use Rattle.std.specs.Prelude.{◌≡◌, ◌+◌, true, false, [], ◌∷◌, length, replicate, None, Some, sum_by, refl}
-use Rattle.laws_link.specs.WorkedWords.{seq, distance_of, named, Call, Start, Stop, WrongState, TooLong, QueueFull, PoolFull, supervisory_of, unnumbered_of, control_of, header_of, reading, AwaitingEstablishment, T200, T203, Link, fresh, queue_of, received, overlong, Release, Data, SetBusy, ClearBusy, expired, offer, refusal, after, after_all, told, held, price_of_all, usual_terms, with_k_and_queue, comes, ask, out, notes, lost, sabme, up}
+use Rattle.laws_link.specs.WorkedWords.{seq, distance_of, named, Call, Start, Stop, WrongState, TooLong, QueueFull, PoolFull, supervisory_of, unnumbered_of, control_of, header_of, reading, AwaitingEstablishment, T200, T203, Link, fresh, queue_of, received, overlong, Release, Data, SetBusy, ClearBusy, expired, offer, refusal, after, after_all, told, held, price_of_all, usual_terms, with_k_and_queue, frame_comes, ask, out, notes, lost, sabme, up}
 use Rattle.lapd_frame.specs.declared.notes.Note.TheVariants as tell
 use Rattle.lapd_frame.specs.declared.notes.ErrorCode.TheVariants as code
 use Rattle.lapd_frame.specs.declared.timers.Timer.TheVariants as timer
 
 -- The same I-frame twice: one delivery, then REJ. The acknowledgement that was owed goes with it.
-twice : notes usual_terms (comes (0x00 ∷ 0x81 ∷ 0x00 ∷ 0x00 ∷ 0x41 ∷ []) ∷ comes (0x00 ∷ 0x81 ∷ 0x00 ∷ 0x00 ∷ 0x41 ∷ []) ∷ []) up
+twice : notes usual_terms (frame_comes (0x00 ∷ 0x81 ∷ 0x00 ∷ 0x00 ∷ 0x41 ∷ []) ∷ frame_comes (0x00 ∷ 0x81 ∷ 0x00 ∷ 0x00 ∷ 0x41 ∷ []) ∷ []) up
     ≡ tell.Data Call 64 ∷ []
 unfolding seq distance_of named reading header_of control_of unnumbered_of supervisory_of after_all out notes lost price_of_all
 twice = refl
 
-twice_delivered : told usual_terms (comes (0x00 ∷ 0x81 ∷ 0x00 ∷ 0x00 ∷ 0x41 ∷ [])) up
+twice_delivered : told usual_terms (frame_comes (0x00 ∷ 0x81 ∷ 0x00 ∷ 0x00 ∷ 0x41 ∷ [])) up
     ≡ record { notes = tell.Data Call 64 ∷ []; delivered = Some (0x41 ∷ []); unit = None; orders = Start (timer.T203 Call 64) ∷ []; lost = 0; unserved = false }
 unfolding seq distance_of named reading header_of control_of unnumbered_of supervisory_of after_all out notes lost price_of_all
 twice_delivered = refl
 
-twice_out : out usual_terms (comes (0x00 ∷ 0x81 ∷ 0x00 ∷ 0x00 ∷ 0x41 ∷ []) ∷ comes (0x00 ∷ 0x81 ∷ 0x00 ∷ 0x00 ∷ 0x41 ∷ []) ∷ offer ∷ offer ∷ offer ∷ []) up
+twice_out : out usual_terms (frame_comes (0x00 ∷ 0x81 ∷ 0x00 ∷ 0x00 ∷ 0x41 ∷ []) ∷ frame_comes (0x00 ∷ 0x81 ∷ 0x00 ∷ 0x00 ∷ 0x41 ∷ []) ∷ offer ∷ offer ∷ offer ∷ []) up
     ≡ (0x00 ∷ 0x81 ∷ 0x09 ∷ 0x02 ∷ []) ∷ []
 unfolding seq distance_of named reading header_of control_of unnumbered_of supervisory_of after_all out notes lost price_of_all
 twice_out = refl
 
 -- An RR response with an N(R) that names nothing sent: error J, SABME, state 5.
-number_of_nothing : told usual_terms (comes (0x02 ∷ 0x81 ∷ 0x01 ∷ 0x02 ∷ [])) up
+number_of_nothing : told usual_terms (frame_comes (0x02 ∷ 0x81 ∷ 0x01 ∷ 0x02 ∷ [])) up
     ≡ record { notes = tell.Error Call 64 code.J ∷ []; delivered = None; unit = None; orders = Start (timer.T200 Call 64) ∷ Stop (timer.T203 Call 64) ∷ []; lost = 0; unserved = false }
 unfolding seq distance_of named reading header_of control_of unnumbered_of supervisory_of after_all out notes lost price_of_all
 number_of_nothing = refl
 
-number_of_nothing_out : out usual_terms (comes (0x02 ∷ 0x81 ∷ 0x01 ∷ 0x02 ∷ []) ∷ offer ∷ offer ∷ []) up
+number_of_nothing_out : out usual_terms (frame_comes (0x02 ∷ 0x81 ∷ 0x01 ∷ 0x02 ∷ []) ∷ offer ∷ offer ∷ []) up
     ≡ (0x02 ∷ 0x81 ∷ 0x7F ∷ []) ∷ []
 unfolding seq distance_of named reading header_of control_of unnumbered_of supervisory_of after_all out notes lost price_of_all
 number_of_nothing_out = refl
 
-number_of_nothing_state : (after usual_terms (comes (0x02 ∷ 0x81 ∷ 0x01 ∷ 0x02 ∷ [])) up).state
+number_of_nothing_state : (after usual_terms (frame_comes (0x02 ∷ 0x81 ∷ 0x01 ∷ 0x02 ∷ [])) up).state
     ≡ AwaitingEstablishment
 unfolding seq distance_of named reading header_of control_of unnumbered_of supervisory_of after_all out notes lost price_of_all
 number_of_nothing_state = refl
@@ -79,18 +79,18 @@ unfolding seq distance_of named reading header_of control_of unnumbered_of super
 data_in_4 = refl
 
 -- 260 octets are delivered whole;
-longest : (told usual_terms (comes (0x00 ∷ 0x81 ∷ 0x00 ∷ 0x00 ∷ replicate 260 0x55)) up).delivered
+longest : (told usual_terms (frame_comes (0x00 ∷ 0x81 ∷ 0x00 ∷ 0x00 ∷ replicate 260 0x55)) up).delivered
     ≡ Some (replicate 260 0x55)
 unfolding seq distance_of named reading header_of control_of unnumbered_of supervisory_of after_all out notes lost price_of_all
 longest = refl
 
 -- 261 are error O.
-over_n201 : told usual_terms (comes (0x00 ∷ 0x81 ∷ 0x00 ∷ 0x00 ∷ replicate 261 0x55)) up
+over_n201 : told usual_terms (frame_comes (0x00 ∷ 0x81 ∷ 0x00 ∷ 0x00 ∷ replicate 261 0x55)) up
     ≡ record { notes = tell.Error Call 64 code.O ∷ []; delivered = None; unit = None; orders = Start (timer.T200 Call 64) ∷ Stop (timer.T203 Call 64) ∷ []; lost = 0; unserved = false }
 unfolding seq distance_of named reading header_of control_of unnumbered_of supervisory_of after_all out notes lost price_of_all
 over_n201 = refl
 
-over_n201_out : out usual_terms ((comes (0x00 ∷ 0x81 ∷ 0x00 ∷ 0x00 ∷ replicate 261 0x55)) ∷ offer ∷ offer ∷ []) up
+over_n201_out : out usual_terms ((frame_comes (0x00 ∷ 0x81 ∷ 0x00 ∷ 0x00 ∷ replicate 261 0x55)) ∷ offer ∷ offer ∷ []) up
     ≡ (0x02 ∷ 0x81 ∷ 0x7F ∷ []) ∷ []
 unfolding seq distance_of named reading header_of control_of unnumbered_of supervisory_of after_all out notes lost price_of_all
 over_n201_out = refl
@@ -102,12 +102,12 @@ unfolding seq distance_of named reading header_of control_of unnumbered_of super
 overlong_told = refl
 
 -- Own busy: RNR is sent, and contents are dropped; P is answered.
-own_busy : out usual_terms (ask SetBusy ∷ comes (0x00 ∷ 0x81 ∷ 0x00 ∷ 0x01 ∷ 0x41 ∷ []) ∷ offer ∷ offer ∷ offer ∷ []) up
+own_busy : out usual_terms (ask SetBusy ∷ frame_comes (0x00 ∷ 0x81 ∷ 0x00 ∷ 0x01 ∷ 0x41 ∷ []) ∷ offer ∷ offer ∷ offer ∷ []) up
     ≡ (0x00 ∷ 0x81 ∷ 0x05 ∷ 0x00 ∷ []) ∷ (0x00 ∷ 0x81 ∷ 0x05 ∷ 0x01 ∷ []) ∷ []
 unfolding seq distance_of named reading header_of control_of unnumbered_of supervisory_of after_all out notes lost price_of_all
 own_busy = refl
 
-own_busy_notes : notes usual_terms (ask SetBusy ∷ comes (0x00 ∷ 0x81 ∷ 0x00 ∷ 0x01 ∷ 0x41 ∷ []) ∷ []) up
+own_busy_notes : notes usual_terms (ask SetBusy ∷ frame_comes (0x00 ∷ 0x81 ∷ 0x00 ∷ 0x01 ∷ 0x41 ∷ []) ∷ []) up
     ≡ []
 unfolding seq distance_of named reading header_of control_of unnumbered_of supervisory_of after_all out notes lost price_of_all
 own_busy_notes = refl
@@ -145,23 +145,23 @@ unfolding seq distance_of named reading header_of control_of unnumbered_of super
 no_such_timer = refl
 
 -- An acknowledgement that was owed at a Release is not sent.
-released_before_acknowledging : out usual_terms (comes (0x00 ∷ 0x81 ∷ 0x00 ∷ 0x00 ∷ 0x41 ∷ []) ∷ ask Release ∷ offer ∷ offer ∷ []) up
+released_before_acknowledging : out usual_terms (frame_comes (0x00 ∷ 0x81 ∷ 0x00 ∷ 0x00 ∷ 0x41 ∷ []) ∷ ask Release ∷ offer ∷ offer ∷ []) up
     ≡ (0x02 ∷ 0x81 ∷ 0x53 ∷ []) ∷ []
 unfolding seq distance_of named reading header_of control_of unnumbered_of supervisory_of after_all out notes lost price_of_all
 released_before_acknowledging = refl
 
 -- UI and XID are told in every state.
-unit_data : told usual_terms (comes (0x00 ∷ 0x81 ∷ 0x03 ∷ 0xCB ∷ [])) fresh
+unit_data : told usual_terms (frame_comes (0x00 ∷ 0x81 ∷ 0x03 ∷ 0xCB ∷ [])) fresh
     ≡ record { notes = tell.Unit Call 64 ∷ []; delivered = None; unit = Some (0xCB ∷ []); orders = []; lost = 0; unserved = false }
 unfolding seq distance_of named reading header_of control_of unnumbered_of supervisory_of after_all out notes lost price_of_all
 unit_data = refl
 
-identification : told usual_terms (comes (0x00 ∷ 0x81 ∷ 0xAF ∷ 0x01 ∷ [])) up
+identification : told usual_terms (frame_comes (0x00 ∷ 0x81 ∷ 0xAF ∷ 0x01 ∷ [])) up
     ≡ record { notes = tell.Xid Call 64 ∷ []; delivered = None; unit = None; orders = []; lost = 0; unserved = false }
 unfolding seq distance_of named reading header_of control_of unnumbered_of supervisory_of after_all out notes lost price_of_all
 identification = refl
 
-unit_data_over_n201 : told usual_terms (comes (0x00 ∷ 0x81 ∷ 0x03 ∷ replicate 261 0x55)) up
+unit_data_over_n201 : told usual_terms (frame_comes (0x00 ∷ 0x81 ∷ 0x03 ∷ replicate 261 0x55)) up
     ≡ record { notes = []; delivered = None; unit = None; orders = []; lost = 0; unserved = true }
 unfolding seq distance_of named reading header_of control_of unnumbered_of supervisory_of after_all out notes lost price_of_all
 unit_data_over_n201 = refl

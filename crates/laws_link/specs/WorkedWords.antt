@@ -18,7 +18,7 @@ pub use Rattle.model_link.specs.Requests.{refusal}
 pub use Rattle.model_link.specs.Rises.{held, may_send}
 unfoldable pub use Rattle.model_link.specs.Rises.{price_of_all}
 pub use Rattle.model_link.specs.Room.{refusal_for, room_of}
-pub use Rattle.model_link.specs.TwoEnds.{Doing, Ends, asks, at_far, at_near, expires, loses, receives, sends}
+pub use Rattle.model_link.specs.TwoEnds.{StepAt, Ends, requests, at_far, at_near, expires, loses, receives, sends}
 unfoldable pub use Rattle.model_link.specs.TwoEnds.{doing_all}
 pub use Rattle.model_link.specs.Words.{command, response}
 pub use Rattle.model_link.specs.declared.frames.ControlFrame.{ControlFrame}
@@ -26,24 +26,18 @@ pub use Rattle.model_link.specs.declared.states.State.{State}
 pub use Rattle.model_link.specs.declared.states.State.TheVariants.{AwaitingEstablishment, Established, TeiAssigned, TimerRecovery}
 pub use Rattle.model_link.specs.declared.timers.LinkTimer.TheVariants.{T200, T203}
 pub use Rattle.laws_link.specs.Accepted.{empties}
-pub use Rattle.laws_link.specs.Beginning.{tells_beginning}
 pub use Rattle.laws_link.specs.Flags.{peer_busy_left, pending_left}
 pub use Rattle.laws_link.specs.Heard.{unit_due}
-pub use Rattle.laws_link.specs.History.{nothing_yet, share}
-unfoldable pub use Rattle.laws_link.specs.History.{with_all}
+pub use Rattle.laws_link.specs.History.{share}
 pub use Rattle.laws_link.specs.Offered.{i_frames}
-pub use Rattle.laws_link.specs.Samples.{ask, comes, packet, pulls, sabme, told_after, up, usual_terms, with_k_and_queue, with_n200}
+pub use Rattle.laws_link.specs.Samples.{ask, frame_comes, packet, pulls, sabme, told_after, up, usual_terms, with_k_and_queue, with_n200}
 unfoldable pub use Rattle.laws_link.specs.Samples.{lost, notes, out}
-unfoldable pub use Rattle.laws_link.specs.Sending.{i_frames_offered}
 pub use Rattle.laws_link.specs.States.{as_heard, numbers_begin, state_after}
 pub use Rattle.laws_link.specs.Telling.{told_by}
 pub use Rattle.laws_link.specs.Waiting.{put}
 pub use Rattle.laws_link.specs.two.AnyOrder.{weight}
 pub use Rattle.laws_link.specs.two.BusyOver.{with_far_told, with_far_untold, with_near_told}
 pub use Rattle.laws_link.specs.two.CutOff.{with_t200_expired}
-pub use Rattle.laws_link.specs.two.Holding.{begun}
-unfoldable pub use Rattle.laws_link.specs.two.Holding.{far_history, near_history}
 pub use Rattle.laws_link.specs.two.OwnBusy.{with_far_busy}
 unfoldable pub use Rattle.laws_link.specs.two.Rounds.{rounds}
-pub use Rattle.laws_link.specs.two.Waits.{turns}
 unfoldable pub use Rattle.laws_link.specs.two.Waits.{after_offers}

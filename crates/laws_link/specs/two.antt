@@ -1,9 +1,7 @@
 -- What a link comes to: statements, and worked values.
 pub mod Waits
-pub mod Polls
 pub mod WorkedEnds
 pub mod WorkedPolls
-pub mod Gaps
 pub mod WorkedGaps
 pub mod Heeds
 pub mod Needed
@@ -20,5 +18,4 @@ pub mod WorkedUntimely
 pub mod Ahead
 pub mod Timely
 pub mod WorkedTimely
-pub mod Holding
 pub mod WorkedHolding

@@ -1,5 +1,5 @@
 -- Two ends that are in step to whoever watches them face each other as links do.
-use Rattle.laws_order.proofs.Vocabulary.{is_some, has_tei, on-line, LineTold, ◌≡◌, ℕ, zero, suc, ◌+◌, ◌-◌, ◌<◌, ◌≤◌, true, false, IsTrue, List, [], ◌∷◌, ◌++◌, map, length, take, drop, slice_get, Option, Some, None, refl, sym, ap, ◌∙◌, subst, arith, length-drop, true≢false, All-append, All-cons, All-nil, option_map, option_map_or, unwrap_or, Service, Parts, ControlFrame, TeiAssigned, AwaitingRelease, Terms, T200, Link, is_multiple_frame, frame_of, Direction, frames_of, Carried, Rising, Config, IsInRange, Line, link_in, link_of, place_in, line_at, fresh_is_sound, frames_always_sound, Station, Wire, Act, requests, turned, happens, Doing, station, assigned, calling, came, hears, request, Assign, Event, at, state_here, of_link_on, Past, Known, known, AreOfStep, IsInStep, FaceInStep, kept_by, FramesEvent, its, here-at, view-is, kept-now, seen-before, number-up, timely-now, after_all-append, length-take, state_in, window, Establish}
+use Rattle.laws_order.proofs.Vocabulary.{is_some, has_tei, on-line, LineTold, ◌≡◌, ℕ, zero, suc, ◌+◌, ◌-◌, ◌<◌, ◌≤◌, true, false, IsTrue, List, [], ◌∷◌, ◌++◌, map, length, take, drop, slice_get, Option, Some, None, refl, sym, ap, ◌∙◌, subst, arith, length-drop, true≢false, All-append, All-cons, All-nil, option_map, option_map_or, unwrap_or, Service, Parts, ControlFrame, TeiAssigned, AwaitingRelease, Terms, T200, Link, is_multiple_frame, frame_of, Direction, frames_of, Carried, Rising, Config, IsInRange, Line, link_in, link_of, place_in, line_at, fresh_is_sound, frames_always_sound, Endpoint, Wire, EndStep, requests, turned, happens, StepAt, endpoint, assigned, calling, came, hears, request, Assign, Event, at, state_here, of_link_on, Past, Known, known, AreOfStep, IsInStep, FaceInStep, kept_by, FramesEvent, its, here-at, view-is, kept-now, seen-before, number-up, timely-now, after_all-append, length-take, state_in, window, Establish}
 use Rattle.std.specs.Prelude.{min}
 use Rattle.std.proofs.lemmas.List.{drop-drop}
 use Rattle.model_link.specs.Link.{fresh as fresh_link}
@@ -19,15 +19,15 @@ use Rattle.laws_order.proofs.Pairs.{link_here, facing, Pair, IsWell, proper}
 
 -- ---- stations and their pasts
 
-pub past-well : (s : Station) → Past s → IsWell s
+pub past-well : (s : Endpoint) → Past s → IsWell s
 past-well s p = assumption (subst card_sound.IsSound (sym p.is) (frames_always_sound (fresh s.card.config) p.events (fresh_is_sound s.card.config p.line.0) p.at_lines))
 
 -- from the start of a card, and one event more, of whatever line
-pub past-begun : (c : Config) (line : ℕ) → IsInRange c → line < c.lines → Past (station c line)
+pub past-begun : (c : Config) (line : ℕ) → IsInRange c → line < c.lines → Past (endpoint c line)
 unfolding after_all
 past-begun c line ranged within = record { events = []; at_lines = All-nil (IsAtLine (fresh c)); is = refl; line = (ranged, within) }
 
-pub past-event : (s : Station) (e : FramesEvent) (way granted : List (List ℕ)) (told : List LineTold) → Past s → e.line < s.card.config.lines
+pub past-event : (s : Endpoint) (e : FramesEvent) (way granted : List (List ℕ)) (told : List LineTold) → Past s → e.line < s.card.config.lines
     → Past (record { card = machine.after e s.card; line = s.line; way = way; granted = granted; told = told })
 unfolding after_all
 past-event s e way granted told p here = record {
@@ -37,29 +37,29 @@ past-event s e way granted told p here = record {
   line = p.line;
 }
 
-pub past-same : (s : Station) (way granted : List (List ℕ)) (told : List LineTold) → Past s → Past (record { card = s.card; line = s.line; way = way; granted = granted; told = told })
+pub past-same : (s : Endpoint) (way granted : List (List ℕ)) (told : List LineTold) → Past s → Past (record { card = s.card; line = s.line; way = way; granted = granted; told = told })
 past-same s way granted told p = record { events = p.events; at_lines = p.at_lines; is = p.is; line = p.line }
 
-pub past-happens : (s : Station) → Past s → (e : Event) → Past (happens e s)
+pub past-happens : (s : Endpoint) → Past s → (e : Event) → Past (happens e s)
 past-happens s p e = let s' = happens e s in past-event s (at s.line e) s'.way s'.granted s'.told p p.line.1
 
 pub record Pasts (w : Wire) : Type 0 where
   pub near : Past w.near
   pub far : Past w.far
 
-past-first : (way : List (List ℕ)) (s : Station) → Past s → Past (with_first_of way s)
+past-first : (way : List (List ℕ)) (s : Endpoint) → Past s → Past (with_first_of way s)
 past-first [] s p = p
 past-first (octets ∷ rest) s p = past-happens s p (hears (came s.card.config.n201 octets))
 
-pub past-acted : (act : Act) (w : Wire) → Pasts w → Pasts (acting act w)
+pub past-acted : (act : EndStep) (w : Wire) → Pasts w → Pasts (acting act w)
 past-acted (requests r) w h = record { near = past-happens w.near h.near (request r); far = h.far }
 past-acted act w h = grind (arith, past-happens, past-first, past-same)
 
-pub past-done : (d : Doing) (w : Wire) → Pasts w → Pasts (doing d w)
+pub past-done : (d : StepAt) (w : Wire) → Pasts w → Pasts (doing d w)
 past-done (at_near act) w h = past-acted act w h
 past-done (at_far act) w h = let x = past-acted act (turned w) (record { near = h.far; far = h.near }) in record { near = x.far; far = x.near }
 
-pub past-all : (ds : List Doing) (w : Wire) → Pasts w → Pasts (doing_all ds w)
+pub past-all : (ds : List StepAt) (w : Wire) → Pasts w → Pasts (doing_all ds w)
 unfolding doing_all
 past-all [] w h = h
 past-all (d ∷ ds) w h = past-all ds (doing d w) (past-done d w h)
@@ -67,8 +67,8 @@ past-all (d ∷ ds) w h = past-all ds (doing d w) (past-done d w h)
 pub past-calling : (service : Service) (tei : ℕ) (c : Config) (line : ℕ) (d : Config) (other : ℕ) → IsInRange c → line < c.lines → IsInRange d → other < d.lines
     → Pasts (calling service tei c line d other)
 past-calling service tei c line d other ranged within ranged' within' = record {
-  near = past-happens (assigned c line tei) (past-happens (station c line) (past-begun c line ranged within) (request (Assign tei))) (request (Establish service tei));
-  far = past-happens (station d other) (past-begun d other ranged' within') (request (Assign tei));
+  near = past-happens (assigned c line tei) (past-happens (endpoint c line) (past-begun c line ranged within) (request (Assign tei))) (request (Establish service tei));
+  far = past-happens (endpoint d other) (past-begun d other ranged' within') (request (Assign tei));
 }
 
 -- ---- what is known is so
@@ -78,7 +78,7 @@ abbrev pub known_of : Link → Known
 known_of l = record { told = l.r; acknowledged = l.a; kept = drop l.a l.contents; waiting = l.waiting }
 
 module _ (service : Service) (tei : ℕ) where
-  line-known : (s : Station) (p : Past s) → let l = link_of service tei (line_at s.line (after_all (fresh s.card.config) p.events)) in
+  line-known : (s : Endpoint) (p : Past s) → let l = link_of service tei (line_at s.line (after_all (fresh s.card.config) p.events)) in
       is_multiple_frame l.state ≡ true → known service tei s p ≡ known_of l
   line-known s p up = λ i. record { told = told i; acknowledged = acknowledged i; kept = kept i; waiting = waiting i }
     where
@@ -113,20 +113,20 @@ module _ (service : Service) (tei : ℕ) where
           waiting-now c s.line p.line.0 p.line.1 service tei p.events p.at_lines placed.0 placed.1
           ∙ all-wait c p.events s.line p.line.0 p.at_lines p.line.1 service tei placed.0 placed.1
 
-  pub known-is : (s : Station) (p : Past s) → is_multiple_frame (link_here service tei s).state ≡ true → known service tei s p ≡ known_of (link_here service tei s)
+  pub known-is : (s : Endpoint) (p : Past s) → is_multiple_frame (link_here service tei s).state ≡ true → known service tei s p ≡ known_of (link_here service tei s)
   known-is s p up = grind (arith, line-known)
 
   -- what `Card::state` tells
-  pub up-here : (s : Station) → option_map_or is_up (state_here service tei s) false ≡ is_multiple_frame (link_here service tei s).state
+  pub up-here : (s : Endpoint) → option_map_or is_up (state_here service tei s) false ≡ is_multiple_frame (link_here service tei s).state
   up-here s = grind (arith, number-up)
 
-  pub six-here : (s : Station) → state_here service tei s ≡ Some 6 → (link_here service tei s).state ≡ AwaitingRelease
+  pub six-here : (s : Endpoint) → state_here service tei s ≡ Some 6 → (link_here service tei s).state ≡ AwaitingRelease
   six-here s = grind arith
 
-  pub four-here : (s : Station) → unwrap_or (state_here service tei s) 4 ≡ 4 → (link_here service tei s).state ≡ TeiAssigned
+  pub four-here : (s : Endpoint) → unwrap_or (state_here service tei s) 4 ≡ 4 → (link_here service tei s).state ≡ TeiAssigned
   four-here s = grind arith
 
-  pub on-here : (s : Station) → is_some (state_here service tei s) ≡ true → has_tei tei (line_at s.line s.card) ≡ true
+  pub on-here : (s : Endpoint) → is_some (state_here service tei s) ≡ true → has_tei tei (line_at s.line s.card) ≡ true
   on-here s = go (place_in (line_at s.line s.card) tei) refl
     where
       go : (o : Option ℕ) → place_in (line_at s.line s.card) tei ≡ o → is_some (option_map (state_in (line_at s.line s.card) service) o) ≡ true → has_tei tei (line_at s.line s.card) ≡ true
@@ -134,7 +134,7 @@ module _ (service : Service) (tei : ℕ) where
       go (Some place) on e = on-line (line_at s.line s.card) tei place on
 
   -- T200 runs in state 6.
-  pub six-runs : (s : Station) → Past s → (link_here service tei s).state ≡ AwaitingRelease → (link_here service tei s).running ≡ Some T200
+  pub six-runs : (s : Endpoint) → Past s → (link_here service tei s).state ≡ AwaitingRelease → (link_here service tei s).running ≡ Some T200
   six-runs s p = go (place_in (line_at s.line s.card) tei)
     where
       timed : HaveTheirTimers (line_at s.line s.card)
@@ -174,14 +174,14 @@ frames-mapped t [] = refl
 frames-mapped t (w ∷ ws) = ap (λ fs. frame_of t w ∷ fs) (frames-mapped t ws)
 
 module _ (service : Service) (tei : ℕ) where
-  abbrev pub link_known : Station → Known
+  abbrev pub link_known : Endpoint → Known
   link_known s = known_of (link_here service tei s)
 
   -- what the second station has received of the contents of the first
-  abbrev pub had : Station → Station → List (List ℕ)
+  abbrev pub had : Endpoint → Endpoint → List (List ℕ)
   had s u = take (link_here service tei u).r (link_here service tei s).contents
 
-  begins-one : (s u : Station) → IsWell s → IsInStep service tei s (link_known s) (link_known u) → IsInStep service tei u (link_known u) (link_known s) → (ds : List (List ℕ))
+  begins-one : (s u : Endpoint) → IsWell s → IsInStep service tei s (link_known s) (link_known u) → IsInStep service tei u (link_known u) (link_known s) → (ds : List (List ℕ))
       → Direction (facing service tei s ds) (facing service tei u (had s u))
   begins-one s u well b d ds =
       let l = link_here service tei s in

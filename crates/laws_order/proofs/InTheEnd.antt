@@ -1,5 +1,5 @@
 -- A release is told in the end: to the end that releases, whose RC counts the expiries of T200, and to the other before that.
-use Rattle.laws_order.proofs.Vocabulary.{◌≡◌, ℕ, ◌≤◌, Bool, true, false, List, [], ◌∷◌, ◌++◌, refl, sym, ap, ◌∙◌, arith, append-nil, true≢false, ◌⊎◌, inl, inr, All, list_any, All-nil, All-cons, All-head, All-tail, Service, other_side, AwaitingRelease, Link, is_multiple_frame, came, hears, expiry, request, next, Line, has_tei, terms, deactivates, Seen, Station, Wire, requests, times_out, gives, takes, turned, Event, line_of, Deed, acts, disturbed, befalling, Happening, by_near, by_far, IsPossible, IsPossibleAt, happening, happening_all, events_here, seen_by, seen_at_near, seen_near, seen_far, t200s, IsToldAtLast, ReleasesAreTold, StaysThere, IsNotDeactivated, BothAreTold, ends_by, StaysEstablished, news, IsToldOfRelease, flat_map-append, news_in}
+use Rattle.laws_order.proofs.Vocabulary.{◌≡◌, ℕ, ◌≤◌, Bool, true, false, List, [], ◌∷◌, ◌++◌, refl, sym, ap, ◌∙◌, arith, append-nil, true≢false, ◌⊎◌, inl, inr, All, list_any, All-nil, All-cons, All-head, All-tail, Service, other_side, AwaitingRelease, Link, is_multiple_frame, came, hears, expiry, request, next, Line, has_tei, terms, deactivates, Seen, Endpoint, Wire, requests, expires, sends, receives, turned, Event, line_of, AnyStep, step, disturbed, befalling, AnyStepAt, by_near, by_far, IsPossible, IsPossibleAt, happening, happening_all, events_here, seen_by, seen_at_near, seen_near, seen_far, t200s, IsToldAtLast, ReleasesAreTold, StaysThere, IsNotDeactivated, BothAreTold, ends_by, StaysEstablished, news, IsToldOfRelease, flat_map-append, news_in}
 use Rattle.laws_order.proofs.Beginning.{past-well, six-here, six-runs, on-here, begins-pair}
 use Rattle.laws_order.proofs.Down.{Speaks}
 use Rattle.laws_order.proofs.Leading.{NotHeard, near-led, not-heard}
@@ -17,7 +17,7 @@ module _ (service : Service) (tei : ℕ) where
   abbrev Here : Wire → Link
   Here w = link_here service tei w.near
 
-  abbrev IsOpen : Wire → Happening → Type 0
+  abbrev IsOpen : Wire → AnyStepAt → Type 0
   IsOpen w h = IsPossible service tei w h
 
   abbrev IsDown : Wire → Type 0
@@ -33,17 +33,17 @@ module _ (service : Service) (tei : ℕ) where
   abbrev Reached : Wire → Type 0
   Reached w = Both w ⊎ (Over w × IsDown w)
 
-  near-on : (deed : Deed) (w : Wire) → IsPossibleAt service tei w.near deed → Over w → (IsDown w → IsDown (befalling deed w)) × (IsDown (befalling deed w) → Over (befalling deed w))
+  near-on : (deed : AnyStep) (w : Wire) → IsPossibleAt service tei w.near deed → Over w → (IsDown w → IsDown (befalling deed w)) × (IsDown (befalling deed w) → Over (befalling deed w))
   near-on deed w is (contents, a, k, small, dm, h) =
       let x = near-goes service tei contents a k small deed w dm is h in (x.0, λ down. (contents, a, k, small, dm, x.1 down))
 
-  far-on : (deed : Deed) (w : Wire) → IsPossibleAt service tei w.far deed → StaysEstablished service tei (seen_by deed (turned w)) → Over w → Over (turned (befalling deed (turned w)))
+  far-on : (deed : AnyStep) (w : Wire) → IsPossibleAt service tei w.far deed → StaysEstablished service tei (seen_by deed (turned w)) → Over w → Over (turned (befalling deed (turned w)))
   far-on deed w is stays (contents, a, k, small, dm, h) = (contents, a, k, small, _, far-goes service tei contents a k small deed w dm is h stays)
 
   pair-over : (w : Wire) → Both w → Over w
   pair-over w (dn, dm, h) = (_, _, _, _, dm, pair-lasts service tei w dn dm h)
 
-  near-reaches : (deed : Deed) (w : Wire) → IsPossibleAt service tei w.near deed → Reached w → Reached (befalling deed w)
+  near-reaches : (deed : AnyStep) (w : Wire) → IsPossibleAt service tei w.near deed → Reached w → Reached (befalling deed w)
   near-reaches deed w is (inl (dn, dm, h)) = go (near-led service tei deed w dn dm is h)
     where
       go : Falls service tei (befalling deed w) (seen_by deed w) ⊎ Led service tei w (befalling deed w) dn dm (seen_by deed w) → Reached (befalling deed w)
@@ -51,7 +51,7 @@ module _ (service : Service) (tei : ℕ) where
       go (inr x) = inl (_, dm, x.pair)
   near-reaches deed w is (inr (over, down)) = let x = near-on deed w is over in inr (x.1 (x.0 down), x.0 down)
 
-  far-reaches : (deed : Deed) (w : Wire) → IsPossibleAt service tei w.far deed → StaysEstablished service tei (seen_by deed (turned w)) → Reached w → Reached (turned (befalling deed (turned w)))
+  far-reaches : (deed : AnyStep) (w : Wire) → IsPossibleAt service tei w.far deed → StaysEstablished service tei (seen_by deed (turned w)) → Reached w → Reached (turned (befalling deed (turned w)))
   far-reaches deed w is stays (inl (dn, dm, h)) =
       let v : Wire = turned w in
       elim (near-led service tei deed (turned w) dm dn is (turned-pair service tei w dn dm h)) [
@@ -60,7 +60,7 @@ module _ (service : Service) (tei : ℕ) where
       ]
   far-reaches deed w is stays (inr (over, down)) = inr (far-on deed w is stays over, ap (λ (y : Link). is_multiple_frame y.state) (other-link service tei deed (turned w)) ∙ down)
 
-  reaches : (hs : List Happening) (w : Wire) → All (IsOpen w) hs → StaysEstablished service tei (seen_far hs w) → Reached w → Reached (happening_all hs w)
+  reaches : (hs : List AnyStepAt) (w : Wire) → All (IsOpen w) hs → StaysEstablished service tei (seen_far hs w) → Reached w → Reached (happening_all hs w)
   unfolding seen_far happening_all
   reaches [] w all stays h = h
   reaches (by_near deed ∷ hs) w all stays h =
@@ -75,9 +75,9 @@ module _ (service : Service) (tei : ℕ) where
   over-six w is (inr x) = x.0
 
   -- nothing that happens at the near end confirms its release
-  first-confirmless : (near far : Station) (way : List (List ℕ)) (l : Line) → far.card.config.side ≡ other_side near.card.config.side
+  first-confirmless : (near far : Endpoint) (way : List (List ℕ)) (l : Line) → far.card.config.side ≡ other_side near.card.config.side
       → Each Speaks (on_line service tei (record far { way = way })) → has_tei tei l ≡ true
-      → All (λ e. Confirmless service tei near.card.config e l) (events_here (acts takes) (record { near = near; far = record far { way = way } }))
+      → All (λ e. Confirmless service tei near.card.config e l) (events_here (step receives) (record { near = near; far = record far { way = way } }))
   first-confirmless near far [] l sides speech on = All-nil (λ e. Confirmless service tei near.card.config e l)
   first-confirmless near far (octets ∷ rest) l sides speech on =
       All-cons (λ e. Confirmless service tei near.card.config e l) (hears (came near.card.config.n201 octets)) []
@@ -90,35 +90,35 @@ module _ (service : Service) (tei : ℕ) where
     one : (e : Event) → NotHeard service tei w.near.card.config e → deactivates service tei e ≡ false → All P (e ∷ [])
     one e none active = All-cons P e [] (record { heard = none-heard service tei w.near.card.config Speaks e none; stays = on; active = active }) (All-nil P)
 
-    deed-confirmless : (deed : Deed) → IsPossibleAt service tei w.near deed → IsNotDeactivated service tei (by_near deed) → Over w → All P (events_here deed w)
-    deed-confirmless (acts (requests r)) is active h = one (request r) (λ octets e. cc e) active
-    deed-confirmless (acts (times_out timer)) is active h = one (expiry timer) (λ octets e. cc e) refl
-    deed-confirmless (acts gives) is active h = one next (λ octets e. cc e) refl
-    deed-confirmless (acts takes) is active (contents, a, k, small, dm, h) = first-confirmless w.near w.far w.far.way l h.sides h.speech on
+    deed-confirmless : (deed : AnyStep) → IsPossibleAt service tei w.near deed → IsNotDeactivated service tei (by_near deed) → Over w → All P (events_here deed w)
+    deed-confirmless (step (requests r)) is active h = one (request r) (λ octets e. cc e) active
+    deed-confirmless (step (expires timer)) is active h = one (expiry timer) (λ octets e. cc e) refl
+    deed-confirmless (step sends) is active h = one next (λ octets e. cc e) refl
+    deed-confirmless (step receives) is active (contents, a, k, small, dm, h) = first-confirmless w.near w.far w.far.way l h.sides h.speech on
     deed-confirmless (disturbed what) is active h = one (hears what) (not-heard service tei w.near.card.config what is) refl
     deed-confirmless other is active h = All-nil P
 
-    all-confirmless : (h : Happening) → IsOpen w h → IsNotDeactivated service tei h → Over w → All P (events_at service tei h w)
+    all-confirmless : (h : AnyStepAt) → IsOpen w h → IsNotDeactivated service tei h → Over w → All P (events_at service tei h w)
     all-confirmless (by_near deed) is active over = deed-confirmless deed is active over
     all-confirmless (by_far deed) is active over = All-nil P
 
-  there-first : (hs : List Happening) (w : Wire) → StaysThere service tei hs w → has_tei tei (line_of w.near) ≡ true
+  there-first : (hs : List AnyStepAt) (w : Wire) → StaysThere service tei hs w → has_tei tei (line_of w.near) ≡ true
   unfolding StaysThere
   there-first [] w h = on-here service tei w.near h
   there-first (x ∷ hs) w h = on-here service tei w.near h.0
 
-  then-over : (h : Happening) (w : Wire) → IsOpen w h → StaysEstablished service tei (seen_far (h ∷ []) w) → Over w → IsDown (happening h w) → Over (happening h w)
+  then-over : (h : AnyStepAt) (w : Wire) → IsOpen w h → StaysEstablished service tei (seen_far (h ∷ []) w) → Over w → IsDown (happening h w) → Over (happening h w)
   unfolding seen_far
   then-over (by_near deed) w is stays over down = (near-on deed w is over).1 down
   then-over (by_far deed) w is stays over down = far-on deed w is (both-stay service tei (seen_by deed (turned w)) [] stays).0 over
 
-  far-split : (h : Happening) (hs : List Happening) (w : Wire) → StaysEstablished service tei (seen_far (h ∷ hs) w)
+  far-split : (h : AnyStepAt) (hs : List AnyStepAt) (w : Wire) → StaysEstablished service tei (seen_far (h ∷ hs) w)
       → StaysEstablished service tei (seen_far (h ∷ []) w) × StaysEstablished service tei (seen_far hs (happening h w))
   unfolding seen_far
   far-split (by_near deed) hs w stays = (refl, stays)
   far-split (by_far deed) hs w stays = grind (arith, both-stay, append-nil)
 
-  never : (hs : List Happening) (w : Wire) → IsWell w.near → (Here w).state ≡ AwaitingRelease → Over w → All (IsOpen w) hs → StaysThere service tei hs w → All (IsNotDeactivated service tei) hs
+  never : (hs : List AnyStepAt) (w : Wire) → IsWell w.near → (Here w).state ≡ AwaitingRelease → Over w → All (IsOpen w) hs → StaysThere service tei hs w → All (IsNotDeactivated service tei) hs
       → StaysEstablished service tei (seen_far hs w) → news service tei (seen_near hs w) ≡ Confirm service tei → ⊥
   unfolding seen_near StaysThere
   never [] w well is over all there active stays told = cc told

@@ -1,6 +1,6 @@
 -- Two cards whose links face each other: where anything that happens at one of them leads.
-use Rattle.laws_order.proofs.Vocabulary.{arith, ◌≡◌, ℕ, Bool, true, false, cond, List, [], ◌∷◌, ◌++◌, drop, Result, Ok, Err, refl, sym, ap, ◌∙◌, subst, append-nil, ◌⊎◌, inl, inr, get_or-set_other, ReadFault, Service, Parts, other_side, reading, Link, End, Joined, joined-turned, done-at, came, Config, hears, expiry, request, next, heard_side, link_of, line_at, after_is_sound, by_room, Seen, seen, Station, Wire, requests, times_out, gives, takes, loses, answered, happens, with_first_lost, Event, is_of_link, of_link_in, of_link_at, Deed, acts, disturbed, elsewhere, IsNotOf, IsElsewhere, IsPossibleAt, elsewhere_on, befalling, seen_by, data_noted, data_granted, of_link_on, stream_frame, StreamEvent, FramesEvent, link_frame, LinkEvent, requested, offer, expired, received, nat_lt, at}
-use Rattle.laws_wire.specs.Wire.{comes}
+use Rattle.laws_order.proofs.Vocabulary.{arith, ◌≡◌, ℕ, Bool, true, false, cond, List, [], ◌∷◌, ◌++◌, drop, Result, Ok, Err, refl, sym, ap, ◌∙◌, subst, append-nil, ◌⊎◌, inl, inr, get_or-set_other, ReadFault, Service, Parts, other_side, reading, Link, LinkEndpoint, Joined, joined-turned, done-at, came, Config, hears, expiry, request, next, heard_side, link_of, line_at, after_is_sound, by_room, Seen, seen, Endpoint, Wire, requests, expires, sends, receives, loses, answered, happens, without_first, Event, is_of_link, of_link_in, of_link_at, AnyStep, step, disturbed, elsewhere, IsNotOf, IsElsewhere, IsPossibleAt, elsewhere_on, befalling, seen_by, data_noted, data_granted, of_link_on, stream_frame, StreamEvent, FramesEvent, link_frame, LinkEvent, requested, offer, expired, received, nat_lt, at}
+use Rattle.laws_wire.specs.Wire.{frame_comes}
 use Rattle.model_link.specs.TwoEnds as two
 use Rattle.model_card.specs.Machine.{after}
 use Rattle.laws_order.proofs.Does.{Has, Does, IsKind}
@@ -16,7 +16,7 @@ module _ (service : Service) (tei : ℕ) where
   NotHeard c e = (octets : List ℕ) → e ≡ hears (stream_frame octets) → of_link_at service tei (heard_side c) octets ≡ []
 
   module _ (w : Wire) (dn dm : List (List ℕ)) (h : Pair service tei w dn dm) (e : Event) where
-    abbrev s : Station
+    abbrev s : Endpoint
     s = w.near
 
     abbrev w' : Wire
@@ -25,7 +25,7 @@ module _ (service : Service) (tei : ℕ) where
     abbrev t : List Seen
     t = seen e (answered e s)
 
-    abbrev m : End
+    abbrev m : LinkEndpoint
     m = facing service tei w.far dm
 
     led : Joined (facing service tei (happens e s) (dn ++ data_noted service tei t)) m
@@ -66,11 +66,11 @@ module _ (service : Service) (tei : ℕ) where
   read (Err fault) = none_of_it refl
 
   -- The first frame on the way of an end is gone.
-  module _ (n : End) (s : Station) (dm : List (List ℕ)) (octets : List ℕ) (rest : List (List ℕ)) where
-    abbrev full : Station
+  module _ (n : LinkEndpoint) (s : Endpoint) (dm : List (List ℕ)) (octets : List ℕ) (rest : List (List ℕ)) where
+    abbrev full : Endpoint
     full = record s { way = octets ∷ rest }
 
-    abbrev less : Station
+    abbrev less : Endpoint
     less = record s { way = rest }
 
     abbrev its : List Parts
@@ -92,12 +92,12 @@ module _ (service : Service) (tei : ℕ) where
             (done-at (two.at_far two.loses) (record { near = n; far = facing service tei full dm }) (h.near_up, h.far_up) h)
 
   -- A frame comes.
-  module _ (near far : Station) (octets : List ℕ) (rest : List (List ℕ)) (dn dm : List (List ℕ)) where
+  module _ (near far : Endpoint) (octets : List ℕ) (rest : List (List ℕ)) (dn dm : List (List ℕ)) where
     abbrev before : Wire
     before = record { near = near; far = record far { way = octets ∷ rest } }
 
     abbrev later : Wire
-    later = record { near = comes octets near; far = record far { way = rest } }
+    later = record { near = frame_comes octets near; far = record far { way = rest } }
 
     abbrev heard : Event
     heard = hears (came near.card.config.n201 octets)
@@ -105,15 +105,15 @@ module _ (service : Service) (tei : ℕ) where
     abbrev shown : List Seen
     shown = seen heard (answered heard near)
 
-    abbrev there : End
+    abbrev there : LinkEndpoint
     there = facing service tei (record far { way = octets ∷ rest }) dm
 
-    abbrev now : End
+    abbrev now : LinkEndpoint
     now = facing service tei (record far { way = rest }) dm
 
     module _ (h : Pair service tei before dn dm) where
-      arrives : Joined (facing service tei (comes octets near) (dn ++ data_noted service tei shown)) now
-          × ((link_here service tei (comes octets near)).contents ≡ (link_here service tei near).contents ++ data_granted service tei shown) → Led service tei before later dn dm shown
+      arrives : Joined (facing service tei (frame_comes octets near) (dn ++ data_noted service tei shown)) now
+          × ((link_here service tei (frame_comes octets near)).contents ≡ (link_here service tei near).contents ++ data_granted service tei shown) → Led service tei before later dn dm shown
       arrives x = record {
         pair = record {
           near = (record { sound = after_is_sound near.card (at near.line heard) h.near.sound h.near.within; within = h.near.within });
@@ -126,12 +126,12 @@ module _ (service : Service) (tei : ℕ) where
       }
 
       -- one of the link
-      taken-so : (x : Has near.card.config service tei (link_here service tei near) (link_here service tei (comes octets near)) heard (answered heard near)) (f : Parts)
+      taken-so : (x : Has near.card.config service tei (link_here service tei near) (link_here service tei (frame_comes octets near)) heard (answered heard near)) (f : Parts)
           → x.event ≡ received (link_frame f) → of_link_at service tei far.card.config.side octets ≡ f ∷ [] → Led service tei before later dn dm shown
       taken-so x f is one =
           let ev = received (link_frame f) in
           let others = of_link_on service tei far.card.config.side rest in
-          let first : End = record now { way = f ∷ others } in
+          let first : LinkEndpoint = record now { way = f ∷ others } in
           let same : there ≡ first = λ i. record now { way = (ap (λ xs. xs ++ others) one) i } in
           let h' : Joined (facing service tei near dn) first = subst (λ y. Joined (facing service tei near dn) y) same h.joined in
           let up' = up-by service tei near h.near h.joined.near_up heard x ev is in
@@ -144,7 +144,7 @@ module _ (service : Service) (tei : ℕ) where
                 ∙ sym (append-nil (link_here service tei near).contents)),
           )
 
-      by-it : (x : Has near.card.config service tei (link_here service tei near) (link_here service tei (comes octets near)) heard (answered heard near))
+      by-it : (x : Has near.card.config service tei (link_here service tei near) (link_here service tei (frame_comes octets near)) heard (answered heard near))
           → (ev : LinkEvent) → x.event ≡ ev → IsKind near.card.config service tei heard ev → Led service tei before later dn dm shown
       by-it x (received (link_frame f)) is kind =
           let same : kind.0 ≡ octets = grind (arith, nat_lt) in
@@ -169,8 +169,8 @@ module _ (service : Service) (tei : ℕ) where
   unchanged : (w : Wire) (dn dm : List (List ℕ)) → Pair service tei w dn dm → Led service tei w w dn dm []
   unchanged w dn dm h = grind (arith, facing, append-nil, link_here)
 
-  loses-led : (near far : Station) (way : List (List ℕ)) (dn dm : List (List ℕ)) → let w : Wire = record { near = record near { way = way }; far = far } in
-      Pair service tei w dn dm → Led service tei w (record w { near = with_first_lost w.near }) dn dm []
+  loses-led : (near far : Endpoint) (way : List (List ℕ)) (dn dm : List (List ℕ)) → let w : Wire = record { near = record near { way = way }; far = far } in
+      Pair service tei w dn dm → Led service tei w (record w { near = without_first w.near }) dn dm []
   loses-led near far [] dn dm h = unchanged (record { near = record near { way = [] }; far = far }) dn dm h
   loses-led near far (octets ∷ rest) dn dm h =
       let n = facing service tei (record near { way = octets ∷ rest }) dn in
@@ -178,17 +178,17 @@ module _ (service : Service) (tei : ℕ) where
       let j = joined-turned m (facing service tei (record near { way = rest }) dn) (gone m near dn octets rest (joined-turned n m h.joined)) in
       grind (arith, facing, append-nil, link_here)
 
-  takes-led : (near far : Station) (way : List (List ℕ)) (dn dm : List (List ℕ)) → let w : Wire = record { near = near; far = record far { way = way } } in
-      Pair service tei w dn dm → let t = seen_by (acts takes) w in Falls service tei (befalling (acts takes) w) t ⊎ Led service tei w (befalling (acts takes) w) dn dm t
+  takes-led : (near far : Endpoint) (way : List (List ℕ)) (dn dm : List (List ℕ)) → let w : Wire = record { near = near; far = record far { way = way } } in
+      Pair service tei w dn dm → let t = seen_by (step receives) w in Falls service tei (befalling (step receives) w) t ⊎ Led service tei w (befalling (step receives) w) dn dm t
   takes-led near far [] dn dm h = inr (unchanged (record { near = near; far = record far { way = [] } }) dn dm h)
   takes-led near far (octets ∷ rest) dn dm h =
       let w : Wire = record { near = near; far = record far { way = octets ∷ rest } } in
       let e = hears (came near.card.config.n201 octets) in
       let t = seen e (answered e near) in
-      seen-so w (befalling (acts takes) w) dn dm t (t ++ []) (sym (append-nil t)) (frame-led near far octets rest dn dm h)
+      seen-so w (befalling (step receives) w) dn dm t (t ++ []) (sym (append-nil t)) (frame-led near far octets rest dn dm h)
 
   -- another line
-  pub other-line : (s : Station) (e : FramesEvent) → IsElsewhere s e → line_at s.line (after e s.card) ≡ line_at s.line s.card
+  pub other-line : (s : Endpoint) (e : FramesEvent) → IsElsewhere s e → line_at s.line (after e s.card) ≡ line_at s.line s.card
   other-line s e is = grind (arith, by_room, get_or-set_other)
 
   elsewhere-led : (w : Wire) (dn dm : List (List ℕ)) (e : FramesEvent) → IsElsewhere w.near e → Pair service tei w dn dm
@@ -212,19 +212,19 @@ module _ (service : Service) (tei : ℕ) where
   pub not-heard : (c : Config) (what : StreamEvent) → IsNotOf service tei c what → NotHeard c (hears what)
   not-heard c what is octets e = grind arith
 
-  pub near-led : (deed : Deed) (w : Wire) (dn dm : List (List ℕ)) → IsPossibleAt service tei w.near deed → Pair service tei w dn dm
+  pub near-led : (deed : AnyStep) (w : Wire) (dn dm : List (List ℕ)) → IsPossibleAt service tei w.near deed → Pair service tei w dn dm
       → let t = seen_by deed w in Falls service tei (befalling deed w) t ⊎ Led service tei w (befalling deed w) dn dm t
-  near-led (acts (requests r)) w dn dm is h =
+  near-led (step (requests r)) w dn dm is h =
       let t = seen (request r) (answered (request r) w.near) in
       seen-so w _ dn dm t (t ++ []) (sym (append-nil t)) (event-led w dn dm h (request r) (λ octets e. cc e))
-  near-led (acts (times_out timer)) w dn dm is h =
+  near-led (step (expires timer)) w dn dm is h =
       let t = seen (expiry timer) (answered (expiry timer) w.near) in
       seen-so w _ dn dm t (t ++ []) (sym (append-nil t)) (event-led w dn dm h (expiry timer) (λ octets e. cc e))
-  near-led (acts gives) w dn dm is h =
+  near-led (step sends) w dn dm is h =
       let t = seen next (answered next w.near) in
       seen-so w _ dn dm t (t ++ []) (sym (append-nil t)) (event-led w dn dm h next (λ octets e. cc e))
-  near-led (acts takes) w dn dm is h = takes-led w.near w.far w.far.way dn dm h
-  near-led (acts loses) w dn dm is h = inr (loses-led w.near w.far w.near.way dn dm h)
+  near-led (step receives) w dn dm is h = takes-led w.near w.far w.far.way dn dm h
+  near-led (step loses) w dn dm is h = inr (loses-led w.near w.far w.near.way dn dm h)
   near-led (disturbed what) w dn dm is h =
       let t = seen (hears what) (answered (hears what) w.near) in
       seen-so w _ dn dm t (t ++ []) (sym (append-nil t)) (event-led w dn dm h (hears what) (not-heard w.near.card.config what is))

@@ -1,5 +1,5 @@
 -- The far end lasts in its establishment, and that of the near end is over: what happens at the near end.
-use Rattle.laws_order.proofs.Vocabulary.{arith, ◌≡◌, ℕ, ◌+◌, ◌≤◌, false, IsTrue, List, [], ◌∷◌, ◌++◌, length, take, sym, ap, ◌∙◌, subst, true≢false, ◌⊎◌, Control, Service, Parts, other_side, reading, State, Link, is_multiple_frame, frames_of, came, Config, hears, expiry, request, next, heard_side, link_of, terms, after_is_sound, Station, Wire, requests, times_out, gives, takes, loses, happens, Event, of_link_at, Deed, acts, disturbed, elsewhere, IsElsewhere, IsPossibleAt, elsewhere_on, befalling, of_link_on, stream_frame, FramesEvent, at}
+use Rattle.laws_order.proofs.Vocabulary.{arith, ◌≡◌, ℕ, ◌+◌, ◌≤◌, false, IsTrue, List, [], ◌∷◌, ◌++◌, length, take, sym, ap, ◌∙◌, subst, true≢false, ◌⊎◌, Control, Service, Parts, other_side, reading, State, Link, is_multiple_frame, frames_of, came, Config, hears, expiry, request, next, heard_side, link_of, terms, after_is_sound, Endpoint, Wire, requests, expires, sends, receives, loses, happens, Event, of_link_at, AnyStep, step, disturbed, elsewhere, IsElsewhere, IsPossibleAt, elsewhere_on, befalling, of_link_on, stream_frame, FramesEvent, at}
 use Rattle.laws_order.proofs.Down.{Speaks}
 use Rattle.laws_order.proofs.Lasting.{Calls, calls-report, calls-plain, speaks-answered, speaks-unheeded, Brought, brought-tail, brought-front, brought-more, brought-plain}
 use Rattle.laws_order.proofs.Leading.{Read, read, none_of_it, one_of_it, NotHeard, not-heard, other-line}
@@ -11,15 +11,15 @@ all-awaited : (to : State) → Awaited Calls to
 all-awaited to = grind arith
 
 module _ (service : Service) (tei : ℕ) where
-  abbrev line_of : Station → List Parts
+  abbrev line_of : Endpoint → List Parts
   line_of s = on_line service tei s
 
   -- The first frame on the way of a station is one of the link, or not.
-  pub data IsFirst (s : Station) (octets : List ℕ) (rest : List (List ℕ)) : Type 0 where
+  pub data IsFirst (s : Endpoint) (octets : List ℕ) (rest : List (List ℕ)) : Type 0 where
     other_first : of_link_at service tei s.card.config.side octets ≡ [] → line_of (record s { way = octets ∷ rest }) ≡ line_of (record s { way = rest }) → IsFirst s octets rest
     its_first : (f : Parts) → of_link_at service tei s.card.config.side octets ≡ f ∷ [] → line_of (record s { way = octets ∷ rest }) ≡ f ∷ line_of (record s { way = rest }) → IsFirst s octets rest
 
-  pub first-is : (s : Station) (octets : List ℕ) (rest : List (List ℕ)) → IsFirst s octets rest
+  pub first-is : (s : Endpoint) (octets : List ℕ) (rest : List (List ℕ)) → IsFirst s octets rest
   first-is s octets rest =
       let others = of_link_on service tei s.card.config.side rest in
       let waits = frames_of (terms s.card.config service tei) (link_here service tei s).waiting in
@@ -30,7 +30,7 @@ module _ (service : Service) (tei : ℕ) where
       go others waits (one_of_it f one) = its_first f one (ap (λ xs. (xs ++ of_link_on service tei s.card.config.side rest) ++ frames_of (terms s.card.config service tei) (link_here service tei s).waiting) one)
 
   -- A frame of the link that is heard as a frame comes is the one that comes.
-  pub comes-so : (s u : Station) → u.card.config.side ≡ other_side s.card.config.side → (octets octets' : List ℕ) (f : Parts)
+  pub comes-so : (s u : Endpoint) → u.card.config.side ≡ other_side s.card.config.side → (octets octets' : List ℕ) (f : Parts)
       → hears (came s.card.config.n201 octets) ≡ hears (stream_frame octets') → of_link_at service tei (heard_side s.card.config) octets' ≡ f ∷ []
       → of_link_at service tei u.card.config.side octets ≡ f ∷ []
   comes-so s u sides octets octets' f is its = grind arith
@@ -39,7 +39,7 @@ module _ (service : Service) (tei : ℕ) where
   none-heard c Q e none octets f is its = let wrong : [] ≡ f ∷ [] = sym (none octets is) ∙ its in absurd (cc wrong)
 
   -- Where the far end says nothing but what an end that is up says, the near end hears nothing else.
-  pub first-speaks : (near far : Station) → far.card.config.side ≡ other_side near.card.config.side → (octets : List ℕ) (rest : List (List ℕ))
+  pub first-speaks : (near far : Endpoint) → far.card.config.side ≡ other_side near.card.config.side → (octets : List ℕ) (rest : List (List ℕ))
       → Each Speaks (line_of (record far { way = octets ∷ rest }))
       → Each Speaks (line_of (record far { way = rest })) × HeardIs near.card.config service tei Speaks (hears (came near.card.config.n201 octets))
   first-speaks near far sides octets rest speech = go (first-is far octets rest)
@@ -101,15 +101,15 @@ module _ (service : Service) (tei : ℕ) where
             → Brought contents (a + k) r (line_of (happens e w.near))
         then o = grind (arith, brought-more, brought-front, way_here)
 
-    near-takes : (near far : Station) (way : List (List ℕ)) (dm : List (List ℕ)) → let w : Wire = record { near = near; far = record far { way = way } } in
-        Lasts w dm → GoesOn w (befalling (acts takes) w) dm
+    near-takes : (near far : Endpoint) (way : List (List ℕ)) (dm : List (List ℕ)) → let w : Wire = record { near = near; far = record far { way = way } } in
+        Lasts w dm → GoesOn w (befalling (step receives) w) dm
     near-takes near far [] dm h = (λ down. down, λ down. h)
     near-takes near far (octets ∷ rest) dm h =
         let x = first-speaks near far h.sides octets rest h.speech in
         by-event (record { near = near; far = record far { way = octets ∷ rest } }) dm h (hears (came near.card.config.n201 octets)) rest x.0 x.1
 
-    near-loses : (near far : Station) (way : List (List ℕ)) (dm : List (List ℕ)) → let w : Wire = record { near = record near { way = way }; far = far } in
-        Lasts w dm → Lasts (befalling (acts loses) w) dm
+    near-loses : (near far : Endpoint) (way : List (List ℕ)) (dm : List (List ℕ)) → let w : Wire = record { near = record near { way = way }; far = far } in
+        Lasts w dm → Lasts (befalling (step loses) w) dm
     near-loses near far [] dm h = h
     near-loses near far (octets ∷ rest) dm h = go (first-is near octets rest)
       where
@@ -137,12 +137,12 @@ module _ (service : Service) (tei : ℕ) where
           },
         )
 
-    pub near-goes : (deed : Deed) (w : Wire) (dm : List (List ℕ)) → IsPossibleAt service tei w.near deed → Lasts w dm → GoesOn w (befalling deed w) dm
-    near-goes (acts (requests r)) w dm is h = by-event w dm h (request r) w.far.way h.speech (none-heard w.near.card.config Speaks (request r) (λ octets e. cc e))
-    near-goes (acts (times_out timer)) w dm is h = by-event w dm h (expiry timer) w.far.way h.speech (none-heard w.near.card.config Speaks (expiry timer) (λ octets e. cc e))
-    near-goes (acts gives) w dm is h = by-event w dm h next w.far.way h.speech (none-heard w.near.card.config Speaks next (λ octets e. cc e))
-    near-goes (acts takes) w dm is h = near-takes w.near w.far w.far.way dm h
-    near-goes (acts loses) w dm is h = (λ down. down, λ down. near-loses w.near w.far w.near.way dm h)
+    pub near-goes : (deed : AnyStep) (w : Wire) (dm : List (List ℕ)) → IsPossibleAt service tei w.near deed → Lasts w dm → GoesOn w (befalling deed w) dm
+    near-goes (step (requests r)) w dm is h = by-event w dm h (request r) w.far.way h.speech (none-heard w.near.card.config Speaks (request r) (λ octets e. cc e))
+    near-goes (step (expires timer)) w dm is h = by-event w dm h (expiry timer) w.far.way h.speech (none-heard w.near.card.config Speaks (expiry timer) (λ octets e. cc e))
+    near-goes (step sends) w dm is h = by-event w dm h next w.far.way h.speech (none-heard w.near.card.config Speaks next (λ octets e. cc e))
+    near-goes (step receives) w dm is h = near-takes w.near w.far w.far.way dm h
+    near-goes (step loses) w dm is h = (λ down. down, λ down. near-loses w.near w.far w.near.way dm h)
     near-goes (disturbed what) w dm is h =
         by-event w dm h (hears what) w.far.way h.speech (none-heard w.near.card.config Speaks (hears what) (not-heard service tei w.near.card.config what is))
     near-goes (elsewhere e) w dm is h = near-elsewhere w dm e is h

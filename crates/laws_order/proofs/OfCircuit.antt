@@ -12,6 +12,7 @@ pub mod Comes
 pub mod Beats
 pub mod PremisesMet
 pub mod HeardWhole
+pub mod Received
 pub mod Damaged
 pub mod Mixed
 pub mod MixedCall

@@ -1,5 +1,5 @@
 -- The far end lasts in its establishment, and that of the near end is over: what happens at the far end.
-use Rattle.laws_order.proofs.Vocabulary.{◌≡◌, ℕ, ◌+◌, ◌≤◌, cond, IsTrue, List, [], ◌∷◌, ◌++◌, length, take, Option, None, refl, sym, ap, ◌∙◌, subst, append-nil, true≢false, inl, inr, arith, option_to_list, Seq, seq, is_seq, Control, Information, ReceiveReady, ReceiveNotReady, Reject, Service, Parts, other_side, State, Terms, Link, is_multiple_frame, frames_of, Means, frame-taken, came, hears, expiry, request, next, link_of, terms, after_is_sound, Seen, seen, offer-tells_nothing, frames_given, Station, Wire, requests, times_out, gives, takes, loses, answered, happens, frames_by, turned, twice-other, flat_map-append, Event, of_link_in, of_link_at, Deed, acts, disturbed, elsewhere, IsElsewhere, IsPossibleAt, elsewhere_on, befalling, seen_by, data_noted, StaysEstablished, of_link_on, FramesEvent, link_frame, LinkEvent, cleared, requested, offer, expired, received, after, course, told, at, event-delivers, none-delivered}
+use Rattle.laws_order.proofs.Vocabulary.{◌≡◌, ℕ, ◌+◌, ◌≤◌, cond, IsTrue, List, [], ◌∷◌, ◌++◌, length, take, Option, None, refl, sym, ap, ◌∙◌, subst, append-nil, true≢false, inl, inr, arith, option_to_list, Seq, seq, is_seq, Control, Information, ReceiveReady, ReceiveNotReady, Reject, Service, Parts, other_side, State, Terms, Link, is_multiple_frame, frames_of, Means, frame-taken, came, hears, expiry, request, next, link_of, terms, after_is_sound, Seen, seen, offer-tells_nothing, frames_given, Endpoint, Wire, requests, expires, sends, receives, loses, answered, happens, frames_by, turned, twice-other, flat_map-append, Event, of_link_in, of_link_at, AnyStep, step, disturbed, elsewhere, IsElsewhere, IsPossibleAt, elsewhere_on, befalling, seen_by, data_noted, StaysEstablished, of_link_on, FramesEvent, link_frame, LinkEvent, cleared, requested, offer, expired, received, after, course, told, at, event-delivers, none-delivered}
 use Rattle.laws_wire.proofs.Joint.{timer-delivers}
 use Rattle.laws_order.proofs.Does.{Has, Does, IsKind}
 use Rattle.laws_order.proofs.Down.{Speaks}
@@ -19,7 +19,7 @@ its-value : (nr : Seq) → nr ≡ seq nr.value
 its-value nr = is_seq nr nr.value (let low = nr.in_range in omega (arith, low))
 
 module _ (service : Service) (tei : ℕ) where
-  abbrev line_of : Station → List Parts
+  abbrev line_of : Endpoint → List Parts
   line_of s = on_line service tei s
 
   module _ (contents : List (List ℕ)) (a k : ℕ) (small : k ≤ 127) where
@@ -27,7 +27,7 @@ module _ (service : Service) (tei : ℕ) where
     Last w dm = Lasts service tei contents a k small w dm
 
     -- The far end, at which something happens, as it sees the two.
-    module _ (near far : Station) (dm : List (List ℕ)) (e : Event) (way : List (List ℕ)) (near-way : List (List ℕ)) where
+    module _ (near far : Endpoint) (dm : List (List ℕ)) (e : Event) (way : List (List ℕ)) (near-way : List (List ℕ)) where
       abbrev w : Wire
       w = record { near = record near { way = near-way }; far = far }
 
@@ -172,8 +172,8 @@ module _ (service : Service) (tei : ℕ) where
     unchanged : (w : Wire) (dm : List (List ℕ)) → Last w dm → Then w dm []
     unchanged w dm h = subst (Last w) (sym (append-nil dm)) h
 
-    far-takes : (near far : Station) (way : List (List ℕ)) (dm : List (List ℕ)) → let w : Wire = record { near = record near { way = way }; far = far } in
-        Last w dm → let t = seen_by (acts takes) (turned w) in StaysEstablished service tei t → Then (turned (befalling (acts takes) (turned w))) dm t
+    far-takes : (near far : Endpoint) (way : List (List ℕ)) (dm : List (List ℕ)) → let w : Wire = record { near = record near { way = way }; far = far } in
+        Last w dm → let t = seen_by (step receives) (turned w) in StaysEstablished service tei t → Then (turned (befalling (step receives) (turned w))) dm t
     far-takes near far [] dm h stays = unchanged (record { near = record near { way = [] }; far = far }) dm h
     far-takes near far (octets ∷ rest) dm h stays =
         let e = hears (came far.card.config.n201 octets) in
@@ -203,8 +203,8 @@ module _ (service : Service) (tei : ℕ) where
             (λ f kind. let same : g ≡ f = cc (sym one ∙ reads f kind) in (line.0, line.1, subst (λ (x : Parts). Brings contents (a + k) r line.0 x.info x.control) same line.2, line.3))
             (brought-tail contents (a + k) r g (line_of (record near { way = rest })) line)
 
-    far-loses : (near far : Station) (way : List (List ℕ)) (dm : List (List ℕ)) → Last (record { near = near; far = record far { way = way } }) dm
-        → Last (turned (befalling (acts loses) (record { near = record far { way = way }; far = near }))) dm
+    far-loses : (near far : Endpoint) (way : List (List ℕ)) (dm : List (List ℕ)) → Last (record { near = near; far = record far { way = way } }) dm
+        → Last (turned (befalling (step loses) (record { near = record far { way = way }; far = near }))) dm
     far-loses near far o dm h = grind (arith, first-is, other_first, its_first)
 
     far-elsewhere : (w : Wire) (dm : List (List ℕ)) (e : FramesEvent) → IsElsewhere w.far e → Last w dm → Last (record w { far = elsewhere_on e w.far }) dm
@@ -225,12 +225,12 @@ module _ (service : Service) (tei : ℕ) where
           accepted = x.5;
         }
 
-    pub far-goes : (deed : Deed) (w : Wire) (dm : List (List ℕ)) → IsPossibleAt service tei w.far deed → Last w dm
+    pub far-goes : (deed : AnyStep) (w : Wire) (dm : List (List ℕ)) → IsPossibleAt service tei w.far deed → Last w dm
         → let t = seen_by deed (turned w) in StaysEstablished service tei t → Then (turned (befalling deed (turned w))) dm t
-    far-goes (acts (requests r)) w dm is h stays = unheard w dm h (request r) (λ octets e. cc e) stays
-    far-goes (acts (times_out timer)) w dm is h stays = unheard w dm h (expiry timer) (λ octets e. cc e) stays
-    far-goes (acts gives) w dm is h stays = unheard w dm h next (λ octets e. cc e) stays
-    far-goes (acts takes) w dm is h stays = far-takes w.near w.far w.near.way dm h stays
-    far-goes (acts loses) w dm is h stays = unchanged _ dm (far-loses w.near w.far w.far.way dm h)
+    far-goes (step (requests r)) w dm is h stays = unheard w dm h (request r) (λ octets e. cc e) stays
+    far-goes (step (expires timer)) w dm is h stays = unheard w dm h (expiry timer) (λ octets e. cc e) stays
+    far-goes (step sends) w dm is h stays = unheard w dm h next (λ octets e. cc e) stays
+    far-goes (step receives) w dm is h stays = far-takes w.near w.far w.near.way dm h stays
+    far-goes (step loses) w dm is h stays = unchanged _ dm (far-loses w.near w.far w.far.way dm h)
     far-goes (disturbed what) w dm is h stays = unheard w dm h (hears what) (not-heard service tei w.far.card.config what is) stays
     far-goes (elsewhere e) w dm is h stays = unchanged _ dm (far-elsewhere w dm e is h)

@@ -1,5 +1,5 @@
 -- Whole runs of two cards whose links face each other.
-use Rattle.laws_order.proofs.Vocabulary.{arith, ◌≡◌, ℕ, suc, ◌≤◌, false, List, [], ◌∷◌, ◌++◌, take, drop, refl, sym, ap, ◌∙◌, subst, append-nil, append_assoc, true≢false, ◌⊎◌, inl, inr, All, list_any, All-nil, All-cons, All-head, All-tail, list_any-append, Service, other_side, Link, is_multiple_frame, joined-turned, rising-low, terms, Seen, IsFront, Station, Wire, turned, twice-other, flat_map-append, Deed, befalling, Happening, by_near, by_far, IsPossible, seen_by, seen_near, seen_far, noted_in, data_noted, data_granted, ends_by, StaysEstablished, Past, known, FaceInStep, kept_by, DeliveredInOrder, or_parts}
+use Rattle.laws_order.proofs.Vocabulary.{arith, ◌≡◌, ℕ, suc, ◌≤◌, false, List, [], ◌∷◌, ◌++◌, take, drop, refl, sym, ap, ◌∙◌, subst, append-nil, append_assoc, true≢false, ◌⊎◌, inl, inr, All, list_any, All-nil, All-cons, All-head, All-tail, list_any-append, Service, other_side, Link, is_multiple_frame, joined-turned, rising-low, terms, Seen, IsFront, Endpoint, Wire, turned, twice-other, flat_map-append, AnyStep, befalling, AnyStepAt, by_near, by_far, IsPossible, seen_by, seen_near, seen_far, noted_in, data_noted, data_granted, ends_by, StaysEstablished, Past, known, FaceInStep, kept_by, DeliveredInOrder, or_parts}
 use Rattle.model_link.proofs.Direction.{line_of}
 use Rattle.laws_order.proofs.Beginning.{had, begins-pair, kept-is}
 use Rattle.laws_order.proofs.Leading.{near-led}
@@ -9,17 +9,17 @@ use Rattle.laws_order.proofs.OneLasts.{far-goes}
 use Rattle.laws_order.proofs.Pairs.{link_here, facing, Pair, Led, Falls}
 
 -- Nothing that happens moves a card to another line, or changes what it is configured with.
-pub record StaysAt (s s' : Station) : Type 0 where
+pub record StaysAt (s s' : Endpoint) : Type 0 where
   pub config : s'.card.config ≡ s.card.config
   pub line : s'.line ≡ s.line
 
-same-place : (s : Station) → StaysAt s s
+same-place : (s : Endpoint) → StaysAt s s
 same-place s = record { config = refl; line = refl }
 
-pub near-place : (deed : Deed) (w : Wire) → StaysAt w.near (befalling deed w).near
+pub near-place : (deed : AnyStep) (w : Wire) → StaysAt w.near (befalling deed w).near
 near-place deed w = grind (arith, same-place)
 
-pub far-place : (deed : Deed) (w : Wire) → StaysAt w.far (befalling deed w).far
+pub far-place : (deed : AnyStep) (w : Wire) → StaysAt w.far (befalling deed w).far
 far-place deed w = grind (arith, same-place)
 
 both-parts : (n : ℕ) (xs : List (List ℕ)) → xs ≡ take n xs ++ drop n xs
@@ -27,13 +27,13 @@ both-parts (suc n) (x ∷ xs) = ap (λ ys. x ∷ ys) (both-parts n xs)
 both-parts other any = refl
 
 module _ (service : Service) (tei : ℕ) where
-  abbrev pub IsOpen : Wire → Happening → Type 0
+  abbrev pub IsOpen : Wire → AnyStepAt → Type 0
   IsOpen w h = IsPossible service tei w h
 
-  pub still-possible : (w w' : Wire) → StaysAt w.near w'.near → StaysAt w.far w'.far → (h : Happening) → IsOpen w h → IsOpen w' h
+  pub still-possible : (w w' : Wire) → StaysAt w.near w'.near → StaysAt w.far w'.far → (h : AnyStepAt) → IsOpen w h → IsOpen w' h
   still-possible w w' near far h is = grind arith
 
-  pub all-possible : (w w' : Wire) → StaysAt w.near w'.near → StaysAt w.far w'.far → (hs : List Happening) → All (IsOpen w) hs → All (IsOpen w') hs
+  pub all-possible : (w w' : Wire) → StaysAt w.near w'.near → StaysAt w.far w'.far → (hs : List AnyStepAt) → All (IsOpen w) hs → All (IsOpen w') hs
   all-possible w w' near far [] all = All-nil (IsOpen w')
   all-possible w w' near far (h ∷ hs) all =
       All-cons (IsOpen w') h hs (still-possible w w' near far h (All-head (IsOpen w) h hs all))
@@ -42,11 +42,11 @@ module _ (service : Service) (tei : ℕ) where
   pub turned-pair : (w : Wire) (dn dm : List (List ℕ)) → Pair service tei w dn dm → Pair service tei (turned w) dm dn
   turned-pair w dn dm h = grind (arith, twice-other, joined-turned, facing)
 
-  abbrev contents_at : Station → List (List ℕ)
+  abbrev contents_at : Endpoint → List (List ℕ)
   contents_at s = (link_here service tei s).contents
 
   -- What was delivered, and what has been told since, is a front of the contents, and of those that were granted since.
-  abbrev IsFrontOf : List (List ℕ) → List Seen → Station → List Seen → Type 0
+  abbrev IsFrontOf : List (List ℕ) → List Seen → Endpoint → List Seen → Type 0
   IsFrontOf d t s u = IsFront (d ++ data_noted service tei t) (contents_at s ++ data_granted service tei u)
 
   front-now : (w : Wire) (dn dm : List (List ℕ)) → Pair service tei w dn dm → IsFrontOf dn [] w.far []
@@ -68,16 +68,16 @@ module _ (service : Service) (tei : ℕ) where
   pub both-stay : (t u : List Seen) → StaysEstablished service tei (t ++ u) → StaysEstablished service tei t × StaysEstablished service tei u
   both-stay t u h = or_parts (list_any (ends_by service tei) t) (list_any (ends_by service tei) u) (sym (list_any-append (ends_by service tei) t u) ∙ h)
 
-  unmoved : (s s' : Station) → link_here service tei s' ≡ link_here service tei s → contents_at s' ≡ contents_at s ++ []
+  unmoved : (s s' : Endpoint) → link_here service tei s' ≡ link_here service tei s → contents_at s' ≡ contents_at s ++ []
   unmoved s s' same = ap (λ (y : Link). y.contents) same ∙ sym (append-nil (contents_at s))
 
   -- What happens at one end leaves the link at the other.
-  pub other-link : (deed : Deed) (w : Wire) → link_here service tei (befalling deed w).far ≡ link_here service tei w.far
+  pub other-link : (deed : AnyStep) (w : Wire) → link_here service tei (befalling deed w).far ≡ link_here service tei w.far
   other-link deed w = grind arith
 
   -- where the near end's establishment is over
   module _ (contents : List (List ℕ)) (a k : ℕ) (small : k ≤ 127) where
-    lasting-run : (hs : List Happening) (w : Wire) (dm : List (List ℕ)) → Lasts service tei contents a k small w dm
+    lasting-run : (hs : List AnyStepAt) (w : Wire) (dm : List (List ℕ)) → Lasts service tei contents a k small w dm
         → is_multiple_frame (link_here service tei w.near).state ≡ false → All (IsOpen w) hs → StaysEstablished service tei (seen_far hs w)
         → IsFront (dm ++ data_noted service tei (seen_far hs w)) contents
     unfolding seen_far
@@ -107,14 +107,14 @@ module _ (service : Service) (tei : ℕ) where
       → Lasts service tei (contents_at w.near) (link_here service tei w.near).a (terms w.near.card.config service tei).k h.joined.near_ranges.k_high w dm
   pair-lasts w dn dm h = grind (arith, facing, carried-brought, line_of, rising-low, rising-speaks)
 
-  abbrev IsInOrder : List Happening → Wire → List (List ℕ) → Type 0
+  abbrev IsInOrder : List AnyStepAt → Wire → List (List ℕ) → Type 0
   IsInOrder hs w dm = IsFrontOf dm (seen_far hs w) w.near (seen_near hs w)
 
   with-more : (ds cs gs : List (List ℕ)) → IsFront ds cs → IsFront ds (cs ++ gs)
   with-more ds cs gs h = record { rest = h.rest ++ gs; whole_is = ap (λ xs. xs ++ gs) h.whole_is ∙ append_assoc ds h.rest gs }
 
   -- As long as the establishment lasts at the far end, whatever becomes of it at the near one.
-  pub all-led : (hs : List Happening) (w : Wire) (dn dm : List (List ℕ)) → Pair service tei w dn dm → All (IsOpen w) hs
+  pub all-led : (hs : List AnyStepAt) (w : Wire) (dn dm : List (List ℕ)) → Pair service tei w dn dm → All (IsOpen w) hs
       → StaysEstablished service tei (seen_far hs w) → IsInOrder hs w dm
   unfolding seen_near seen_far
   all-led [] w dn dm h all far = front-now (turned w) dm dn (turned-pair w dn dm h)
@@ -174,14 +174,14 @@ module _ (service : Service) (tei : ℕ) where
   same-rest (x ∷ xs) ys zs e = same-rest xs ys zs (cc e)
 
   -- behind what was received before
-  since : (s u : Station) (ds gs : List (List ℕ)) → IsFront (had service tei s u ++ ds) (contents_at s ++ gs) → IsFront ds (drop (link_here service tei u).r (contents_at s) ++ gs)
+  since : (s u : Endpoint) (ds gs : List (List ℕ)) → IsFront (had service tei s u ++ ds) (contents_at s ++ gs) → IsFront ds (drop (link_here service tei u).r (contents_at s) ++ gs)
   since s u ds gs h =
       let front = had service tei s u in
       let kept = drop (link_here service tei u).r (contents_at s) in
       let whole : contents_at s ≡ front ++ kept = both-parts (link_here service tei u).r (contents_at s) in
       grind (arith, same-rest, append_assoc)
 
-  told-far : (hs : List Happening) (w : Wire) (p : Past w.near) (q : Past w.far) → FaceInStep service tei w (known service tei w.near p) (known service tei w.far q)
+  told-far : (hs : List AnyStepAt) (w : Wire) (p : Past w.near) (q : Past w.far) → FaceInStep service tei w (known service tei w.near p) (known service tei w.far q)
       → All (IsOpen w) hs → StaysEstablished service tei (seen_far hs w)
       → IsFront (data_noted service tei (seen_far hs w)) (kept_by (known service tei w.near p) (known service tei w.far q) ++ data_granted service tei (seen_near hs w))
   told-far hs w p q h all far =
@@ -193,35 +193,35 @@ module _ (service : Service) (tei : ℕ) where
       (all-led hs w (had service tei w.far w.near) (had service tei w.near w.far) x all far))
 
   -- The same from the other end.
-  abbrev swapped : Happening → Happening
+  abbrev swapped : AnyStepAt → AnyStepAt
   swapped (by_near deed) = by_far deed
   swapped (by_far deed) = by_near deed
 
-  abbrev all_swapped : List Happening → List Happening
+  abbrev all_swapped : List AnyStepAt → List AnyStepAt
   all_swapped [] = []
   all_swapped (h ∷ hs) = swapped h ∷ all_swapped hs
 
-  near-is : (hs : List Happening) (w : Wire) → seen_near hs w ≡ seen_far (all_swapped hs) (turned w)
+  near-is : (hs : List AnyStepAt) (w : Wire) → seen_near hs w ≡ seen_far (all_swapped hs) (turned w)
   unfolding seen_near seen_far
   near-is [] w = refl
   near-is (by_near deed ∷ hs) w = ap (λ t. seen_by deed w ++ t) (near-is hs (befalling deed w))
   near-is (by_far deed ∷ hs) w = near-is hs (turned (befalling deed (turned w)))
 
-  far-is : (hs : List Happening) (w : Wire) → seen_far hs w ≡ seen_near (all_swapped hs) (turned w)
+  far-is : (hs : List AnyStepAt) (w : Wire) → seen_far hs w ≡ seen_near (all_swapped hs) (turned w)
   unfolding seen_near seen_far
   far-is [] w = refl
   far-is (by_near deed ∷ hs) w = far-is hs (befalling deed w)
   far-is (by_far deed ∷ hs) w = ap (λ t. seen_by deed (turned w) ++ t) (far-is hs (turned (befalling deed (turned w))))
 
-  one-swapped : (w : Wire) (h : Happening) → IsOpen w h → IsOpen (turned w) (swapped h)
+  one-swapped : (w : Wire) (h : AnyStepAt) → IsOpen w h → IsOpen (turned w) (swapped h)
   one-swapped w h is = grind arith
 
-  possible-swapped : (w : Wire) (hs : List Happening) → All (IsOpen w) hs → All (IsOpen (turned w)) (all_swapped hs)
+  possible-swapped : (w : Wire) (hs : List AnyStepAt) → All (IsOpen w) hs → All (IsOpen (turned w)) (all_swapped hs)
   possible-swapped w [] all = All-nil (IsOpen (turned w))
   possible-swapped w (h ∷ hs) all =
       All-cons (IsOpen (turned w)) (swapped h) (all_swapped hs) (one-swapped w h (All-head (IsOpen w) h hs all)) (possible-swapped w hs (All-tail (IsOpen w) h hs all))
 
-  told-near : (hs : List Happening) (w : Wire) (p : Past w.near) (q : Past w.far) → FaceInStep service tei w (known service tei w.near p) (known service tei w.far q)
+  told-near : (hs : List AnyStepAt) (w : Wire) (p : Past w.near) (q : Past w.far) → FaceInStep service tei w (known service tei w.near p) (known service tei w.far q)
       → All (IsOpen w) hs → StaysEstablished service tei (seen_near hs w)
       → IsFront (data_noted service tei (seen_near hs w)) (kept_by (known service tei w.far q) (known service tei w.near p) ++ data_granted service tei (seen_far hs w))
   told-near hs w p q h all near =

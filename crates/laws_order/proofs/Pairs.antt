@@ -1,5 +1,5 @@
 -- Two cards whose links face each other: what each thing that happens makes of the two ends.
-use Rattle.laws_order.proofs.Vocabulary.{◌≡◌, ℕ, ◌<◌, ◌==◌, ◌&&◌, not, Bool, true, false, cond, IsTrue, List, [], ◌∷◌, ◌++◌, map, get_or, set, Option, Some, None, IfSome, refl, sym, ap, ◌∙◌, subst, arith, append-nil, eq-eqb, true≢false, inl, inr, All, option_to_list, unwrap_or, list_any, option_map_or, get_or-set_same, All-nil, All-cons, All-head, PoolFull, Service, Parts, other_side, sapi_of, reading-again, place_of-is, Terms, LinkTimer, Link, is_multiple_frame, frame_of, Given, End, with_link, with_sent, frame_given, frames_of, given_is_frame, Joined, done-at, Means, Rising, Config, Line, fresh_line, link_in, link_of, place_in, terms, sound_in, terms_in_range, line_at, has_lines, by_room, accepted, Seen, seen, is_ui, offer-tells_nothing, frames_given, Station, Wire, answered, happens, frames_by, flat_map-append, fresh, Event, at, is_of_link, of_link_in, of_link_at, data_noted, data_granted, ends_by, of_link_on, line_of, is_some, Refusal, State, Release, SetBusy, ClearBusy, received, expired, requested, offer, Course, Up, still, set_busy_up, clear_busy_up, at-first, offer-gave, frame-taken, after, begun, contents_asked, LinkEvent, LinkRequest, told, link_given}
+use Rattle.laws_order.proofs.Vocabulary.{◌≡◌, ℕ, ◌<◌, ◌==◌, ◌&&◌, not, Bool, true, false, cond, IsTrue, List, [], ◌∷◌, ◌++◌, map, get_or, set, Option, Some, None, IfSome, refl, sym, ap, ◌∙◌, subst, arith, append-nil, eq-eqb, true≢false, inl, inr, All, option_to_list, unwrap_or, list_any, option_map_or, get_or-set_same, All-nil, All-cons, All-head, PoolFull, Service, Parts, other_side, sapi_of, reading-again, place_of-is, Terms, LinkTimer, Link, is_multiple_frame, frame_of, Given, LinkEndpoint, with_link, with_sent, frame_given, frames_of, given_is_frame, Joined, done-at, Means, Rising, Config, Line, fresh_line, link_in, link_of, place_in, terms, sound_in, terms_in_range, line_at, has_lines, by_room, accepted, Seen, seen, is_ui, offer-tells_nothing, frames_given, Endpoint, Wire, answered, happens, frames_by, flat_map-append, fresh, Event, at, is_of_link, of_link_in, of_link_at, data_noted, data_granted, ends_by, of_link_on, line_of, is_some, Refusal, State, Release, SetBusy, ClearBusy, received, expired, requested, offer, Course, Up, still, set_busy_up, clear_busy_up, at-first, offer-gave, frame-taken, after, begun, contents_asked, LinkEvent, LinkRequest, told, link_given}
 use Rattle.model_link.specs.Sound as link_sound
 use Rattle.model_link.specs.TwoEnds as two
 use Rattle.model_line.specs.Machine as lines
@@ -56,7 +56,7 @@ module _ (t : Terms) (l : Link) where
   frame-same was f m means up = let stay = ((frame-taken t l was f.address.command f.info m f.control means).took.by.stay up).2 in stay.same
 
 -- The link at an end.
-abbrev pub link_here : Service → ℕ → Station → Link
+abbrev pub link_here : Service → ℕ → Endpoint → Link
 link_here service tei s = link_of service tei (line_of s)
 
 -- What goes between two links that face each other is no unit data.
@@ -82,12 +82,12 @@ module _ (c : Config) (service : Service) (tei : ℕ) where
       ∙ ap (of_link_in service tei) (reading-again c.side f (taken.frame_of c (terms c service tei) g) (record { is_frame = whole.whole; octets_are = refl }))
       ∙ ap (λ b. cond {A = List Parts} b (f ∷ []) []) its
 
-pub record IsWell (s : Station) : Type 0 where
+pub record IsWell (s : Endpoint) : Type 0 where
   pub sound : card_sound.IsSound s.card
   pub within : s.line < s.card.config.lines
 
 -- A link in state 7 or 8 at a sound line is one of a TEI that is there, so it is sound.
-module _ (service : Service) (tei : ℕ) (s : Station) (well : IsWell s) where
+module _ (service : Service) (tei : ℕ) (s : Endpoint) (well : IsWell s) where
   abbrev its : Terms
   its = terms s.card.config service tei
 
@@ -111,11 +111,11 @@ module _ (service : Service) (tei : ℕ) (s : Station) (well : IsWell s) where
           }
 
 module _ (service : Service) (tei : ℕ) where
-  abbrev pub way_here : Station → List Parts
+  abbrev pub way_here : Endpoint → List Parts
   way_here s = of_link_on service tei s.card.config.side s.way
 
   -- The end of the two links that a station is, of which this was delivered.
-  abbrev pub facing : Station → List (List ℕ) → End
+  abbrev pub facing : Endpoint → List (List ℕ) → LinkEndpoint
   facing s delivered = record { terms = terms s.card.config service tei; link = link_here service tei s; way = way_here s; delivered = delivered }
 
   pub record Pair (w : Wire) (dn dm : List (List ℕ)) : Type 0 where
@@ -135,7 +135,7 @@ module _ (service : Service) (tei : ℕ) where
   Falls w' t = (list_any (ends_by service tei) t ≡ true) × (is_multiple_frame (link_here service tei w'.near).state ≡ false)
 
   -- What an event is to the link, at a station.
-  module _ (s : Station) (well : IsWell s) (up : IsTrue (is_multiple_frame (link_here service tei s).state)) (e : Event) where
+  module _ (s : Endpoint) (well : IsWell s) (up : IsTrue (is_multiple_frame (link_here service tei s).state)) (e : Event) where
     abbrev c : Config
     c = s.card.config
 
@@ -166,14 +166,14 @@ module _ (service : Service) (tei : ℕ) where
         → dn ++ data_noted service tei t ≡ ds → facing (happens e s) (dn ++ data_noted service tei t) ≡ record (facing s dn) { link = x; way = way; delivered = ds }
     same-end dn x way ds a b d = λ i. record { terms = terms c service tei; link = a i; way = b i; delivered = d i }
 
-    abbrev Still : List (List ℕ) → End → Type 0
+    abbrev Still : List (List ℕ) → LinkEndpoint → Type 0
     Still dn m = Joined (facing (happens e s) (dn ++ data_noted service tei t)) m
 
     abbrev Granted : Type 0
     Granted = (link_here service tei (happens e s)).contents ≡ k.contents ++ data_granted service tei t
 
     -- it leaves the link
-    pub leaves-still : (dn : List (List ℕ)) (m : End) → LeavesIt c service tei k (link_here service tei (happens e s)) e (answered e s) → Joined (facing s dn) m → Still dn m
+    pub leaves-still : (dn : List (List ℕ)) (m : LinkEndpoint) → LeavesIt c service tei k (link_here service tei (happens e s)) e (answered e s) → Joined (facing s dn) m → Still dn m
     leaves-still dn m x h = grind (arith, same-end, way-then, append-nil)
 
     pub leaves-granted : LeavesIt c service tei k (link_here service tei (happens e s)) e (answered e s) → Granted
@@ -188,7 +188,7 @@ module _ (service : Service) (tei : ℕ) where
       up-then = subst (λ (y : Link). IsTrue (is_multiple_frame y.state)) x.is x.up
 
       -- that gives no frame
-      pub linked : (dn : List (List ℕ)) (m : End) (ev : LinkEvent) → x.event ≡ ev → frames_given c Own ev k ≡ [] → Joined (with_link ev (facing s dn)) m → Still dn m
+      pub linked : (dn : List (List ℕ)) (m : LinkEndpoint) (ev : LinkEvent) → x.event ≡ ev → frames_given c Own ev k ≡ [] → Joined (with_link ev (facing s dn)) m → Still dn m
       linked dn m ev is none h = grind (arith, same-end, option_to_list, way-then, frames_given, append-nil)
 
       pub granted-by : (ev : LinkEvent) → x.event ≡ ev → (after Own ev k).contents ≡ k.contents ++ accepted Own ev k → Granted
@@ -197,7 +197,7 @@ module _ (service : Service) (tei : ℕ) where
       pub up-by : (ev : LinkEvent) → x.event ≡ ev → IsTrue (is_multiple_frame (after Own ev k).state)
       up-by ev is = subst (λ ev. IsTrue (is_multiple_frame (after Own ev k).state)) is up-then
 
-      pub expired-still : (dn : List (List ℕ)) (m : End) → Joined (facing s dn) m → (timer : LinkTimer) → x.event ≡ expired timer → Still dn m × Granted
+      pub expired-still : (dn : List (List ℕ)) (m : LinkEndpoint) → Joined (facing s dn) m → (timer : LinkTimer) → x.event ≡ expired timer → Still dn m × Granted
       expired-still dn m h timer is =
           let ev = expired timer in
           let up' = up-by ev is in (
@@ -205,15 +205,15 @@ module _ (service : Service) (tei : ℕ) where
             granted-by ev is ((timer-same Own k up timer up').0 ∙ sym (append-nil k.contents)),
           )
 
-      pub asked-still : (dn : List (List ℕ)) (m : End) → Joined (facing s dn) m → (asked : LinkRequest) (full : Bool) → x.event ≡ requested asked full → Still dn m × Granted
+      pub asked-still : (dn : List (List ℕ)) (m : LinkEndpoint) → Joined (facing s dn) m → (asked : LinkRequest) (full : Bool) → x.event ≡ requested asked full → Still dn m × Granted
       asked-still dn m h asked full is =
           let ev = requested asked full in
           let up' = up-by ev is in (
-            linked dn m ev is refl (done-at (two.at_near (two.asks asked full)) (record { near = facing s dn; far = m }) (up', h.far_up) h),
+            linked dn m ev is refl (done-at (two.at_near (two.requests asked full)) (record { near = facing s dn; far = m }) (up', h.far_up) h),
             granted-by ev is (request-grows Own k up asked full up').0,
           )
 
-      pub offer-still : (dn : List (List ℕ)) (m : End) → Joined (facing s dn) m → x.event ≡ offer → Still dn m × Granted
+      pub offer-still : (dn : List (List ℕ)) (m : LinkEndpoint) → Joined (facing s dn) m → x.event ≡ offer → Still dn m × Granted
       offer-still dn m h is =
           let ev = offer in
           let given = link_given Own k in

@@ -1,11 +1,11 @@
 -- The premises of the law are met by the worked run.
-use Rattle.laws_order.proofs.Vocabulary.{◌≡◌, ℕ, ◌<◌, true, List, [], ◌∷◌, ◌++◌, refl, sym, ap, ◌∙◌, arith, All, list_any, leb-true, All-nil, All-cons, User, Network, Service, Call, Packet, other_side, reading, header_of, control_of, unnumbered_of, supervisory_of, distance_of, named, seq, Assign, request, IsFront, calling, Wire, requests, at, acts, IsElsewhere, Happening, by_near, by_far, IsPossible, happening_all, seen_near, seen_far, t200s, IsToldAtLast, IsNotDeactivated, data_noted, data_granted, ends_by, known, IsInStep, FaceInStep, kept_by, StaysEstablished, IsToldOfRelease, news, tei_refusal, tei_course}
+use Rattle.laws_order.proofs.Vocabulary.{◌≡◌, ℕ, ◌<◌, true, List, [], ◌∷◌, ◌++◌, refl, sym, ap, ◌∙◌, arith, All, list_any, leb-true, All-nil, All-cons, User, Network, Service, Call, Packet, other_side, reading, header_of, control_of, unnumbered_of, supervisory_of, distance_of, named, seq, Assign, request, IsFront, calling, Wire, requests, at, step, IsElsewhere, AnyStepAt, by_near, by_far, IsPossible, happening_all, seen_near, seen_far, t200s, IsToldAtLast, IsNotDeactivated, data_noted, data_granted, ends_by, known, IsInStep, FaceInStep, kept_by, StaysEstablished, IsToldOfRelease, news, tei_refusal, tei_course}
 use Rattle.laws_wire.specs.Wire.{acting, at_far, doing, doing_all}
 use Rattle.model_line.specs.Machine as lines
 use Rattle.model_line.specs.Request.{SetBusy}
 use Rattle.laws_order.specs.Worked.{network, user, faces, calls_both, others_speak, both_send, is_busy, goes_again, busy_run, call_far as far_stays, owes, sends_one, sends_more, more_far_stays, busy_waits, clears, cleared_stays, enquires, asks_state, recovers, recovered_stays, early, loses_first, early_stays}
 use Rattle.laws_order.specs.WorkedRelease.{releases, released, takes_two, far_lasts, awaits, both_release, both_begin_nothing}
-use Rattle.laws_order.specs.WorkedInTheEnd.{repeats_three, gives_up, four_expire, gives_up_quietly, comes, comes_quietly, comes_there, comes_confirmed}
+use Rattle.laws_order.specs.WorkedInTheEnd.{repeats_three, gives_up, four_expire, gives_up_quietly, goes_on_to_the_end, comes_quietly, comes_there, comes_confirmed}
 use Rattle.laws_order.proofs.InTheEnd.{releases-are-told, both-are-told}
 use Rattle.laws_order.proofs.Ordered.{delivered-in-order}
 use Rattle.laws_order.proofs.Beginning.{Pasts, past-acted, past-done, past-all, past-calling, link_known, step-known}
@@ -18,7 +18,7 @@ pasts : Pasts faces
 pasts = past-all calls_both (calling Call 0 user 0 network 0) called
 
 -- What the law says of the far end of a wire, where it is computed that both are in step.
-abbrev FarInOrder : (w : Wire) → Pasts w → List Happening → Type 0
+abbrev FarInOrder : (w : Wire) → Pasts w → List AnyStepAt → Type 0
 FarInOrder w h hs = IsFront (data_noted Call 0 (seen_far hs w)) (kept_by (known Call 0 w.near h.near) (known Call 0 w.far h.far) ++ data_granted Call 0 (seen_near hs w))
 
 -- What of two ends in step computes.
@@ -31,7 +31,7 @@ record Looks (service : Service) (w : Wire) : Type 0 where
 looks-so : (service : Service) (w : Wire) (h : Pasts w) → Looks service w → FaceInStep service 0 w (known service 0 w.near h.near) (known service 0 w.far h.far)
 looks-so service w h x = step-known service 0 w h.near h.far (x.near, x.far, x.far_side ∙ sym (ap other_side x.near_side))
 
-told-in-order : (w : Wire) (h : Pasts w) (hs : List Happening) → Looks Call w → All (IsPossible Call 0 w) hs → StaysEstablished Call 0 (seen_far hs w) → FarInOrder w h hs
+told-in-order : (w : Wire) (h : Pasts w) (hs : List AnyStepAt) → Looks Call w → All (IsPossible Call 0 w) hs → StaysEstablished Call 0 (seen_far hs w) → FarInOrder w h hs
 told-in-order w h hs x all stays = (delivered-in-order Call 0 w h.near h.far hs (looks-so Call w h x) all).1 stays
 
 call-looks : Looks Call faces
@@ -45,14 +45,14 @@ packet-looks = grind (arith, leb-true)
 packet-in-step : FaceInStep Packet 0 faces (known Packet 0 faces.near pasts.near) (known Packet 0 faces.far pasts.far)
 packet-in-step = looks-so Packet faces pasts packet-looks
 
-abbrev IsOpen : Wire → Happening → Type 0
+abbrev IsOpen : Wire → AnyStepAt → Type 0
 IsOpen w h = IsPossible Call 0 w h
 
-abbrev ArePossible : Wire → List Happening → Type 0
+abbrev ArePossible : Wire → List AnyStepAt → Type 0
 ArePossible w [] = Unit {0}
 ArePossible w (h ∷ hs) = IsOpen w h × ArePossible w hs
 
-all-of : (w : Wire) (hs : List Happening) → ArePossible w hs → All (IsOpen w) hs
+all-of : (w : Wire) (hs : List AnyStepAt) → ArePossible w hs → All (IsOpen w) hs
 all-of w [] h = All-nil (IsOpen w)
 all-of w (x ∷ hs) h = All-cons (IsOpen w) x hs h.0 (all-of w hs h.1)
 
@@ -64,7 +64,7 @@ others-are : ArePossible faces others_speak
 unfolding lines.after lines.answer lines.takes_slot reading header_of control_of unnumbered_of supervisory_of tei_course tei_refusal seq distance_of named doing_all
 others-are = (refl, (refl, (refl, tt)))
 
-both : (w : Wire) (hs ks : List Happening) → ArePossible w hs → ArePossible w ks → ArePossible w (hs ++ ks)
+both : (w : Wire) (hs ks : List AnyStepAt) → ArePossible w hs → ArePossible w ks → ArePossible w (hs ++ ks)
 both w [] ks h k = k
 both w (x ∷ hs) ks h k = (h.0, both w hs ks h.1 k)
 
@@ -79,23 +79,23 @@ call-in-order : FarInOrder faces pasts busy_run
 call-in-order = told-in-order faces pasts busy_run call-looks possible far_stays
 
 -- Runs in which only frames, timers and requests come.
-abbrev OnlyActs : List Happening → Type 0
+abbrev OnlyActs : List AnyStepAt → Type 0
 OnlyActs [] = Unit {0}
-OnlyActs (by_near (acts act) ∷ hs) = OnlyActs hs
-OnlyActs (by_far (acts act) ∷ hs) = OnlyActs hs
+OnlyActs (by_near (step act) ∷ hs) = OnlyActs hs
+OnlyActs (by_far (step act) ∷ hs) = OnlyActs hs
 OnlyActs (h ∷ hs) = ⊥
 
-all-happened : (hs : List Happening) → OnlyActs hs → (w : Wire) → Pasts w → Pasts (happening_all hs w)
+all-happened : (hs : List AnyStepAt) → OnlyActs hs → (w : Wire) → Pasts w → Pasts (happening_all hs w)
 unfolding happening_all
 all-happened [] only w h = h
-all-happened (by_near (acts act) ∷ hs) only w h = all-happened hs only (acting act w) (past-acted act w h)
-all-happened (by_far (acts act) ∷ hs) only w h = all-happened hs only (doing (at_far act) w) (past-done (at_far act) w h)
+all-happened (by_near (step act) ∷ hs) only w h = all-happened hs only (acting act w) (past-acted act w h)
+all-happened (by_far (step act) ∷ hs) only w h = all-happened hs only (doing (at_far act) w) (past-done (at_far act) w h)
 all-happened other only w h = absurd only
 
-acts-possible : (w : Wire) (hs : List Happening) → OnlyActs hs → All (IsOpen w) hs
+acts-possible : (w : Wire) (hs : List AnyStepAt) → OnlyActs hs → All (IsOpen w) hs
 acts-possible w [] only = All-nil (IsOpen w)
-acts-possible w (by_near (acts act) ∷ hs) only = All-cons (IsOpen w) (by_near (acts act)) hs tt (acts-possible w hs only)
-acts-possible w (by_far (acts act) ∷ hs) only = All-cons (IsOpen w) (by_far (acts act)) hs tt (acts-possible w hs only)
+acts-possible w (by_near (step act) ∷ hs) only = All-cons (IsOpen w) (by_near (step act)) hs tt (acts-possible w hs only)
+acts-possible w (by_far (step act) ∷ hs) only = All-cons (IsOpen w) (by_far (step act)) hs tt (acts-possible w hs only)
 acts-possible w other only = absurd only
 
 -- and in the midst of data: where something is received that is not acknowledged, and the N(R) on the other way is from before
@@ -107,8 +107,8 @@ more-in-order : FarInOrder owes (all-happened sends_one tt faces pasts) sends_mo
 more-in-order = told-in-order owes (all-happened sends_one tt faces pasts) sends_more owing-looks (acts-possible owes sends_more tt) more_far_stays
 
 -- and where an RNR waits
-abbrev own_busy : List Happening
-own_busy = by_far (acts (requests (SetBusy Call 0))) ∷ []
+abbrev own_busy : List AnyStepAt
+own_busy = by_far (step (requests (SetBusy Call 0))) ∷ []
 
 busy-looks : Looks Call busy_waits
 unfolding lines.after lines.answer lines.takes_slot reading header_of control_of unnumbered_of supervisory_of tei_course tei_refusal seq distance_of named doing_all happening_all
@@ -152,11 +152,11 @@ told-at-last =
     let many : released.near.card.config.n200 < t200s Call 0 gives_up released = omega (arith, repeats_three, four_expire) in
     releases-are-told Call 0 released gives_up (all-happened releases tt faces pasts).near awaits (acts-possible released gives_up tt) gives_up_quietly many
 
-abbrev AreActive : List Happening → Type 0
+abbrev AreActive : List AnyStepAt → Type 0
 AreActive [] = Unit {0}
 AreActive (h ∷ hs) = IsNotDeactivated Call 0 h × AreActive hs
 
-all-active : (hs : List Happening) → AreActive hs → All (IsNotDeactivated Call 0) hs
+all-active : (hs : List AnyStepAt) → AreActive hs → All (IsNotDeactivated Call 0) hs
 all-active [] h = All-nil (IsNotDeactivated Call 0)
 all-active (x ∷ hs) h = All-cons (IsNotDeactivated Call 0) x hs h.0 (all-active hs h.1)
 
@@ -164,7 +164,7 @@ first-lasts : StaysEstablished Call 0 (seen_far releases faces)
 unfolding lines.after lines.answer lines.takes_slot reading header_of control_of unnumbered_of supervisory_of tei_course tei_refusal seq distance_of named doing_all happening_all seen_far
 first-lasts = refl
 
-both-told : list_any (ends_by Call 0) (seen_far comes released) ≡ true
+both-told : list_any (ends_by Call 0) (seen_far goes_on_to_the_end released) ≡ true
 both-told =
-    both-are-told Call 0 faces pasts.near pasts.far releases comes (looks-so Call faces pasts call-looks) (acts-possible faces releases tt) first-lasts awaits (acts-possible released comes tt)
-    (comes_there, all-active comes (tt, (tt, (tt, (tt, (tt, (tt, (tt, tt)))))))) comes_quietly comes_confirmed
+    both-are-told Call 0 faces pasts.near pasts.far releases goes_on_to_the_end (looks-so Call faces pasts call-looks) (acts-possible faces releases tt) first-lasts awaits (acts-possible released goes_on_to_the_end tt)
+    (comes_there, all-active goes_on_to_the_end (tt, (tt, (tt, (tt, (tt, (tt, (tt, tt)))))))) comes_quietly comes_confirmed

@@ -1,5 +1,5 @@
 -- An end that releases its link counts in RC the expiries of T200, until it is told.
-use Rattle.laws_order.proofs.Vocabulary.{◌≡◌, ℕ, ◌+◌, ◌≤◌, Bool, true, false, cond, List, [], ◌∷◌, ◌++◌, get_or, set, Option, Some, None, refl, sym, ap, ◌∙◌, subst, arith, ◌⊎◌, inl, inr, All, filter, length, nat_lt, ltb-true, get_or-set_same, All-head, Note, Service, TeiAssigned, AwaitingRelease, Terms, LinkTimer, T200, Link, Config, Line, fresh_line, link_of, place_in, terms, line_at, wants_room, has_lines, by_room, event-follows, timed-after, Seen, none-ticks, own-is, Goes, event-goes, expired_of, off-fresh, nothing_yet, Station, Wire, happens, fresh, Event, at, line_of, Happening, IsPossible, happening, seen_at_near, seen_near, is_t200, t200_by, t200s, news, LinkEvent, expired, after, flat_map-append, news_in}
+use Rattle.laws_order.proofs.Vocabulary.{◌≡◌, ℕ, ◌+◌, ◌≤◌, Bool, true, false, cond, List, [], ◌∷◌, ◌++◌, get_or, set, Option, Some, None, refl, sym, ap, ◌∙◌, subst, arith, ◌⊎◌, inl, inr, All, filter, length, nat_lt, ltb-true, get_or-set_same, All-head, Note, Service, TeiAssigned, AwaitingRelease, Terms, LinkTimer, T200, Link, Config, Line, fresh_line, link_of, place_in, terms, line_at, wants_room, has_lines, by_room, event-follows, timed-after, Seen, none-ticks, own-is, Goes, event-goes, expired_of, off-fresh, nothing_yet, Endpoint, Wire, happens, fresh, Event, at, line_of, AnyStepAt, IsPossible, happening, seen_at_near, seen_near, is_t200, t200_by, t200s, news, LinkEvent, expired, after, flat_map-append, news_in}
 use Rattle.model_line.specs.Machine as lines
 use Rattle.model_line.specs.Sound as line_sound
 use Rattle.model_card.proofs.Steps.{line_sound as sound_line}
@@ -59,7 +59,7 @@ module _ (service : Service) (tei : ℕ) where
         go (inr (inr x)) = not-fresh k' stays x.is (Counted Own k k' (count_of e))
 
   -- At a station.
-  module _ (s : Station) (well : IsWell s) (e : Event) where
+  module _ (s : Endpoint) (well : IsWell s) (e : Event) where
     abbrev conf : Config
     conf = s.card.config
 
@@ -99,8 +99,8 @@ module _ (service : Service) (tei : ℕ) where
   step-counts w w' t es well is runs-on (one_there e it shown one) stays = (
     subst (λ es. Counted (Own_ w) (Here w) (Here w') (length (filter (is_t200 service tei) es))) (sym one)
         (subst (λ s. Counted (Own_ w) (Here w) (link_here service tei s) (count_of e)) (sym it)
-        (station-counts w.near well e is runs-on (sym (ap (λ (s : Station). (link_here service tei s).state) it) ∙ stays))),
-    ap (λ (s : Station). s.card.config) it,
+        (station-counts w.near well e is runs-on (sym (ap (λ (s : Endpoint). (link_here service tei s).state) it) ∙ stays))),
+    ap (λ (s : Endpoint). s.card.config) it,
   )
 
   abbrev pub Bounded : ℕ → ℕ → ℕ → Type 0
@@ -109,13 +109,13 @@ module _ (service : Service) (tei : ℕ) where
   add : (n m r r' most most' : ℕ) → r' ≡ n + r → most' ≡ most → Bounded n r most → Bounded m r' most' → Bounded (n + m) r most
   add n m r r' most most' e same o x = grind arith
 
-  abbrev IsOpen : Wire → Happening → Type 0
+  abbrev IsOpen : Wire → AnyStepAt → Type 0
   IsOpen w h = IsPossible service tei w h
 
   untold : (ns ms : List Note) (n : Note) → ns ≡ n ∷ ms → (rest : List Note) → ns ++ rest ≡ [] → ⊥
   untold ns ms n e rest h = let wrong : n ∷ (ms ++ rest) ≡ [] = ap (λ xs. xs ++ rest) (sym e) ∙ h in cc wrong
 
-  pub run-counts : (hs : List Happening) (w : Wire) → IsWell w.near → (Here w).state ≡ AwaitingRelease → (Here w).running ≡ Some T200 → All (IsOpen w) hs
+  pub run-counts : (hs : List AnyStepAt) (w : Wire) → IsWell w.near → (Here w).state ≡ AwaitingRelease → (Here w).running ≡ Some T200 → All (IsOpen w) hs
       → news service tei (seen_near hs w) ≡ [] → Bounded (t200s service tei hs w) (Here w).repeats (Own_ w).n200
   unfolding seen_near t200s
   run-counts [] w well is runs-on all none = inl refl

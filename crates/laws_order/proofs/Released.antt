@@ -1,5 +1,5 @@
 -- What an end is told of its link in state 6, and in state 4, whatever happens at it and at the other end.
-use Rattle.laws_order.proofs.Vocabulary.{arith, ◌≡◌, ℕ, List, [], ◌∷◌, ◌++◌, refl, sym, ap, ◌∙◌, subst, append-nil, ◌⊎◌, inl, inr, All, list_any, All-head, All-tail, list_any-append, Note, Service, TeiAssigned, AwaitingRelease, Link, came, hears, expiry, request, next, after_is_sound, Seen, seen, Station, Wire, requests, times_out, gives, takes, loses, answered, happens, turned, flat_map-append, Event, line_of, Deed, acts, disturbed, elsewhere, befalling, Happening, by_near, by_far, IsPossible, happening, IsPossibleAt, events_here, seen_by, seen_at_near, seen_near, data_noted, news, begins_by, BeginsNothing, IsToldOfRelease, ReleasesEnd, ReleasedIsOver, or_parts, at}
+use Rattle.laws_order.proofs.Vocabulary.{arith, ◌≡◌, ℕ, List, [], ◌∷◌, ◌++◌, refl, sym, ap, ◌∙◌, subst, append-nil, ◌⊎◌, inl, inr, All, list_any, All-head, All-tail, list_any-append, Note, Service, TeiAssigned, AwaitingRelease, Link, came, hears, expiry, request, next, after_is_sound, Seen, seen, Endpoint, Wire, requests, expires, sends, receives, loses, answered, happens, turned, flat_map-append, Event, line_of, AnyStep, step, disturbed, elsewhere, befalling, AnyStepAt, by_near, by_far, IsPossible, happening, IsPossibleAt, events_here, seen_by, seen_at_near, seen_near, data_noted, news, begins_by, BeginsNothing, IsToldOfRelease, ReleasesEnd, ReleasedIsOver, or_parts, at}
 use Rattle.laws_order.proofs.Beginning.{past-well, six-here, four-here}
 use Rattle.laws_order.proofs.Leading.{other-line}
 use Rattle.laws_order.proofs.Ordered.{noted-append, near-place, far-place, all-possible}
@@ -18,22 +18,22 @@ module _ (service : Service) (tei : ℕ) where
   one-event : (w w' : Wire) (e : Event) → w'.near ≡ happens e w.near → Occurs w w' (seen e (answered e w.near) ++ []) (e ∷ [])
   one-event w w' e is = one_there e is (append-nil (seen e (answered e w.near))) refl
 
-  takes-occurs : (near far : Station) (way : List (List ℕ)) → let w : Wire = record { near = near; far = record far { way = way } } in
-      IsWell near → Occurs w (befalling (acts takes) w) (seen_by (acts takes) w) (events_here (acts takes) w)
+  takes-occurs : (near far : Endpoint) (way : List (List ℕ)) → let w : Wire = record { near = near; far = record far { way = way } } in
+      IsWell near → Occurs w (befalling (step receives) w) (seen_by (step receives) w) (events_here (step receives) w)
   takes-occurs near far [] well = nothing_there (well, refl, refl) refl refl
   takes-occurs near far (octets ∷ rest) well = one-event _ _ (hears (came near.card.config.n201 octets)) refl
 
-  near-occurs : (deed : Deed) (w : Wire) → IsWell w.near → IsPossibleAt service tei w.near deed → Occurs w (befalling deed w) (seen_by deed w) (events_here deed w)
-  near-occurs (acts (requests r)) w well is = one-event _ _ (request r) refl
-  near-occurs (acts (times_out timer)) w well is = one-event _ _ (expiry timer) refl
-  near-occurs (acts gives) w well is = one-event _ _ next refl
-  near-occurs (acts takes) w well is = takes-occurs w.near w.far w.far.way well
-  near-occurs (acts loses) w well is = nothing_there (record { sound = well.sound; within = well.within }, refl, refl) refl refl
+  near-occurs : (deed : AnyStep) (w : Wire) → IsWell w.near → IsPossibleAt service tei w.near deed → Occurs w (befalling deed w) (seen_by deed w) (events_here deed w)
+  near-occurs (step (requests r)) w well is = one-event _ _ (request r) refl
+  near-occurs (step (expires timer)) w well is = one-event _ _ (expiry timer) refl
+  near-occurs (step sends) w well is = one-event _ _ next refl
+  near-occurs (step receives) w well is = takes-occurs w.near w.far w.far.way well
+  near-occurs (step loses) w well is = nothing_there (record { sound = well.sound; within = well.within }, refl, refl) refl refl
   near-occurs (disturbed what) w well is = one-event _ _ (hears what) refl
   near-occurs (elsewhere e) w well is = grind (arith, after_is_sound, other-line)
 
-  far-occurs : (deed : Deed) (w : Wire) → IsWell w.far → Occurs (turned w) (turned (befalling deed w)) [] []
-  far-occurs (acts (requests r)) w well = nothing_there (well, refl, refl) refl refl
+  far-occurs : (deed : AnyStep) (w : Wire) → IsWell w.far → Occurs (turned w) (turned (befalling deed w)) [] []
+  far-occurs (step (requests r)) w well = nothing_there (well, refl, refl) refl refl
   far-occurs deed w well = grind arith
 
   pub then-well : (w w' : Wire) (t : List Seen) (es : List Event) → IsWell w.near → Occurs w w' t es → IsWell w'.near
@@ -55,7 +55,7 @@ module _ (service : Service) (tei : ℕ) where
   step-four w w' t es well is quiet (nothing_there same none nil) = (ap (λ (y : Link). y.state) same.1 ∙ is, ((ap (news service tei) none, ap (data_noted service tei) none)))
   step-four w w' t es well is quiet (one_there e it shown one) =
       let x = station-four service tei w.near well e (subst (BeginsNothing service tei) shown quiet) is in
-      (ap (λ (s : Station). (link_here service tei s).state) it ∙ x.0, ((ap (news service tei) shown ∙ x.1.0, ap (data_noted service tei) shown ∙ x.1.1)))
+      (ap (λ (s : Endpoint). (link_here service tei s).state) it ∙ x.0, ((ap (news service tei) shown ∙ x.1.0, ap (data_noted service tei) shown ∙ x.1.1)))
 
   -- where a release is confirmed, one of its events may confirm it
   abbrev pub MayConfirm : Wire → Wire → List Event → Type 0
@@ -79,23 +79,23 @@ module _ (service : Service) (tei : ℕ) where
       go : SixAt service tei w.near well e (line_of (happens e w.near)) (answered e w.near) → StepSix w w' t es
       go o = grind (arith, link_here, Confirm, none-of, GivenUp)
 
-  abbrev IsOpen : Wire → Happening → Type 0
+  abbrev IsOpen : Wire → AnyStepAt → Type 0
   IsOpen w h = IsPossible service tei w h
 
-  abbrev pub events_at : Happening → Wire → List Event
+  abbrev pub events_at : AnyStepAt → Wire → List Event
   events_at (by_near deed) w = events_here deed w
   events_at (by_far deed) w = []
 
-  pub occurs : (h : Happening) (w : Wire) → IsWell w.near → IsOpen w h → Occurs w (happening h w) (seen_at_near h w) (events_at h w)
+  pub occurs : (h : AnyStepAt) (w : Wire) → IsWell w.near → IsOpen w h → Occurs w (happening h w) (seen_at_near h w) (events_at h w)
   occurs (by_near deed) w well is = near-occurs deed w well is
   occurs (by_far deed) w well is = far-occurs deed (turned w) well
 
-  pub later : (h : Happening) (hs : List Happening) (w : Wire) → All (IsOpen w) (h ∷ hs) → All (IsOpen (happening h w)) hs
+  pub later : (h : AnyStepAt) (hs : List AnyStepAt) (w : Wire) → All (IsOpen w) (h ∷ hs) → All (IsOpen (happening h w)) hs
   later (by_near deed) hs w all = all-possible service tei w (befalling deed w) (near-place deed w) (far-place deed w) hs (All-tail (IsOpen w) (by_near deed) hs all)
   later (by_far deed) hs w all =
       all-possible service tei w (turned (befalling deed (turned w))) (far-place deed (turned w)) (near-place deed (turned w)) hs (All-tail (IsOpen w) (by_far deed) hs all)
 
-  pub run-four : (hs : List Happening) (w : Wire) → IsWell w.near → (link_here service tei w.near).state ≡ TeiAssigned → All (IsOpen w) hs
+  pub run-four : (hs : List AnyStepAt) (w : Wire) → IsWell w.near → (link_here service tei w.near).state ≡ TeiAssigned → All (IsOpen w) hs
       → BeginsNothing service tei (seen_near hs w) → Is (seen_near hs w) []
   unfolding seen_near
   run-four [] w well is all quiet = (refl, refl)
@@ -115,7 +115,7 @@ module _ (service : Service) (tei : ℕ) where
   given-up-so : (t : List Seen) → Is t (GivenUp service tei) → Released t
   given-up-so t x = (inr (inr x.0), x.1)
 
-  run-six : (hs : List Happening) (w : Wire) → IsWell w.near → (link_here service tei w.near).state ≡ AwaitingRelease → All (IsOpen w) hs
+  run-six : (hs : List AnyStepAt) (w : Wire) → IsWell w.near → (link_here service tei w.near).state ≡ AwaitingRelease → All (IsOpen w) hs
       → BeginsNothing service tei (seen_near hs w) → Released (seen_near hs w)
   unfolding seen_near
   run-six [] w well is all quiet = not-yet [] (refl, refl)

@@ -1,5 +1,5 @@
 -- What one event at an end tells of its link in state 6, and in state 4.
-use Rattle.laws_order.proofs.Vocabulary.{◌≡◌, ℕ, Bool, true, false, cond, List, [], ◌∷◌, get_or, set, Option, Some, None, refl, sym, ap, ◌∙◌, subst, arith, append-nil, true≢false, ◌⊎◌, inl, inr, filter, option_to_list, list_any, get_or-set_same, Control, H, Note, Refusal, PoolFull, Service, TeiAssigned, AwaitingRelease, Terms, Link, state_number, Config, Answer, refused, Line, fresh_line, has_tei, link_of, place_in, terms, line_at, has_lines, by_room, notes_of, contents_in, deactivates, IsBy, is-off, seen, is_ui, unless, no-data, on-line, own-is, leaving-due, none-filtered, others-silent, due, HasOne, HasNone, IsGivenUp, event-goes, off-fresh, Station, answered, happens, fresh, at, line_of, data_noted, is_news, news, begins_by_note, begins_by, BeginsNothing, link_frame, received, LinkEvent, cleared, after, told, NoteError, NoteReleaseConfirm, or-true}
+use Rattle.laws_order.proofs.Vocabulary.{◌≡◌, ℕ, Bool, true, false, cond, List, [], ◌∷◌, get_or, set, Option, Some, None, refl, sym, ap, ◌∙◌, subst, arith, append-nil, true≢false, ◌⊎◌, inl, inr, filter, option_to_list, list_any, get_or-set_same, Control, H, Note, Refusal, PoolFull, Service, TeiAssigned, AwaitingRelease, Terms, Link, state_number, Config, Answer, refused, Line, fresh_line, has_tei, link_of, place_in, terms, line_at, has_lines, by_room, notes_of, contents_in, deactivates, IsBy, is-off, seen, is_ui, unless, no-data, on-line, own-is, leaving-due, none-filtered, others-silent, due, HasOne, HasNone, IsGivenUp, event-goes, off-fresh, Endpoint, answered, happens, fresh, at, line_of, data_noted, is_news, news, begins_by_note, begins_by, BeginsNothing, link_frame, received, LinkEvent, cleared, after, told, NoteError, NoteReleaseConfirm, or-true}
 use Rattle.model_line.specs.Event.{Event}
 use Rattle.model_line.specs.Machine as lines
 use Rattle.model_line.specs.Sound as line_sound
@@ -183,7 +183,7 @@ module _ (service : Service) (tei : ℕ) where
     line-four quiet is = elim (event-goes c e l service tei s) [ inl x ↦ none-four x is | inr (inl x) ↦ one-four x quiet is | inr (inr x) ↦ ended-four x quiet is ]
 
   -- At a station.
-  module _ (s : Station) (well : IsWell s) (e : Event) where
+  module _ (s : Endpoint) (well : IsWell s) (e : Event) where
     abbrev conf : Config
     conf = s.card.config
 

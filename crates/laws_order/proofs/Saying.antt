@@ -1,6 +1,6 @@
 -- The line from a station: the frames of the link that are on their way, and then those that wait; and what an event adds to it, in any
 -- state of the link.
-use Rattle.laws_order.proofs.Vocabulary.{◌≡◌, ℕ, ◌==◌, ◌&&◌, not, Bool, true, false, cond, IsTrue, List, [], ◌∷◌, ◌++◌, get_or, set, refl, sym, ap, ◌∙◌, subst, arith, append-nil, append_assoc, eq-eqb, ◌⊎◌, inl, inr, All, option_map_or, get_or-set_same, All-nil, All-cons, Seq, Control, Information, Service, Parts, sapi_of, place_of-is, Terms, Link, is_multiple_frame, frame_given, frames_of, frames-append, given_is_frame, Config, hears, Answer, heard_side, Line, fresh_line, link_in, link_of, terms, sound_in, terms_in_range, line_at, has_lines, by_room, event-follows, IsBy, sapi-is, is_for, is_ui, frames_given, Goes, event-goes, Station, answered, happens, frames_by, flat_map-append, fresh, Event, at, is_of_link, of_link_in, of_link_at, of_link_on, stream_frame, link_frame, LinkEvent, cleared, offer, received, after, link_given}
+use Rattle.laws_order.proofs.Vocabulary.{◌≡◌, ℕ, ◌==◌, ◌&&◌, not, Bool, true, false, cond, IsTrue, List, [], ◌∷◌, ◌++◌, get_or, set, refl, sym, ap, ◌∙◌, subst, arith, append-nil, append_assoc, eq-eqb, ◌⊎◌, inl, inr, All, option_map_or, get_or-set_same, All-nil, All-cons, Seq, Control, Information, Service, Parts, sapi_of, place_of-is, Terms, Link, is_multiple_frame, frame_given, frames_of, frames-append, given_is_frame, Config, hears, Answer, heard_side, Line, fresh_line, link_in, link_of, terms, sound_in, terms_in_range, line_at, has_lines, by_room, event-follows, IsBy, sapi-is, is_for, is_ui, frames_given, Goes, event-goes, Endpoint, answered, happens, frames_by, flat_map-append, fresh, Event, at, is_of_link, of_link_in, of_link_at, of_link_on, stream_frame, link_frame, LinkEvent, cleared, offer, received, after, link_given}
 use Rattle.model_link.specs.Sound as link_sound
 use Rattle.model_line.specs.Machine as lines
 use Rattle.model_line.specs.Sound as line_sound
@@ -136,11 +136,11 @@ module _ (c : Config) (service : Service) (tei : ℕ) where
           go (inr (inr x)) = inr (grind (arith, frames_of, append-nil))
 
 module _ (service : Service) (tei : ℕ) where
-  abbrev pub on_line : Station → List Parts
+  abbrev pub on_line : Endpoint → List Parts
   on_line s = way_here service tei s ++ frames_of (terms s.card.config service tei) (link_here service tei s).waiting
 
   -- An event at a station.
-  module _ (s : Station) (well : IsWell s) (e : Event) where
+  module _ (s : Endpoint) (well : IsWell s) (e : Event) where
     abbrev c : Config
     c = s.card.config
 

@@ -1,6 +1,6 @@
 -- The words of std, of the crates below and of the statements of this crate with which its proofs speak: those of `laws_wire` from its own
 -- vocabulary, the others from where they are defined.
-pub use Rattle.laws_wire.proofs.Vocabulary.{All-append, All-cons, All-head, All-nil, All-tail, Assign, AwaitingEstablishment, AwaitingRelease, Call, Card, Config, Control, ControlFrame, Course, Data, End, ErrorCode, Establish, Given, Joined, LinkTimer, Note, Packet, Parts, PoolFull, Refusal, Request, Seq, Service, State, T200, TeiAssigned, Terms, TimerRecovery, and_parts, at-first, begun, came, done-at, event-delivers, event-follows, flat_map-append, frame_given, given_is_frame, heard_side, is_granted, joined-turned, le-ltb, leb-true, line_at, link-grants, list_any, list_any-append, ltb-false, ltb-true, network, next_of, offer-gave, option_map_or, or_parts, other_side, place_of-is, reading-again, sapi_of, sound_in, taken, terms_in_range, user, with_link, with_sent}
+pub use Rattle.laws_wire.proofs.Vocabulary.{All-append, All-cons, All-head, All-nil, All-tail, Assign, AwaitingEstablishment, AwaitingRelease, Call, Card, Config, Control, ControlFrame, Course, Data, LinkEndpoint, ErrorCode, Establish, Given, Joined, LinkTimer, Note, Packet, Parts, PoolFull, Refusal, Request, Seq, Service, State, T200, TeiAssigned, Terms, TimerRecovery, and_parts, at-first, begun, came, done-at, event-delivers, event-follows, flat_map-append, frame_given, given_is_frame, heard_side, is_granted, joined-turned, le-ltb, leb-true, line_at, link-grants, list_any, list_any-append, ltb-false, ltb-true, network, next_of, offer-gave, option_map_or, or_parts, other_side, place_of-is, reading-again, sapi_of, sound_in, taken, terms_in_range, user, with_link, with_sent}
 unfoldable pub use Rattle.laws_wire.proofs.Vocabulary.{control_of, distance_of, header_of, named, reading, seq, supervisory_of, tei_course, tei_refusal, unnumbered_of}
 pub use Rattle.std.proofs.Common.{Bool, Err, IfSome, IsTrue, List, None, Ok, Option, Result, Some, [], ap, append-nil, append_assoc, arith, cond, drop, eq-eqb, eqb-true, false, get_or, inl, inr, is_some, length, length-append, length-drop, map, nat_lt, not, option_and_then, option_map, option_to_list, refl, reverse, set, subst, suc, sym, take, true, true≢false, zero, ℕ, ◌%◌, ◌&&◌, ◌*◌, ◌++◌, ◌+◌, ◌-◌, ◌<◌, ◌==◌, ◌||◌, ◌∙◌, ◌∷◌, ◌≡◌, ◌≤◌, ◌⊎◌}
 pub use Rattle.std.proofs.lemmas.List.{append_cancel_left, get_or-replicate, get_or-set_other, get_or-set_same, length-map, length-take-le, map-append, length-take}
@@ -62,10 +62,10 @@ pub use Rattle.laws_wire.proofs.Delivering.{calls-face}
 pub use Rattle.laws_wire.proofs.RestedRounds.{doing-append}
 pub use Rattle.laws_wire.proofs.Run.{calls-come-through, or-both}
 pub use Rattle.laws_wire.proofs.Spelled.{twice-other}
-pub use Rattle.laws_wire.specs.Call.{CanCall, IsCall, assigned, calling, confirmed, data_told, station, told_first, ComesThrough as CallComesThrough}
+pub use Rattle.laws_wire.specs.Call.{CanCall, IsCall, assigned, calling, confirmed, data_told, endpoint, told_first, ComesThrough as CallComesThrough}
 unfoldable pub use Rattle.laws_wire.specs.Call.{both_call as call_both_call}
 pub use Rattle.laws_wire.specs.Facing.{Face, Speaks, line_of}
-pub use Rattle.laws_wire.specs.Wire.{Act, Doing, IsStill, Station, Wire, answered, frames_by, gives, happens, is_any, loses, requests, takes, times_out, turned, with_first_lost, at_far as wire_at_far, at_near as wire_at_near, doing as wire_doing, is_turn as wire_is_turn}
+pub use Rattle.laws_wire.specs.Wire.{Step as EndStep, StepAt, IsStill, Endpoint, Wire, answered, frames_by, sends, happens, is_any, loses, requests, receives, expires, turned, without_first, at_far as wire_at_far, at_near as wire_at_near, doing as wire_doing, is_turn as wire_is_turn}
 unfoldable pub use Rattle.laws_wire.specs.Wire.{doing_all as wire_doing_all, turns as wire_turns}
 pub use Rattle.model_bits.specs.Bits.{bits}
 unfoldable pub use Rattle.model_bits.specs.Bits.{low_bits}
@@ -107,7 +107,7 @@ pub use Rattle.model_link.proofs.Taking.{Advance, HasNumber, frame-taken, none-d
 pub use Rattle.model_link.specs.Events.{ClearBusy, Received, Release, SetBusy, cleared, expired, offer, overlong, received, requested, undefined, wrong_size, Event as LinkEvent, Request as LinkRequest, frame as link_frame}
 pub use Rattle.model_link.specs.Link.{Link, address_at, frame_of, fresh, is_multiple_frame, state_number}
 pub use Rattle.model_link.specs.Machine.{after, course, given_of, told, given as link_given}
-pub use Rattle.laws_order.specs.Happenings.{Deed, Happening, IsElsewhere, IsNotOf, IsPossible, IsPossibleAt, acts, befalling, by_far, by_near, disturbed, elsewhere, elsewhere_on, events_here, happening, is_of_link, of_link_at, of_link_in, seen_at_near, seen_by}
+pub use Rattle.laws_order.specs.Happenings.{AnyStep, AnyStepAt, IsElsewhere, IsNotOf, IsPossible, IsPossibleAt, step, befalling, by_far, by_near, disturbed, elsewhere, elsewhere_on, events_here, happening, is_of_link, of_link_at, of_link_in, seen_at_near, seen_by}
 unfoldable pub use Rattle.laws_order.specs.Happenings.{happening_all, seen_far, seen_near}
 pub use Rattle.laws_order.specs.InTheEnd.{BothAreTold, IsNotDeactivated, IsToldAtLast, ReleasesAreTold, is_t200, t200_by}
 unfoldable pub use Rattle.laws_order.specs.InTheEnd.{StaysThere, t200s}
@@ -115,12 +115,12 @@ pub use Rattle.laws_order.specs.Order.{AreOfStep, DeliveredInOrder, FaceInStep, 
 pub use Rattle.laws_order.specs.Release.{BeginsNothing, IsToldOfRelease, ReleasedIsOver, ReleasesEnd, begins_by, begins_by_note, is_news, news, news_in}
 pub use Rattle.laws_order.specs.circuit.Beats.{AllIsToldInBeats, IsToldAll, beat, enough_beats, granted_of, longest}
 unfoldable pub use Rattle.laws_order.specs.circuit.Beats.{beats}
-pub use Rattle.laws_order.specs.circuit.Circuit.{Circuit, OctetAct, OctetDoing, Termination, asks, at_far, at_near, port_of, doing}
+pub use Rattle.laws_order.specs.circuit.Circuit.{Circuit, Step as OctetStep, StepAt as OctetStepAt, Endpoint as OctetEndpoint, requests as octet_requests, at_far, at_near, port_of, doing}
 unfoldable pub use Rattle.laws_order.specs.circuit.Circuit.{doing_all}
 pub use Rattle.laws_order.specs.circuit.Mixed.{DeliveredBetweenKinds, Mixed}
 pub use Rattle.laws_order.specs.circuit.Resting.{AreSilent, CallsComeToRest, FaceAtRest}
 pub use Rattle.laws_order.specs.circuit.Through.{HasAllGone, IsTalk, IsTalkOf}
 unfoldable pub use Rattle.laws_order.specs.circuit.Through.{both_call}
-pub use Rattle.laws_order.specs.circuit.WorkedCall.{begins, establishes, goes_on, sends}
+pub use Rattle.laws_order.specs.circuit.WorkedCall.{begins, establishes, goes_on, sends_octets}
 pub use Rattle.model_card.specs.Event.{at, Event as FramesEvent}
 pub use Rattle.model_line.specs.Sound.{IsInRange}

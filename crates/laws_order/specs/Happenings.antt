@@ -15,7 +15,7 @@ use Rattle.model_card.specs.Machine.{after}
 use Rattle.laws_trace.specs.LinkFrames.{is_for}
 use Rattle.laws_trace.specs.Trace.{Seen, seen}
 use Rattle.laws_trace.specs.Units.{is_ui}
-use Rattle.laws_wire.specs.Wire.{Station, Wire, Act, requests, times_out, gives, takes, loses, answered, happens, acting, turned}
+use Rattle.laws_wire.specs.Wire.{Endpoint, Wire, Step, requests, expires, sends, receives, loses, answered, happens, acting, turned}
 
 -- What is of a link: the frames with its SAPI and TEI, but unit data (Q.921 clauses 3.3.3, 3.3.4 and 5.2.2).
 abbrev pub is_of_link : Service → ℕ → Parts → Bool
@@ -28,12 +28,12 @@ of_link_in service tei (Err fault) = []
 abbrev pub of_link_at : Service → ℕ → Side → List ℕ → List Parts
 of_link_at service tei side octets = of_link_in service tei (reading side octets)
 
--- At one end: whatever `Wire` of `laws_wire` has, so that layer 3 or management asks for anything, any timer of the line expires, and
--- frames are given, taken or lost; on the wire something else is heard; or anything happens at another line of the card.
-pub data Deed : Type 0 where
-  acts : Act → Deed
-  disturbed : stream.Event → Deed
-  elsewhere : card.Event → Deed
+-- Any step at an endpoint: one that `Wire` of `laws_wire` has, so that layer 3 or management requests anything, any timer of the line
+-- expires, and frames are sent, received or lost; something else is heard on the wire; or anything happens at another line of the card.
+pub data AnyStep : Type 0 where
+  step : Step → AnyStep
+  disturbed : stream.Event → AnyStep
+  elsewhere : card.Event → AnyStep
 
 -- What else is heard is no frame of the link: a fault, more octets than a frame has, a frame of TEI management or of another
 -- terminal on the line, unit data, or one that can't be read.
@@ -41,36 +41,36 @@ abbrev pub IsNotOf : Service → ℕ → Config → stream.Event → Type 0
 IsNotOf service tei c (stream.frame octets) = of_link_at service tei (heard_side c) octets ≡ []
 IsNotOf service tei c other = Unit {0}
 
-abbrev pub IsElsewhere : Station → card.Event → Type 0
+abbrev pub IsElsewhere : Endpoint → card.Event → Type 0
 IsElsewhere s e = (e.line < s.card.config.lines) × (e.line ≢ s.line)
 
-abbrev pub IsPossibleAt : Service → ℕ → Station → Deed → Type 0
-IsPossibleAt service tei s (acts act) = Unit {0}
+abbrev pub IsPossibleAt : Service → ℕ → Endpoint → AnyStep → Type 0
+IsPossibleAt service tei s (step act) = Unit {0}
 IsPossibleAt service tei s (disturbed what) = IsNotOf service tei s.card.config what
 IsPossibleAt service tei s (elsewhere e) = IsElsewhere s e
 
-abbrev pub elsewhere_on : card.Event → Station → Station
+abbrev pub elsewhere_on : card.Event → Endpoint → Endpoint
 elsewhere_on e s = record s { card = after e s.card }
 
-abbrev pub befalling : Deed → Wire → Wire
-befalling (acts act) w = acting act w
+abbrev pub befalling : AnyStep → Wire → Wire
+befalling (step act) w = acting act w
 befalling (disturbed what) w = record w { near = happens (hears what) w.near }
 befalling (elsewhere e) w = record w { near = elsewhere_on e w.near }
 
 -- The same at either end, and one after the other.
-pub data Happening : Type 0 where
-  by_near : Deed → Happening
-  by_far : Deed → Happening
+pub data AnyStepAt : Type 0 where
+  by_near : AnyStep → AnyStepAt
+  by_far : AnyStep → AnyStepAt
 
-abbrev pub IsPossible : Service → ℕ → Wire → Happening → Type 0
+abbrev pub IsPossible : Service → ℕ → Wire → AnyStepAt → Type 0
 IsPossible service tei w (by_near deed) = IsPossibleAt service tei w.near deed
 IsPossible service tei w (by_far deed) = IsPossibleAt service tei w.far deed
 
-abbrev pub happening : Happening → Wire → Wire
+abbrev pub happening : AnyStepAt → Wire → Wire
 happening (by_near deed) w = befalling deed w
 happening (by_far deed) w = turned (befalling deed (turned w))
 
-unfoldable pub happening_all : List Happening → Wire → Wire
+unfoldable pub happening_all : List AnyStepAt → Wire → Wire
 happening_all [] w = w
 happening_all (h ∷ hs) w = happening_all hs (happening h w)
 
@@ -79,33 +79,33 @@ abbrev pub first_heard : ℕ → List (List ℕ) → List Event
 first_heard n201 [] = []
 first_heard n201 (octets ∷ more) = hears (came n201 octets) ∷ []
 
-abbrev pub events_here : Deed → Wire → List Event
-events_here (acts (requests r)) w = request r ∷ []
-events_here (acts (times_out timer)) w = expiry timer ∷ []
-events_here (acts gives) w = next ∷ []
-events_here (acts takes) w = first_heard w.near.card.config.n201 w.far.way
-events_here (acts loses) w = []
+abbrev pub events_here : AnyStep → Wire → List Event
+events_here (step (requests r)) w = request r ∷ []
+events_here (step (expires timer)) w = expiry timer ∷ []
+events_here (step sends) w = next ∷ []
+events_here (step receives) w = first_heard w.near.card.config.n201 w.far.way
+events_here (step loses) w = []
 events_here (disturbed what) w = hears what ∷ []
 events_here (elsewhere e) w = []
 
-abbrev pub shown_by : Station → Event → List Seen
+abbrev pub shown_by : Endpoint → Event → List Seen
 shown_by s e = seen e (answered e s)
 
-abbrev pub seen_by : Deed → Wire → List Seen
+abbrev pub seen_by : AnyStep → Wire → List Seen
 seen_by deed w = flat_map (shown_by w.near) (events_here deed w)
 
-abbrev pub seen_at_near : Happening → Wire → List Seen
+abbrev pub seen_at_near : AnyStepAt → Wire → List Seen
 seen_at_near (by_near deed) w = seen_by deed w
 seen_at_near (by_far deed) w = []
 
-abbrev pub seen_at_far : Happening → Wire → List Seen
+abbrev pub seen_at_far : AnyStepAt → Wire → List Seen
 seen_at_far (by_near deed) w = []
 seen_at_far (by_far deed) w = seen_by deed (turned w)
 
-unfoldable pub seen_near : List Happening → Wire → List Seen
+unfoldable pub seen_near : List AnyStepAt → Wire → List Seen
 seen_near [] w = []
 seen_near (h ∷ hs) w = seen_at_near h w ++ seen_near hs (happening h w)
 
-unfoldable pub seen_far : List Happening → Wire → List Seen
+unfoldable pub seen_far : List AnyStepAt → Wire → List Seen
 seen_far [] w = []
 seen_far (h ∷ hs) w = seen_at_far h w ++ seen_far hs (happening h w)

@@ -10,7 +10,7 @@ use Rattle.model_line.specs.Event.{Event, expiry, request}
 use Rattle.laws_line.specs.Requests.{deactivates}
 use Rattle.laws_trace.specs.Trace.{is_own}
 use Rattle.laws_wire.specs.Wire.{requests, Wire}
-use Rattle.laws_order.specs.Happenings.{acts, Happening, by_near, by_far, IsPossible, happening, happening_all, events_here, seen_near, seen_far}
+use Rattle.laws_order.specs.Happenings.{step, AnyStepAt, by_near, by_far, IsPossible, happening, happening_all, events_here, seen_near, seen_far}
 use Rattle.laws_order.specs.Order.{ends_by, StaysEstablished, Past, known, state_here, FaceInStep}
 use Rattle.laws_order.specs.Release.{news, BeginsNothing}
 
@@ -19,11 +19,11 @@ abbrev pub is_t200 : Service → ℕ → Event → Bool
 is_t200 service tei (expiry (T200 of by)) = is_own service tei of by
 is_t200 service tei other = false
 
-abbrev pub t200_by : Service → ℕ → Happening → Wire → ℕ
+abbrev pub t200_by : Service → ℕ → AnyStepAt → Wire → ℕ
 t200_by service tei (by_near deed) w = length (filter (is_t200 service tei) (events_here deed w))
 t200_by service tei (by_far deed) w = 0
 
-unfoldable pub t200s : Service → ℕ → List Happening → Wire → ℕ
+unfoldable pub t200s : Service → ℕ → List AnyStepAt → Wire → ℕ
 t200s service tei [] w = 0
 t200s service tei (h ∷ hs) w = t200_by service tei h w + t200s service tei hs (happening h w)
 
@@ -36,20 +36,20 @@ IsToldAtLast service tei ns = (ns ≡ ReleaseConfirm service tei ∷ []) ⊎ (ns
 -- long as nothing else begins, as `Release` has it.
 abbrev pub ReleasesAreTold : Type 0
 ReleasesAreTold =
-    (service : Service) (tei : ℕ) (w : Wire) (hs : List Happening) → Past w.near → state_here service tei w.near ≡ Some 6 →
+    (service : Service) (tei : ℕ) (w : Wire) (hs : List AnyStepAt) → Past w.near → state_here service tei w.near ≡ Some 6 →
     All (IsPossible service tei w) hs → BeginsNothing service tei (seen_near hs w) →
     w.near.card.config.n200 < t200s service tei hs w → IsToldAtLast service tei (news service tei (seen_near hs w))
 
 -- The TEI stays on the line of the near end, and its link is not deactivated.
-unfoldable pub StaysThere : Service → ℕ → List Happening → Wire → Type 0
+unfoldable pub StaysThere : Service → ℕ → List AnyStepAt → Wire → Type 0
 StaysThere service tei [] w = is_some (state_here service tei w.near) ≡ true
 StaysThere service tei (h ∷ hs) w = (is_some (state_here service tei w.near) ≡ true) × StaysThere service tei hs (happening h w)
 
-abbrev pub IsNotDeactivated : Service → ℕ → Happening → Type 0
-IsNotDeactivated service tei (by_near (acts (requests r))) = deactivates service tei (request r) ≡ false
+abbrev pub IsNotDeactivated : Service → ℕ → AnyStepAt → Type 0
+IsNotDeactivated service tei (by_near (step (requests r))) = deactivates service tei (request r) ≡ false
 IsNotDeactivated service tei other = Unit {0}
 
-abbrev pub KeepsLink : Service → ℕ → List Happening → Wire → Type 0
+abbrev pub KeepsLink : Service → ℕ → List AnyStepAt → Wire → Type 0
 KeepsLink service tei hs w = StaysThere service tei hs w × All (IsNotDeactivated service tei) hs
 
 -- And where it is told the confirm, and no error H, the other end, whose establishment lasted until then, was told behind the release
@@ -57,7 +57,7 @@ KeepsLink service tei hs w = StaysThere service tei hs w × All (IsNotDeactivate
 -- other in step, and whatever was waiting or on its way as the release was granted.
 abbrev pub BothAreTold : Type 0
 BothAreTold =
-    (service : Service) (tei : ℕ) (w : Wire) (p : Past w.near) (q : Past w.far) (before behind : List Happening) →
+    (service : Service) (tei : ℕ) (w : Wire) (p : Past w.near) (q : Past w.far) (before behind : List AnyStepAt) →
     FaceInStep service tei w (known service tei w.near p) (known service tei w.far q) → All (IsPossible service tei w) before →
     let v = happening_all before w in StaysEstablished service tei (seen_far before w) → state_here service tei v.near ≡ Some 6 →
     All (IsPossible service tei v) behind → KeepsLink service tei behind v → BeginsNothing service tei (seen_near behind v) →

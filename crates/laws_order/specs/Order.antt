@@ -27,8 +27,8 @@ use Rattle.laws_trace.specs.Outgoing.{outgoing_of}
 use Rattle.laws_trace.specs.Trace.{is_own, is_up, data_asked, Seen, noted, granted, IsFront}
 use Rattle.laws_wire.specs.Call.{IsLineOf}
 use Rattle.laws_wire.specs.Facing.{line_of}
-use Rattle.laws_wire.specs.Wire.{Station, Wire}
-use Rattle.laws_order.specs.Happenings.{Happening, IsPossible, of_link_at, seen_near, seen_far}
+use Rattle.laws_wire.specs.Wire.{Endpoint, Wire}
+use Rattle.laws_order.specs.Happenings.{AnyStepAt, IsPossible, of_link_at, seen_near, seen_far}
 
 -- The contents that layer 3 of an end was granted to send by the link of a service with a TEI, and those that it was told of,
 -- in what is seen there.
@@ -70,7 +70,7 @@ abbrev pub StaysEstablished : Service → ℕ → List Seen → Type 0
 StaysEstablished service tei t = list_any (ends_by service tei) t ≡ false
 
 -- An end is known by its past: its card has come about by events from its start, as every card has.
-pub record Past (s : Station) : Type 0 where
+pub record Past (s : Endpoint) : Type 0 where
   pub events : List card.Event
   pub at_lines : AreAtLines (fresh s.card.config) events
   pub is : s.card ≡ after_all (fresh s.card.config) events
@@ -112,14 +112,14 @@ known_by c service tei number events =
     let o = outgoing_of c service tei number events in
     record { told = o.view.link.count; acknowledged = (tally_of c service tei number events).acknowledged; kept = o.kept; waiting = o.waiting }
 
-abbrev pub known : Service → ℕ → (s : Station) → Past s → Known
+abbrev pub known : Service → ℕ → (s : Endpoint) → Past s → Known
 known service tei s p = known_by s.card.config service tei s.line p.events
 
 -- What is on its way of a link, and, behind it, what waits.
 abbrev pub of_link_on : Service → ℕ → Side → List (List ℕ) → List Parts
 of_link_on service tei side way = flat_map (of_link_at service tei side) way
 
-abbrev pub said_by : Service → ℕ → Station → Known → List Parts
+abbrev pub said_by : Service → ℕ → Endpoint → Known → List Parts
 said_by service tei s n = of_link_on service tei s.card.config.side s.way ++ map (frame_of (terms s.card.config service tei)) n.waiting
 
 -- A frame is in step: N(R) means r, and an I-frame carries contents that are kept, of the number that N(S) means, within the window.
@@ -141,10 +141,10 @@ AreOfStep k n low (f ∷ fs) = (r : ℕ) × (low ≤ r) × IsOfStep k n r f.info
 
 -- At an end `Card::state` tells 7 or 8; all that is on its way or waits is in step; and the other end was told of no more than what it has
 -- acknowledged and what of those that are kept here is within the window.
-abbrev pub state_here : Service → ℕ → Station → Option ℕ
+abbrev pub state_here : Service → ℕ → Endpoint → Option ℕ
 state_here service tei s = state_of service tei (line_of s)
 
-pub record IsInStep (service : Service) (tei : ℕ) (s : Station) (n m : Known) : Type 0 where
+pub record IsInStep (service : Service) (tei : ℕ) (s : Endpoint) (n m : Known) : Type 0 where
   pub up : option_map_or is_up (state_here service tei s) false ≡ true
   pub said : AreOfStep (window s.card.config service) n m.acknowledged (said_by service tei s n)
   pub kept : m.told ≤ n.acknowledged + length (take (window s.card.config service) n.kept)
@@ -169,7 +169,7 @@ IsToldInOrder service tei kept there here =
 -- waiting or on its way, the other is told so up to its own end.
 abbrev pub DeliveredInOrder : Type 0
 DeliveredInOrder =
-    (service : Service) (tei : ℕ) (w : Wire) (p : Past w.near) (q : Past w.far) (hs : List Happening) →
+    (service : Service) (tei : ℕ) (w : Wire) (p : Past w.near) (q : Past w.far) (hs : List AnyStepAt) →
     let n = known service tei w.near p in let m = known service tei w.far q in
     FaceInStep service tei w n m → All (IsPossible service tei w) hs → let near = seen_near hs w in let far = seen_far hs w in
     IsToldInOrder service tei (kept_by m n) far near × IsToldInOrder service tei (kept_by n m) near far

@@ -9,7 +9,7 @@ use Rattle.lapd_frame.specs.declared.services.Service.{Service}
 use Rattle.model_line.specs.Request.{Request, Establish, Release}
 use Rattle.laws_trace.specs.Trace.{is_own, Seen, noted, granted}
 use Rattle.laws_wire.specs.Wire.{Wire}
-use Rattle.laws_order.specs.Happenings.{Happening, IsPossible, seen_near}
+use Rattle.laws_order.specs.Happenings.{AnyStepAt, IsPossible, seen_near}
 use Rattle.laws_order.specs.Order.{data_noted, Past, state_here}
 
 -- The notes of a link's establishment and release, and its errors; but for C and D, each of which tells of a UA that answers nothing
@@ -64,7 +64,7 @@ IsToldOfRelease service tei ns =
 -- it, and no data.
 abbrev pub ReleasesEnd : Type 0
 ReleasesEnd =
-    (service : Service) (tei : ℕ) (w : Wire) (hs : List Happening) → Past w.near → state_here service tei w.near ≡ Some 6 →
+    (service : Service) (tei : ℕ) (w : Wire) (hs : List AnyStepAt) → Past w.near → state_here service tei w.near ≡ Some 6 →
     All (IsPossible service tei w) hs → let behind = seen_near hs w in BeginsNothing service tei behind →
     IsToldOfRelease service tei (news service tei behind) × (data_noted service tei behind ≡ [])
 
@@ -72,6 +72,6 @@ ReleasesEnd =
 -- nothing of it.
 abbrev pub ReleasedIsOver : Type 0
 ReleasedIsOver =
-    (service : Service) (tei : ℕ) (w : Wire) (hs : List Happening) → Past w.near → unwrap_or (state_here service tei w.near) 4 ≡ 4 →
+    (service : Service) (tei : ℕ) (w : Wire) (hs : List AnyStepAt) → Past w.near → unwrap_or (state_here service tei w.near) 4 ≡ 4 →
     All (IsPossible service tei w) hs → let behind = seen_near hs w in BeginsNothing service tei behind →
     (news service tei behind ≡ []) × (data_noted service tei behind ≡ [])

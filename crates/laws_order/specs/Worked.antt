@@ -18,9 +18,9 @@ use Rattle.model_card.specs.Card.{fresh}
 use Rattle.model_card.specs.Event.{Event, at}
 use Rattle.model_card.specs.Run.{moments, after_all}
 use Rattle.laws_wire.specs.Call.{calling}
-use Rattle.laws_wire.specs.Wire.{Wire, requests, times_out, gives, takes, loses, Doing, at_near, at_far, doing_all}
+use Rattle.laws_wire.specs.Wire.{Wire, requests, expires, sends, receives, loses, StepAt, at_near, at_far, doing_all}
 use Rattle.laws_wire.specs.Worked.{establishes}
-use Rattle.laws_order.specs.Happenings.{acts, disturbed, elsewhere, Happening, by_near, by_far, happening_all, seen_near, seen_far}
+use Rattle.laws_order.specs.Happenings.{step, disturbed, elsewhere, AnyStepAt, by_near, by_far, happening_all, seen_near, seen_far}
 use Rattle.laws_order.specs.Order.{data_noted, StaysEstablished, Known, known_by, kept_by}
 
 abbrev pub network : Config
@@ -29,44 +29,44 @@ network = record { lines = 2; terminals = 1; k = 7; k16 = 3; queue = 8; unit_que
 abbrev pub user : Config
 user = record network { side = User }
 
-abbrev pub calls_both : List Doing
+abbrev pub calls_both : List StepAt
 calls_both = establishes ++ at_near (requests (Establish Packet 0)) ∷ establishes
 
 abbrev pub faces : Wire
 faces = doing_all calls_both (calling Call 0 user 0 network 0)
 
 -- The first I-frame of call control is damaged, and goes again after REJ; that of packet mode comes between.
-abbrev pub both_send : List Happening
+abbrev pub both_send : List AnyStepAt
 both_send =
-    by_near (acts (requests (Data Call 0 (1 ∷ [])))) ∷ by_near (acts (requests (Data Packet 0 (2 ∷ [])))) ∷ by_near (acts (requests (Data Call 0 (3 ∷ []))))
-    ∷ by_near (acts gives) ∷ by_near (acts loses) ∷ by_far (disturbed (dropped Fcs)) ∷ by_far (elsewhere (at 1 (request (Assign 5))))
-    ∷ by_near (acts gives) ∷ by_far (acts takes) ∷ by_near (acts gives) ∷ by_far (acts takes)
-    ∷ by_far (acts (requests (Data Call 0 (4 ∷ [])))) ∷ by_far (acts gives) ∷ by_far (acts gives) ∷ by_far (acts gives)
-    ∷ by_near (acts takes) ∷ by_near (acts takes) ∷ by_near (acts takes)
-    ∷ by_near (acts gives) ∷ by_near (acts gives) ∷ by_near (acts gives) ∷ by_far (acts takes) ∷ by_far (acts takes) ∷ by_far (acts takes)
+    by_near (step (requests (Data Call 0 (1 ∷ [])))) ∷ by_near (step (requests (Data Packet 0 (2 ∷ [])))) ∷ by_near (step (requests (Data Call 0 (3 ∷ []))))
+    ∷ by_near (step sends) ∷ by_near (step loses) ∷ by_far (disturbed (dropped Fcs)) ∷ by_far (elsewhere (at 1 (request (Assign 5))))
+    ∷ by_near (step sends) ∷ by_far (step receives) ∷ by_near (step sends) ∷ by_far (step receives)
+    ∷ by_far (step (requests (Data Call 0 (4 ∷ [])))) ∷ by_far (step sends) ∷ by_far (step sends) ∷ by_far (step sends)
+    ∷ by_near (step receives) ∷ by_near (step receives) ∷ by_near (step receives)
+    ∷ by_near (step sends) ∷ by_near (step sends) ∷ by_near (step sends) ∷ by_far (step receives) ∷ by_far (step receives) ∷ by_far (step receives)
     ∷ []
 
 -- Then the far end is busy, and what comes is dropped. It is ready again, and says so, and nothing goes: what was dropped goes
 -- again once T200 expires.
-abbrev pub is_busy : List Happening
+abbrev pub is_busy : List AnyStepAt
 is_busy =
-    by_far (acts (requests (SetBusy Call 0))) ∷ by_near (acts (requests (Data Call 0 (5 ∷ []))))
-    ∷ by_near (acts gives) ∷ by_far (acts takes) ∷ by_far (acts gives) ∷ by_near (acts takes)
-    ∷ by_far (acts (requests (ClearBusy Call 0))) ∷ by_far (acts gives) ∷ by_near (acts takes) ∷ by_near (acts gives) ∷ by_far (acts takes)
+    by_far (step (requests (SetBusy Call 0))) ∷ by_near (step (requests (Data Call 0 (5 ∷ []))))
+    ∷ by_near (step sends) ∷ by_far (step receives) ∷ by_far (step sends) ∷ by_near (step receives)
+    ∷ by_far (step (requests (ClearBusy Call 0))) ∷ by_far (step sends) ∷ by_near (step receives) ∷ by_near (step sends) ∷ by_far (step receives)
     ∷ []
 
-abbrev pub goes_again : List Happening
+abbrev pub goes_again : List AnyStepAt
 goes_again =
-    by_near (acts (times_out (T200 Call 0))) ∷ by_near (acts gives) ∷ by_far (acts takes) ∷ by_far (acts gives) ∷ by_near (acts takes)
-    ∷ by_near (acts gives) ∷ by_far (acts takes) ∷ []
+    by_near (step (expires (T200 Call 0))) ∷ by_near (step sends) ∷ by_far (step receives) ∷ by_far (step sends) ∷ by_near (step receives)
+    ∷ by_near (step sends) ∷ by_far (step receives) ∷ []
 
 -- The far end hears frames of other terminals on the line: an I-frame of TEI 5, and SABME of TEI 6; and unit data of its own.
-abbrev pub others_speak : List Happening
+abbrev pub others_speak : List AnyStepAt
 others_speak =
     by_far (disturbed (frame (0x00 ∷ 0x0B ∷ 0x00 ∷ 0x00 ∷ 9 ∷ []))) ∷ by_far (disturbed (frame (0x00 ∷ 0x0D ∷ 0x7F ∷ [])))
     ∷ by_far (disturbed (frame (0x00 ∷ 0x01 ∷ 0x03 ∷ 8 ∷ []))) ∷ []
 
-abbrev pub busy_run : List Happening
+abbrev pub busy_run : List AnyStepAt
 busy_run = others_speak ++ both_send ++ is_busy ++ goes_again
 
 both_far : data_noted Call 0 (seen_far both_send faces) ≡ (1 ∷ []) ∷ (3 ∷ []) ∷ []
@@ -124,16 +124,16 @@ far_known events = known_by network Call 0 0 (far_begins ++ events)
 
 -- In the midst of data the far end was told of what it has not acknowledged yet, which is not told again, though the near end keeps it;
 -- and its own I-frame is on its way, from before.
-abbrev pub sends_one : List Happening
+abbrev pub sends_one : List AnyStepAt
 sends_one =
-    by_near (acts (requests (Data Call 0 (1 ∷ [])))) ∷ by_far (acts (requests (Data Call 0 (2 ∷ [])))) ∷ by_near (acts gives) ∷ by_far (acts gives)
-    ∷ by_far (acts takes) ∷ []
+    by_near (step (requests (Data Call 0 (1 ∷ [])))) ∷ by_far (step (requests (Data Call 0 (2 ∷ [])))) ∷ by_near (step sends) ∷ by_far (step sends)
+    ∷ by_far (step receives) ∷ []
 
 abbrev pub owes : Wire
 owes = happening_all sends_one faces
 
-abbrev pub sends_more : List Happening
-sends_more = by_near (acts (requests (Data Call 0 (3 ∷ [])))) ∷ by_near (acts takes) ∷ by_near (acts gives) ∷ by_far (acts takes) ∷ []
+abbrev pub sends_more : List AnyStepAt
+sends_more = by_near (step (requests (Data Call 0 (3 ∷ [])))) ∷ by_near (step receives) ∷ by_near (step sends) ∷ by_far (step receives) ∷ []
 
 is_kept : near_known (at 0 (request (Data Call 0 (1 ∷ []))) ∷ at 0 next ∷ []) ≡ record { told = 0; acknowledged = 0; kept = (1 ∷ []) ∷ []; waiting = [] }
 unfolding lines.after lines.answer lines.takes_slot reading header_of control_of unnumbered_of supervisory_of teis.course teis.refusal seq distance_of named doing_all happening_all moments after_all
@@ -163,12 +163,12 @@ is_gone = refl
 
 -- Moments in step at which not all is at rest: an RNR of the far end waits.
 abbrev pub busy_waits : Wire
-busy_waits = happening_all (by_far (acts (requests (SetBusy Call 0))) ∷ []) faces
+busy_waits = happening_all (by_far (step (requests (SetBusy Call 0))) ∷ []) faces
 
-abbrev pub clears : List Happening
+abbrev pub clears : List AnyStepAt
 clears =
-    by_near (acts (requests (Data Call 0 (1 ∷ [])))) ∷ by_far (acts gives) ∷ by_near (acts takes) ∷ by_far (acts (requests (ClearBusy Call 0)))
-    ∷ by_far (acts gives) ∷ by_near (acts takes) ∷ by_near (acts gives) ∷ by_far (acts takes) ∷ []
+    by_near (step (requests (Data Call 0 (1 ∷ [])))) ∷ by_far (step sends) ∷ by_near (step receives) ∷ by_far (step (requests (ClearBusy Call 0)))
+    ∷ by_far (step sends) ∷ by_near (step receives) ∷ by_near (step sends) ∷ by_far (step receives) ∷ []
 
 cleared_far : data_noted Call 0 (seen_far clears busy_waits) ≡ (1 ∷ []) ∷ []
 unfolding lines.after lines.answer lines.takes_slot reading header_of control_of unnumbered_of supervisory_of teis.course teis.refusal seq distance_of named doing_all happening_all seen_near seen_far
@@ -179,16 +179,16 @@ unfolding lines.after lines.answer lines.takes_slot reading header_of control_of
 cleared_stays = refl
 
 -- One end is in state 8, and its enquiry waits.
-abbrev pub asks_state : List Happening
-asks_state = by_near (acts (times_out (T203 Call 0))) ∷ []
+abbrev pub asks_state : List AnyStepAt
+asks_state = by_near (step (expires (T203 Call 0))) ∷ []
 
 abbrev pub enquires : Wire
 enquires = happening_all asks_state faces
 
-abbrev pub recovers : List Happening
+abbrev pub recovers : List AnyStepAt
 recovers =
-    by_near (acts (requests (Data Call 0 (1 ∷ [])))) ∷ by_near (acts gives) ∷ by_far (acts takes) ∷ by_far (acts gives) ∷ by_near (acts takes)
-    ∷ by_near (acts gives) ∷ by_far (acts takes) ∷ []
+    by_near (step (requests (Data Call 0 (1 ∷ [])))) ∷ by_near (step sends) ∷ by_far (step receives) ∷ by_far (step sends) ∷ by_near (step receives)
+    ∷ by_near (step sends) ∷ by_far (step receives) ∷ []
 
 recovered_far : data_noted Call 0 (seen_far recovers enquires) ≡ (1 ∷ []) ∷ []
 unfolding lines.after lines.answer lines.takes_slot reading header_of control_of unnumbered_of supervisory_of teis.course teis.refusal seq distance_of named doing_all happening_all seen_near seen_far moments after_all
@@ -201,13 +201,13 @@ recovered_stays = refl
 -- And the near end has just taken UA, behind which the far end has sent two I-frames already; the first of them is lost.
 abbrev pub early : Wire
 early =
-    doing_all (at_near gives ∷ at_far takes ∷ at_far (requests (Data Call 0 (1 ∷ []))) ∷ at_far (requests (Data Call 0 (2 ∷ [])))
-    ∷ at_far gives ∷ at_far gives ∷ at_far gives ∷ at_near takes ∷ []) (calling Call 0 user 0 network 0)
+    doing_all (at_near sends ∷ at_far receives ∷ at_far (requests (Data Call 0 (1 ∷ []))) ∷ at_far (requests (Data Call 0 (2 ∷ [])))
+    ∷ at_far sends ∷ at_far sends ∷ at_far sends ∷ at_near receives ∷ []) (calling Call 0 user 0 network 0)
 
-abbrev pub loses_first : List Happening
+abbrev pub loses_first : List AnyStepAt
 loses_first =
-    by_far (acts loses) ∷ by_near (acts takes) ∷ by_near (acts gives) ∷ by_far (acts takes) ∷ by_far (acts gives) ∷ by_far (acts gives)
-    ∷ by_near (acts takes) ∷ by_near (acts takes) ∷ []
+    by_far (step loses) ∷ by_near (step receives) ∷ by_near (step sends) ∷ by_far (step receives) ∷ by_far (step sends) ∷ by_far (step sends)
+    ∷ by_near (step receives) ∷ by_near (step receives) ∷ []
 
 both_kept : known_by network Call 0 0 (at 0 (request (Assign 0)) ∷ at 0 (hears (frame (0x00 ∷ 0x01 ∷ 0x7F ∷ []))) ∷ at 0 (request (Data Call 0 (1 ∷ [])))
     ∷ at 0 (request (Data Call 0 (2 ∷ []))) ∷ at 0 next ∷ at 0 next ∷ at 0 next ∷ []) ≡ record { told = 0; acknowledged = 0; kept = (1 ∷ []) ∷ (2 ∷ []) ∷ []; waiting = [] }

@@ -13,8 +13,8 @@ use Rattle.model_line.specs.Request.{Data}
 use Rattle.model_card.specs.Event.{at}
 use Rattle.model_card.specs.Run.{moments, after_all}
 use Rattle.laws_trace.specs.Trace.{IsFront}
-use Rattle.laws_wire.specs.Wire.{Wire, requests, gives, takes, doing_all}
-use Rattle.laws_order.specs.Happenings.{acts, Happening, by_near, by_far, happening_all, seen_near, seen_far}
+use Rattle.laws_wire.specs.Wire.{Wire, requests, sends, receives, doing_all}
+use Rattle.laws_order.specs.Happenings.{step, AnyStepAt, by_near, by_far, happening_all, seen_near, seen_far}
 use Rattle.laws_order.specs.Order.{data_noted, data_granted, ends_by, kept_by, StaysEstablished}
 use Rattle.laws_order.specs.Worked.{faces, near_known, far_known}
 
@@ -25,8 +25,8 @@ old_frame = 0x00 ∷ 0x01 ∷ 0x00 ∷ 0x00 ∷ 0x99 ∷ []
 abbrev with_old : Wire
 with_old = record faces { near = record faces.near { way = old_frame ∷ [] } }
 
-abbrev comes_late : List Happening
-comes_late = by_far (acts takes) ∷ []
+abbrev comes_late : List AnyStepAt
+comes_late = by_far (step receives) ∷ []
 
 told_of_old : data_noted Call 0 (seen_far comes_late with_old) ≡ (0x99 ∷ []) ∷ []
 unfolding lines.after lines.answer lines.takes_slot reading header_of control_of unnumbered_of supervisory_of teis.course teis.refusal seq distance_of named doing_all happening_all seen_near seen_far
@@ -50,10 +50,10 @@ not_a_front x = cc x.whole_is
 abbrev ahead : Wire
 ahead = happening_all comes_late with_old
 
-abbrev skips : List Happening
+abbrev skips : List AnyStepAt
 skips =
-    by_near (acts (requests (Data Call 0 (5 ∷ [])))) ∷ by_near (acts gives) ∷ by_far (acts takes) ∷ by_far (acts gives) ∷ by_near (acts takes)
-    ∷ by_near (acts (requests (Data Call 0 (6 ∷ [])))) ∷ by_near (acts gives) ∷ by_far (acts takes) ∷ []
+    by_near (step (requests (Data Call 0 (5 ∷ [])))) ∷ by_near (step sends) ∷ by_far (step receives) ∷ by_far (step sends) ∷ by_near (step receives)
+    ∷ by_near (step (requests (Data Call 0 (6 ∷ [])))) ∷ by_near (step sends) ∷ by_far (step receives) ∷ []
 
 told_six : data_noted Call 0 (seen_far skips ahead) ≡ (6 ∷ []) ∷ []
 unfolding lines.after lines.answer lines.takes_slot reading header_of control_of unnumbered_of supervisory_of teis.course teis.refusal seq distance_of named doing_all happening_all seen_near seen_far
@@ -78,11 +78,11 @@ old_call = 0x00 ∷ 0x01 ∷ 0x7F ∷ []
 abbrev with_call : Wire
 with_call = record faces { near = record faces.near { way = old_call ∷ [] } }
 
-abbrev renews : List Happening
+abbrev renews : List AnyStepAt
 renews =
-    by_far (acts (requests (Data Call 0 (7 ∷ [])))) ∷ by_far (acts gives) ∷ by_near (acts takes) ∷ by_far (acts takes)
-    ∷ by_far (acts (requests (Data Call 0 (8 ∷ [])))) ∷ by_far (acts (requests (Data Call 0 (9 ∷ []))))
-    ∷ by_far (acts gives) ∷ by_far (acts gives) ∷ by_far (acts gives) ∷ by_near (acts takes) ∷ by_near (acts takes) ∷ by_near (acts takes) ∷ []
+    by_far (step (requests (Data Call 0 (7 ∷ [])))) ∷ by_far (step sends) ∷ by_near (step receives) ∷ by_far (step receives)
+    ∷ by_far (step (requests (Data Call 0 (8 ∷ [])))) ∷ by_far (step (requests (Data Call 0 (9 ∷ []))))
+    ∷ by_far (step sends) ∷ by_far (step sends) ∷ by_far (step sends) ∷ by_near (step receives) ∷ by_near (step receives) ∷ by_near (step receives) ∷ []
 
 told_nine : data_noted Call 0 (seen_near renews with_call) ≡ (7 ∷ []) ∷ (9 ∷ []) ∷ []
 unfolding lines.after lines.answer lines.takes_slot reading header_of control_of unnumbered_of supervisory_of teis.course teis.refusal seq distance_of named doing_all happening_all seen_near seen_far

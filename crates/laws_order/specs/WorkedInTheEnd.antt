@@ -10,8 +10,8 @@ use Rattle.lapd_seq.specs.Numbers.{seq}
 use Rattle.lapd_tei.specs.Events as teis
 use Rattle.model_line.specs.Machine as lines
 use Rattle.model_line.specs.Request.{Release, Remove, Deactivate}
-use Rattle.laws_wire.specs.Wire.{Wire, requests, times_out, gives, takes, loses, turned, doing_all}
-use Rattle.laws_order.specs.Happenings.{acts, Happening, by_near, happening_all, seen_near, seen_far}
+use Rattle.laws_wire.specs.Wire.{Wire, requests, expires, sends, receives, loses, turned, doing_all}
+use Rattle.laws_order.specs.Happenings.{step, AnyStepAt, by_near, happening_all, seen_near, seen_far}
 use Rattle.laws_order.specs.InTheEnd.{t200s, StaysThere}
 use Rattle.laws_order.specs.Order.{StaysEstablished}
 use Rattle.laws_order.specs.Release.{news, BeginsNothing}
@@ -19,10 +19,10 @@ use Rattle.laws_order.specs.Worked.{faces}
 use Rattle.laws_order.specs.WorkedRelease.{releases, released, takes_two, takes_disc}
 
 -- N200 is 3. The I-frames that were on their way are lost, and DISC, and T200 expires: at the fourth time the near end is told.
-abbrev pub is_lost : List Happening
-is_lost = by_near (acts gives) ∷ by_near (acts loses) ∷ by_near (acts (times_out (T200 Call 0))) ∷ []
+abbrev pub is_lost : List AnyStepAt
+is_lost = by_near (step sends) ∷ by_near (step loses) ∷ by_near (step (expires (T200 Call 0))) ∷ []
 
-abbrev pub gives_up : List Happening
+abbrev pub gives_up : List AnyStepAt
 gives_up = is_lost ++ is_lost ++ is_lost ++ is_lost
 
 pub repeats_three : released.near.card.config.n200 ≡ 3
@@ -46,31 +46,31 @@ unfolding lines.after lines.answer lines.takes_slot reading header_of control_of
 gives_up_quietly = refl
 
 -- Where DISC comes, and UA, the near end is told the confirm, and the TEI stays there.
-abbrev pub comes : List Happening
-comes = takes_two ++ takes_disc
+abbrev pub goes_on_to_the_end : List AnyStepAt
+goes_on_to_the_end = takes_two ++ takes_disc
 
-pub comes_quietly : BeginsNothing Call 0 (seen_near comes released)
+pub comes_quietly : BeginsNothing Call 0 (seen_near goes_on_to_the_end released)
 unfolding lines.after lines.answer lines.takes_slot reading header_of control_of unnumbered_of supervisory_of teis.course teis.refusal seq distance_of named doing_all happening_all seen_near
 comes_quietly = refl
 
-pub comes_confirmed : news Call 0 (seen_near comes released) ≡ ReleaseConfirm Call 0 ∷ []
+pub comes_confirmed : news Call 0 (seen_near goes_on_to_the_end released) ≡ ReleaseConfirm Call 0 ∷ []
 unfolding lines.after lines.answer lines.takes_slot reading header_of control_of unnumbered_of supervisory_of teis.course teis.refusal seq distance_of named doing_all happening_all seen_near
 comes_confirmed = refl
 
-pub comes_there : StaysThere Call 0 comes released
+pub comes_there : StaysThere Call 0 goes_on_to_the_end released
 unfolding lines.after lines.answer lines.takes_slot reading header_of control_of unnumbered_of supervisory_of teis.course teis.refusal seq distance_of named doing_all happening_all StaysThere
 comes_there = (refl, (refl, (refl, (refl, (refl, (refl, (refl, refl)))))))
 
-abbrev asks : List Happening
-asks = by_near (acts (requests (Release Call 0))) ∷ []
+abbrev asks : List AnyStepAt
+asks = by_near (step (requests (Release Call 0))) ∷ []
 
 -- Where the TEI leaves the line of the end that releases, here the network's, or its link is deactivated, that confirms its release,
 -- and the other end knows nothing of it.
-abbrev removes : List Happening
-removes = by_near (acts (requests (Remove 0))) ∷ []
+abbrev removes : List AnyStepAt
+removes = by_near (step (requests (Remove 0))) ∷ []
 
-abbrev deactivates : List Happening
-deactivates = by_near (acts (requests (Deactivate Call 0))) ∷ []
+abbrev deactivates : List AnyStepAt
+deactivates = by_near (step (requests (Deactivate Call 0))) ∷ []
 
 removed_near : news Call 0 (seen_near removes (happening_all asks (turned faces))) ≡ ReleaseConfirm Call 0 ∷ []
 unfolding lines.after lines.answer lines.takes_slot reading header_of control_of unnumbered_of supervisory_of teis.course teis.refusal seq distance_of named doing_all happening_all seen_near
@@ -95,8 +95,8 @@ old_ua = 0x00 ∷ 0x01 ∷ 0x73 ∷ []
 abbrev with_ua : Wire
 with_ua = record faces { far = record faces.far { way = old_ua ∷ [] } }
 
-abbrev ua_comes : List Happening
-ua_comes = by_near (acts takes) ∷ []
+abbrev ua_comes : List AnyStepAt
+ua_comes = by_near (step receives) ∷ []
 
 ua_near : news Call 0 (seen_near ua_comes (happening_all asks with_ua)) ≡ ReleaseConfirm Call 0 ∷ []
 unfolding lines.after lines.answer lines.takes_slot reading header_of control_of unnumbered_of supervisory_of teis.course teis.refusal seq distance_of named doing_all happening_all seen_near

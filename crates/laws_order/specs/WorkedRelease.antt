@@ -12,28 +12,28 @@ use Rattle.lapd_tei.specs.Events as teis
 use Rattle.model_line.specs.Machine as lines
 use Rattle.model_line.specs.Request.{Data, Release}
 use Rattle.laws_trace.specs.Trace.{Seen, noted}
-use Rattle.laws_wire.specs.Wire.{Wire, requests, times_out, gives, takes, doing_all}
-use Rattle.laws_order.specs.Happenings.{acts, Happening, by_near, by_far, happening_all, seen_near, seen_far}
+use Rattle.laws_wire.specs.Wire.{Wire, requests, expires, sends, receives, doing_all}
+use Rattle.laws_order.specs.Happenings.{step, AnyStepAt, by_near, by_far, happening_all, seen_near, seen_far}
 use Rattle.laws_order.specs.Order.{data_noted, StaysEstablished, state_here}
 use Rattle.laws_order.specs.Release.{news, BeginsNothing}
 use Rattle.laws_order.specs.Worked.{faces}
 
 -- Layer 3 of the near end sends 1, 2 and 3, and releases the link while 1 and 2 are on their way and 3 waits.
-abbrev pub releases : List Happening
+abbrev pub releases : List AnyStepAt
 releases =
-    by_near (acts (requests (Data Call 0 (1 ∷ [])))) ∷ by_near (acts (requests (Data Call 0 (2 ∷ [])))) ∷ by_near (acts gives) ∷ by_near (acts gives)
-    ∷ by_near (acts (requests (Data Call 0 (3 ∷ [])))) ∷ by_far (acts (requests (Data Call 0 (4 ∷ [])))) ∷ by_far (acts gives)
-    ∷ by_near (acts (requests (Release Call 0))) ∷ []
+    by_near (step (requests (Data Call 0 (1 ∷ [])))) ∷ by_near (step (requests (Data Call 0 (2 ∷ [])))) ∷ by_near (step sends) ∷ by_near (step sends)
+    ∷ by_near (step (requests (Data Call 0 (3 ∷ [])))) ∷ by_far (step (requests (Data Call 0 (4 ∷ [])))) ∷ by_far (step sends)
+    ∷ by_near (step (requests (Release Call 0))) ∷ []
 
 abbrev pub released : Wire
 released = happening_all releases faces
 
 -- The far end is told 1 and 2, but neither 3 nor that 4 was not taken, and then that the link is released.
-abbrev pub takes_two : List Happening
-takes_two = by_near (acts gives) ∷ by_far (acts takes) ∷ by_far (acts takes) ∷ by_near (acts takes) ∷ []
+abbrev pub takes_two : List AnyStepAt
+takes_two = by_near (step sends) ∷ by_far (step receives) ∷ by_far (step receives) ∷ by_near (step receives) ∷ []
 
-abbrev pub takes_disc : List Happening
-takes_disc = by_far (acts takes) ∷ by_far (acts gives) ∷ by_near (acts takes) ∷ []
+abbrev pub takes_disc : List AnyStepAt
+takes_disc = by_far (step receives) ∷ by_far (step sends) ∷ by_near (step receives) ∷ []
 
 pub awaits : state_here Call 0 released.near ≡ Some 6
 unfolding lines.after lines.answer lines.takes_slot reading header_of control_of unnumbered_of supervisory_of teis.course teis.refusal seq distance_of named doing_all happening_all
@@ -57,13 +57,13 @@ unfolding lines.after lines.answer lines.takes_slot reading header_of control_of
 far_indicated = refl
 
 -- Both release, and DISC of the near end goes twice: each is told the confirm, and then the near end error C of the second UA.
-abbrev pub both_release : List Happening
+abbrev pub both_release : List AnyStepAt
 both_release =
-    by_far (acts (requests (Release Call 0))) ∷ by_near (acts gives) ∷ by_near (acts (times_out (T200 Call 0))) ∷ by_near (acts gives)
-    ∷ by_far (acts takes) ∷ by_far (acts takes) ∷ by_far (acts takes) ∷ by_far (acts takes)
-    ∷ by_far (acts gives) ∷ by_far (acts gives) ∷ by_far (acts gives)
-    ∷ by_near (acts takes) ∷ by_near (acts takes) ∷ by_near (acts takes) ∷ by_near (acts takes)
-    ∷ by_near (acts gives) ∷ by_far (acts takes) ∷ []
+    by_far (step (requests (Release Call 0))) ∷ by_near (step sends) ∷ by_near (step (expires (T200 Call 0))) ∷ by_near (step sends)
+    ∷ by_far (step receives) ∷ by_far (step receives) ∷ by_far (step receives) ∷ by_far (step receives)
+    ∷ by_far (step sends) ∷ by_far (step sends) ∷ by_far (step sends)
+    ∷ by_near (step receives) ∷ by_near (step receives) ∷ by_near (step receives) ∷ by_near (step receives)
+    ∷ by_near (step sends) ∷ by_far (step receives) ∷ []
 
 -- The notes of what is seen, all of them.
 abbrev notes_in : Seen → List Note

@@ -47,46 +47,48 @@ pub fn all_is_told_in_beats()
     ensures { AllIsToldInBeats }
 {}
 
-/// What is delivered is in order, though octets are damaged. A line of a card of octets of one side faces a line of
-/// one of the other, and the links of a service and TEI are in step there, as [`crate::delivered_in_order`] has them,
-/// to whoever watches the cards of frames inside, to which what happened is what their octets meant. Then anything
-/// happens at both: requests of any kind, expiries, pulls, octets of any value that come, and any events at the other
-/// lines. What comes need not be what the other's pulls gave: octets are changed, lost or added anywhere, and other
-/// terminals may be heard. Of all that comes one thing alone is assumed: a frame of the link that is heard whole, its
-/// check right, was pulled whole; it is one of those that the other's pulls began, behind all that were heard before
+/// What is delivered is in order, though octets are damaged. A line of a card of octets of one side faces a line of one
+/// of the other, and the links of a service and TEI are in step there, as [`crate::delivered_in_order`] has them, to
+/// whoever watches the cards of frames inside, to which what happened is what their octets meant. Then anything happens
+/// at both: requests of any kind, expiries, pulls, octets of any value that come, and any events at the other lines.
+/// What comes need not be what the other's pulls gave: octets are changed, lost or added anywhere, and other terminals
+/// may be heard. Of all that comes one thing alone is assumed: a frame of the link that stands whole in the octets that
+/// came, its check right, was pulled whole; it is one of those that the other's pulls began, after all that came before
 /// it. (That is what the check is for, Q.921 clause 2.7; where errors make a frame of which it shows nothing, that
-/// frame is told, `specs/WorkedDamaged`.) As long as the establishment is neither ended nor renewed at an end, as said
-/// there, the contents it is told of are a beginning of those that the other's link kept for it at first and of those
-/// that the other's layer 3 was granted to send since: in order, each once, and nothing else.
+/// frame is told, `specs/WorkedDamaged`.) Then each card of frames hears exactly what stands in the octets that come at
+/// its end. And as long as the establishment is neither ended nor renewed at an end, as said there, the contents it is
+/// told of are a beginning of those that the other's link kept for it at first and of those that the other's layer 3
+/// was granted to send since: in order, each once, and nothing else.
 pub fn delivered_though_damaged()
     ensures { DeliveredThoughDamaged }
 {}
 
-/// What is delivered is in order, too, where a card of frames faces a card of octets. The controller of the first
-/// takes the frames that the other's pulls begin, and gives what the card gives; what happens at the card of frames is
-/// as in [`crate::delivered_in_order`], at the card of octets as in [`delivered_though_damaged`]: a frame of the link
-/// that is heard whole was given there, behind all that were heard before it, and no more is assumed of the octets that
-/// come. So it is of two cards of either kind.
+/// What is delivered is in order, too, where a card of frames faces a card of octets. The controller of the first takes
+/// the frames that the other's pulls begin, and gives what the card gives; what happens at the card of frames is as in
+/// [`crate::delivered_in_order`], at the card of octets as in [`delivered_though_damaged`]: a frame of the link that
+/// stands whole in the octets that came was given there, after all that came before it, and no more is assumed of them.
+/// Then the card of octets hears exactly what stands in them, and what is told at each is in order. So it is of two
+/// cards of either kind.
 pub fn delivered_between_kinds()
     ensures { DeliveredBetweenKinds }
 {}
 
 /// A call between a card of frames and one of octets is a call between two cards of frames (`frames`), and comes
-/// through (`through`). The line between them and the first's controller are without fault: an octet that ends anything
-/// at the card of octets ends the first frame that the other gave, whole, and what its pulls begin is taken in order.
-/// Whatever is asked for in a call, as [`a_call_comes_through_in_octets`] has it, in whatever order octets are pulled
-/// and come, and frames are given and taken: from any state of the two there is a run of two cards of frames in the
-/// same call that leads to the same, so to the same that is granted, told and on its way. And where the two have just
-/// begun, and layer 3 of either asks for the establishment first, the call comes through as `a_call_comes_through` of
-/// `laws_wire` says.
+/// through (`through`). The line between them and the first's controller are without fault: where anything stands in
+/// the octets received with one more, and not without it, it is the first frame that the other gave, whole; and what
+/// the pulls begin is taken in order. Whatever is asked for in a call, as [`a_call_comes_through_in_octets`] has it, in
+/// whatever order octets are pulled and come, and frames are given and taken: from any state of the two there is a run
+/// of two cards of frames in the same call that leads to the same, so to the same that is granted, told and on its way.
+/// And where the two have just begun, and layer 3 of either asks for the establishment first, the call comes through as
+/// `a_call_comes_through` of `laws_wire` says.
 pub fn calls_are_of_frames()
     ensures frames { CallsAreOfFrames }
     ensures through { CallsComeThroughBetweenKinds }
 {}
 
 /// A call comes to rest. Where all has gone in a call, as [`a_call_comes_through_in_octets`] has it, whether one end
-/// called or both, the two links are in step, and no frame of them is on its way or waits. So what
-/// [`delivered_though_damaged`] says holds of all that happens from there on.
+/// called or both, the two links are in step, no frame of them is on its way or waits, and what came at each end is
+/// what its port has received. So what [`delivered_though_damaged`] says holds of all that happens from there on.
 pub fn a_call_comes_to_rest()
     ensures { CallsComeToRest }
 {}

@@ -44,17 +44,19 @@ pub fn releases_end()
     ensures over { ReleasedIsOver }
 {}
 
-/// A release is told in the end, at both ends. At an end of the wire the link is in state 6, as from where layer 3 is
-/// granted the release, whatever waits and whatever is on its way. Then anything happens at both, as in
-/// [`delivered_in_order`], and frames are lost, too. Once T200 has expired there more than N200 times, if not before,
-/// this end was told that the release is confirmed, by itself or behind error H, unless something else began, as in
-/// [`releases_end`] (`here`; Q.921 clauses 5.5.3.2 and 5.5.3.3). And where it is told that alone, the other end was
-/// told: the two links faced each other in step before the release, as in [`delivered_in_order`], and the other's
-/// establishment lasted until then; then its layer 3 was told behind the release that this is over or renewed, by a
-/// note that ends it in [`delivered_in_order`], so maybe by error B alone, or was granted a release itself (`there`).
-/// So it is while the TEI stays on the line of the end that releases, and its link is not deactivated: either confirms
-/// the release there, and the other end knows nothing of it. Where error H is told each DISC may have been lost, and
-/// then the other end is told nothing (`specs/WorkedEnding` of `laws_wire`).
+/// A release is told in the end, at both ends. At an end of the wire the link is in state 6, as after layer 3 was
+/// granted the release of a link in state 7 or 8, whatever waits and whatever is on its way. (A release that is granted
+/// in state 4 leaves the link in state 4. It is confirmed at once, no DISC is sent, and the other end is not told. Of
+/// it this law says nothing.) Then anything happens at both, as in [`delivered_in_order`], and frames are lost, too.
+/// Once T200 has expired there more than N200 times, if not before, this end was told that the release is confirmed, by
+/// itself or behind error H, unless something else began, as in [`releases_end`] (`here`; Q.921 clauses 5.5.3.2 and
+/// 5.5.3.3). And where it is told that alone, the other end was told: the two links faced each other in step before the
+/// release, as in [`delivered_in_order`], and the other's establishment lasted until then; then its layer 3 was told
+/// behind the release that this is over or renewed, by a note that ends it in [`delivered_in_order`], so maybe by error
+/// B alone, or was granted a release itself (`there`). So it is while the TEI stays on the line of the end that
+/// releases, and its link is not deactivated: either confirms the release there, and the other end knows nothing of it.
+/// Where error H is told each DISC may have been lost, and then the other end is told nothing (`specs/WorkedEnding` of
+/// `laws_wire`).
 pub fn releases_are_told()
     ensures here { ReleasesAreTold }
     ensures there { BothAreTold }

@@ -1,5 +1,5 @@
 -- Every card that is reached keeps all that is promised, of every list of events at its lines.
-use Rattle.laws_promises.proofs.Vocabulary.{ℕ, List, take, All-take, Card, IsAtLine, IsSound, reached-sound, Wherever, CallsComeToAnEnd, others-stay, causes-are-told, come-to-an-end}
+use Rattle.laws_promises.proofs.Vocabulary.{ℕ, List, take, All-take, Card, IsAtLine, IsSound, reached-sound, Wherever, CallsComeToAnEnd, others-stay, come-to-an-end}
 use Rattle.model_card.specs.Event.{Event}
 use Rattle.model_card.specs.Reached.{IsReached}
 use Rattle.model_card.specs.Run.{AreAtLines}
@@ -20,6 +20,5 @@ module _ (m : Card) (events : List Event) (reached : IsReached m) (within : AreA
   pub promises-kept : Promises m events
   promises-kept = record {
     others_stay = others-stay m events sound within;
-    causes_are_told = causes-are-told m events sound within;
     calls_come_to_an_end = front (Wherever CallsComeToAnEnd) come-to-an-end;
   }

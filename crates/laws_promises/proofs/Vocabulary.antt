@@ -6,7 +6,7 @@ pub use Rattle.std.proofs.lemmas.List.Elements.{All-cons, All-head, All-map, All
 pub use Rattle.std.proofs.lemmas.List.Sums.{sum_by-cons}
 pub use Rattle.std.specs.Prelude.{All, count_by, option_map}
 pub use Rattle.lapd_frame.specs.declared.timers.Order.{Order}
-pub use Rattle.laws_line.proofs.OfCard.Brief.{causes-are-told, others-stay}
+pub use Rattle.laws_line.proofs.OfCard.Brief.{others-stay}
 pub use Rattle.laws_line.proofs.OfCard.Wherever.{come-to-an-end}
 pub use Rattle.laws_line.specs.card.PromisesOfTakes.{CallsComeToAnEnd, Wherever}
 pub use Rattle.model_bits.specs.declared.heard.Cause.TheVariants.{Short}

@@ -4,7 +4,7 @@
 use Rattle.std.specs.Prelude.{ℕ, List, take}
 use Rattle.model_card.specs.Card.{Card}
 use Rattle.model_card.specs.Event.{Event}
-use Rattle.laws_line.specs.card.Brief.{OthersStay, CausesAreTold}
+use Rattle.laws_line.specs.card.Brief.{OthersStay}
 use Rattle.laws_line.specs.card.PromisesOfTakes.{Wherever, CallsComeToAnEnd}
 
 -- From a card on: those of a whole list hold in each of its moments; and those with a count hold after that many of
@@ -13,9 +13,6 @@ pub record Promises (m : Card) (events : List Event) : Type 0 where
   -- In every moment all lines stay as they are but that of the event; and of its links all but one, except those of a TEI that
   -- comes or leaves (profile).
   pub others_stay : OthersStay m events
-  -- Of what is heard and is no frame why it is none is all that is answered, and of a frame of TEI management on the user's
-  -- side that it is not served; so it changes nothing, as `without_effect` of `drive` says (clauses 2.9 and 5.3).
-  pub causes_are_told : CausesAreTold m events
   -- Once the next frame of a line was called for as often as the configuration says, and nothing else happened there, the next
   -- call gives none: so by `teis_are_managed`, `units_go_out` and `what_is_given_is_due` of `laws_trace` nothing waits on it but
   -- I-frames behind a closed window, behind a terminal that is busy, or of a link that is not in state 7. These are 200 calls on a

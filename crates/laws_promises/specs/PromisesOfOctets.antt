@@ -14,5 +14,6 @@ IsBegunIn m = (value : ℕ) (orders : List Order) → m.answer ≡ pulled value 
 -- From a card on, in each moment of the list.
 pub record PromisesOfOctets (m : OctetCard) (events : List Event) : Type 0 where
   -- A pull that says that a frame was begun gives its first bit: fewer than eight bits were left of what was on the line before.
-  -- It says so exactly where the card of frames gave one, which stands behind these bits then, as `codec` has it (clause 2.2).
+  -- It says so exactly where the card of frames gave one, as `codec` has it, and that one stands right after these bits, as
+  -- `frames_go_at_once` of `model_card::ports` has it (clause 2.2).
   pub begun_is_told : All IsBegunIn (moments m events)

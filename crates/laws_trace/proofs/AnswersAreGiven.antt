@@ -5,8 +5,8 @@ use Rattle.laws_line.specs.card.Among.{AreAmong}
 unfoldable use Rattle.laws_line.specs.card.PromisesOfTakes.{StaysAt, come_first_at}
 use Rattle.laws_line.specs.card.PromisesOfTakes.{IsNotDeactivated, is_deactivated_at}
 use Rattle.laws_trace.specs.NoLossInVain.{puts_by}
-use Rattle.laws_trace.specs.AnswersAreGiven.{AreEnough, texts, go_first, begun_behind, WaitingIsGiven, AnswersAreGiven, WaitLast}
-unfoldable use Rattle.laws_trace.specs.AnswersAreGiven.{Stays, come_first}
+use Rattle.laws_trace.specs.AnswersAreGiven.{texts, queue, priority_waiting, sent_during, QueueIsSent, AnswersAreSent}
+unfoldable use Rattle.laws_trace.specs.AnswersAreGiven.{Stays, priority_added}
 use Rattle.laws_line.specs.Among as at_line
 use Rattle.laws_trace.proofs.Addressed.{at-some-place}
 use Rattle.laws_trace.proofs.LineAtEnd.{line-at-end}
@@ -28,7 +28,7 @@ module _ (c : Config) (number : ℕ) (ranged : IsInRange c) (within : number < c
   end events = line_at number (card events)
 
   -- the frames that go first
-  first-are : (events : List Event) → AreAtLines (fresh c) events → go_first c number events ≡ at_line.go_first (end events)
+  first-are : (events : List Event) → AreAtLines (fresh c) events → priority_waiting c number events ≡ at_line.go_first (end events)
   first-are events all =
       let owed = ap (λ w. length w.owed) (follows-now c events number ranged all within).is in
       let units = ap length (left-is-waiting c (trace_of c events number) [] (map (unit_frame c) (end events).units) (goes c events number ranged all within))
@@ -39,8 +39,8 @@ module _ (c : Config) (number : ℕ) (ranged : IsInRange c) (within : number < c
   unfolding after_all
   card-then before e = after_all-append (fresh c) before (e ∷ [])
 
-  pub come-so : (before events : List Event) → AreAtLines (fresh c) (before ++ events) → come_first c number before events ≡ come_first_at number (card before) events
-  unfolding come_first come_first_at
+  pub come-so : (before events : List Event) → AreAtLines (fresh c) (before ++ events) → priority_added c number before events ≡ come_first_at number (card before) events
+  unfolding priority_added come_first_at
   come-so before [] all = refl
   come-so before (e ∷ events) all =
       let whole = subst (AreAtLines (fresh c)) (sym (append_assoc before (e ∷ []) events)) all in
@@ -48,8 +48,8 @@ module _ (c : Config) (number : ℕ) (ranged : IsInRange c) (within : number < c
       let now = first-are (before ++ e ∷ []) (all-left (IsAtLine (fresh c)) (before ++ e ∷ []) events whole)
       ∙ ap (λ k. at_line.go_first (line_at number k)) (card-then before e) in
       let rest = come-so (before ++ e ∷ []) events whole ∙ ap (λ k. come_first_at number k events) (card-then before e) in
-      ap (λ n. cond (e.line == number && is_take e.what) 0 (n - go_first c number before) + come_first c number (before ++ e ∷ []) events) now
-      ∙ ap (λ n. cond (e.line == number && is_take e.what) 0 (at_line.go_first (line_at number (after e (card before))) - n) + come_first c number (before ++ e ∷ []) events) was
+      ap (λ n. cond (e.line == number && is_take e.what) 0 (n - priority_waiting c number before) + priority_added c number (before ++ e ∷ []) events) now
+      ∙ ap (λ n. cond (e.line == number && is_take e.what) 0 (at_line.go_first (line_at number (after e (card before))) - n) + priority_added c number (before ++ e ∷ []) events) was
       ∙ ap (λ n. cond (e.line == number && is_take e.what) 0 (at_line.go_first (line_at number (after e (card before))) - at_line.go_first (end before)) + n) rest
 
   module _ (service : Service) (tei : ℕ) where
@@ -153,14 +153,14 @@ module _ (c : Config) (number : ℕ) (ranged : IsInRange c) (within : number < c
           (subst (λ (d : Config). All (λ (e : Event). e.line < d.lines) behind) (sym (config-stays (fresh c) before)) (all-right (IsAtLine (fresh c)) before behind all))
           [] behind refl number link tei few some link-stays link-up less
 
-      pub given-in-order : AreEnough c number before behind → AreAmong (texts c service tei (outgoing_of c service tei number before).waiting) (begun_behind c number before behind)
+      pub given-in-order : most_frames_before c + priority_added c number before behind < takes_of number behind → AreAmong (texts c service tei (outgoing_of c service tei number before).waiting) (sent_during c number before behind)
       unfolding AreTaken
       given-in-order enough =
           let so : AreTaken c = subst AreTaken (config-stays (fresh c) before) taken in
           subst (AreAmong (texts c service tei (outgoing_of c service tei number before).waiting)) (sym (begun_given number (card before) behind))
           (subst (λ xs. AreAmong xs given) texts-are (so within link-few (omega (arith, enough, come-so before behind all))))
 
-pub waiting-is-given : Always WaitingIsGiven
+pub waiting-is-given : Always QueueIsSent
 waiting-is-given c events number ranged all within before behind service tei split stays enough =
     given-in-order c number ranged within service tei before behind (subst (AreAtLines (fresh c)) split all) stays enough
 
@@ -221,16 +221,7 @@ module _ (c : Config) (number : ℕ) (ranged : IsInRange c) (within : number < c
             ∙ x.1,
       )
 
--- So it is whatever is said of all that waits.
-pub wait-so : (c : Config) (number : ℕ) → IsInRange c → number < c.lines → (service : Service) (tei : ℕ) (before : List Event) (what : line_event.Event) (Go : List (List ℕ) → Type 0)
-    → lost_in (moment_of c before number what).answer ≡ 0 → Go (texts c service tei (outgoing_of c service tei number (before ++ at number what ∷ [])).waiting)
-    → WaitLast c number service tei before what Go
-wait-so c number ranged within service tei before what Go none all =
-    let last = wait-last c number ranged within service tei before what none in
-    record { earlier = last.0; wait = last.1; go = subst (λ fs. Go (texts c service tei fs)) last.1 all }
-
-pub answers-are-given : Always AnswersAreGiven
-answers-are-given c events number ranged all within before what behind service tei split none stays enough =
-    let upto = before ++ at number what ∷ [] in
-    wait-so c number ranged within service tei before what (λ frames. AreAmong frames (begun_behind c number upto behind)) none
-    (waiting-is-given c events number ranged all within upto behind service tei (split ∙ sym (append_assoc before (at number what ∷ []) behind)) stays enough)
+pub answers-are-given : Always AnswersAreSent
+answers-are-given c events number ranged all within past what later service tei split none =
+    let last = wait-last c number ranged within service tei past what none in
+    record { earlier = last.0; queue_is = last.1 }

@@ -106,7 +106,11 @@ pub mod SlotsSummed
 pub mod SlotsTaken
 pub mod NoSlotIsLost
 pub mod UnitsAreGranted
+pub mod RequestsRefused
+pub mod RequestsOfLink
+pub mod RequestsTakeEffect
 pub mod AnswersAreGiven
+pub mod CausesAreTold
 pub mod CountersCount
 pub mod SeenAs
 pub mod KeptOfLink

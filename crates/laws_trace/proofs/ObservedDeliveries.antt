@@ -1,5 +1,5 @@
 -- What layer 3 is told of what is heard, by what the observer knows of the link.
-use Rattle.laws_trace.proofs.Vocabulary.{arith, List, nat_le, ◌≡◌, ℕ, ◌<◌, ◌||◌, Bool, true, false, Option, Some, None, option_map, refl, sym, ap, ◌∙◌, subst, true≢false, inl, inr, fold, count_by, length, option_to_list, list_any, option_map_or, and_parts, none-some, PoolFull, Service, Parts, state_number, Config, Answer, refused, Line, link_of, place_in, state_of, IsInRange, notes_of, contents_in, is_data_of, is_unit_of, tells_contents, line_at, is_full, at, has_lines, by_room, line_sound, IsSound, fresh, card_answer as answer, after_all, AreAtLines, is_unit_for, is_unit_taken, Deliveries, brought, is_for, Observed, in_state, view_of, is_up, trace_of, Always, is_ui, Managed, Event}
+use Rattle.laws_trace.proofs.Vocabulary.{arith, List, nat_le, ◌≡◌, ℕ, ◌<◌, ◌||◌, Bool, true, false, Option, Some, None, option_map, refl, sym, ap, ◌∙◌, subst, true≢false, inl, inr, fold, count_by, length, option_to_list, list_any, option_map_or, and_parts, none-some, PoolFull, Service, Parts, state_number, Config, Answer, refused, Line, link_of, place_in, state_of, IsInRange, notes_of, contents_in, is_data_of, is_unit_of, tells_contents, line_at, is_full, at, has_lines, by_room, line_sound, IsSound, fresh, card_answer as answer, after_all, AreAtLines, is_unit_for, is_unit_taken, WhatIsToldWasHeard, brought, is_for, Observed, in_state, view_of, is_up, trace_of, Always, is_ui, Managed, Event}
 use Rattle.model_line.specs.Machine as lines
 use Rattle.laws_trace.proofs.Deliveries.{frame_by}
 use Rattle.laws_trace.proofs.DeliveriesKept.{run-stands}
@@ -97,7 +97,13 @@ taken-so : (c : Config) (tei : ℕ) (w : Managed) (frame : Option Parts) (conten
     → contents ≡ option_map (λ (f : Parts). f.info) frame → IsSmall c.n201 contents → option_map_or (is_unit_taken c tei w) frame false ≡ true
 taken-so c tei w frame contents comes is small = grind (arith, nat_le, IsSmall)
 
-pub deliveries-so : Always Deliveries
+-- Two truths that follow from each other are equal.
+same-truth : (a b : Bool) → (a ≡ true → b ≡ true) → (b ≡ true → a ≡ true) → a ≡ b
+same-truth true b there back = sym (there refl)
+same-truth false true there back = back refl
+same-truth false false there back = refl
+
+pub deliveries-so : Always WhatIsToldWasHeard
 deliveries-so c events number ranged all within service tei before what behind is =
     let first = front-at (fresh c) before (at number what) behind (subst (AreAtLines (fresh c)) is all) in
     let card = after_all (fresh c) before in
@@ -114,12 +120,13 @@ deliveries-so c events number ranged all within service tei before what behind i
     told-so service tei card.config s.config (line_at number card) (line_sound card number (has_lines card s) here) what w.told.count x.1 w.busy w.rejected x.2 o
     (agrees-now c before number ranged first within service tei) _ _ _ _ (known-now c before number ranged first within service tei))) in
     record {
-      data_is = told.data_is;
-      unit_is = λ some.
+      data_told = told.data_is;
+      unit_told = same-truth _ _
+          (λ some.
           taken-so c tei (view_of c service tei number before).teis (brought c service tei what) _
           (unit-is c before number ranged first within service tei what (brought c service tei what) told.unit_is some)
-          (told.contents_are (grind arith)) (told.small some);
-      units_are = units-are c events number ranged all within service tei before what behind is;
-      contents_are = told.contents_are;
+          (told.contents_are (grind arith)) (told.small some))
+          (units-are c events number ranged all within service tei before what behind is);
+      contents = told.contents_are;
       once = told.once;
     }

@@ -20,51 +20,52 @@ use Rattle.laws_trace.specs.Outgoing.{outgoing_of}
 use Rattle.laws_trace.specs.Trace.{trace, frames_begun}
 use Rattle.laws_trace.specs.UnitsGoOut.{units_of}
 
--- The frames that go before those of links: the messages of TEI management that are owed, and the unit data that waits (profile);
-abbrev pub go_first : Config → ℕ → List Event → ℕ
-go_first c number events = length (managed_after c number events).owed + length (units_of c events number)
+-- Frames with priority over links (profile): messages of TEI management that are owed, and unit data that waits.
+abbrev pub priority_waiting : Config → ℕ → List Event → ℕ
+priority_waiting c line past = length (managed_after c line past).owed + length (units_of c past line)
 
--- and how many of them come by events behind others, but for calls for the next frame of the line.
-unfoldable pub come_first : Config → ℕ → List Event → List Event → ℕ
-come_first c number before [] = 0
-come_first c number before (e ∷ events) =
-    (if e.line == number && is_take e.what then 0 else go_first c number (before ++ e ∷ []) - go_first c number before) + come_first c number (before ++ e ∷ []) events
+-- How many more of them come during `later`. A call for the next frame only takes one away, so it counts as none.
+unfoldable pub priority_added : Config → ℕ → List Event → List Event → ℕ
+priority_added c line past [] = 0
+priority_added c line past (e ∷ later) =
+    let now = past ++ e ∷ [] in
+    let added = if e.line == line && is_take e.what then 0 else priority_waiting c line now - priority_waiting c line past in
+    added + priority_added c line now later
 
--- Behind some events a TEI is on the line, as whoever watches it knows, and stays there, and a link of it is not deactivated.
+-- During `later` a TEI is on the line, to an observer, and a link of it is not deactivated.
 unfoldable pub Stays : Config → ℕ → Service → ℕ → List Event → List Event → Type 0
-Stays c number service tei before [] = is_on tei (managed_after c number before) ≡ true
-Stays c number service tei before (e ∷ events) =
-    (is_on tei (managed_after c number before) ≡ true) × ((e.line == number && deactivates service tei e.what) ≡ false) × Stays c number service tei (before ++ e ∷ []) events
+Stays c line service tei past [] = is_on tei (managed_after c line past) ≡ true
+Stays c line service tei past (e ∷ later) =
+    (is_on tei (managed_after c line past) ≡ true) × ((e.line == line && deactivates service tei e.what) ≡ false) × Stays c line service tei (past ++ e ∷ []) later
 
--- So the calls for the next frame among events behind others are more than the configuration allows before a control frame, with
--- each message and unit data that comes meanwhile.
-abbrev pub AreEnough : Config → ℕ → List Event → List Event → Type 0
-AreEnough c number before events = most_frames_before c + come_first c number before events < takes_of number events
+-- The control frames that wait on a link, oldest first, to an observer; their octets; and the frames that begin during `later`.
+abbrev pub queue : Config → ℕ → Service → ℕ → List Event → List ControlFrame
+queue c line service tei past = (outgoing_of c service tei line past).waiting
 
--- The control frames of a link, as they go; and the frames that begin by events behind others.
 abbrev pub texts : Config → Service → ℕ → List ControlFrame → List (List ℕ)
 texts c service tei fs = map (λ (f : ControlFrame). text c service tei f.command f.control []) fs
 
-abbrev pub begun_behind : Config → ℕ → List Event → List Event → List (List ℕ)
-begun_behind c number before events = frames_begun (trace number (moments (after_all (fresh c) before) events))
+abbrev pub sent_during : Config → ℕ → List Event → List Event → List (List ℕ)
+sent_during c line past later = frames_begun (trace line (moments (after_all (fresh c) past) later))
 
--- Whatever else happens at the line, the control frames that wait begin in order, each by one of these calls.
-abbrev pub WaitingIsGiven : Config → List Event → ℕ → Type 0
-WaitingIsGiven c events number =
-    (before behind : List Event) (service : Service) (tei : ℕ) → events ≡ before ++ behind → Stays c number service tei before behind → AreEnough c number before behind →
-    AreAmong (texts c service tei (outgoing_of c service tei number before).waiting) (begun_behind c number before behind)
-
--- Those that an event of the line puts wait last behind it; and of all that wait then this holds, in order.
-pub record WaitLast (c : Config) (number : ℕ) (service : Service) (tei : ℕ) (before : List Event) (what : line_event.Event) (Go : List (List ℕ) → Type 0) : Type 0 where
+-- (1) What an event makes due joins the end of the queue, if its answer tells no frame as lost.
+pub record JoinsQueue (c : Config) (line : ℕ) (service : Service) (tei : ℕ) (past : List Event) (event : line_event.Event) : Type 0 where
   pub earlier : List ControlFrame
-  pub wait : (outgoing_of c service tei number (before ++ at number what ∷ [])).waiting ≡ earlier ++ puts_by c number before what service tei
-  pub go : Go (texts c service tei (earlier ++ puts_by c number before what service tei))
+  pub queue_is : queue c line service tei (past ++ at line event ∷ []) ≡ earlier ++ puts_by c line past event service tei
 
--- So where the answer to an event tells no frame as lost, each control frame that is due by it begins, behind those that waited
--- before, each at a place of its own.
-abbrev pub AnswersAreGiven : Config → List Event → ℕ → Type 0
-AnswersAreGiven c events number =
-    (before : List Event) (what : line_event.Event) (behind : List Event) (service : Service) (tei : ℕ) → events ≡ before ++ at number what ∷ behind →
-    let upto = before ++ at number what ∷ [] in
-    lost_in (moment_of c before number what).answer ≡ 0 → Stays c number service tei upto behind → AreEnough c number upto behind →
-    WaitLast c number service tei before what (λ frames. AreAmong frames (begun_behind c number upto behind))
+abbrev pub AnswersAreSent : Config → List Event → ℕ → Type 0
+AnswersAreSent c events line =
+    (past : List Event) (event : line_event.Event) (later : List Event) (service : Service) (tei : ℕ) →
+    events ≡ past ++ at line event ∷ later →
+    lost_in (moment_of c past line event).answer ≡ 0 →
+    JoinsQueue c line service tei past event
+
+-- (2) All that is in the queue is sent, in order, each frame by a call of its own, once there were enough calls: more than
+-- the frames that may go before a control frame. The TEI stays on the line, and the link is not deactivated.
+abbrev pub QueueIsSent : Config → List Event → ℕ → Type 0
+QueueIsSent c events line =
+    (past later : List Event) (service : Service) (tei : ℕ) →
+    events ≡ past ++ later →
+    Stays c line service tei past later →
+    most_frames_before c + priority_added c line past later < takes_of line later →
+    AreAmong (texts c service tei (queue c line service tei past)) (sent_during c line past later)

@@ -17,11 +17,11 @@ use Rattle.laws_trace.specs.Trace.{is_up}
 
 -- A receipt is RNR while layer 3 is busy, and RR while it is not; its N(R) is the number of contents told of the link
 -- since its numbers began, modulo 128 (Q.921 clauses 3.5.2.6, 3.6.6, 3.6.8 and 5.6.6).
-abbrev pub receipt : Observed → Bool → Control
-receipt o pf = if o.own_busy then ReceiveNotReady (seq o.count) pf else ReceiveReady (seq o.count) pf
+abbrev pub rr_or_rnr : Observed → Bool → Control
+rr_or_rnr o pf = if o.own_busy then ReceiveNotReady (seq o.count) pf else ReceiveReady (seq o.count) pf
 
 abbrev pub polled : Observed → Bool → List ControlFrame
-polled now p = if p then as_response (receipt now true) else []
+polled now p = if p then as_response (rr_or_rnr now true) else []
 
 -- What answers a frame, as the link stands before and behind it: in states 7 and 8 REJ with F = P the first I-frame that
 -- is rejected, and a receipt each other one with P=1, and each command RR, RNR and REJ with P=1. An I-frame whose
@@ -45,7 +45,7 @@ answer_to c was now f other = if is_up was.state then answer_up was now (nat_lt 
 
 -- Layer 3 comes to be busy in states 7 and 8, which RNR says, or is so no more, and RR says it (clause 5.6.6).
 abbrev pub changed : Observed → Observed → List ControlFrame
-changed was now = if is_up now.state && (if was.own_busy then not now.own_busy else now.own_busy) then as_response (receipt now false) else []
+changed was now = if is_up now.state && (if was.own_busy then not now.own_busy else now.own_busy) then as_response (rr_or_rnr now false) else []
 
 abbrev pub answers : Config → Service → ℕ → Observed → Observed → line_event.Event → List ControlFrame
 answers c service tei was now what = option_map_or (λ (f : Parts). answer_to c was now f f.control) (brought c service tei what) (changed was now)
@@ -57,7 +57,7 @@ abbrev pub command_of : Observed → List ControlFrame
 command_of now =
     if now.state == 5 then as_command (Sabme true)
     else if now.state == 6 then as_command (Disc true)
-    else if now.state == 8 then as_command (receipt now true)
+    else if now.state == 8 then as_command (rr_or_rnr now true)
     else []
 
 -- So these are put in a moment of the line while the TEI is on it, an answer before a command.

@@ -38,18 +38,33 @@ is_unit_for c tei w f = is_ui f.control && (is_on tei w || (not (manages c.side)
 abbrev pub is_unit_taken : Config → ℕ → Managed → Parts → Bool
 is_unit_taken c tei w f = is_unit_for c tei w f && nat_le (length f.info) c.n201
 
--- Data is told exactly where an I-frame is taken, and unit data exactly where a UI is. The contents are the information of
--- the frame, and are noted as one or the other, once.
-pub record IsTold (c : Config) (service : Service) (tei : ℕ) (was : View) (frame : Option Parts) (a : Answer) : Type 0 where
-  pub data_is : list_any (is_data_of service tei) (notes_of a) ≡ option_map_or (is_taken c was.link) frame false
-  pub unit_is : list_any (is_unit_of service tei) (notes_of a) ≡ true → option_map_or (is_unit_taken c tei was.teis) frame false ≡ true
-  pub units_are : option_map_or (is_unit_taken c tei was.teis) frame false ≡ true → list_any (is_unit_of service tei) (notes_of a) ≡ true
-  pub contents_are : (list_any (is_data_of service tei) (notes_of a) || list_any (is_unit_of service tei) (notes_of a)) ≡ true
-      → contents_in a ≡ option_map (λ (f : Parts). f.info) frame
+-- What the answer tells layer 3 of this link: data; unit data.
+abbrev pub tells_data : Service → ℕ → Answer → Bool
+tells_data service tei a = list_any (is_data_of service tei) (notes_of a)
+
+abbrev pub tells_unit_data : Service → ℕ → Answer → Bool
+tells_unit_data service tei a = list_any (is_unit_of service tei) (notes_of a)
+
+-- What is due by the frame that came for this link, if one came: data by an I-frame that the link takes, unit data by a UI.
+abbrev pub data_due : Config → View → Option Parts → Bool
+data_due c was frame = option_map_or (is_taken c was.link) frame false
+
+abbrev pub unit_data_due : Config → ℕ → View → Option Parts → Bool
+unit_data_due c tei was frame = option_map_or (is_unit_taken c tei was.teis) frame false
+
+-- Exactly what is due is told. What is told are the contents of that frame, and they are told once.
+pub record TellsWhatIsDue (c : Config) (service : Service) (tei : ℕ) (was : View) (frame : Option Parts) (a : Answer) : Type 0 where
+  pub data_told : tells_data service tei a ≡ data_due c was frame
+  pub unit_told : tells_unit_data service tei a ≡ unit_data_due c tei was frame
+  pub contents : (tells_data service tei a || tells_unit_data service tei a) ≡ true → contents_in a ≡ option_map (λ (f : Parts). f.info) frame
   pub once : count_by tells_contents (notes_of a) ≡ length (option_to_list (contents_in a))
 
--- So it is of every link, at every event of the line.
-abbrev pub Deliveries : Config → List Event → ℕ → Type 0
-Deliveries c events number =
-    (service : Service) (tei : ℕ) (before : List Event) (what : line_event.Event) (behind : List Event) → events ≡ before ++ at number what ∷ behind →
-    IsTold c service tei (view_of c service tei number before) (brought c service tei what) (answer (at number what) (after_all (fresh c) before))
+-- At every event of the line, for every link. `was` is what an observer knew before.
+abbrev pub WhatIsToldWasHeard : Config → List Event → ℕ → Type 0
+WhatIsToldWasHeard c events line =
+    (service : Service) (tei : ℕ) (past : List Event) (event : line_event.Event) (later : List Event) →
+    events ≡ past ++ at line event ∷ later →
+    let was = view_of c service tei line past in
+    let frame = brought c service tei event in
+    let a = answer (at line event) (after_all (fresh c) past) in
+    TellsWhatIsDue c service tei was frame a

@@ -19,6 +19,7 @@ pub mod News
 pub mod Outgoing
 pub mod NoSlotIsLost
 pub mod UnitsAreGranted
+pub mod RequestsTakeEffect
 pub mod FramesAreDue
 pub mod WorkedDue
 pub mod WorkedUnits
@@ -36,8 +37,12 @@ pub mod WorkedOtherSide
 pub mod RoomsAreTold
 pub mod WorkedRooms
 pub mod WorkedGranted
+pub mod WorkedRequests
 pub mod WorkedUnitsTold
+pub mod CausesAreTold
 pub mod CountersCount
 pub mod WorkedCounters
+pub mod WorkedCauses
+pub mod WorkedPremises
 pub mod WorkedKept
 pub mod octets

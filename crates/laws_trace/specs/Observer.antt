@@ -81,8 +81,8 @@ numbered nr o = if is_invalid o nr then anew o else record o { acknowledged = nr
 
 -- and RR, RNR and REJ say too whether the terminal is busy. A response with F=1 ends the recovery of state 8. Behind it,
 -- and behind REJ in state 7, I-frames go again from N(R) on (clauses 5.6.3 to 5.6.5 and 5.6.7).
-abbrev pub receipt : Bool → Bool → Bool → Seq → Observed → Observed
-receipt final again busy nr o =
+abbrev pub apply_supervisory : Bool → Bool → Bool → Seq → Observed → Observed
+apply_supervisory final again busy nr o =
     if is_invalid o nr then anew o
     else if o.state == 8 && final then record o { state = 7; acknowledged = nr.value; next = nr.value; busy = busy }
     else record o { acknowledged = nr.value; next = if again && o.state == 7 then nr.value else o.next; busy = busy }
@@ -100,9 +100,9 @@ while_up long command (Dm f) o = if o.state == 8 || not f then anew o else o
 while_up long command (Frmr f) o = anew o
 -- clauses 5.6.2, 5.8.1, 5.8.2 and 5.8.5
 while_up long command (Information ns nr p) o = if long then anew o else numbered nr (takes ns o)
-while_up long command (ReceiveReady nr pf) o = receipt (not command && pf) false false nr o
-while_up long command (ReceiveNotReady nr pf) o = receipt (not command && pf) false true nr o
-while_up long command (Reject nr pf) o = receipt (not command && pf) true false nr o
+while_up long command (ReceiveReady nr pf) o = apply_supervisory (not command && pf) false false nr o
+while_up long command (ReceiveNotReady nr pf) o = apply_supervisory (not command && pf) false true nr o
+while_up long command (Reject nr pf) o = apply_supervisory (not command && pf) true false nr o
 while_up long command other o = o
 
 -- In states 4, 5 and 6 (clauses 5.5.1.2, 5.5.3.2, 5.5.5 and 5.8.7); in state 1 nothing.

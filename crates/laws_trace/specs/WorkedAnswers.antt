@@ -1,5 +1,5 @@
 -- Worked values: a poll and SABME that are answered as the law has it, and answers that are missing.
-use Rattle.std.specs.Prelude.{◌≡◌, List, [], ◌∷◌, ◌++◌, true, refl}
+use Rattle.std.specs.Prelude.{◌≡◌, ◌+◌, ◌<◌, List, [], ◌∷◌, ◌++◌, true, refl}
 use Rattle.std.proofs.Common.{arith}
 use Rattle.model_bits.specs.Stream as stream
 use Rattle.lapd_frame.specs.declared.controls.Control.TheVariants.{ReceiveReady, Ua}
@@ -9,19 +9,19 @@ use Rattle.lapd_seq.specs.Circle.{named, distance_of}
 use Rattle.lapd_seq.specs.Numbers.{seq}
 use Rattle.lapd_tei.specs.Events as teis
 use Rattle.laws_link.specs.Waiting.{as_response}
-use Rattle.model_link.specs.declared.frames.ControlFrame.{ControlFrame}
 use Rattle.model_line.specs.Event as line_event
 use Rattle.model_line.specs.Event.{hears}
 use Rattle.model_line.specs.Machine as lines
 use Rattle.model_line.specs.Request.{Assign, Unit}
 use Rattle.model_card.specs.Event.{Event, at}
 use Rattle.model_card.specs.Run.{moments, after_all}
+use Rattle.model_card.specs.Takes.{takes_of}
 use Rattle.laws_line.specs.Drains.{most_frames_before}
 use Rattle.laws_line.specs.Frames.{lost_in}
 use Rattle.laws_line.specs.WorkedPolled.{small}
 use Rattle.laws_line.specs.card.Among.{AreAmong}
 use Rattle.laws_line.specs.card.Worked.{on_0}
-use Rattle.laws_trace.specs.AnswersAreGiven.{Stays, AreEnough, WaitLast, come_first, texts, begun_behind}
+use Rattle.laws_trace.specs.AnswersAreGiven.{Stays, JoinsQueue, priority_added, queue, texts, sent_during}
 use Rattle.laws_trace.specs.NoLossInVain.{puts_by}
 use Rattle.laws_trace.specs.Observer.{moment_of}
 use Rattle.laws_trace.specs.WorkedUnits.{calls}
@@ -59,44 +59,52 @@ tei_stays : Stays small 0 Call 64 polled (calls 9)
 unfolding Stays teis.course teis.refusal reading header_of control_of unnumbered_of supervisory_of
 tei_stays = (refl, refl, (refl, refl, (refl, refl, (refl, refl, (refl, refl, (refl, refl, (refl, refl, (refl, refl, (refl, refl, refl)))))))))
 
-nine_enough : AreEnough small 0 polled (calls 9)
-unfolding come_first
+nine_enough : most_frames_before small + priority_added small 0 polled (calls 9) < takes_of 0 (calls 9)
+unfolding priority_added
 nine_enough = omega arith
 
-rr_given : begun_behind small 0 polled (calls 9) ≡ (0x00 ∷ 0x81 ∷ 0x01 ∷ 0x01 ∷ []) ∷ []
+rr_given : sent_during small 0 polled (calls 9) ≡ (0x00 ∷ 0x81 ∷ 0x01 ∷ 0x01 ∷ []) ∷ []
 unfolding moments after_all lines.after lines.answer lines.takes_slot teis.course teis.refusal seq distance_of named reading header_of control_of unnumbered_of supervisory_of
 rr_given = refl
 
-rr_answers : WaitLast small 0 Call 64 up poll (λ frames. AreAmong frames (begun_behind small 0 polled (calls 9)))
+rr_joins : JoinsQueue small 0 Call 64 up poll
 unfolding moments after_all lines.after lines.answer lines.takes_slot teis.course teis.refusal seq distance_of named reading header_of control_of unnumbered_of supervisory_of
-rr_answers = record { earlier = []; wait = refl; go = ([], [], refl, tt) }
+rr_joins = record { earlier = []; queue_is = refl }
+
+rr_sent : AreAmong (texts small Call 64 (queue small 0 Call 64 polled)) (sent_during small 0 polled (calls 9))
+unfolding moments after_all lines.after lines.answer lines.takes_slot teis.course teis.refusal seq distance_of named reading header_of control_of unnumbered_of supervisory_of
+rr_sent = ([], [], refl, tt)
 
 -- A second poll puts a second RR, which waits behind the first; so two are given.
 abbrev polled_twice : List Event
 polled_twice = polled ++ at 0 poll ∷ []
 
-two_answer : WaitLast small 0 Call 64 polled poll (λ frames. AreAmong frames (begun_behind small 0 polled_twice (calls 9)))
+two_join : JoinsQueue small 0 Call 64 polled poll
 unfolding moments after_all lines.after lines.answer lines.takes_slot teis.course teis.refusal seq distance_of named reading header_of control_of unnumbered_of supervisory_of
-two_answer = record { earlier = as_response (ReceiveReady (seq 0) true); wait = refl; go = ([], (0x00 ∷ 0x81 ∷ 0x01 ∷ 0x01 ∷ []) ∷ [], refl, ([], [], refl, tt)) }
+two_join = record { earlier = as_response (ReceiveReady (seq 0) true); queue_is = refl }
+
+two_sent : AreAmong (texts small Call 64 (queue small 0 Call 64 polled_twice)) (sent_during small 0 polled_twice (calls 9))
+unfolding moments after_all lines.after lines.answer lines.takes_slot teis.course teis.refusal seq distance_of named reading header_of control_of unnumbered_of supervisory_of
+two_sent = ([], (0x00 ∷ 0x81 ∷ 0x01 ∷ 0x01 ∷ []) ∷ [], refl, ([], [], refl, tt))
 
 -- SABME is answered by UA; unit data that is granted meanwhile goes first, and one call more is needed.
-ua_answers : WaitLast small 0 Call 64 on sabme (λ frames. AreAmong frames (begun_behind small 0 (on ++ at 0 sabme ∷ []) (calls 9)))
+ua_joins : JoinsQueue small 0 Call 64 on sabme
 unfolding moments after_all lines.after lines.answer lines.takes_slot teis.course teis.refusal seq distance_of named reading header_of control_of unnumbered_of supervisory_of
-ua_answers = record { earlier = []; wait = refl; go = ([], [], refl, tt) }
+ua_joins = record { earlier = []; queue_is = refl }
 
-one_comes : come_first small 0 (on ++ at 0 sabme ∷ []) (on_0 (Unit Call 127 (7 ∷ [])) ∷ calls 10) ≡ 1
-unfolding come_first moments lines.after lines.answer lines.takes_slot teis.course teis.refusal reading header_of control_of unnumbered_of
+ua_sent : AreAmong (texts small Call 64 (queue small 0 Call 64 (on ++ at 0 sabme ∷ []))) (sent_during small 0 (on ++ at 0 sabme ∷ []) (calls 9))
+unfolding moments after_all lines.after lines.answer lines.takes_slot teis.course teis.refusal seq distance_of named reading header_of control_of unnumbered_of supervisory_of
+ua_sent = ([], [], refl, tt)
+
+one_comes : priority_added small 0 (on ++ at 0 sabme ∷ []) (on_0 (Unit Call 127 (7 ∷ [])) ∷ calls 10) ≡ 1
+unfolding priority_added moments lines.after lines.answer lines.takes_slot teis.course teis.refusal reading header_of control_of unnumbered_of
 one_comes = refl
 
--- Where no call gives a frame, the law is broken.
+-- If no call gives a frame, the law is broken.
 pub none_there : {X : Type 0} (x : X) (front back : List X) → [] ≡ front ++ x ∷ back → ⊥
 none_there x [] back e = cc e
 none_there x (y ∷ front) back e = cc e
 
-none_answers : (earlier : List ControlFrame) → AreAmong (texts small Call 64 (earlier ++ as_response (Ua true))) [] → ⊥
-none_answers [] (front, back, is, rest) = none_there (0x00 ∷ 0x81 ∷ 0x73 ∷ []) front back is
-none_answers (f ∷ fs) (front, back, is, rest) = none_there _ front back is
-
-unanswered : WaitLast small 0 Call 64 on sabme (λ frames. AreAmong frames []) → ⊥
+unanswered : AreAmong (texts small Call 64 (queue small 0 Call 64 (on ++ at 0 sabme ∷ []))) [] → ⊥
 unfolding moments after_all lines.after lines.answer lines.takes_slot teis.course teis.refusal seq distance_of named reading header_of control_of unnumbered_of supervisory_of
-unanswered h = none_answers h.earlier h.go
+unanswered (front, back, is, rest) = none_there (0x00 ∷ 0x81 ∷ 0x73 ∷ []) front back is

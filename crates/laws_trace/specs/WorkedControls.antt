@@ -20,7 +20,7 @@ use Rattle.laws_line.specs.card.Worked.{usual, on_0, up}
 use Rattle.laws_trace.specs.ControlFrames.{answer_to, answers}
 use Rattle.laws_trace.specs.Observer.{Observed, in_state}
 use Rattle.laws_trace.specs.Outgoing.{outgoing_of}
-use Rattle.laws_trace.specs.WorkedUnits.{calls, comes}
+use Rattle.laws_trace.specs.WorkedUnits.{calls, frame_comes}
 
 -- What waits on the link after a list of events, to the observer.
 abbrev waiting : List Event → List ControlFrame
@@ -86,7 +86,7 @@ four_wait = refl
 
 -- Where SABME waits as often as there is room for, one more is lost.
 abbrev five : List ControlFrame
-five = waiting (on_0 (Assign 64) ∷ on_0 (Establish Call 64) ∷ again ++ again ++ again ++ comes (0x00 ∷ 0x81 ∷ 0x7F ∷ []) ∷ [])
+five = waiting (on_0 (Assign 64) ∷ on_0 (Establish Call 64) ∷ again ++ again ++ again ++ frame_comes (0x00 ∷ 0x81 ∷ 0x7F ∷ []) ∷ [])
 
 one_is_lost : five ≡ as_command (Sabme true) ++ as_command (Sabme true) ++ as_command (Sabme true) ++ as_command (Sabme true)
 unfolding lines.after lines.answer lines.takes_slot teis.course teis.refusal moments reading header_of control_of unnumbered_of
@@ -95,7 +95,7 @@ one_is_lost = refl
 -- An I-frame with N(S)=1 and P=0, of which nothing is told, is answered by REJ with N(R)=0 in state 7, and by nothing
 -- in state 5; a second one by nothing.
 abbrev out_of_sequence : Event
-out_of_sequence = comes (0x00 ∷ 0x81 ∷ 0x02 ∷ 0x00 ∷ 0x41 ∷ [])
+out_of_sequence = frame_comes (0x00 ∷ 0x81 ∷ 0x02 ∷ 0x00 ∷ 0x41 ∷ [])
 
 abbrev rejected : Observed
 rejected = record (in_state 7) { rejected = true }

@@ -17,7 +17,7 @@ use Rattle.model_card.specs.Run.{moments}
 use Rattle.laws_line.specs.card.Worked.{usual, up}
 use Rattle.laws_trace.specs.CountersCount.{names, is_seen}
 use Rattle.laws_trace.specs.Trace.{trace_of, heard, lost}
-use Rattle.laws_trace.specs.WorkedUnits.{calls, comes}
+use Rattle.laws_trace.specs.WorkedUnits.{calls, frame_comes}
 
 -- SABME of TEI 64, and two calls for the next frame: its UA goes.
 abbrev seen_of : Counter → ℕ
@@ -44,7 +44,7 @@ abbrev small : Config
 small = record usual { terminals = 1 }
 
 abbrev asks : ℕ → Event
-asks ri = comes (0xFC ∷ 0xFF ∷ 0x03 ∷ 0x0F ∷ 0x12 ∷ ri ∷ 0x01 ∷ 0xFF ∷ [])
+asks ri = frame_comes (0xFC ∷ 0xFF ∷ 0x03 ∷ 0x0F ∷ 0x12 ∷ ri ∷ 0x01 ∷ 0xFF ∷ [])
 
 abbrev managed : Counter → ℕ
 managed counter = amount_in counter (flat_map (names small.side) (trace_of small (asks 1 ∷ asks 2 ∷ calls 3) 0))

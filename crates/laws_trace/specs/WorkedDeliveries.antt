@@ -18,21 +18,21 @@ use Rattle.model_card.specs.Run.{moments, after_all}
 use Rattle.laws_line.specs.Heard.{notes_of, contents_in}
 use Rattle.laws_line.specs.card.Worked as worked
 use Rattle.laws_line.specs.card.Worked.{usual, on_0}
-use Rattle.laws_trace.specs.Deliveries.{IsTold}
+use Rattle.laws_trace.specs.Deliveries.{TellsWhatIsDue}
 use Rattle.laws_trace.specs.Managing.{none_on}
 use Rattle.laws_trace.specs.Observer.{View, in_state}
 use Rattle.laws_trace.specs.WorkedObserver.{link_after}
-use Rattle.laws_trace.specs.WorkedUnits.{comes}
+use Rattle.laws_trace.specs.WorkedUnits.{frame_comes}
 
 -- I-frames of TEI 64 with N(S) 0 and 1, and SABME.
 abbrev pub i_frame : Event
-i_frame = comes (0x00 ∷ 0x81 ∷ 0x00 ∷ 0x00 ∷ 0x41 ∷ [])
+i_frame = frame_comes (0x00 ∷ 0x81 ∷ 0x00 ∷ 0x00 ∷ 0x41 ∷ [])
 
 abbrev second : Event
-second = comes (0x00 ∷ 0x81 ∷ 0x02 ∷ 0x00 ∷ 0x42 ∷ [])
+second = frame_comes (0x00 ∷ 0x81 ∷ 0x02 ∷ 0x00 ∷ 0x42 ∷ [])
 
 abbrev sabme : Event
-sabme = comes (0x00 ∷ 0x81 ∷ 0x7F ∷ [])
+sabme = frame_comes (0x00 ∷ 0x81 ∷ 0x7F ∷ [])
 
 -- Two contents are counted, until SABME begins the numbers anew.
 two : (link_after (worked.up ++ i_frame ∷ second ∷ [])).count ≡ 2
@@ -88,13 +88,13 @@ established = record { teis = none_on; link = in_state 7 }
 abbrev parts_with : ℕ → Parts
 parts_with ns = record { address = record { sapi = 0; command = true; tei = 64 }; control = Information (seq ns) (seq 0) false; info = 0x41 ∷ [] }
 
-untold : IsTold usual Call 64 established (Some (parts_with 0)) (told nothing) → ⊥
+untold : TellsWhatIsDue usual Call 64 established (Some (parts_with 0)) (told nothing) → ⊥
 unfolding seq
-untold h = cc h.data_is
+untold h = cc h.data_told
 
-unheard : IsTold usual Call 64 established None (told (record nothing { notes = Data Call 64 ∷ []; contents = Some (0x41 ∷ []) })) → ⊥
-unheard h = cc h.data_is
+unheard : TellsWhatIsDue usual Call 64 established None (told (record nothing { notes = Data Call 64 ∷ []; contents = Some (0x41 ∷ []) })) → ⊥
+unheard h = cc h.data_told
 
-told_too_early : IsTold usual Call 64 established (Some (parts_with 1)) (told (record nothing { notes = Data Call 64 ∷ []; contents = Some (0x41 ∷ []) })) → ⊥
+told_too_early : TellsWhatIsDue usual Call 64 established (Some (parts_with 1)) (told (record nothing { notes = Data Call 64 ∷ []; contents = Some (0x41 ∷ []) })) → ⊥
 unfolding seq
-told_too_early h = cc h.data_is
+told_too_early h = cc h.data_told

@@ -20,7 +20,7 @@ use Rattle.laws_trace.specs.Observer.{moment_of}
 use Rattle.laws_trace.specs.Outgoing.{outgoing_of}
 use Rattle.laws_trace.specs.Trace.{frame_in, IsFront}
 use Rattle.laws_trace.specs.WorkedDeliveries.{i_frame}
-use Rattle.laws_trace.specs.WorkedUnits.{calls, comes}
+use Rattle.laws_trace.specs.WorkedUnits.{calls, frame_comes}
 
 -- What call control's link of TEI 64 offers after a list of events, to the observer, and what the next call gives of it.
 abbrev offered : List Event → List (List ℕ)
@@ -86,7 +86,7 @@ unfolding lines.after lines.answer lines.takes_slot teis.course teis.refusal mom
 both_kept = refl
 
 abbrev one_heard : List Event
-one_heard = two ++ calls 3 ++ comes (0x02 ∷ 0x81 ∷ 0x01 ∷ 0x02 ∷ []) ∷ []
+one_heard = two ++ calls 3 ++ frame_comes (0x02 ∷ 0x81 ∷ 0x01 ∷ 0x02 ∷ []) ∷ []
 
 one_kept : kept_after one_heard ≡ (8 ∷ []) ∷ []
 unfolding lines.after lines.answer lines.takes_slot teis.course teis.refusal moments seq distance_of named reading header_of control_of unnumbered_of supervisory_of
@@ -102,15 +102,15 @@ unfolding lines.after lines.answer lines.takes_slot teis.course teis.refusal mom
 still_kept = refl
 
 -- Behind REJ 0 the first goes again; behind RNR none goes, until RR; nor in state 8, where the enquiry does.
-again_offered : offered (two ++ calls 3 ++ comes (0x02 ∷ 0x81 ∷ 0x09 ∷ 0x00 ∷ []) ∷ []) ≡ first ∷ []
+again_offered : offered (two ++ calls 3 ++ frame_comes (0x02 ∷ 0x81 ∷ 0x09 ∷ 0x00 ∷ []) ∷ []) ≡ first ∷ []
 unfolding lines.after lines.answer lines.takes_slot teis.course teis.refusal moments seq distance_of named reading header_of control_of unnumbered_of supervisory_of
 again_offered = refl
 
-none_to_busy : offered (two ++ calls 1 ++ comes (0x02 ∷ 0x81 ∷ 0x05 ∷ 0x00 ∷ []) ∷ []) ≡ []
+none_to_busy : offered (two ++ calls 1 ++ frame_comes (0x02 ∷ 0x81 ∷ 0x05 ∷ 0x00 ∷ []) ∷ []) ≡ []
 unfolding lines.after lines.answer lines.takes_slot teis.course teis.refusal moments seq distance_of named reading header_of control_of unnumbered_of supervisory_of
 none_to_busy = refl
 
-free_again : offered (two ++ calls 1 ++ comes (0x02 ∷ 0x81 ∷ 0x05 ∷ 0x00 ∷ []) ∷ comes (0x02 ∷ 0x81 ∷ 0x01 ∷ 0x00 ∷ []) ∷ []) ≡ first ∷ []
+free_again : offered (two ++ calls 1 ++ frame_comes (0x02 ∷ 0x81 ∷ 0x05 ∷ 0x00 ∷ []) ∷ frame_comes (0x02 ∷ 0x81 ∷ 0x01 ∷ 0x00 ∷ []) ∷ []) ≡ first ∷ []
 unfolding lines.after lines.answer lines.takes_slot teis.course teis.refusal moments seq distance_of named reading header_of control_of unnumbered_of supervisory_of
 free_again = refl
 

@@ -17,7 +17,7 @@ use Rattle.model_card.specs.Run.{moments, after_all}
 use Rattle.laws_line.specs.card.Worked.{usual, on_0, up}
 use Rattle.laws_trace.specs.Outgoing.{data_granted, loses, went_on}
 use Rattle.laws_trace.specs.WorkedObserver.{link_after, two_gone}
-use Rattle.laws_trace.specs.WorkedUnits.{comes}
+use Rattle.laws_trace.specs.WorkedUnits.{frame_comes}
 
 -- SABME of TEI 64, and data: one place of eight is taken;
 one_taken : room 0 Call 64 (after_all (fresh usual) (up ++ on_0 (Data Call 64 (7 ∷ [])) ∷ [])) ≡ Ok (record { queue = 7; pool = 63; va = 0 })
@@ -44,12 +44,12 @@ a_loss = refl
 
 -- RR 1 behind two I-frames acknowledges one, to the observer; SABME acknowledges none, though V(A) is 0 behind it.
 abbrev one_heard : List Event
-one_heard = two_gone ++ comes (0x02 ∷ 0x81 ∷ 0x01 ∷ 0x02 ∷ []) ∷ []
+one_heard = two_gone ++ frame_comes (0x02 ∷ 0x81 ∷ 0x01 ∷ 0x02 ∷ []) ∷ []
 
 one_more : went_on false (link_after two_gone) (link_after one_heard) ≡ 1
 unfolding moments lines.after lines.answer lines.takes_slot teis.course teis.refusal seq distance_of named reading header_of control_of unnumbered_of supervisory_of
 one_more = refl
 
-none_more : went_on true (link_after one_heard) (link_after (one_heard ++ comes (0x00 ∷ 0x81 ∷ 0x7F ∷ []) ∷ [])) ≡ 0
+none_more : went_on true (link_after one_heard) (link_after (one_heard ++ frame_comes (0x00 ∷ 0x81 ∷ 0x7F ∷ []) ∷ [])) ≡ 0
 unfolding moments lines.after lines.answer lines.takes_slot teis.course teis.refusal seq distance_of named reading header_of control_of unnumbered_of supervisory_of
 none_more = refl

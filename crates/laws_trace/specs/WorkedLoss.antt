@@ -16,7 +16,7 @@ use Rattle.laws_line.specs.card.Worked.{usual, on_0, up}
 use Rattle.laws_trace.specs.Managing.{due, managed_after}
 use Rattle.laws_trace.specs.NoLossInVain.{puts_by}
 use Rattle.laws_trace.specs.Outgoing.{outgoing_of}
-use Rattle.laws_trace.specs.WorkedUnits.{comes}
+use Rattle.laws_trace.specs.WorkedUnits.{frame_comes}
 
 -- Four removals are owed; the answer to a terminal that asks for a TEI is told as lost, and is due so.
 abbrev four : List Event
@@ -25,7 +25,7 @@ four =
     ∷ []
 
 abbrev asks : Event
-asks = comes (0xFC ∷ 0xFF ∷ 0x03 ∷ 0x0F ∷ 0x12 ∷ 0x34 ∷ 0x01 ∷ 0xFF ∷ [])
+asks = frame_comes (0xFC ∷ 0xFF ∷ 0x03 ∷ 0x0F ∷ 0x12 ∷ 0x34 ∷ 0x01 ∷ 0xFF ∷ [])
 
 one_is_lost : lost_in (answer asks (after_all (fresh usual) four)) ≡ 1
 unfolding after_all lines.after lines.answer lines.takes_slot teis.course teis.refusal reading header_of control_of unnumbered_of
@@ -41,7 +41,7 @@ none_is_due = refl
 
 -- UA and the answers to three polls wait: they are four control frames of one link.
 abbrev poll : Event
-poll = comes (0x00 ∷ 0x81 ∷ 0x01 ∷ 0x01 ∷ [])
+poll = frame_comes (0x00 ∷ 0x81 ∷ 0x01 ∷ 0x01 ∷ [])
 
 abbrev full : List Event
 full = up ++ poll ∷ poll ∷ poll ∷ []

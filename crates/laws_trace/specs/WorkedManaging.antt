@@ -22,11 +22,11 @@ use Rattle.model_card.specs.Run.{after_all}
 use Rattle.laws_line.specs.card.Worked.{usual, on_0}
 use Rattle.laws_trace.specs.Managing.{Managed, nothing_due, none_on, due, managed_after}
 use Rattle.laws_trace.specs.TeisAreManaged.{IsAsDue}
-use Rattle.laws_trace.specs.WorkedUnits.{calls, comes}
+use Rattle.laws_trace.specs.WorkedUnits.{calls, frame_comes}
 
 -- A message of a terminal: its type, Ri 0x1234 and Ai.
 abbrev message : ℕ → ℕ → Event
-message type last = comes (0xFC ∷ 0xFF ∷ 0x03 ∷ 0x0F ∷ 0x12 ∷ 0x34 ∷ type ∷ last ∷ [])
+message type last = frame_comes (0xFC ∷ 0xFF ∷ 0x03 ∷ 0x0F ∷ 0x12 ∷ 0x34 ∷ type ∷ last ∷ [])
 
 abbrev asks : Event
 asks = message 0x01 0xFF

@@ -27,7 +27,7 @@ use Rattle.laws_line.specs.card.Worked.{usual, on_0, up}
 use Rattle.laws_trace.specs.FramesAreDue.{may_go}
 use Rattle.laws_trace.specs.Observer.{Observed, in_state, awaits, by_heard, by_t200, by_expiry, view_of}
 use Rattle.laws_trace.specs.TimersAreTimely.{order_due}
-use Rattle.laws_trace.specs.WorkedUnits.{calls, comes}
+use Rattle.laws_trace.specs.WorkedUnits.{calls, frame_comes}
 
 abbrev pub link_after : List Event → Observed
 link_after events = (view_of usual Call 64 0 events).link
@@ -74,10 +74,10 @@ abbrev pub two_gone : List Event
 two_gone = up ++ on_0 (Data Call 64 (7 ∷ [])) ∷ on_0 (Data Call 64 (8 ∷ [])) ∷ calls 3
 
 abbrev rr_comes : Event
-rr_comes = comes (0x02 ∷ 0x81 ∷ 0x01 ∷ 0x02 ∷ [])
+rr_comes = frame_comes (0x02 ∷ 0x81 ∷ 0x01 ∷ 0x02 ∷ [])
 
 abbrev rej_comes : Event
-rej_comes = comes (0x02 ∷ 0x81 ∷ 0x09 ∷ 0x02 ∷ [])
+rej_comes = frame_comes (0x02 ∷ 0x81 ∷ 0x09 ∷ 0x02 ∷ [])
 
 two_known : link_after two_gone ≡ record (in_state 7) { next = 2 }
 unfolding moments lines.after lines.answer lines.takes_slot teis.course teis.refusal seq distance_of named reading header_of control_of unnumbered_of supervisory_of

@@ -19,7 +19,7 @@ use Rattle.laws_line.specs.card.Worked.{usual, on_0, up}
 use Rattle.laws_trace.specs.Outgoing.{outgoing_of}
 use Rattle.laws_trace.specs.WorkedObserver.{link_after}
 use Rattle.laws_trace.specs.NoSlotIsLost.{slots_taken}
-use Rattle.laws_trace.specs.WorkedUnits.{calls, comes, unit}
+use Rattle.laws_trace.specs.WorkedUnits.{calls, frame_comes, unit}
 
 -- SABME of TEI 64, two data; UA and one of them go: two places of eight are taken, and none is acknowledged;
 abbrev gone : List Event
@@ -30,7 +30,7 @@ unfolding after_all lines.after lines.takes_slot teis.course teis.refusal seq di
 two_kept = refl
 
 -- behind RR 1 one place is.
-one_kept : room 0 Call 64 (after_all (fresh usual) (gone ++ comes (0x02 ∷ 0x81 ∷ 0x01 ∷ 0x02 ∷ []) ∷ [])) ≡ Ok (record { queue = 7; pool = 63; va = 1 })
+one_kept : room 0 Call 64 (after_all (fresh usual) (gone ++ frame_comes (0x02 ∷ 0x81 ∷ 0x01 ∷ 0x02 ∷ []) ∷ [])) ≡ Ok (record { queue = 7; pool = 63; va = 1 })
 unfolding after_all lines.after lines.takes_slot teis.course teis.refusal seq distance_of named reading header_of control_of unnumbered_of supervisory_of
 one_kept = refl
 

@@ -1,6 +1,7 @@
 -- Worked values: links that take turns, and frames that break these laws.
 use Rattle.std.specs.Prelude.{◌≡◌, ℕ, true, List, [], ◌∷◌, ◌++◌, refl}
 use Rattle.std.specs.List.{list_any}
+use Rattle.std.proofs.Common.{subst}
 use Rattle.model_bits.specs.Stream as stream
 use Rattle.model_bits.specs.declared.heard.Cause.TheVariants.{Fcs}
 use Rattle.lapd_frame.specs.declared.services.Service.TheVariants.{Call, Packet}
@@ -50,3 +51,36 @@ goes_between = refl
 passed_over : list_any (is_frame_of usual Packet 64) (call ∷ []) ≡ true → ⊥
 unfolding reading header_of control_of unnumbered_of
 passed_over other = cc other
+
+-- A run that meets all that the law asks for: that of packet sends its SABME again, too, so it offers one before each of three calls.
+abbrev both_again : List Event
+both_again = both_up ++ at 0 (expiry (T200 Packet 64)) ∷ []
+
+abbrev IsWaiting : List Event → Type 0
+IsWaiting so_far = IsKeptWaiting usual 0 64 Packet 64 (both_again ++ so_far)
+
+first_waits : IsWaiting []
+unfolding moments after_all lines.after lines.answer lines.takes_slot teis.course teis.refusal reading header_of control_of unnumbered_of
+first_waits = record { stays = refl; on_line = refl; offers_one = λ none. cc none }
+
+second_waits : IsWaiting (calls 1)
+unfolding moments after_all lines.after lines.answer lines.takes_slot teis.course teis.refusal reading header_of control_of unnumbered_of
+second_waits = record { stays = refl; on_line = refl; offers_one = λ none. cc none }
+
+third_waits : IsWaiting (calls 2)
+unfolding moments after_all lines.after lines.answer lines.takes_slot teis.course teis.refusal reading header_of control_of unnumbered_of
+third_waits = record { stays = refl; on_line = refl; offers_one = λ none. cc none }
+
+none_there : (e : Event) (front behind : List Event) → [] ≡ front ++ e ∷ behind → ⊥
+none_there e [] behind is = cc is
+none_there e (x ∷ front) behind is = cc is
+
+waits_always : (so_far : List Event) (e : Event) (behind : List Event) → calls 3 ≡ so_far ++ e ∷ behind → IsWaiting so_far
+waits_always [] e behind is = first_waits
+waits_always (x ∷ []) e behind is = let same : calls 1 ≡ x ∷ [] = cc is in subst IsWaiting same second_waits
+waits_always (x ∷ y ∷ []) e behind is = let same : calls 2 ≡ x ∷ y ∷ [] = cc is in subst IsWaiting same third_waits
+waits_always (x ∷ y ∷ z ∷ more) e behind is = absurd (none_there e more behind (cc is))
+
+its_turn : frames_begun (trace 0 (moments (after_all (fresh usual) both_again) (calls 3))) ≡ [] ++ call ∷ ((packet ∷ []) ++ call ∷ [])
+unfolding moments after_all lines.after lines.answer lines.takes_slot teis.course teis.refusal
+its_turn = refl

@@ -21,8 +21,8 @@ unit n = Unit Call 127 (n ∷ [])
 abbrev pub calls : ℕ → List Event
 calls n = replicate n (at 0 next)
 
-abbrev pub comes : List ℕ → Event
-comes octets = at 0 (hears (stream.frame octets))
+abbrev pub frame_comes : List ℕ → Event
+frame_comes octets = at 0 (hears (stream.frame octets))
 
 abbrev pub spelled : ℕ → List ℕ
 spelled n = 0x02 ∷ 0xFF ∷ 0x03 ∷ n ∷ []

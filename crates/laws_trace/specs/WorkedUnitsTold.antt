@@ -16,13 +16,13 @@ use Rattle.laws_line.specs.card.Worked.{usual, on_0}
 use Rattle.laws_trace.specs.Managing.{is_on}
 use Rattle.laws_trace.specs.Observer.{view_of}
 use Rattle.laws_trace.specs.Trace.{is_up}
-use Rattle.laws_trace.specs.WorkedUnits.{comes}
+use Rattle.laws_trace.specs.WorkedUnits.{frame_comes}
 
 abbrev user : Config
 user = record usual { side = User }
 
 -- The network's UI to the group, with AB, is unit data of TEI 127.
-to_group : notes_of (answer (comes (0x02 ∷ 0xFF ∷ 0x03 ∷ 0xAB ∷ [])) (fresh user)) ≡ Unit Call 127 ∷ []
+to_group : notes_of (answer (frame_comes (0x02 ∷ 0xFF ∷ 0x03 ∷ 0xAB ∷ [])) (fresh user)) ≡ Unit Call 127 ∷ []
 unfolding lines.answer lines.takes_slot reading header_of control_of unnumbered_of
 to_group = refl
 
@@ -30,11 +30,11 @@ to_group = refl
 abbrev heard_from_64 : List ℕ
 heard_from_64 = 0x00 ∷ 0x81 ∷ 0x03 ∷ 0xCD ∷ []
 
-on_line : contents_in (answer (comes heard_from_64) (after_all (fresh usual) (on_0 (Assign 64) ∷ []))) ≡ Some (0xCD ∷ [])
+on_line : contents_in (answer (frame_comes heard_from_64) (after_all (fresh usual) (on_0 (Assign 64) ∷ []))) ≡ Some (0xCD ∷ [])
 unfolding after_all lines.after lines.answer lines.takes_slot teis.course teis.refusal reading header_of control_of unnumbered_of
 on_line = refl
 
-off_line : contents_in (answer (comes heard_from_64) (fresh usual)) ≡ None
+off_line : contents_in (answer (frame_comes heard_from_64) (fresh usual)) ≡ None
 unfolding lines.answer lines.takes_slot reading header_of control_of unnumbered_of
 off_line = refl
 

@@ -1,17 +1,19 @@
 //! The laws. Each is the contract of a call that does nothing.
 
 ghost use Rattle.laws_trace.specs.Trace.{Always};
-ghost use Rattle.laws_trace.specs.AnswersAreGiven.{AnswersAreGiven, WaitingIsGiven};
+ghost use Rattle.laws_trace.specs.AnswersAreGiven.{AnswersAreSent, QueueIsSent};
 ghost use Rattle.laws_trace.specs.Configurations.{RangesAreServed};
-ghost use Rattle.laws_trace.specs.CountersCount.{CountersCount};
+ghost use Rattle.laws_trace.specs.CausesAreTold.{CausesAreTold};
+ghost use Rattle.laws_trace.specs.CountersCount.{CountersCount, DropsAreCounted};
 ghost use Rattle.laws_trace.specs.OtherSide.{TheOtherSideIsHeard};
 ghost use Rattle.laws_trace.specs.FramesAreRead.{FramesAreRead, FramesAreOctets};
 ghost use Rattle.laws_trace.specs.FramesAreDue.{GivenIsDue, DueIsGiven};
-ghost use Rattle.laws_trace.specs.Deliveries.{Deliveries};
+ghost use Rattle.laws_trace.specs.Deliveries.{WhatIsToldWasHeard};
 ghost use Rattle.laws_trace.specs.LinksMove.{LinksMove};
 ghost use Rattle.laws_trace.specs.News.{NewsIsTold};
 ghost use Rattle.laws_trace.specs.NoLossInVain.{NoLossInVain};
 ghost use Rattle.laws_trace.specs.NoSlotIsLost.{NoSlotIsLost};
+ghost use Rattle.laws_trace.specs.RequestsTakeEffect.{RequestsTakeEffect};
 ghost use Rattle.laws_trace.specs.RoomsAreTold.{RoomsAreTold};
 ghost use Rattle.laws_trace.specs.TeisAreManaged.{TeisAreManaged};
 ghost use Rattle.laws_trace.specs.TimersAreTimely.{TimersAreTimely, TimersRun};
@@ -19,14 +21,15 @@ ghost use Rattle.laws_trace.specs.TurnsMeanwhile.{LinksTakeTurnsMeanwhile};
 ghost use Rattle.laws_trace.specs.UnitsAreGranted.{UnitsAreGranted};
 ghost use Rattle.laws_trace.specs.UnitsGoOut.{UnitsGoOut, AllUnitsGoOut};
 
-/// Each configuration within the ranges is served: no fault is found in it, so `Card::start` starts a card with it, as
-/// far as its shelf and memory allow, and every law here speaks of it. With any other no card starts (profile).
+/// Each configuration within the ranges is served: no fault is found in it, and every law here speaks of it. With any
+/// other no card starts (profile). That `Card::start` starts one with it, if its shelf fits and there is memory, no law says.
 pub fn ranges_are_served()
     ensures { RangesAreServed }
 {}
 
-/// The other side is heard. A card of the network's side hears frames as commands whose C/R bit is 0, and one of the
-/// user's side those whose C/R bit is 1; and what begins on its lines is read the other way round (Q.921 clause 3.3.2).
+/// The other side is heard. As frames are read, C/R bit 0 makes a command of one that a card of the network's side hears, and
+/// bit 1 of one that a card of the user's side hears; of what begins on its lines it is the other way round (Q.921 clause
+/// 3.3.2). This is of the words by which the other laws read frames: `heard_side` of a configuration, and its own side.
 pub fn the_other_side_is_heard()
     ensures { TheOtherSideIsHeard }
 {}
@@ -36,9 +39,9 @@ pub fn the_other_side_is_heard()
 /// whole. Unit data waits from when it is granted until it begins, so that it goes in order and once; or until the line is
 /// down, when what waits is given up. And a call for the next frame gives none, or a frame of a link, only where none waits:
 /// so unit data goes before frames of links, and, as calls come to an end (`calls_come_to_an_end` of the promises), all of it
-/// goes (`all`). Unit data for a TEI on the line, and from the network's side for the group, of at most N201 octets, is
-/// granted exactly where fewer wait there than the configuration says, and a slot of the pool is free, as
-/// [`no_slot_is_lost`] has them (`granted`; Q.921 clauses 3.6.5 and 5.2.2, annex B, and profile).
+/// goes (`all`). Unit data is granted exactly for a TEI on the line, and from the network's side for the group, of at most
+/// N201 octets, where fewer wait there than the configuration says, and a slot of the pool is free, as [`no_slot_is_lost`]
+/// has them (`granted`; Q.921 clauses 3.6.5, 5.2.2 and 5.9.3, annex B, and profile).
 pub fn units_go_out()
     ensures front { Always UnitsGoOut }
     ensures all { Always AllUnitsGoOut }
@@ -68,7 +71,7 @@ pub fn links_take_turns_meanwhile()
 /// frame, and are noted as one or the other, once (Q.921 clauses 3.3.4, 3.5.2.4 to 3.5.2.6, 5.2.2, 5.2.3, 5.5.1.2, 5.6.2,
 /// 5.6.6, 5.7 and 5.9.3).
 pub fn what_is_told_was_heard()
-    ensures { Always Deliveries }
+    ensures { Always WhatIsToldWasHeard }
 {}
 
 /// What is given of a link is due. A call for the next frame gives no frame of a link, UI apart, but what the link offers,
@@ -104,20 +107,20 @@ pub fn what_is_given_is_due()
     ensures none { Always DueIsGiven }
 {}
 
-/// What answers a poll, SABME or DISC is given within a number of calls for the next frame. Something happens at a
-/// line, and the answer to it tells no frame as lost. Then each control frame of a link that is due by it, as
-/// [`what_is_given_is_due`] has these, waits behind those that waited before, and is given by one of the calls for the
-/// next frame of the line among the events that follow, behind those, so that each frame, of two alike, too, has a call
-/// of its own (`answers`). So it is of all that waits on the link, whatever was lost (`waiting`). This holds whatever
-/// else happens, as long as the TEI stays on the line, as whoever watches it knows, and the link is not deactivated,
-/// once the calls are more than the configuration lets go before: four messages of TEI management (on the user's side
-/// there is none), all unit data that may wait, one frame of every link for each other control frame that the link has
-/// room for, and one of each other link, with each message of TEI management and each unit data that comes meanwhile;
-/// so 72 calls are enough with eight terminals, 4 unit data and 4 control frames where none of these comes (Q.921
-/// clauses 5.5.1.2, 5.5.3.2, 5.6.2 to 5.6.7, 5.7 and 5.8.1, and profile).
+/// What answers a poll, SABME or DISC is given within a number of calls for the next frame. Something happens at a line, and
+/// the answer to it tells no frame as lost. Then each control frame of a link that is due by it, as
+/// [`what_is_given_is_due`] has these, joins the end of the link's queue (`answers`). And all that is in the queue of a
+/// link is given, in order, by the calls for the next frame of the line among the events that follow. Each frame, of two
+/// alike, too, has a call of its own (`waiting`). This holds whatever else happens and whatever was lost, as long as the TEI
+/// stays on the line, to an observer, and the link is not deactivated, once there are enough calls. These are more than the
+/// frames that the configuration lets go before: four messages of TEI management (on the user's side there is none), all
+/// unit data that may wait, one frame of every link for each other control frame that the link has room for, and one of
+/// each other link, with each message of TEI management and each unit data that comes meanwhile. So 72 calls are enough
+/// with eight terminals, 4 unit data and 4 control frames if none of these comes (Q.921 clauses 5.5.1.2, 5.5.3.2, 5.6.2
+/// to 5.6.7, 5.7 and 5.8.1, and profile).
 pub fn answers_are_given()
-    ensures answers { Always AnswersAreGiven }
-    ensures waiting { Always WaitingIsGiven }
+    ensures answers { Always AnswersAreSent }
+    ensures waiting { Always QueueIsSent }
 {}
 
 /// Nothing is lost in vain. Of the control frames of a link that become due by an event, as [`what_is_given_is_due`] has
@@ -198,6 +201,23 @@ pub fn news_is_told()
     ensures { Always NewsIsTold }
 {}
 
+/// Granted requests take effect. Each request of a link, by layer 3 or to deactivate it, is answered by how the link
+/// stands, as whoever watches it has this (`effect` of specs/ has the rows). It is refused for the first of these
+/// reasons that holds: the TEI is over 126; it is not on the line; the state does not serve the request, as 4 serves
+/// the establishment, 4, 7 and 8 the release, and 7 and 8 data, and that layer 3 is busy, or is so no more; the data
+/// has more than N201 octets; the link keeps as many contents as it may; no slot of the pool is free, as
+/// [`no_slot_is_lost`] has these. Else it is granted, and takes effect at once. `Card::state` tells 5 of a link that is
+/// to be established, and 6 of one that is to be released. SABME or DISC waits then, and layer 3 is told of the answer,
+/// or that none comes, as [`news_is_told`] has it. The release of a link in state 4 is confirmed in the answer. Data
+/// comes behind what the link keeps. RNR or RR waits where layer 3 comes to be busy, or is so no more. A link that is
+/// deactivated is in state 4, has nothing to send, and its end is told in the answer. What waits, and what is kept,
+/// goes as [`what_is_given_is_due`] has it. A frame comes behind those that wait, and is lost where these are as many
+/// as may wait. So it is of the other requests by [`teis_are_managed`] and [`units_go_out`] (Q.921 clauses 5.5.1.1,
+/// 5.5.3.1, 5.5.3.2, 5.6.1 and 5.6.6, annex B and profile).
+pub fn granted_requests_take_effect()
+    ensures { Always RequestsTakeEffect }
+{}
+
 /// Rooms are told as they are. Of each link whose TEI is on the line the places of its queue are those that
 /// `FrameCard::room` tells as left and those of the contents that the link keeps, as [`what_is_given_is_due`] has them:
 /// so contents take a place until they are acknowledged, or layer 3 learns that they are lost, and none is lost
@@ -218,10 +238,31 @@ pub fn no_slot_is_lost()
     ensures { Always NoSlotIsLost }
 {}
 
-/// Counters count what is seen. What the moments of a run at a line show to its counters, but for why something is dropped,
-/// is what the trace of the line has, name by name, whatever happened before: of a frame that is heard or begins its kind, its
-/// octets, whether it is a poll, and the message of TEI management in it, of notes each, and the frames that were lost. So
-/// by `counters` and `counters_add_up` of `Card::drive` the counters of a line are numbers of these (profile).
+/// The cause of each drop is told. The answer to an event of a line names a cause exactly if one is due by that event. It is
+/// the one that is due, and the answer says nothing else. No cause is due by a request, an expiry or a call for the next
+/// frame. Of what is heard one is due in these cases, whatever happened to the card before.
+///
+/// A stretch that is no frame has its own cause: `Abort`, `Ragged`, `Short` or `Fcs`. A frame has `Extension` if its extension
+/// bits are not those of two octets, and `Sapi` if its SAPI is not 0, 16 or 63. It has `Tei` if its SAPI is 0 or 16 and its
+/// TEI is not on the line, and if its SAPI is 63 and its TEI is not 127. On the user's side a UI with SAPI 0 or 16, TEI 127
+/// and at most N201 octets has none. A frame for a link whose TEI is on the line has `Unserved` if the link does not serve
+/// it in the state that [`links_move`] tells. In states 7 and 8 a link serves each frame, also one that is malformed. In
+/// states 4, 5 and 6 it serves SABME, DISC, UA, XID and UI, and in states 5 and 6 DM with F=1. In no state it serves a UI of
+/// more than N201 octets, nor a UI or XID that was too long to keep. A frame for TEI management has `Unserved`, too, but on
+/// the network's side a UI has none if its information is one of three messages: it asks for a TEI with Ai 127; it answers
+/// the check that runs; it asks for a check of a TEI on the line, and none runs. [`teis_are_managed`] has the TEIs on the line
+/// and the check (Q.921 clauses 2.6, 2.7, 2.9, 2.10, 3.3.1 to 3.3.4, 5.3.1 to 5.3.5 and 5.8.5, annex B, and profile).
+pub fn causes_are_told()
+    ensures { Always CausesAreTold }
+{}
+
+/// Counters count what is seen, and what is dropped. What the moments of a run at a line show to its counters, except for why
+/// something is dropped, is what the trace of the line has, name by name, whatever happened before (`seen`): of a frame that
+/// is heard or begins its kind, its octets, whether it is a poll, and the message of TEI management in it, of notes each, and
+/// the frames that were lost. And of drops they show, for each answer there that names a cause, one drop of that cause
+/// (`dropped`), as [`causes_are_told`] has these. So by `counters` and `counters_add_up` of `Card::drive` the counters of a
+/// line are numbers of these (profile).
 pub fn counters_count()
-    ensures { CountersCount }
+    ensures seen { CountersCount }
+    ensures dropped { DropsAreCounted }
 {}

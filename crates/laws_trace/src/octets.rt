@@ -7,7 +7,7 @@
 //! values (`Worked`, `WorkedAnswers`). Each law is the contract of a call that does nothing.
 
 ghost use Rattle.model_card.specs.ports.GoingOut.{OfEachLine};
-ghost use Rattle.laws_trace.specs.octets.AnswersAreHeard.{AnswersAreHeard, AllThatWaitsIsHeard};
+ghost use Rattle.laws_trace.specs.octets.AnswersAreHeard.{AllThatWaitsIsHeard};
 ghost use Rattle.laws_trace.specs.octets.FramesGoOut.{OnlyFramesAreHeard, GivenAreOctets, GoOutAsTheyAre, AllFramesGoOut};
 ghost use Rattle.laws_trace.specs.octets.LatestIsBegun.{LatestIsBegun};
 ghost use Rattle.laws_trace.specs.octets.UnitsAreHeard.{UnitsAreHeard, AllUnitsAreHeard};
@@ -35,20 +35,17 @@ pub fn frames_go_out()
     ensures heard { OfEachLine GoOutAsTheyAre }
 {}
 
-/// What answers a poll, SABME or DISC is heard within a number of pulls. Where the latest that octets, expiries,
-/// requests and pulls came to at the card of frames is an event of the line, and the answer to it tells no frame as
-/// lost, each control frame that is due by it is heard by who receives the octets that the pulls of the line give
-/// behind that, behind those that waited before, each, of two alike, too, as a frame of its own (`answers`); and so are
-/// all that wait on the link, whatever was lost (`waiting`). A frame alike that was on its way already may count as one
-/// of these; that each has a call of its own, `answers_are_given` says. This holds whatever comes between the pulls, as
-/// long as the TEI stays on the line and the link is not deactivated, once they are as many as the configuration says:
-/// each of the frames that `answers_are_given` lets go before, and one frame behind, counts as the longest; so with
-/// eight terminals, 4 unit data, 4 control frames and N201 of 260, where no message of TEI management and no unit data
-/// comes meanwhile, 23,370 pulls are enough (Q.921 clauses 2.2 to 2.7, 5.5.1.2, 5.5.3.2, 5.6.2 to 5.6.7, 5.7 and 5.8.1,
-/// and profile).
+/// What answers a poll, SABME or DISC is heard within a number of pulls. A receiver hears all control frames that are in the
+/// queue of a link, in order, in the octets that the pulls of the line give after that. By `answers_are_given`
+/// each control frame that is due by an event of the line is at the end of that queue, unless the answer tells one as lost.
+/// A frame alike that was in transit already may count as one of these; that each has a call of its own, `answers_are_given`
+/// says. This holds whatever comes between the pulls, as long as the TEI stays on the line and the link is not
+/// deactivated, once there are enough pulls: each of the frames that `answers_are_given` lets go before, and one frame
+/// after, counts as the longest. So with eight terminals, 4 unit data, 4 control frames and N201 of 260, if no message of
+/// TEI management and no unit data comes meanwhile, 23,370 pulls are enough (Q.921 clauses 2.2 to 2.7, 5.5.1.2, 5.5.3.2,
+/// 5.6.2 to 5.6.7, 5.7 and 5.8.1, and profile).
 pub fn answers_are_heard()
-    ensures answers { OfEachLine AnswersAreHeard }
-    ensures waiting { OfEachLine AllThatWaitsIsHeard }
+    ensures { OfEachLine AllThatWaitsIsHeard }
 {}
 
 /// In the end all frames go out. Once a line was only pulled, as often as the configuration says, a receiver has heard

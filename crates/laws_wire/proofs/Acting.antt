@@ -1,5 +1,5 @@
 -- What happens at one end of a wire whose link is up, where frames are lost and timers expire.
-use Rattle.laws_wire.proofs.Vocabulary.{arith, ◌≡◌, ℕ, IsTrue, List, [], ◌∷◌, ◌++◌, drop, refl, sym, ap, subst, ◌∙◌, ◌⊎◌, inl, inr, append-nil, Service, Timer, Parts, spelling, ControlFrame, LinkTimer, is_multiple_frame, course, IsInRange, End, with_link, with_sent, frames_of, Config, LineTold, expiry, request, next, at_timer, aim_of_expiry, Line, place_in, event-follows, IsSound, Course, line_of, Data, Station, happens, with_first_lost, comes, two_ends_with_first_lost}
+use Rattle.laws_wire.proofs.Vocabulary.{arith, ◌≡◌, ℕ, IsTrue, List, [], ◌∷◌, ◌++◌, drop, refl, sym, ap, subst, ◌∙◌, ◌⊎◌, inl, inr, append-nil, Service, Timer, Parts, spelling, ControlFrame, LinkTimer, is_multiple_frame, course, IsInRange, LinkEndpoint, with_link, with_sent, frames_of, Config, LineTold, expiry, request, next, at_timer, aim_of_expiry, Line, place_in, event-follows, IsSound, Course, line_of, Data, Endpoint, happens, without_first, frame_comes, two_ends_without_first}
 use Rattle.model_link.specs.Events as link
 use Rattle.laws_wire.proofs.Asking.{with_more}
 use Rattle.laws_wire.proofs.Fair.{Fine, frame-fair, timer-fair}
@@ -23,28 +23,28 @@ which f rest [] line e = inl (record { none = refl; is = sym e })
 which f rest (g ∷ gs) line e = grind arith
 
 module _ (service : Service) (tei place : ℕ) (past : List LineTold) (c : Config) where
-  abbrev Its : Station → End → Type 0
+  abbrev Its : Endpoint → LinkEndpoint → Type 0
   Its s n = Held c service tei place past s n
 
-  pub sound : (s : Station) (n : End) → Its s n → IsSound n.terms n.link
+  pub sound : (s : Endpoint) (n : LinkEndpoint) → Its s n → IsSound n.terms n.link
   sound s n h = link-sound service tei place s n (subst (λ k. StationStands k service tei place s n) (sym h.stands.config) h.stands)
 
-  pub ranges : (s : Station) (n : End) → Its s n → IsInRange n.terms
+  pub ranges : (s : Endpoint) (n : LinkEndpoint) → Its s n → IsInRange n.terms
   ranges s n h = link-ranges service tei place s n (subst (λ k. StationStands k service tei place s n) (sym h.stands.config) h.stands)
 
   -- An end whose link is up, with what is on its line.
-  pub record UpAt (s : Station) (n m : End) (first near far : List Parts) : Type 0 where
+  pub record UpAt (s : Endpoint) (n m : LinkEndpoint) (first near far : List Parts) : Type 0 where
     pub held : Its s n
     pub up : IsTrue (is_multiple_frame n.link.state)
     pub line : line_of n ≡ first ++ near
     pub joint : Joint n m near far
 
-  pub record Acted (s' : Station) (m : End) (first far : List Parts) : Type 0 where
-    pub n : End
+  pub record Acted (s' : Endpoint) (m : LinkEndpoint) (first far : List Parts) : Type 0 where
+    pub n : LinkEndpoint
     pub near : List Parts
     pub at : UpAt s' n m first near far
 
-  module _ (s : Station) (n m : End) (first near far : List Parts) (h : UpAt s n m first near far) where
+  module _ (s : Endpoint) (n m : LinkEndpoint) (first near far : List Parts) (h : UpAt s n m first near far) where
     abbrev ws : List ControlFrame
     ws = n.link.waiting
 
@@ -77,7 +77,7 @@ module _ (service : Service) (tei place : ℕ) (past : List LineTold) (c : Confi
     up-expires timer its aims =
         let e : link.Event = link.expired its in
         let x : Course = course n.terms e n.link in
-        let s' : Station = happens (expiry timer) s in
+        let s' : Endpoint = happens (expiry timer) s in
         elim (timer-fair n.terms n.link h.up its).fair [
           | inl error ↦ inr (now-erred s s' x (expired-told service tei place past c s n h.held timer its aims) error)
           | inr fine ↦
@@ -113,18 +113,18 @@ module _ (service : Service) (tei place : ℕ) (past : List LineTold) (c : Confi
 
     -- the first frame on its way is lost
     pub record Lost (f : Parts) : Type 0 where
-      pub lost : ((first ≡ []) × IsMeant f × Acted (with_first_lost s) m first far) ⊎ ((others : List Parts) × (first ≡ f ∷ others) × Acted (with_first_lost s) m others far)
+      pub lost : ((first ≡ []) × IsMeant f × Acted (without_first s) m first far) ⊎ ((others : List Parts) × (first ≡ f ∷ others) × Acted (without_first s) m others far)
 
     pub up-loses : (f : Parts) (fs : List Parts) → n.way ≡ f ∷ fs → Lost f
     up-loses f fs e = go (which f (fs ++ frames_of n.terms ws) first near (sym (ap (λ way. way ++ frames_of n.terms ws) e) ∙ h.line))
       where
-        n' : End
-        n' = two_ends_with_first_lost n
+        n' : LinkEndpoint
+        n' = two_ends_without_first n
 
         now : line_of n' ≡ fs ++ frames_of n.terms ws
         now = ap (λ way. drop 1 way ++ frames_of n.terms ws) e
 
-        held : Its (with_first_lost s) n'
+        held : Its (without_first s) n'
         held = held-lost service tei place past c s n h.held
 
         go : First f (fs ++ frames_of n.terms ws) first near ⊎ Before f (fs ++ frames_of n.terms ws) first near → Lost f
@@ -145,14 +145,14 @@ module _ (service : Service) (tei place : ℕ) (past : List LineTold) (c : Confi
         go (inr x) = grind (arith, n', held, now)
 
   -- it takes the first frame of the other's line
-  pub up-hears : (d : Config) → Face c d → (s : Station) (n m : End) (f : Parts) (first near far : List Parts) → UpAt s n m first near (f ∷ far) → IsCarried d service tei f
+  pub up-hears : (d : Config) → Face c d → (s : Endpoint) (n m : LinkEndpoint) (f : Parts) (first near far : List Parts) → UpAt s n m first near (f ∷ far) → IsCarried d service tei f
       → IsInRange m.terms
-      → Acted (comes (spelling d.side f) s) (two_ends_with_first_lost m) first far ⊎ Erred (comes (spelling d.side f) s)
+      → Acted (frame_comes (spelling d.side f) s) (two_ends_without_first m) first far ⊎ Erred (frame_comes (spelling d.side f) s)
   up-hears d face s n m f first near far h from far-ranges =
       let meant : IsMeant f = first-means n m f near far h.joint in
       let e : link.Event = link.received (link.frame f) in
       let x : Course = course n.terms e n.link in
-      let s' : Station = comes (spelling d.side f) s in
+      let s' : Endpoint = frame_comes (spelling d.side f) s in
       elim (frame-fair n.terms n.link h.up f meant.number meant.means).fair [
         | inl error ↦ inr (now-erred s s' x (taken-told service tei place past c s n h.held d face f from) error)
         | inr fine ↦

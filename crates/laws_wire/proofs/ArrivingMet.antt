@@ -1,5 +1,5 @@
 -- The premises of the law on what arrives under traffic are met by the worked call.
-use Rattle.laws_wire.proofs.Vocabulary.{◌≡◌, ℕ, List, [], ◌∷◌, ◌++◌, refl, sym, ◌∙◌, inl, true≢false, All, leb-true, Call, reading, header_of, control_of, unnumbered_of, supervisory_of, distance_of, named, seq, Data, Wire, requests, times_out, gives, takes, loses, at_near, at_far, doing_all, turns, confirmed, indicated, all_told, heard_in, IsRoughTalk, round, StayTimely, LosesNothing, GoesOn, GivesOrTakes, HasCome, user, network, begins, MayRepeat, awaits_reply, false, ◌≤◌, ◌*◌, inr, arith, IsStill, granted_of, rounds, expiries, most_frames, most_left, line_answer, line_takes_slot, line_after, tei_refusal, tei_course}
+use Rattle.laws_wire.proofs.Vocabulary.{◌≡◌, ℕ, List, [], ◌∷◌, ◌++◌, refl, sym, ◌∙◌, inl, true≢false, All, leb-true, Call, reading, header_of, control_of, unnumbered_of, supervisory_of, distance_of, named, seq, Data, Wire, requests, expires, sends, receives, loses, at_near, at_far, doing_all, turns, confirmed, indicated, all_told, heard_in, IsRoughTalk, round, StayTimely, LosesNothing, GoesOn, SendsOrReceives, HasCome, user, network, begins, MayRepeat, awaits_reply, false, ◌≤◌, ◌*◌, inr, arith, IsStill, granted_of, rounds, expiries, most_frames, most_left, line_answer, line_takes_slot, line_after, tei_refusal, tei_course}
 use Rattle.lapd_frame.specs.declared.timers.Timer.TheVariants.{T200}
 use Rattle.laws_wire.specs.WorkedArriving.{loses_two, goes_on, lossy, over, lossy_near, near_asked, over_still, waits, quiet, quiet_still, quiet_runs, asks, asked, asked_near, in_bulk, bulk_still}
 use Rattle.laws_wire.proofs.PremisesMet.{can, all-of}
@@ -13,8 +13,8 @@ data-near octets = (refl, refl)
 data-far : (octets : List ℕ) → IsRoughTalk Call 0 (at_far (requests (Data Call 0 octets)))
 data-far octets = (refl, refl)
 
-expires : IsRoughTalk Call 0 (at_near (times_out (T200 Call 0)))
-expires = (refl, refl)
+expiring : IsRoughTalk Call 0 (at_near (expires (T200 Call 0)))
+expiring = (refl, refl)
 
 rough : All (IsRoughTalk Call 0) loses_two
 rough = all-of (IsRoughTalk Call 0) loses_two (tt, (tt, (tt, (tt, (data-near (1 ∷ []), (tt, (tt, (data-far (2 ∷ []), (data-far (3 ∷ []), (tt, (tt, (tt, tt))))))))))))
@@ -24,7 +24,7 @@ rough-on =
     all-of (IsRoughTalk Call 0) goes_on (
       tt,
       (
-        expires,
+        expiring,
         (
           data-far (4 ∷ []),
           (tt, (tt, (tt, (tt, (tt, (tt, (tt, (tt, (tt, (tt, (tt, (tt, (tt, (tt, (tt, (tt, (tt, (tt, (tt, (tt, tt)))))))))))))))))))),
@@ -38,7 +38,7 @@ kept = all-of LosesNothing goes_on (tt, (tt, (tt, (tt, (tt, (tt, (tt, (tt, (tt, 
 -- the far end's I-frame is lost behind UA
 as-it-is-lost : Wire
 as-it-is-lost =
-    doing_all (round ++ at_near (requests (Data Call 0 (1 ∷ []))) ∷ at_near gives ∷ at_near loses ∷ at_far (requests (Data Call 0 (2 ∷ []))) ∷ at_far (requests (Data Call 0 (3 ∷ []))) ∷ at_far gives ∷ []) begins
+    doing_all (round ++ at_near (requests (Data Call 0 (1 ∷ []))) ∷ at_near sends ∷ at_near loses ∷ at_far (requests (Data Call 0 (2 ∷ []))) ∷ at_far (requests (Data Call 0 (3 ∷ []))) ∷ at_far sends ∷ []) begins
 
 heard-then : heard_in as-it-is-lost.near ≡ confirmed Call 0 ∷ []
 unfolding line_after line_answer line_takes_slot reading header_of control_of unnumbered_of supervisory_of tei_course tei_refusal seq distance_of named doing_all turns as-it-is-lost
@@ -53,7 +53,7 @@ timely = (
 
 -- T200 expires in state 7
 as-it-expires : Wire
-as-it-expires = doing_all (at_near takes ∷ []) lossy
+as-it-expires = doing_all (at_near receives ∷ []) lossy
 
 in-7 : (awaits_reply Call 0 as-it-expires.near ≡ false) × MayRepeat Call 0 as-it-expires.near
 unfolding line_after line_answer line_takes_slot reading header_of control_of unnumbered_of supervisory_of tei_course tei_refusal seq distance_of named doing_all turns as-it-expires
@@ -103,7 +103,7 @@ told-back = come-waits.far (inr quiet_runs.1)
 
 -- As the last data is asked for, turns are left, and the law says that rounds lead to where none is.
 rough-asks : All (IsRoughTalk Call 0) asks
-rough-asks = all-of (IsRoughTalk Call 0) asks (tt, (expires, (data-far (4 ∷ []), tt)))
+rough-asks = all-of (IsRoughTalk Call 0) asks (tt, (expiring, (data-far (4 ∷ []), tt)))
 
 timely-asks : StayTimely asks lossy
 unfolding doing_all StayTimely
@@ -118,8 +118,8 @@ by-rounds =
     arrives-in-rounds Call user network 0 0 0 7 loses_two asks (can, leb-true 3 4 refl, leb-true 3 4 refl, rough, timely, asks-on) (omega arith) (omega arith)
 
 -- And of turns in another order that there are so few, and all has come where none is left.
-all-turns : All GivesOrTakes in_bulk
-all-turns = all-of GivesOrTakes in_bulk (tt, (tt, (tt, (tt, (tt, (tt, (tt, (tt, (tt, (tt, (tt, (tt, (tt, (tt, (tt, (tt, (tt, (tt, (tt, (tt, (tt, (tt, (tt, (tt, (tt, (tt, (tt, (tt, (tt, (tt, (tt, (tt, (tt, (tt, (tt, (tt, (tt, (tt, (tt, (tt, (tt, (tt, (tt, (tt, (tt, (tt, (tt, (tt, tt))))))))))))))))))))))))))))))))))))))))))))))))
+all-turns : All SendsOrReceives in_bulk
+all-turns = all-of SendsOrReceives in_bulk (tt, (tt, (tt, (tt, (tt, (tt, (tt, (tt, (tt, (tt, (tt, (tt, (tt, (tt, (tt, (tt, (tt, (tt, (tt, (tt, (tt, (tt, (tt, (tt, (tt, (tt, (tt, (tt, (tt, (tt, (tt, (tt, (tt, (tt, (tt, (tt, (tt, (tt, (tt, (tt, (tt, (tt, (tt, (tt, (tt, (tt, (tt, (tt, tt))))))))))))))))))))))))))))))))))))))))))))))))
 
 by-turns : (turns in_bulk asked ≤ most_left Call 0 7 asked) × (turns in_bulk asked ≤ 2 * most_frames 7 (expiries (loses_two ++ asks)) (granted_of asked))
     × (IsStill (doing_all in_bulk asked) → HasCome Call 0 asks lossy (doing_all in_bulk asked))

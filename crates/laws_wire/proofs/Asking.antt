@@ -1,5 +1,5 @@
 -- Two ends in state 7: layer 3 of one asks to send more contents, and the request is granted.
-use Rattle.laws_wire.proofs.Vocabulary.{◌≡◌, ℕ, zero, suc, ◌+◌, ◌<◌, ◌≤◌, Bool, false, List, [], ◌∷◌, ◌++◌, length, take, None, refl, sym, ap, subst, ◌∙◌, inl, inr, append-nil, arith, length-append, slice_get, All-nil, All-cons, All-append, Parts, Terms, Link, requested, End, with_link, sound-after, weight_at, Informs, Lane, lane-order, Steady, unwrap_or, refusal, IsSound, Direction}
+use Rattle.laws_wire.proofs.Vocabulary.{◌≡◌, ℕ, zero, suc, ◌+◌, ◌<◌, ◌≤◌, Bool, false, List, [], ◌∷◌, ◌++◌, length, take, None, refl, sym, ap, subst, ◌∙◌, inl, inr, append-nil, arith, length-append, slice_get, All-nil, All-cons, All-append, Parts, Terms, Link, requested, LinkEndpoint, with_link, sound-after, weight_at, Informs, Lane, lane-order, Steady, unwrap_or, refusal, IsSound, Direction}
 use Rattle.model_link.specs.Events.{Data}
 
 -- contents at a place below what was there stay
@@ -28,20 +28,20 @@ module _ (t : Terms) (cs more : List (List ℕ)) where
   lane-asked r s lo hi owed (f ∷ fs) high (v, low, inr (here, rest)) = (v, low, inr (here, lane-asked r s v hi owed fs high rest))
 
 -- An end that has more to send.
-abbrev pub with_more : List ℕ → End → End
+abbrev pub with_more : List ℕ → LinkEndpoint → LinkEndpoint
 with_more octets n = record n { link = record n.link { contents = n.link.contents ++ octets ∷ [] } }
 
-pub asked-form : (octets : List ℕ) (n : End) → refusal n.terms n.link false (Data octets) ≡ None → with_link (requested (Data octets) false) n ≡ with_more octets n
+pub asked-form : (octets : List ℕ) (n : LinkEndpoint) → refusal n.terms n.link false (Data octets) ≡ None → with_link (requested (Data octets) false) n ≡ with_more octets n
 asked-form octets n e = grind (arith, append-nil)
 
-pub record Asked (octets : List ℕ) (n m n' : End) : Type 0 where
+pub record Asked (octets : List ℕ) (n m n' : LinkEndpoint) : Type 0 where
   pub steady : Steady n'
   pub there : Direction n' m
   pub back : Direction m n'
   pub heavier : weight_at n' ≡ weight_at n + 4
   pub more : n'.link.contents ≡ n.link.contents ++ octets ∷ []
 
-module _ (octets : List ℕ) (n m : End) (hn : Steady n) (there : Direction n m) (back : Direction m n) (fits : length octets ≤ m.terms.n201)
+module _ (octets : List ℕ) (n m : LinkEndpoint) (hn : Steady n) (there : Direction n m) (back : Direction m n) (fits : length octets ≤ m.terms.n201)
     (e : refusal n.terms n.link false (Data octets) ≡ None) where
   pub asks-more : Asked octets n m (with_link (requested (Data octets) false) n)
   asks-more =

@@ -1,6 +1,6 @@
 -- What is awaited at a station is awaited at the end for which it stands: there a T200 that is long enough is timely, N200 is used up as
 -- its expiry tells, and it runs as its expiry is answered.
-use Rattle.laws_wire.proofs.Vocabulary.{◌≡◌, ℕ, zero, suc, ◌<◌, Bool, true, false, cond, not, ◌||◌, IsTrue, List, [], ◌∷◌, ◌++◌, length, map, Option, None, Some, option_map, refl, sym, ap, subst, ◌∙◌, true≢false, All, flat_map, list_any, option_map_or, nat_lt, ltb-true, All-nil, All-cons, All-append, All-head, All-tail, Seq, Control, Information, ReceiveReady, Service, Parts, spelling, TeiAssigned, Established, ControlFrame, LinkTimer, Terms, Link, fresh, frame_of, state_number, is_multiple_frame, course, begun, given_of, is_running, Course, T200, End, frame_given, with_sent, Config, next, link_in, state_in, state_of, terms, awaits_answer, HasNo, Station, answered, happens, told_by, expiry, is_error, TellNoError, is_poll, is_final, giving, NoneGoes, IsNoneOpen, awaits_in, awaits_reply, IsLongEnough, MayRepeat, is_any_order, runs_t200, Answer, BadTei, NoLink, Refusal, Rests, arith, frames_by, gives_one, is_on-at, le-ltb, link_of, list_any_none, place_of-is, queue_of, told, told_of_link, of_aim, at_timer, place_in, ◌-◌, ◌≤◌, expired, timer_T200, line_answer, line_takes_slot, all-right}
+use Rattle.laws_wire.proofs.Vocabulary.{◌≡◌, ℕ, zero, suc, ◌<◌, Bool, true, false, cond, not, ◌||◌, IsTrue, List, [], ◌∷◌, ◌++◌, length, map, Option, None, Some, option_map, refl, sym, ap, subst, ◌∙◌, true≢false, All, flat_map, list_any, option_map_or, nat_lt, ltb-true, All-nil, All-cons, All-append, All-head, All-tail, Seq, Control, Information, ReceiveReady, Service, Parts, spelling, TeiAssigned, Established, ControlFrame, LinkTimer, Terms, Link, fresh, frame_of, state_number, is_multiple_frame, course, begun, given_of, is_running, Course, T200, LinkEndpoint, frame_given, with_sent, Config, next, link_in, state_in, state_of, terms, awaits_answer, HasNo, Endpoint, answered, happens, told_by, expiry, is_error, TellNoError, is_poll, is_final, giving, NoneGoes, IsNoneOpen, awaits_in, awaits_reply, IsLongEnough, MayRepeat, is_any_order, runs_t200, Answer, BadTei, NoLink, Refusal, Rests, arith, frames_by, gives_one, is_on-at, le-ltb, link_of, list_any_none, place_of-is, queue_of, told, told_of_link, of_aim, at_timer, place_in, ◌-◌, ◌≤◌, expired, timer_T200, line_answer, line_takes_slot, all-right}
 use Rattle.model_link.specs.Machine as links
 use Rattle.model_link.specs.Offers as offers
 use Rattle.model_link.specs.Room.{room_of}
@@ -16,11 +16,11 @@ use Rattle.laws_wire.proofs.Standing.{IsCarried, StationStands, link-ranges, giv
 
 -- ---- of two links less is asked
 
-pub record NoneOpen (n m : End) : Type 0 where
+pub record NoneOpen (n m : LinkEndpoint) : Type 0 where
   pub commands : HasNo is_poll n
   pub responses : HasNo is_final m
 
-pub closed : (n m : End) → NoneOpen n m → two_links.IsNoneOpen n m
+pub closed : (n m : LinkEndpoint) → NoneOpen n m → two_links.IsNoneOpen n m
 closed n m h = record { enquiries = grind arith; answers = grind arith }
 
 -- ---- a link whose T200 expires
@@ -61,7 +61,7 @@ module _ (of : Bool → Control → Bool) (i : (ns nr : Seq) → of true (Inform
   offers-none t l (f ∷ fs) h w = record { waiting = All-tail IsNone f fs h; gives = All-cons IsNot _ [] (All-head IsNone f fs h) (All-nil IsNot) }
   offers-none t l [] h w = grind arith
 
-  sent-none : (n : End) → HasNo of n → HasNo of (with_sent n)
+  sent-none : (n : LinkEndpoint) → HasNo of n → HasNo of (with_sent n)
   sent-none n h =
       let x = offers-none n.terms n.link n.link.waiting h.waiting h.waiting in
       record { waiting = x.waiting; way = All-append IsNot n.way (frame_given n.terms (links.given n.terms n.link)) h.way x.gives }
@@ -79,14 +79,14 @@ read-again service tei c (f ∷ fs) all =
     ∙ ap (λ more. f ∷ more) (read-again service tei c fs (All-tail (IsCarried c service tei) f fs all))
 
 module _ (service : Service) (tei place : ℕ) where
-  abbrev Own : Station → End → Type 0
+  abbrev Own : Endpoint → LinkEndpoint → Type 0
   Own s n = StationStands s.card.config service tei place s n
 
-  way-read : (s : Station) (n : End) → Own s n → flat_map (read_as s.card.config) s.way ≡ n.way
+  way-read : (s : Endpoint) (n : LinkEndpoint) → Own s n → flat_map (read_as s.card.config) s.way ≡ n.way
   way-read s n h = ap (flat_map (read_as s.card.config)) h.way ∙ read-again service tei s.card.config n.way h.carried
 
   -- what waits goes, as the next frame is called for again and again
-  waits-none : (of : Bool → Control → Bool) (ws : List ControlFrame) (s : Station) (n : End) → Own s n → n.link.waiting ≡ ws → NoneGoes of s
+  waits-none : (of : Bool → Control → Bool) (ws : List ControlFrame) (s : Endpoint) (n : LinkEndpoint) → Own s n → n.link.waiting ≡ ws → NoneGoes of s
       → All (λ (f : ControlFrame). of f.command f.control ≡ false) ws
   unfolding giving
   waits-none of [] s n h e none = All-nil (λ (f : ControlFrame). of f.command f.control ≡ false)
@@ -102,13 +102,13 @@ module _ (service : Service) (tei place : ℕ) where
       (waits-none of fs (happens next s) (with_sent n) h' (ap (λ ws. (offers.offer_among t ws (begun l)).link.waiting) e) (λ k. none (suc k)))
 
   goes-none : (of : Bool → Control → Bool) → ((ns nr : Seq) → of true (Information ns nr false) ≡ false) → ((nr : Seq) → of false (ReceiveReady nr false) ≡ false)
-      → (k : ℕ) (s : Station) (n : End) → Own s n → HasNo of n → All (λ (f : Parts). of f.address.command f.control ≡ false) (flat_map (read_as s.card.config) (giving k s).way)
+      → (k : ℕ) (s : Endpoint) (n : LinkEndpoint) → Own s n → HasNo of n → All (λ (f : Parts). of f.address.command f.control ≡ false) (flat_map (read_as s.card.config) (giving k s).way)
   unfolding giving
   goes-none of i rr zero s n h x = subst (All (λ (f : Parts). of f.address.command f.control ≡ false)) (sym (way-read s n h)) x.way
   goes-none of i rr (suc k) s n h x = goes-none of i rr k (happens next s) (with_sent n) (gives-stands service tei place s n h) (sent-none of i rr n x)
 
 -- T200 of a link on the line expires
-module _ (service : Service) (tei : ℕ) (s : Station) where
+module _ (service : Service) (tei : ℕ) (s : Endpoint) where
   abbrev t200 : Answer
   t200 = answered (expiry (timer_T200 service tei)) s
 
@@ -125,7 +125,7 @@ module _ (service : Service) (tei : ℕ) (s : Station) where
       go (Some place) e up =
           ap (λ a. is_any_order (orders_in a)) (answers-t200 place e) ∙ (grind (arith, nat_lt, none-ordered))
 
-module _ (service : Service) (tei : ℕ) (c : Config) (place : ℕ) (s : Station) (n : End) (h : StationStands c service tei place s n) where
+module _ (service : Service) (tei : ℕ) (c : Config) (place : ℕ) (s : Endpoint) (n : LinkEndpoint) (h : StationStands c service tei place s n) where
   own : StationStands s.card.config service tei place s n
   own = subst (λ k. StationStands k service tei place s n) (sym h.config) h
 
@@ -193,13 +193,13 @@ module _ (service : Service) (tei : ℕ) (c : Config) (place : ℕ) (s : Station
   runs-up up = runs-is (λ e. true≢false (sym up ∙ ap is_multiple_frame e))
 
 -- what waits, or is on its way, first
-pub waits-first : (asked : Bool → Control → Bool) (n : End) (f : ControlFrame) (fs : List ControlFrame) → n.link.waiting ≡ f ∷ fs → asked f.command f.control ≡ true → HasNo asked n → ⊥
+pub waits-first : (asked : Bool → Control → Bool) (n : LinkEndpoint) (f : ControlFrame) (fs : List ControlFrame) → n.link.waiting ≡ f ∷ fs → asked f.command f.control ≡ true → HasNo asked n → ⊥
 waits-first asked n f fs first is h = grind arith
 
-pub goes-first : (asked : Bool → Control → Bool) (n : End) (f : Parts) (fs : List Parts) → n.way ≡ f ∷ fs → asked f.address.command f.control ≡ true → HasNo asked n → ⊥
+pub goes-first : (asked : Bool → Control → Bool) (n : LinkEndpoint) (f : Parts) (fs : List Parts) → n.way ≡ f ∷ fs → asked f.address.command f.control ≡ true → HasNo asked n → ⊥
 goes-first asked n f fs first is h = grind arith
 
-module _ (service : Service) (tei : ℕ) (c d : Config) (p q : ℕ) (s r : Station) (n m : End) (near : StationStands c service tei p s n) (far : StationStands d service tei q r m) where
+module _ (service : Service) (tei : ℕ) (c d : Config) (p q : ℕ) (s r : Endpoint) (n m : LinkEndpoint) (near : StationStands c service tei p s n) (far : StationStands d service tei q r m) where
   pub long-there : IsLongEnough service tei s r → awaits_answer n.link.state ≡ true → NoneOpen n m
   long-there long awaits =
       let none = long (awaits-is service tei c p s n near ∙ awaits) in

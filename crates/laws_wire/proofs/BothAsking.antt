@@ -1,6 +1,6 @@
 -- What is done in a call. Layer 3 asks for the establishment of the link: in state 4 it is granted, and in any other state it is
 -- refused, which changes nothing.
-use Rattle.laws_wire.proofs.Vocabulary.{arith, ◌≡◌, ℕ, ◌≤◌, true, false, [], Option, None, refl, sym, ap, subst, ◌∙◌, ◌⊎◌, append-nil, nat_lt, option_map_or, le-ltb, Refusal, Service, is_on-at, place_of-is, Terms, fresh, is_down, End, with_link, Config, request, Line, link_in, link_of, has_tei, terms, unless_refused_told, of_request, line_at, wants_room, is_granted, Event, Establish, Station, happens, answered, requests, Doing, at_near, at_far, IsTalk, IsCall, requested, LinkEstablish, line_answer, line_takes_slot}
+use Rattle.laws_wire.proofs.Vocabulary.{arith, ◌≡◌, ℕ, ◌≤◌, true, false, [], Option, None, refl, sym, ap, subst, ◌∙◌, ◌⊎◌, append-nil, nat_lt, option_map_or, le-ltb, Refusal, Service, is_on-at, place_of-is, Terms, fresh, is_down, LinkEndpoint, with_link, Config, request, Line, link_in, link_of, has_tei, terms, unless_refused_told, of_request, line_at, wants_room, is_granted, Event, Establish, Endpoint, happens, answered, requests, StepAt, at_near, at_far, IsTalk, IsCall, requested, LinkEstablish, line_answer, line_takes_slot}
 use Rattle.model_line.specs.Refusal.{refusal}
 use Rattle.model_card.specs.Event.{at as event_at}
 use Rattle.laws_wire.proofs.Calling.{asked, asks-establish, end}
@@ -11,21 +11,21 @@ use Rattle.laws_wire.proofs.Speaking.{said_by}
 module _ (service : Service) (tei : ℕ) where
   -- ---- what is done: the link is asked for at one of the ends, or it is talk
 
-  pub data Kind (k : Doing) : Type 0 where
+  pub data Kind (k : StepAt) : Type 0 where
     talks : IsTalk service tei k → Kind k
     near_calls : k ≡ at_near (requests (Establish service tei)) → Kind k
     far_calls : k ≡ at_far (requests (Establish service tei)) → Kind k
 
-  pub kind : (k : Doing) → IsCall service tei k → Kind k
+  pub kind : (k : StepAt) → IsCall service tei k → Kind k
   kind k is = grind arith
 
 -- ---- the link is asked for
 
-pub record Refuses (service : Service) (tei : ℕ) (s : Station) : Type 0 where
+pub record Refuses (service : Service) (tei : ℕ) (s : Endpoint) : Type 0 where
   pub same : happens (request (Establish service tei)) s ≡ s
   pub none : is_granted (answered (request (Establish service tei)) s) ≡ false
 
-module _ (service : Service) (tei place : ℕ) (c : Config) (first : Past) (s : Station) (n : End) (h : Holds c service tei place first s n) where
+module _ (service : Service) (tei place : ℕ) (c : Config) (first : Past) (s : Endpoint) (n : LinkEndpoint) (h : Holds c service tei place first s n) where
   own : StationStands s.card.config service tei place s n
   own = subst (λ k. StationStands k service tei place s n) (sym h.stands.config) h.stands
 
@@ -58,11 +58,11 @@ module _ (service : Service) (tei place : ℕ) (c : Config) (first : Past) (s : 
 
 -- ---- in state 4
 
-module _ (service : Service) (tei place : ℕ) (few : tei ≤ 126) (c : Config) (first : Past) (s : Station) (h : Holds c service tei place first s (end (terms c service tei) fresh [])) where
+module _ (service : Service) (tei place : ℕ) (few : tei ≤ 126) (c : Config) (first : Past) (s : Endpoint) (h : Holds c service tei place first s (end (terms c service tei) fresh [])) where
   abbrev t : Terms
   t = terms c service tei
 
-  abbrev n : End
+  abbrev n : LinkEndpoint
   n = end t fresh []
 
   none-refused : why service tei place c first s n h ≡ None

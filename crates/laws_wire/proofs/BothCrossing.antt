@@ -1,5 +1,5 @@
 -- Both ends call, and SABMEs cross: how far each call has come, and what each step does.
-use Rattle.laws_wire.proofs.Vocabulary.{◌≡◌, ℕ, ◌+◌, ◌*◌, ◌<◌, ◌≤◌, false, List, [], ◌∷◌, ◌++◌, length, None, refl, sym, ap, subst, ◌∙◌, ◌⊎◌, inl, inr, append-nil, arith, if◌then◌else◌, lt-ltb, Service, Parts, spelling, ControlFrame, Terms, received, course, given, IsInRange, End, with_link, with_sent, Config, terms, Request, next, Pair, frame, after, refusal, Station, Wire, frames_by, with_first_of, with_first_lost, Act, requests, gives, takes, acting, turned, is_turn_of, answered, comes, IsTalkOf, confirmed, LinkData, two_ends_with_first_lost}
+use Rattle.laws_wire.proofs.Vocabulary.{◌≡◌, ℕ, ◌+◌, ◌*◌, ◌<◌, ◌≤◌, false, List, [], ◌∷◌, ◌++◌, length, None, refl, sym, ap, subst, ◌∙◌, ◌⊎◌, inl, inr, append-nil, arith, if◌then◌else◌, lt-ltb, Service, Parts, spelling, ControlFrame, Terms, received, course, given, IsInRange, LinkEndpoint, with_link, with_sent, Config, terms, Request, next, Pair, frame, after, refusal, Endpoint, Wire, frames_by, with_first_of, without_first, EndStep, requests, sends, receives, acting, turned, is_turn_of, answered, frame_comes, IsTalkOf, confirmed, LinkData, two_ends_without_first}
 use Rattle.laws_wire.proofs.Answered.{takes-granted, gives-granted}
 use Rattle.laws_wire.proofs.BothHalf as half
 use Rattle.laws_wire.proofs.BothHalf.{lower}
@@ -35,7 +35,7 @@ abbrev other_way : Terms → Place → List Parts
 other_way t returns = ua t ∷ []
 other_way t other = []
 
-abbrev pub crossing : Terms → Place → Place → End
+abbrev pub crossing : Terms → Place → Place → LinkEndpoint
 crossing t own other = end t (ringing 0 (own_ring own ++ other_ring other)) (own_way t own ++ other_way t other)
 
 -- Of one end what waits goes in order: its SABME goes before its UA.
@@ -115,15 +115,15 @@ module _ (service : Service) (tei : ℕ) (c d : Config) (p q : ℕ) (face : Face
 
     -- ---- it gives
 
-    gives-none : given t (crossing t own other).link ≡ None → Crossed w (acting gives w) weight (turn_of (frames_by (answered next w.near)))
+    gives-none : given t (crossing t own other).link ≡ None → Crossed w (acting sends w) weight (turn_of (frames_by (answered next w.near)))
     gives-none none =
         let x = quiet-gives service tei c d p q unheard unheard w (crossing t own other) (crossing u other own) both none in
-        stayed (acting gives w) _ x.none x.granted x.both
+        stayed (acting sends w) _ x.none x.granted x.both
 
     gives-on : (own' other' : Place) → InOrder own' other' → with_sent (crossing t own other) ≡ crossing t own' other' → crossing u other own ≡ crossing u other' own'
-        → turns_left own + turns_left other ≡ 1 + (turns_left own' + turns_left other') → Crossed w (acting gives w) weight (turn_of (frames_by (answered next w.near)))
+        → turns_left own + turns_left other ≡ 1 + (turns_left own' + turns_left other') → Crossed w (acting sends w) weight (turn_of (frames_by (answered next w.near)))
     gives-on own' other' order' near far less =
-        let sent = holds-given service tei p unheard c w.near (crossing t own other) both.near (ap (λ (x : End). x.link.contents) near) in
+        let sent = holds-given service tei p unheard c w.near (crossing t own other) both.near (ap (λ (x : LinkEndpoint). x.link.contents) near) in
         record {
           weight = turns_left own' + turns_left other';
           goes = grind (arith, unheard);
@@ -134,29 +134,29 @@ module _ (service : Service) (tei : ℕ) (c d : Config) (p q : ℕ) (face : Face
 
     -- ---- it takes
 
-    takes-none : (crossing u other own).way ≡ [] → Crossed w (acting takes w) weight (turn_of w.far.way)
+    takes-none : (crossing u other own).way ≡ [] → Crossed w (acting receives w) weight (turn_of w.far.way)
     takes-none none = grind (arith, quiet-takes, unheard, stayed)
 
     -- the first frame on the other's way
     module _ (f : Parts) (fs : List Parts) (first : (crossing u other own).way ≡ f ∷ fs) where
-      abbrev s : Station
+      abbrev s : Endpoint
       s = w.near
 
-      pub same : with_first_of w.far.way s ≡ comes (spelling d.side f) s
+      pub same : with_first_of w.far.way s ≡ frame_comes (spelling d.side f) s
       same = ap (λ way. with_first_of way s) (first-way service tei d q unheard w.far (crossing u other own) f fs first both.far).0
 
       pub took : Took service tei p unheard c s (crossing t own other) (spelling d.side f) f
       took = takes_frame service tei p unheard c d face s (crossing t own other) f both.near.stands (first-way service tei d q unheard w.far (crossing u other own) f fs first both.far).1
 
-      pub taken-count : granted_of (acting takes w) ≡ granted_of w
-      taken-count = ap (λ (s' : Station). length s'.granted + length w.far.granted) same ∙ ap (λ xs. length xs + length w.far.granted) (takes-granted (spelling d.side f) s)
+      pub taken-count : granted_of (acting receives w) ≡ granted_of w
+      taken-count = ap (λ (s' : Endpoint). length s'.granted + length w.far.granted) same ∙ ap (λ xs. length xs + length w.far.granted) (takes-granted (spelling d.side f) s)
 
       -- it is told this, and stands for this end
-      pub holds-then : (past : Past) (n' : End) → with_link (received (frame f)) (crossing t own other) ≡ n' → n'.link.contents ≡ [] → past.had ≡ [] → n'.delivered ≡ []
+      pub holds-then : (past : Past) (n' : LinkEndpoint) → with_link (received (frame f)) (crossing t own other) ≡ n' → n'.link.contents ≡ [] → past.had ≡ [] → n'.delivered ≡ []
           → said_by (course t (received (frame f)) (crossing t own other).link) ≡ past.told → Holds c service tei p past (with_first_of w.far.way s) n'
       holds-then past n' is empty had none said =
           subst (λ s'. Holds c service tei p past s' n') (sym same) (record {
-            stands = subst (StationStands c service tei p (comes (spelling d.side f) s)) is took.stands;
+            stands = subst (StationStands c service tei p (frame_comes (spelling d.side f) s)) is took.stands;
             granted = takes-granted (spelling d.side f) s ∙ both.near.granted ∙ sym empty;
             since = [];
             told =
@@ -167,8 +167,8 @@ module _ (service : Service) (tei : ℕ) (c d : Config) (p q : ℕ) (face : Face
 
     -- SABME comes
     takes-sabme : (own' other' : Place) → InOrder own' other' → (fs : List Parts) → (crossing u other own).way ≡ sabme u ∷ fs → with_link (received (frame (sabme u))) (crossing t own other) ≡ crossing t own' other'
-        → said_by (course t (received (frame (sabme u))) (crossing t own other).link) ≡ [] → two_ends_with_first_lost (crossing u other own) ≡ crossing u other' own'
-        → turns_left own + turns_left other ≡ 1 + (turns_left own' + turns_left other') → Crossed w (acting takes w) weight (turn_of w.far.way)
+        → said_by (course t (received (frame (sabme u))) (crossing t own other).link) ≡ [] → two_ends_without_first (crossing u other own) ≡ crossing u other' own'
+        → turns_left own + turns_left other ≡ 1 + (turns_left own' + turns_left other') → Crossed w (acting receives w) weight (turn_of w.far.way)
     takes-sabme own' other' order' fs first near said far less = record {
       weight = turns_left own' + turns_left other';
       goes = inl (record {
@@ -177,7 +177,7 @@ module _ (service : Service) (tei : ℕ) (c d : Config) (p q : ℕ) (face : Face
         order = order';
         both = record {
           near = holds-then (sabme u) fs first unheard (crossing t own' other') near refl refl refl said;
-          far = subst (Holds d service tei q unheard (with_first_lost w.far)) far (holds-lost service tei q unheard d w.far (crossing u other own) both.far);
+          far = subst (Holds d service tei q unheard (without_first w.far)) far (holds-lost service tei q unheard d w.far (crossing u other own) both.far);
         };
         is = refl;
       });
@@ -188,15 +188,15 @@ module _ (service : Service) (tei : ℕ) (c d : Config) (p q : ℕ) (face : Face
     abbrev up_note : Past
     up_note = after_note (confirmed service tei)
 
-    abbrev far_then : Station
-    far_then = with_first_lost w.far
+    abbrev far_then : Endpoint
+    far_then = without_first w.far
 
-    takes-ua : (k : ℕ) → (crossing u other own).way ≡ ua u ∷ [] → turns_left own + turns_left other ≡ 1 + k → (n' : End)
+    takes-ua : (k : ℕ) → (crossing u other own).way ≡ ua u ∷ [] → turns_left own + turns_left other ≡ 1 + k → (n' : LinkEndpoint)
         → with_link (received (frame (ua u))) (crossing t own other) ≡ n' → n'.link.contents ≡ [] → n'.delivered ≡ []
-        → two_ends_with_first_lost (crossing u other own) ≡ end u awaiting []
-        → (Holds d service tei q unheard far_then (end u awaiting []) → Holds c service tei p up_note (with_first_of w.far.way w.near) n' → NearFirst (acting takes w) (k + 0))
+        → two_ends_without_first (crossing u other own) ≡ end u awaiting []
+        → (Holds d service tei q unheard far_then (end u awaiting []) → Holds c service tei p up_note (with_first_of w.far.way w.near) n' → NearFirst (acting receives w) (k + 0))
         → said_by (course t (received (frame (ua u))) (crossing t own other).link) ≡ confirmed service tei ∷ []
-        → Crossed w (acting takes w) weight (turn_of w.far.way)
+        → Crossed w (acting receives w) weight (turn_of w.far.way)
     takes-ua k first less n' near empty none far so said =
         record {
           weight = k + 0;
@@ -209,7 +209,7 @@ module _ (service : Service) (tei : ℕ) (c d : Config) (p q : ℕ) (face : Face
   -- ---- every place
 
   gives-step : (w : Wire) (weight : ℕ) (own other : Place) → InOrder own other → Both service tei c d p q unheard unheard w (crossing t own other) (crossing u other own) → weight ≡ turns_left own + turns_left other
-      → Crossed w (acting gives w) weight (turn_of (frames_by (answered next w.near)))
+      → Crossed w (acting sends w) weight (turn_of (frames_by (answered next w.near)))
   gives-step w weight waits waits order both is = gives-on w weight waits waits order both is under_way waits tt refl refl refl
   gives-step w weight waits under_way order both is = gives-on w weight waits under_way order both is under_way under_way tt refl refl refl
   gives-step w weight waits answered_there order both is = gives-on w weight waits answered_there order both is under_way answered_there tt refl refl refl
@@ -225,7 +225,7 @@ module _ (service : Service) (tei : ℕ) (c d : Config) (p q : ℕ) (face : Face
   hears-crossing own = ap (λ y. end t y (own_way t own ++ [])) (hears-sabme t rt u (own_ring own ++ []) (grind arith))
 
   takes-step : (w : Wire) (weight : ℕ) (own other : Place) → InOrder own other → Both service tei c d p q unheard unheard w (crossing t own other) (crossing u other own) → weight ≡ turns_left own + turns_left other
-      → Crossed w (acting takes w) weight (turn_of w.far.way)
+      → Crossed w (acting receives w) weight (turn_of w.far.way)
   takes-step w weight waits under_way order both is =
       takes-sabme w weight waits under_way order both is waits answered_there tt [] refl (hears-crossing waits) (told-of-crossing t rt u (own_ring waits ++ []) (grind arith)) refl refl
   takes-step w weight under_way under_way order both is =
@@ -245,8 +245,8 @@ module _ (service : Service) (tei : ℕ) (c d : Config) (p q : ℕ) (face : Face
   takes-step w weight own other order both is = takes-none w weight own other order both is refl
 
   -- so each thing that is done at the near end is a step of the call
-  pub near-step : (act : Act) → IsTalkOf service tei act → (w : Wire) (weight : ℕ) → IsCrossing w weight → Crossed w (acting act w) weight (if is_turn_of act w then 1 else 0)
+  pub near-step : (act : EndStep) → IsTalkOf service tei act → (w : Wire) (weight : ℕ) → IsCrossing w weight → Crossed w (acting act w) weight (if is_turn_of act w then 1 else 0)
   near-step (requests r) talk w weight h = asks w weight h.own h.other h.order h.both h.is r talk
-  near-step gives talk w weight h = gives-step w weight h.own h.other h.order h.both h.is
-  near-step takes talk w weight h = takes-step w weight h.own h.other h.order h.both h.is
+  near-step sends talk w weight h = gives-step w weight h.own h.other h.order h.both h.is
+  near-step receives talk w weight h = takes-step w weight h.own h.other h.order h.both h.is
   near-step other talk w weight h = absurd talk

@@ -1,5 +1,5 @@
 -- A call of which one end is up, and its UA waits or is on its way; and then both are up.
-use Rattle.laws_wire.proofs.Vocabulary.{◌≡◌, ℕ, ◌+◌, ◌*◌, ◌≤◌, false, List, [], ◌++◌, length, None, refl, sym, ap, subst, ◌∙◌, ◌⊎◌, inl, inr, arith, if◌then◌else◌, Service, spelling, Terms, course, is_down, IsInRange, End, with_sent, Config, terms, LineTold, request, next, weight_at, Pair, refusal, Data, Station, Wire, happens, frames_by, with_first_of, Act, requests, gives, takes, Doing, at_near, at_far, acting, turned, doing, is_turn_of, is_turn, answered, comes, IsTalkOf, IsTalk, confirmed, received, LinkData, frame}
+use Rattle.laws_wire.proofs.Vocabulary.{◌≡◌, ℕ, ◌+◌, ◌*◌, ◌≤◌, false, List, [], ◌++◌, length, None, refl, sym, ap, subst, ◌∙◌, ◌⊎◌, inl, inr, arith, if◌then◌else◌, Service, spelling, Terms, course, is_down, IsInRange, LinkEndpoint, with_sent, Config, terms, LineTold, request, next, weight_at, Pair, refusal, Data, Endpoint, Wire, happens, frames_by, with_first_of, EndStep, requests, sends, receives, StepAt, at_near, at_far, acting, turned, doing, is_turn_of, is_turn, answered, frame_comes, IsTalkOf, IsTalk, confirmed, received, LinkData, frame}
 use Rattle.laws_wire.proofs.Answered.{gives-granted, takes-granted}
 use Rattle.laws_wire.proofs.Asking.{with_more}
 use Rattle.laws_wire.proofs.BothAsking.{Refuses, refuses}
@@ -21,25 +21,25 @@ module _ (service : Service) (tei : ℕ) where
     abbrev second : Past
     second = after_note note
 
-    abbrev pub one_up : End → ℕ
+    abbrev pub one_up : LinkEndpoint → ℕ
     one_up m = weight_at (end t caller []) + weight_at m
 
     pub record IsAnswered (w : Wire) (weight : ℕ) : Type 0 where
-      pub m : End
+      pub m : LinkEndpoint
       pub none : m.way ≡ []
       pub both : Both service tei c d p q unheard second w (end t awaiting []) (with_ua_waiting m)
       pub pair : Pair (pair_of (end t caller []) m)
       pub is : weight ≡ 2 + one_up m
 
     pub record IsAwaited (w : Wire) (weight : ℕ) : Type 0 where
-      pub m : End
+      pub m : LinkEndpoint
       pub both : Both service tei c d p q unheard second w (end t awaiting []) (with_ua_first m)
       pub pair : Pair (pair_of (end t caller []) m)
       pub is : weight ≡ 1 + one_up m
 
     pub record IsUp (w : Wire) (weight : ℕ) : Type 0 where
-      pub n : End
-      pub m : End
+      pub n : LinkEndpoint
+      pub m : LinkEndpoint
       pub talk : Talk service tei c d p q (after_note (confirmed service tei)) second w n m
       pub is : weight ≡ weight_at n + weight_at m
 
@@ -56,26 +56,26 @@ module _ (service : Service) (tei : ℕ) where
     stayed w w' before b none granted still = record { weight = before; goes = still; price = omega (arith, none, granted) }
 
     -- UA waits
-    from-answered-near : (act : Act) → IsTalkOf service tei act → (w : Wire) (weight : ℕ) → IsAnswered w weight → Stepped w (acting act w) weight (if is_turn_of act w then 1 else 0)
+    from-answered-near : (act : EndStep) → IsTalkOf service tei act → (w : Wire) (weight : ℕ) → IsAnswered w weight → Stepped w (acting act w) weight (if is_turn_of act w then 1 else 0)
     from-answered-near (requests r) is w weight h =
         let x = quiet-requests service tei c d p q unheard second w (end t awaiting []) (with_ua_waiting h.m) h.both (none-granted-awaiting t) r is in
         stayed w (acting (requests r) w) weight 0 refl x.granted (inl (record { m = h.m; none = h.none; both = x.both; pair = h.pair; is = h.is }))
-    from-answered-near gives is w weight h =
+    from-answered-near sends is w weight h =
         let x = quiet-gives service tei c d p q unheard second w (end t awaiting []) (with_ua_waiting h.m) h.both refl in
-        stayed w (acting gives w) weight _ x.none x.granted (inl (record { m = h.m; none = h.none; both = x.both; pair = h.pair; is = h.is }))
-    from-answered-near takes is w weight h =
+        stayed w (acting sends w) weight _ x.none x.granted (inl (record { m = h.m; none = h.none; both = x.both; pair = h.pair; is = h.is }))
+    from-answered-near receives is w weight h =
         let x = quiet-takes service tei c d p q unheard second w (end t awaiting []) (with_ua_waiting h.m) h.both h.none in
-        stayed w (acting takes w) weight _ x.none x.granted (inl (record { m = h.m; none = h.none; both = x.both; pair = h.pair; is = h.is }))
+        stayed w (acting receives w) weight _ x.none x.granted (inl (record { m = h.m; none = h.none; both = x.both; pair = h.pair; is = h.is }))
     from-answered-near other is w weight h = absurd is
 
     -- contents that are granted at one of a pair
-    abbrev made : Wire → Station → Wire
+    abbrev made : Wire → Endpoint → Wire
     made w s' = record { near = w.near; far = s' }
 
-    module _ (w : Wire) (m : End) (up : Pair (pair_of (end t caller []) m)) (waits : End → End) (same-terms : (waits m).terms ≡ m.terms)
+    module _ (w : Wire) (m : LinkEndpoint) (up : Pair (pair_of (end t caller []) m)) (waits : LinkEndpoint → LinkEndpoint) (same-terms : (waits m).terms ≡ m.terms)
         (same-refusal : (octets : List ℕ) → refusal (waits m).terms (waits m).link false (LinkData octets) ≡ refusal m.terms m.link false (LinkData octets))
         (holds : Holds d service tei q second w.far (waits m)) where
-      record Asks (octets : List ℕ) (s' : Station) : Type 0 where
+      record Asks (octets : List ℕ) (s' : Endpoint) : Type 0 where
         more : More service tei q second d w.far s' (waits m) octets
         pair : Pair (pair_of (end t caller []) (with_more octets m))
         heavier : one_up (with_more octets m) ≡ one_up m + 4
@@ -96,12 +96,12 @@ module _ (service : Service) (tei : ℕ) where
     answered-asks : (w : Wire) (weight : ℕ) → IsAnswered w weight → (octets : List ℕ) → Stepped w (made w (happens (request (Data service tei octets)) w.far)) weight 0
     answered-asks w weight h octets = go (far-asks w h.m h.pair with_ua_waiting refl (λ octets. refl) h.both.far octets)
       where
-        s' : Station
+        s' : Endpoint
         s' = happens (request (Data service tei octets)) w.far
 
         go : (s' ≡ w.far) ⊎ Asks w h.m h.pair with_ua_waiting refl (λ octets. refl) h.both.far octets s' → Stepped w (made w s') weight 0
         go (inl same) =
-            stayed w (made w s') weight 0 refl (ap (λ (s : Station). length w.near.granted + length s.granted) same)
+            stayed w (made w s') weight 0 refl (ap (λ (s : Endpoint). length w.near.granted + length s.granted) same)
             (subst (λ s. Half (made w s) weight) (sym same) (inl h))
         go (inr x) = record {
           weight = 2 + one_up (with_more octets h.m);
@@ -113,7 +113,7 @@ module _ (service : Service) (tei : ℕ) where
     answered-gives : (w : Wire) (weight : ℕ) → IsAnswered w weight → Stepped w (made w (happens next w.far)) weight (turn_of (frames_by (answered next w.far)))
     answered-gives w weight h =
         let form = sends-ua h.m h.pair.far h.none in
-        let sent = holds-given service tei q second d w.far (with_ua_waiting h.m) h.both.far (ap (λ (x : End). x.link.contents) form) in
+        let sent = holds-given service tei q second d w.far (with_ua_waiting h.m) h.both.far (ap (λ (x : LinkEndpoint). x.link.contents) form) in
         record {
           weight = 1 + one_up h.m;
           goes = inr (inl (record {
@@ -125,25 +125,25 @@ module _ (service : Service) (tei : ℕ) where
           price = grind (arith, lower, granted_of, one-at-most, gives-granted);
         }
 
-    from-answered-far : (act : Act) → IsTalkOf service tei act → (w : Wire) (weight : ℕ) → IsAnswered w weight → Stepped w (turned (acting act (turned w))) weight (if is_turn_of act (turned w) then 1 else 0)
+    from-answered-far : (act : EndStep) → IsTalkOf service tei act → (w : Wire) (weight : ℕ) → IsAnswered w weight → Stepped w (turned (acting act (turned w))) weight (if is_turn_of act (turned w) then 1 else 0)
     from-answered-far (requests r) is w weight h =
         for-data service tei d c q p second unheard (turned w) (with_ua_waiting h.m) (end t awaiting []) (turned-both service tei c d p q unheard second w _ _ h.both)
         (λ r. Stepped w (made w (happens (request r) w.far)) weight 0) (answered-asks w weight h) r is
-    from-answered-far takes is w weight h =
+    from-answered-far receives is w weight h =
         let x = quiet-takes service tei d c q p second unheard (turned w) (with_ua_waiting h.m) (end t awaiting []) (turned-both service tei c d p q unheard second w _ _ h.both) refl in
-        stayed w (turned (acting takes (turned w))) weight _ x.none (omega (arith, x.granted))
-        (inl (record { m = h.m; none = h.none; both = turned-both service tei d c q p second unheard (acting takes (turned w)) (with_ua_waiting h.m) (end t awaiting []) x.both; pair = h.pair; is = h.is }))
+        stayed w (turned (acting receives (turned w))) weight _ x.none (omega (arith, x.granted))
+        (inl (record { m = h.m; none = h.none; both = turned-both service tei d c q p second unheard (acting receives (turned w)) (with_ua_waiting h.m) (end t awaiting []) x.both; pair = h.pair; is = h.is }))
     from-answered-far act is w weight h = grind (arith, answered-gives)
 
     -- UA is on its way, and I-frames may be behind it
-    confirms : (w : Wire) (weight : ℕ) → IsAwaited w weight → Stepped w (acting takes w) weight (turn_of w.far.way)
+    confirms : (w : Wire) (weight : ℕ) → IsAwaited w weight → Stepped w (acting receives w) weight (turn_of w.far.way)
     confirms w weight h =
         let f = ua h.m.terms in
         let way = first-way service tei d q second w.far (with_ua_first h.m) f h.m.way refl h.both.far in
         let s = w.near in
-        let same : with_first_of w.far.way s ≡ comes (spelling d.side f) s = ap (λ way. with_first_of way s) way.0 in
+        let same : with_first_of w.far.way s ≡ frame_comes (spelling d.side f) s = ap (λ way. with_first_of way s) way.0 in
         let x : Took service tei p unheard c s (end t awaiting []) (spelling d.side f) f = takes_frame service tei p unheard c d face s (end t awaiting []) f h.both.near.stands way.1 in
-        let near : Holds c service tei p (after_note (confirmed service tei)) (comes (spelling d.side f) s) (end t caller []) =
+        let near : Holds c service tei p (after_note (confirmed service tei)) (frame_comes (spelling d.side f) s) (end t caller []) =
         record {
           stands = x.stands;
           granted = takes-granted (spelling d.side f) s ∙ h.both.near.granted;
@@ -165,27 +165,27 @@ module _ (service : Service) (tei : ℕ) where
           }));
           price =
               lower _ weight (one_up h.m) (granted_of w) _ (one-at-most w.far.way) h.is
-              (ap (λ (s' : Station). length s'.granted + length w.far.granted) same ∙ ap (λ xs. length xs + length w.far.granted) (takes-granted (spelling d.side f) s));
+              (ap (λ (s' : Endpoint). length s'.granted + length w.far.granted) same ∙ ap (λ xs. length xs + length w.far.granted) (takes-granted (spelling d.side f) s));
         }
 
-    from-awaited-near : (act : Act) → IsTalkOf service tei act → (w : Wire) (weight : ℕ) → IsAwaited w weight → Stepped w (acting act w) weight (if is_turn_of act w then 1 else 0)
+    from-awaited-near : (act : EndStep) → IsTalkOf service tei act → (w : Wire) (weight : ℕ) → IsAwaited w weight → Stepped w (acting act w) weight (if is_turn_of act w then 1 else 0)
     from-awaited-near (requests r) is w weight h =
         let x = quiet-requests service tei c d p q unheard second w (end t awaiting []) (with_ua_first h.m) h.both (none-granted-awaiting t) r is in
         stayed w (acting (requests r) w) weight 0 refl x.granted (inr (inl (record { m = h.m; both = x.both; pair = h.pair; is = h.is })))
-    from-awaited-near gives is w weight h =
+    from-awaited-near sends is w weight h =
         let x = quiet-gives service tei c d p q unheard second w (end t awaiting []) (with_ua_first h.m) h.both refl in
-        stayed w (acting gives w) weight _ x.none x.granted (inr (inl (record { m = h.m; both = x.both; pair = h.pair; is = h.is })))
+        stayed w (acting sends w) weight _ x.none x.granted (inr (inl (record { m = h.m; both = x.both; pair = h.pair; is = h.is })))
     from-awaited-near act is w weight h = grind (arith, confirms)
 
     awaited-asks : (w : Wire) (weight : ℕ) → IsAwaited w weight → (octets : List ℕ) → Stepped w (made w (happens (request (Data service tei octets)) w.far)) weight 0
     awaited-asks w weight h octets = go (far-asks w h.m h.pair with_ua_first refl (λ octets. refl) h.both.far octets)
       where
-        s' : Station
+        s' : Endpoint
         s' = happens (request (Data service tei octets)) w.far
 
         go : (s' ≡ w.far) ⊎ Asks w h.m h.pair with_ua_first refl (λ octets. refl) h.both.far octets s' → Stepped w (made w s') weight 0
         go (inl same) =
-            stayed w (made w s') weight 0 refl (ap (λ (s : Station). length w.near.granted + length s.granted) same)
+            stayed w (made w s') weight 0 refl (ap (λ (s : Endpoint). length w.near.granted + length s.granted) same)
             (subst (λ s. Half (made w s) weight) (sym same) (inr (inl h)))
         go (inr x) = record {
           weight = 1 + one_up (with_more octets h.m);
@@ -211,18 +211,18 @@ module _ (service : Service) (tei : ℕ) where
           price = grind (arith, end, caller, gives-granted);
         }
 
-    from-awaited-far : (act : Act) → IsTalkOf service tei act → (w : Wire) (weight : ℕ) → IsAwaited w weight → Stepped w (turned (acting act (turned w))) weight (if is_turn_of act (turned w) then 1 else 0)
+    from-awaited-far : (act : EndStep) → IsTalkOf service tei act → (w : Wire) (weight : ℕ) → IsAwaited w weight → Stepped w (turned (acting act (turned w))) weight (if is_turn_of act (turned w) then 1 else 0)
     from-awaited-far (requests r) is w weight h =
         for-data service tei d c q p second unheard (turned w) (with_ua_first h.m) (end t awaiting []) (turned-both service tei c d p q unheard second w _ _ h.both)
         (λ r. Stepped w (made w (happens (request r) w.far)) weight 0) (awaited-asks w weight h) r is
-    from-awaited-far takes is w weight h =
+    from-awaited-far receives is w weight h =
         let x = quiet-takes service tei d c q p second unheard (turned w) (with_ua_first h.m) (end t awaiting []) (turned-both service tei c d p q unheard second w _ _ h.both) refl in
-        stayed w (turned (acting takes (turned w))) weight _ x.none (omega (arith, x.granted))
-        (inr (inl (record { m = h.m; both = turned-both service tei d c q p second unheard (acting takes (turned w)) (with_ua_first h.m) (end t awaiting []) x.both; pair = h.pair; is = h.is })))
+        stayed w (turned (acting receives (turned w))) weight _ x.none (omega (arith, x.granted))
+        (inr (inl (record { m = h.m; both = turned-both service tei d c q p second unheard (acting receives (turned w)) (with_ua_first h.m) (end t awaiting []) x.both; pair = h.pair; is = h.is })))
     from-awaited-far act is w weight h = grind (arith, awaited-gives)
 
     -- both are up
-    from-up : (k : Doing) → IsTalk service tei k → (w : Wire) (weight : ℕ) → IsUp w weight → Stepped w (doing k w) weight (if is_turn k w then 1 else 0)
+    from-up : (k : StepAt) → IsTalk service tei k → (w : Wire) (weight : ℕ) → IsUp w weight → Stepped w (doing k w) weight (if is_turn k w then 1 else 0)
     from-up k is w weight h =
         let x = does service tei c d p q face back (after_note (confirmed service tei)) second k is w h.n h.m h.talk in
         record {
@@ -232,7 +232,7 @@ module _ (service : Service) (tei : ℕ) where
         }
 
     -- so each thing that is done is a step of the call
-    pub step : (k : Doing) → IsTalk service tei k → (w : Wire) (weight : ℕ) → Half w weight → Stepped w (doing k w) weight (if is_turn k w then 1 else 0)
+    pub step : (k : StepAt) → IsTalk service tei k → (w : Wire) (weight : ℕ) → Half w weight → Stepped w (doing k w) weight (if is_turn k w then 1 else 0)
     step (at_near act) is w weight (inl h) = from-answered-near act is w weight h
     step (at_near act) is w weight (inr (inl h)) = from-awaited-near act is w weight h
     step (at_far act) is w weight (inl h) = from-answered-far act is w weight h

@@ -1,5 +1,5 @@
 -- A call from its beginning: the near end calls, and the far one may call back before SABME comes; each step of it.
-use Rattle.laws_wire.proofs.Vocabulary.{◌≡◌, ℕ, ◌+◌, ◌*◌, ◌≤◌, Bool, true, false, cond, ◌||◌, [], ◌∷◌, length, refl, sym, ap, subst, ◌∙◌, ◌⊎◌, inl, inr, arith, if◌then◌else◌, Service, spelling, Terms, fresh, IsInRange, with_link, Config, terms, next, Establish, Station, Wire, frames_by, with_first_of, Act, requests, gives, takes, Doing, at_near, at_far, acting, turned, doing, is_turn_of, is_turn, answered, comes, IsTalkOf, IsTalk, IsCall, calls_back, confirmed, indicated, told_first, received, frame}
+use Rattle.laws_wire.proofs.Vocabulary.{◌≡◌, ℕ, ◌+◌, ◌*◌, ◌≤◌, Bool, true, false, cond, ◌||◌, [], ◌∷◌, length, refl, sym, ap, subst, ◌∙◌, ◌⊎◌, inl, inr, arith, if◌then◌else◌, Service, spelling, Terms, fresh, IsInRange, with_link, Config, terms, next, Establish, Endpoint, Wire, frames_by, with_first_of, EndStep, requests, sends, receives, StepAt, at_near, at_far, acting, turned, doing, is_turn_of, is_turn, answered, frame_comes, IsTalkOf, IsTalk, IsCall, calls_back, confirmed, indicated, told_first, received, frame}
 use Rattle.laws_wire.proofs.Answered.{takes-granted, gives-granted}
 use Rattle.laws_wire.proofs.BothAsking.{Kind, talks, near_calls, far_calls, kind, Refuses, refuses, calls}
 use Rattle.laws_wire.proofs.BothHalf as half
@@ -51,49 +51,49 @@ module _ (service : Service) (tei : ℕ) where
 
     -- ---- SABME waits
 
-    from-waiting-near : (act : Act) → IsTalkOf service tei act → (w : Wire) (weight : ℕ) → IsWaiting w weight → Went false w (acting act w) weight (if is_turn_of act w then 1 else 0)
+    from-waiting-near : (act : EndStep) → IsTalkOf service tei act → (w : Wire) (weight : ℕ) → IsWaiting w weight → Went false w (acting act w) weight (if is_turn_of act w then 1 else 0)
     from-waiting-near (requests r) is w weight h =
         let x = quiet-requests service tei c d p q unheard unheard w (end t asked []) (end u fresh []) h.both (none-granted-asked t) r is in
         stayed false w (acting (requests r) w) weight 0 refl x.granted (inl (record { both = x.both; is = h.is }))
-    from-waiting-near gives is w weight h =
+    from-waiting-near sends is w weight h =
         let sent = holds-given service tei p unheard c w.near (end t asked []) h.both.near refl in
         record {
           weight = 3;
           goes = inr (inl (record { both = record { near = sent; far = h.both.far }; is = refl }));
           price = lower _ weight 3 (granted_of w) _ (one-at-most (frames_by (answered next w.near))) h.is (ap (λ xs. length xs + length w.far.granted) (gives-granted w.near));
         }
-    from-waiting-near takes is w weight h = grind (arith, quiet-takes, unheard, end, asked, stayed)
+    from-waiting-near receives is w weight h = grind (arith, quiet-takes, unheard, end, asked, stayed)
     from-waiting-near other is w weight h = absurd is
 
-    from-waiting-far : (act : Act) → IsTalkOf service tei act → (w : Wire) (weight : ℕ) → IsWaiting w weight → Went false w (turned (acting act (turned w))) weight (if is_turn_of act (turned w) then 1 else 0)
+    from-waiting-far : (act : EndStep) → IsTalkOf service tei act → (w : Wire) (weight : ℕ) → IsWaiting w weight → Went false w (turned (acting act (turned w))) weight (if is_turn_of act (turned w) then 1 else 0)
     from-waiting-far (requests r) is w weight h =
         let x = quiet-requests service tei d c q p unheard unheard (turned w) (end u fresh []) (end t asked []) (turned-both service tei c d p q unheard unheard w _ _ h.both) (none-granted-fresh u) r is in
         stayed false w (turned (acting (requests r) (turned w))) weight 0 refl (omega (arith, x.granted)) (inl (record { both = turned-both service tei d c q p unheard unheard (acting (requests r) (turned w)) (end u fresh []) (end t asked []) x.both; is = h.is }))
-    from-waiting-far gives is w weight h =
+    from-waiting-far sends is w weight h =
         let x = quiet-gives service tei d c q p unheard unheard (turned w) (end u fresh []) (end t asked []) (turned-both service tei c d p q unheard unheard w _ _ h.both) refl in
-        stayed false w (turned (acting gives (turned w))) weight _ x.none (omega (arith, x.granted)) (inl (record { both = turned-both service tei d c q p unheard unheard (acting gives (turned w)) (end u fresh []) (end t asked []) x.both; is = h.is }))
-    from-waiting-far takes is w weight h = grind (arith, quiet-takes, unheard, end, asked, turned-both, stayed)
+        stayed false w (turned (acting sends (turned w))) weight _ x.none (omega (arith, x.granted)) (inl (record { both = turned-both service tei d c q p unheard unheard (acting sends (turned w)) (end u fresh []) (end t asked []) x.both; is = h.is }))
+    from-waiting-far receives is w weight h = grind (arith, quiet-takes, unheard, end, asked, turned-both, stayed)
     from-waiting-far other is w weight h = absurd is
 
     -- ---- SABME is on its way
 
-    from-called-near : (act : Act) → IsTalkOf service tei act → (w : Wire) (weight : ℕ) → IsCalled w weight → Went false w (acting act w) weight (if is_turn_of act w then 1 else 0)
+    from-called-near : (act : EndStep) → IsTalkOf service tei act → (w : Wire) (weight : ℕ) → IsCalled w weight → Went false w (acting act w) weight (if is_turn_of act w then 1 else 0)
     from-called-near (requests r) is w weight h =
         let x = quiet-requests service tei c d p q unheard unheard w (end t awaiting (sabme t ∷ [])) (end u fresh []) h.both (none-granted-awaiting t) r is in
         stayed false w (acting (requests r) w) weight 0 refl x.granted (inr (inl (record { both = x.both; is = h.is })))
-    from-called-near gives is w weight h =
+    from-called-near sends is w weight h =
         let x = quiet-gives service tei c d p q unheard unheard w (end t awaiting (sabme t ∷ [])) (end u fresh []) h.both refl in
-        stayed false w (acting gives w) weight _ x.none x.granted (inr (inl (record { both = x.both; is = h.is })))
-    from-called-near takes is w weight h = grind (arith, quiet-takes, unheard, end, awaiting, sabme, stayed)
+        stayed false w (acting sends w) weight _ x.none x.granted (inr (inl (record { both = x.both; is = h.is })))
+    from-called-near receives is w weight h = grind (arith, quiet-takes, unheard, end, awaiting, sabme, stayed)
     from-called-near other is w weight h = absurd is
 
-    answers : (w : Wire) (weight : ℕ) → IsCalled w weight → Went false w (turned (acting takes (turned w))) weight (turn_of w.near.way)
+    answers : (w : Wire) (weight : ℕ) → IsCalled w weight → Went false w (turned (acting receives (turned w))) weight (turn_of w.near.way)
     answers w weight h =
         let f = sabme t in
         let way = first-way service tei c p unheard w.near (end t awaiting (f ∷ [])) f [] refl h.both.near in
         let s = w.far in
         let second = after_note (indicated service tei) in
-        let same : with_first_of w.near.way s ≡ comes (spelling c.side f) s = ap (λ way. with_first_of way s) way.0 in
+        let same : with_first_of w.near.way s ≡ frame_comes (spelling c.side f) s = ap (λ way. with_first_of way s) way.0 in
         let x : Took service tei q unheard d s (end u fresh []) (spelling c.side f) f = takes_frame service tei q unheard d c back s (end u fresh []) f h.both.far.stands way.1 in
         let is : with_link (received (frame f)) (end u fresh []) ≡ with_ua_waiting (end u called []) = ap (λ y. end u y []) (takes-sabme u ru t) in
         record {
@@ -107,16 +107,16 @@ module _ (service : Service) (tei : ℕ) where
           })));
           price =
               lower _ weight 2 (granted_of w) _ (one-at-most w.near.way) h.is
-              (ap (λ (s' : Station). length w.near.granted + length s'.granted) same ∙ ap (λ xs. length w.near.granted + length xs) (takes-granted (spelling c.side f) s));
+              (ap (λ (s' : Endpoint). length w.near.granted + length s'.granted) same ∙ ap (λ xs. length w.near.granted + length xs) (takes-granted (spelling c.side f) s));
         }
 
-    from-called-far : (act : Act) → IsTalkOf service tei act → (w : Wire) (weight : ℕ) → IsCalled w weight → Went false w (turned (acting act (turned w))) weight (if is_turn_of act (turned w) then 1 else 0)
+    from-called-far : (act : EndStep) → IsTalkOf service tei act → (w : Wire) (weight : ℕ) → IsCalled w weight → Went false w (turned (acting act (turned w))) weight (if is_turn_of act (turned w) then 1 else 0)
     from-called-far (requests r) is w weight h =
         let x = quiet-requests service tei d c q p unheard unheard (turned w) (end u fresh []) (end t awaiting (sabme t ∷ [])) (turned-both service tei c d p q unheard unheard w _ _ h.both) (none-granted-fresh u) r is in
         stayed false w (turned (acting (requests r) (turned w))) weight 0 refl (omega (arith, x.granted)) (inr (inl (record { both = turned-both service tei d c q p unheard unheard (acting (requests r) (turned w)) (end u fresh []) (end t awaiting (sabme t ∷ [])) x.both; is = h.is })))
-    from-called-far gives is w weight h =
+    from-called-far sends is w weight h =
         let x = quiet-gives service tei d c q p unheard unheard (turned w) (end u fresh []) (end t awaiting (sabme t ∷ [])) (turned-both service tei c d p q unheard unheard w _ _ h.both) refl in
-        stayed false w (turned (acting gives (turned w))) weight _ x.none (omega (arith, x.granted)) (inr (inl (record { both = turned-both service tei d c q p unheard unheard (acting gives (turned w)) (end u fresh []) (end t awaiting (sabme t ∷ [])) x.both; is = h.is })))
+        stayed false w (turned (acting sends (turned w))) weight _ x.none (omega (arith, x.granted)) (inr (inl (record { both = turned-both service tei d c q p unheard unheard (acting sends (turned w)) (end u fresh []) (end t awaiting (sabme t ∷ [])) x.both; is = h.is })))
     from-called-far act is w weight h = grind (arith, answers)
 
     -- ---- one end is up, or both
@@ -138,7 +138,7 @@ module _ (service : Service) (tei : ℕ) where
     near-goes : (w : Wire) (weight : ℕ) → Crossing w weight ⊎ NearFirst w weight → Goes true w weight
     near-goes w weight o = grind arith
 
-    crossed-near : (act : Act) → IsTalkOf service tei act → (w : Wire) (weight : ℕ) → Crossing w weight → Went true w (acting act w) weight (if is_turn_of act w then 1 else 0)
+    crossed-near : (act : EndStep) → IsTalkOf service tei act → (w : Wire) (weight : ℕ) → Crossing w weight → Went true w (acting act w) weight (if is_turn_of act w then 1 else 0)
     crossed-near act is w weight h =
         let x = crossed.near-step service tei c d p q face back rt ru act is w weight h in record { weight = x.weight; goes = near-goes (acting act w) x.weight x.goes; price = x.price }
 
@@ -154,7 +154,7 @@ module _ (service : Service) (tei : ℕ) where
     far-goes : (v : Wire) (weight : ℕ) → CrossingTurned v weight ⊎ FarFirst v weight → Goes true (turned v) weight
     far-goes v weight o = grind (arith, crossing-back)
 
-    crossed-far : (act : Act) → IsTalkOf service tei act → (w : Wire) (weight : ℕ) → Crossing w weight → Went true w (turned (acting act (turned w))) weight (if is_turn_of act (turned w) then 1 else 0)
+    crossed-far : (act : EndStep) → IsTalkOf service tei act → (w : Wire) (weight : ℕ) → Crossing w weight → Went true w (turned (acting act (turned w))) weight (if is_turn_of act (turned w) then 1 else 0)
     crossed-far act is w weight h =
         let v = turned w in
         let v' = acting act v in
@@ -167,7 +167,7 @@ module _ (service : Service) (tei : ℕ) where
 
     -- ---- the near end was up first
 
-    first-near : (act : Act) → IsTalkOf service tei act → (w : Wire) (weight : ℕ) → NearFirst w weight → Went true w (acting act w) weight (if is_turn_of act w then 1 else 0)
+    first-near : (act : EndStep) → IsTalkOf service tei act → (w : Wire) (weight : ℕ) → NearFirst w weight → Went true w (acting act w) weight (if is_turn_of act w then 1 else 0)
     first-near act is w weight h =
         let x = half.step service tei (confirmed service tei) d c q p back face ru (at_far act) is (turned w) weight h in
         record {
@@ -176,7 +176,7 @@ module _ (service : Service) (tei : ℕ) where
           price = omega (arith, x.price);
         }
 
-    first-far : (act : Act) → IsTalkOf service tei act → (w : Wire) (weight : ℕ) → NearFirst w weight → Went true w (turned (acting act (turned w))) weight (if is_turn_of act (turned w) then 1 else 0)
+    first-far : (act : EndStep) → IsTalkOf service tei act → (w : Wire) (weight : ℕ) → NearFirst w weight → Went true w (turned (acting act (turned w))) weight (if is_turn_of act (turned w) then 1 else 0)
     first-far act is w weight h =
         let x = half.step service tei (confirmed service tei) d c q p back face ru (at_near act) is (turned w) weight h in
         record {
@@ -187,7 +187,7 @@ module _ (service : Service) (tei : ℕ) where
 
     -- ---- talk
 
-    talk-step : (both : Bool) (k : Doing) → IsTalk service tei k → (w : Wire) (weight : ℕ) → Goes both w weight → Went both w (doing k w) weight (if is_turn k w then 1 else 0)
+    talk-step : (both : Bool) (k : StepAt) → IsTalk service tei k → (w : Wire) (weight : ℕ) → Goes both w weight → Went both w (doing k w) weight (if is_turn k w then 1 else 0)
     talk-step false (at_near act) is w weight (inl h) = from-waiting-near act is w weight h
     talk-step false (at_near act) is w weight (inr (inl h)) = from-called-near act is w weight h
     talk-step false (at_far act) is w weight (inl h) = from-waiting-far act is w weight h
@@ -210,12 +210,12 @@ module _ (service : Service) (tei : ℕ) where
     near-refuses true w weight (inr (inr h)) = half.far-refuses service tei (confirmed service tei) d c q p back face ru (turned w) weight h
 
     -- what is done, whoever calls
-    pub record Stepped (both : Bool) (k : Doing) (w : Wire) (before b : ℕ) : Type 0 where
+    pub record Stepped (both : Bool) (k : StepAt) (w : Wire) (before b : ℕ) : Type 0 where
       pub weight : ℕ
       pub goes : Goes (both || calls_back k w) (doing k w) weight
       pub price : b + weight + (4 * granted_of w + cost both) ≤ before + (4 * granted_of (doing k w) + cost (both || calls_back k w))
 
-    none-called : (both : Bool) (k : Doing) (w : Wire) (before b : ℕ) → calls_back k w ≡ false → Went both w (doing k w) before b → Stepped both k w before b
+    none-called : (both : Bool) (k : StepAt) (w : Wire) (before b : ℕ) → calls_back k w ≡ false → Went both w (doing k w) before b → Stepped both k w before b
     none-called both k w before b none x = grind (arith, granted_of)
 
     not-moved : (both : Bool) (w w' : Wire) (weight : ℕ) → w' ≡ w → Goes both w weight → Went both w w' weight 0
@@ -253,11 +253,11 @@ module _ (service : Service) (tei : ℕ) where
     far-asks true w weight (inr (inl h)) = far-refused true w weight (inr (inl h)) (half.far-refuses service tei (confirmed service tei) c d p q face back rt w weight h)
     far-asks true w weight (inr (inr h)) = far-refused true w weight (inr (inr h)) (half.near-refuses service tei (confirmed service tei) d c q p back face ru (turned w) weight h)
 
-    by-kind : (both : Bool) (k : Doing) → Kind service tei k → (w : Wire) (weight : ℕ) → Goes both w weight → Stepped both k w weight (if is_turn k w then 1 else 0)
+    by-kind : (both : Bool) (k : StepAt) → Kind service tei k → (w : Wire) (weight : ℕ) → Goes both w weight → Stepped both k w weight (if is_turn k w then 1 else 0)
     by-kind both k (talks is) w weight h = none-called both k w weight _ (grind arith) (talk-step both k is w weight h)
     by-kind both k (near_calls is) w weight h = subst (λ k. Stepped both k w weight (if is_turn k w then 1 else 0)) (sym is) (near-asks both w weight h)
     by-kind both k (far_calls is) w weight h = subst (λ k. Stepped both k w weight (if is_turn k w then 1 else 0)) (sym is) (far-asks both w weight h)
 
     -- so each thing that is done is a step of the call
-    pub step : (both : Bool) (k : Doing) → IsCall service tei k → (w : Wire) (weight : ℕ) → Goes both w weight → Stepped both k w weight (if is_turn k w then 1 else 0)
+    pub step : (both : Bool) (k : StepAt) → IsCall service tei k → (w : Wire) (weight : ℕ) → Goes both w weight → Stepped both k w weight (if is_turn k w then 1 else 0)
     step both k is w weight h = by-kind both k (kind service tei k is) w weight h

@@ -1,5 +1,5 @@
 -- An establishment between two links, before both are up: SABME waits and goes, then UA; behind it I-frames may be on their way.
-use Rattle.laws_wire.proofs.Vocabulary.{◌≡◌, ℕ, true, false, cond, List, [], ◌∷◌, ◌++◌, None, Some, ap, subst, arith, nat_lt, lt-ltb, Sabme, Ua, Parts, T203, ControlFrame, Terms, Link, fresh, frame_of, received, requested, offer, course, IsInRange, begun, End, with_sent, command, response, sound-after, sound-fresh, Steady, Pair, T200, after, refusal, IsSound, indicated}
+use Rattle.laws_wire.proofs.Vocabulary.{◌≡◌, ℕ, true, false, cond, List, [], ◌∷◌, ◌++◌, None, Some, ap, subst, arith, nat_lt, lt-ltb, Sabme, Ua, Parts, T203, ControlFrame, Terms, Link, fresh, frame_of, received, requested, offer, course, IsInRange, begun, LinkEndpoint, with_sent, command, response, sound-after, sound-fresh, Steady, Pair, T200, after, refusal, IsSound, indicated}
 use Rattle.model_link.specs.declared.states.State.TheVariants as state
 use Rattle.model_link.specs.Events.{frame, Establish, Data}
 use Rattle.laws_wire.proofs.Speaking.{said_by}
@@ -53,7 +53,7 @@ module _ (t : Terms) (ranges : IsInRange t) where
   pub sound-called : IsSound t called
   sound-called = sound-after t ranges offer answering sound-answering
 
-abbrev pub end : Terms → Link → List Parts → End
+abbrev pub end : Terms → Link → List Parts → LinkEndpoint
 end t l way = record { terms = t; link = l; way = way; delivered = [] }
 
 -- no contents are granted before a link is up
@@ -74,11 +74,11 @@ abbrev pub its_ua : ControlFrame
 its_ua = response (Ua true)
 
 -- The end that answers, with its UA in the ring, and on its way before all else.
-abbrev pub with_ua_waiting : End → End
+abbrev pub with_ua_waiting : LinkEndpoint → LinkEndpoint
 with_ua_waiting n = record n { link = record n.link { waiting = its_ua ∷ [] } }
 
-abbrev pub with_ua_first : End → End
+abbrev pub with_ua_first : LinkEndpoint → LinkEndpoint
 with_ua_first n = record n { way = ua n.terms ∷ n.way }
 
-pub sends-ua : (n : End) → Steady n → n.way ≡ [] → with_sent (with_ua_waiting n) ≡ with_ua_first n
+pub sends-ua : (n : LinkEndpoint) → Steady n → n.way ≡ [] → with_sent (with_ua_waiting n) ≡ with_ua_first n
 sends-ua n h none = grind arith

@@ -1,5 +1,5 @@
 -- The premises of the law on counted expiries are met, by the worked calls that recover from their losses.
-use Rattle.laws_wire.proofs.Vocabulary.{◌≡◌, refl, arith, All, Call, reading, header_of, control_of, unnumbered_of, supervisory_of, distance_of, named, seq, gives, loses, at_near, doing, doing_all, turns, confirmed, heard_in, StayTimely, IsFullTalk, StayPatient, Counts, counting, uncounted, IsBelow, StayCounted, StaySpared, user, network, begins, loses_three, lost, ℕ, ◌<◌, line_answer, line_takes_slot, line_after, tei_refusal, tei_course}
+use Rattle.laws_wire.proofs.Vocabulary.{◌≡◌, refl, arith, All, Call, reading, header_of, control_of, unnumbered_of, supervisory_of, distance_of, named, seq, sends, loses, at_near, doing, doing_all, turns, confirmed, heard_in, StayTimely, IsFullTalk, StayPatient, Counts, counting, uncounted, IsBelow, StayCounted, StaySpared, user, network, begins, loses_three, lost, ℕ, ◌<◌, line_answer, line_takes_slot, line_after, tei_refusal, tei_course}
 use Rattle.laws_wire.specs.WorkedCounted.{ua_is_lost}
 unfoldable use Rattle.laws_wire.proofs.AnsweringMet.{ua-lost}
 use Rattle.laws_wire.proofs.AnsweringMet.{lost-idle}
@@ -9,7 +9,7 @@ use Rattle.laws_wire.proofs.RecoveryMet.{still-open, silent, silent-open, heard-
 
 -- SABME was lost
 abbrev so_far : Counts
-so_far = counting Call 0 (at_near loses) (doing (at_near gives) begins) (counting Call 0 (at_near gives) begins uncounted)
+so_far = counting Call 0 (at_near loses) (doing (at_near sends) begins) (counting Call 0 (at_near sends) begins uncounted)
 
 none-expired : so_far.near ≡ 0
 unfolding line_after line_answer line_takes_slot reading header_of control_of unnumbered_of supervisory_of tei_course tei_refusal seq distance_of named doing_all turns
@@ -39,7 +39,7 @@ timely = expiries-are-counted Call user network 0 0 0 loses_three can rough coun
 
 -- where UA was lost
 ua_so_far : Counts
-ua_so_far = counting Call 0 (at_near gives) begins uncounted
+ua_so_far = counting Call 0 (at_near sends) begins uncounted
 
 ua-none-expired : ua_so_far.near ≡ 0
 unfolding line_after line_answer line_takes_slot reading header_of control_of unnumbered_of supervisory_of tei_course tei_refusal seq distance_of named doing_all turns ua_so_far

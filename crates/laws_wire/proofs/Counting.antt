@@ -1,5 +1,5 @@
 -- RC is never above the number of expiries of T200 since a link was last in state 7, so no error is told while this is below N200.
-use Rattle.laws_wire.proofs.Vocabulary.{◌≡◌, ℕ, ◌+◌, ◌<◌, ◌≤◌, Bool, true, false, cond, ◌==◌, List, [], ◌∷◌, ◌++◌, map, refl, sym, ap, subst, ◌∙◌, inl, inr, true≢false, eqb-true, arith, All, All-nil, All-head, All-tail, Service, Parts, spelling, State, TeiAssigned, AwaitingEstablishment, AwaitingRelease, Established, TimerRecovery, Terms, T203, Link, IsInRange, End, Config, Line, place_in, at_requested, aim_of_request, request, terms, awaits_answer, as_heard, is_clearing, is_time, event-follows, T200, after, Request, Data, SetBusy, ClearBusy, Station, Wire, happens, with_first_of, Act, requests, times_out, gives, takes, Doing, at_near, at_far, acting, turned, doing, doing_all, calling, IsRoughTalk, IsFullTalkOf, IsFullTalk, own_link, IsTimelyOf, StayTimely, StayPatient, Counts, is_7, is_in_7, counted, counting, uncounted, IsCountedOf, IsCounted, StayCounted, StaySpared, ExpiriesAreCounted, LossyExpiriesAreCounted, frame, requested, offer, expired, LinkSetBusy, received, LinkClearBusy, LinkData, LinkRequest, timer_T200, timer_T203, IsPatient, Called, uncalled, seeing, seen}
+use Rattle.laws_wire.proofs.Vocabulary.{◌≡◌, ℕ, ◌+◌, ◌<◌, ◌≤◌, Bool, true, false, cond, ◌==◌, List, [], ◌∷◌, ◌++◌, map, refl, sym, ap, subst, ◌∙◌, inl, inr, true≢false, eqb-true, arith, All, All-nil, All-head, All-tail, Service, Parts, spelling, State, TeiAssigned, AwaitingEstablishment, AwaitingRelease, Established, TimerRecovery, Terms, T203, Link, IsInRange, LinkEndpoint, Config, Line, place_in, at_requested, aim_of_request, request, terms, awaits_answer, as_heard, is_clearing, is_time, event-follows, T200, after, Request, Data, SetBusy, ClearBusy, Endpoint, Wire, happens, with_first_of, EndStep, requests, expires, sends, receives, StepAt, at_near, at_far, acting, turned, doing, doing_all, calling, IsRoughTalk, IsFullTalkOf, IsFullTalk, own_link, IsTimelyOf, StayTimely, StayPatient, Counts, is_7, is_in_7, counted, counting, uncounted, IsCountedOf, IsCounted, StayCounted, StaySpared, ExpiriesAreCounted, LossyExpiriesAreCounted, frame, requested, offer, expired, LinkSetBusy, received, LinkClearBusy, LinkData, LinkRequest, timer_T200, timer_T203, IsPatient, Called, uncalled, seeing, seen}
 use Rattle.model_link.specs.Events.{Event}
 use Rattle.laws_wire.proofs.Awaited.{link-is, state-is, awaits-is, may-here}
 use Rattle.laws_wire.proofs.LooseUp.{for-asked}
@@ -33,10 +33,10 @@ module _ (t : Terms) (e : Event) (l : Link) (k k' : ℕ) where
 -- ---- a station
 
 module _ (service : Service) (tei : ℕ) where
-  abbrev Below : Station → ℕ → Type 0
+  abbrev Below : Endpoint → ℕ → Type 0
   Below s k = IsBelow (own_link service tei s) k
 
-  module _ (c d : Config) (p q : ℕ) (face : Face c d) (w : Wire) (n m : End) (near : StationStands c service tei p w.near n) (far : StationStands d service tei q w.far m) (k : ℕ) (below : Below w.near k) where
+  module _ (c d : Config) (p q : ℕ) (face : Face c d) (w : Wire) (n m : LinkEndpoint) (near : StationStands c service tei p w.near n) (far : StationStands d service tei q w.far m) (k : ℕ) (below : Below w.near k) where
     abbrev in_7 : Bool
     in_7 = is_in_7 service tei w.near
 
@@ -59,7 +59,7 @@ module _ (service : Service) (tei : ℕ) where
     own-below = subst (λ l. IsBelow l k) (link-is service tei c p w.near n near) below
 
     -- an event, at which T200 does not expire, or does
-    by-event : (b : Config) (e : Event) (s' : Station) (n' : End) → StationStands b service tei p s' n' → n'.link ≡ after n.terms e n.link → is_clearing (as_heard n.terms e) ≡ false
+    by-event : (b : Config) (e : Event) (s' : Endpoint) (n' : LinkEndpoint) → StationStands b service tei p s' n' → n'.link ≡ after n.terms e n.link → is_clearing (as_heard n.terms e) ≡ false
         → is_time (as_heard n.terms e) n.link ≡ false → Below s' (cond in_7 0 k)
     by-event b e s' n' stands is stays none =
         subst (λ l. IsBelow l (cond in_7 0 k)) (sym (link-is service tei b p s' n' stands ∙ is))
@@ -75,23 +75,23 @@ module _ (service : Service) (tei : ℕ) where
           | inr x ↦ by-event own (requested rq false) (happens (request r) w.near) _ x.stands refl refl refl
         ]
 
-    near-t200 : Below (acting (times_out (timer_T200 service tei)) w).near (cond in_7 0 (k + 1))
+    near-t200 : Below (acting (expires (timer_T200 service tei)) w).near (cond in_7 0 (k + 1))
     near-t200 =
-        let s' = (acting (times_out (timer_T200 service tei)) w).near in
+        let s' = (acting (expires (timer_T200 service tei)) w).near in
         let k' = cond in_7 0 (k + 1) in
         subst (λ l. IsBelow l k') (sym (link-is service tei own p s' _ (expires-stands service tei p w.near n own-stands (timer_T200 service tei) T200 (λ l. refl))))
         (counts-on n.terms (expired T200) n.link k k' refl own-below (keeps (k + 1) (omega arith)) (λ awaits time. adds awaits))
 
-    near-t203 : Below (acting (times_out (timer_T203 service tei)) w).near (cond in_7 0 k)
+    near-t203 : Below (acting (expires (timer_T203 service tei)) w).near (cond in_7 0 k)
     near-t203 =
-        by-event own (expired T203) (acting (times_out (timer_T203 service tei)) w).near _
+        by-event own (expired T203) (acting (expires (timer_T203 service tei)) w).near _
         (expires-stands service tei p w.near n own-stands (timer_T203 service tei) T203 (λ l. refl)) refl refl refl
 
-    near-gives : Below (acting gives w).near (cond in_7 0 k)
+    near-gives : Below (acting sends w).near (cond in_7 0 k)
     near-gives =
-        by-event own offer (acting gives w).near _ (gives-stands service tei p w.near n own-stands) refl refl refl
+        by-event own offer (acting sends w).near _ (gives-stands service tei p w.near n own-stands) refl refl refl
 
-    near-takes : Below (acting takes w).near (cond in_7 0 k)
+    near-takes : Below (acting receives w).near (cond in_7 0 k)
     near-takes = subst (λ ways. Below (with_first_of ways w.near) (cond in_7 0 k)) (sym far.way) (taken m.way refl)
       where
         taken : (way : List Parts) → m.way ≡ way → Below (with_first_of (map (spelling d.side) way) w.near) (cond in_7 0 k)
@@ -100,7 +100,7 @@ module _ (service : Service) (tei : ℕ) where
             let from : IsCarried d service tei f = All-head (IsCarried d service tei) f fs (subst (All (IsCarried d service tei)) e far.carried) in
             by-event c (received (frame f)) (with_first_of (map (spelling d.side) (f ∷ fs)) w.near) _ (takes_frame service tei p unheard c d face w.near n f near from).stands refl refl refl
 
-    pub near-counts : (act : Act) → IsFullTalkOf service tei act → Below (acting act w).near (counted service tei act w.near k)
+    pub near-counts : (act : EndStep) → IsFullTalkOf service tei act → Below (acting act w).near (counted service tei act w.near k)
     near-counts (requests r) is =
         for-asked service tei (λ r. Below (acting (requests r) w).near (cond in_7 0 k)) (λ octets. near-asks (Data service tei octets) (LinkData octets) (λ l. refl))
         (near-asks (SetBusy service tei) LinkSetBusy (λ l. refl)) (near-asks (ClearBusy service tei) LinkClearBusy (λ l. refl)) r is
@@ -109,10 +109,10 @@ module _ (service : Service) (tei : ℕ) where
   few : (r k i i' : ℕ) → r ≤ k → k < i → i' ≡ i → r < i'
   few r k i i' h h' e = omega (arith, h, h', e)
 
-  of-act : (c : Config) (p : ℕ) (act : Act) → IsFullTalkOf service tei act → (w : Wire) (n : End) → StationStands c service tei p w.near n → (k : ℕ) → Below w.near k → IsCountedOf act k w
+  of-act : (c : Config) (p : ℕ) (act : EndStep) → IsFullTalkOf service tei act → (w : Wire) (n : LinkEndpoint) → StationStands c service tei p w.near n → (k : ℕ) → Below w.near k → IsCountedOf act k w
       → IsTimelyOf act w
-  of-act c p (times_out timer) is w n h k below x =
-      each-timer service tei (λ timer. IsCountedOf (times_out timer) k w → IsTimelyOf (times_out timer) w)
+  of-act c p (expires timer) is w n h k below x =
+      each-timer service tei (λ timer. IsCountedOf (expires timer) k w → IsTimelyOf (expires timer) w)
       (λ x. (
         x.0,
         may-here service tei c p w.near n h (λ awaits.
@@ -130,12 +130,12 @@ module _ (service : Service) (tei : ℕ) where
 
     -- whatever its phase is, each station stands for an end
     record Both (w : Wire) : Type 0 where
-      n : End
-      m : End
+      n : LinkEndpoint
+      m : LinkEndpoint
       near : StationStands c service tei p w.near n
       far : StationStands d service tei q w.far m
 
-    ringing : (P : Station → Type 0) → ((s : Station) → P s → (m : End) × StationStands d service tei q s m) → (w : Wire) → Rs service tei c d p q face back rt ru P w → Both w
+    ringing : (P : Endpoint → Type 0) → ((s : Endpoint) → P s → (m : LinkEndpoint) × StationStands d service tei q s m) → (w : Wire) → Rs service tei c d p q face back rt ru P w → Both w
     ringing P there w (inl h) = record { n = _; m = (there w.far h.far).0; near = h.near.stands; far = (there w.far h.far).1 }
     ringing P there w (inr (inl h)) = record { n = _; m = (there w.far h.far).0; near = h.near.stands; far = (there w.far h.far).1 }
     ringing P there w (inr (inr h)) = record { n = _; m = (there w.far h.far).0; near = h.near.stands; far = (there w.far h.far).1 }
@@ -153,29 +153,29 @@ module _ (service : Service) (tei : ℕ) where
         subst Both (sym h.is) (record { n = y.n; m = y.m; near = y.near; far = regranted d service tei q h.v.far y.m (h.earlier ++ h.v.far.granted) y.far })
 
     -- one by one
-    module _ (a : Doing) (is : IsFullTalk service tei a) (k : Counts) (w : Wire) (y : Both w) (near : Below w.near k.near) (far : Below w.far k.far) where
+    module _ (a : StepAt) (is : IsFullTalk service tei a) (k : Counts) (w : Wire) (y : Both w) (near : Below w.near k.near) (far : Below w.far k.far) where
       patient : IsCounted a k w → IsPatient a w
       patient x = go a is x
         where
-          go : (a : Doing) → IsFullTalk service tei a → IsCounted a k w → IsPatient a w
+          go : (a : StepAt) → IsFullTalk service tei a → IsCounted a k w → IsPatient a w
           go (at_near act) is x = of-act c p act is w y.n y.near k.near near x
           go (at_far act) is x = of-act d q act is (turned w) y.m y.far k.far far x
 
       near-next : Below (doing a w).near (counting service tei a w k).near
       near-next = go a is
         where
-          go : (a : Doing) → IsFullTalk service tei a → Below (doing a w).near (counting service tei a w k).near
+          go : (a : StepAt) → IsFullTalk service tei a → Below (doing a w).near (counting service tei a w k).near
           go (at_near act) is = near-counts c d p q face w y.n y.m y.near y.far k.near near act is
           go (at_far act) is = grind arith
 
       far-next : Below (doing a w).far (counting service tei a w k).far
       far-next = go a is
         where
-          go : (a : Doing) → IsFullTalk service tei a → Below (doing a w).far (counting service tei a w k).far
+          go : (a : StepAt) → IsFullTalk service tei a → Below (doing a w).far (counting service tei a w k).far
           go (at_near act) is = grind arith
           go (at_far act) is = near-counts d c q p back (turned w) y.m y.n y.far y.near k.far far act is
 
-    pub all-patient : (ds : List Doing) → All (IsFullTalk service tei) ds → (k : Counts) (w : Wire) (x : Called) → Its x w → Below w.near k.near → Below w.far k.far
+    pub all-patient : (ds : List StepAt) → All (IsFullTalk service tei) ds → (k : Counts) (w : Wire) (x : Called) → Its x w → Below w.near k.near → Below w.far k.far
         → StayCounted service tei ds k w → StayPatient ds w
     unfolding StayCounted StayPatient
     all-patient [] full k w x h near far counts = tt
@@ -198,10 +198,10 @@ lossy-expiries-are-counted service c d line other tei ds can talk = λ counts.
 
 -- ---- where UA is not lost
 
-full : (service : Service) (tei : ℕ) (d : Doing) → IsRoughTalk service tei d → IsFullTalk service tei d
+full : (service : Service) (tei : ℕ) (d : StepAt) → IsRoughTalk service tei d → IsFullTalk service tei d
 full service tei d is = grind (arith, for-data)
 
-all-timely : (ds : List Doing) (w : Wire) → StayPatient ds w → StaySpared ds w → StayTimely ds w
+all-timely : (ds : List StepAt) (w : Wire) → StayPatient ds w → StaySpared ds w → StayTimely ds w
 unfolding StayPatient StaySpared StayTimely
 all-timely [] w h spared = tt
 all-timely (d ∷ ds) w h spared = ((grind arith), all-timely ds (doing d w) h.1 spared.1)

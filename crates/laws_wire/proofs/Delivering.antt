@@ -1,5 +1,5 @@
 -- Two cards that face each other deliver what layer 3 hands over.
-use Rattle.laws_wire.proofs.Vocabulary.{◌≡◌, ℕ, ◌<◌, ◌||◌, [], None, option_map, sym, ap, subst, ◌∙◌, arith, Service, Link, End, Config, has_lines, line_sound, next, gave, Steady, Station, Wire, IsStill, answered, Face, Speaks, own_link, AreOpposite, is_busy, List, ◌∷◌, ◌++◌, refl, append_assoc, LineTold, Doing, at_near, at_far, turned, doing, ◌+◌, ◌*◌, ◌≤◌, Bool, cond, length, map, take, drop, Some, append-nil, length-append, map-append, take-append-drop, All, All-nil, Established, other_side, Ends, link_in, place_in, terms, AreTurns, weight_at, IsReady, IsTaken, Pair, all-turns, doing_all, turns, IsBeginningOf, IsTold, calling, IsTalk, data_told, granted_of, or_parts, two_ends_doing_all, append_cancel_left}
+use Rattle.laws_wire.proofs.Vocabulary.{◌≡◌, ℕ, ◌<◌, ◌||◌, [], None, option_map, sym, ap, subst, ◌∙◌, arith, Service, Link, LinkEndpoint, Config, has_lines, line_sound, next, gave, Steady, Endpoint, Wire, IsStill, answered, Face, Speaks, own_link, AreOpposite, is_busy, List, ◌∷◌, ◌++◌, refl, append_assoc, LineTold, StepAt, at_near, at_far, turned, doing, ◌+◌, ◌*◌, ◌≤◌, Bool, cond, length, map, take, drop, Some, append-nil, length-append, map-append, take-append-drop, All, All-nil, Established, other_side, Ends, link_in, place_in, terms, AreTurns, weight_at, IsReady, IsTaken, Pair, all-turns, doing_all, turns, IsBeginningOf, ToldInOrder, calling, IsTalk, data_told, granted_of, or_parts, two_ends_doing_all, append_cancel_left}
 use Rattle.model_link.specs.Sound as link_sound
 use Rattle.laws_wire.proofs.Talking as talking
 use Rattle.laws_link.specs.two.Rounds.{HasArrived}
@@ -19,10 +19,10 @@ unfoldable use Rattle.laws_wire.specs.Wire.{doing_all, turns}
 
 module _ (service : Service) (tei : ℕ) where
   -- the link of a station that stands for an end
-  its-link : (c : Config) (place : ℕ) (past : Past) (s : Station) (n : End) → Holds c service tei place past s n → own_link service tei s ≡ n.link
+  its-link : (c : Config) (place : ℕ) (past : Past) (s : Endpoint) (n : LinkEndpoint) → Holds c service tei place past s n → own_link service tei s ≡ n.link
   its-link c place past s n h = grind (arith, StationStands, link-is, line_sound, has_lines)
 
-  speaks : (c d : Config) (p q : ℕ) (past other : Past) (s u : Station) (n m : End) → Holds c service tei p past s n → Holds d service tei q other u m → Steady n
+  speaks : (c d : Config) (p q : ℕ) (past other : Past) (s u : Endpoint) (n m : LinkEndpoint) → Holds c service tei p past s n → Holds d service tei q other u m → Steady n
       → HasArrived n.link.contents n m → answered next s ≡ gave None → s.way ≡ [] → Speaks service tei s u
   speaks c d p q past other s u n m h k steady got none way =
       let own : StationStands s.card.config service tei p s n = subst (λ k. StationStands k service tei p s n) (sym h.stands.config) h.stands in
@@ -37,7 +37,7 @@ module _ (service : Service) (tei : ℕ) where
         owes = λ less. absurd (omega (arith, got.acknowledged, got.sent, subst (λ (l : Link). l.a < l.s) here less));
       }
 
-  module _ (c d : Config) (p q : ℕ) (first second : Past) (w : Wire) (n m : End) (h : Talk service tei c d p q first second w n m) (still : IsStill w) (opposite : AreOpposite c d) where
+  module _ (c d : Config) (p q : ℕ) (first second : Past) (w : Wire) (n m : LinkEndpoint) (h : Talk service tei c d p q first second w n m) (still : IsStill w) (opposite : AreOpposite c d) where
     pub faces-again : Face service tei w
     faces-again =
         let no-near = way-empty service tei c p first w.near n h.near still.near_way in
@@ -51,7 +51,7 @@ module _ (service : Service) (tei : ℕ) where
 
 -- ---- what layer 3 was granted and told before changes nothing of what happens
 
-abbrev pub logged : List (List ℕ) → List LineTold → Station → Station
+abbrev pub logged : List (List ℕ) → List LineTold → Endpoint → Endpoint
 logged granted told s = record s { granted = granted ++ s.granted; told = told ++ s.told }
 
 abbrev pub with_logs : List (List ℕ) → List LineTold → List (List ℕ) → List LineTold → Wire → Wire
@@ -61,16 +61,16 @@ module _ (gn : List (List ℕ)) (tn : List LineTold) (gf : List (List ℕ)) (tf 
   abbrev L : Wire → Wire
   L w = with_logs gn tn gf tf w
 
-  one-logged : (d : Doing) (w : Wire) → doing d (L w) ≡ L (doing d w)
+  one-logged : (d : StepAt) (w : Wire) → doing d (L w) ≡ L (doing d w)
   one-logged (at_near act) w = grind (arith, append_assoc)
   one-logged (at_far act) w = ap turned (grind (arith, append_assoc))
 
-  pub run-logged : (ds : List Doing) (w : Wire) → doing_all ds (L w) ≡ L (doing_all ds w)
+  pub run-logged : (ds : List StepAt) (w : Wire) → doing_all ds (L w) ≡ L (doing_all ds w)
   unfolding doing_all
   run-logged [] w = refl
   run-logged (d ∷ ds) w = ap (doing_all ds) (one-logged d w) ∙ run-logged ds (doing d w)
 
-  pub turns-logged : (ds : List Doing) (w : Wire) → turns ds (L w) ≡ turns ds w
+  pub turns-logged : (ds : List StepAt) (w : Wire) → turns ds (L w) ≡ turns ds w
   unfolding turns
   turns-logged [] w = refl
   turns-logged (d ∷ ds) w = grind (arith, turns-logged ds (doing d w), one-logged)
@@ -102,11 +102,11 @@ module _ (service : Service) (tei : ℕ) where
   data_notes xs = map (data_told service tei) xs
 
   -- a station without what was granted and told before
-  abbrev bare : Station → Station
+  abbrev bare : Endpoint → Endpoint
   bare s = record s { granted = []; told = [] }
 
   -- the end for which it stands, as if it had delivered what it has received of the other's contents
-  abbrev end_at : Station → Station → End
+  abbrev end_at : Endpoint → Endpoint → LinkEndpoint
   end_at s u = record {
     terms = terms s.card.config service tei;
     link = own_link service tei s;
@@ -114,10 +114,10 @@ module _ (service : Service) (tei : ℕ) where
     delivered = take (own_link service tei s).r (own_link service tei u).contents;
   }
 
-  abbrev past_at : Station → Station → Past
+  abbrev past_at : Endpoint → Endpoint → Past
   past_at s u = record { told = []; had = take (own_link service tei s).r (own_link service tei u).contents }
 
-  module _ (s u : Station) (h : Speaks service tei s u) where
+  module _ (s u : Endpoint) (h : Speaks service tei s u) where
     up : IsUp service tei (line_of s)
     up = grind arith
 
@@ -177,7 +177,7 @@ module _ (service : Service) (tei : ℕ) where
     price = let two = two-owed (own_link service tei s).pending in omega (arith, two)
 
   -- what layer 3 of one is told behind what it was told before
-  module _ (s u : Station) (received : (own_link service tei s).r ≡ (own_link service tei u).s) (n m : End) (since more : List (List ℕ))
+  module _ (s u : Endpoint) (received : (own_link service tei s).r ≡ (own_link service tei u).s) (n m : LinkEndpoint) (since more : List (List ℕ))
       (delivered : n.delivered ≡ take (own_link service tei s).r (own_link service tei u).contents ++ since) (kept : (own_link service tei u).contents ++ more ≡ m.link.contents)
       (agree : n.delivered ≡ take n.link.r m.link.contents) where
     as-kept : take (own_link service tei u).s (own_link service tei u).contents ++ since ≡ n.delivered
@@ -191,7 +191,7 @@ module _ (service : Service) (tei : ℕ) where
 
     -- with what the other was granted before
     pub is-told : (still : Type 0) → (still → n.delivered ≡ m.link.contents) → (granted : List (List ℕ))
-        → IsTold still (data_notes (unsent_at service tei u ++ drop (length granted) (granted ++ more))) (data_notes since)
+        → ToldInOrder still (data_notes (unsent_at service tei u ++ drop (length granted) (granted ++ more))) (data_notes since)
     is-told still all granted = grind (arith, drop-append_seam, told-first, data_notes, behind-all, own_link, as-kept)
 
   -- what was granted and told is nothing to how they face each other
@@ -199,11 +199,11 @@ module _ (service : Service) (tei : ℕ) where
   unfolding two_ends_doing_all AreTurns
   first-pair e near far there back = (all-turns [] e near far there back tt).pair
 
-  module _ (ds : List Doing) (w : Wire) (h : Face service tei w) (talk : All (IsTalk service tei) ds) where
-    abbrev s : Station
+  module _ (ds : List StepAt) (w : Wire) (h : Face service tei w) (talk : All (IsTalk service tei) ds) where
+    abbrev s : Endpoint
     s = w.near
 
-    abbrev u : Station
+    abbrev u : Endpoint
     u = w.far
 
     abbrev bare_wire : Wire

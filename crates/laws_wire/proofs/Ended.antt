@@ -1,5 +1,5 @@
 -- Two stations of which one releases the link where both rest: what each thing that is done makes of them.
-use Rattle.laws_wire.proofs.Vocabulary.{◌≡◌, ℕ, ◌+◌, ◌<◌, Bool, true, false, List, [], ◌∷◌, ◌++◌, cond, refl, sym, ap, subst, ◌∙◌, ◌⊎◌, inl, inr, append-nil, arith, All, nat_lt, flat_map, lt-ltb, All-head, All-tail, Service, Timer, Parts, spelling, Established, ControlFrame, Terms, LinkTimer, T203, Link, frame_of, course, End, with_link, response, Ua, Dm, IsInRange, begun, Config, LineTold, expiry, next, terms, HasNothingToSend, awaits_answer, T200, Station, Wire, happens, Act, requests, times_out, gives, takes, loses, acting, turned, Doing, at_near, at_far, doing, doing_all, is_poll, is_final, IsTimelyOf, for_layer_3, IsLeaving, IsTimelyThere, StayTimelyThere, release_confirmed, release_indicated, map, expired, timer_T200, timer_T203}
+use Rattle.laws_wire.proofs.Vocabulary.{◌≡◌, ℕ, ◌+◌, ◌<◌, Bool, true, false, List, [], ◌∷◌, ◌++◌, cond, refl, sym, ap, subst, ◌∙◌, ◌⊎◌, inl, inr, append-nil, arith, All, nat_lt, flat_map, lt-ltb, All-head, All-tail, Service, Timer, Parts, spelling, Established, ControlFrame, Terms, LinkTimer, T203, Link, frame_of, course, LinkEndpoint, with_link, response, Ua, Dm, IsInRange, begun, Config, LineTold, expiry, next, terms, HasNothingToSend, awaits_answer, T200, Endpoint, Wire, happens, EndStep, requests, expires, sends, receives, loses, acting, turned, StepAt, at_near, at_far, doing, doing_all, is_poll, is_final, IsTimelyOf, for_layer_3, IsLeaving, IsTimelyThere, StayTimelyThere, release_confirmed, release_indicated, map, expired, timer_T200, timer_T203}
 use Rattle.laws_wire.proofs.Awaited.{NoneOpen, may-there, long-there, waits-first, goes-first}
 use Rattle.laws_wire.proofs.Leaving.{its_disc, disc, leaving, left, gone, hears-disc, told-disc, repeats-disc, repeats-untold, told-again}
 use Rattle.laws_wire.proofs.LossyPhases.{for-timer, Aims}
@@ -11,7 +11,7 @@ use Rattle.laws_wire.proofs.TimelyUp.{each-timer}
 use Rattle.laws_wire.proofs.Standing.{IsCarried}
 
 module _ (service : Service) (tei : ℕ) where
-  abbrev T : Config → ℕ → List LineTold → Station → End → Type 0
+  abbrev T : Config → ℕ → List LineTold → Endpoint → LinkEndpoint → Type 0
   T k place heard s n = Tells service tei k place heard s n
 
   -- ---- the phases
@@ -30,16 +30,16 @@ module _ (service : Service) (tei : ℕ) where
     room' : nat_lt 0 u.control ≡ true
     room' = let low = ru.control_low in lt-ltb 0 u.control (omega (arith, low))
 
-    abbrev N : ℕ → List ControlFrame → List Parts → End
+    abbrev N : ℕ → List ControlFrame → List Parts → LinkEndpoint
     N k ws way = record { terms = t; link = leaving ln k ws; way = way; delivered = [] }
 
-    abbrev N4 : ℕ → End
+    abbrev N4 : ℕ → LinkEndpoint
     N4 k = record { terms = t; link = left ln k; way = []; delivered = [] }
 
-    abbrev M : End
+    abbrev M : LinkEndpoint
     M = record { terms = u; link = lm; way = []; delivered = [] }
 
-    abbrev G : List ControlFrame → List Parts → End
+    abbrev G : List ControlFrame → List Parts → LinkEndpoint
     G ws way = record { terms = u; link = gone lm ws; way = way; delivered = [] }
 
     -- UA, or DM
@@ -52,7 +52,7 @@ module _ (service : Service) (tei : ℕ) where
     abbrev indicated_then : List LineTold
     indicated_then = hm ++ release_indicated service tei ∷ []
 
-    pub record Are (n m : End) (a b : List LineTold) (w : Wire) : Type 0 where
+    pub record Are (n m : LinkEndpoint) (a b : List LineTold) (w : Wire) : Type 0 where
       pub near : T c p a w.near n
       pub far : T d q b w.far m
 
@@ -75,17 +75,17 @@ module _ (service : Service) (tei : ℕ) where
     gone-quiet : HasNothingToSend u (gone lm [])
     gone-quiet = record { waiting = refl; information = refl; pending = refl }
 
-    module _ (n m : End) (a b : List LineTold) (w : Wire) (h : Are n m a b w) where
-      near-silent : HasNothingToSend n.terms n.link → Are n m a b (acting gives w)
+    module _ (n m : LinkEndpoint) (a b : List LineTold) (w : Wire) (h : Are n m a b w) where
+      near-silent : HasNothingToSend n.terms n.link → Are n m a b (acting sends w)
       near-silent none = record { near = t-silent service tei c p a w.near n none h.near; far = h.far }
 
-      far-silent : HasNothingToSend m.terms m.link → Are n m a b (turned (acting gives (turned w)))
+      far-silent : HasNothingToSend m.terms m.link → Are n m a b (turned (acting sends (turned w)))
       far-silent none = record { near = h.near; far = t-silent service tei d q b w.far m none h.far }
 
-      near-takes-none : m.way ≡ [] → Are n m a b (acting takes w)
+      near-takes-none : m.way ≡ [] → Are n m a b (acting receives w)
       near-takes-none none = subst (Are n m a b) (sym (takes-none w (h.far.stands.way ∙ ap (map (spelling d.side)) none))) h
 
-      far-takes-none : n.way ≡ [] → Are n m a b (turned (acting takes (turned w)))
+      far-takes-none : n.way ≡ [] → Are n m a b (turned (acting receives (turned w)))
       far-takes-none none = subst (λ v. Are n m a b (turned v)) (sym (takes-none (turned w) (h.near.stands.way ∙ ap (map (spelling c.side)) none))) h
 
       near-loses-none : n.way ≡ [] → Are n m a b (acting loses w)
@@ -95,7 +95,7 @@ module _ (service : Service) (tei : ℕ) where
       far-loses-none none = subst (λ v. Are n m a b (turned v)) (sym (loses-none (turned w) (h.far.stands.way ∙ ap (map (spelling d.side)) none))) h
 
       -- a timer that does not run
-      near-unmoved : (timer : Timer) (its : LinkTimer) → Aims service tei timer its → course n.terms (expired its) n.link ≡ begun n.link → Are n m a b (acting (times_out timer) w)
+      near-unmoved : (timer : Timer) (its : LinkTimer) → Aims service tei timer its → course n.terms (expired its) n.link ≡ begun n.link → Are n m a b (acting (expires timer) w)
       near-unmoved timer its aims same = record {
         near = as-end service tei c p _ a (happens (expiry timer) w.near) (with_link (expired its) n) n (t-expired service tei c p a w.near n h.near timer its aims)
             (λ i. record n { link = (same i).link })
@@ -106,15 +106,15 @@ module _ (service : Service) (tei : ℕ) where
     -- ---- what moves
 
     -- DISC goes, or is lost
-    module _ (k : ℕ) (m : End) (b : List LineTold) (w : Wire) where
-      gives-disc : Are (N k (its_disc ∷ []) []) m hn b w → Are (N k [] (disc t ∷ [])) m hn b (acting gives w)
+    module _ (k : ℕ) (m : LinkEndpoint) (b : List LineTold) (w : Wire) where
+      gives-disc : Are (N k (its_disc ∷ []) []) m hn b w → Are (N k [] (disc t ∷ [])) m hn b (acting sends w)
       gives-disc h = record { near = as-end service tei c p hn hn (happens next w.near) _ (N k [] (disc t ∷ [])) (t-given service tei c p hn w.near (N k (its_disc ∷ []) []) h.near) refl refl; far = h.far }
 
       loses-disc : Are (N k [] (disc t ∷ [])) m hn b w → Are (N k [] []) m hn b (acting loses w)
       loses-disc h = record { near = grind (arith, IsCarried); far = h.far }
 
       -- and goes again
-      asks-again : k < t.n200 → Are (N k [] []) m hn b w → Are (N (k + 1) (its_disc ∷ []) []) m hn b (acting (times_out (timer_T200 service tei)) w)
+      asks-again : k < t.n200 → Are (N k [] []) m hn b w → Are (N (k + 1) (its_disc ∷ []) []) m hn b (acting (expires (timer_T200 service tei)) w)
       asks-again few h = record {
         near = as-end service tei c p _ hn (happens (expiry (timer_T200 service tei)) w.near) (with_link (expired T200) (N k [] [])) (N (k + 1) (its_disc ∷ []) [])
             (t-expired service tei c p hn w.near (N k [] []) h.near (timer_T200 service tei) T200 (λ l. refl))
@@ -125,13 +125,13 @@ module _ (service : Service) (tei : ℕ) where
 
     -- the other takes it
     module _ (k : ℕ) (w : Wire) where
-      takes-disc : Are (N k [] (disc t ∷ [])) M hn hm w → Are (N k [] []) (G (reply true ∷ []) []) hn indicated_then (turned (acting takes (turned w)))
+      takes-disc : Are (N k [] (disc t ∷ [])) M hn hm w → Are (N k [] []) (G (reply true ∷ []) []) hn indicated_then (turned (acting receives (turned w)))
       takes-disc h =
           let way = first-carried service tei c p hn w.near (N k [] (disc t ∷ [])) (disc t) refl h.near in
           let far = t-taken service tei d q hm w.far M h.far c back (disc t) way.1 in
           grind (arith, disc, as-end, hears-disc, room', flat_map, told-disc)
 
-      takes-again : Are (N k [] (disc t ∷ [])) (G [] []) hn indicated_then w → Are (N k [] []) (G (reply false ∷ []) []) hn indicated_then (turned (acting takes (turned w)))
+      takes-again : Are (N k [] (disc t ∷ [])) (G [] []) hn indicated_then w → Are (N k [] []) (G (reply false ∷ []) []) hn indicated_then (turned (acting receives (turned w)))
       takes-again h =
           let way = first-carried service tei c p hn w.near (N k [] (disc t ∷ [])) (disc t) refl h.near in
           let far = t-taken service tei d q indicated_then w.far (G [] []) h.far c back (disc t) way.1 in
@@ -139,7 +139,7 @@ module _ (service : Service) (tei : ℕ) where
 
     -- the answer goes, is lost, or comes
     module _ (k : ℕ) (w : Wire) where
-      gives-reply : (b : Bool) → Are (N k [] []) (G (reply b ∷ []) []) hn indicated_then w → Are (N k [] []) (G [] (frame_of u (reply b) ∷ [])) hn indicated_then (turned (acting gives (turned w)))
+      gives-reply : (b : Bool) → Are (N k [] []) (G (reply b ∷ []) []) hn indicated_then w → Are (N k [] []) (G [] (frame_of u (reply b) ∷ [])) hn indicated_then (turned (acting sends (turned w)))
       gives-reply b h = record {
         near = h.near;
         far = as-end service tei d q indicated_then indicated_then (happens next w.far) _ (G [] (frame_of u (reply b) ∷ [])) (t-given service tei d q indicated_then w.far (G (reply b ∷ []) []) h.far) refl refl;
@@ -148,7 +148,7 @@ module _ (service : Service) (tei : ℕ) where
       loses-reply : (b : Bool) → Are (N k [] []) (G [] (frame_of u (reply b) ∷ [])) hn indicated_then w → Are (N k [] []) (G [] []) hn indicated_then (turned (acting loses (turned w)))
       loses-reply b h = record { near = h.near; far = grind (arith, IsCarried) }
 
-      takes-reply : (b : Bool) → Are (N k [] []) (G [] (frame_of u (reply b) ∷ [])) hn indicated_then w → Are (N4 k) (G [] []) confirmed_then indicated_then (acting takes w)
+      takes-reply : (b : Bool) → Are (N k [] []) (G [] (frame_of u (reply b) ∷ [])) hn indicated_then w → Are (N4 k) (G [] []) confirmed_then indicated_then (acting receives w)
       takes-reply b h =
           let f = frame_of u (reply b) in
           let way = first-carried service tei d q indicated_then w.far (G [] (f ∷ [])) f refl h.far in
@@ -158,44 +158,44 @@ module _ (service : Service) (tei : ℕ) where
     -- ---- each act
 
     -- what is open at the stations is open at the ends
-    open-now : (n m : End) (a b : List LineTold) (w : Wire) → Are n m a b w → awaits_answer n.link.state ≡ true → IsTimelyOf (times_out (timer_T200 service tei)) w → NoneOpen n m
+    open-now : (n m : LinkEndpoint) (a b : List LineTold) (w : Wire) → Are n m a b w → awaits_answer n.link.state ≡ true → IsTimelyOf (expires (timer_T200 service tei)) w → NoneOpen n m
     open-now n m a b w h awaits x = long-there service tei c d p q w.near w.far n m h.near.stands h.far.stands x.0 awaits
 
     first-near : (k : ℕ) (w : Wire) → Are (N k (its_disc ∷ []) []) M hn hm w ⊎ Are (N k [] (disc t ∷ [])) M hn hm w ⊎ Are (N k [] []) M hn hm w
-        → (act : Act) → IsLeaving service tei (at_near act) → IsTimelyOf act w → First (acting act w)
+        → (act : EndStep) → IsLeaving service tei (at_near act) → IsTimelyOf act w → First (acting act w)
     first-near k w h (requests r) is x = absurd is
-    first-near k w (inl h) (times_out timer) is x =
-        each-timer service tei (λ timer. IsTimelyOf (times_out timer) w → First (acting (times_out timer) w))
+    first-near k w (inl h) (expires timer) is x =
+        each-timer service tei (λ timer. IsTimelyOf (expires timer) w → First (acting (expires timer) w))
         (λ x. absurd (waits-first is_poll (N k (its_disc ∷ []) []) its_disc [] refl refl (open-now (N k (its_disc ∷ []) []) M hn hm w h refl x).commands))
         (λ x. (k, inl (near-unmoved (N k (its_disc ∷ []) []) M hn hm w h (timer_T203 service tei) T203 (λ l. refl) refl))) timer is x
-    first-near k w (inl h) gives is x = (k, inr (inl (gives-disc k M hm w h)))
-    first-near k w (inl h) takes is x = (k, inl (near-takes-none (N k (its_disc ∷ []) []) M hn hm w h refl))
+    first-near k w (inl h) sends is x = (k, inr (inl (gives-disc k M hm w h)))
+    first-near k w (inl h) receives is x = (k, inl (near-takes-none (N k (its_disc ∷ []) []) M hn hm w h refl))
     first-near k w (inl h) loses is x = (k, inl (near-loses-none (N k (its_disc ∷ []) []) M hn hm w h refl))
-    first-near k w (inr (inl h)) (times_out timer) is x =
-        each-timer service tei (λ timer. IsTimelyOf (times_out timer) w → First (acting (times_out timer) w))
+    first-near k w (inr (inl h)) (expires timer) is x =
+        each-timer service tei (λ timer. IsTimelyOf (expires timer) w → First (acting (expires timer) w))
         (λ x. absurd (goes-first is_poll (N k [] (disc t ∷ [])) (disc t) [] refl refl (open-now (N k [] (disc t ∷ [])) M hn hm w h refl x).commands))
         (λ x. (k, inr (inl (near-unmoved (N k [] (disc t ∷ [])) M hn hm w h (timer_T203 service tei) T203 (λ l. refl) refl)))) timer is x
-    first-near k w (inr (inl h)) gives is x = (k, inr (inl (near-silent (N k [] (disc t ∷ [])) M hn hm w h (record { waiting = refl; information = refl; pending = refl }))))
-    first-near k w (inr (inl h)) takes is x = (k, inr (inl (near-takes-none (N k [] (disc t ∷ [])) M hn hm w h refl)))
+    first-near k w (inr (inl h)) sends is x = (k, inr (inl (near-silent (N k [] (disc t ∷ [])) M hn hm w h (record { waiting = refl; information = refl; pending = refl }))))
+    first-near k w (inr (inl h)) receives is x = (k, inr (inl (near-takes-none (N k [] (disc t ∷ [])) M hn hm w h refl)))
     first-near k w (inr (inl h)) loses is x = (k, inr (inr (loses-disc k M hm w h)))
-    first-near k w (inr (inr h)) (times_out timer) is x =
-        each-timer service tei (λ timer. IsTimelyOf (times_out timer) w → First (acting (times_out timer) w))
+    first-near k w (inr (inr h)) (expires timer) is x =
+        each-timer service tei (λ timer. IsTimelyOf (expires timer) w → First (acting (expires timer) w))
         (λ x. (k + 1, inl (asks-again k M hm w (may-there service tei c p w.near (N k [] []) h.near.stands x.1 refl refl) h)))
         (λ x. (k, inr (inr (near-unmoved (N k [] []) M hn hm w h (timer_T203 service tei) T203 (λ l. refl) refl)))) timer is x
-    first-near k w (inr (inr h)) gives is x = (k, inr (inr (near-silent (N k [] []) M hn hm w h (record { waiting = refl; information = refl; pending = refl }))))
-    first-near k w (inr (inr h)) takes is x = (k, inr (inr (near-takes-none (N k [] []) M hn hm w h refl)))
+    first-near k w (inr (inr h)) sends is x = (k, inr (inr (near-silent (N k [] []) M hn hm w h (record { waiting = refl; information = refl; pending = refl }))))
+    first-near k w (inr (inr h)) receives is x = (k, inr (inr (near-takes-none (N k [] []) M hn hm w h refl)))
     first-near k w (inr (inr h)) loses is x = (k, inr (inr (near-loses-none (N k [] []) M hn hm w h refl)))
 
     first-far : (k : ℕ) (w : Wire) → Are (N k (its_disc ∷ []) []) M hn hm w ⊎ Are (N k [] (disc t ∷ [])) M hn hm w ⊎ Are (N k [] []) M hn hm w
-        → (act : Act) → IsLeaving service tei (at_far act) → Phase (turned (acting act (turned w)))
-    first-far k w (inl h) gives is = inl (k, inl (far-silent (N k (its_disc ∷ []) []) M hn hm w h quiet))
-    first-far k w (inl h) takes is = inl (k, inl (far-takes-none (N k (its_disc ∷ []) []) M hn hm w h refl))
+        → (act : EndStep) → IsLeaving service tei (at_far act) → Phase (turned (acting act (turned w)))
+    first-far k w (inl h) sends is = inl (k, inl (far-silent (N k (its_disc ∷ []) []) M hn hm w h quiet))
+    first-far k w (inl h) receives is = inl (k, inl (far-takes-none (N k (its_disc ∷ []) []) M hn hm w h refl))
     first-far k w (inl h) loses is = inl (k, inl (far-loses-none (N k (its_disc ∷ []) []) M hn hm w h refl))
-    first-far k w (inr (inl h)) gives is = inl (k, inr (inl (far-silent (N k [] (disc t ∷ [])) M hn hm w h quiet)))
-    first-far k w (inr (inl h)) takes is = inr (inl (k, true, inl (takes-disc k w h)))
+    first-far k w (inr (inl h)) sends is = inl (k, inr (inl (far-silent (N k [] (disc t ∷ [])) M hn hm w h quiet)))
+    first-far k w (inr (inl h)) receives is = inr (inl (k, true, inl (takes-disc k w h)))
     first-far k w (inr (inl h)) loses is = inl (k, inr (inl (far-loses-none (N k [] (disc t ∷ [])) M hn hm w h refl)))
-    first-far k w (inr (inr h)) gives is = inl (k, inr (inr (far-silent (N k [] []) M hn hm w h quiet)))
-    first-far k w (inr (inr h)) takes is = inl (k, inr (inr (far-takes-none (N k [] []) M hn hm w h refl)))
+    first-far k w (inr (inr h)) sends is = inl (k, inr (inr (far-silent (N k [] []) M hn hm w h quiet)))
+    first-far k w (inr (inr h)) receives is = inl (k, inr (inr (far-takes-none (N k [] []) M hn hm w h refl)))
     first-far k w (inr (inr h)) loses is = inl (k, inr (inr (far-loses-none (N k [] []) M hn hm w h refl)))
     first-far k w h other is = absurd is
 
@@ -205,81 +205,81 @@ module _ (service : Service) (tei : ℕ) where
     told-near : (k : ℕ) (b : Bool) (w : Wire)
         → Are (N k [] []) (G (reply b ∷ []) []) hn I w ⊎ Are (N k [] []) (G [] (frame_of u (reply b) ∷ [])) hn I w ⊎ Are (N k [] []) (G [] []) hn I w
         ⊎ Are (N k (its_disc ∷ []) []) (G [] []) hn I w ⊎ Are (N k [] (disc t ∷ [])) (G [] []) hn I w
-        → (act : Act) → IsLeaving service tei (at_near act) → IsTimelyOf act w → Phase (acting act w)
+        → (act : EndStep) → IsLeaving service tei (at_near act) → IsTimelyOf act w → Phase (acting act w)
     told-near k b w h (requests r) is x = absurd is
-    told-near k b w (inl h) (times_out timer) is x =
-        each-timer service tei (λ timer. IsTimelyOf (times_out timer) w → Phase (acting (times_out timer) w))
+    told-near k b w (inl h) (expires timer) is x =
+        each-timer service tei (λ timer. IsTimelyOf (expires timer) w → Phase (acting (expires timer) w))
         (λ x. absurd (waits-first is_final (G (reply b ∷ []) []) (reply b) [] refl (grind arith) (open-now (N k [] []) (G (reply b ∷ []) []) hn I w h refl x).responses))
         (λ x. inr (inl (k, b, inl (near-unmoved (N k [] []) (G (reply b ∷ []) []) hn I w h (timer_T203 service tei) T203 (λ l. refl) refl)))) timer is x
-    told-near k b w (inl h) gives is x = inr (inl (k, b, inl (near-silent (N k [] []) (G (reply b ∷ []) []) hn I w h (record { waiting = refl; information = refl; pending = refl }))))
-    told-near k b w (inl h) takes is x = inr (inl (k, b, inl (near-takes-none (N k [] []) (G (reply b ∷ []) []) hn I w h refl)))
+    told-near k b w (inl h) sends is x = inr (inl (k, b, inl (near-silent (N k [] []) (G (reply b ∷ []) []) hn I w h (record { waiting = refl; information = refl; pending = refl }))))
+    told-near k b w (inl h) receives is x = inr (inl (k, b, inl (near-takes-none (N k [] []) (G (reply b ∷ []) []) hn I w h refl)))
     told-near k b w (inl h) loses is x = inr (inl (k, b, inl (near-loses-none (N k [] []) (G (reply b ∷ []) []) hn I w h refl)))
-    told-near k b w (inr (inl h)) (times_out timer) is x =
-        each-timer service tei (λ timer. IsTimelyOf (times_out timer) w → Phase (acting (times_out timer) w))
+    told-near k b w (inr (inl h)) (expires timer) is x =
+        each-timer service tei (λ timer. IsTimelyOf (expires timer) w → Phase (acting (expires timer) w))
         (λ x. absurd (goes-first is_final (G [] (frame_of u (reply b) ∷ [])) (frame_of u (reply b)) [] refl (grind arith) (open-now (N k [] []) (G [] (frame_of u (reply b) ∷ [])) hn I w h refl x).responses))
         (λ x. inr (inl (k, b, inr (inl (near-unmoved (N k [] []) (G [] (frame_of u (reply b) ∷ [])) hn I w h (timer_T203 service tei) T203 (λ l. refl) refl))))) timer is x
-    told-near k b w (inr (inl h)) gives is x = inr (inl (k, b, inr (inl (near-silent (N k [] []) (G [] (frame_of u (reply b) ∷ [])) hn I w h (record { waiting = refl; information = refl; pending = refl })))))
-    told-near k b w (inr (inl h)) takes is x = inr (inr (k, takes-reply k w b h))
+    told-near k b w (inr (inl h)) sends is x = inr (inl (k, b, inr (inl (near-silent (N k [] []) (G [] (frame_of u (reply b) ∷ [])) hn I w h (record { waiting = refl; information = refl; pending = refl })))))
+    told-near k b w (inr (inl h)) receives is x = inr (inr (k, takes-reply k w b h))
     told-near k b w (inr (inl h)) loses is x = inr (inl (k, b, inr (inl (near-loses-none (N k [] []) (G [] (frame_of u (reply b) ∷ [])) hn I w h refl))))
-    told-near k b w (inr (inr (inl h))) (times_out timer) is x =
-        each-timer service tei (λ timer. IsTimelyOf (times_out timer) w → Phase (acting (times_out timer) w))
+    told-near k b w (inr (inr (inl h))) (expires timer) is x =
+        each-timer service tei (λ timer. IsTimelyOf (expires timer) w → Phase (acting (expires timer) w))
         (λ x. inr (inl (k + 1, b, inr (inr (inr (inl (asks-again k (G [] []) I w (may-there service tei c p w.near (N k [] []) h.near.stands x.1 refl refl) h)))))))
         (λ x. inr (inl (k, b, inr (inr (inl (near-unmoved (N k [] []) (G [] []) hn I w h (timer_T203 service tei) T203 (λ l. refl) refl)))))) timer is x
-    told-near k b w (inr (inr (inl h))) gives is x = inr (inl (k, b, inr (inr (inl (near-silent (N k [] []) (G [] []) hn I w h (record { waiting = refl; information = refl; pending = refl }))))))
-    told-near k b w (inr (inr (inl h))) takes is x = inr (inl (k, b, inr (inr (inl (near-takes-none (N k [] []) (G [] []) hn I w h refl)))))
+    told-near k b w (inr (inr (inl h))) sends is x = inr (inl (k, b, inr (inr (inl (near-silent (N k [] []) (G [] []) hn I w h (record { waiting = refl; information = refl; pending = refl }))))))
+    told-near k b w (inr (inr (inl h))) receives is x = inr (inl (k, b, inr (inr (inl (near-takes-none (N k [] []) (G [] []) hn I w h refl)))))
     told-near k b w (inr (inr (inl h))) loses is x = inr (inl (k, b, inr (inr (inl (near-loses-none (N k [] []) (G [] []) hn I w h refl)))))
-    told-near k b w (inr (inr (inr (inl h)))) (times_out timer) is x =
-        each-timer service tei (λ timer. IsTimelyOf (times_out timer) w → Phase (acting (times_out timer) w))
+    told-near k b w (inr (inr (inr (inl h)))) (expires timer) is x =
+        each-timer service tei (λ timer. IsTimelyOf (expires timer) w → Phase (acting (expires timer) w))
         (λ x. absurd (waits-first is_poll (N k (its_disc ∷ []) []) its_disc [] refl refl (open-now (N k (its_disc ∷ []) []) (G [] []) hn I w h refl x).commands))
         (λ x. inr (inl (k, b, inr (inr (inr (inl (near-unmoved (N k (its_disc ∷ []) []) (G [] []) hn I w h (timer_T203 service tei) T203 (λ l. refl) refl))))))) timer is x
-    told-near k b w (inr (inr (inr (inl h)))) gives is x = inr (inl (k, b, inr (inr (inr (inr (gives-disc k (G [] []) I w h))))))
-    told-near k b w (inr (inr (inr (inl h)))) takes is x = inr (inl (k, b, inr (inr (inr (inl (near-takes-none (N k (its_disc ∷ []) []) (G [] []) hn I w h refl))))))
+    told-near k b w (inr (inr (inr (inl h)))) sends is x = inr (inl (k, b, inr (inr (inr (inr (gives-disc k (G [] []) I w h))))))
+    told-near k b w (inr (inr (inr (inl h)))) receives is x = inr (inl (k, b, inr (inr (inr (inl (near-takes-none (N k (its_disc ∷ []) []) (G [] []) hn I w h refl))))))
     told-near k b w (inr (inr (inr (inl h)))) loses is x = inr (inl (k, b, inr (inr (inr (inl (near-loses-none (N k (its_disc ∷ []) []) (G [] []) hn I w h refl))))))
-    told-near k b w (inr (inr (inr (inr h)))) (times_out timer) is x =
-        each-timer service tei (λ timer. IsTimelyOf (times_out timer) w → Phase (acting (times_out timer) w))
+    told-near k b w (inr (inr (inr (inr h)))) (expires timer) is x =
+        each-timer service tei (λ timer. IsTimelyOf (expires timer) w → Phase (acting (expires timer) w))
         (λ x. absurd (goes-first is_poll (N k [] (disc t ∷ [])) (disc t) [] refl refl (open-now (N k [] (disc t ∷ [])) (G [] []) hn I w h refl x).commands))
         (λ x. inr (inl (k, b, inr (inr (inr (inr (near-unmoved (N k [] (disc t ∷ [])) (G [] []) hn I w h (timer_T203 service tei) T203 (λ l. refl) refl))))))) timer is x
-    told-near k b w (inr (inr (inr (inr h)))) gives is x = inr (inl (k, b, inr (inr (inr (inr (near-silent (N k [] (disc t ∷ [])) (G [] []) hn I w h (record { waiting = refl; information = refl; pending = refl })))))))
-    told-near k b w (inr (inr (inr (inr h)))) takes is x = inr (inl (k, b, inr (inr (inr (inr (near-takes-none (N k [] (disc t ∷ [])) (G [] []) hn I w h refl))))))
+    told-near k b w (inr (inr (inr (inr h)))) sends is x = inr (inl (k, b, inr (inr (inr (inr (near-silent (N k [] (disc t ∷ [])) (G [] []) hn I w h (record { waiting = refl; information = refl; pending = refl })))))))
+    told-near k b w (inr (inr (inr (inr h)))) receives is x = inr (inl (k, b, inr (inr (inr (inr (near-takes-none (N k [] (disc t ∷ [])) (G [] []) hn I w h refl))))))
     told-near k b w (inr (inr (inr (inr h)))) loses is x = inr (inl (k, b, inr (inr (inl (loses-disc k (G [] []) I w h)))))
 
     told-far : (k : ℕ) (b : Bool) (w : Wire)
         → Are (N k [] []) (G (reply b ∷ []) []) hn I w ⊎ Are (N k [] []) (G [] (frame_of u (reply b) ∷ [])) hn I w ⊎ Are (N k [] []) (G [] []) hn I w
         ⊎ Are (N k (its_disc ∷ []) []) (G [] []) hn I w ⊎ Are (N k [] (disc t ∷ [])) (G [] []) hn I w
-        → (act : Act) → IsLeaving service tei (at_far act) → Told (turned (acting act (turned w)))
-    told-far k b w (inl h) gives is = (k, b, inr (inl (gives-reply k w b h)))
-    told-far k b w (inl h) takes is = (k, b, inl (far-takes-none (N k [] []) (G (reply b ∷ []) []) hn I w h refl))
+        → (act : EndStep) → IsLeaving service tei (at_far act) → Told (turned (acting act (turned w)))
+    told-far k b w (inl h) sends is = (k, b, inr (inl (gives-reply k w b h)))
+    told-far k b w (inl h) receives is = (k, b, inl (far-takes-none (N k [] []) (G (reply b ∷ []) []) hn I w h refl))
     told-far k b w (inl h) loses is = (k, b, inl (far-loses-none (N k [] []) (G (reply b ∷ []) []) hn I w h refl))
-    told-far k b w (inr (inl h)) gives is = (k, b, inr (inl (far-silent (N k [] []) (G [] (frame_of u (reply b) ∷ [])) hn I w h gone-quiet)))
-    told-far k b w (inr (inl h)) takes is = (k, b, inr (inl (far-takes-none (N k [] []) (G [] (frame_of u (reply b) ∷ [])) hn I w h refl)))
+    told-far k b w (inr (inl h)) sends is = (k, b, inr (inl (far-silent (N k [] []) (G [] (frame_of u (reply b) ∷ [])) hn I w h gone-quiet)))
+    told-far k b w (inr (inl h)) receives is = (k, b, inr (inl (far-takes-none (N k [] []) (G [] (frame_of u (reply b) ∷ [])) hn I w h refl)))
     told-far k b w (inr (inl h)) loses is = (k, b, inr (inr (inl (loses-reply k w b h))))
-    told-far k b w (inr (inr (inl h))) gives is = (k, b, inr (inr (inl (far-silent (N k [] []) (G [] []) hn I w h gone-quiet))))
-    told-far k b w (inr (inr (inl h))) takes is = (k, b, inr (inr (inl (far-takes-none (N k [] []) (G [] []) hn I w h refl))))
+    told-far k b w (inr (inr (inl h))) sends is = (k, b, inr (inr (inl (far-silent (N k [] []) (G [] []) hn I w h gone-quiet))))
+    told-far k b w (inr (inr (inl h))) receives is = (k, b, inr (inr (inl (far-takes-none (N k [] []) (G [] []) hn I w h refl))))
     told-far k b w (inr (inr (inl h))) loses is = (k, b, inr (inr (inl (far-loses-none (N k [] []) (G [] []) hn I w h refl))))
-    told-far k b w (inr (inr (inr (inl h)))) gives is = (k, b, inr (inr (inr (inl (far-silent (N k (its_disc ∷ []) []) (G [] []) hn I w h gone-quiet)))))
-    told-far k b w (inr (inr (inr (inl h)))) takes is = (k, b, inr (inr (inr (inl (far-takes-none (N k (its_disc ∷ []) []) (G [] []) hn I w h refl)))))
+    told-far k b w (inr (inr (inr (inl h)))) sends is = (k, b, inr (inr (inr (inl (far-silent (N k (its_disc ∷ []) []) (G [] []) hn I w h gone-quiet)))))
+    told-far k b w (inr (inr (inr (inl h)))) receives is = (k, b, inr (inr (inr (inl (far-takes-none (N k (its_disc ∷ []) []) (G [] []) hn I w h refl)))))
     told-far k b w (inr (inr (inr (inl h)))) loses is = (k, b, inr (inr (inr (inl (far-loses-none (N k (its_disc ∷ []) []) (G [] []) hn I w h refl)))))
-    told-far k b w (inr (inr (inr (inr h)))) gives is = (k, b, inr (inr (inr (inr (far-silent (N k [] (disc t ∷ [])) (G [] []) hn I w h gone-quiet)))))
-    told-far k b w (inr (inr (inr (inr h)))) takes is = (k, false, inl (takes-again k w h))
+    told-far k b w (inr (inr (inr (inr h)))) sends is = (k, b, inr (inr (inr (inr (far-silent (N k [] (disc t ∷ [])) (G [] []) hn I w h gone-quiet)))))
+    told-far k b w (inr (inr (inr (inr h)))) receives is = (k, false, inl (takes-again k w h))
     told-far k b w (inr (inr (inr (inr h)))) loses is = (k, b, inr (inr (inr (inr (far-loses-none (N k [] (disc t ∷ [])) (G [] []) hn I w h refl)))))
     told-far k b w h other is = absurd is
 
-    last-near : (w : Wire) → Last w → (act : Act) → IsLeaving service tei (at_near act) → Last (acting act w)
+    last-near : (w : Wire) → Last w → (act : EndStep) → IsLeaving service tei (at_near act) → Last (acting act w)
     last-near w (k, h) (requests r) is = absurd is
-    last-near w (k, h) (times_out timer) is =
-        for-timer service tei (λ timer. Last (acting (times_out timer) w)) (λ timer its aims. (k, near-unmoved (N4 k) (G [] []) confirmed_then I w h timer its aims (unmoved its))) timer is
+    last-near w (k, h) (expires timer) is =
+        for-timer service tei (λ timer. Last (acting (expires timer) w)) (λ timer its aims. (k, near-unmoved (N4 k) (G [] []) confirmed_then I w h timer its aims (unmoved its))) timer is
       where
         unmoved : (its : LinkTimer) → course t (expired its) (left ln k) ≡ begun (left ln k)
         unmoved its = grind arith
-    last-near w (k, h) gives is = (k, near-silent (N4 k) (G [] []) confirmed_then I w h (record { waiting = refl; information = refl; pending = refl }))
-    last-near w (k, h) takes is = (k, near-takes-none (N4 k) (G [] []) confirmed_then I w h refl)
+    last-near w (k, h) sends is = (k, near-silent (N4 k) (G [] []) confirmed_then I w h (record { waiting = refl; information = refl; pending = refl }))
+    last-near w (k, h) receives is = (k, near-takes-none (N4 k) (G [] []) confirmed_then I w h refl)
     last-near w (k, h) loses is = (k, near-loses-none (N4 k) (G [] []) confirmed_then I w h refl)
 
-    last-far : (w : Wire) → Last w → (act : Act) → IsLeaving service tei (at_far act) → Last (turned (acting act (turned w)))
-    last-far w (k, h) gives is = (k, far-silent (N4 k) (G [] []) confirmed_then I w h gone-quiet)
+    last-far : (w : Wire) → Last w → (act : EndStep) → IsLeaving service tei (at_far act) → Last (turned (acting act (turned w)))
+    last-far w (k, h) sends is = (k, far-silent (N4 k) (G [] []) confirmed_then I w h gone-quiet)
     last-far w o act is = grind (arith, far-takes-none, far-loses-none)
 
-    pub step : (x : Doing) → IsLeaving service tei x → (w : Wire) → IsTimelyThere x w → Phase w → Phase (doing x w)
+    pub step : (x : StepAt) → IsLeaving service tei x → (w : Wire) → IsTimelyThere x w → Phase w → Phase (doing x w)
     step (at_near act) is w timely (inl (k, h)) = inl (first-near k w h act is timely)
     step (at_near act) is w timely (inr (inl (k, b, h))) = told-near k b w h act is timely
     step (at_near act) is w timely (inr (inr h)) = inr (inr (last-near w h act is))
@@ -287,7 +287,7 @@ module _ (service : Service) (tei : ℕ) where
     step (at_far act) is w timely (inr (inl (k, b, h))) = inr (inl (told-far k b w h act is))
     step (at_far act) is w timely (inr (inr h)) = inr (inr (last-far w h act is))
 
-    pub ends : (ds : List Doing) → All (IsLeaving service tei) ds → (w : Wire) → StayTimelyThere ds w → Phase w → Phase (doing_all ds w)
+    pub ends : (ds : List StepAt) → All (IsLeaving service tei) ds → (w : Wire) → StayTimelyThere ds w → Phase w → Phase (doing_all ds w)
     unfolding doing_all StayTimelyThere
     ends [] all w x h = h
     ends (x ∷ ds) all w timely h =

@@ -1,5 +1,5 @@
 -- A call that ends where both ends rest: from its release on.
-use Rattle.laws_wire.proofs.Vocabulary.{arith, ◌≡◌, ℕ, ◌≤◌, Bool, true, false, not, cond, List, [], ◌∷◌, ◌++◌, None, Some, refl, sym, ap, subst, ◌∙◌, ◌⊎◌, inl, inr, append-nil, true≢false, All, nat_lt, flat_map, option_map_or, le-ltb, lt-ltb, Refusal, BadTei, NoLink, WrongState, Service, is_on-at, place_of-is, Established, Terms, Link, fresh, course, serves, IsInRange, End, with_link, Config, LineTold, request, Line, link_in, link_of, terms, line_at, wants_room, HasNothingToSend, nothing-given, flat_map-append, Release, Station, Wire, happens, requests, acting, turned, Doing, doing_all, IsStill, calling, confirmed, for_layer_3, heard_in, runs_t200, IsLeaving, StayTimelyThere, release_confirmed, release_indicated, EndsSo, CallsEnd, requested, LinkRelease, line_takes_slot, uncalled, seen}
+use Rattle.laws_wire.proofs.Vocabulary.{arith, ◌≡◌, ℕ, ◌≤◌, Bool, true, false, not, cond, List, [], ◌∷◌, ◌++◌, None, Some, refl, sym, ap, subst, ◌∙◌, ◌⊎◌, inl, inr, append-nil, true≢false, All, nat_lt, flat_map, option_map_or, le-ltb, lt-ltb, Refusal, BadTei, NoLink, WrongState, Service, is_on-at, place_of-is, Established, Terms, Link, fresh, course, serves, IsInRange, LinkEndpoint, with_link, Config, LineTold, request, Line, link_in, link_of, terms, line_at, wants_room, HasNothingToSend, nothing-given, flat_map-append, Release, Endpoint, Wire, happens, requests, acting, turned, StepAt, doing_all, IsStill, calling, confirmed, for_layer_3, heard_in, runs_t200, IsLeaving, StayTimelyThere, release_confirmed, release_indicated, EndsSo, CallsEnd, requested, LinkRelease, line_takes_slot, uncalled, seen}
 use Rattle.model_line.specs.Refusal.{refusal}
 use Rattle.model_card.specs.Event.{at as event_at}
 use Rattle.laws_wire.proofs.Awaited.{runs-is, runs-up}
@@ -21,8 +21,8 @@ three-pass a b d x y z e e' e'' = rw (e, e', e'') refl
 
 -- two stations at rest, whose links are up
 pub record BothRest (service : Service) (tei : ℕ) (c d : Config) (p q : ℕ) (w : Wire) : Type 0 where
-  n : End
-  m : End
+  n : LinkEndpoint
+  m : LinkEndpoint
   near : StationStands c service tei p w.near n
   far : StationStands d service tei q w.far m
   near_hushed : IsHushed service tei n
@@ -36,10 +36,10 @@ turned-rest service tei c d p q w h = grind (arith, loose-turned)
 
 module _ (service : Service) (tei : ℕ) (few : tei ≤ 126) (c d : Config) (p q : ℕ) (face : Face c d) (back : Face d c) (rt : IsInRange (terms c service tei)) (ru : IsInRange (terms d service tei))
     (w : Wire) (h : BothRest service tei c d p q w) where
-  abbrev n : End
+  abbrev n : LinkEndpoint
   n = h.n
 
-  abbrev m : End
+  abbrev m : LinkEndpoint
   m = h.m
 
   abbrev t : Terms
@@ -74,7 +74,7 @@ module _ (service : Service) (tei : ℕ) (few : tei ≤ 126) (c d : Config) (p q
   unfolding line_takes_slot
   has-room = refl
 
-  abbrev s' : Station
+  abbrev s' : Endpoint
   s' = happens (request (Release service tei)) w.near
 
   granted : Granted service tei p w.near n own (Release service tei) LinkRelease (λ l. refl) s'
@@ -128,7 +128,7 @@ module _ (service : Service) (tei : ℕ) (few : tei ≤ 126) (c d : Config) (p q
     so (inr (inl (k, b, inr (inr (inr (inr x)))))) = record { near = (inl x.near.told, λ e. runs-on k [] (disc t ∷ []) _ x.near Confirmed e.1); far = (inr x.far.told, λ e. x.far.told) }
     so (inr (inr (k, x))) = record { near = (inr x.near.told, λ e. x.near.told); far = (inr x.far.told, λ e. x.far.told) }
 
-  pub ends-so : (ds : List Doing) → All (IsLeaving service tei) ds → StayTimelyThere ds released → EndsSo service tei w (doing_all ds released)
+  pub ends-so : (ds : List StepAt) → All (IsLeaving service tei) ds → StayTimelyThere ds released → EndsSo service tei w (doing_all ds released)
   ends-so ds all timely =
       so (doing_all ds released) (ends service tei c d p q face back rt ru n.link m.link far-state far-quiet (heard_in w.near) (heard_in w.far) ds all released timely leaves)
 

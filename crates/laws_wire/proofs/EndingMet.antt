@@ -1,5 +1,5 @@
 -- The premises of the law on a call that ends are met by the worked call.
-use Rattle.laws_wire.proofs.Vocabulary.{◌≡◌, [], ◌∷◌, ◌++◌, refl, inl, All, Call, reading, header_of, control_of, unnumbered_of, supervisory_of, distance_of, named, seq, Wire, times_out, gives, loses, at_near, doing_all, turns, heard_in, MayRepeat, IsFullTalk, StayPatient, IsLeaving, StayTimelyThere, release_confirmed, EndsSo, user, network, begins, establishes, IsStill, line_answer, line_takes_slot, line_after, tei_refusal, tei_course}
+use Rattle.laws_wire.proofs.Vocabulary.{◌≡◌, [], ◌∷◌, ◌++◌, refl, inl, All, Call, reading, header_of, control_of, unnumbered_of, supervisory_of, distance_of, named, seq, Wire, expires, sends, loses, at_near, doing_all, turns, heard_in, MayRepeat, IsFullTalk, StayPatient, IsLeaving, StayTimelyThere, release_confirmed, EndsSo, user, network, begins, establishes, IsStill, line_answer, line_takes_slot, line_after, tei_refusal, tei_course}
 use Rattle.lapd_frame.specs.declared.timers.Timer.TheVariants.{T200}
 use Rattle.laws_wire.specs.WorkedEnding.{established, rests, still, released, loses_disc, loses_both, ended, ended_still, ended_rests}
 use Rattle.laws_wire.proofs.EndedRun.{calls-end}
@@ -11,8 +11,8 @@ full = all-of (IsFullTalk Call 0) establishes (tt, (tt, (tt, (tt, tt))))
 
 leaving-all : All (IsLeaving Call 0) loses_both
 leaving-all =
-    let expires : IsLeaving Call 0 (at_near (times_out (T200 Call 0))) = (refl, refl) in
-    all-of (IsLeaving Call 0) loses_both (tt, (tt, (expires, (tt, (tt, (tt, (tt, (expires, (tt, (tt, (tt, (tt, tt))))))))))))
+    let expiring : IsLeaving Call 0 (at_near (expires (T200 Call 0))) = (refl, refl) in
+    all-of (IsLeaving Call 0) loses_both (tt, (tt, (expiring, (tt, (tt, (tt, (tt, (expiring, (tt, (tt, (tt, (tt, tt))))))))))))
 
 patient : StayPatient establishes begins
 unfolding StayPatient
@@ -20,7 +20,7 @@ patient = (tt, (tt, (tt, (tt, tt))))
 
 -- DISC was lost, and UA
 disc-lost : Wire
-disc-lost = doing_all (at_near gives ∷ at_near loses ∷ []) released
+disc-lost = doing_all (at_near sends ∷ at_near loses ∷ []) released
 
 disc-idle : IsStill disc-lost
 unfolding line_after line_answer line_takes_slot reading header_of control_of unnumbered_of supervisory_of tei_course tei_refusal seq distance_of named doing_all turns disc-lost

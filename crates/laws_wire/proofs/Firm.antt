@@ -1,6 +1,6 @@
 -- Two ends that are up, and whose T200 is timely: they stay so, and no frame that one takes makes it tell an error.
-use Rattle.laws_wire.proofs.Vocabulary.{arith, ◌≡◌, ℕ, Bool, true, false, cond, IsTrue, List, [], ◌∷◌, ◌++◌, refl, sym, ap, subst, ◌∙◌, ◌⊎◌, true≢false, list_any, Parts, State, TeiAssigned, LinkTimer, Terms, Link, is_multiple_frame, received, expired, requested, offer, course, End, Ends, asks, expires, sends, receives, with_link, with_sent, IsUp, frames_of, Joined, joined-turned, done-at, Rising, frame-taken, busy_asked, as_heard, is_overlong, state_after, told_expired, event-follows, CanRepeat, IsTimelyAct, is_recovering, Flow, no-answer, line, NoAlien, is-no-alien, Sane, sane-doing, Flows, acted-flows, done-up, same-after, Kind, answer, alien, kind_of, after, is_error}
-use Rattle.model_link.specs.TwoEnds.{Act, loses, at_near, with_first_of, with_first_lost, acting}
+use Rattle.laws_wire.proofs.Vocabulary.{arith, ◌≡◌, ℕ, Bool, true, false, cond, IsTrue, List, [], ◌∷◌, ◌++◌, refl, sym, ap, subst, ◌∙◌, ◌⊎◌, true≢false, list_any, Parts, State, TeiAssigned, LinkTimer, Terms, Link, is_multiple_frame, received, expired, requested, offer, course, LinkEndpoint, Ends, link_requests, link_expires, link_sends, link_receives, with_link, with_sent, IsUp, frames_of, Joined, joined-turned, done-at, Rising, frame-taken, busy_asked, as_heard, is_overlong, state_after, told_expired, event-follows, CanRepeat, IsTimelyStep, is_recovering, Flow, no-answer, line, NoAlien, is-no-alien, Sane, sane-doing, Flows, acted-flows, done-up, same-after, Kind, answer, alien, kind_of, after, is_error}
+use Rattle.model_link.specs.TwoEnds.{Step as EndStep, loses, at_near, with_first_of, without_first, acting}
 use Rattle.laws_link.specs.Telling.{told_by}
 use Rattle.laws_link.specs.two.Timely.{IsTimely}
 use Rattle.model_link.specs.Events.{Event, frame, overlong, Data}
@@ -48,7 +48,7 @@ free t e l asked is = grind (arith, event-follows, off)
 
 -- ---- two ends
 
-pub record Firm (n m : End) : Type 0 where
+pub record Firm (n m : LinkEndpoint) : Type 0 where
   pub joined : Joined n m
   pub same : n.terms.n201 ≡ m.terms.n201
   pub there : Flows n m
@@ -60,12 +60,12 @@ pub record Firm (n m : End) : Type 0 where
   pub near_tame : Tame n
   pub far_tame : Tame m
 
-pub firm-turned : (n m : End) → Firm n m → Firm m n
+pub firm-turned : (n m : LinkEndpoint) → Firm n m → Firm m n
 firm-turned n m h = assumption (joined-turned n m h.joined, sym h.same)
 
 -- Two ends that are up: they stay so, and what an end takes leaves its contents, and is told as it is delivered.
-module _ (n m : End) (joined : Joined n m) (same : n.terms.n201 ≡ m.terms.n201) (there : Flows n m) (back : Flows m n) where
-  pub up-after : (act : Act) → IsTimelyAct act n m → IsUp (acting act (record { near = n; far = m }))
+module _ (n m : LinkEndpoint) (joined : Joined n m) (same : n.terms.n201 ≡ m.terms.n201) (there : Flows n m) (back : Flows m n) where
+  pub up-after : (act : EndStep) → IsTimelyStep act n m → IsUp (acting act (record { near = n; far = m }))
   up-after act x = done-up (at_near act) (record { near = n; far = m }) joined same (flows-low n m there, flows-low m n back) (grind arith)
 
   module _ (f : Parts) (fs : List Parts) (first : m.way ≡ f ∷ fs) where
@@ -86,7 +86,7 @@ module _ (n m : End) (joined : Joined n m) (same : n.terms.n201 ≡ m.terms.n201
     rising = subst (λ way. Rising n.link.a m.link.r (way ++ frames_of m.terms m.link.waiting)) first joined.there.rising
 
     up : IsTrue (is_multiple_frame (after n.terms (received (frame f)) n.link).state)
-    up = subst (λ way. IsTrue (is_multiple_frame (with_first_of way n).link.state)) first (up-after receives tt).0
+    up = subst (λ way. IsTrue (is_multiple_frame (with_first_of way n).link.state)) first (up-after link_receives tt).0
 
     pub takes-fine : let c = course n.terms (received (frame f)) n.link in Fine n.terms c.link.state c.notes c.delivered c.unit
     takes-fine =
@@ -98,14 +98,14 @@ module _ (n m : End) (joined : Joined n m) (same : n.terms.n201 ≡ m.terms.n201
     pub takes-kept : (with_link (received (frame f)) n).link.contents ≡ n.link.contents
     takes-kept = ((frame-taken n.terms n.link joined.near_up f.address.command f.info rising.0 f.control rising.2).took.by.stay up).2.same
 
-module _ (n m : End) (h : Firm n m) where
+module _ (n m : LinkEndpoint) (h : Firm n m) where
   abbrev e : Ends
   e = record { near = n; far = m }
 
-  up-then : (act : Act) → IsTimelyAct act n m → IsUp (acting act e)
+  up-then : (act : EndStep) → IsTimelyStep act n m → IsUp (acting act e)
   up-then act x = up-after n m h.joined h.same h.there h.back act x
 
-  firm-after : (act : Act) → IsTimelyAct act n m → (acting act e).near.link.own_busy ≡ false → Tame (acting act e).near → Tame (acting act e).far
+  firm-after : (act : EndStep) → IsTimelyStep act n m → (acting act e).near.link.own_busy ≡ false → Tame (acting act e).near → Tame (acting act e).far
       → Firm (acting act e).near (acting act e).far
   firm-after act x own tame tame' =
       let up : IsUp (acting act e) = up-then act x in
@@ -125,24 +125,24 @@ module _ (n m : End) (h : Firm n m) where
       }
 
   pub firm-sends : Firm (with_sent n) m
-  firm-sends = firm-after sends tt (free n.terms offer n.link refl h.near_free) (tame-sends n h.near_tame h.near_free (up-then sends tt).0) h.far_tame
+  firm-sends = firm-after link_sends tt (free n.terms offer n.link refl h.near_free) (tame-sends n h.near_tame h.near_free (up-then link_sends tt).0) h.far_tame
 
-  pub firm-loses : Firm (with_first_lost n) m
+  pub firm-loses : Firm (without_first n) m
   firm-loses = firm-after loses tt h.near_free (tame-loses n h.near_tame h.near_free) h.far_tame
 
   pub firm-asks : (octets : List ℕ) → Firm (with_link (requested (Data octets) false) n) m
   firm-asks octets =
-      firm-after (asks (Data octets) false) tt (free n.terms (requested (Data octets) false) n.link refl h.near_free)
-      (tame-asks n h.near_tame h.near_free octets (up-then (asks (Data octets) false) tt).0) h.far_tame
+      firm-after (link_requests (Data octets) false) tt (free n.terms (requested (Data octets) false) n.link refl h.near_free)
+      (tame-asks n h.near_tame h.near_free octets (up-then (link_requests (Data octets) false) tt).0) h.far_tame
 
   pub firm-expires : (timer : LinkTimer) → CanRepeat timer n → IsTimely timer n m → Firm (with_link (expired timer) n) m
   firm-expires timer can timely =
-      firm-after (expires timer) (can, timely) (free n.terms (expired timer) n.link refl h.near_free)
-      (tame-expires n h.near_tame h.near_free timer (up-then (expires timer) (can, timely)).0) h.far_tame
+      firm-after (link_expires timer) (can, timely) (free n.terms (expired timer) n.link refl h.near_free)
+      (tame-expires n h.near_tame h.near_free timer (up-then (link_expires timer) (can, timely)).0) h.far_tame
 
-  pub firm-takes : Firm (with_first_of m.way n) (with_first_lost m)
+  pub firm-takes : Firm (with_first_of m.way n) (without_first m)
   firm-takes =
-      firm-after receives tt (own m.way) (tame-takes n h.near_tame h.near_free m.way h.far_tame.way known (up-then receives tt).0) (tame-loses m h.far_tame h.far_free)
+      firm-after link_receives tt (own m.way) (tame-takes n h.near_tame h.near_free m.way h.far_tame.way known (up-then link_receives tt).0) (tame-loses m h.far_tame h.far_free)
     where
       known : (f : Parts) (fs : List Parts) → m.way ≡ f ∷ fs → NoAlien (kind_of f.address.command f.control)
       known f fs first =

@@ -1,5 +1,5 @@
 -- What is left to do on a wire, as its stations are; and what is done at an end makes it less, whatever its phase.
-use Rattle.laws_wire.proofs.Vocabulary.{◌≡◌, ℕ, ◌+◌, ◌*◌, ◌≤◌, Bool, false, cond, List, [], length, refl, sym, subst, inl, inr, append-nil, arith, Service, Timer, Parts, LinkTimer, T200, T203, Terms, Link, Course, course, begun, End, with_link, Config, LineTold, request, Line, place_in, Request, SetBusy, ClearBusy, at_requested, aim_of_request, contents_requested, Station, Wire, happens, Act, requests, times_out, takes, acting, turned, granted_of, link_of, flat_map, is_granted, answered, IsAsked, IsOfLink, IsFullTalkOf, IsTimelyOf, is_move_of, expiries_of, requested, LinkClearBusy, LinkRequest, LinkSetBusy, timer_T200, timer_T203, reports_of}
+use Rattle.laws_wire.proofs.Vocabulary.{◌≡◌, ℕ, ◌+◌, ◌*◌, ◌≤◌, Bool, false, cond, List, [], length, refl, sym, subst, inl, inr, append-nil, arith, Service, Timer, Parts, LinkTimer, T200, T203, Terms, Link, Course, course, begun, LinkEndpoint, with_link, Config, LineTold, request, Line, place_in, Request, SetBusy, ClearBusy, at_requested, aim_of_request, contents_requested, Endpoint, Wire, happens, EndStep, requests, expires, receives, acting, turned, granted_of, link_of, flat_map, is_granted, answered, IsAsked, IsOfLink, IsFullTalkOf, IsTimelyOf, is_move_of, expiries_of, requested, LinkClearBusy, LinkRequest, LinkSetBusy, timer_T200, timer_T203, reports_of}
 use Rattle.laws_wire.specs.Facing.{line_of, read_as}
 use Rattle.laws_wire.proofs.Awaited.{link-is, way-is, may-there}
 use Rattle.laws_wire.proofs.Held.{Held}
@@ -31,16 +31,16 @@ module _ (w : ℕ) (t : Terms) (l : Link) where
   ready-reports = grind (arith, one-waits, nothing-said, either)
 
 module _ (service : Service) (tei : ℕ) where
-  abbrev its_link : Station → Link
+  abbrev its_link : Endpoint → Link
   its_link s = link_of service tei (line_of s)
 
-  abbrev its_way : Station → List Parts
+  abbrev its_way : Endpoint → List Parts
   its_way s = flat_map (read_as s.card.config) s.way
 
   abbrev pub heft : ℕ → Wire → ℕ
   heft v w = weigh_of v (its_link w.near) (its_way w.near) (its_link w.far) (its_way w.far)
 
-  pub heft-is : (v : ℕ) (c d : Config) (p q : ℕ) (w : Wire) (n m : End) → StationStands c service tei p w.near n → StationStands d service tei q w.far m → heft v w ≡ weigh v n m
+  pub heft-is : (v : ℕ) (c d : Config) (p q : ℕ) (w : Wire) (n m : LinkEndpoint) → StationStands c service tei p w.near n → StationStands d service tei q w.far m → heft v w ≡ weigh v n m
   heft-is v c d p q w n m near far =
       λ i. weigh_of v (link-is service tei c p w.near n near i) (way-is service tei c p w.near n near i) (link-is service tei d q w.far m far i) (way-is service tei d q w.far m far i)
 
@@ -50,13 +50,13 @@ module _ (service : Service) (tei : ℕ) where
     pub granted : granted_of w' ≡ granted_of w + more
     pub falls : moved + heft v w' ≤ heft v w + (v + 4) * expired + (v + 6) * more + 2 * reported
 
-  abbrev its : ℕ → Station → ℕ
+  abbrev its : ℕ → Endpoint → ℕ
   its v s = load v (its_link s) + load_way v (its_way s)
 
   pub pays-turned : (v moved expired reported : ℕ) (w w' : Wire) → Pays v moved expired reported (turned w) w' → Pays v moved expired reported w (turned w')
   pays-turned v moved expired reported w w' h = grind arith
 
-  module _ (c d : Config) (p q : ℕ) (past_n past_m : List LineTold) (face : Face c d) (v : ℕ) (w : Wire) (n m : End) (near : Held c service tei p past_n w.near n)
+  module _ (c d : Config) (p q : ℕ) (past_n past_m : List LineTold) (face : Face c d) (v : ℕ) (w : Wire) (n m : LinkEndpoint) (near : Held c service tei p past_n w.near n)
       (far : Held d service tei q past_m w.far m) (low : m.link.r ≤ length n.link.contents) where
     abbrev Does : Wire → ℕ → ℕ → Type 0
     Does w' moved expired = Then service tei c d p q past_n past_m face v w n m near far low w' moved expired
@@ -76,20 +76,20 @@ module _ (service : Service) (tei : ℕ) where
         sum : (moved a a' b b' x y : ℕ) → a ≡ a' → b ≡ b' → moved + a' ≤ b' + x + y → moved + a ≤ b + x + y + 2 * 0
         sum moved a a' b b' x y e f less = omega (arith, e, f, less)
 
-    abbrev moved_by : Act → ℕ
+    abbrev moved_by : EndStep → ℕ
     moved_by act = cond {A = ℕ} (is_move_of act w) 1 0
 
     -- ---- layer 3 asks
 
     module _ (r : Request) (rq : LinkRequest) (aims : (l : Line) → aim_of_request r l ≡ at_requested service tei rq (place_in l tei)) (none : contents_requested r ≡ [])
         (said : Reports v n.link (course n.terms (requested rq false) n.link)) where
-      abbrev s' : Station
+      abbrev s' : Endpoint
       s' = happens (request r) w.near
 
       own : StationStands w.near.card.config service tei p w.near n
       own = subst (λ k. StationStands k service tei p w.near n) (sym near.stands.config) near.stands
 
-      abbrev n' : End
+      abbrev n' : LinkEndpoint
       n' = with_link (requested rq false) n
 
       abbrev bit : Bool
@@ -110,18 +110,18 @@ module _ (service : Service) (tei : ℕ) where
 
     -- ---- a timer expires
 
-    expires-so : (timer : Timer) (its : LinkTimer) → Aims service tei timer its → May v n.terms n.link its → Pays v 0 1 0 w (acting (times_out timer) w)
+    expires-so : (timer : Timer) (its : LinkTimer) → Aims service tei timer its → May v n.terms n.link its → Pays v 0 1 0 w (acting (expires timer) w)
     expires-so timer its aims may =
-        from-then (acting (times_out timer) w) 0 1 (fairly-expires service tei c d p q past_n past_m face v w n m near far low timer its aims (timer-fairly v n.terms n.link its may))
+        from-then (acting (expires timer) w) 0 1 (fairly-expires service tei c d p q past_n past_m face v w n m near far low timer its aims (timer-fairly v n.terms n.link its may))
 
-    pub expires-pays : (timer : Timer) → IsOfLink service tei timer → IsTimelyOf (times_out timer) w → Pays v 0 1 0 w (acting (times_out timer) w)
+    pub expires-pays : (timer : Timer) → IsOfLink service tei timer → IsTimelyOf (expires timer) w → Pays v 0 1 0 w (acting (expires timer) w)
     expires-pays timer is x =
-        each-timer service tei (λ timer. IsTimelyOf (times_out timer) w → Pays v 0 1 0 w (acting (times_out timer) w))
+        each-timer service tei (λ timer. IsTimelyOf (expires timer) w → Pays v 0 1 0 w (acting (expires timer) w))
         (λ x. expires-so (timer_T200 service tei) T200 (λ l. refl) (λ e. may-there service tei c p w.near n near.stands x.1))
         (λ x. expires-so (timer_T203 service tei) T203 (λ l. refl) (λ e. cc e)) timer is x
 
     -- ---- each act, but that it takes
 
-    pub acts-pays : (act : Act) → (act ≡ takes → ⊥) → IsFullTalkOf service tei act → IsTimelyOf act w → Pays v (moved_by act) (expiries_of act) (reports_of act w) w (acting act w)
+    pub acts-pays : (act : EndStep) → (act ≡ receives → ⊥) → IsFullTalkOf service tei act → IsTimelyOf act w → Pays v (moved_by act) (expiries_of act) (reports_of act w) w (acting act w)
     acts-pays (requests r) not is x = asks-pays r is
     acts-pays act o is x = grind (arith, expires-pays, from-then, then-gives, then-loses)

@@ -1,5 +1,5 @@
 -- Two ends whose links are up, by what is on the line from each to the other: first what is on its way, and then what waits.
-use Rattle.laws_wire.proofs.Vocabulary.{◌≡◌, ℕ, Bool, cond, IsTrue, List, [], ◌∷◌, ◌++◌, length, drop, None, refl, sym, ap, ◌∙◌, append_assoc, append-nil, arith, option_to_list, front_rest, Parts, State, Established, LinkTimer, ControlFrame, Terms, received, expired, offer, Link, is_multiple_frame, course, IsInRange, begun, End, with_link, with_sent, event-delivers, frames_of, frames-append, sender-goes, receiver-goes, sender-loses, receiver-loses, Reports, Up, no-reports, any_number, still, timer_7_up, t200_8_up, at-first, sender-hears, receiver-hears, Means, Rising, Gave, offer-gave, frame-taken, none-delivered, frame, after, IsSound, Course}
+use Rattle.laws_wire.proofs.Vocabulary.{◌≡◌, ℕ, Bool, cond, IsTrue, List, [], ◌∷◌, ◌++◌, length, drop, None, refl, sym, ap, ◌∙◌, append_assoc, append-nil, arith, option_to_list, front_rest, Parts, State, Established, LinkTimer, ControlFrame, Terms, received, expired, offer, Link, is_multiple_frame, course, IsInRange, begun, LinkEndpoint, with_link, with_sent, event-delivers, frames_of, frames-append, sender-goes, receiver-goes, sender-loses, receiver-loses, Reports, Up, no-reports, any_number, still, timer_7_up, t200_8_up, at-first, sender-hears, receiver-hears, Means, Rising, Gave, offer-gave, frame-taken, none-delivered, frame, after, IsSound, Course}
 use Rattle.model_link.specs.Machine
 use Rattle.model_link.proofs.Direction.{Direction, line_of}
 
@@ -7,15 +7,15 @@ use Rattle.model_link.proofs.Direction.{Direction, line_of}
 abbrev pub bare : Link → Link
 bare l = record l { waiting = [] }
 
-abbrev pub shown : End → List Parts → End
+abbrev pub shown : LinkEndpoint → List Parts → LinkEndpoint
 shown n line = record n { link = bare n.link; way = line }
 
-pub record Joint (n m : End) (near far : List Parts) : Type 0 where
+pub record Joint (n m : LinkEndpoint) (near far : List Parts) : Type 0 where
   pub there : Direction (shown n near) (shown m far)
   pub back : Direction (shown m far) (shown n near)
 
 -- by the line alone
-relined : (x y : End) (near far : List Parts) → line_of x ≡ near → line_of y ≡ far → Direction x y → Direction (shown x near) (shown y far)
+relined : (x y : LinkEndpoint) (near far : List Parts) → line_of x ≡ near → line_of y ≡ far → Direction x y → Direction (shown x near) (shown y far)
 relined x y near far e e' h = grind (arith, append-nil)
 
 -- what waits more
@@ -31,7 +31,7 @@ pub line-on : (t : Terms) (way first line : List Parts) (ws ws' news : List Cont
 line-on t way first line ws ws' news e more = grind (arith, frames_of, frames-append, append_assoc)
 
 -- the first on a line is lost
-pub loses-first : (n m : End) (f : Parts) (near far : List Parts) → Joint n m (f ∷ near) far → Joint n m near far
+pub loses-first : (n m : LinkEndpoint) (f : Parts) (near far : List Parts) → Joint n m (f ∷ near) far → Joint n m near far
 loses-first n m f near far h = assumption (sender-loses (shown n (f ∷ near)) (shown m far) h.there, receiver-loses (shown m far) (shown n (f ∷ near)) h.back)
 
 -- A link goes on by itself: more contents may be accepted, and reports may wait.
@@ -44,7 +44,7 @@ pub record Goes (l l' : Link) (more : List (List ℕ)) : Type 0 where
 pub waits-more : (l l' : Link) (more : List (List ℕ)) → Goes l l' more → l'.waiting ≡ l.waiting ++ since l.waiting l'.waiting
 waits-more l l' more g = g.reports.more ∙ ap (λ xs. l.waiting ++ xs) (sym (front_rest l'.waiting l.waiting g.reports.news g.reports.more))
 
-pub goes-on : (n m : End) (l' : Link) (more : List (List ℕ)) (near far : List Parts) → Goes n.link l' more → Joint n m near far
+pub goes-on : (n m : LinkEndpoint) (l' : Link) (more : List (List ℕ)) (near far : List Parts) → Goes n.link l' more → Joint n m near far
     → Joint (record n { link = l' }) m (near ++ frames_of n.terms (since n.link.waiting l'.waiting)) far
 goes-on n m l' more near far g h =
     let news = since n.link.waiting l'.waiting in
@@ -61,7 +61,7 @@ goes-on n m l' more near far g h =
     }
 
 -- an event that delivers nothing changes the link alone
-pub only-link : (n : End) (e : Rattle.model_link.specs.Events.Event) → (course n.terms e n.link).delivered ≡ None → with_link e n ≡ record n { link = after n.terms e n.link }
+pub only-link : (n : LinkEndpoint) (e : Rattle.model_link.specs.Events.Event) → (course n.terms e n.link).delivered ≡ None → with_link e n ≡ record n { link = after n.terms e n.link }
 only-link n e none = grind (arith, append-nil)
 
 pub accepts : (octets : List ℕ) (l : Link) → Goes l (record l { contents = l.contents ++ octets ∷ [] }) (octets ∷ [])
@@ -91,13 +91,13 @@ module _ (t : Terms) (l : Link) where
   timer-delivers timer = none-delivered t l (course t (expired timer) l) (event-delivers t l (expired timer))
 
 -- an end gives
-pub record GivesOn (n m : End) (first near far : List Parts) : Type 0 where
+pub record GivesOn (n m : LinkEndpoint) (first near far : List Parts) : Type 0 where
   pub news : List Parts
   pub line : line_of (with_sent n) ≡ first ++ (near ++ news)
   pub joint : Joint (with_sent n) m (near ++ news) far
   pub contents : (with_sent n).link.contents ≡ n.link.contents
 
-pub gives-on : (n m : End) (first near far : List Parts) → IsInRange n.terms → IsSound n.terms n.link → line_of n ≡ first ++ near → Joint n m near far → GivesOn n m first near far
+pub gives-on : (n m : LinkEndpoint) (first near far : List Parts) → IsInRange n.terms → IsSound n.terms n.link → line_of n ≡ first ++ near → Joint n m near far → GivesOn n m first near far
 gives-on n m first near far ranges sound e h =
     let c = course n.terms offer n.link in
     let g : Gave n.terms n.link c = offer-gave n.terms ranges n.link sound n.link.waiting refl in
@@ -108,16 +108,16 @@ pub record IsMeant (f : Parts) : Type 0 where
   pub number : ℕ
   pub means : Means number f.control
 
-pub first-means : (n m : End) (f : Parts) (near far : List Parts) → Joint n m near (f ∷ far) → IsMeant f
+pub first-means : (n m : LinkEndpoint) (f : Parts) (near far : List Parts) → Joint n m near (f ∷ far) → IsMeant f
 first-means n m f near far h = let x : Rising n.link.a m.link.r (f ∷ (far ++ [])) = h.there.rising in record { number = x.0; means = x.2 }
 
 -- an end hears it
-pub record HearsOn (n m : End) (f : Parts) (near far : List Parts) : Type 0 where
+pub record HearsOn (n m : LinkEndpoint) (f : Parts) (near far : List Parts) : Type 0 where
   pub waits : (with_link (received (frame f)) n).link.waiting ≡ n.link.waiting ++ since n.link.waiting (with_link (received (frame f)) n).link.waiting
   pub joint : Joint (with_link (received (frame f)) n) m (near ++ frames_of n.terms (since n.link.waiting (with_link (received (frame f)) n).link.waiting)) far
   pub contents : (with_link (received (frame f)) n).link.contents ≡ n.link.contents
 
-pub hears-on : (n m : End) (f : Parts) (near far : List Parts) → IsInRange n.terms → IsInRange m.terms → IsSound n.terms n.link → IsTrue (is_multiple_frame n.link.state)
+pub hears-on : (n m : LinkEndpoint) (f : Parts) (near far : List Parts) → IsInRange n.terms → IsInRange m.terms → IsSound n.terms n.link → IsTrue (is_multiple_frame n.link.state)
     → IsTrue (is_multiple_frame (after n.terms (received (frame f)) n.link).state) → Joint n m near (f ∷ far) → HearsOn n m f near far
 hears-on n m f near far ranges far-ranges sound before up h =
     let c = course n.terms (received (frame f)) n.link in

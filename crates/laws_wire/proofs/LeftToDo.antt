@@ -1,5 +1,5 @@
 -- How many turns and losses there are at most where both ends are up, by what waits, what is on its way, and what is still to be told.
-use Rattle.laws_wire.proofs.Vocabulary.{◌≡◌, ℕ, suc, ◌+◌, ◌-◌, ◌*◌, ◌≤◌, Bool, IsTrue, List, [], ◌∷◌, ◌++◌, length, map, take, sym, ap, subst, ◌∙◌, arith, length-map, length-take-le, Service, Parts, Control, Information, ControlFrame, Link, is_multiple_frame, End, Config, LineTold, carried-high, Station, Wire, confirmed, indicated, data_told, all_told, heard_in, most_frames, frames_left, notes_left, most_left}
+use Rattle.laws_wire.proofs.Vocabulary.{◌≡◌, ℕ, suc, ◌+◌, ◌-◌, ◌*◌, ◌≤◌, Bool, IsTrue, List, [], ◌∷◌, ◌++◌, length, map, take, sym, ap, subst, ◌∙◌, arith, length-map, length-take-le, Service, Parts, Control, Information, ControlFrame, Link, is_multiple_frame, LinkEndpoint, Config, LineTold, carried-high, Endpoint, Wire, confirmed, indicated, data_told, all_told, heard_in, most_frames, frames_left, notes_left, most_left}
 use Rattle.laws_wire.proofs.Acting.{sound}
 use Rattle.laws_wire.proofs.Awaited.{link-is}
 use Rattle.laws_wire.proofs.Held.{Held}
@@ -45,10 +45,10 @@ both : (k l f l' f' lw lf lw' lf' u u' : ℕ) → l ≤ (2 * k + 4) * lw + 2 * (
 both k l f l' f' lw lf lw' lf' u u' x y x' y' = omega (arith, x, y, x', y')
 
 module _ (service : Service) (tei : ℕ) (c d : Config) (p q k : ℕ) (w : Wire) (h : IsUp service tei c d p q w) (wide : h.n.terms.k ≤ k) (wide' : h.m.terms.k ≤ k) where
-  n : End
+  n : LinkEndpoint
   n = h.n
 
-  m : End
+  m : LinkEndpoint
   m = h.m
 
   weighs : weigh (2 * k) h.n h.m ≤ 2 * most_frames k (4 + (length h.n.link.waiting + length h.n.way) + (length h.m.link.waiting + length h.m.way)) (undelivered h.n.link h.m.link + undelivered h.m.link h.n.link)
@@ -61,7 +61,7 @@ module _ (service : Service) (tei : ℕ) (c d : Config) (p q k : ℕ) (w : Wire)
       (load-most (2 * k) k h.m.link h.n.link.r h.m.terms.k h.far.up s'.ordered (carried-high _ _ _ _ h.near.joint.back.carried) wide') (way-most (2 * k) h.m.way)
 
   -- as an observer counts it
-  frames-are : (e : Config) (place : ℕ) (past : List LineTold) (s : Station) (x : End) → Held e service tei place past s x → frames_left service tei s ≡ length x.link.waiting + length x.way
+  frames-are : (e : Config) (place : ℕ) (past : List LineTold) (s : Endpoint) (x : LinkEndpoint) → Held e service tei place past s x → frames_left service tei s ≡ length x.link.waiting + length x.way
   frames-are e place past s x held = grind (arith, link-is, length-map)
 
   told-left : (first : LineTold) (r : ℕ) (granted delivered : List (List ℕ)) (heard : List LineTold) → r ≤ length granted → delivered ≡ take r granted

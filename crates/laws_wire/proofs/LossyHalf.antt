@@ -1,5 +1,5 @@
 -- The second phase of such a call: one end still rings, and the other is up.
-use Rattle.laws_wire.proofs.Vocabulary.{arith, ◌≡◌, ℕ, true, List, [], ◌∷◌, ◌++◌, map, refl, sym, ap, subst, ◌∙◌, ◌⊎◌, inl, inr, append-nil, option_to_list, All-head, Service, Parts, spelling, Terms, course, IsInRange, End, with_link, frames_of, Config, terms, Station, Wire, with_first_of, with_first_lost, Act, requests, times_out, gives, takes, loses, acting, turned, comes, confirmed, indicated, IsRoughTalkOf}
+use Rattle.laws_wire.proofs.Vocabulary.{arith, ◌≡◌, ℕ, true, List, [], ◌∷◌, ◌++◌, map, refl, sym, ap, subst, ◌∙◌, ◌⊎◌, inl, inr, append-nil, option_to_list, All-head, Service, Parts, spelling, Terms, course, IsInRange, LinkEndpoint, with_link, frames_of, Config, terms, Endpoint, Wire, with_first_of, without_first, EndStep, requests, expires, sends, receives, loses, acting, turned, frame_comes, confirmed, indicated, IsRoughTalkOf}
 use Rattle.model_link.specs.Events as link
 use Rattle.laws_wire.proofs.Answered.{takes-granted}
 use Rattle.laws_wire.proofs.Acting.{Acted, up-asks, up-expires, up-gives, up-loses}
@@ -23,22 +23,22 @@ module _ (service : Service) (tei : ℕ) (c d : Config) (p q : ℕ) (face : Face
   Leads w = Went service tei c d p q w
 
   module _ (w : Wire) (h : IsHalf service tei c d p q w) where
-    half-with : (s : Station) → StillRings service tei c p s → Leads (record w { near = s })
+    half-with : (s : Endpoint) → StillRings service tei c p s → Leads (record w { near = s })
     half-with s x = grind arith
 
-    half-or : (s : Station) → StillRings service tei c p s ⊎ Erred s → Leads (record w { near = s })
+    half-or : (s : Endpoint) → StillRings service tei c p s ⊎ Erred s → Leads (record w { near = s })
     half-or s o = grind (arith, half-with)
 
-    abbrev caller_end : End
+    abbrev caller_end : LinkEndpoint
     caller_end = end t (ringing h.repeats h.waiting) h.way
 
     -- the first frame on the way of the other, where it is not UA
-    unheard-by : (f : Parts) (fs : List Parts) → h.m.way ≡ f ∷ fs → IsMeant f → h.first ≡ [] → Acted service tei q (indicated service tei ∷ []) d (with_first_lost w.far) (end t caller []) h.first []
-        → Leads (acting takes w)
+    unheard-by : (f : Parts) (fs : List Parts) → h.m.way ≡ f ∷ fs → IsMeant f → h.first ≡ [] → Acted service tei q (indicated service tei ∷ []) d (without_first w.far) (end t caller []) h.first []
+        → Leads (acting receives w)
     unheard-by f fs e meant none x =
         let way = first-way service tei d q _ w.far h.m f fs e h.far.held in
         let i : Ignores t h.repeats h.waiting f = ignores t h.repeats h.waiting f meant.number meant.means in
-        let s' = comes (spelling d.side f) w.near in
+        let s' = frame_comes (spelling d.side f) w.near in
         let event = link.received (link.frame f) in
         let tells : TellsIt service tei (course t event caller_end.link) =
         record {
@@ -48,15 +48,15 @@ module _ (service : Service) (tei : ℕ) (c d : Config) (p q : ℕ) (face : Face
         let is : with_link event caller_end ≡ caller_end = (λ j. record caller_end { link = i.stays j; delivered = ap option_to_list i.delivered j }) in
         let near : Held c service tei p [] s' caller_end =
         subst (Held c service tei p [] s') is (held-taken service tei p [] c w.near caller_end h.near d face f way.1 tells (ap (λ l. l.contents) i.stays)) in
-        subst (λ ways. Leads (record { near = with_first_of ways w.near; far = with_first_lost w.far })) (sym way.0)
+        subst (λ ways. Leads (record { near = with_first_of ways w.near; far = without_first w.far })) (sym way.0)
         (grind arith)
 
     -- UA comes
-    confirms : (fs : List Parts) → h.m.way ≡ ua u ∷ fs → Acted service tei q (indicated service tei ∷ []) d (with_first_lost w.far) (end t caller []) [] [] → Leads (acting takes w)
+    confirms : (fs : List Parts) → h.m.way ≡ ua u ∷ fs → Acted service tei q (indicated service tei ∷ []) d (without_first w.far) (end t caller []) [] [] → Leads (acting receives w)
     confirms fs e x =
         let f = ua u in
         let way = first-way service tei d q _ w.far h.m f fs e h.far.held in
-        let s' = comes (spelling d.side f) w.near in
+        let s' = frame_comes (spelling d.side f) w.near in
         let n' = end t (answered h.repeats h.waiting) h.way in
         let there : Joint x.n n' x.near [] =
         record {
@@ -67,8 +67,8 @@ module _ (service : Service) (tei : ℕ) (c d : Config) (p q : ℕ) (face : Face
         held-first service tei p [] c w.near caller_end h.near (confirmed service tei) s' n' (course t (link.received (link.frame f)) caller_end.link) refl refl refl
         (taken-stands service tei p [] c w.near caller_end h.near d face f way.1) (takes-granted (spelling d.side f) w.near) refl
         (taken-told service tei p [] c w.near caller_end h.near d face f way.1) refl refl in
-        subst (λ ways. Leads (record { near = with_first_of ways w.near; far = with_first_lost w.far })) (sym way.0)
-        (as-up service tei c d p q (record { near = s'; far = with_first_lost w.far }) (record {
+        subst (λ ways. Leads (record { near = with_first_of ways w.near; far = without_first w.far })) (sym way.0)
+        (as-up service tei c d p q (record { near = s'; far = without_first w.far }) (record {
           n = n';
           m = x.n;
           first = h.way ++ frames_of t h.waiting;
@@ -76,68 +76,68 @@ module _ (service : Service) (tei : ℕ) (c d : Config) (p q : ℕ) (face : Face
           here = x.near;
           sabmes = h.sabmes;
           near = record { held = held; up = refl; line = sym (append-nil (h.way ++ frames_of t h.waiting)); joint = (record { there = there.back; back = there.there }) };
-          far = reface service tei c d p q (indicated service tei ∷ []) d q (with_first_lost w.far) x.n (end t caller []) n' [] x.near [] x.at there;
+          far = reface service tei c d p q (indicated service tei ∷ []) d q (without_first w.far) x.n (end t caller []) n' [] x.near [] x.at there;
         }))
 
     -- what was before the line
     only-ua : (f : Parts) (others : List Parts) → h.first ≡ f ∷ others → (f ≡ ua u) × (others ≡ [])
     only-ua f others e = grind (arith, UaOrNone, ua)
 
-    half-takes : (way : List Parts) → h.m.way ≡ way → Leads (acting takes w)
+    half-takes : (way : List Parts) → h.m.way ≡ way → Leads (acting receives w)
     half-takes [] e = no-take service tei c d p q w (empty service tei d q _ w.far h.m h.far.held e) (inl (inr (inl h)))
     half-takes (f ∷ fs) e = go (up-loses service tei q _ d w.far h.m (end t caller []) h.first h.line [] h.far f fs e).lost
       where
-        go : ((h.first ≡ []) × IsMeant f × Acted service tei q (indicated service tei ∷ []) d (with_first_lost w.far) (end t caller []) h.first [])
-            ⊎ ((others : List Parts) × (h.first ≡ f ∷ others) × Acted service tei q (indicated service tei ∷ []) d (with_first_lost w.far) (end t caller []) others []) → Leads (acting takes w)
+        go : ((h.first ≡ []) × IsMeant f × Acted service tei q (indicated service tei ∷ []) d (without_first w.far) (end t caller []) h.first [])
+            ⊎ ((others : List Parts) × (h.first ≡ f ∷ others) × Acted service tei q (indicated service tei ∷ []) d (without_first w.far) (end t caller []) others []) → Leads (acting receives w)
         go (inl (none, meant, x)) = unheard-by f fs e meant none x
         go (inr (others, is, x)) =
             let only = only-ua f others is in
-            confirms fs (e ∙ ap (λ y. y ∷ fs) only.0) (subst (λ first. Acted service tei q (indicated service tei ∷ []) d (with_first_lost w.far) (end t caller []) first []) only.1 x)
+            confirms fs (e ∙ ap (λ y. y ∷ fs) only.0) (subst (λ first. Acted service tei q (indicated service tei ∷ []) d (without_first w.far) (end t caller []) first []) only.1 x)
 
-    pub half-near : (act : Act) → IsRoughTalkOf service tei act → Leads (acting act w)
+    pub half-near : (act : EndStep) → IsRoughTalkOf service tei act → Leads (acting act w)
     half-near (requests r) is =
         for-data service tei (λ r. Leads (acting (requests r) w)) (λ octets. half-with _ (rings-asks service tei c p w.near h.repeats h.waiting h.way h.near h.sabmes octets)) r is
-    half-near (times_out timer) is =
-        for-timer service tei (λ timer. Leads (acting (times_out timer) w)) (λ timer its aims. half-or _ (rings-expires service tei c p w.near h.repeats h.waiting h.way h.near h.sabmes timer its aims)) timer is
-    half-near gives is = half-with _ (rings-gives service tei c p w.near h.repeats h.waiting h.way h.near h.sabmes)
-    half-near takes is = half-takes h.m.way refl
+    half-near (expires timer) is =
+        for-timer service tei (λ timer. Leads (acting (expires timer) w)) (λ timer its aims. half-or _ (rings-expires service tei c p w.near h.repeats h.waiting h.way h.near h.sabmes timer its aims)) timer is
+    half-near sends is = half-with _ (rings-gives service tei c p w.near h.repeats h.waiting h.way h.near h.sabmes)
+    half-near receives is = half-takes h.m.way refl
     half-near loses is = half-with _ (rings-loses service tei c p w.near h.repeats h.waiting h.way h.near h.sabmes)
 
     -- the other end
-    half-made : (s : Station) → Acted service tei q (indicated service tei ∷ []) d s (end t caller []) h.first [] → Leads (made w s)
+    half-made : (s : Endpoint) → Acted service tei q (indicated service tei ∷ []) d s (end t caller []) h.first [] → Leads (made w s)
     half-made s x = grind arith
 
-    half-made_or : (s : Station) → Acted service tei q (indicated service tei ∷ []) d s (end t caller []) h.first [] ⊎ Erred s → Leads (made w s)
+    half-made_or : (s : Endpoint) → Acted service tei q (indicated service tei ∷ []) d s (end t caller []) h.first [] ⊎ Erred s → Leads (made w s)
     half-made_or s o = grind (arith, half-made)
 
     half-loses : (way : List Parts) → h.m.way ≡ way → Leads (turned (acting loses (turned w)))
     half-loses [] e = no-loss_far service tei c d p q w (empty service tei d q _ w.far h.m h.far.held e) (inl (inr (inl h)))
     half-loses (f ∷ fs) e = go (up-loses service tei q _ d w.far h.m (end t caller []) h.first h.line [] h.far f fs e).lost
       where
-        go : ((h.first ≡ []) × IsMeant f × Acted service tei q (indicated service tei ∷ []) d (with_first_lost w.far) (end t caller []) h.first [])
-            ⊎ ((others : List Parts) × (h.first ≡ f ∷ others) × Acted service tei q (indicated service tei ∷ []) d (with_first_lost w.far) (end t caller []) others [])
-            → Leads (made w (with_first_lost w.far))
-        go (inl (none, meant, x)) = half-made (with_first_lost w.far) x
+        go : ((h.first ≡ []) × IsMeant f × Acted service tei q (indicated service tei ∷ []) d (without_first w.far) (end t caller []) h.first [])
+            ⊎ ((others : List Parts) × (h.first ≡ f ∷ others) × Acted service tei q (indicated service tei ∷ []) d (without_first w.far) (end t caller []) others [])
+            → Leads (made w (without_first w.far))
+        go (inl (none, meant, x)) = half-made (without_first w.far) x
         go (inr (others, is, x)) = grind arith
 
     -- SABME comes again
-    half-hears : (way : List Parts) → h.way ≡ way → Leads (turned (acting takes (turned w)))
+    half-hears : (way : List Parts) → h.way ≡ way → Leads (turned (acting receives (turned w)))
     half-hears [] e = no-take_far service tei c d p q w (empty service tei c p [] w.near caller_end h.near e) (inl (inr (inl h)))
     half-hears (f ∷ fs) e =
         let way = first-way service tei c p [] w.near caller_end f fs e h.near in
         let is : f ≡ sabme t = All-head (IsSabme t) f (fs ++ frames_of t h.waiting) (subst (λ way. AreSabmes t way h.waiting) e h.sabmes) in
         let x = course h.m.terms (link.received (link.frame f)) h.m.link in
         let error : HasError x.notes = sabme-error h.m.terms h.m.link h.far.up f true (ap (λ y. y.control) is) in
-        subst (λ ways. Leads (record { near = with_first_lost w.near; far = with_first_of ways w.far })) (sym way.0)
-        (inr (inr (now-erred w.far (comes (spelling c.side f) w.far) x (taken-told service tei q _ d w.far h.m h.far.held c back f way.1) error)))
+        subst (λ ways. Leads (record { near = without_first w.near; far = with_first_of ways w.far })) (sym way.0)
+        (inr (inr (now-erred w.far (frame_comes (spelling c.side f) w.far) x (taken-told service tei q _ d w.far h.m h.far.held c back f way.1) error)))
 
-    pub half-far : (act : Act) → IsRoughTalkOf service tei act → Leads (turned (acting act (turned w)))
+    pub half-far : (act : EndStep) → IsRoughTalkOf service tei act → Leads (turned (acting act (turned w)))
     half-far (requests r) is =
         for-data service tei (λ r. Leads (turned (acting (requests r) (turned w))))
         (λ octets. half-made _ (up-asks service tei q _ d w.far h.m (end t caller []) h.first h.line [] h.far octets)) r is
-    half-far (times_out timer) is =
-        for-timer service tei (λ timer. Leads (turned (acting (times_out timer) (turned w))))
+    half-far (expires timer) is =
+        for-timer service tei (λ timer. Leads (turned (acting (expires timer) (turned w))))
         (λ timer its aims. half-made_or _ (up-expires service tei q _ d w.far h.m (end t caller []) h.first h.line [] h.far timer its aims)) timer is
-    half-far gives is = half-made _ (up-gives service tei q _ d w.far h.m (end t caller []) h.first h.line [] h.far)
-    half-far takes is = half-hears h.way refl
+    half-far sends is = half-made _ (up-gives service tei q _ d w.far h.m (end t caller []) h.first h.line [] h.far)
+    half-far receives is = half-hears h.way refl
     half-far loses is = half-loses h.m.way refl

@@ -1,6 +1,6 @@
 -- A call in which frames are lost and timers expire: SABME goes as often as T200 expires; then the other end is up, and UA may be on
 -- its way, or lost; and then both are up, and SABME may still be on its way. Or an error was told.
-use Rattle.laws_wire.proofs.Vocabulary.{arith, ◌≡◌, ℕ, List, [], ◌∷◌, map, refl, sym, ap, subst, ◌∙◌, ◌⊎◌, inl, inr, All, All-head, Service, Timer, Parts, spelling, ControlFrame, Terms, LinkTimer, fresh, End, Config, LineTold, at_timer, aim_of_expiry, Line, place_in, terms, Request, Data, Station, Wire, requests, takes, loses, acting, turned, confirmed, indicated, IsOfLink, IsRoughTalkOf, timer_T201, timer_T200, timer_T203}
+use Rattle.laws_wire.proofs.Vocabulary.{arith, ◌≡◌, ℕ, List, [], ◌∷◌, map, refl, sym, ap, subst, ◌∙◌, ◌⊎◌, inl, inr, All, All-head, Service, Timer, Parts, spelling, ControlFrame, Terms, LinkTimer, fresh, LinkEndpoint, Config, LineTold, at_timer, aim_of_expiry, Line, place_in, terms, Request, Data, Endpoint, Wire, requests, receives, loses, acting, turned, confirmed, indicated, IsOfLink, IsRoughTalkOf, timer_T201, timer_T200, timer_T203}
 use Rattle.model_link.specs.declared.timers.LinkTimer.TheVariants as link_timer
 use Rattle.laws_wire.proofs.Acting.{UpAt}
 use Rattle.laws_wire.proofs.Calling.{ua, end, caller}
@@ -10,7 +10,7 @@ use Rattle.laws_wire.proofs.Ringing.{ringing, IsSabme, AreSabmes}
 use Rattle.laws_wire.proofs.Standing.{IsCarried}
 use Rattle.laws_wire.proofs.Answered.{lost-none, takes-none}
 
-abbrev pub made : Wire → Station → Wire
+abbrev pub made : Wire → Endpoint → Wire
 made w s = record { near = w.near; far = s }
 
 module _ (service : Service) (tei : ℕ) where
@@ -29,13 +29,13 @@ module _ (service : Service) (tei : ℕ) where
   for-timer P own timer_T201 is = absurd is
 
   -- the first frame on the way of a station
-  pub first-way : (k : Config) (place : ℕ) (past : List LineTold) (s : Station) (n : End) (f : Parts) (fs : List Parts) → n.way ≡ f ∷ fs → Held k service tei place past s n
+  pub first-way : (k : Config) (place : ℕ) (past : List LineTold) (s : Endpoint) (n : LinkEndpoint) (f : Parts) (fs : List Parts) → n.way ≡ f ∷ fs → Held k service tei place past s n
       → (s.way ≡ spelling k.side f ∷ map (spelling k.side) fs) × IsCarried k service tei f
   first-way k place past s n f fs e h =
       (h.stands.way ∙ ap (map (spelling k.side)) e, All-head (IsCarried k service tei) f fs (subst (All (IsCarried k service tei)) e h.stands.carried))
 
   -- where none is on its way
-  module _ (k : Config) (place : ℕ) (past : List LineTold) (s : Station) (n : End) (h : Held k service tei place past s n) (none : n.way ≡ []) where
+  module _ (k : Config) (place : ℕ) (past : List LineTold) (s : Endpoint) (n : LinkEndpoint) (h : Held k service tei place past s n) (none : n.way ≡ []) where
     pub empty : s.way ≡ []
     empty = h.stands.way ∙ ap (map (spelling k.side)) none
 
@@ -65,15 +65,15 @@ module _ (service : Service) (tei : ℕ) where
       pub way : List Parts
       pub near : Held c service tei p [] w.near (end t (ringing repeats waiting) way)
       pub sabmes : AreSabmes t way waiting
-      pub m : End
+      pub m : LinkEndpoint
       pub first : List Parts
       pub line : List Parts
       pub is_ua : UaOrNone first
       pub far : UpAt service tei q (indicated service tei ∷ []) d w.far m (end t caller []) first line []
 
     pub record IsUp (w : Wire) : Type 0 where
-      pub n : End
-      pub m : End
+      pub n : LinkEndpoint
+      pub m : LinkEndpoint
       pub first : List Parts
       pub there : List Parts
       pub here : List Parts
@@ -94,10 +94,10 @@ module _ (service : Service) (tei : ℕ) where
     as-up w h = inl (inr (inr h))
 
     -- where none is on its way none is taken, and none is lost
-    pub no-take : (w : Wire) → w.far.way ≡ [] → Went w → Went (acting takes w)
+    pub no-take : (w : Wire) → w.far.way ≡ [] → Went w → Went (acting receives w)
     no-take w e h = subst Went (sym (takes-none w e)) h
 
-    pub no-take_far : (w : Wire) → w.near.way ≡ [] → Went w → Went (turned (acting takes (turned w)))
+    pub no-take_far : (w : Wire) → w.near.way ≡ [] → Went w → Went (turned (acting receives (turned w)))
     no-take_far w e h = subst Went (sym (ap turned (takes-none (turned w) e))) h
 
     pub no-loss : (w : Wire) → w.near.way ≡ [] → Went w → Went (acting loses w)
@@ -107,6 +107,6 @@ module _ (service : Service) (tei : ℕ) where
     no-loss_far w e h = subst (λ s. Went (made w s)) (sym (lost-none w.far e)) h
 
     -- an up end that has another before it
-    pub reface : (past : List LineTold) (k : Config) (place : ℕ) (s : Station) (m n n' : End) (first near far : List Parts) → UpAt service tei place past k s m n first near far → Joint m n' near far
+    pub reface : (past : List LineTold) (k : Config) (place : ℕ) (s : Endpoint) (m n n' : LinkEndpoint) (first near far : List Parts) → UpAt service tei place past k s m n first near far → Joint m n' near far
         → UpAt service tei place past k s m n' first near far
     reface past k place s m n n' first near far h joint = record { held = h.held; up = h.up; line = h.line; joint = joint }

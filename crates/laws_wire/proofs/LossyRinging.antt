@@ -1,5 +1,5 @@
 -- The first phase of such a call: one end rings, and the other is down.
-use Rattle.laws_wire.proofs.Vocabulary.{◌≡◌, ℕ, false, List, [], ◌∷◌, ◌++◌, map, drop, None, refl, sym, ap, subst, ◌∙◌, ◌⊎◌, inl, inr, arith, All-head, Service, Parts, spelling, Terms, fresh, course, IsInRange, with_link, frames_of, Config, request, terms, refusal, Data, Station, Wire, happens, with_first_of, with_first_lost, Act, requests, times_out, gives, takes, loses, acting, turned, comes, indicated, IsRoughTalkOf, received, LinkData, frame}
+use Rattle.laws_wire.proofs.Vocabulary.{◌≡◌, ℕ, false, List, [], ◌∷◌, ◌++◌, map, drop, None, refl, sym, ap, subst, ◌∙◌, ◌⊎◌, inl, inr, arith, All-head, Service, Parts, spelling, Terms, fresh, course, IsInRange, with_link, frames_of, Config, request, terms, refusal, Data, Endpoint, Wire, happens, with_first_of, without_first, EndStep, requests, expires, sends, receives, loses, acting, turned, frame_comes, indicated, IsRoughTalkOf, received, LinkData, frame}
 use Rattle.laws_wire.proofs.Answered.{takes-granted}
 use Rattle.laws_wire.proofs.Calling.{sabme, ua, end, answering, takes-sabme, told-of-sabme}
 use Rattle.laws_wire.proofs.Held.{Held, Erred, held-given, held-lost, held-first, taken-told, taken-stands, held-expired, held-asked}
@@ -20,23 +20,23 @@ module _ (service : Service) (tei : ℕ) (c d : Config) (p q : ℕ) (face : Face
   Leads w = Went service tei c d p q w
 
   module _ (w : Wire) (h : IsRinging service tei c d p q w) where
-    ringing-with : (s : Station) → StillRings service tei c p s → Leads (record w { near = s })
+    ringing-with : (s : Endpoint) → StillRings service tei c p s → Leads (record w { near = s })
     ringing-with s x = inl (inl (record { repeats = x.repeats; waiting = x.waiting; way = x.way; near = x.held; far = h.far; sabmes = x.sabmes }))
 
-    ringing-or : (s : Station) → StillRings service tei c p s ⊎ Erred s → Leads (record w { near = s })
+    ringing-or : (s : Endpoint) → StillRings service tei c p s ⊎ Erred s → Leads (record w { near = s })
     ringing-or s o = grind (arith, ringing-with)
 
-    pub ringing-near : (act : Act) → IsRoughTalkOf service tei act → Leads (acting act w)
+    pub ringing-near : (act : EndStep) → IsRoughTalkOf service tei act → Leads (acting act w)
     ringing-near (requests r) is =
         for-data service tei (λ r. Leads (acting (requests r) w)) (λ octets. ringing-with _ (rings-asks service tei c p w.near h.repeats h.waiting h.way h.near h.sabmes octets)) r is
-    ringing-near (times_out timer) is =
-        for-timer service tei (λ timer. Leads (acting (times_out timer) w)) (λ timer its aims. ringing-or _ (rings-expires service tei c p w.near h.repeats h.waiting h.way h.near h.sabmes timer its aims)) timer is
-    ringing-near gives is = ringing-with _ (rings-gives service tei c p w.near h.repeats h.waiting h.way h.near h.sabmes)
-    ringing-near takes is = no-take service tei c d p q w (empty service tei d q [] w.far (end u fresh []) h.far refl) (inl (inl h))
+    ringing-near (expires timer) is =
+        for-timer service tei (λ timer. Leads (acting (expires timer) w)) (λ timer its aims. ringing-or _ (rings-expires service tei c p w.near h.repeats h.waiting h.way h.near h.sabmes timer its aims)) timer is
+    ringing-near sends is = ringing-with _ (rings-gives service tei c p w.near h.repeats h.waiting h.way h.near h.sabmes)
+    ringing-near receives is = no-take service tei c d p q w (empty service tei d q [] w.far (end u fresh []) h.far refl) (inl (inl h))
     ringing-near loses is = ringing-with _ (rings-loses service tei c p w.near h.repeats h.waiting h.way h.near h.sabmes)
 
     -- the other end, which is down
-    down-with : (s : Station) → Held d service tei q [] s (end u fresh []) → Leads (made w s)
+    down-with : (s : Endpoint) → Held d service tei q [] s (end u fresh []) → Leads (made w s)
     down-with s x = inl (inl (record { repeats = h.repeats; waiting = h.waiting; way = h.way; near = h.near; far = x; sabmes = h.sabmes }))
 
     down-asks : (octets : List ℕ) → Leads (made w (happens (request (Data service tei octets)) w.far))
@@ -54,8 +54,8 @@ module _ (service : Service) (tei : ℕ) (c d : Config) (p q : ℕ) (face : Face
       its_way : (w.near.way ≡ spelling c.side call ∷ map (spelling c.side) fs) × IsCarried c service tei call
       its_way = first-way service tei c p [] w.near (end t (ringing h.repeats h.waiting) h.way) call fs e h.near
 
-      abbrev reached : Station
-      reached = comes (spelling c.side call) w.far
+      abbrev reached : Endpoint
+      reached = frame_comes (spelling c.side call) w.far
 
       becomes : with_link (received (frame call)) (end u fresh []) ≡ end u answering []
       becomes = ap (λ y. end u y []) (takes-sabme u ru t)
@@ -66,9 +66,9 @@ module _ (service : Service) (tei : ℕ) (c d : Config) (p q : ℕ) (face : Face
           (subst (StationStands d service tei q reached) becomes (taken-stands service tei q [] d w.far (end u fresh []) h.far c back call its_way.1)) (takes-granted (spelling c.side call) w.far) refl
           (taken-told service tei q [] d w.far (end u fresh []) h.far c back call its_way.1) (told-of-sabme u ru t) refl
 
-      answers : Leads (turned (acting takes (turned w)))
+      answers : Leads (turned (acting receives (turned w)))
       answers =
-          subst (λ way. Leads (record { near = with_first_lost w.near; far = with_first_of way w.far })) (sym its_way.0)
+          subst (λ way. Leads (record { near = without_first w.near; far = with_first_of way w.far })) (sym its_way.0)
           (inl (inr (inl (record {
             repeats = h.repeats;
             waiting = h.waiting;
@@ -85,15 +85,15 @@ module _ (service : Service) (tei : ℕ) (c d : Config) (p q : ℕ) (face : Face
     first-is : (f : Parts) (fs : List Parts) → h.way ≡ f ∷ fs → f ≡ sabme t
     first-is f fs e = All-head (IsSabme t) f (fs ++ frames_of t h.waiting) (subst (λ way. AreSabmes t way h.waiting) e h.sabmes)
 
-    down-takes : (way : List Parts) → h.way ≡ way → Leads (turned (acting takes (turned w)))
+    down-takes : (way : List Parts) → h.way ≡ way → Leads (turned (acting receives (turned w)))
     down-takes [] e = no-take_far service tei c d p q w (empty service tei c p [] w.near (end t (ringing h.repeats h.waiting) h.way) h.near e) (inl (inl h))
     down-takes (f ∷ fs) e = answers fs (e ∙ ap (λ x. x ∷ fs) (first-is f fs e))
 
-    pub ringing-far : (act : Act) → IsRoughTalkOf service tei act → Leads (turned (acting act (turned w)))
+    pub ringing-far : (act : EndStep) → IsRoughTalkOf service tei act → Leads (turned (acting act (turned w)))
     ringing-far (requests r) is = for-data service tei (λ r. Leads (turned (acting (requests r) (turned w)))) down-asks r is
-    ringing-far (times_out timer) is =
-        for-timer service tei (λ timer. Leads (turned (acting (times_out timer) (turned w))))
+    ringing-far (expires timer) is =
+        for-timer service tei (λ timer. Leads (turned (acting (expires timer) (turned w))))
         (λ timer its aims. down-with _ (held-expired service tei q [] d w.far (end u fresh []) h.far timer its aims (record { its_notes = refl; no_unit = refl }) refl)) timer is
-    ringing-far gives is = down-with _ (held-given service tei q [] d w.far (end u fresh []) h.far refl)
-    ringing-far takes is = down-takes h.way refl
+    ringing-far sends is = down-with _ (held-given service tei q [] d w.far (end u fresh []) h.far refl)
+    ringing-far receives is = down-takes h.way refl
     ringing-far loses is = down-with _ (held-lost service tei q [] d w.far (end u fresh []) h.far)

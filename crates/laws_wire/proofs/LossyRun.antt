@@ -1,5 +1,5 @@
 -- A whole call in which frames are lost and timers expire: what layer 3 of each was told, as long as no error was.
-use Rattle.laws_wire.proofs.Vocabulary.{arith, ◌≡◌, ℕ, List, [], ◌∷◌, ◌++◌, map, take, refl, sym, ap, ◌∙◌, inl, inr, append-nil, All, flat_map, All-nil, All-cons, All-head, All-tail, Service, other_side, fresh, IsInRange, End, Config, LineTold, terms, terms_in_range, Station, Wire, Act, Doing, at_near, at_far, acting, doing, doing_all, calling, CanCall, confirmed, indicated, data_told, IsBeginningOf, for_layer_3, heard_in, HasNoError, IsRoughTalk, CallsAreToldInOrder, list_any-append}
+use Rattle.laws_wire.proofs.Vocabulary.{arith, ◌≡◌, ℕ, List, [], ◌∷◌, ◌++◌, map, take, refl, sym, ap, ◌∙◌, inl, inr, append-nil, All, flat_map, All-nil, All-cons, All-head, All-tail, Service, other_side, fresh, IsInRange, LinkEndpoint, Config, LineTold, terms, terms_in_range, Endpoint, Wire, EndStep, StepAt, at_near, at_far, acting, doing, doing_all, calling, CanCall, confirmed, indicated, data_told, IsBeginningOf, for_layer_3, heard_in, HasNoError, IsRoughTalk, CallsAreToldInOrder, list_any-append}
 use Rattle.laws_wire.proofs.Beginning.{calls, answers}
 use Rattle.laws_wire.proofs.Calling.{asked, sabme, end}
 use Rattle.laws_wire.proofs.Held.{Held, not-erred}
@@ -13,18 +13,18 @@ use Rattle.laws_wire.proofs.Spelled.{twice-other}
 use Rattle.laws_wire.proofs.Talking.{Face, unheard, Holds, none-told}
 
 -- what was told stays told
-pub record More (s s' : Station) : Type 0 where
+pub record More (s s' : Endpoint) : Type 0 where
   pub more : List LineTold
   pub told : s'.told ≡ s.told ++ more
 
-pub near-more : (act : Act) (w : Wire) → More w.near (acting act w).near
+pub near-more : (act : EndStep) (w : Wire) → More w.near (acting act w).near
 near-more o w = grind (arith, append-nil)
 
 module _ (service : Service) (tei : ℕ) (c d : Config) (p q : ℕ) (face : Face c d) (back : Face d c) (rt : IsInRange (terms c service tei)) (ru : IsInRange (terms d service tei)) where
   abbrev Leads : Wire → Type 0
   Leads w = Went service tei c d p q w
 
-  pub goes : (k : Doing) → IsRoughTalk service tei k → (w : Wire) → Goes service tei c d p q w → Leads (doing k w)
+  pub goes : (k : StepAt) → IsRoughTalk service tei k → (w : Wire) → Goes service tei c d p q w → Leads (doing k w)
   goes (at_near act) is w (inl h) = ringing-near service tei c d p q face back rt ru w h act is
   goes (at_near act) is w (inr (inl h)) = half-near service tei c d p q face back rt ru w h act is
   goes (at_near act) is w (inr (inr h)) = up-near_acts service tei c d p q face back rt ru w h act is
@@ -32,14 +32,14 @@ module _ (service : Service) (tei : ℕ) (c d : Config) (p q : ℕ) (face : Face
   goes (at_far act) is w (inr (inl h)) = half-far service tei c d p q face back rt ru w h act is
   goes (at_far act) is w (inr (inr h)) = up-far_acts service tei c d p q face back rt ru w h act is
 
-  pub errs : (k : Doing) (w : Wire) → HasErred service tei c d p q w → HasErred service tei c d p q (doing k w)
+  pub errs : (k : StepAt) (w : Wire) → HasErred service tei c d p q w → HasErred service tei c d p q (doing k w)
   errs o w x = grind (arith, list_any-append)
 
-  step : (k : Doing) → IsRoughTalk service tei k → (w : Wire) → Leads w → Leads (doing k w)
+  step : (k : StepAt) → IsRoughTalk service tei k → (w : Wire) → Leads w → Leads (doing k w)
   step k is w (inl h) = goes k is w h
   step k is w (inr h) = inr (errs k w h)
 
-  pub runs : (ds : List Doing) → All (IsRoughTalk service tei) ds → (w : Wire) → Leads w → Leads (doing_all ds w)
+  pub runs : (ds : List StepAt) → All (IsRoughTalk service tei) ds → (w : Wire) → Leads w → Leads (doing_all ds w)
   unfolding doing_all
   runs [] all w h = h
   runs (k ∷ ds) all w h = runs ds (All-tail (IsRoughTalk service tei) k ds all) (doing k w) (step k (All-head (IsRoughTalk service tei) k ds all) w h)
@@ -49,7 +49,7 @@ module _ (service : Service) (tei : ℕ) (c d : Config) (p q : ℕ) (face : Face
     pub near : IsBeginningOf (confirmed service tei ∷ map (data_told service tei) w.far.granted) (heard_in w.near)
     pub far : IsBeginningOf (indicated service tei ∷ map (data_told service tei) w.near.granted) (heard_in w.far)
 
-  by-joint : (first : LineTold) (k j : Config) (place other : ℕ) (past : List LineTold) (s o : Station) (n m : End) → Held k service tei place (first ∷ []) s n
+  by-joint : (first : LineTold) (k j : Config) (place other : ℕ) (past : List LineTold) (s o : Endpoint) (n m : LinkEndpoint) → Held k service tei place (first ∷ []) s n
       → Held j service tei other past o m → n.delivered ≡ take n.link.r m.link.contents → IsBeginningOf (first ∷ map (data_told service tei) o.granted) (heard_in s)
   by-joint first k j place other past s o n m h g delivered =
       then-data service tei first n.link.r o.granted (heard_in s)
@@ -64,7 +64,7 @@ module _ (service : Service) (tei : ℕ) (c d : Config) (p q : ℕ) (face : Face
   }
 
 -- from a station that was told nothing
-pub from-nothing : (k : Config) (service : Service) (tei place : ℕ) (s : Station) (n : End) → Holds k service tei place unheard s n → n.delivered ≡ [] → Held k service tei place [] s n
+pub from-nothing : (k : Config) (service : Service) (tei place : ℕ) (s : Endpoint) (n : LinkEndpoint) → Holds k service tei place unheard s n → n.delivered ≡ [] → Held k service tei place [] s n
 from-nothing k service tei place s n h none =
     assumption (ap (flat_map for_layer_3) (none-told k service tei place [] s n h none) ∙ sym (ap (map (data_told service tei)) none))
 
@@ -103,7 +103,7 @@ rings service c d line other tei x = record {
 pub no-error : (service : Service) (tei : ℕ) (c d : Config) (p q : ℕ) (w : Wire) → Went service tei c d p q w → HasNoError w.near → HasNoError w.far → Goes service tei c d p q w
 no-error service tei c d p q w o near far = grind (arith, not-erred)
 
-pub fair-goes : (service : Service) (c d : Config) (line other tei : ℕ) (ds : List Doing) → CanCall c line d other tei → All (IsRoughTalk service tei) ds
+pub fair-goes : (service : Service) (c d : Config) (line other tei : ℕ) (ds : List StepAt) → CanCall c line d other tei → All (IsRoughTalk service tei) ds
     → let w = doing_all ds (calling service tei c line d other) in HasNoError w.near → HasNoError w.far → Goes service tei c d 0 0 w
 fair-goes service c d line other tei ds can talk =
     let x = setting service c d line other tei can in

@@ -1,5 +1,5 @@
 -- The premises of the laws are met: by the worked conversation, after which no turn is left, and by one that loses frames.
-use Rattle.laws_wire.proofs.Vocabulary.{◌≡◌, false, List, [], ◌∷◌, refl, sym, subst, arith, All, list_any, All-nil, All-cons, Call, reading, header_of, control_of, unnumbered_of, supervisory_of, distance_of, named, seq, LineTold, Doing, doing_all, turns, IsStill, CanCall, IsCall, confirmed, indicated, data_told, all_told, IsBeginningOf, IsRoughTalk, is_error, heard_in, HasNoError, Face, user, network, begins, talks, line_answer, line_takes_slot, line_after, tei_refusal, tei_course}
+use Rattle.laws_wire.proofs.Vocabulary.{◌≡◌, false, List, [], ◌∷◌, refl, sym, subst, arith, All, list_any, All-nil, All-cons, Call, reading, header_of, control_of, unnumbered_of, supervisory_of, distance_of, named, seq, LineTold, StepAt, doing_all, turns, IsStill, CanCall, IsCall, confirmed, indicated, data_told, all_told, IsBeginningOf, IsRoughTalk, is_error, heard_in, HasNoError, Face, user, network, begins, talks, line_answer, line_takes_slot, line_after, tei_refusal, tei_course}
 use Rattle.laws_wire.specs.WorkedLosing.{loses_two}
 use Rattle.laws_wire.proofs.Delivering.{calls-face}
 use Rattle.laws_wire.proofs.LossyRun.{calls-are-told_in_order}
@@ -7,11 +7,11 @@ use Rattle.laws_wire.proofs.LossyRun.{calls-are-told_in_order}
 pub can : CanCall user 0 network 0 0
 can = record { near = (refl, omega arith); far = (refl, omega arith); opposite = (refl, refl); terminal = omega arith }
 
-abbrev pub Are : (Doing → Type 0) → List Doing → Type 0
+abbrev pub Are : (StepAt → Type 0) → List StepAt → Type 0
 Are P [] = Unit {0}
 Are P (d ∷ ds) = P d × Are P ds
 
-pub all-of : (P : Doing → Type 0) (ds : List Doing) → Are P ds → All P ds
+pub all-of : (P : StepAt → Type 0) (ds : List StepAt) → Are P ds → All P ds
 all-of P [] h = All-nil P
 all-of P (d ∷ ds) h = All-cons P d ds h.0 (all-of P ds h.1)
 

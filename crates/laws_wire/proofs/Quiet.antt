@@ -1,5 +1,5 @@
 -- What changes nothing at a station: a call for a frame where none waits, taking a frame where none is on its way, and data that is refused.
-use Rattle.laws_wire.proofs.Vocabulary.{◌≡◌, ℕ, ◌≤◌, false, List, [], ◌∷◌, map, None, sym, ap, subst, ◌∙◌, ◌⊎◌, inl, inr, arith, All, All-head, Service, Parts, spelling, given, End, frame_given, Config, Request, request, next, refusal, Data, Station, Wire, happens, frames_by, with_first_of, requests, gives, takes, acting, turned, answered, IsTalkOf, LinkData, two_ends_with_first_lost}
+use Rattle.laws_wire.proofs.Vocabulary.{◌≡◌, ℕ, ◌≤◌, false, List, [], ◌∷◌, map, None, sym, ap, subst, ◌∙◌, ◌⊎◌, inl, inr, arith, All, All-head, Service, Parts, spelling, given, LinkEndpoint, frame_given, Config, Request, request, next, refusal, Data, Endpoint, Wire, happens, frames_by, with_first_of, requests, sends, receives, acting, turned, answered, IsTalkOf, LinkData, two_ends_without_first}
 use Rattle.laws_wire.proofs.Answered.{gives-granted}
 use Rattle.laws_wire.proofs.Standing.{IsCarried, StationStands, gives-frames}
 use Rattle.laws_wire.proofs.Talking.{Past, Holds, holds-given, holds-lost, More, holds-asked}
@@ -10,22 +10,22 @@ one-at-most xs = grind arith
 
 module _ (service : Service) (tei : ℕ) where
   -- two stations and the ends for which they stand
-  pub record Both (c d : Config) (p q : ℕ) (first second : Past) (w : Wire) (n m : End) : Type 0 where
+  pub record Both (c d : Config) (p q : ℕ) (first second : Past) (w : Wire) (n m : LinkEndpoint) : Type 0 where
     pub near : Holds c service tei p first w.near n
     pub far : Holds d service tei q second w.far m
 
-  pub turned-both : (c d : Config) (p q : ℕ) (first second : Past) (w : Wire) (n m : End) → Both c d p q first second w n m → Both d c q p second first (turned w) m n
+  pub turned-both : (c d : Config) (p q : ℕ) (first second : Past) (w : Wire) (n m : LinkEndpoint) → Both c d p q first second w n m → Both d c q p second first (turned w) m n
   turned-both c d p q first second w n m h = record { near = h.far; far = h.near }
 
   -- the first frame on the way of a station
-  pub first-way : (k : Config) (place : ℕ) (first : Past) (s : Station) (n : End) (f : Parts) (fs : List Parts) → n.way ≡ f ∷ fs → Holds k service tei place first s n
+  pub first-way : (k : Config) (place : ℕ) (first : Past) (s : Endpoint) (n : LinkEndpoint) (f : Parts) (fs : List Parts) → n.way ≡ f ∷ fs → Holds k service tei place first s n
       → (s.way ≡ spelling k.side f ∷ map (spelling k.side) fs) × IsCarried k service tei f
   first-way k place first s n f fs e h =
       (h.stands.way ∙ ap (map (spelling k.side)) e, All-head (IsCarried k service tei) f fs (subst (All (IsCarried k service tei)) e h.stands.carried))
 
   -- ---- what changes nothing
 
-  module _ (c d : Config) (p q : ℕ) (first second : Past) (w : Wire) (n m : End) (h : Both c d p q first second w n m) where
+  module _ (c d : Config) (p q : ℕ) (first second : Past) (w : Wire) (n m : LinkEndpoint) (h : Both c d p q first second w n m) where
     pub record Quiet (w' : Wire) (b : ℕ) : Type 0 where
       pub both : Both c d p q first second w' n m
       pub none : b ≡ 0
@@ -34,19 +34,19 @@ module _ (service : Service) (tei : ℕ) where
     pub frames-are : frames_by (answered next w.near) ≡ map (spelling w.near.card.config.side) (frame_given n.terms (given n.terms n.link))
     frames-are = gives-frames service tei p w.near n (subst (λ k. StationStands k service tei p w.near n) (sym h.near.stands.config) h.near.stands)
 
-    pub quiet-gives : given n.terms n.link ≡ None → Quiet (acting gives w) (turn_of (frames_by (answered next w.near)))
+    pub quiet-gives : given n.terms n.link ≡ None → Quiet (acting sends w) (turn_of (frames_by (answered next w.near)))
     quiet-gives none =
         let same = stays n none in
         grind (arith, holds-given, turn_of, frames-are, gives-granted)
 
-    pub quiet-takes : m.way ≡ [] → Quiet (acting takes w) (turn_of w.far.way)
-    quiet-takes e = grind (arith, spelling, with_first_of, two_ends_with_first_lost, holds-lost, turn_of)
+    pub quiet-takes : m.way ≡ [] → Quiet (acting receives w) (turn_of w.far.way)
+    quiet-takes e = grind (arith, spelling, with_first_of, two_ends_without_first, holds-lost, turn_of)
 
     pub quiet-asks : ((octets : List ℕ) → refusal n.terms n.link false (LinkData octets) ≡ None → ⊥) → (octets : List ℕ)
         → Quiet (acting (requests (Data service tei octets)) w) 0
     quiet-asks never octets = go (holds-asked service tei p first c w.near n octets h.near)
       where
-        s' : Station
+        s' : Endpoint
         s' = happens (request (Data service tei octets)) w.near
 
         go : (s' ≡ w.near) ⊎ More service tei p first c w.near s' n octets → Quiet (record w { near = s' }) 0

@@ -1,5 +1,5 @@
 -- The premises of the law on what is lost are met: by the worked call in which SABME is lost, and then an I-frame of each end.
-use Rattle.laws_wire.proofs.Vocabulary.{◌≡◌, ◌≢◌, ℕ, ◌+◌, ◌≤◌, List, [], ◌∷◌, length, map, refl, sym, ap, subst, ◌∙◌, arith, All, All-nil, All-cons, Call, reading, header_of, control_of, unnumbered_of, supervisory_of, distance_of, named, seq, LineTold, Wire, times_out, gives, loses, at_near, acting, doing_all, turns, IsStill, confirmed, indicated, data_told, heard_in, IsRoughTalk, is_poll, is_final, IsNoneOpen, MayRepeat, StayTimely, with_t200_expired, HasNoErrors, BothMayRepeat, HasMissing, HasArrived, StayStill, user, network, begins, loses_three, lost, recovered, Bool, Control, NoneGoes, Station, flat_map, giving, happens, next, suc, zero, Option, None, gave, option_map, next_of, Taken, answered, set-get_or, append-nil, line_answer, line_takes_slot, line_after, tei_refusal, tei_course}
+use Rattle.laws_wire.proofs.Vocabulary.{◌≡◌, ◌≢◌, ℕ, ◌+◌, ◌≤◌, List, [], ◌∷◌, length, map, refl, sym, ap, subst, ◌∙◌, arith, All, All-nil, All-cons, Call, reading, header_of, control_of, unnumbered_of, supervisory_of, distance_of, named, seq, LineTold, Wire, expires, sends, loses, at_near, acting, doing_all, turns, IsStill, confirmed, indicated, data_told, heard_in, IsRoughTalk, is_poll, is_final, IsNoneOpen, MayRepeat, StayTimely, with_t200_expired, HasNoErrors, BothMayRepeat, HasMissing, HasArrived, StayStill, user, network, begins, loses_three, lost, recovered, Bool, Control, NoneGoes, Endpoint, flat_map, giving, happens, next, suc, zero, Option, None, gave, option_map, next_of, Taken, answered, set-get_or, append-nil, line_answer, line_takes_slot, line_after, tei_refusal, tei_course}
 use Rattle.lapd_frame.specs.declared.timers.Timer.TheVariants.{T200}
 use Rattle.laws_wire.proofs.PremisesMet.{can, IsFair, all-of}
 use Rattle.laws_wire.proofs.StillIsTimely.{still-is-enough}
@@ -15,16 +15,16 @@ none-told = All-nil IsFair
 none-taken : (o : Option Taken) → gave (option_map next_of o) ≡ gave None → o ≡ None
 none-taken o e = grind arith
 
-stays : (s : Station) → answered next s ≡ gave None → happens next s ≡ s
+stays : (s : Endpoint) → answered next s ≡ gave None → happens next s ≡ s
 unfolding line_after line_answer line_takes_slot
 stays s e = grind (arith, none-taken, set-get_or, append-nil)
 
-goes-on : (k : ℕ) (s : Station) → happens next s ≡ s → giving k s ≡ s
+goes-on : (k : ℕ) (s : Endpoint) → happens next s ≡ s → giving k s ≡ s
 unfolding giving
 goes-on zero s e = refl
 goes-on (suc k) s e = ap (giving k) e ∙ goes-on k s e
 
-none-goes : (of : Bool → Control → Bool) (s : Station) → answered next s ≡ gave None → s.way ≡ [] → NoneGoes of s
+none-goes : (of : Bool → Control → Bool) (s : Endpoint) → answered next s ≡ gave None → s.way ≡ [] → NoneGoes of s
 none-goes of s e empty = grind (arith, flat_map, goes-on, stays)
 
 pub still-open : (w : Wire) → IsStill w → IsNoneOpen w.near w.far
@@ -32,7 +32,7 @@ still-open w h = record { commands = none-goes is_poll w.near h.near h.near_way;
 
 -- SABME was lost
 abbrev pub silent : Wire
-silent = doing_all (at_near gives ∷ at_near loses ∷ []) begins
+silent = doing_all (at_near sends ∷ at_near loses ∷ []) begins
 
 silent-still : IsStill silent
 unfolding line_after line_answer line_takes_slot reading header_of control_of unnumbered_of supervisory_of tei_course tei_refusal seq distance_of named doing_all turns
@@ -94,7 +94,7 @@ pub arrives : HasArrived Call 0 lost recovered
 arrives = (what-is-lost-arrives Call user network 0 0 0 loses_three can rough timely).arrives 1 still missing may
 
 -- T200 expires only as no turn is left, and no error is told as it does
-expires-untold : ((acting (times_out (T200 Call 0)) silent).near.told ≡ []) × ((acting (times_out (T200 Call 0)) silent).far.told ≡ [])
+expires-untold : ((acting (expires (T200 Call 0)) silent).near.told ≡ []) × ((acting (expires (T200 Call 0)) silent).far.told ≡ [])
 unfolding line_after line_answer line_takes_slot reading header_of control_of unnumbered_of supervisory_of tei_course tei_refusal seq distance_of named doing_all turns
 expires-untold = (refl, refl)
 

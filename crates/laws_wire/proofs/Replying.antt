@@ -75,7 +75,7 @@ module _ (t : Terms) (l : Link) where
 
   -- an enquiry is answered
   abbrev its_answer : ControlFrame
-  its_answer = Words.response (Words.ready_to_receive true l)
+  its_answer = Words.response (Words.rr_or_rnr true l)
 
   pub record Answers (l' : Link) : Type 0 where
     pub r : l'.r ≡ l.r

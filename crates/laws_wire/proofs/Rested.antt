@@ -1,5 +1,5 @@
 -- What is done at one end of a call in which frames are lost and timers expire makes what is still to do less, or tells an error.
-use Rattle.laws_wire.proofs.Vocabulary.{◌≡◌, ℕ, ◌+◌, ◌*◌, ◌≤◌, cond, List, [], ◌∷◌, ◌++◌, length, map, drop, refl, sym, ap, subst, ◌∙◌, ◌⊎◌, inl, inr, length-append, arith, Service, Timer, Parts, spelling, LinkTimer, Link, course, given, End, with_link, with_sent, frame_given, Config, LineTold, expiry, request, after, Course, Data, Station, Wire, happens, with_first_of, with_first_lost, Act, requests, times_out, gives, takes, loses, acting, is_any, comes, granted_of, next, IsRoughTalkOf, is_move_of, expiries_of, two_ends_with_first_lost}
+use Rattle.laws_wire.proofs.Vocabulary.{◌≡◌, ℕ, ◌+◌, ◌*◌, ◌≤◌, cond, List, [], ◌∷◌, ◌++◌, length, map, drop, refl, sym, ap, subst, ◌∙◌, ◌⊎◌, inl, inr, length-append, arith, Service, Timer, Parts, spelling, LinkTimer, Link, course, given, LinkEndpoint, with_link, with_sent, frame_given, Config, LineTold, expiry, request, after, Course, Data, Endpoint, Wire, happens, with_first_of, without_first, EndStep, requests, expires, sends, receives, loses, acting, is_any, frame_comes, granted_of, next, IsRoughTalkOf, is_move_of, expiries_of, two_ends_without_first}
 use Rattle.model_link.specs.Events as link
 use Rattle.laws_wire.proofs.Answered.{gives-granted, takes-granted, same-granted}
 use Rattle.laws_wire.proofs.Asking.{with_more}
@@ -21,12 +21,12 @@ any-mapped : (f : Parts → List ℕ) (xs : List Parts) → cond {A = ℕ} (is_a
 any-mapped f [] = omega arith
 any-mapped f (x ∷ xs) = omega arith
 
-module _ (service : Service) (tei : ℕ) (c d : Config) (p q : ℕ) (past_n past_m : List LineTold) (face : Face c d) (v : ℕ) (w : Wire) (n m : End)
+module _ (service : Service) (tei : ℕ) (c d : Config) (p q : ℕ) (past_n past_m : List LineTold) (face : Face c d) (v : ℕ) (w : Wire) (n m : LinkEndpoint)
     (near : Held c service tei p past_n w.near n) (far : Held d service tei q past_m w.far m) (low : m.link.r ≤ length n.link.contents) where
   -- the stations stand for other ends, of which so much is left to do
   pub record Then (w' : Wire) (moved expired : ℕ) : Type 0 where
-    pub n' : End
-    pub m' : End
+    pub n' : LinkEndpoint
+    pub m' : LinkEndpoint
     pub near' : StationStands c service tei p w'.near n'
     pub far' : StationStands d service tei q w'.far m'
     pub more : ℕ
@@ -37,10 +37,10 @@ module _ (service : Service) (tei : ℕ) (c d : Config) (p q : ℕ) (past_n past
   none-more : (a b x y : ℕ) → a ≡ x → b ≡ y → a + b ≡ x + y + 0
   none-more a b x y e f = omega (arith, e, f)
 
-  abbrev moved_by : Act → ℕ
+  abbrev moved_by : EndStep → ℕ
   moved_by act = cond {A = ℕ} (is_move_of act w) 1 0
 
-  abbrev Leads : Act → Type 0
+  abbrev Leads : EndStep → Type 0
   Leads act = Then (acting act w) (moved_by act) (expiries_of act) ⊎ Erred (acting act w).near
 
   own : StationStands w.near.card.config service tei p w.near n
@@ -48,15 +48,15 @@ module _ (service : Service) (tei : ℕ) (c d : Config) (p q : ℕ) (past_n past
 
   -- ---- it gives
 
-  pub then-gives : Then (acting gives w) (moved_by gives) 0
+  pub then-gives : Then (acting sends w) (moved_by sends) 0
   then-gives = record {
     n' = with_sent n;
     m' = m;
     near' = (held-given service tei p past_n c w.near n near x.contents).stands;
     far' = far.stands;
     more = 0;
-    fell = goes_on v n m (with_sent n) m x.contents refl (moved_by gives) 0 x.received
-        (total (moved_by gives) (load v (with_sent n).link) (load_way v n.way) (load_way v news) (load_way v (n.way ++ news)) (load v m.link + load_way v m.way) (load v n.link) (length news) ((v + 4) * 0)
+    fell = goes_on v n m (with_sent n) m x.contents refl (moved_by sends) 0 x.received
+        (total (moved_by sends) (load v (with_sent n).link) (load_way v n.way) (load_way v news) (load_way v (n.way ++ news)) (load v m.link + load_way v m.way) (load v n.link) (length news) ((v + 4) * 0)
         (way-append v n.way news) (subst (λ xs. cond {A = ℕ} (is_any xs) 1 0 ≤ length news) (sym (gives-frames service tei p w.near n own)) (any-mapped (spelling w.near.card.config.side) news)) x.falls);
     granted = (none-more (length (happens next w.near).granted) (length w.far.granted) (length w.near.granted) (length w.far.granted) (ap length (gives-granted w.near)) refl);
   }
@@ -75,13 +75,13 @@ module _ (service : Service) (tei : ℕ) (c d : Config) (p q : ℕ) (past_n past
   pub then-loses : Then (acting loses w) (moved_by loses) 0
   then-loses =
       record {
-        n' = two_ends_with_first_lost n;
+        n' = two_ends_without_first n;
         m' = m;
         near' = (held-lost service tei p past_n c w.near n near).stands;
         far' = far.stands;
         more = 0;
         fell = grind (arith, goes_on, total, load, load_way);
-        granted = (none-more (length (with_first_lost w.near).granted) (length w.far.granted) (length w.near.granted) (length w.far.granted) (ap length refl) refl);
+        granted = (none-more (length (without_first w.near).granted) (length w.far.granted) (length w.near.granted) (length w.far.granted) (ap length refl) refl);
       }
     where
       total : (moved l way way' other z : ℕ) → moved + way ≤ way' → moved + (l + way) + other ≤ l + way' + other + z
@@ -90,19 +90,19 @@ module _ (service : Service) (tei : ℕ) (c d : Config) (p q : ℕ) (past_n past
   -- ---- a timer expires
 
   module _ (timer : Timer) (its : LinkTimer) (aims : Aims service tei timer its) where
-    abbrev left : Station
+    abbrev left : Endpoint
     left = happens (expiry timer) w.near
 
     abbrev went : Course
     went = course n.terms (link.expired its) n.link
 
-    abbrev n2 : End
+    abbrev n2 : LinkEndpoint
     n2 = with_link (link.expired its) n
 
     total : (l' l way other : ℕ) → l' ≤ l + (v + 4) → 0 + (l' + way) + other ≤ l + way + other + (v + 4) * 1
     total l' l way other less = omega (arith, less)
 
-    pub fairly-expires : Expires v n.terms n.link went → Then (acting (times_out timer) w) 0 1
+    pub fairly-expires : Expires v n.terms n.link went → Then (acting (expires timer) w) 0 1
     fairly-expires y = record {
       n' = n2;
       m' = m;
@@ -113,10 +113,10 @@ module _ (service : Service) (tei : ℕ) (c d : Config) (p q : ℕ) (past_n past
       granted = (none-more (length left.granted) (length w.far.granted) (length w.near.granted) (length w.far.granted) (ap length (same-granted (expiry timer) w.near refl)) refl);
     }
 
-    then-expires : Leads (times_out timer)
+    then-expires : Leads (expires timer)
     then-expires = go (timer-expires v n.terms n.link its)
       where
-        go : HasError went.notes ⊎ Expires v n.terms n.link went → Leads (times_out timer)
+        go : HasError went.notes ⊎ Expires v n.terms n.link went → Leads (expires timer)
         go (inl error) = inr (now-erred w.near left went (expired-told service tei p past_n c w.near n near timer its aims) error)
         go (inr y) = inl (fairly-expires y)
 
@@ -125,7 +125,7 @@ module _ (service : Service) (tei : ℕ) (c d : Config) (p q : ℕ) (past_n past
   pub then-asks : (octets : List ℕ) → Then (acting (requests (Data service tei octets)) w) 0 0
   then-asks octets = go (held-asked service tei p past_n c w.near n near octets)
     where
-      s' : Station
+      s' : Endpoint
       s' = happens (request (Data service tei octets)) w.near
 
       one-more : (a b x y : ℕ) → a ≡ x + 1 → x ≡ y → a + b ≡ y + b + 1
@@ -147,29 +147,29 @@ module _ (service : Service) (tei : ℕ) (c d : Config) (p q : ℕ) (past_n past
 
   -- ---- it takes
 
-  taken-grants : granted_of (acting takes w) ≡ granted_of w + 0
+  taken-grants : granted_of (acting receives w) ≡ granted_of w + 0
   taken-grants = grind (arith, none-more, takes-granted)
 
-  abbrev m1 : End
-  m1 = two_ends_with_first_lost m
+  abbrev m1 : LinkEndpoint
+  m1 = two_ends_without_first m
 
-  lost : StationStands d service tei q (with_first_lost w.far) m1
+  lost : StationStands d service tei q (without_first w.far) m1
   lost = (held-lost service tei q past_m d w.far m far).stands
 
-  pub takes-nothing : m.way ≡ [] → Then (acting takes w) (moved_by takes) 0
+  pub takes-nothing : m.way ≡ [] → Then (acting receives w) (moved_by receives) 0
   takes-nothing e' = grind (arith, lost, goes_on, load_way, taken-grants)
 
   module _ (f : Parts) (fs : List Parts) (e : m.way ≡ f ∷ fs) where
     way-there : (w.far.way ≡ spelling d.side f ∷ map (spelling d.side) fs) × IsCarried d service tei f
     way-there = first-way service tei d q past_m w.far m f fs e far
 
-    abbrev s' : Station
-    s' = comes (spelling d.side f) w.near
+    abbrev s' : Endpoint
+    s' = frame_comes (spelling d.side f) w.near
 
     abbrev x : Course
     x = course n.terms (link.received (link.frame f)) n.link
 
-    abbrev n1 : End
+    abbrev n1 : LinkEndpoint
     n1 = with_link (link.received (link.frame f)) n
 
     behind : load_way v m.way ≡ 1 + brings v f.address.command f.control + load_way v (drop 1 m.way)
@@ -185,7 +185,7 @@ module _ (service : Service) (tei : ℕ) (c d : Config) (p q : ℕ) (past_n past
             delivers v n m n1 m1 y.contents refl r few
             (omega (arith, behind, less))
 
-    pub takes-well : TakesWell v n.link x.link f → x.link.r ≤ length m.link.contents → Then (acting takes w) (moved_by takes) 0
+    pub takes-well : TakesWell v n.link x.link f → x.link.r ≤ length m.link.contents → Then (acting receives w) (moved_by receives) 0
     takes-well y few = record {
       n' = n1;
       m' = m1;
@@ -196,34 +196,34 @@ module _ (service : Service) (tei : ℕ) (c d : Config) (p q : ℕ) (past_n past
       granted = taken-grants;
     }
 
-    takes-error : HasError x.notes → Erred (acting takes w).near
+    takes-error : HasError x.notes → Erred (acting receives w).near
     takes-error error =
         subst (λ ways. Erred (with_first_of ways w.near)) (sym way-there.0) (now-erred w.near s' x (taken-told service tei p past_n c w.near n near d face f way-there.1) error)
 
   then-takes : ((f : Parts) (fs : List Parts) → m.way ≡ f ∷ fs
       → HasError (course n.terms (link.received (link.frame f)) n.link).notes
       ⊎ (TakesWell v n.link (after n.terms (link.received (link.frame f)) n.link) f × (after n.terms (link.received (link.frame f)) n.link).r ≤ length m.link.contents))
-      → Leads takes
+      → Leads receives
   then-takes well = go m.way refl
     where
       by : (f : Parts) (fs : List Parts) → m.way ≡ f ∷ fs
           → HasError (course n.terms (link.received (link.frame f)) n.link).notes
           ⊎ (TakesWell v n.link (after n.terms (link.received (link.frame f)) n.link) f × (after n.terms (link.received (link.frame f)) n.link).r ≤ length m.link.contents)
-          → Leads takes
+          → Leads receives
       by f fs e (inl error) = inr (takes-error f fs e error)
       by f fs e (inr y) = inl (takes-well f fs e y.0 y.1)
 
-      go : (way : List Parts) → m.way ≡ way → Leads takes
+      go : (way : List Parts) → m.way ≡ way → Leads receives
       go [] e = inl (takes-nothing e)
       go (f ∷ fs) e = by f fs e (well f fs e)
 
-  pub then-acts : (act : Act) → IsRoughTalkOf service tei act
+  pub then-acts : (act : EndStep) → IsRoughTalkOf service tei act
       → ((f : Parts) (fs : List Parts) → m.way ≡ f ∷ fs
       → HasError (course n.terms (link.received (link.frame f)) n.link).notes
       ⊎ (TakesWell v n.link (after n.terms (link.received (link.frame f)) n.link) f × (after n.terms (link.received (link.frame f)) n.link).r ≤ length m.link.contents))
       → Leads act
   then-acts (requests r) is well = for-data service tei (λ r. Leads (requests r)) (λ octets. inl (then-asks octets)) r is
-  then-acts (times_out timer) is well = for-timer service tei (λ timer. Leads (times_out timer)) then-expires timer is
-  then-acts gives is well = inl then-gives
-  then-acts takes is well = then-takes well
+  then-acts (expires timer) is well = for-timer service tei (λ timer. Leads (expires timer)) then-expires timer is
+  then-acts sends is well = inl then-gives
+  then-acts receives is well = then-takes well
   then-acts loses is well = inl then-loses

@@ -1,33 +1,33 @@
 -- Rounds in which no error is told lead to where no turn is left.
-use Rattle.laws_wire.proofs.Vocabulary.{◌≡◌, ℕ, zero, suc, ◌+◌, ◌*◌, ◌<◌, ◌≤◌, List, [], ◌∷◌, ◌++◌, length, option_map, refl, sym, ap, subst, ◌∙◌, arith, All, All-nil, All-append, Service, Config, terms, Wire, Doing, at_near, at_far, acting, turned, doing, doing_all, IsStill, calling, CanCall, granted_of, IsRoughTalk, round, rounds, HasNoErrors, moves, expiries, most_frames, RoundsComeToRest}
+use Rattle.laws_wire.proofs.Vocabulary.{◌≡◌, ℕ, zero, suc, ◌+◌, ◌*◌, ◌<◌, ◌≤◌, List, [], ◌∷◌, ◌++◌, length, option_map, refl, sym, ap, subst, ◌∙◌, arith, All, All-nil, All-append, Service, Config, terms, Wire, StepAt, at_near, at_far, acting, turned, doing, doing_all, IsStill, calling, CanCall, granted_of, IsRoughTalk, round, rounds, HasNoErrors, moves, expiries, most_frames, RoundsComeToRest}
 use Rattle.laws_wire.specs.Wire as wire
 use Rattle.laws_wire.proofs.Answered.{gives-taken, gives-granted, takes-granted}
 use Rattle.laws_wire.proofs.RestedRun.{moves-come-to-an-end}
 
 -- ---- one thing done after another
 
-pub doing-append : (ds es : List Doing) (w : Wire) → doing_all (ds ++ es) w ≡ doing_all es (doing_all ds w)
+pub doing-append : (ds es : List StepAt) (w : Wire) → doing_all (ds ++ es) w ≡ doing_all es (doing_all ds w)
 unfolding doing_all
 doing-append [] es w = refl
 doing-append (d ∷ ds) es w = doing-append ds es (doing d w)
 
-pub moves-append : (ds es : List Doing) (w : Wire) → moves (ds ++ es) w ≡ moves ds w + moves es (doing_all ds w)
+pub moves-append : (ds es : List StepAt) (w : Wire) → moves (ds ++ es) w ≡ moves ds w + moves es (doing_all ds w)
 unfolding doing_all moves
 moves-append [] es w = omega arith
 moves-append (d ∷ ds) es w =
     let rest : moves (ds ++ es) (doing d w) ≡ moves ds (doing d w) + moves es (doing_all ds (doing d w)) = moves-append ds es (doing d w) in
     omega (arith, rest)
 
-pub expiries-append : (ds es : List Doing) → expiries (ds ++ es) ≡ expiries ds + expiries es
+pub expiries-append : (ds es : List StepAt) → expiries (ds ++ es) ≡ expiries ds + expiries es
 unfolding expiries
 expiries-append [] es = omega arith
 expiries-append (d ∷ ds) es = let rest : expiries (ds ++ es) ≡ expiries ds + expiries es = expiries-append ds es in omega (arith, rest)
 
 -- ---- rounds, as a list
 
-unfoldable pub many : ℕ → List Doing
+unfoldable pub many : ℕ → List StepAt
 many zero = []
-many (suc n) = at_near wire.gives ∷ at_far wire.takes ∷ at_far wire.gives ∷ at_near wire.takes ∷ many n
+many (suc n) = at_near wire.sends ∷ at_far wire.receives ∷ at_far wire.sends ∷ at_near wire.receives ∷ many n
 
 pub many-rounds : (n : ℕ) (w : Wire) → doing_all (many n) w ≡ rounds n w
 unfolding many doing_all rounds
@@ -46,29 +46,29 @@ all-rough service tei (suc n) = grind (arith, all-rough service tei n)
 
 -- ---- nothing is granted in a round
 
-pub near-gives : (w : Wire) → granted_of (acting wire.gives w) ≡ granted_of w
+pub near-gives : (w : Wire) → granted_of (acting wire.sends w) ≡ granted_of w
 near-gives w = ap (λ (xs : List (List ℕ)). length xs + length w.far.granted) (gives-granted w.near)
 
-pub near-takes : (w : Wire) → granted_of (acting wire.takes w) ≡ granted_of w
+pub near-takes : (w : Wire) → granted_of (acting wire.receives w) ≡ granted_of w
 near-takes w = ap (λ (xs : List (List ℕ)). length xs + length w.far.granted) (grind (arith, takes-granted))
 
-pub far-gives : (w : Wire) → granted_of (turned (acting wire.gives (turned w))) ≡ granted_of w
+pub far-gives : (w : Wire) → granted_of (turned (acting wire.sends (turned w))) ≡ granted_of w
 far-gives w = ap (λ (xs : List (List ℕ)). length w.near.granted + length xs) (gives-granted w.far)
 
-pub far-takes : (w : Wire) → granted_of (turned (acting wire.takes (turned w))) ≡ granted_of w
+pub far-takes : (w : Wire) → granted_of (turned (acting wire.receives (turned w))) ≡ granted_of w
 far-takes w = ap (λ (xs : List (List ℕ)). length w.near.granted + length xs) (grind (arith, takes-granted))
 
 abbrev w1 : Wire → Wire
-w1 w = acting wire.gives w
+w1 w = acting wire.sends w
 
 abbrev w2 : Wire → Wire
-w2 w = turned (acting wire.takes (turned (w1 w)))
+w2 w = turned (acting wire.receives (turned (w1 w)))
 
 abbrev w3 : Wire → Wire
-w3 w = turned (acting wire.gives (turned (w2 w)))
+w3 w = turned (acting wire.sends (turned (w2 w)))
 
 abbrev w4 : Wire → Wire
-w4 w = acting wire.takes (w3 w)
+w4 w = acting wire.receives (w3 w)
 
 pub none-more : (n : ℕ) (w : Wire) → granted_of (doing_all (many n) w) ≡ granted_of w
 unfolding many doing_all
@@ -104,7 +104,7 @@ finds (suc n) w few = go (λ less. finds n (w4 w) less) (moves round w) refl
     go others (suc k) e = later (others (omega (arith, moves-append round (many n) w ∙ ap (λ x. x + moves (many n) (w4 w)) e, few)))
 
 -- There are so few moves in rounds in which no error is told.
-pub few-moves : (service : Service) (c d : Config) (line other tei k r : ℕ) (ds : List Doing) → CanCall c line d other tei → All (IsRoughTalk service tei) ds
+pub few-moves : (service : Service) (c d : Config) (line other tei k r : ℕ) (ds : List StepAt) → CanCall c line d other tei → All (IsRoughTalk service tei) ds
     → (terms c service tei).k ≤ k → (terms d service tei).k ≤ k → let w = doing_all ds (calling service tei c line d other) in HasNoErrors (rounds r w)
     → moves (many r) w ≤ 2 * most_frames k (expiries ds) (granted_of w)
 few-moves service c d line other tei k r ds can talk wide-near wide-far = λ fair. go fair

@@ -1,5 +1,5 @@
 -- A whole call in which frames are lost and timers expire: its moves are at most what there was to do, and what was asked for since.
-use Rattle.laws_wire.proofs.Vocabulary.{◌≡◌, ℕ, ◌+◌, ◌*◌, ◌≤◌, true, cond, List, [], ◌∷◌, ◌++◌, length, refl, sym, ap, subst, ◌∙◌, ◌⊎◌, inl, inr, arith, All, All-head, All-tail, Service, Parts, ControlFrame, Terms, fresh, course, IsInRange, End, frames_of, Config, LineTold, terms, after, Station, Wire, Doing, at_near, at_far, turned, doing, doing_all, calling, confirmed, indicated, granted_of, HasNoError, IsRoughTalk, is_move, moves, expiries_in, expiries, MovesComeToAnEnd}
+use Rattle.laws_wire.proofs.Vocabulary.{◌≡◌, ℕ, ◌+◌, ◌*◌, ◌≤◌, true, cond, List, [], ◌∷◌, ◌++◌, length, refl, sym, ap, subst, ◌∙◌, ◌⊎◌, inl, inr, arith, All, All-head, All-tail, Service, Parts, ControlFrame, Terms, fresh, course, IsInRange, LinkEndpoint, frames_of, Config, LineTold, terms, after, Endpoint, Wire, StepAt, at_near, at_far, turned, doing, doing_all, calling, confirmed, indicated, granted_of, HasNoError, IsRoughTalk, is_move, moves, expiries_in, expiries, MovesComeToAnEnd}
 use Rattle.model_link.specs.Events as link
 use Rattle.laws_wire.proofs.Acting.{which, UpAt, ranges, sound}
 use Rattle.laws_wire.proofs.Calling.{asked, sabme, ua, end, caller, takes-sabme}
@@ -17,13 +17,13 @@ use Rattle.laws_wire.proofs.Weighing.{same-way, weigh_of, weigh, Fell, fell-turn
 
 module _ (service : Service) (tei v : ℕ) where
   -- what the link of an end makes of a frame: it tells an error, or has less to send
-  abbrev pub Well : End → End → Parts → Type 0
+  abbrev pub Well : LinkEndpoint → LinkEndpoint → Parts → Type 0
   Well n m f =
       HasError (course n.terms (link.received (link.frame f)) n.link).notes
       ⊎ (TakesWell v n.link (after n.terms (link.received (link.frame f)) n.link) f × (after n.terms (link.received (link.frame f)) n.link).r ≤ length m.link.contents)
 
   -- a link that is up
-  well-up : (k : Config) (place : ℕ) (past : List LineTold) (s : Station) (n m : End) (f : Parts) (first near far : List Parts) → UpAt service tei place past k s n m first near (f ∷ far)
+  well-up : (k : Config) (place : ℕ) (past : List LineTold) (s : Endpoint) (n m : LinkEndpoint) (f : Parts) (first near far : List Parts) → UpAt service tei place past k s n m first near (f ∷ far)
       → IsInRange m.terms → 2 * (terms k service tei).k ≤ v → Well n m f
   well-up k place past s n m f first near far h far-ranges wide =
       let meant : IsMeant f = first-means n m f near far h.joint in
@@ -46,8 +46,8 @@ module _ (service : Service) (tei : ℕ) (c d : Config) (p q : ℕ) (face : Face
 
   -- the two ends of a call, whatever its phase
   record Seen (w : Wire) : Type 0 where
-    n : End
-    m : End
+    n : LinkEndpoint
+    m : LinkEndpoint
     past_n : List LineTold
     past_m : List LineTold
     near : Held c service tei p past_n w.near n
@@ -95,9 +95,9 @@ module _ (service : Service) (tei : ℕ) (c d : Config) (p q : ℕ) (face : Face
 
   -- ---- one step
 
-  record Next (w' : Wire) (moved expired : ℕ) (n m : End) : Type 0 where
-    n' : End
-    m' : End
+  record Next (w' : Wire) (moved expired : ℕ) (n m : LinkEndpoint) : Type 0 where
+    n' : LinkEndpoint
+    m' : LinkEndpoint
     near : StationStands c service tei p w'.near n'
     far : StationStands d service tei q w'.far m'
     more : ℕ
@@ -106,7 +106,7 @@ module _ (service : Service) (tei : ℕ) (c d : Config) (p q : ℕ) (face : Face
   abbrev Errs : Wire → Type 0
   Errs w = HasErred service tei c d p q w
 
-  step : (k : Doing) → IsRoughTalk service tei k → (w : Wire) (h : Goes service tei c d p q w)
+  step : (k : StepAt) → IsRoughTalk service tei k → (w : Wire) (h : Goes service tei c d p q w)
       → Next (doing k w) (cond {A = ℕ} (is_move k w) 1 0) (expiries_in k) (seen w h).n (seen w h).m ⊎ Errs (doing k w)
   step (at_near act) is w h =
       let x : Seen w = seen w h in
@@ -123,25 +123,25 @@ module _ (service : Service) (tei : ℕ) (c d : Config) (p q : ℕ) (face : Face
 
   -- ---- all of them
 
-  errs-all : (ds : List Doing) (w : Wire) → Errs w → Errs (doing_all ds w)
+  errs-all : (ds : List StepAt) (w : Wire) → Errs w → Errs (doing_all ds w)
   unfolding doing_all
   errs-all [] w h = h
   errs-all (k ∷ ds) w h = errs-all ds (doing k w) (errs service tei c d p q face back rt ru k w h)
 
-  record Total (moved expired : ℕ) (n m : End) (last : Wire) : Type 0 where
+  record Total (moved expired : ℕ) (n m : LinkEndpoint) (last : Wire) : Type 0 where
     more : ℕ
     granted : granted_of last ≡ length n.link.contents + length m.link.contents + more
     falls : moved ≤ weigh v n m + (v + 4) * expired + (v + 6) * more
 
   -- the same ends
-  weighs-same : (w : Wire) (x : Seen w) (n' m' : End) → StationStands c service tei p w.near n' → StationStands d service tei q w.far m' → (n'.link ≡ x.n.link) × (m'.link ≡ x.m.link) × (weigh v n' m' ≡ weigh v x.n x.m)
+  weighs-same : (w : Wire) (x : Seen w) (n' m' : LinkEndpoint) → StationStands c service tei p w.near n' → StationStands d service tei q w.far m' → (n'.link ≡ x.n.link) × (m'.link ≡ x.m.link) × (weigh v n' m' ≡ weigh v x.n x.m)
   weighs-same w x n' m' near far =
       let near-link = (sym near.speaks.link ∙ x.near.stands.speaks.link) in
       let far-link = (sym far.speaks.link ∙ x.far.stands.speaks.link) in
       let far-way = same-way service tei d q w.far m' x.m far x.far.stands in
       (near-link, far-link, λ i. weigh_of v (near-link i) ((same-way service tei c p w.near n' x.n near x.near.stands) i) (far-link i) (far-way i))
 
-  joins : (moved rest expired others : ℕ) (w' last : Wire) (n m : End) (y : Next w' moved expired n m) (x : Seen w') → Total rest others x.n x.m last → Total (moved + rest) (expired + others) n m last
+  joins : (moved rest expired others : ℕ) (w' last : Wire) (n m : LinkEndpoint) (y : Next w' moved expired n m) (x : Seen w') → Total rest others x.n x.m last → Total (moved + rest) (expired + others) n m last
   joins moved rest expired others w' last n m y x z =
       let same = weighs-same w' x y.n' y.m' y.near y.far in
       record {
@@ -150,7 +150,7 @@ module _ (service : Service) (tei : ℕ) (c d : Config) (p q : ℕ) (face : Face
         falls = grind (arith, weigh);
       }
 
-  runs : (ds : List Doing) → All (IsRoughTalk service tei) ds → (w : Wire) (h : Goes service tei c d p q w)
+  runs : (ds : List StepAt) → All (IsRoughTalk service tei) ds → (w : Wire) (h : Goes service tei c d p q w)
       → Total (moves ds w) (expiries ds) (seen w h).n (seen w h).m (doing_all ds w) ⊎ Errs (doing_all ds w)
   unfolding doing_all moves expiries
   runs [] all w h =
@@ -182,7 +182,7 @@ module _ (service : Service) (tei : ℕ) (c d : Config) (p q : ℕ) (face : Face
 
   -- ---- from the beginning
 
-  from-ringing : (ds : List Doing) → All (IsRoughTalk service tei) ds → (w : Wire) (h : IsRinging service tei c d p q w) → h.waiting ≡ asked.waiting → h.way ≡ []
+  from-ringing : (ds : List StepAt) → All (IsRoughTalk service tei) ds → (w : Wire) (h : IsRinging service tei c d p q w) → h.waiting ≡ asked.waiting → h.way ≡ []
       → HasNoError (doing_all ds w).near → HasNoError (doing_all ds w).far → moves ds w ≤ (2 * v + 8) + (v + 4) * expiries ds + (v + 6) * granted_of (doing_all ds w)
   unfolding seen
   from-ringing ds all w h one none fair-near fair-far = go (runs ds all w (inl h))
@@ -193,7 +193,7 @@ module _ (service : Service) (tei : ℕ) (c d : Config) (p q : ℕ) (face : Face
 
   -- ---- from where both ends are up, as nothing more is accepted and no timer expires
 
-  pub from-up : (ds : List Doing) → All (IsRoughTalk service tei) ds → (w : Wire) (h : IsUp service tei c d p q w) → expiries ds ≡ 0 → granted_of (doing_all ds w) ≡ granted_of w
+  pub from-up : (ds : List StepAt) → All (IsRoughTalk service tei) ds → (w : Wire) (h : IsUp service tei c d p q w) → expiries ds ≡ 0 → granted_of (doing_all ds w) ≡ granted_of w
       → HasNoError (doing_all ds w).near → HasNoError (doing_all ds w).far → moves ds w ≤ weigh v h.n h.m
   unfolding seen
   from-up ds all w h none same fair-near fair-far = go (runs ds all w (inr (inr h)))

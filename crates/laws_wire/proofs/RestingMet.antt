@@ -1,5 +1,5 @@
 -- The premises of the laws on how turns come to an end are met, by worked calls.
-use Rattle.laws_wire.proofs.Vocabulary.{◌≡◌, ◌≤◌, ℕ, ◌*◌, List, [], ◌∷◌, ◌++◌, refl, sym, subst, arith, All, All-nil, All-cons, Call, reading, header_of, control_of, unnumbered_of, supervisory_of, distance_of, named, seq, Data, requests, Doing, at_near, doing_all, IsStill, confirmed, indicated, data_told, granted_of, HasNoError, IsRoughTalk, rounds, moves, expiries, most_frames, StayTimely, user, network, begins, establishes, line_answer, line_takes_slot, line_after, tei_refusal, tei_course}
+use Rattle.laws_wire.proofs.Vocabulary.{◌≡◌, ◌≤◌, ℕ, ◌*◌, List, [], ◌∷◌, ◌++◌, refl, sym, subst, arith, All, All-nil, All-cons, Call, reading, header_of, control_of, unnumbered_of, supervisory_of, distance_of, named, seq, Data, requests, StepAt, at_near, doing_all, IsStill, confirmed, indicated, data_told, granted_of, HasNoError, IsRoughTalk, rounds, moves, expiries, most_frames, StayTimely, user, network, begins, establishes, line_answer, line_takes_slot, line_after, tei_refusal, tei_course}
 use Rattle.laws_wire.specs.WorkedResting.{rejects_one, two_accepted}
 use Rattle.laws_wire.proofs.PremisesMet.{can, IsFair, all-of}
 use Rattle.laws_wire.proofs.RestedRun.{moves-come-to-an-end}
@@ -27,7 +27,7 @@ bounded =
     (omega arith) (omega arith) near-fair far-fair
 
 -- Two contents are accepted, and no frame has gone.
-abbrev accepts_two : List Doing
+abbrev accepts_two : List StepAt
 accepts_two = establishes ++ at_near (requests (Data Call 0 (1 ∷ []))) ∷ at_near (requests (Data Call 0 (2 ∷ []))) ∷ []
 
 timely : StayTimely accepts_two begins

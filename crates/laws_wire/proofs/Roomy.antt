@@ -1,10 +1,10 @@
 -- There is room for each enquiry and each answer of two ends of which neither was ever busy, where three control frames may wait.
-use Rattle.laws_wire.proofs.Vocabulary.{◌≡◌, ℕ, ◌+◌, ◌≤◌, true, false, List, [], ◌∷◌, ◌++◌, length, refl, arith, All, lt-ltb, All-head, All-tail, Parts, ControlFrame, Terms, End, has_room, frames_of, is_enquiry, HasNo, line, Kind, kind_of, kinds_of, kinds-append, tally, one_enquiry, one_answer, one_rejection}
+use Rattle.laws_wire.proofs.Vocabulary.{◌≡◌, ℕ, ◌+◌, ◌≤◌, true, false, List, [], ◌∷◌, ◌++◌, length, refl, arith, All, lt-ltb, All-head, All-tail, Parts, ControlFrame, Terms, LinkEndpoint, has_room, frames_of, is_enquiry, HasNo, line, Kind, kind_of, kinds_of, kinds-append, tally, one_enquiry, one_answer, one_rejection}
 use Rattle.laws_wire.proofs.Firm.{Firm}
 use Rattle.laws_wire.proofs.Tame.{WaitsSo}
 use Rattle.laws_link.proofs.OfTwo.StayingUp.{not-enquiry}
 
-abbrev pub kinds : End → List Kind
+abbrev pub kinds : LinkEndpoint → List Kind
 kinds n = line n.terms n.way n.link.waiting
 
 tally-append : (one : Kind → ℕ) (xs ys : List Kind) → tally one (xs ++ ys) ≡ tally one xs + tally one ys
@@ -21,7 +21,7 @@ count-waits t (f ∷ fs) h =
     count-waits t fs (All-tail WaitsSo f fs h) in
     omega (arith, here, more)
 
-pub roomy : (n m : End) → Firm n m → 3 ≤ n.terms.control → tally one_enquiry (kinds n) + tally one_answer (kinds n) ≤ 1 → has_room n.terms n.link ≡ true
+pub roomy : (n m : LinkEndpoint) → Firm n m → 3 ≤ n.terms.control → tally one_enquiry (kinds n) + tally one_answer (kinds n) ≤ 1 → has_room n.terms n.link ≡ true
 roomy n m h wide few =
     let all = count-waits n.terms n.link.waiting h.near_tame.waiting in
     grind (arith, frames_of, kinds_of, kinds-append, tally-append, lt-ltb)
@@ -42,5 +42,5 @@ none-goes t (f ∷ fs) ws h k =
     let more : tally one_enquiry (line t fs ws) ≡ 0 = none-goes t fs ws (All-tail (λ f. is_enquiry f.address.command f.control ≡ false) f fs h) k in
     omega (arith, here, more)
 
-pub none-asked : (n : End) → HasNo is_enquiry n → tally one_enquiry (kinds n) ≡ 0
+pub none-asked : (n : LinkEndpoint) → HasNo is_enquiry n → tally one_enquiry (kinds n) ≡ 0
 none-asked n h = none-goes n.terms n.way n.link.waiting h.way h.waiting

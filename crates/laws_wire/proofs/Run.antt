@@ -1,5 +1,5 @@
 -- A whole call: how many turns there are, what layer 3 was told so far, and what it was told where no turn is left.
-use Rattle.laws_wire.proofs.Vocabulary.{◌≡◌, ℕ, ◌+◌, ◌*◌, ◌≤◌, Bool, true, false, ◌||◌, List, [], ◌∷◌, map, take, None, refl, sym, ap, subst, ◌∙◌, inl, inr, arith, All, if◌then◌else◌, All-head, All-tail, Service, spelling, other_side, fresh, given, IsInRange, End, Config, LineTold, next, gave, terms, terms_in_range, Pair, all-there, nothing-given, Station, Wire, Doing, turned, doing, IsStill, answered, calling, IsCall, calls_back, confirmed, data_told, told_first, IsBeginningOf, CanCall, ComesThrough, CallsComeThrough}
+use Rattle.laws_wire.proofs.Vocabulary.{◌≡◌, ℕ, ◌+◌, ◌*◌, ◌≤◌, Bool, true, false, ◌||◌, List, [], ◌∷◌, map, take, None, refl, sym, ap, subst, ◌∙◌, inl, inr, arith, All, if◌then◌else◌, All-head, All-tail, Service, spelling, other_side, fresh, given, IsInRange, LinkEndpoint, Config, LineTold, next, gave, terms, terms_in_range, Pair, all-there, nothing-given, Endpoint, Wire, StepAt, turned, doing, IsStill, answered, calling, IsCall, calls_back, confirmed, data_told, told_first, IsBeginningOf, CanCall, ComesThrough, CallsComeThrough}
 use Rattle.laws_link.specs.two.Rounds.{HasArrived}
 unfoldable use Rattle.laws_wire.specs.Wire.{doing_all, turns}
 unfoldable use Rattle.laws_wire.specs.Call.{both_call}
@@ -23,7 +23,7 @@ pub or-both : (a b c : Bool) → ((a || b) || c) ≡ (a || (b || c))
 or-both a b c = grind arith
 
 -- where two ends that are up are still, all has arrived
-pub arrived : (n m : End) → Pair (pair_of n m) → given n.terms n.link ≡ None → given m.terms m.link ≡ None → n.way ≡ [] → m.way ≡ []
+pub arrived : (n m : LinkEndpoint) → Pair (pair_of n m) → given n.terms n.link ≡ None → given m.terms m.link ≡ None → n.way ≡ [] → m.way ≡ []
     → HasArrived n.link.contents n m × HasArrived m.link.contents m n
 arrived n m p no-n no-m way-n way-m =
     all-there [] (pair_of n m) (pair_of n m) (record { pair = p; bounded = omega arith; near_kept = refl; far_kept = refl })
@@ -31,8 +31,8 @@ arrived n m p no-n no-m way-n way-m =
 
 -- what becomes of a call
 pub record AreUp (service : Service) (tei : ℕ) (c d : Config) (p q : ℕ) (note : LineTold) (w : Wire) : Type 0 where
-  pub n : End
-  pub m : End
+  pub n : LinkEndpoint
+  pub m : LinkEndpoint
   pub talk : Talk service tei c d p q (after_note (confirmed service tei)) (after_note note) w n m
 
 -- what layer 3 of each was told, where no turn is left, and at any time
@@ -45,19 +45,19 @@ pub record ToldSoFar (service : Service) (tei : ℕ) (note : LineTold) (w : Wire
   pub far : IsBeginningOf (note ∷ map (data_told service tei) w.near.granted) w.far.told
 
 module _ (service : Service) (tei : ℕ) where
-  pub none-given : (k : Config) (place : ℕ) (first : Past) (s : Station) (n : End) → Holds k service tei place first s n → answered next s ≡ gave None → given n.terms n.link ≡ None
+  pub none-given : (k : Config) (place : ℕ) (first : Past) (s : Endpoint) (n : LinkEndpoint) → Holds k service tei place first s n → answered next s ≡ gave None → given n.terms n.link ≡ None
   none-given k place first s n h e = still-gives-none service tei place s n (subst (λ k. StationStands k service tei place s n) (sym h.stands.config) h.stands) e
 
-  pub way-empty : (k : Config) (place : ℕ) (first : Past) (s : Station) (n : End) → Holds k service tei place first s n → s.way ≡ [] → n.way ≡ []
+  pub way-empty : (k : Config) (place : ℕ) (first : Past) (s : Endpoint) (n : LinkEndpoint) → Holds k service tei place first s n → s.way ≡ [] → n.way ≡ []
   way-empty k place first s n h e = no-way (spelling k.side) n.way (sym h.stands.way ∙ e)
 
-  by-pair : (first : LineTold) (k : Config) (place : ℕ) (other s : Station) (m n : End) → Holds k service tei place (after_note first) s n → other.granted ≡ m.link.contents
+  by-pair : (first : LineTold) (k : Config) (place : ℕ) (other s : Endpoint) (m n : LinkEndpoint) → Holds k service tei place (after_note first) s n → other.granted ≡ m.link.contents
       → n.delivered ≡ take n.link.r m.link.contents → IsBeginningOf (first ∷ map (data_told service tei) other.granted) s.told
   by-pair first k place other s m n h granted delivered =
       then-data service tei first n.link.r other.granted s.told
       (all-told k service tei place (first ∷ []) s n h ∙ ap (λ xs. first ∷ map (data_told service tei) xs) (delivered ∙ ap (take n.link.r) (sym granted)))
 
-  not-yet : (first : LineTold) (k : Config) (place : ℕ) (other s : Station) (n : End) → Holds k service tei place unheard s n → n.delivered ≡ [] → IsBeginningOf (first ∷ map (data_told service tei) other.granted) s.told
+  not-yet : (first : LineTold) (k : Config) (place : ℕ) (other s : Endpoint) (n : LinkEndpoint) → Holds k service tei place unheard s n → n.delivered ≡ [] → IsBeginningOf (first ∷ map (data_told service tei) other.granted) s.told
   not-yet first k place other s n h none = at-first service tei first other.granted s.told (none-told k service tei place [] s n h none)
 
   up-told : (note : LineTold) (c d : Config) (p q : ℕ) (w : Wire) → AreUp service tei c d p q note w → IsStill w → ToldAll service tei note w
@@ -98,12 +98,12 @@ module _ (service : Service) (tei : ℕ) where
     abbrev pub On : Bool → Wire → ℕ → Type 0
     On both w k = Goes service tei few c d p q face back rt ru both w k
 
-    pub record Ran (both : Bool) (ds : List Doing) (w : Wire) (before : ℕ) : Type 0 where
+    pub record Ran (both : Bool) (ds : List StepAt) (w : Wire) (before : ℕ) : Type 0 where
       pub weight : ℕ
       pub goes : On (both || both_call ds w) (doing_all ds w) weight
       pub price : turns ds w + weight + (4 * granted_of w + cost both) ≤ before + (4 * granted_of (doing_all ds w) + cost (both || both_call ds w))
 
-    pub runs : (ds : List Doing) → All (IsCall service tei) ds → (both : Bool) (w : Wire) (k : ℕ) → On both w k → Ran both ds w k
+    pub runs : (ds : List StepAt) → All (IsCall service tei) ds → (both : Bool) (w : Wire) (k : ℕ) → On both w k → Ran both ds w k
     unfolding doing_all turns both_call
     runs [] all both w k h = record { weight = k; goes = subst (λ y. On y w k) (or-none both) h; price = (omega (arith, (ap (λ y. 4 * granted_of w + cost y) (or-none both)))) }
     runs (x ∷ ds) all both w k h =
@@ -135,7 +135,7 @@ module _ (service : Service) (tei : ℕ) where
         let x = half-up (confirmed service tei) d c q p back face ru (turned w) k h (record { near = still.far; far = still.near; near_way = still.far_way; far_way = still.near_way }) in
         record { n = x.m; m = x.n; talk = (record { near = x.talk.far; far = x.talk.near; pair = turned-pair x.n x.m x.talk.pair }) }
 
-    neither-told : (note : LineTold) (w : Wire) (n m : End) → Both service tei c d p q unheard unheard w n m → n.delivered ≡ [] → m.delivered ≡ [] → ToldSoFar service tei note w
+    neither-told : (note : LineTold) (w : Wire) (n m : LinkEndpoint) → Both service tei c d p q unheard unheard w n m → n.delivered ≡ [] → m.delivered ≡ [] → ToldSoFar service tei note w
     neither-told note w n m h none none' = record { near = not-yet (confirmed service tei) c p w.far w.near n h.near none; far = not-yet note d q w.near w.far m h.far none' }
 
     pub told-so_far : (both : Bool) (w : Wire) (k : ℕ) → On both w k → ToldSoFar service tei (told_first service tei both) w
@@ -150,7 +150,7 @@ module _ (service : Service) (tei : ℕ) where
 few-turns : (both : Bool) (b k g g' : ℕ) → b + k + (4 * g + 0) ≤ 4 + (4 * g' + cost both) → b ≤ (if both then 8 else 4) + 4 * g'
 few-turns both b k g g' h = grind arith
 
-module _ (service : Service) (c d : Config) (line other tei : ℕ) (ds : List Doing) (can : CanCall c line d other tei) (called : All (IsCall service tei) ds) where
+module _ (service : Service) (c d : Config) (line other tei : ℕ) (ds : List StepAt) (can : CanCall c line d other tei) (called : All (IsCall service tei) ds) where
   face : Face c d
   face = record { side = sym can.opposite.0; n201 = can.opposite.1 }
 

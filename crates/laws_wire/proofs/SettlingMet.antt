@@ -1,5 +1,5 @@
 -- The premises of the law that a call with losses comes to rest are met by the worked calls.
-use Rattle.laws_wire.proofs.Vocabulary.{◌≡◌, ℕ, ◌≤◌, [], ◌∷◌, refl, sym, subst, arith, All, Call, reading, header_of, control_of, unnumbered_of, supervisory_of, distance_of, named, seq, Data, SetBusy, ClearBusy, requests, times_out, at_near, at_far, doing_all, IsStill, confirmed, heard_in, IsFullTalk, StayPatient, MayRepeat, BothMayRepeat, rounds, with_t200_expired, moves, begins, user, network, line_answer, line_takes_slot, line_after, tei_refusal, tei_course, IsAtRest, uncalled, seen, most_moves, none_busy, busy, near_expires, HasLeft, HasTold}
+use Rattle.laws_wire.proofs.Vocabulary.{◌≡◌, ℕ, ◌≤◌, [], ◌∷◌, refl, sym, subst, arith, All, Call, reading, header_of, control_of, unnumbered_of, supervisory_of, distance_of, named, seq, Data, SetBusy, ClearBusy, requests, expires, at_near, at_far, doing_all, IsStill, confirmed, heard_in, IsFullTalk, StayPatient, MayRepeat, BothMayRepeat, rounds, with_t200_expired, moves, begins, user, network, line_answer, line_takes_slot, line_after, tei_refusal, tei_course, IsAtRest, uncalled, seen, most_moves, none_busy, busy, near_expires, HasLeft, HasTold}
 use Rattle.lapd_frame.specs.declared.timers.Timer.TheVariants.{T200}
 use Rattle.laws_wire.specs.WorkedAnswering.{loses_ua}
 use Rattle.laws_wire.specs.WorkedSettling.{is_ready, ready, ready_seen, ready_free, ready_still, ready_near, ready_left, ua_lost, lost_near, lost_still}
@@ -15,8 +15,8 @@ full =
     let near : IsFullTalk Call 0 (at_near (requests (Data Call 0 (1 ∷ [])))) = (refl, refl) in
     let busy : IsFullTalk Call 0 (at_far (requests (SetBusy Call 0))) = (refl, refl) in
     let ready : IsFullTalk Call 0 (at_far (requests (ClearBusy Call 0))) = (refl, refl) in
-    let expires : IsFullTalk Call 0 (at_near (times_out (T200 Call 0))) = (refl, refl) in
-    all-of (IsFullTalk Call 0) is_ready (tt, (tt, (tt, (tt, (expires, (tt, (tt, (tt, (tt, (busy, (near, (tt, (tt, (tt, (tt, (ready, (tt, (tt, tt))))))))))))))))))
+    let expiring : IsFullTalk Call 0 (at_near (expires (T200 Call 0))) = (refl, refl) in
+    all-of (IsFullTalk Call 0) is_ready (tt, (tt, (tt, (tt, (expiring, (tt, (tt, (tt, (tt, (busy, (near, (tt, (tt, (tt, (tt, (ready, (tt, (tt, tt))))))))))))))))))
 
 patient : StayPatient is_ready begins
 patient = both-patient loses_ua _ begins patient-first (only-turns _ refl (doing_all loses_ua begins))

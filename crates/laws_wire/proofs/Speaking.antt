@@ -1,5 +1,5 @@
 -- What layer 3 is told by an event of a link.
-use Rattle.laws_wire.proofs.Vocabulary.{◌≡◌, ℕ, ◌+◌, ◌≤◌, List, [], ◌∷◌, length, map, Some, sym, subst, eq-eqb, arith, All, slice_get, option_to_list, if◌then◌else◌, option_or, le-ltb, seq, named, Parts, Terms, Link, received, course, End, unserved_cause, LineTold, named-number, fits-at, Informs, Lane, lane-low, lane-order, Steady, is-steady, unwrap_or, frame, Course, Direction, tells_nothing, data_told}
+use Rattle.laws_wire.proofs.Vocabulary.{◌≡◌, ℕ, ◌+◌, ◌≤◌, List, [], ◌∷◌, length, map, Some, sym, subst, eq-eqb, arith, All, slice_get, option_to_list, if◌then◌else◌, option_or, le-ltb, seq, named, Parts, Terms, Link, received, course, LinkEndpoint, unserved_cause, LineTold, named-number, fits-at, Informs, Lane, lane-low, lane-order, Steady, is-steady, unwrap_or, frame, Course, Direction, tells_nothing, data_told}
 
 -- what a course tells, but orders
 abbrev pub heard_by : Course → LineTold
@@ -12,7 +12,7 @@ said_by c = if tells_nothing (heard_by c) then [] else heard_by c ∷ []
 abbrev pub TellsData : Terms → Course → Type 0
 TellsData t c = said_by c ≡ map (data_told t.service t.tei) (option_to_list c.delivered)
 
-module _ (n m : End) (hn : Steady n) (hm : Steady m) (there : Direction n m) (back : Direction m n) where
+module _ (n m : LinkEndpoint) (hn : Steady n) (hm : Steady m) (there : Direction n m) (back : Direction m n) where
   names : (v : ℕ) → m.link.a ≤ v → v ≤ n.link.r → named m.link.a m.link.s (seq v) ≡ Some v
   names v low up = grind (arith, named-number, lane-order)
 

@@ -1,5 +1,5 @@
 -- A station at whose line one link alone speaks stands for an end of two links that face each other.
-use Rattle.laws_wire.proofs.Vocabulary.{arith, ◌≡◌, ℕ, ◌+◌, ◌<◌, ◌≤◌, Bool, true, false, cond, List, [], ◌++◌, length, map, set, Option, Some, None, IfSome, option_map, Ok, refl, sym, ap, subst, ◌∙◌, ◌⊎◌, inl, inr, append-nil, All, get_or-set_same, set-get_or, map-append, All-nil, All-cons, All-append, Refusal, PoolFull, Service, Timer, Parts, spelling, reading, sapi_of, Terms, LinkTimer, frame_of, Given, End, with_link, with_sent, frame_given, given_is_frame, Config, came, hears, expiry, request, next, Answer, refused, gave, at_timer, aim_of_expiry, Line, fresh_line, place_in, link_number, terms, unless_refused, unless_refused_told, of_request, heard_side, with_given_frame, next_of, Request, at_requested, aim_of_request, sound_in, given_short, terms_in_range, Card, line_at, wants_room, after_is_sound, has_lines, line_sound, Event, Station, answered, happens, comes, told_by, frames_by, contents_requested, line_answer, line_takes_slot, line_after}
+use Rattle.laws_wire.proofs.Vocabulary.{arith, ◌≡◌, ℕ, ◌+◌, ◌<◌, ◌≤◌, Bool, true, false, cond, List, [], ◌++◌, length, map, set, Option, Some, None, IfSome, option_map, Ok, refl, sym, ap, subst, ◌∙◌, ◌⊎◌, inl, inr, append-nil, All, get_or-set_same, set-get_or, map-append, All-nil, All-cons, All-append, Refusal, PoolFull, Service, Timer, Parts, spelling, reading, sapi_of, Terms, LinkTimer, frame_of, Given, LinkEndpoint, with_link, with_sent, frame_given, given_is_frame, Config, came, hears, expiry, request, next, Answer, refused, gave, at_timer, aim_of_expiry, Line, fresh_line, place_in, link_number, terms, unless_refused, unless_refused_told, of_request, heard_side, with_given_frame, next_of, Request, at_requested, aim_of_request, sound_in, given_short, terms_in_range, Card, line_at, wants_room, after_is_sound, has_lines, line_sound, Event, Endpoint, answered, happens, frame_comes, told_by, frames_by, contents_requested, line_answer, line_takes_slot, line_after}
 use Rattle.std.specs.Option.{unwrap_or}
 use Rattle.model_bits.specs.Stream.{frame}
 use Rattle.model_link.specs.Events as link
@@ -23,7 +23,7 @@ pub record IsCarried (c : Config) (service : Service) (tei : ℕ) (f : Parts) : 
   pub sapi : f.address.sapi ≡ sapi_of service
   pub by : f.address.tei ≡ tei
 
-pub record StationStands (c : Config) (service : Service) (tei place : ℕ) (s : Station) (n : End) : Type 0 where
+pub record StationStands (c : Config) (service : Service) (tei place : ℕ) (s : Endpoint) (n : LinkEndpoint) : Type 0 where
   pub config : s.card.config ≡ c
   pub sound : card_sound.IsSound s.card
   pub within : s.line < c.lines
@@ -32,7 +32,7 @@ pub record StationStands (c : Config) (service : Service) (tei place : ℕ) (s :
   pub way : s.way ≡ map (spelling c.side) n.way
   pub carried : All (IsCarried c service tei) n.way
 
-module _ (service : Service) (tei place : ℕ) (s : Station) (n : End) (h : StationStands s.card.config service tei place s n) where
+module _ (service : Service) (tei place : ℕ) (s : Endpoint) (n : LinkEndpoint) (h : StationStands s.card.config service tei place s n) where
   abbrev m : Card
   m = s.card
 
@@ -64,7 +64,7 @@ module _ (service : Service) (tei place : ℕ) (s : Station) (n : End) (h : Stat
   there l' m' is = grind (arith, get_or-set_same)
 
   -- so it stands for another end
-  pub stands-then : (e : Event) (n' : End) → n'.terms ≡ n.terms → Speaks c service tei place n'.link (line_at s.line (after (event_at s.line e) m))
+  pub stands-then : (e : Event) (n' : LinkEndpoint) → n'.terms ≡ n.terms → Speaks c service tei place n'.link (line_at s.line (after (event_at s.line e) m))
       → (happens e s).way ≡ map (spelling c.side) n'.way → All (IsCarried c service tei) n'.way → StationStands c service tei place (happens e s) n'
   stands-then e n' same-terms speaks way carried = assumption (after_is_sound m (event_at s.line e) h.sound h.within, speaks, same-terms ∙ h.terms, way, carried)
 
@@ -115,7 +115,7 @@ module _ (service : Service) (tei place : ℕ) (s : Station) (n : End) (h : Stat
     abbrev it : Event
     it = hears (came c.n201 octets)
 
-    pub takes-stands : StationStands c service tei place (comes octets s) (with_link (link.received (link.frame f)) n)
+    pub takes-stands : StationStands c service tei place (frame_comes octets s) (with_link (link.received (link.frame f)) n)
     unfolding line_takes_slot
     takes-stands =
         let e = link.received (link.frame f) in
@@ -125,7 +125,7 @@ module _ (service : Service) (tei place : ℕ) (s : Station) (n : End) (h : Stat
         (comes-on c service tei place l own-sound n.link h.speaks f octets whole read sapi by)))
         (takes-way octets s ∙ h.way) h.carried
 
-    pub takes-told : (comes octets s).told ≡ s.told ++ said_by (links.course n.terms (link.received (link.frame f)) n.link)
+    pub takes-told : (frame_comes octets s).told ≡ s.told ++ said_by (links.course n.terms (link.received (link.frame f)) n.link)
     unfolding line_takes_slot
     takes-told = grind (arith, comes-told, own-sound, said_by)
 
@@ -139,14 +139,14 @@ module _ (service : Service) (tei place : ℕ) (s : Station) (n : End) (h : Stat
     asks = request r
 
     -- granted, or nothing comes of it
-    pub record Granted (s' : Station) : Type 0 where
+    pub record Granted (s' : Endpoint) : Type 0 where
       pub none : refusal c false r l ≡ None
       pub answer : is_granted (wire.answered asks s) ≡ true
       pub stands : StationStands c service tei place s' (with_link e n)
       pub granted : s'.granted ≡ s.granted ++ contents_requested r
       pub told : s'.told ≡ s.told ++ said_by (links.course n.terms e n.link)
 
-    abbrev made : Card → Answer → Station
+    abbrev made : Card → Answer → Endpoint
     made m' a = record s {
       card = m';
       way = s.way ++ frames_by a;

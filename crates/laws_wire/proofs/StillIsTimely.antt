@@ -1,5 +1,5 @@
 -- Where T200 expires only as no turn is left it is long enough: the law with this premise follows.
-use Rattle.laws_wire.proofs.Vocabulary.{arith, ◌≡◌, ℕ, false, List, [], ◌∷◌, inl, inr, All, list_any, All-head, All-tail, Service, fresh, IsInRange, End, Config, LineTold, expiry, terms, Station, Wire, happens, Act, Doing, at_near, at_far, turned, doing, doing_all, IsStill, calling, is_error, HasNoError, answered, told_by, IsRoughTalkOf, IsRoughTalk, IsNoneOpen, MayRepeat, IsTimelyOf, IsTimely, StayTimely, IsStillOf, IsStillDoing, StayStill, WhatIsLostArrivesFromRest, all-right}
+use Rattle.laws_wire.proofs.Vocabulary.{arith, ◌≡◌, ℕ, false, List, [], ◌∷◌, inl, inr, All, list_any, All-head, All-tail, Service, fresh, IsInRange, LinkEndpoint, Config, LineTold, expiry, terms, Endpoint, Wire, happens, EndStep, StepAt, at_near, at_far, turned, doing, doing_all, IsStill, calling, is_error, HasNoError, answered, told_by, IsRoughTalkOf, IsRoughTalk, IsNoneOpen, MayRepeat, IsTimelyOf, IsTimely, StayTimely, IsStillOf, IsStillStepAt, StayStill, WhatIsLostArrivesFromRest, all-right}
 use Rattle.lapd_frame.specs.declared.timers.Timer.TheVariants.{T200}
 use Rattle.laws_wire.proofs.Awaited.{open-here}
 use Rattle.laws_wire.proofs.Calling.{end}
@@ -14,7 +14,7 @@ use Rattle.laws_wire.proofs.TimelyRun.{starts, step, what-is-lost-arrives}
 use Rattle.laws_wire.proofs.TimelyUp.{each-timer, hushed, none-open}
 
 -- where no error is told as T200 expires N200 is not used up
-fair-may : (service : Service) (tei : ℕ) (s : Station) → HasNoError (happens (expiry (T200 service tei)) s) → MayRepeat service tei s
+fair-may : (service : Service) (tei : ℕ) (s : Endpoint) → HasNoError (happens (expiry (T200 service tei)) s) → MayRepeat service tei s
 fair-may service tei s fair = all-right (λ (t : LineTold). list_any is_error t.notes ≡ false) s.told (told_by (answered (expiry (T200 service tei)) s)) fair
 
 still-turned : (w : Wire) → IsStill (turned w) → IsStill w
@@ -27,7 +27,7 @@ module _ (service : Service) (tei : ℕ) (c d : Config) (p q : ℕ) (face : Face
   abbrev BothOpen : Wire → Type 0
   BothOpen w = IsNoneOpen w.near w.far × IsNoneOpen w.far w.near
 
-  of-ends : (w : Wire) (past other : List LineTold) (n m : End) → Held c service tei p past w.near n → Held d service tei q other w.far m → IsStill w → BothOpen w
+  of-ends : (w : Wire) (past other : List LineTold) (n m : LinkEndpoint) → Held c service tei p past w.near n → Held d service tei q other w.far m → IsStill w → BothOpen w
   of-ends w past other n m near far still =
       let near-hushed = hushed service tei c p past w.near n near still.near still.near_way in
       let far-hushed = hushed service tei d q other w.far m far still.far still.far_way in (
@@ -43,14 +43,14 @@ module _ (service : Service) (tei : ℕ) (c d : Config) (p q : ℕ) (face : Face
   both-open w (inr (inr (inr (inr (inl h))))) still = absurd (comes-still service tei c d p q face back rt ru w h.m h.is still)
   both-open w (inr (inr (inr (inr (inr h))))) still = of-ends w _ _ h.n h.m h.up.near h.up.far still
 
-  near-timely : (act : Act) → IsRoughTalkOf service tei act → (w : Wire) → (IsStill w → IsNoneOpen w.near w.far) → IsStillOf act w → IsTimelyOf act w
+  near-timely : (act : EndStep) → IsRoughTalkOf service tei act → (w : Wire) → (IsStill w → IsNoneOpen w.near w.far) → IsStillOf act w → IsTimelyOf act w
   near-timely act is w open_ x = grind (arith, each-timer, fair-may)
 
-  one : (k : Doing) → IsRoughTalk service tei k → (w : Wire) → On w → IsStillDoing k w → IsTimely k w
+  one : (k : StepAt) → IsRoughTalk service tei k → (w : Wire) → On w → IsStillStepAt k w → IsTimely k w
   one (at_near act) is w h x = near-timely act is w (λ still. (both-open w h still).0) x
   one (at_far act) is w h x = (near-timely act is (turned w) (λ still. (both-open w h (still-turned w still)).1) x.0, grind arith)
 
-  pub all : (ds : List Doing) → All (IsRoughTalk service tei) ds → (w : Wire) → On w → StayStill ds w → StayTimely ds w
+  pub all : (ds : List StepAt) → All (IsRoughTalk service tei) ds → (w : Wire) → On w → StayStill ds w → StayTimely ds w
   unfolding StayStill StayTimely
   all [] rough w h x = tt
   all (k ∷ ds) rough w h x =

@@ -1,5 +1,5 @@
 -- An end that rings, whatever the other does.
-use Rattle.laws_wire.proofs.Vocabulary.{◌≡◌, ℕ, false, List, [], map, drop, None, sym, ap, subst, ◌∙◌, ◌⊎◌, inl, inr, All, option_to_list, Service, Timer, Parts, ControlFrame, Terms, LinkTimer, course, End, with_link, with_sent, Config, terms, expiry, request, next, refusal, Course, Data, Station, happens, with_first_lost, LinkData, expired}
+use Rattle.laws_wire.proofs.Vocabulary.{◌≡◌, ℕ, false, List, [], map, drop, None, sym, ap, subst, ◌∙◌, ◌⊎◌, inl, inr, All, option_to_list, Service, Timer, Parts, ControlFrame, Terms, LinkTimer, course, LinkEndpoint, with_link, with_sent, Config, terms, expiry, request, next, refusal, Course, Data, Endpoint, happens, without_first, LinkData, expired}
 use Rattle.model_link.specs.declared.timers.LinkTimer.TheVariants as link_timer
 use Rattle.laws_wire.proofs.Calling.{end}
 use Rattle.laws_wire.proofs.Fair.{HasError}
@@ -11,15 +11,15 @@ module _ (service : Service) (tei : ℕ) (c : Config) (p : ℕ) where
   abbrev t : Terms
   t = terms c service tei
 
-  pub record StillRings (s : Station) : Type 0 where
+  pub record StillRings (s : Endpoint) : Type 0 where
     pub repeats : ℕ
     pub waiting : List ControlFrame
     pub way : List Parts
     pub held : Held c service tei p [] s (end t (ringing repeats waiting) way)
     pub sabmes : AreSabmes t way waiting
 
-  module _ (s : Station) (k : ℕ) (ws : List ControlFrame) (way : List Parts) (h : Held c service tei p [] s (end t (ringing k ws) way)) (sabmes : AreSabmes t way ws) where
-    abbrev rung : End
+  module _ (s : Endpoint) (k : ℕ) (ws : List ControlFrame) (way : List Parts) (h : Held c service tei p [] s (end t (ringing k ws) way)) (sabmes : AreSabmes t way ws) where
+    abbrev rung : LinkEndpoint
     rung = end t (ringing k ws) way
 
     pub rings-asks : (octets : List ℕ) → StillRings (happens (request (Data service tei octets)) s)
@@ -35,7 +35,7 @@ module _ (service : Service) (tei : ℕ) (c : Config) (p : ℕ) where
         x : Course
         x = course t (expired its) (ringing k ws)
 
-        s' : Station
+        s' : Endpoint
         s' = happens (expiry timer) s
 
         by : (timer : LinkTimer) → HasError (course t (expired timer) (ringing k ws)).notes ⊎ Rings k ws (course t (expired timer) (ringing k ws))
@@ -69,7 +69,7 @@ module _ (service : Service) (tei : ℕ) (c : Config) (p : ℕ) where
           sabmes = subst (All (IsSabme t)) (sym x.line) sabmes;
         }
 
-    pub rings-loses : StillRings (with_first_lost s)
+    pub rings-loses : StillRings (without_first s)
     rings-loses = record {
       repeats = k;
       waiting = ws;

@@ -1,6 +1,6 @@
 -- What an end sends arrives for sure once it has asked, where nothing more is lost: it awaits the answer, or nothing that it sent is
 -- missing. What it does itself leaves that so.
-use Rattle.laws_wire.proofs.Vocabulary.{◌≡◌, ℕ, ◌+◌, ◌≤◌, true, false, IsTrue, List, [], ◌∷◌, ◌++◌, refl, sym, ap, subst, ◌∙◌, ◌⊎◌, inl, inr, arith, Parts, Seq, seq, Established, TimerRecovery, LinkTimer, received, expired, Link, is_multiple_frame, is_running, End, with_link, with_sent, has_room, frames_of, named-means, Means, Rising, rising-low, named-within, frame-taken, named-is_seq, is_recovering, Heard, Flow, most, answer-says, no-answer, offer-goes, named-number, heard, line, Longer, line-longer, NoAlien, is-no-alien, Kind, numbered, enquiry, answer, report, rejection, alien, kind_of, kinds_of, kinds-append, tally, tally-push, one_enquiry, one_answer, Calm, T200, frame, after, line_of}
+use Rattle.laws_wire.proofs.Vocabulary.{◌≡◌, ℕ, ◌+◌, ◌≤◌, true, false, IsTrue, List, [], ◌∷◌, ◌++◌, refl, sym, ap, subst, ◌∙◌, ◌⊎◌, inl, inr, arith, Parts, Seq, seq, Established, TimerRecovery, LinkTimer, received, expired, Link, is_multiple_frame, is_running, LinkEndpoint, with_link, with_sent, has_room, frames_of, named-means, Means, Rising, rising-low, named-within, frame-taken, named-is_seq, is_recovering, Heard, Flow, most, answer-says, no-answer, offer-goes, named-number, heard, line, Longer, line-longer, NoAlien, is-no-alien, Kind, numbered, enquiry, answer, report, rejection, alien, kind_of, kinds_of, kinds-append, tally, tally-push, one_enquiry, one_answer, Calm, T200, frame, after, line_of}
 use Rattle.laws_link.specs.two.Timely.{IsTimely}
 use Rattle.laws_wire.proofs.Dense.{Dense, dense-push, dense-next, calm-dense, dense-beyond, Reaches, reaches-low, reaches-flat, Owed}
 use Rattle.laws_wire.proofs.Firm.{Firm}
@@ -10,23 +10,23 @@ use Rattle.laws_link.proofs.OfTwo.Flowing.{one-at-most}
 use Rattle.laws_link.proofs.OfTwo.TimelyRuns.{flows-low}
 
 -- It awaits the answer to an enquiry, and one of both is on its way.
-pub record Asking (n m : End) : Type 0 where
+pub record Asking (n m : LinkEndpoint) : Type 0 where
   pub state : n.link.state ≡ TimerRecovery
   pub open_ : 1 ≤ tally one_enquiry (kinds n) + tally one_answer (kinds m)
 
 -- All that it sent and the other has not received is on its way, and what is acknowledged comes to that.
-pub record Steady (n m : End) : Type 0 where
+pub record Steady (n m : LinkEndpoint) : Type 0 where
   pub state : n.link.state ≡ Established
   pub dense : Dense m.link.r n.link.s (kinds n)
   pub owed : Owed n.link.a m.link.r m.link.pending (line_of m)
 
-abbrev pub Sure : End → End → Type 0
+abbrev pub Sure : LinkEndpoint → LinkEndpoint → Type 0
 Sure n m = Asking n m ⊎ Steady n m
 
 pub longer-tally : (one : Kind → ℕ) (xs ys : List Kind) (x : Kind) → Longer xs ys x → tally one xs ≤ tally one ys
 longer-tally one xs ys x o = grind (arith, tally-push)
 
-module _ (n m : End) (h : Firm n m) (wide : 3 ≤ n.terms.control) where
+module _ (n m : LinkEndpoint) (h : Firm n m) (wide : 3 ≤ n.terms.control) where
   -- what it has asked, and answered, is one frame each at most
   asked : tally one_enquiry (kinds n) + tally one_answer (kinds m) ≤ most (is_recovering n.link.state)
   asked = h.there.asked
@@ -82,14 +82,14 @@ module _ (n m : End) (h : Firm n m) (wide : 3 ≤ n.terms.control) where
 
 -- ---- what it hears
 
-module _ (n m : End) (h : Firm n m) (p : Parts) (fs : List Parts) (first : m.way ≡ p ∷ fs) where
+module _ (n m : LinkEndpoint) (h : Firm n m) (p : Parts) (fs : List Parts) (first : m.way ≡ p ∷ fs) where
   abbrev l' : Link
   l' = after n.terms (received (frame p)) n.link
 
-  abbrev n' : End
+  abbrev n' : LinkEndpoint
   n' = with_link (received (frame p)) n
 
-  abbrev m' : End
+  abbrev m' : LinkEndpoint
   m' = record m { way = fs }
 
   abbrev x : Kind

@@ -1,5 +1,5 @@
 -- What the other end does leaves what an end sends as sure as it was, where nothing more is lost.
-use Rattle.laws_wire.proofs.Vocabulary.{◌≡◌, ℕ, ◌+◌, ◌≤◌, Bool, true, IsTrue, List, [], ◌∷◌, refl, sym, ap, subst, ◌∙◌, inl, inr, eq-eqb, arith, Control, Parts, LinkTimer, Terms, received, expired, Link, is_multiple_frame, frame_of, frame_step, begun, End, with_link, has_room, ready_to_receive, response, frames_of, Rising, is_recovering, Heard, most, heard, line, line-longer, NoAlien, Kind, numbered, enquiry, alien, kind_of, kinds_of, kinds-append, tally, tally-push, one_enquiry, one_answer, frame, after, line_of}
+use Rattle.laws_wire.proofs.Vocabulary.{◌≡◌, ℕ, ◌+◌, ◌≤◌, Bool, true, IsTrue, List, [], ◌∷◌, refl, sym, ap, subst, ◌∙◌, inl, inr, eq-eqb, arith, Control, Parts, LinkTimer, Terms, received, expired, Link, is_multiple_frame, frame_of, frame_step, begun, LinkEndpoint, with_link, has_room, rr_or_rnr, response, frames_of, Rising, is_recovering, Heard, most, heard, line, line-longer, NoAlien, Kind, numbered, enquiry, alien, kind_of, kinds_of, kinds-append, tally, tally-push, one_enquiry, one_answer, frame, after, line_of}
 use Rattle.laws_link.specs.two.Timely.{IsTimely}
 use Rattle.laws_wire.proofs.Dense.{Replies, reaches-push}
 use Rattle.laws_wire.proofs.Firm.{Firm}
@@ -13,8 +13,8 @@ replied-tally : (r : ℕ) (owes owes' : Bool) (fs fs' : List Parts) → Replies 
 replied-tally r owes owes' fs fs' o = grind (arith, one_answer, kinds_of, kind_of, kinds-append, tally-push)
 
 -- The other end has the same V(R), and says nothing, or has it in what it says.
-module _ (n m : End) (rising : Rising m.link.a n.link.r (line_of n)) (l' : Link) (way : List Parts) (ds : List (List ℕ)) where
-  abbrev then : End
+module _ (n m : LinkEndpoint) (rising : Rising m.link.a n.link.r (line_of n)) (l' : Link) (way : List Parts) (ds : List (List ℕ)) where
+  abbrev then : LinkEndpoint
   then = record n { link = l'; way = way; delivered = ds }
 
   pub sure-replied : l'.r ≡ n.link.r → Replies n.link.r n.link.pending l'.pending (line_of n) (line_of then) → Sure m n → Sure m then
@@ -23,7 +23,7 @@ module _ (n m : End) (rising : Rising m.link.a n.link.r (line_of n)) (l' : Link)
       inl (record { state = q.state; open_ = omega (arith, q.open_, more) })
   sure-replied same says (inr q) = grind (arith, kinds, reaches-push)
 
-module _ (n m : End) (h : Firm n m) (wide : 3 ≤ n.terms.control) where
+module _ (n m : LinkEndpoint) (h : Firm n m) (wide : 3 ≤ n.terms.control) where
   pub other-expires : (timer : LinkTimer) → IsTimely timer n m → IsTrue (is_multiple_frame (after n.terms (expired timer) n.link).state) → Sure m n → Sure m (with_link (expired timer) n)
   other-expires timer timely up s =
       let l' : Link = after n.terms (expired timer) n.link in
@@ -45,15 +45,15 @@ module _ (t : Terms) (l : Link) (before : IsTrue (is_multiple_frame l.state)) (o
       → Answers t l (frame_step t b octets control (begun l)).link
   asked-answers room b control e free up = grind (arith, enquiry-answered)
 
-module _ (n m : End) (h : Firm n m) (wide : 3 ≤ n.terms.control) (p : Parts) (fs : List Parts) (first : m.way ≡ p ∷ fs) (free : IsFree p.control)
+module _ (n m : LinkEndpoint) (h : Firm n m) (wide : 3 ≤ n.terms.control) (p : Parts) (fs : List Parts) (first : m.way ≡ p ∷ fs) (free : IsFree p.control)
     (up' : IsTrue (is_multiple_frame (after n.terms (received (frame p)) n.link).state)) where
   abbrev l' : Link
   l' = after n.terms (received (frame p)) n.link
 
-  abbrev n' : End
+  abbrev n' : LinkEndpoint
   n' = with_link (received (frame p)) n
 
-  abbrev m' : End
+  abbrev m' : LinkEndpoint
   m' = record m { way = fs }
 
   abbrev x : Kind
@@ -74,7 +74,7 @@ module _ (n m : End) (h : Firm n m) (wide : 3 ≤ n.terms.control) (p : Parts) (
   by-enquiry e (inl q) =
       let room = roomy n m h wide (asked (subst (λ y. (one_enquiry y + tally one_enquiry rest) + tally one_answer (kinds n) ≤ most (is_recovering m.link.state)) e (back n m h p fs first).asked)) in
       let a = asked-answers n.terms n.link h.joined.near_up p.info room p.address.command p.control e free up' in
-      let f = response (ready_to_receive true n.link) in
+      let f = response (rr_or_rnr true n.link) in
       let one : one_answer (kind_of f.command f.control) ≡ 1 = grind arith in
       let all : tally one_answer (kinds n') ≡ tally one_answer (kinds n) + one_answer (kind_of f.command f.control) =
       ap (λ fs. tally one_answer (kinds_of fs)) (line-push n.terms n.way n.link.waiting l'.waiting f a.waits)

@@ -1,5 +1,5 @@
 -- A station in a call: what its layer 3 was granted is what its link accepted, and it was told what its link delivered.
-use Rattle.laws_wire.proofs.Vocabulary.{arith, ◌≡◌, ℕ, ◌≤◌, Bool, false, cond, List, [], ◌∷◌, ◌++◌, length, map, drop, Option, Some, None, Ok, refl, sym, ap, subst, ◌∙◌, ◌⊎◌, append-nil, append_assoc, All, option_to_list, nat_lt, ltb-false, All-tail, Refusal, TooLong, Service, Parts, spelling, other_side, Terms, Link, End, with_link, with_sent, Config, came, LineTold, request, next, heard_side, link-grants, Data, Station, happens, with_first_lost, comes, data_told, map-append, two_ends_with_first_lost, course, refusal}
+use Rattle.laws_wire.proofs.Vocabulary.{arith, ◌≡◌, ℕ, ◌≤◌, Bool, false, cond, List, [], ◌∷◌, ◌++◌, length, map, drop, Option, Some, None, Ok, refl, sym, ap, subst, ◌∙◌, ◌⊎◌, append-nil, append_assoc, All, option_to_list, nat_lt, ltb-false, All-tail, Refusal, TooLong, Service, Parts, spelling, other_side, Terms, Link, LinkEndpoint, with_link, with_sent, Config, came, LineTold, request, next, heard_side, link-grants, Data, Endpoint, happens, without_first, frame_comes, data_told, map-append, two_ends_without_first, course, refusal}
 use Rattle.model_bits.specs.Stream.{frame}
 use Rattle.model_link.specs.Events as link
 use Rattle.laws_wire.proofs.Answered.{gives-told, gives-granted, takes-granted}
@@ -23,7 +23,7 @@ unheard = record { told = []; had = [] }
 abbrev pub after_note : LineTold → Past
 after_note t = record { told = t ∷ []; had = [] }
 
-pub record Holds (c : Config) (service : Service) (tei place : ℕ) (past : Past) (s : Station) (n : End) : Type 0 where
+pub record Holds (c : Config) (service : Service) (tei place : ℕ) (past : Past) (s : Endpoint) (n : LinkEndpoint) : Type 0 where
   pub stands : StationStands c service tei place s n
   pub granted : s.granted ≡ n.link.contents
   pub since : List (List ℕ)
@@ -36,7 +36,7 @@ no-way f [] e = refl
 no-way f (x ∷ xs) e = absurd (cc)
 
 -- where nothing was delivered before
-module _ (c : Config) (service : Service) (tei place : ℕ) (before : List LineTold) (s : Station) (n : End) (h : Holds c service tei place (record { told = before; had = [] }) s n) where
+module _ (c : Config) (service : Service) (tei place : ℕ) (before : List LineTold) (s : Endpoint) (n : LinkEndpoint) (h : Holds c service tei place (record { told = before; had = [] }) s n) where
   pub all-told : s.told ≡ before ++ map (data_told service tei) n.delivered
   all-told = h.told ∙ ap (λ xs. before ++ map (data_told service tei) xs) (sym h.delivered)
 
@@ -45,7 +45,7 @@ module _ (c : Config) (service : Service) (tei place : ℕ) (before : List LineT
 
 module _ (service : Service) (tei place : ℕ) (first : Past) where
   -- it gives
-  pub holds-given : (c : Config) (s : Station) (n : End) → Holds c service tei place first s n → (with_sent n).link.contents ≡ n.link.contents
+  pub holds-given : (c : Config) (s : Endpoint) (n : LinkEndpoint) → Holds c service tei place first s n → (with_sent n).link.contents ≡ n.link.contents
       → Holds c service tei place first (happens next s) (with_sent n)
   holds-given c s n h kept = record {
     stands =
@@ -62,7 +62,7 @@ module _ (service : Service) (tei place : ℕ) (first : Past) where
   drop-carried c [] h = h
   drop-carried c (f ∷ fs) h = All-tail (IsCarried c service tei) f fs h
 
-  pub holds-lost : (c : Config) (s : Station) (n : End) → Holds c service tei place first s n → Holds c service tei place first (with_first_lost s) (two_ends_with_first_lost n)
+  pub holds-lost : (c : Config) (s : Endpoint) (n : LinkEndpoint) → Holds c service tei place first s n → Holds c service tei place first (without_first s) (two_ends_without_first n)
   holds-lost c s n h = record {
     stands = record {
       config = h.stands.config;
@@ -80,11 +80,11 @@ module _ (service : Service) (tei place : ℕ) (first : Past) where
   }
 
   -- it takes a frame of the other side
-  pub record Took (c : Config) (s : Station) (n : End) (octets : List ℕ) (f : Parts) : Type 0 where
-    pub stands : StationStands c service tei place (comes octets s) (with_link (link.received (link.frame f)) n)
-    pub told : (comes octets s).told ≡ s.told ++ said_by (course n.terms (link.received (link.frame f)) n.link)
+  pub record Took (c : Config) (s : Endpoint) (n : LinkEndpoint) (octets : List ℕ) (f : Parts) : Type 0 where
+    pub stands : StationStands c service tei place (frame_comes octets s) (with_link (link.received (link.frame f)) n)
+    pub told : (frame_comes octets s).told ≡ s.told ++ said_by (course n.terms (link.received (link.frame f)) n.link)
 
-  pub takes : (c d : Config) → Face c d → (s : Station) (n : End) (f : Parts) → StationStands c service tei place s n → IsCarried d service tei f → Took c s n (spelling d.side f) f
+  pub takes : (c d : Config) → Face c d → (s : Endpoint) (n : LinkEndpoint) (f : Parts) → StationStands c service tei place s n → IsCarried d service tei f → Took c s n (spelling d.side f) f
   takes c d face s n f h from =
       let x = from.carried in
       let same-n201 : d.n201 ≡ s.card.config.n201 = sym face.n201 ∙ ap (λ k. k.n201) (sym h.config) in
@@ -94,14 +94,14 @@ module _ (service : Service) (tei place : ℕ) (first : Past) where
       let own = (subst (λ k. StationStands k service tei place s n) (sym h.config) h) in
       record {
         stands =
-            subst (λ k. StationStands k service tei place (comes (spelling d.side f) s) (with_link (link.received (link.frame f)) n)) h.config
+            subst (λ k. StationStands k service tei place (frame_comes (spelling d.side f) s) (with_link (link.received (link.frame f)) n)) h.config
             (takes-stands service tei place s n own f (spelling d.side f) whole read from.sapi from.by);
         told = takes-told service tei place s n own f (spelling d.side f) whole read from.sapi from.by;
       }
 
-  pub holds-taken : (c d : Config) → Face c d → (s : Station) (n : End) (f : Parts) → Holds c service tei place first s n → IsCarried d service tei f
+  pub holds-taken : (c d : Config) → Face c d → (s : Endpoint) (n : LinkEndpoint) (f : Parts) → Holds c service tei place first s n → IsCarried d service tei f
       → TellsData n.terms (course n.terms (link.received (link.frame f)) n.link) → (with_link (link.received (link.frame f)) n).link.contents ≡ n.link.contents
-      → Holds c service tei place first (comes (spelling d.side f) s) (with_link (link.received (link.frame f)) n)
+      → Holds c service tei place first (frame_comes (spelling d.side f) s) (with_link (link.received (link.frame f)) n)
   holds-taken c d face s n f h from tells kept =
       let x = takes c d face s n f h.stands from in
       let more = option_to_list (course n.terms (link.received (link.frame f)) n.link).delivered in
@@ -120,18 +120,18 @@ module _ (service : Service) (tei place : ℕ) (first : Past) where
   pub fits : (t : Terms) (l : Link) (octets : List ℕ) → refusal t l false (link.Data octets) ≡ None → length octets ≤ t.n201
   fits t l octets e = grind (arith, ltb-false, short-enough, nat_lt)
 
-  pub record More (c : Config) (s s' : Station) (n : End) (octets : List ℕ) : Type 0 where
+  pub record More (c : Config) (s s' : Endpoint) (n : LinkEndpoint) (octets : List ℕ) : Type 0 where
     pub none : refusal n.terms n.link false (link.Data octets) ≡ None
     pub holds : Holds c service tei place first s' (with_more octets n)
     pub granted : s'.granted ≡ s.granted ++ octets ∷ []
 
-  pub holds-asked : (c : Config) (s : Station) (n : End) (octets : List ℕ) → Holds c service tei place first s n
+  pub holds-asked : (c : Config) (s : Endpoint) (n : LinkEndpoint) (octets : List ℕ) → Holds c service tei place first s n
       → (happens (request (Data service tei octets)) s ≡ s) ⊎ More c s (happens (request (Data service tei octets)) s) n octets
   holds-asked c s n octets h =
       let own = (subst (λ k. StationStands k service tei place s n) (sym h.stands.config) h.stands) in
       go own (asks-stands service tei place s n own (Data service tei octets) (link.Data octets) (λ l. refl))
     where
-      s' : Station
+      s' : Endpoint
       s' = happens (request (Data service tei octets)) s
 
       go : (own : StationStands s.card.config service tei place s n) → (s' ≡ s) ⊎ Granted service tei place s n own (Data service tei octets) (link.Data octets) (λ l. refl) s'

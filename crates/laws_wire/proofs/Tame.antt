@@ -1,6 +1,6 @@
 -- Two ends of which neither was ever busy: no RNR is on their ways, and what waits at either is enquiries, answers and REJ.
-use Rattle.laws_wire.proofs.Vocabulary.{arith, ◌≡◌, ℕ, ◌+◌, Bool, true, false, cond, not, ◌&&◌, ◌||◌, IsTrue, List, [], ◌∷◌, ◌++◌, take, refl, sym, subst, All, All-nil, All-cons, All-head, All-append, All-take, All-drop, seq, Control, Information, Reject, Parts, State, LinkTimer, ControlFrame, Terms, Link, is_multiple_frame, undefined, wrong_size, received, expired, requested, offer, cleared, given_of, begun, End, with_link, with_sent, frame_given, busy_by, busy_heard, as_heard, is_overlong, as_response, answers_to, command_in, is_time, room, waiting_left, event-follows, NoAlien, Kind, kind_of, one_enquiry, one_answer, one_rejection, after, Course}
-use Rattle.model_link.specs.TwoEnds.{with_first_of, with_first_lost}
+use Rattle.laws_wire.proofs.Vocabulary.{arith, ◌≡◌, ℕ, ◌+◌, Bool, true, false, cond, not, ◌&&◌, ◌||◌, IsTrue, List, [], ◌∷◌, ◌++◌, take, refl, sym, subst, All, All-nil, All-cons, All-head, All-append, All-take, All-drop, seq, Control, Information, Reject, Parts, State, LinkTimer, ControlFrame, Terms, Link, is_multiple_frame, undefined, wrong_size, received, expired, requested, offer, cleared, given_of, begun, LinkEndpoint, with_link, with_sent, frame_given, busy_by, busy_heard, as_heard, is_overlong, as_response, answers_to, command_in, is_time, room, waiting_left, event-follows, NoAlien, Kind, kind_of, one_enquiry, one_answer, one_rejection, after, Course}
+use Rattle.model_link.specs.TwoEnds.{with_first_of, without_first}
 use Rattle.laws_link.specs.States.{moves}
 use Rattle.model_link.specs.Events.{Event, frame, overlong, Data}
 use Rattle.model_link.specs.Offers
@@ -20,7 +20,7 @@ pub record WaitsSo (f : ControlFrame) : Type 0 where
   pub free : IsFree f.control
   pub one : counts (kind_of f.command f.control) ≡ 1
 
-pub record Tame (n : End) : Type 0 where
+pub record Tame (n : LinkEndpoint) : Type 0 where
   pub peer_free : n.link.peer_busy ≡ false
   pub waiting : All WaitsSo n.link.waiting
   pub way : All IsFreeFrame n.way
@@ -98,7 +98,7 @@ module _ (t : Terms) (l : Link) (own : l.own_busy ≡ false) where
 
 -- ---- an end, as something happens at it
 
-module _ (n : End) (h : Tame n) (own : n.link.own_busy ≡ false) where
+module _ (n : LinkEndpoint) (h : Tame n) (own : n.link.own_busy ≡ false) where
   tame-event : (e : Event) → Few e → IsTrue (is_multiple_frame (after n.terms e n.link).state) → Tame (with_link e n)
   tame-event e may up = record {
     peer_free = grind (arith, event-follows, off, unheard);
@@ -119,7 +119,7 @@ module _ (n : End) (h : Tame n) (own : n.link.own_busy ≡ false) where
     way = All-append IsFreeFrame n.way _ h.way (offers-free n.terms n.link own n.link.waiting h.waiting);
   }
 
-  pub tame-loses : Tame (with_first_lost n)
+  pub tame-loses : Tame (without_first n)
   tame-loses = record { peer_free = h.peer_free; waiting = h.waiting; way = All-drop IsFreeFrame 1 n.way h.way }
 
   pub tame-takes : (way : List Parts) → All IsFreeFrame way → ((f : Parts) (fs : List Parts) → way ≡ f ∷ fs → NoAlien (kind_of f.address.command f.control))

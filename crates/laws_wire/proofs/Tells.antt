@@ -1,5 +1,5 @@
 -- A station, the end for which it stands, and what its layer 3 heard.
-use Rattle.laws_wire.proofs.Vocabulary.{arith, ◌≡◌, ℕ, List, [], ◌∷◌, ◌++◌, map, refl, sym, ap, subst, ◌∙◌, All, flat_map, All-head, Service, Timer, Parts, spelling, LinkTimer, course, End, with_link, with_sent, Config, LineTold, expiry, next, HasNothingToSend, nothing-to_send, flat_map-append, Station, happens, comes, for_layer_3, heard_in}
+use Rattle.laws_wire.proofs.Vocabulary.{arith, ◌≡◌, ℕ, List, [], ◌∷◌, ◌++◌, map, refl, sym, ap, subst, ◌∙◌, All, flat_map, All-head, Service, Timer, Parts, spelling, LinkTimer, course, LinkEndpoint, with_link, with_sent, Config, LineTold, expiry, next, HasNothingToSend, nothing-to_send, flat_map-append, Endpoint, happens, frame_comes, for_layer_3, heard_in}
 use Rattle.model_link.specs.Events as link
 use Rattle.laws_wire.proofs.Answered.{gives-told}
 use Rattle.laws_wire.proofs.LossyPhases.{Aims}
@@ -9,35 +9,35 @@ use Rattle.laws_wire.proofs.Talking.{Face, unheard, takes as takes_frame}
 use Rattle.laws_wire.proofs.Up.{stays}
 
 -- A station stands for an end, whose layer 3 heard this.
-pub record Tells (service : Service) (tei : ℕ) (k : Config) (place : ℕ) (heard : List LineTold) (s : Station) (n : End) : Type 0 where
+pub record Tells (service : Service) (tei : ℕ) (k : Config) (place : ℕ) (heard : List LineTold) (s : Endpoint) (n : LinkEndpoint) : Type 0 where
   pub stands : StationStands k service tei place s n
   pub told : heard_in s ≡ heard
 
 module _ (service : Service) (tei : ℕ) where
-  abbrev T : Config → ℕ → List LineTold → Station → End → Type 0
+  abbrev T : Config → ℕ → List LineTold → Endpoint → LinkEndpoint → Type 0
   T k place heard s n = Tells service tei k place heard s n
 
   -- what it delivered is no part of it
-  pub as-end : (k : Config) (place : ℕ) (hs hs' : List LineTold) (s : Station) (n n' : End) → T k place hs s n → record n { delivered = n'.delivered } ≡ n' → hs ≡ hs' → T k place hs' s n'
+  pub as-end : (k : Config) (place : ℕ) (hs hs' : List LineTold) (s : Endpoint) (n n' : LinkEndpoint) → T k place hs s n → record n { delivered = n'.delivered } ≡ n' → hs ≡ hs' → T k place hs' s n'
   as-end k place hs hs' s n n' h e same = grind (arith, StationStands)
 
-  own : (k : Config) (place : ℕ) (hs : List LineTold) (s : Station) (n : End) → T k place hs s n → StationStands s.card.config service tei place s n
+  own : (k : Config) (place : ℕ) (hs : List LineTold) (s : Endpoint) (n : LinkEndpoint) → T k place hs s n → StationStands s.card.config service tei place s n
   own k place hs s n h = subst (λ k. StationStands k service tei place s n) (sym h.stands.config) h.stands
 
-  module _ (k : Config) (place : ℕ) (hs : List LineTold) (s : Station) (n : End) (h : T k place hs s n) where
+  module _ (k : Config) (place : ℕ) (hs : List LineTold) (s : Endpoint) (n : LinkEndpoint) (h : T k place hs s n) where
     pub t-given : T k place hs (happens next s) (with_sent n)
     t-given = record {
       stands = subst (λ k. StationStands k service tei place (happens next s) (with_sent n)) h.stands.config (gives-stands service tei place s n (own k place hs s n h));
       told = ap (flat_map for_layer_3) (gives-told s) ∙ h.told;
     }
 
-    abbrev After : Parts → End
+    abbrev After : Parts → LinkEndpoint
     After f = with_link (link.received (link.frame f)) n
 
     abbrev more-by : Parts → List LineTold
     more-by f = flat_map for_layer_3 (said_by (course n.terms (link.received (link.frame f)) n.link))
 
-    pub t-taken : (d : Config) → Face k d → (f : Parts) → IsCarried d service tei f → T k place (hs ++ more-by f) (comes (spelling d.side f) s) (After f)
+    pub t-taken : (d : Config) → Face k d → (f : Parts) → IsCarried d service tei f → T k place (hs ++ more-by f) (frame_comes (spelling d.side f) s) (After f)
     t-taken d face f from =
         let x = takes_frame service tei place unheard k d face s n f h.stands from in
         grind (arith, flat_map, flat_map-append, said_by)
@@ -55,11 +55,11 @@ module _ (service : Service) (tei : ℕ) where
     }
 
   -- its only frame is lost, or taken
-  pub first-carried : (k : Config) (place : ℕ) (hs : List LineTold) (s : Station) (n : End) (f : Parts) → n.way ≡ f ∷ [] → T k place hs s n
+  pub first-carried : (k : Config) (place : ℕ) (hs : List LineTold) (s : Endpoint) (n : LinkEndpoint) (f : Parts) → n.way ≡ f ∷ [] → T k place hs s n
       → (s.way ≡ spelling k.side f ∷ []) × IsCarried k service tei f
   first-carried k place hs s n f one h =
       (h.stands.way ∙ ap (map (spelling k.side)) one, All-head (IsCarried k service tei) f [] (subst (All (IsCarried k service tei)) one h.stands.carried))
 
   -- it has nothing to give
-  pub t-silent : (k : Config) (place : ℕ) (hs : List LineTold) (s : Station) (n : End) → HasNothingToSend n.terms n.link → T k place hs s n → T k place hs (happens next s) n
+  pub t-silent : (k : Config) (place : ℕ) (hs : List LineTold) (s : Endpoint) (n : LinkEndpoint) → HasNothingToSend n.terms n.link → T k place hs s n → T k place hs (happens next s) n
   t-silent k place hs s n quiet h = as-end k place hs hs (happens next s) (with_sent n) n (t-given k place hs s n h) (stays n (nothing-to_send n.terms n.link quiet)) refl

@@ -1,5 +1,5 @@
 -- The next phases of such a call: the other end is up, and its UA waits, or is on its way before all else.
-use Rattle.laws_wire.proofs.Vocabulary.{arith, ◌≡◌, ℕ, false, List, [], ◌∷◌, None, refl, sym, ap, subst, ◌∙◌, ◌⊎◌, inl, inr, All-tail, Service, Timer, Parts, spelling, Terms, TimerRecovery, LinkTimer, T203, course, given, IsInRange, End, with_link, with_sent, offer-gave, Config, expiry, request, next, terms, awaits_answer, CanRepeat, T200, refusal, Data, Station, Wire, happens, with_first_of, Act, requests, times_out, gives, takes, loses, acting, turned, IsStill, comes, confirmed, indicated, IsRoughTalkOf, is_final, IsLongEnough, IsTimelyOf, IsSpared, gives_one, is_ua, true, received, LinkData, frame, expired, timer_T200, timer_T203}
+use Rattle.laws_wire.proofs.Vocabulary.{arith, ◌≡◌, ℕ, false, List, [], ◌∷◌, None, refl, sym, ap, subst, ◌∙◌, ◌⊎◌, inl, inr, All-tail, Service, Timer, Parts, spelling, Terms, TimerRecovery, LinkTimer, T203, course, given, IsInRange, LinkEndpoint, with_link, with_sent, offer-gave, Config, expiry, request, next, terms, awaits_answer, CanRepeat, T200, refusal, Data, Endpoint, Wire, happens, with_first_of, EndStep, requests, expires, sends, receives, loses, acting, turned, IsStill, frame_comes, confirmed, indicated, IsRoughTalkOf, is_final, IsLongEnough, IsTimelyOf, IsSpared, gives_one, is_ua, true, received, LinkData, frame, expired, timer_T200, timer_T203}
 use Rattle.laws_link.specs.two.Timely as two_links_timely
 use Rattle.laws_wire.proofs.Answered.{takes-granted}
 use Rattle.laws_wire.proofs.Awaited.{closed, may-there, long-there, gives-first, waits-first, goes-first}
@@ -15,39 +15,39 @@ use Rattle.laws_wire.proofs.TimelyUp.{each-timer, hushed, timer-held, never, Bot
 use Rattle.laws_wire.proofs.TimelyPhases as phases
 use Rattle.laws_wire.proofs.TimelyPhases.{silent-t203, ringing-open}
 
-sends-ua : (n : End) → n.link.waiting ≡ [] → n.way ≡ [] → with_sent (with_ua_waiting n) ≡ with_ua_first n
+sends-ua : (n : LinkEndpoint) → n.link.waiting ≡ [] → n.way ≡ [] → with_sent (with_ua_waiting n) ≡ with_ua_first n
 sends-ua n waiting none = grind (arith, ua)
 
 module _ (service : Service) (tei : ℕ) (c d : Config) (p q : ℕ) (face : Face c d) (back : Face d c) (rt : IsInRange (terms c service tei)) (ru : IsInRange (terms d service tei)) where
   abbrev t : Terms
   t = terms c service tei
 
-  abbrev UaWaits : End → Wire → Type 0
+  abbrev UaWaits : LinkEndpoint → Wire → Type 0
   UaWaits m w = phases.UaWaits service tei c d p q m w
 
-  abbrev UaGoes : End → Wire → Type 0
+  abbrev UaGoes : LinkEndpoint → Wire → Type 0
   UaGoes m w = phases.UaGoes service tei c d p q m w
 
   abbrev Goes : Wire → Type 0
   Goes w = phases.Goes service tei c d p q w
 
-  as-waits : {w : Wire} (m : End) → UaWaits m w → Goes w
+  as-waits : {w : Wire} (m : LinkEndpoint) → UaWaits m w → Goes w
   as-waits m h = inr (inr (inr (inl (record { m = m; is = h }))))
 
-  as-comes : {w : Wire} (m : End) → UaGoes m w → Goes w
+  as-comes : {w : Wire} (m : LinkEndpoint) → UaGoes m w → Goes w
   as-comes m h = inr (inr (inr (inr (inl (record { m = m; is = h })))))
 
   -- it is asked to send more
-  module _ (k : ℕ) (m : End) (its : End → End) (form : (octets : List ℕ) → with_more octets (its m) ≡ its (with_more octets m))
+  module _ (k : ℕ) (m : LinkEndpoint) (its : LinkEndpoint → LinkEndpoint) (form : (octets : List ℕ) → with_more octets (its m) ≡ its (with_more octets m))
       (same : (octets : List ℕ) → refusal m.terms m.link false (LinkData octets) ≡ refusal (its m).terms (its m).link false (LinkData octets))
       (w : Wire) (held : Held d service tei q (indicated service tei ∷ []) w.far (its m)) (firm : Firm (end t (answered k []) []) m) (octets : List ℕ) where
-    record More (s' : Station) : Type 0 where
+    record More (s' : Endpoint) : Type 0 where
       held' : Held d service tei q (indicated service tei ∷ []) s' (its (with_more octets m))
       firm' : Firm (end t (answered k []) []) (with_more octets m)
 
     asks-more : (happens (request (Data service tei octets)) w.far ≡ w.far) ⊎ More (happens (request (Data service tei octets)) w.far)
     asks-more =
-        let s' : Station = happens (request (Data service tei octets)) w.far in
+        let s' : Endpoint = happens (request (Data service tei octets)) w.far in
         elim (held-asked service tei q _ d w.far (its m) held octets) [
           | inl e ↦ inl e
           | inr x ↦
@@ -58,35 +58,35 @@ module _ (service : Service) (tei : ℕ) (c d : Config) (p q : ℕ) (face : Face
               })
         ]
 
-  module _ (w : Wire) (m : End) (h : UaWaits m w) where
-    abbrev waits_end : End
+  module _ (w : Wire) (m : LinkEndpoint) (h : UaWaits m w) where
+    abbrev waits_end : LinkEndpoint
     waits_end = end t (ringing h.repeats []) []
 
-    still-waits : (s : Station) → Held c service tei p [] s waits_end → UaWaits m (record w { near = s })
+    still-waits : (s : Endpoint) → Held c service tei p [] s waits_end → UaWaits m (record w { near = s })
     still-waits s x = record { repeats = h.repeats; waiting = h.waiting; way = h.way; near = x; far = h.far; firm = h.firm }
 
     pub waits-still : IsStill w → ⊥
     waits-still still = let no : given m.terms (with_ua_waiting m).link ≡ None = (hushed service tei d q _ w.far (with_ua_waiting m) h.far still.far still.far_way).given in cc no
 
-    pub waits-near : (act : Act) → IsRoughTalkOf service tei act → IsTimelyOf act w → Goes (acting act w)
+    pub waits-near : (act : EndStep) → IsRoughTalkOf service tei act → IsTimelyOf act w → Goes (acting act w)
     waits-near (requests r) is x =
         for-data service tei (λ r. Goes (acting (requests r) w))
         (λ octets. as-waits m (subst (λ s. UaWaits m (record w { near = s })) (sym (asks-refused service tei c p [] w.near waits_end h.near (λ octets none. cc none) octets)) h)) r is
-    waits-near (times_out timer) is x =
-        each-timer service tei (λ timer. IsTimelyOf (times_out timer) w → Goes (acting (times_out timer) w)) (λ x. absurd (waits-first is_final (with_ua_waiting m) its_ua [] refl refl (ringing-open service tei c d p q h.repeats [] [] w (with_ua_waiting m) (indicated service tei ∷ []) h.near h.far x.0).responses))
+    waits-near (expires timer) is x =
+        each-timer service tei (λ timer. IsTimelyOf (expires timer) w → Goes (acting (expires timer) w)) (λ x. absurd (waits-first is_final (with_ua_waiting m) its_ua [] refl refl (ringing-open service tei c d p q h.repeats [] [] w (with_ua_waiting m) (indicated service tei ∷ []) h.near h.far x.0).responses))
         (λ x. as-waits m (still-waits (happens (expiry (timer_T203 service tei)) w.near) (silent-t203 service tei c d p q h.repeats [] [] w.near h.near))) timer is x
-    waits-near gives is x = as-waits m (still-waits (happens next w.near) (gives-nothing service tei c p [] w.near waits_end h.near refl))
-    waits-near takes is x = as-waits m (subst (UaWaits m) (sym (takes-none w (empty service tei d q _ w.far (with_ua_waiting m) h.far h.way))) h)
+    waits-near sends is x = as-waits m (still-waits (happens next w.near) (gives-nothing service tei c p [] w.near waits_end h.near refl))
+    waits-near receives is x = as-waits m (subst (UaWaits m) (sym (takes-none w (empty service tei d q _ w.far (with_ua_waiting m) h.far h.way))) h)
     waits-near loses is x = as-waits m (subst (UaWaits m) (sym (loses-none w (empty service tei c p [] w.near waits_end h.near refl))) h)
 
-    pub gives-ua : UaGoes m (turned (acting gives (turned w)))
+    pub gives-ua : UaGoes m (turned (acting sends (turned w)))
     gives-ua =
         let form = sends-ua m h.waiting h.way in
         let s' = happens next w.far in
         record {
           repeats = h.repeats;
           near = h.near;
-          far = subst (Held d service tei q (indicated service tei ∷ []) s') form (held-given service tei q _ d w.far (with_ua_waiting m) h.far (ap (λ (x : End). x.link.contents) form));
+          far = subst (Held d service tei q (indicated service tei ∷ []) s') form (held-given service tei q _ d w.far (with_ua_waiting m) h.far (ap (λ (x : LinkEndpoint). x.link.contents) form));
           firm = h.firm;
         }
 
@@ -97,27 +97,27 @@ module _ (service : Service) (tei : ℕ) (c d : Config) (p q : ℕ) (face : Face
           | inr x ↦ as-waits (with_more octets m) (record { repeats = h.repeats; waiting = h.waiting; way = h.way; near = h.near; far = x.held'; firm = x.firm' })
         ]
 
-    pub waits-far : (act : Act) → IsRoughTalkOf service tei act → IsSpared act w → Goes (turned (acting act (turned w)))
+    pub waits-far : (act : EndStep) → IsRoughTalkOf service tei act → IsSpared act w → Goes (turned (acting act (turned w)))
     waits-far (requests r) is y = for-data service tei (λ r. Goes (turned (acting (requests r) (turned w)))) waits-asks r is
-    waits-far (times_out timer) is y =
+    waits-far (expires timer) is y =
         let ua-first : gives_one is_ua w.far ≡ true = gives-first service tei d q w.far (with_ua_waiting m) h.far.stands is_ua its_ua [] refl in
         grind (arith, each-timer)
-    waits-far gives is y = as-comes m gives-ua
-    waits-far takes is y = as-waits m (subst (λ w'. UaWaits m (turned w')) (sym (takes-none (turned w) (empty service tei c p [] w.near waits_end h.near refl))) h)
+    waits-far sends is y = as-comes m gives-ua
+    waits-far receives is y = as-waits m (subst (λ w'. UaWaits m (turned w')) (sym (takes-none (turned w) (empty service tei c p [] w.near waits_end h.near refl))) h)
     waits-far loses is y = absurd (y h.near.heard)
 
-  module _ (w : Wire) (m : End) (h : UaGoes m w) where
-    abbrev comes_end : End
+  module _ (w : Wire) (m : LinkEndpoint) (h : UaGoes m w) where
+    abbrev comes_end : LinkEndpoint
     comes_end = end t (ringing h.repeats []) []
 
     pub comes-still : IsStill w → ⊥
     comes-still still = let no : ua m.terms ∷ m.way ≡ [] = (hushed service tei d q _ w.far (with_ua_first m) h.far still.far still.far_way).way in cc no
 
-    pub confirms : BothUp service tei c d p q (confirmed service tei ∷ []) (indicated service tei ∷ []) (acting takes w) (end t (answered h.repeats []) []) m
+    pub confirms : BothUp service tei c d p q (confirmed service tei ∷ []) (indicated service tei ∷ []) (acting receives w) (end t (answered h.repeats []) []) m
     confirms =
         let f = ua m.terms in
         let way = first-way service tei d q _ w.far (with_ua_first m) f m.way refl h.far in
-        let s' = comes (spelling d.side f) w.near in
+        let s' = frame_comes (spelling d.side f) w.near in
         let n' = end t (answered h.repeats []) [] in
         let held : Held c service tei p (confirmed service tei ∷ []) s' n' =
         held-first service tei p [] c w.near comes_end h.near (confirmed service tei) s' n' (course t (received (frame f)) comes_end.link) refl refl refl
@@ -129,15 +129,15 @@ module _ (service : Service) (tei : ℕ) (c d : Config) (p q : ℕ) (face : Face
           firm = h.firm;
         }
 
-    pub comes-near : (act : Act) → IsRoughTalkOf service tei act → IsTimelyOf act w → Goes (acting act w)
+    pub comes-near : (act : EndStep) → IsRoughTalkOf service tei act → IsTimelyOf act w → Goes (acting act w)
     comes-near (requests r) is x =
         for-data service tei (λ r. Goes (acting (requests r) w))
         (λ octets. as-comes m (subst (λ s. UaGoes m (record w { near = s })) (sym (asks-refused service tei c p [] w.near comes_end h.near (λ octets none. cc none) octets)) h)) r is
-    comes-near (times_out timer) is x =
-        each-timer service tei (λ timer. IsTimelyOf (times_out timer) w → Goes (acting (times_out timer) w)) (λ x. absurd (goes-first is_final (with_ua_first m) (ua m.terms) m.way refl refl (ringing-open service tei c d p q h.repeats [] [] w (with_ua_first m) (indicated service tei ∷ []) h.near h.far x.0).responses))
+    comes-near (expires timer) is x =
+        each-timer service tei (λ timer. IsTimelyOf (expires timer) w → Goes (acting (expires timer) w)) (λ x. absurd (goes-first is_final (with_ua_first m) (ua m.terms) m.way refl refl (ringing-open service tei c d p q h.repeats [] [] w (with_ua_first m) (indicated service tei ∷ []) h.near h.far x.0).responses))
         (λ x. as-comes m (record { repeats = h.repeats; near = silent-t203 service tei c d p q h.repeats [] [] w.near h.near; far = h.far; firm = h.firm })) timer is x
-    comes-near gives is x = as-comes m (record { repeats = h.repeats; near = gives-nothing service tei c p [] w.near comes_end h.near refl; far = h.far; firm = h.firm })
-    comes-near takes is x = (inr (inr (inr (inr (inr (record { n = end t (answered h.repeats []) []; m = m; up = confirms }))))))
+    comes-near sends is x = as-comes m (record { repeats = h.repeats; near = gives-nothing service tei c p [] w.near comes_end h.near refl; far = h.far; firm = h.firm })
+    comes-near receives is x = (inr (inr (inr (inr (inr (record { n = end t (answered h.repeats []) []; m = m; up = confirms }))))))
     comes-near loses is x = as-comes m (subst (UaGoes m) (sym (loses-none w (empty service tei c p [] w.near comes_end h.near refl))) h)
 
     comes-asks : (octets : List ℕ) → Goes (made w (happens (request (Data service tei octets)) w.far))
@@ -147,7 +147,7 @@ module _ (service : Service) (tei : ℕ) (c d : Config) (p q : ℕ) (face : Face
           | inr x ↦ as-comes (with_more octets m) (record { repeats = h.repeats; near = h.near; far = x.held'; firm = x.firm' })
         ]
 
-    comes-gives : UaGoes (with_sent m) (turned (acting gives (turned w)))
+    comes-gives : UaGoes (with_sent m) (turned (acting sends (turned w)))
     comes-gives =
         let near = end t (answered h.repeats []) [] in
         let j = h.firm.joined in
@@ -160,7 +160,7 @@ module _ (service : Service) (tei : ℕ) (c d : Config) (p q : ℕ) (face : Face
 
     -- a timer of the other end, behind its UA
     comes-expires : (timer : Timer) (its : LinkTimer) → Aims service tei timer its → CanRepeat its m → two_links_timely.IsTimely its m (end t (answered h.repeats []) [])
-        → Goes (turned (acting (times_out timer) (turned w)))
+        → Goes (turned (acting (expires timer) (turned w)))
     comes-expires timer its aims can timely =
         let near = end t (answered h.repeats []) [] in
         let firm = firm-expires m near (firm-turned near m h.firm) its can timely in
@@ -180,20 +180,20 @@ module _ (service : Service) (tei : ℕ) (c d : Config) (p q : ℕ) (face : Face
           answers = record { waiting = both.answers.waiting; way = both.answers.way };
         }
 
-    comes-t200 : IsTimelyOf (times_out (timer_T200 service tei)) (turned w) → Goes (turned (acting (times_out (timer_T200 service tei)) (turned w)))
+    comes-t200 : IsTimelyOf (expires (timer_T200 service tei)) (turned w) → Goes (turned (acting (expires (timer_T200 service tei)) (turned w)))
     comes-t200 (long, may) =
         let there = may-there service tei d q w.far (with_ua_first m) h.far.stands may in
         comes-expires (timer_T200 service tei) T200 (λ l. refl) (λ state running. there (ap awaits_answer state) running) (λ state running. far-none state long)
 
-    comes-t203 : Goes (turned (acting (times_out (timer_T203 service tei)) (turned w)))
+    comes-t203 : Goes (turned (acting (expires (timer_T203 service tei)) (turned w)))
     comes-t203 =
         let not-there = λ (state : m.link.state ≡ TimerRecovery). never service tei d q _ w.far (with_ua_first m) h.far h.firm.far_sane.timed state in
         comes-expires (timer_T203 service tei) T203 (λ l. refl) (λ state running. absurd (not-there state running)) (λ state running. absurd (not-there state running))
 
-    pub comes-far : (act : Act) → IsRoughTalkOf service tei act → IsTimelyOf act (turned w) → IsSpared act w → Goes (turned (acting act (turned w)))
+    pub comes-far : (act : EndStep) → IsRoughTalkOf service tei act → IsTimelyOf act (turned w) → IsSpared act w → Goes (turned (acting act (turned w)))
     comes-far (requests r) is x y = for-data service tei (λ r. Goes (turned (acting (requests r) (turned w)))) comes-asks r is
-    comes-far (times_out timer) is x y =
-        each-timer service tei (λ timer. IsTimelyOf (times_out timer) (turned w) → Goes (turned (acting (times_out timer) (turned w)))) comes-t200 (λ x. comes-t203) timer is x
-    comes-far gives is x y = as-comes (with_sent m) comes-gives
-    comes-far takes is x y = as-comes m (subst (λ w'. UaGoes m (turned w')) (sym (takes-none (turned w) (empty service tei c p [] w.near comes_end h.near refl))) h)
+    comes-far (expires timer) is x y =
+        each-timer service tei (λ timer. IsTimelyOf (expires timer) (turned w) → Goes (turned (acting (expires timer) (turned w)))) comes-t200 (λ x. comes-t203) timer is x
+    comes-far sends is x y = as-comes (with_sent m) comes-gives
+    comes-far receives is x y = as-comes m (subst (λ w'. UaGoes m (turned w')) (sym (takes-none (turned w) (empty service tei c p [] w.near comes_end h.near refl))) h)
     comes-far loses is x y = absurd (y h.near.heard)

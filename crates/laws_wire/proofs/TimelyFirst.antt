@@ -1,5 +1,5 @@
 -- The ends as an establishment leaves them, and what changes nothing at a station or on a wire.
-use Rattle.laws_wire.proofs.Vocabulary.{◌≡◌, ℕ, ◌≤◌, false, not, List, [], ◌∷◌, length, None, refl, sym, ap, subst, ◌∙◌, inl, inr, true≢false, arith, option_map_or, All-nil, Service, Terms, Link, fresh, given, serves, IsInRange, End, joined-first, Config, LineTold, request, next, Line, link_in, link_of, place_in, bad_tei, no_link, wrong_state, first_that_holds, Request, aim_of_request, at_requested, line_at, passed, IsReady, IsTaken, refusal, Data, SetBusy, ClearBusy, Station, Wire, happens, loses, acting, LinkClearBusy, LinkData, LinkRequest, LinkSetBusy}
+use Rattle.laws_wire.proofs.Vocabulary.{◌≡◌, ℕ, ◌≤◌, false, not, List, [], ◌∷◌, length, None, refl, sym, ap, subst, ◌∙◌, inl, inr, true≢false, arith, option_map_or, All-nil, Service, Terms, Link, fresh, given, serves, IsInRange, LinkEndpoint, joined-first, Config, LineTold, request, next, Line, link_in, link_of, place_in, bad_tei, no_link, wrong_state, first_that_holds, Request, aim_of_request, at_requested, line_at, passed, IsReady, IsTaken, refusal, Data, SetBusy, ClearBusy, Endpoint, Wire, happens, loses, acting, LinkClearBusy, LinkData, LinkRequest, LinkSetBusy}
 use Rattle.model_line.specs.Refusal.{refusal as refusal_on}
 use Rattle.laws_wire.proofs.Calling.{end, called, sound-called}
 use Rattle.laws_wire.proofs.Tame.{WaitsSo, IsFreeFrame}
@@ -13,10 +13,10 @@ pub use Rattle.laws_wire.proofs.Answered.{lost-none, takes-none}
 -- ---- the ends
 
 module _ (t u : Terms) (rt : IsInRange t) (ru : IsInRange u) (same : t.n201 ≡ u.n201) (k : ℕ) where
-  abbrev pub near_end : End
+  abbrev pub near_end : LinkEndpoint
   near_end = end t (answered k []) []
 
-  abbrev pub far_end : End
+  abbrev pub far_end : LinkEndpoint
   far_end = end u called []
 
   pub firm-first : Firm near_end far_end
@@ -39,12 +39,12 @@ module _ (t u : Terms) (rt : IsInRange t) (ru : IsInRange u) (same : t.n201 ≡ 
 pub loses-none : (w : Wire) → w.near.way ≡ [] → acting loses w ≡ w
 loses-none w e = λ i. record w { near = lost-none w.near e i }
 
-module _ (service : Service) (tei : ℕ) (k : Config) (place : ℕ) (past : List LineTold) (s : Station) (n : End) (h : Held k service tei place past s n) where
+module _ (service : Service) (tei : ℕ) (k : Config) (place : ℕ) (past : List LineTold) (s : Endpoint) (n : LinkEndpoint) (h : Held k service tei place past s n) where
   -- nor is any given
   pub gives-nothing : given n.terms n.link ≡ None → Held k service tei place past (happens next s) n
   gives-nothing none =
       let same = stays n none in
-      subst (Held k service tei place past (happens next s)) same (held-given service tei place past k s n h (ap (λ (x : End). x.link.contents) same))
+      subst (Held k service tei place past (happens next s)) same (held-given service tei place past k s n h (ap (λ (x : LinkEndpoint). x.link.contents) same))
 
   -- data that the link refuses
   pub asks-refused : ((octets : List ℕ) → refusal n.terms n.link false (LinkData octets) ≡ None → ⊥) → (octets : List ℕ)

@@ -1,5 +1,5 @@
 -- A whole call in which timers are timely: both ends stay up, and what was lost arrives.
-use Rattle.laws_wire.proofs.Vocabulary.{◌≡◌, ℕ, suc, ◌+◌, ◌<◌, Bool, true, false, ◌==◌, List, [], ◌∷◌, length, map, is_some, refl, sym, ap, ◌∙◌, inl, inr, eqb-true, arith, All, flat_map, list_any, and_parts, or_parts, All-nil, All-cons, All-head, All-tail, list_any-append, Note, Service, Timer, Parts, ControlFrame, fresh, IsInRange, Ends, Config, LineTold, terms, all-arrived, T200, Station, Wire, Act, gives, takes, times_out, Doing, at_near, at_far, acting, turned, doing, doing_all, IsStill, calling, confirmed, indicated, data_told, for_layer_3, heard_in, is_error, HasNoError, IsRoughTalkOf, IsRoughTalk, is_poll, is_final, IsTimelyOf, IsSpared, IsTimely, StayTimely, both_expire, round, rounds, HasNoErrors, BothMayRepeat, HasMissing, HasArrived, with_t200_expired, WhatIsLostArrives, is_ua, frames_by, timer_T200, read_as, StayPatient, TwoLinksHasArrived, nothing-to_send, spelling, ◌++◌, End}
+use Rattle.laws_wire.proofs.Vocabulary.{◌≡◌, ℕ, suc, ◌+◌, ◌<◌, Bool, true, false, ◌==◌, List, [], ◌∷◌, length, map, is_some, refl, sym, ap, ◌∙◌, inl, inr, eqb-true, arith, All, flat_map, list_any, and_parts, or_parts, All-nil, All-cons, All-head, All-tail, list_any-append, Note, Service, Timer, Parts, ControlFrame, fresh, IsInRange, Ends, Config, LineTold, terms, all-arrived, T200, Endpoint, Wire, EndStep, sends, receives, expires, StepAt, at_near, at_far, acting, turned, doing, doing_all, IsStill, calling, confirmed, indicated, data_told, for_layer_3, heard_in, is_error, HasNoError, IsRoughTalkOf, IsRoughTalk, is_poll, is_final, IsTimelyOf, IsSpared, IsTimely, StayTimely, both_expire, round, rounds, HasNoErrors, BothMayRepeat, HasMissing, HasArrived, with_t200_expired, WhatIsLostArrives, is_ua, frames_by, timer_T200, read_as, StayPatient, TwoLinksHasArrived, nothing-to_send, spelling, ◌++◌, LinkEndpoint}
 use Rattle.laws_wire.proofs.Awaited.{NoneOpen, open-here}
 use Rattle.laws_wire.proofs.Calling.{end, called}
 use Rattle.laws_wire.proofs.LossyRun.{Setting, setting}
@@ -41,7 +41,7 @@ data-fair : (service : Service) (tei : ℕ) (xs : List (List ℕ)) → list_any 
 data-fair service tei [] = refl
 data-fair service tei (x ∷ xs) = data-fair service tei xs
 
-nothing-heard : (s : Station) → heard_in s ≡ [] → HasNoError s
+nothing-heard : (s : Endpoint) → heard_in s ≡ [] → HasNoError s
 nothing-heard s e = all-fair s.told (ap (list_any has_error) e)
 
 -- ---- the run
@@ -55,7 +55,7 @@ module _ (service : Service) (tei : ℕ) (c d : Config) (p q : ℕ) (face : Face
   On w = Goes service tei c d p q w
 
   -- each act of either end
-  near-goes : (act : Act) → IsRoughTalkOf service tei act → (w : Wire) → IsTimelyOf act w → On w → On (acting act w)
+  near-goes : (act : EndStep) → IsRoughTalkOf service tei act → (w : Wire) → IsTimelyOf act w → On w → On (acting act w)
   near-goes act is w x (inl h) = silent-near service tei c d p q face back rt ru w h act is x
   near-goes act is w x (inr (inl h)) = asking-near service tei c d p q face back rt ru w h act is x
   near-goes act is w x (inr (inr (inl h))) = called-near service tei c d p q face back rt ru w h act is x
@@ -63,7 +63,7 @@ module _ (service : Service) (tei : ℕ) (c d : Config) (p q : ℕ) (face : Face
   near-goes act is w x (inr (inr (inr (inr (inl h))))) = comes-near service tei c d p q face back rt ru w h.m h.is act is x
   near-goes act is w x (inr (inr (inr (inr (inr h))))) = inr (inr (inr (inr (inr (up-acts service tei c d p q face (confirmed service tei ∷ []) (indicated service tei ∷ []) w h.n h.m h.up act is x)))))
 
-  far-goes : (act : Act) → IsRoughTalkOf service tei act → (w : Wire) → IsTimelyOf act (turned w) → IsSpared act w → On w → On (turned (acting act (turned w)))
+  far-goes : (act : EndStep) → IsRoughTalkOf service tei act → (w : Wire) → IsTimelyOf act (turned w) → IsSpared act w → On w → On (turned (acting act (turned w)))
   far-goes act is w x y (inl h) = inl (down-acts service tei c d p q face back rt ru [] [] w h refl act is)
   far-goes act is w x y (inr (inl h)) = inr (inl (down-acts service tei c d p q face back rt ru (its_sabme ∷ []) [] w h refl act is))
   far-goes act is w x y (inr (inr (inl h))) = called-far service tei c d p q face back rt ru w h act is
@@ -71,11 +71,11 @@ module _ (service : Service) (tei : ℕ) (c d : Config) (p q : ℕ) (face : Face
   far-goes act is w x y (inr (inr (inr (inr (inl h))))) = comes-far service tei c d p q face back rt ru w h.m h.is act is x y
   far-goes act is w x y (inr (inr (inr (inr (inr h))))) = grind (arith, turned-are, up-acts)
 
-  pub step : (k : Doing) → IsRoughTalk service tei k → (w : Wire) → IsTimely k w → On w → On (doing k w)
+  pub step : (k : StepAt) → IsRoughTalk service tei k → (w : Wire) → IsTimely k w → On w → On (doing k w)
   step (at_near act) is w x h = near-goes act is w x h
   step (at_far act) is w x h = far-goes act is w x.0 x.1 h
 
-  pub runs : (ds : List Doing) → All (IsRoughTalk service tei) ds → (w : Wire) → StayTimely ds w → On w → On (doing_all ds w)
+  pub runs : (ds : List StepAt) → All (IsRoughTalk service tei) ds → (w : Wire) → StayTimely ds w → On w → On (doing_all ds w)
   unfolding doing_all StayTimely
   runs [] all w x h = h
   runs (k ∷ ds) all w x h =
@@ -91,7 +91,7 @@ module _ (service : Service) (tei : ℕ) (c d : Config) (p q : ℕ) (face : Face
 
   -- ---- where both ends are up
 
-  abbrev Up : Wire → End → End → Type 0
+  abbrev Up : Wire → LinkEndpoint → LinkEndpoint → Type 0
   Up w n m = BothUp service tei c d p q (confirmed service tei ∷ []) (indicated service tei ∷ []) w n m
 
   -- what has arrived at the links has arrived
@@ -108,7 +108,7 @@ module _ (service : Service) (tei : ℕ) (c d : Config) (p q : ℕ) (face : Face
     },
   )
 
-  module _ (w : Wire) (n m : End) (h : Up w n m) (still : IsStill w) (may : BothMayRepeat service tei w) where
+  module _ (w : Wire) (n m : LinkEndpoint) (h : Up w n m) (still : IsStill w) (may : BothMayRepeat service tei w) where
     loose : LooseAt service tei c d p q (confirmed service tei ∷ []) (indicated service tei ∷ []) w n m
     loose = record { near = h.near; far = h.far; loose = as-loose n m h.firm }
 
@@ -143,7 +143,7 @@ module _ (service : Service) (tei : ℕ) (c d : Config) (p q : ℕ) (face : Face
 
     again : Rings service tei c d p q (its_sabme ∷ []) [] expired
     again =
-        let w' = acting (times_out timer) w in
+        let w' = acting (expires timer) w in
         down-expires service tei c d p q face back rt ru (its_sabme ∷ []) [] w' (repeats-sabme service tei c d p q face back rt ru w h timer (λ l. refl) few) timer T200 (λ l. refl)
 
     -- the first round
@@ -154,11 +154,11 @@ module _ (service : Service) (tei : ℕ) (c d : Config) (p q : ℕ) (face : Face
     first : First (doing_all round expired)
     unfolding doing_all
     first =
-        let w1 = acting gives expired in
-        let w2 = turned (acting takes (turned w1)) in
+        let w1 = acting sends expired in
+        let w2 = turned (acting receives (turned w1)) in
         let m = end (terms d service tei) called [] in
         let h2 : UaWaits service tei c d p q m w2 = ringing.answers service tei c d p q face back rt ru w1 (gives-sabme service tei c d p q face back rt ru expired again) in
-        let w3 = turned (acting gives (turned w2)) in
+        let w3 = turned (acting sends (turned w2)) in
         let h3 : UaGoes service tei c d p q m w3 = gives-ua service tei c d p q face back rt ru w2 m h2 in
         record { repeats = h3.repeats; up = confirms service tei c d p q face back rt ru w3 m h3 }
 
@@ -185,7 +185,7 @@ module _ (service : Service) (tei : ℕ) (c d : Config) (p q : ℕ) (face : Face
         let n = end t (ringing_as h.repeats []) [] in
         let m = end v fresh [] in
         let near = hushed service tei c p [] w.near n h.near still.near still.near_way in
-        let w' = acting (times_out timer) w in
+        let w' = acting (expires timer) w in
         let next = repeats-sabme service tei c d p q face back rt ru w h timer (λ l. refl) few in
         let n' = end t (ringing_as next.repeats (its_sabme ∷ [])) [] in
         let sabme-alone = All-cons (λ (f : ControlFrame). is_final f.command f.control ≡ false) its_sabme [] refl (All-nil (λ (f : ControlFrame). is_final f.command f.control ≡ false)) in

@@ -1,5 +1,5 @@
 -- Two stations whose links are up, where each timer is timely: both stay up, whatever is lost.
-use Rattle.laws_wire.proofs.Vocabulary.{arith, ◌≡◌, ℕ, Bool, true, IsTrue, List, [], ◌∷◌, map, Some, None, refl, sym, ap, subst, ◌∙◌, ◌⊎◌, inl, inr, append-nil, true≢false, All, All-head, Control, Service, Timer, Parts, spelling, TimerRecovery, LinkTimer, T203, is_multiple_frame, course, given, is_running, awaits_answer, IsTimed, IsTimedIn, runs, End, Ends, with_link, with_sent, offer-gave, Config, LineTold, expiry, request, next, gave, CanRepeat, nothing-given, T200, Data, Station, Wire, happens, with_first_of, Act, requests, times_out, gives, takes, loses, acting, turned, answered, IsOfLink, IsRoughTalkOf, is_poll, is_final, IsTimelyOf, rounds, Joined, Flows, expired, timer_T200, timer_T203, two_ends_with_first_of, two_ends_with_first_lost, two_links_rounds}
+use Rattle.laws_wire.proofs.Vocabulary.{arith, ◌≡◌, ℕ, Bool, true, IsTrue, List, [], ◌∷◌, map, Some, None, refl, sym, ap, subst, ◌∙◌, ◌⊎◌, inl, inr, append-nil, true≢false, All, All-head, Control, Service, Timer, Parts, spelling, TimerRecovery, LinkTimer, T203, is_multiple_frame, course, given, is_running, awaits_answer, IsTimed, IsTimedIn, runs, LinkEndpoint, Ends, with_link, with_sent, offer-gave, Config, LineTold, expiry, request, next, gave, CanRepeat, nothing-given, T200, Data, Endpoint, Wire, happens, with_first_of, EndStep, requests, expires, sends, receives, loses, acting, turned, answered, IsOfLink, IsRoughTalkOf, is_poll, is_final, IsTimelyOf, rounds, Joined, Flows, expired, timer_T200, timer_T203, two_ends_with_first_of, two_ends_without_first, two_links_rounds}
 use Rattle.laws_link.specs.two.Timely as two_links_timely
 use Rattle.laws_wire.proofs.Asking.{with_more, asked-form}
 use Rattle.laws_wire.proofs.Awaited.{NoneOpen, closed, may-there, long-there}
@@ -18,33 +18,33 @@ module _ (service : Service) (tei : ℕ) where
   each-timer o x y z is = grind arith
 
   -- where no turn is left
-  pub record IsHushed (n : End) : Type 0 where
+  pub record IsHushed (n : LinkEndpoint) : Type 0 where
     pub given : given n.terms n.link ≡ None
     pub way : n.way ≡ []
 
-  pub hushed : (k : Config) (place : ℕ) (past : List LineTold) (s : Station) (n : End) → Held k service tei place past s n → answered next s ≡ gave None → s.way ≡ []
+  pub hushed : (k : Config) (place : ℕ) (past : List LineTold) (s : Endpoint) (n : LinkEndpoint) → Held k service tei place past s n → answered next s ≡ gave None → s.way ≡ []
       → IsHushed n
   hushed k place past s n h none empty = record {
     given = still-gives-none service tei place s n (subst (λ k. StationStands k service tei place s n) (sym h.stands.config) h.stands) none;
     way = no-way (spelling k.side) n.way (sym h.stands.way ∙ empty);
   }
 
-  pub none-waits : (n : End) → IsHushed n → n.link.waiting ≡ []
+  pub none-waits : (n : LinkEndpoint) → IsHushed n → n.link.waiting ≡ []
   none-waits n h = (nothing-given n.terms n.link h.given).waiting
 
   -- so no answer is to come
-  pub none-of : (asked : Bool → Control → Bool) (n : End) → n.link.waiting ≡ [] → n.way ≡ [] → two_links_timely.HasNo asked n
+  pub none-of : (asked : Bool → Control → Bool) (n : LinkEndpoint) → n.link.waiting ≡ [] → n.way ≡ [] → two_links_timely.HasNo asked n
   none-of asked n waiting way = grind arith
 
-  pub none-open : (n m : End) → IsHushed n → IsHushed m → NoneOpen n m
+  pub none-open : (n m : LinkEndpoint) → IsHushed n → IsHushed m → NoneOpen n m
   none-open n m h k = record { commands = none-of is_poll n (none-waits n h) h.way; responses = none-of is_final m (none-waits m k) k.way }
 
   -- a station whose link is up, and stays so as a timer expires
-  module _ (k : Config) (place : ℕ) (past : List LineTold) (s : Station) (n : End) (h : Held k service tei place past s n) where
-    abbrev IsUpAt : End → Type 0
+  module _ (k : Config) (place : ℕ) (past : List LineTold) (s : Endpoint) (n : LinkEndpoint) (h : Held k service tei place past s n) where
+    abbrev IsUpAt : LinkEndpoint → Type 0
     IsUpAt n = IsTrue (is_multiple_frame n.link.state)
 
-    abbrev after : Timer → Station
+    abbrev after : Timer → Endpoint
     after timer = happens (expiry timer) s
 
     pub timer-held : IsUpAt n → (timer : Timer) (its : LinkTimer) → Aims service tei timer its → IsUpAt (with_link (expired its) n)
@@ -66,7 +66,7 @@ module _ (service : Service) (tei : ℕ) where
     never timed state running = true≢false (sym running ∙ ap (runs T203) (timed-8 timed state))
 
   -- it takes what the other gave
-  pub took-held : (c d : Config) (p q : ℕ) → Face c d → (past other : List LineTold) (s o : Station) (n m : End) → Held c service tei p past s n → Held d service tei q other o m
+  pub took-held : (c d : Config) (p q : ℕ) → Face c d → (past other : List LineTold) (s o : Endpoint) (n m : LinkEndpoint) → Held c service tei p past s n → Held d service tei q other o m
       → Joined n m → n.terms.n201 ≡ m.terms.n201 → Flows n m → Flows m n → Held c service tei p past (with_first_of o.way s) (two_ends_with_first_of m.way n)
   took-held c d p q face past other s o n m h g joined same there back = subst (λ ways. Held c service tei p past (with_first_of ways s) (two_ends_with_first_of m.way n)) (sym g.stands.way) (taken m.way refl)
     where
@@ -77,32 +77,32 @@ module _ (service : Service) (tei : ℕ) where
           let fine = takes-fine n m joined same there back f fs e in
           held-taken service tei p past c s n h d face f from (record { its_notes = fine.its_notes; no_unit = fine.no_unit }) (takes-kept n m joined same there back f fs e)
 
-  pub record BothUp (c d : Config) (p q : ℕ) (past other : List LineTold) (w : Wire) (n m : End) : Type 0 where
+  pub record BothUp (c d : Config) (p q : ℕ) (past other : List LineTold) (w : Wire) (n m : LinkEndpoint) : Type 0 where
     pub near : Held c service tei p past w.near n
     pub far : Held d service tei q other w.far m
     pub firm : Firm n m
 
-  pub turned-up : (c d : Config) (p q : ℕ) (past other : List LineTold) (w : Wire) (n m : End) → BothUp c d p q past other w n m → BothUp d c q p other past (turned w) m n
+  pub turned-up : (c d : Config) (p q : ℕ) (past other : List LineTold) (w : Wire) (n m : LinkEndpoint) → BothUp c d p q past other w n m → BothUp d c q p other past (turned w) m n
   turned-up c d p q past other w n m h = record { near = h.far; far = h.near; firm = firm-turned n m h.firm }
 
   pub record AreUp (c d : Config) (p q : ℕ) (past other : List LineTold) (w : Wire) : Type 0 where
-    pub n : End
-    pub m : End
+    pub n : LinkEndpoint
+    pub m : LinkEndpoint
     pub up : BothUp c d p q past other w n m
 
   pub turned-are : (c d : Config) (p q : ℕ) (past other : List LineTold) (w : Wire) → AreUp c d p q past other w → AreUp d c q p other past (turned w)
   turned-are c d p q past other w h = record { n = h.m; m = h.n; up = turned-up c d p q past other w h.n h.m h.up }
 
-  module _ (c d : Config) (p q : ℕ) (face : Face c d) (past other : List LineTold) (w : Wire) (n m : End) (h : BothUp c d p q past other w n m) where
-    abbrev Now : Wire → End → End → Type 0
+  module _ (c d : Config) (p q : ℕ) (face : Face c d) (past other : List LineTold) (w : Wire) (n m : LinkEndpoint) (h : BothUp c d p q past other w n m) where
+    abbrev Now : Wire → LinkEndpoint → LinkEndpoint → Type 0
     Now w' n' m' = BothUp c d p q past other w' n' m'
 
-    pub up-gives : Now (acting gives w) (with_sent n) m
+    pub up-gives : Now (acting sends w) (with_sent n) m
     up-gives =
         let kept = (offer-gave n.terms h.firm.joined.near_ranges n.link h.firm.joined.near_sound n.link.waiting refl).same in
         record { near = held-given service tei p past c w.near n h.near kept; far = h.far; firm = firm-sends n m h.firm }
 
-    pub up-takes : Now (acting takes w) (two_ends_with_first_of m.way n) (two_ends_with_first_lost m)
+    pub up-takes : Now (acting receives w) (two_ends_with_first_of m.way n) (two_ends_without_first m)
     up-takes = record {
       near = took-held c d p q face past other w.near w.far n m h.near h.far h.firm.joined h.firm.same h.firm.there h.firm.back;
       far = held-lost service tei q other d w.far m h.far;
@@ -112,7 +112,7 @@ module _ (service : Service) (tei : ℕ) where
     pub up-asks : (octets : List ℕ) → AreUp c d p q past other (acting (requests (Data service tei octets)) w)
     up-asks octets = go (held-asked service tei p past c w.near n h.near octets)
       where
-        s' : Station
+        s' : Endpoint
         s' = happens (request (Data service tei octets)) w.near
 
         go : (s' ≡ w.near) ⊎ Grants service tei p past c w.near n h.near octets s' → AreUp c d p q past other (record w { near = s' })
@@ -125,12 +125,12 @@ module _ (service : Service) (tei : ℕ) where
 
     -- a timer
     pub up-expires : (timer : Timer) (its : LinkTimer) → Aims service tei timer its → CanRepeat its n → two_links_timely.IsTimely its n m
-        → Now (acting (times_out timer) w) (with_link (expired its) n) m
+        → Now (acting (expires timer) w) (with_link (expired its) n) m
     up-expires timer its aims can timely =
         let firm = firm-expires n m h.firm its can timely in
         record { near = timer-held c p past w.near n h.near h.firm.joined.near_up timer its aims firm.joined.near_up; far = h.far; firm = firm }
 
-    up-t200 : IsTimelyOf (times_out (timer_T200 service tei)) w → AreUp c d p q past other (acting (times_out (timer_T200 service tei)) w)
+    up-t200 : IsTimelyOf (expires (timer_T200 service tei)) w → AreUp c d p q past other (acting (expires (timer_T200 service tei)) w)
     up-t200 (long, may) =
         let there = may-there service tei c p w.near n h.near.stands may in
         let none = λ (state : n.link.state ≡ TimerRecovery).
@@ -141,7 +141,7 @@ module _ (service : Service) (tei : ℕ) where
           up = up-expires (timer_T200 service tei) T200 (λ l. refl) (λ state running. there (ap awaits_answer state) running) (λ state running. none state);
         }
 
-    up-t203 : AreUp c d p q past other (acting (times_out (timer_T203 service tei)) w)
+    up-t203 : AreUp c d p q past other (acting (expires (timer_T203 service tei)) w)
     up-t203 = record {
       n = with_link (expired T203) n;
       m = m;
@@ -149,13 +149,13 @@ module _ (service : Service) (tei : ℕ) where
     }
 
     -- each act that is timely
-    pub up-acts : (act : Act) → IsRoughTalkOf service tei act → IsTimelyOf act w → AreUp c d p q past other (acting act w)
+    pub up-acts : (act : EndStep) → IsRoughTalkOf service tei act → IsTimelyOf act w → AreUp c d p q past other (acting act w)
     up-acts (requests r) is x = for-data service tei (λ r. AreUp c d p q past other (acting (requests r) w)) up-asks r is
-    up-acts (times_out timer) is x =
-        each-timer (λ timer. IsTimelyOf (times_out timer) w → AreUp c d p q past other (acting (times_out timer) w)) up-t200 (λ x. up-t203) timer is x
-    up-acts gives is x = record { n = with_sent n; m = m; up = up-gives }
-    up-acts takes is x = record { n = two_ends_with_first_of m.way n; m = two_ends_with_first_lost m; up = up-takes }
-    up-acts loses is x = record { n = two_ends_with_first_lost n; m = m; up = (record { near = held-lost service tei p past c w.near n h.near; far = h.far; firm = firm-loses n m h.firm }) }
+    up-acts (expires timer) is x =
+        each-timer (λ timer. IsTimelyOf (expires timer) w → AreUp c d p q past other (acting (expires timer) w)) up-t200 (λ x. up-t203) timer is x
+    up-acts sends is x = record { n = with_sent n; m = m; up = up-gives }
+    up-acts receives is x = record { n = two_ends_with_first_of m.way n; m = two_ends_without_first m; up = up-takes }
+    up-acts loses is x = record { n = two_ends_without_first n; m = m; up = (record { near = held-lost service tei p past c w.near n h.near; far = h.far; firm = firm-loses n m h.firm }) }
 
   -- so it is round after round
   abbrev At : Config → Config → ℕ → ℕ → List LineTold → List LineTold → Wire → Ends → Type 0

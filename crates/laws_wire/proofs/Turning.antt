@@ -1,5 +1,5 @@
 -- Turns alone, in any order.
-use Rattle.laws_wire.proofs.Vocabulary.{◌≡◌, ℕ, ◌+◌, ◌*◌, ◌≤◌, List, [], ◌∷◌, ◌++◌, refl, sym, ap, subst, ◌∙◌, arith, if◌then◌else◌, All, All-head, All-tail, All-weaker, All-append, Service, Config, terms, Wire, Doing, doing, doing_all, is_turn, turns, calling, CanCall, GivesOrTakes, granted_of, IsRoughTalk, HasNoErrors, moves, expiries, expiries_in, most_frames, IsTimely, StayTimely, LosesNothing}
+use Rattle.laws_wire.proofs.Vocabulary.{◌≡◌, ℕ, ◌+◌, ◌*◌, ◌≤◌, List, [], ◌∷◌, ◌++◌, refl, sym, ap, subst, ◌∙◌, arith, if◌then◌else◌, All, All-head, All-tail, All-weaker, All-append, Service, Config, terms, Wire, StepAt, doing, doing_all, is_turn, turns, calling, CanCall, SendsOrReceives, granted_of, IsRoughTalk, HasNoErrors, moves, expiries, expiries_in, most_frames, IsTimely, StayTimely, LosesNothing}
 use Rattle.laws_wire.specs.Resting.{is_move}
 use Rattle.laws_wire.proofs.RestedRounds.{doing-append, moves-append, expiries-append, near-gives, near-takes, far-gives, far-takes}
 use Rattle.laws_wire.proofs.RestedRun.{moves-come-to-an-end}
@@ -7,57 +7,57 @@ use Rattle.laws_wire.proofs.TimelyRun.{what-is-lost-arrives}
 
 -- ---- one turn
 
-loses-none : (d : Doing) → GivesOrTakes d → LosesNothing d
+loses-none : (d : StepAt) → SendsOrReceives d → LosesNothing d
 loses-none d t = grind arith
 
-in-time : (d : Doing) (w : Wire) → GivesOrTakes d → IsTimely d w
+in-time : (d : StepAt) (w : Wire) → SendsOrReceives d → IsTimely d w
 in-time d w t = grind arith
 
-no-expiry : (d : Doing) → GivesOrTakes d → expiries_in d ≡ 0
+no-expiry : (d : StepAt) → SendsOrReceives d → expiries_in d ≡ 0
 no-expiry d t = grind arith
 
-no-grant : (d : Doing) (w : Wire) → GivesOrTakes d → granted_of (doing d w) ≡ granted_of w
+no-grant : (d : StepAt) (w : Wire) → SendsOrReceives d → granted_of (doing d w) ≡ granted_of w
 no-grant d w t = grind (arith, near-gives, near-takes, far-gives, far-takes)
 
-is-move : (d : Doing) (w : Wire) → GivesOrTakes d → is_turn d w ≡ is_move d w
+is-move : (d : StepAt) (w : Wire) → SendsOrReceives d → is_turn d w ≡ is_move d w
 is-move d w t = grind arith
 
 -- ---- and many
 
-pub all-of_link : (service : Service) (tei : ℕ) (es : List Doing) → All GivesOrTakes es → All (IsRoughTalk service tei) es
-all-of_link service tei es all = All-weaker GivesOrTakes (IsRoughTalk service tei) (λ d t. grind arith) es all
+pub all-of_link : (service : Service) (tei : ℕ) (es : List StepAt) → All SendsOrReceives es → All (IsRoughTalk service tei) es
+all-of_link service tei es all = All-weaker SendsOrReceives (IsRoughTalk service tei) (λ d t. grind arith) es all
 
-pub all-lose_none : (es : List Doing) → All GivesOrTakes es → All LosesNothing es
-all-lose_none es all = All-weaker GivesOrTakes LosesNothing loses-none es all
+pub all-lose_none : (es : List StepAt) → All SendsOrReceives es → All LosesNothing es
+all-lose_none es all = All-weaker SendsOrReceives LosesNothing loses-none es all
 
-pub behind-timely : (ds es : List Doing) (w : Wire) → StayTimely ds w → All GivesOrTakes es → StayTimely (ds ++ es) w
+pub behind-timely : (ds es : List StepAt) (w : Wire) → StayTimely ds w → All SendsOrReceives es → StayTimely (ds ++ es) w
 unfolding StayTimely
 behind-timely [] [] w h all = tt
-behind-timely [] (e ∷ es) w h all = (in-time e w (All-head GivesOrTakes e es all), behind-timely [] es (doing e w) tt (All-tail GivesOrTakes e es all))
+behind-timely [] (e ∷ es) w h all = (in-time e w (All-head SendsOrReceives e es all), behind-timely [] es (doing e w) tt (All-tail SendsOrReceives e es all))
 behind-timely (d ∷ ds) es w h all = (h.0, behind-timely ds es (doing d w) h.1 all)
 
-pub no-expiries : (es : List Doing) → All GivesOrTakes es → expiries es ≡ 0
+pub no-expiries : (es : List StepAt) → All SendsOrReceives es → expiries es ≡ 0
 unfolding expiries
 no-expiries [] all = refl
 no-expiries (e ∷ es) all =
-    let rest = no-expiries es (All-tail GivesOrTakes e es all) in
-    omega (arith, (no-expiry e (All-head GivesOrTakes e es all)), rest)
+    let rest = no-expiries es (All-tail SendsOrReceives e es all) in
+    omega (arith, (no-expiry e (All-head SendsOrReceives e es all)), rest)
 
-pub no-grants : (es : List Doing) (w : Wire) → All GivesOrTakes es → granted_of (doing_all es w) ≡ granted_of w
+pub no-grants : (es : List StepAt) (w : Wire) → All SendsOrReceives es → granted_of (doing_all es w) ≡ granted_of w
 unfolding doing_all
 no-grants [] w all = refl
-no-grants (e ∷ es) w all = no-grants es (doing e w) (All-tail GivesOrTakes e es all) ∙ no-grant e w (All-head GivesOrTakes e es all)
+no-grants (e ∷ es) w all = no-grants es (doing e w) (All-tail SendsOrReceives e es all) ∙ no-grant e w (All-head SendsOrReceives e es all)
 
-pub are-moves : (es : List Doing) (w : Wire) → All GivesOrTakes es → turns es w ≡ moves es w
+pub are-moves : (es : List StepAt) (w : Wire) → All SendsOrReceives es → turns es w ≡ moves es w
 unfolding turns moves
 are-moves [] w all = refl
 are-moves (e ∷ es) w all =
-    ap (λ b. (if b then 1 else 0) + turns es (doing e w)) (is-move e w (All-head GivesOrTakes e es all))
-    ∙ ap (λ n. (if is_move e w then 1 else 0) + n) (are-moves es (doing e w) (All-tail GivesOrTakes e es all))
+    ap (λ b. (if b then 1 else 0) + turns es (doing e w)) (is-move e w (All-head SendsOrReceives e es all))
+    ∙ ap (λ n. (if is_move e w then 1 else 0) + n) (are-moves es (doing e w) (All-tail SendsOrReceives e es all))
 
 -- ---- behind a timely call
 
-module _ (service : Service) (c d : Config) (line other tei k : ℕ) (ds es : List Doing) (can : CanCall c line d other tei) (talk : All (IsRoughTalk service tei) ds) (all : All GivesOrTakes es) where
+module _ (service : Service) (c d : Config) (line other tei k : ℕ) (ds es : List StepAt) (can : CanCall c line d other tei) (talk : All (IsRoughTalk service tei) ds) (all : All SendsOrReceives es) where
   abbrev begun : Wire
   begun = calling service tei c line d other
 

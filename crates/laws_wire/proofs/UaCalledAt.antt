@@ -1,5 +1,5 @@
 -- The station of the end that is called, whose link is up: what requests, timers and calls for the next frame do there.
-use Rattle.laws_wire.proofs.Vocabulary.{◌≡◌, ℕ, ◌==◌, Bool, true, false, not, ◌||◌, IsTrue, List, [], ◌∷◌, ◌++◌, None, refl, sym, ap, subst, ◌∙◌, ◌⊎◌, inl, inr, arith, Service, Timer, TimerRecovery, LinkTimer, T203, Terms, Link, after, is_multiple_frame, has_outstanding, given, is_running, awaits_answer, no-reports, End, with_link, frame_given, Config, LineTold, expiry, request, Line, place_in, Request, at_requested, aim_of_request, IsMildRequest, CanRepeat, HasNo, Sane, T200, Data, SetBusy, ClearBusy, Station, Wire, happens, times_out, contents_requested, IsOfLink, is_poll, IsTimelyOf, requested, LinkEvent, offer, LinkSetBusy, expired, LinkClearBusy, LinkData, LinkRequest, timer_T200, timer_T203, course, IsAsked, gives_information, timer-stays, request-stays, is_recovering}
+use Rattle.laws_wire.proofs.Vocabulary.{◌≡◌, ℕ, ◌==◌, Bool, true, false, not, ◌||◌, IsTrue, List, [], ◌∷◌, ◌++◌, None, refl, sym, ap, subst, ◌∙◌, ◌⊎◌, inl, inr, arith, Service, Timer, TimerRecovery, LinkTimer, T203, Terms, Link, after, is_multiple_frame, has_outstanding, given, is_running, awaits_answer, no-reports, LinkEndpoint, with_link, frame_given, Config, LineTold, expiry, request, Line, place_in, Request, at_requested, aim_of_request, IsNotRelease, CanRepeat, HasNo, Sane, T200, Data, SetBusy, ClearBusy, Endpoint, Wire, happens, expires, contents_requested, IsOfLink, is_poll, IsTimelyOf, requested, LinkEvent, offer, LinkSetBusy, expired, LinkClearBusy, LinkData, LinkRequest, timer_T200, timer_T203, course, IsAsked, gives_information, timer-stays, request-stays, is_recovering}
 use Rattle.laws_wire.proofs.Acting.{ranges, sound}
 use Rattle.laws_wire.proofs.Asking.{asked-form}
 use Rattle.laws_wire.proofs.Awaited.{awaits-is, may-there, none-there, gives-reads}
@@ -20,8 +20,8 @@ module _ (t : Terms) (l : Link) where
   pub offer-rejecting : (after t offer l).rejecting ≡ l.rejecting
   offer-rejecting = grind arith
 
-module _ (service : Service) (tei : ℕ) (d : Config) (q : ℕ) (past : List LineTold) (v : Wire) (M : End) (h : Held d service tei q past v.near M) where
-  abbrev s : Station
+module _ (service : Service) (tei : ℕ) (d : Config) (q : ℕ) (past : List LineTold) (v : Wire) (M : LinkEndpoint) (h : Held d service tei q past v.near M) where
+  abbrev s : Endpoint
   s = v.near
 
   -- ---- the next frame is called for
@@ -41,17 +41,17 @@ module _ (service : Service) (tei : ℕ) (d : Config) (q : ℕ) (past : List Lin
     abbrev pub Free : Type 0
     Free = HasNo is_poll M
 
-    pub record StirsAt (e : LinkEvent) (s' : Station) : Type 0 where
+    pub record StirsAt (e : LinkEvent) (s' : Endpoint) : Type 0 where
       pub left : Link
       pub becomes : with_link e M ≡ record M { link = left }
       pub held : Held d service tei q past s' (record M { link = left })
       pub stirs : Stirs Free M.link left
 
-    module _ (P : Station → Type 0) (same : P s) (on : (rq : LinkRequest) (s' : Station) → IsMildRequest rq → StirsAt (requested rq false) s' → P s') where
+    module _ (P : Endpoint → Type 0) (same : P s) (on : (rq : LinkRequest) (s' : Endpoint) → IsNotRelease rq → StirsAt (requested rq false) s' → P s') where
       asks-more : (octets : List ℕ) → P (happens (request (Data service tei octets)) s)
       asks-more octets = go (held-asked service tei q past d s M h octets)
         where
-          s' : Station
+          s' : Endpoint
           s' = happens (request (Data service tei octets)) s
 
           go : (s' ≡ s) ⊎ Grants service tei q past d s M h octets s' → P s'
@@ -64,11 +64,11 @@ module _ (service : Service) (tei : ℕ) (d : Config) (q : ℕ) (past : List Lin
                 stirs = grind (arith, asked-form, sane-after, no-reports);
               })
 
-      asks-busy : (r : Request) (rq : LinkRequest) → IsMildRequest rq → (aims : (l : Line) → aim_of_request r l ≡ at_requested service tei rq (place_in l tei)) → contents_requested r ≡ []
+      asks-busy : (r : Request) (rq : LinkRequest) → IsNotRelease rq → (aims : (l : Line) → aim_of_request r l ≡ at_requested service tei rq (place_in l tei)) → contents_requested r ≡ []
           → Mute M.link (course M.terms (requested rq false) M.link) → Goes M.link (after M.terms (requested rq false) M.link) [] → P (happens (request r) s)
       asks-busy r rq mild aims none mute g = go (held-busy service tei d q past s M h r rq aims none mute)
         where
-          s' : Station
+          s' : Endpoint
           s' = happens (request r) s
 
           go : (s' ≡ s) ⊎ Held d service tei q past s' (with_link (requested rq false) M) → P s'
@@ -91,7 +91,7 @@ module _ (service : Service) (tei : ℕ) (d : Config) (q : ℕ) (past : List Lin
     abbrev pub FreeAs : LinkTimer → Type 0
     FreeAs its = M.link.state ≡ TimerRecovery → is_running its M.link ≡ true → Free
 
-    module _ (P : Station → Type 0) (on : (its : LinkTimer) (s' : Station) → CanRepeat its M → FreeAs its → StirsAt (expired its) s' → P s') where
+    module _ (P : Endpoint → Type 0) (on : (its : LinkTimer) (s' : Endpoint) → CanRepeat its M → FreeAs its → StirsAt (expired its) s' → P s') where
       expires-so : (timer : Timer) (its : LinkTimer) → Aims service tei timer its → CanRepeat its M → FreeAs its → P (happens (expiry timer) s)
       expires-so timer its aims can free =
           let is = only-link M (expired its) (timer-delivers M.terms M.link its) in
@@ -102,9 +102,9 @@ module _ (service : Service) (tei : ℕ) (d : Config) (q : ℕ) (past : List Lin
             stirs = timer-stirs M.terms M.link up sane Free its can free;
           })
 
-      pub expired-at : (timer : Timer) → IsOfLink service tei timer → IsTimelyOf (times_out timer) v → P (happens (expiry timer) s)
+      pub expired-at : (timer : Timer) → IsOfLink service tei timer → IsTimelyOf (expires timer) v → P (happens (expiry timer) s)
       expired-at timer is x =
-          each-timer service tei (λ timer. IsTimelyOf (times_out timer) v → P (happens (expiry timer) s))
+          each-timer service tei (λ timer. IsTimelyOf (expires timer) v → P (happens (expiry timer) s))
           (λ x. expires-so (timer_T200 service tei) T200 (λ l. refl) (λ state running. may-there service tei d q s M h.stands x.1 (ap awaits_answer state) running)
           (λ state running. none-there service tei d q s M h.stands is_poll (x.0 (awaits-is service tei d q s M h.stands ∙ ap awaits_answer state)).commands))
           (λ x. expires-so (timer_T203 service tei) T203 (λ l. refl) (λ state running. absurd (never service tei d q past s M h sane.timed state running))

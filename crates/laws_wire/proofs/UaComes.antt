@@ -1,5 +1,5 @@
 -- A call in which UA may be lost and an end may be busy comes to rest, from any time of it on.
-use Rattle.laws_wire.proofs.Vocabulary.{◌≡◌, ◌≢◌, ℕ, zero, suc, ◌+◌, ◌*◌, ◌≤◌, List, [], ◌∷◌, ◌++◌, length, refl, sym, ap, subst, ◌∙◌, arith, length-append, length-map, All, All-cons, All-nil, All-append, Service, IsInRange, Config, LineTold, terms, Wire, times_out, gives, takes, at_near, at_far, Doing, doing, doing_all, IsStill, calling, CanCall, granted_of, confirmed, heard_in, IsFullTalk, StayPatient, MayRepeat, BothMayRepeat, with_t200_expired, rounds, expiries, most_frames, expiry, timer_T200, IsAtRest, Called, uncalled, seen, ToldSo, length-drop, reports, most_moves, none_busy, Busy, busy, busy_behind, HasLeft, near_expires, LossyCallsComeToRest}
+use Rattle.laws_wire.proofs.Vocabulary.{◌≡◌, ◌≢◌, ℕ, zero, suc, ◌+◌, ◌*◌, ◌≤◌, List, [], ◌∷◌, ◌++◌, length, refl, sym, ap, subst, ◌∙◌, arith, length-append, length-map, All, All-cons, All-nil, All-append, Service, IsInRange, Config, LineTold, terms, Wire, expires, sends, receives, at_near, at_far, StepAt, doing, doing_all, IsStill, calling, CanCall, granted_of, confirmed, heard_in, IsFullTalk, StayPatient, MayRepeat, BothMayRepeat, with_t200_expired, rounds, expiries, most_frames, expiry, timer_T200, IsAtRest, Called, uncalled, seen, ToldSo, length-drop, reports, most_moves, none_busy, Busy, busy, busy_behind, HasLeft, near_expires, LossyCallsComeToRest}
 use Rattle.laws_wire.proofs.Answered.{same-granted}
 use Rattle.laws_wire.proofs.Awaited.{open-here}
 use Rattle.laws_wire.proofs.LossyRun.{setting}
@@ -15,7 +15,7 @@ use Rattle.laws_wire.proofs.UnderwayRounds.{told-still}
 
 -- ---- own busy is not asked for
 
-busy-append : (ds es : List Doing) (w : Wire) (x : Busy) → busy (ds ++ es) w x ≡ busy es (doing_all ds w) (busy ds w x)
+busy-append : (ds es : List StepAt) (w : Wire) (x : Busy) → busy (ds ++ es) w x ≡ busy es (doing_all ds w) (busy ds w x)
 unfolding busy doing_all
 busy-append [] es w x = refl
 busy-append (d ∷ ds) es w x = busy-append ds es (doing d w) (busy_behind d w x)
@@ -23,7 +23,7 @@ busy-append (d ∷ ds) es w x = busy-append ds es (doing d w) (busy_behind d w x
 none-busier : (n : ℕ) (w : Wire) (x : Busy) → busy (many n) w x ≡ x
 unfolding many busy
 none-busier zero w x = refl
-none-busier (suc n) w x = none-busier n (doing (at_near takes) (doing (at_far gives) (doing (at_far takes) (doing (at_near gives) w)))) x
+none-busier (suc n) w x = none-busier n (doing (at_near receives) (doing (at_far sends) (doing (at_far receives) (doing (at_near sends) w)))) x
 
 -- ---- where no turn is left T200 of the end that calls is timely
 
@@ -51,7 +51,7 @@ module _ (service : Service) (c d : Config) (line other tei k : ℕ) (can : CanC
   wide : (a b : ℕ) → (2 * a ≤ 2 * a + 2 * b) × (2 * b ≤ 2 * a + 2 * b)
   wide a b = (omega arith, omega arith)
 
-  long : (ds : List Doing) → All (IsFullTalk service tei) ds → StayPatient ds begun → IsStill (doing_all ds begun) → MayRepeat service tei (doing_all ds begun).near
+  long : (ds : List StepAt) → All (IsFullTalk service tei) ds → StayPatient ds begun → IsStill (doing_all ds begun) → MayRepeat service tei (doing_all ds begun).near
       → StayPatient (near_expires service tei) (doing_all ds begun)
   long ds talk patient =
       let s = setting service c d line other tei can in
@@ -59,7 +59,7 @@ module _ (service : Service) (c d : Config) (line other tei k : ℕ) (can : CanC
       goes-long service tei c d 0 0 s.face s.back s.near s.far (2 * (terms c service tei).k + 2 * (terms d service tei).k) less.0 less.1 (seen service tei ds begun uncalled) (doing_all ds begun)
       (patient-goes service c d line other tei ds can talk patient)
 
-  module _ (ds : List Doing) (talk : All (IsFullTalk service tei) ds) (patient : StayPatient ds begun) (told : heard_in (doing_all ds begun).near ≢ []) where
+  module _ (ds : List StepAt) (talk : All (IsFullTalk service tei) ds) (patient : StayPatient ds begun) (told : heard_in (doing_all ds begun).near ≢ []) where
     abbrev x : Called
     x = seen service tei ds begun uncalled
 
@@ -79,7 +79,7 @@ module _ (service : Service) (c d : Config) (line other tei k : ℕ) (can : CanC
     rest : busy ds begun none_busy ≡ none_busy → IsStill w → BothMayRepeat service tei w → IsAtRest service tei (rounds (granted_of w + 3) (with_t200_expired service tei w))
     rest free still may = ((lossy-calls-settle service c d line other tei ds can talk patient free).settles (granted_of w) (still, told, may) left).1
 
-module _ (service : Service) (c d : Config) (line other tei k : ℕ) (ds : List Doing) (can : CanCall c line d other tei) (talk : All (IsFullTalk service tei) ds) (wide-near : (terms c service tei).k ≤ k)
+module _ (service : Service) (c d : Config) (line other tei k : ℕ) (ds : List StepAt) (can : CanCall c line d other tei) (talk : All (IsFullTalk service tei) ds) (wide-near : (terms c service tei).k ≤ k)
     (wide-far : (terms d service tei).k ≤ k) (patient : StayPatient ds (calling service tei c line d other)) (free : busy ds (calling service tei c line d other) none_busy ≡ none_busy) where
   abbrev first : Wire
   first = calling service tei c line d other
@@ -87,12 +87,12 @@ module _ (service : Service) (c d : Config) (line other tei k : ℕ) (ds : List 
   abbrev at : Wire
   at = doing_all ds first
 
-  abbrev calls : List Doing
+  abbrev calls : List StepAt
   calls = near_expires service tei
 
   -- as rounds have led to where no turn is left
   module _ (n : ℕ) (still : IsStill (rounds n at)) (may : MayRepeat service tei (rounds n at).near) where
-    abbrev ds1 : List Doing
+    abbrev ds1 : List StepAt
     ds1 = ds ++ many n
 
     abbrev at-1 : Wire
@@ -111,18 +111,18 @@ module _ (service : Service) (c d : Config) (line other tei k : ℕ) (ds : List 
     calls-so = long service c d line other tei k can ds1 talk-1 patient-1 (subst IsStill (sym is-1) still) (subst (λ (w : Wire). MayRepeat service tei w.near) (sym is-1) may)
 
     -- T200 of the end that calls expires
-    abbrev ds2 : List Doing
+    abbrev ds2 : List StepAt
     ds2 = ds1 ++ calls
 
     abbrev at-2 : Wire
     at-2 = doing_all calls at-1
 
     talk-2 : All (IsFullTalk service tei) ds2
-    talk-2 = All-append (IsFullTalk service tei) ds1 calls talk-1 (All-cons (IsFullTalk service tei) (at_near (times_out (timer_T200 service tei))) [] (refl, refl) (All-nil (IsFullTalk service tei)))
+    talk-2 = All-append (IsFullTalk service tei) ds1 calls talk-1 (All-cons (IsFullTalk service tei) (at_near (expires (timer_T200 service tei))) [] (refl, refl) (All-nil (IsFullTalk service tei)))
 
     -- and so many rounds
     module _ (r : ℕ) where
-      abbrev ds3 : List Doing
+      abbrev ds3 : List StepAt
       ds3 = ds2 ++ many r
 
       is-3 : doing_all ds3 first ≡ rounds r at-2

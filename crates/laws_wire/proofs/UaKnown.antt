@@ -1,5 +1,5 @@
 -- What is known of the links of a call in which UA may be lost: each runs the timer that it needs, and is busy only as it was asked.
-use Rattle.laws_wire.proofs.Vocabulary.{arith, ◌≡◌, ℕ, ◌*◌, ◌≤◌, Bool, true, false, not, ◌&&◌, ◌||◌, IsTrue, List, [], ◌∷◌, ◌++◌, map, refl, sym, ap, subst, ◌∙◌, ◌⊎◌, inl, inr, true≢false, All, All-head, All-tail, Service, Timer, Parts, spelling, LinkTimer, is_multiple_frame, after, IsInRange, End, with_link, Config, expiry, request, terms, next, Line, place_in, Request, Data, SetBusy, ClearBusy, at_requested, aim_of_request, sound-after, Station, Wire, happens, comes, with_first_of, Act, requests, times_out, gives, takes, loses, acting, turned, Doing, at_near, at_far, doing, doing_all, link_of, is_granted, answered, IsAsked, IsFullTalkOf, IsFullTalk, StayPatient, or_parts, frame, requested, LinkEvent, offer, expired, LinkSetBusy, received, LinkClearBusy, LinkData, LinkRequest, Called, seeing, HasItsTimer, timely-after}
+use Rattle.laws_wire.proofs.Vocabulary.{arith, ◌≡◌, ℕ, ◌*◌, ◌≤◌, Bool, true, false, not, ◌&&◌, ◌||◌, IsTrue, List, [], ◌∷◌, ◌++◌, map, refl, sym, ap, subst, ◌∙◌, ◌⊎◌, inl, inr, true≢false, All, All-head, All-tail, Service, Timer, Parts, spelling, LinkTimer, is_multiple_frame, after, IsInRange, LinkEndpoint, with_link, Config, expiry, request, terms, next, Line, place_in, Request, Data, SetBusy, ClearBusy, at_requested, aim_of_request, sound-after, Endpoint, Wire, happens, frame_comes, with_first_of, EndStep, requests, expires, sends, receives, loses, acting, turned, StepAt, at_near, at_far, doing, doing_all, link_of, is_granted, answered, IsAsked, IsFullTalkOf, IsFullTalk, StayPatient, or_parts, frame, requested, LinkEvent, offer, expired, LinkSetBusy, received, LinkClearBusy, LinkData, LinkRequest, Called, seeing, HasItsTimer, timely-after}
 use Rattle.laws_link.specs.Flags.{busy_asked}
 use Rattle.laws_link.specs.States.{as_heard}
 use Rattle.laws_link.proofs.EachRow.{each-row}
@@ -17,13 +17,13 @@ use Rattle.laws_wire.proofs.UaWeighs.{seen-in}
 -- ---- own busy of a link
 
 module _ (service : Service) (tei : ℕ) where
-  pub record Known (b : Bool) (s : Station) : Type 0 where
+  pub record Known (b : Bool) (s : Endpoint) : Type 0 where
     pub timed : HasItsTimer (link_of service tei (line_of s))
     pub free : b ≡ false → (link_of service tei (line_of s)).own_busy ≡ false
 
   -- ---- what is done at a station
 
-  module _ (c : Config) (p : ℕ) (s : Station) (n : End) (stands : StationStands c service tei p s n) (b : Bool) (known : Known b s) where
+  module _ (c : Config) (p : ℕ) (s : Endpoint) (n : LinkEndpoint) (stands : StationStands c service tei p s n) (b : Bool) (known : Known b s) where
     own : StationStands s.card.config service tei p s n
     own = subst (λ k. StationStands k service tei p s n) (sym stands.config) stands
 
@@ -38,7 +38,7 @@ module _ (service : Service) (tei : ℕ) where
         let sound = link-sound service tei p s n own in
         timely-after n.terms e n.link sound (sound-after n.terms (link-ranges service tei p s n own) e n.link sound) (subst HasItsTimer is known.timed)
 
-    by-event : (e : LinkEvent) (s' : Station) (b' : Bool) → (link_of service tei (line_of s')) ≡ after n.terms e n.link → (b' ≡ false → (after n.terms e n.link).own_busy ≡ false) → Known b' s'
+    by-event : (e : LinkEvent) (s' : Endpoint) (b' : Bool) → (link_of service tei (line_of s')) ≡ after n.terms e n.link → (b' ≡ false → (after n.terms e n.link).own_busy ≡ false) → Known b' s'
     by-event e s' b' to calm = grind (arith, timed, free)
 
     mild : (e : LinkEvent) → busy_asked (as_heard n.terms e) false ≡ false → b ≡ false → (after n.terms e n.link).own_busy ≡ false
@@ -52,13 +52,13 @@ module _ (service : Service) (tei : ℕ) where
         by-event (expired its) (happens (expiry timer) s) b
         (link-is service tei s.card.config p (happens (expiry timer) s) (with_link (expired its) n) (expires-stands service tei p s n own timer its aims)) (mild (expired its) refl)
 
-    pub known-takes : (s' : Station) (f : Parts) → StationStands c service tei p s' (with_link (received (frame f)) n) → Known b s'
+    pub known-takes : (s' : Endpoint) (f : Parts) → StationStands c service tei p s' (with_link (received (frame f)) n) → Known b s'
     known-takes s' f then =
         by-event (received (frame f)) s' b (link-is service tei c p s' (with_link (received (frame f)) n) then) (mild (received (frame f)) refl)
 
     -- a request
     module _ (r : Request) (rq : LinkRequest) (aims : (l : Line) → aim_of_request r l ≡ at_requested service tei rq (place_in l tei)) where
-      abbrev s' : Station
+      abbrev s' : Endpoint
       s' = happens (request r) s
 
       abbrev e : LinkEvent
@@ -105,7 +105,7 @@ module _ (service : Service) (tei : ℕ) where
 
   -- ---- and on a wire
 
-  module _ (c d : Config) (p q : ℕ) (face : Face c d) (w : Wire) (n m : End) (near : StationStands c service tei p w.near n) (far : StationStands d service tei q w.far m) (up : IsTrue (is_multiple_frame n.link.state) ⊎ (n.link.own_busy ≡ false))
+  module _ (c d : Config) (p q : ℕ) (face : Face c d) (w : Wire) (n m : LinkEndpoint) (near : StationStands c service tei p w.near n) (far : StationStands d service tei q w.far m) (up : IsTrue (is_multiple_frame n.link.state) ⊎ (n.link.own_busy ≡ false))
       (b : Bool) (known : Known b w.near) where
     taken : (way : List Parts) → m.way ≡ way → Known b (with_first_of w.far.way w.near)
     taken [] e = subst (λ ways. Known b (with_first_of ways w.near)) (sym (far.way ∙ ap (map (spelling d.side)) e)) known
@@ -113,13 +113,13 @@ module _ (service : Service) (tei : ℕ) where
         let carried = All-head (IsCarried d service tei) f fs (subst (All (IsCarried d service tei)) e far.carried) in
         let took : Took service tei p unheard c w.near n (spelling d.side f) f = takes_frame service tei p unheard c d face w.near n f near carried in
         subst (λ ways. Known b (with_first_of ways w.near)) (sym (far.way ∙ ap (map (spelling d.side)) e))
-        (known-takes c p w.near n near b known (comes (spelling d.side f) w.near) f took.stands)
+        (known-takes c p w.near n near b known (frame_comes (spelling d.side f) w.near) f took.stands)
 
-    pub near-known : (act : Act) → IsFullTalkOf service tei act → Known (busy_by act w.near b) (acting act w).near
+    pub near-known : (act : EndStep) → IsFullTalkOf service tei act → Known (busy_by act w.near b) (acting act w).near
     near-known (requests r) is = known-asked c p w.near n near b known up r is
-    near-known (times_out timer) is = for-timer service tei (λ timer. Known b (happens (expiry timer) w.near)) (known-expires c p w.near n near b known) timer is
-    near-known gives x = known-gives c p w.near n near b known
-    near-known takes is = taken m.way refl
+    near-known (expires timer) is = for-timer service tei (λ timer. Known b (happens (expiry timer) w.near)) (known-expires c p w.near n near b known) timer is
+    near-known sends x = known-gives c p w.near n near b known
+    near-known receives is = taken m.way refl
     near-known loses is = record { timed = known.timed; free = known.free }
 
   -- ---- and in a whole call
@@ -130,8 +130,8 @@ module _ (service : Service) (tei : ℕ) where
   module _ (c d : Config) (p q : ℕ) (face : Face c d) (back : Face d c) (rt : IsInRange (terms c service tei)) (ru : IsInRange (terms d service tei)) (v : ℕ)
       (wide_c : 2 * (terms c service tei).k ≤ v) (wide_d : 2 * (terms d service tei).k ≤ v) where
     record Stood (w : Wire) : Type 0 where
-      n : End
-      m : End
+      n : LinkEndpoint
+      m : LinkEndpoint
       near : StationStands c service tei p w.near n
       far : StationStands d service tei q w.far m
       near_up : IsTrue (is_multiple_frame n.link.state) ⊎ (n.link.own_busy ≡ false)
@@ -149,12 +149,12 @@ module _ (service : Service) (tei : ℕ) where
           far_up = s.far_up;
         })
 
-    one-known : (k : Doing) → IsFullTalk service tei k → (w : Wire) → Stood w → (y : Busy) → BothKnown y w → BothKnown (busy_behind k w y) (doing k w)
+    one-known : (k : StepAt) → IsFullTalk service tei k → (w : Wire) → Stood w → (y : Busy) → BothKnown y w → BothKnown (busy_behind k w y) (doing k w)
     one-known (at_near act) is w s y h = (near-known c d p q face w s.n s.m s.near s.far s.near_up y.near h.0 act is, (grind (arith, timed, free)))
     one-known (at_far act) is w s y h =
         ((grind (arith, timed, free)), near-known d c q p back (turned w) s.m s.n s.far s.near s.far_up y.far h.1 act is)
 
-    pub runs-known : (ds : List Doing) → All (IsFullTalk service tei) ds → (w : Wire) → StayPatient ds w → (x : Called) → Goes service tei c d p q face back rt ru x w → (y : Busy) → BothKnown y w
+    pub runs-known : (ds : List StepAt) → All (IsFullTalk service tei) ds → (w : Wire) → StayPatient ds w → (x : Called) → Goes service tei c d p q face back rt ru x w → (y : Busy) → BothKnown y w
         → BothKnown (busy ds w y) (doing_all ds w)
     unfolding doing_all StayPatient busy
     runs-known [] all w patient x g y h = h

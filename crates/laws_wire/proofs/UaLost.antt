@@ -1,6 +1,6 @@
 -- The phases of a call in which UA may be lost: one end rings, and the other is down; or it is up, and its UA waits, is on its way, or is
 -- not to come.
-use Rattle.laws_wire.proofs.Vocabulary.{◌≡◌, ℕ, ◌+◌, ◌<◌, ◌≤◌, Bool, true, false, not, List, [], ◌∷◌, ◌++◌, map, take, refl, sym, ap, subst, ◌∙◌, ◌⊎◌, inl, inr, arith, nat_lt, option_to_list, lt-ltb, All, All-head, All-drop, Control, Service, Parts, spelling, ControlFrame, Terms, course, IsInRange, End, with_link, Config, LineTold, expiry, request, terms, Request, Means, Rising, kind_of, one_enquiry, tally, line, HasNo, T200, Course, Station, Wire, happens, comes, with_first_of, with_first_lost, Act, requests, times_out, gives, takes, loses, acting, confirmed, heard_in, is_poll, IsTimelyOf, IsFullTalkOf, timer_T200, timer_T203, NoteData}
+use Rattle.laws_wire.proofs.Vocabulary.{◌≡◌, ℕ, ◌+◌, ◌<◌, ◌≤◌, Bool, true, false, not, List, [], ◌∷◌, ◌++◌, map, take, refl, sym, ap, subst, ◌∙◌, ◌⊎◌, inl, inr, arith, nat_lt, option_to_list, lt-ltb, All, All-head, All-drop, Control, Service, Parts, spelling, ControlFrame, Terms, course, IsInRange, LinkEndpoint, with_link, Config, LineTold, expiry, request, terms, Request, Means, Rising, kind_of, one_enquiry, tally, line, HasNo, T200, Course, Endpoint, Wire, happens, frame_comes, with_first_of, without_first, EndStep, requests, expires, sends, receives, loses, acting, confirmed, heard_in, is_poll, IsTimelyOf, IsFullTalkOf, timer_T200, timer_T203, NoteData}
 use Rattle.model_link.specs.Events as link
 use Rattle.laws_wire.proofs.Awaited.{awaits-is, may-there, none-there, goes-first, waits-first}
 use Rattle.laws_wire.proofs.Calling.{sabme, end}
@@ -14,7 +14,7 @@ use Rattle.laws_wire.proofs.TimelyPhases.{silent-t203}
 use Rattle.laws_wire.proofs.TimelyUp.{each-timer}
 
 -- This goes before what is on the way of an end.
-abbrev pub behind : List Parts → End → End
+abbrev pub behind : List Parts → LinkEndpoint → LinkEndpoint
 behind before n = record n { way = before ++ n.way }
 
 -- where no enquiry waits, none is counted
@@ -44,16 +44,16 @@ module _ (service : Service) (tei : ℕ) (c d : Config) (p q : ℕ) (face : Face
   room = let low = rt.control_low in lt-ltb 0 t.control (omega (arith, low))
 
   -- ---- one end rings, with this waiting and this on its way; and this holds of the other's station
-  pub record Rings (P : Station → Type 0) (ws : List ControlFrame) (way : List Parts) (w : Wire) : Type 0 where
+  pub record Rings (P : Endpoint → Type 0) (ws : List ControlFrame) (way : List Parts) (w : Wire) : Type 0 where
     pub repeats : ℕ
     pub near : Held c service tei p [] w.near (end t (ringing repeats ws) way)
     pub far : P w.far
 
-  abbrev pub Ringing : (Station → Type 0) → Wire → Type 0
+  abbrev pub Ringing : (Endpoint → Type 0) → Wire → Type 0
   Ringing P w = Rings P [] [] w ⊎ Rings P (its_sabme ∷ []) [] w ⊎ Rings P [] (sabme t ∷ []) w
 
   -- what is asked of it is refused
-  asks-held : (ws : List ControlFrame) (way : List Parts) (k : ℕ) (s : Station) → Held c service tei p [] s (end t (ringing k ws) way) → (r : Request) → IsFullTalkOf service tei (requests r)
+  asks-held : (ws : List ControlFrame) (way : List Parts) (k : ℕ) (s : Endpoint) → Held c service tei p [] s (end t (ringing k ws) way) → (r : Request) → IsFullTalkOf service tei (requests r)
       → Held c service tei p [] (happens (request r) s) (end t (ringing k ws) way)
   asks-held ws way k s h r is =
       let n = end t (ringing k ws) way in
@@ -63,27 +63,27 @@ module _ (service : Service) (tei : ℕ) (c d : Config) (p q : ℕ) (face : Face
       (subst (λ s. Held c service tei p [] s n) (sym (ready-refused service tei c p [] s n h refl)) h) r is
 
   -- while UA is to come T200 does not expire
-  pub near-waits : (k : ℕ) (w : Wire) → Held c service tei p [] w.near (end t (ringing k []) []) → (IsTimelyOf (times_out (timer_T200 service tei)) w → ⊥) → (act : Act)
-      → (act ≡ takes → ⊥) → IsFullTalkOf service tei act → IsTimelyOf act w → Held c service tei p [] (acting act w).near (end t (ringing k []) [])
+  pub near-waits : (k : ℕ) (w : Wire) → Held c service tei p [] w.near (end t (ringing k []) []) → (IsTimelyOf (expires (timer_T200 service tei)) w → ⊥) → (act : EndStep)
+      → (act ≡ receives → ⊥) → IsFullTalkOf service tei act → IsTimelyOf act w → Held c service tei p [] (acting act w).near (end t (ringing k []) [])
   near-waits k w h never (requests r) not is x = asks-held [] [] k w.near h r is
-  near-waits k w h never (times_out timer) not is x =
-      each-timer service tei (λ timer. IsTimelyOf (times_out timer) w → Held c service tei p [] (happens (expiry timer) w.near) (end t (ringing k []) [])) (λ x. absurd (never x))
+  near-waits k w h never (expires timer) not is x =
+      each-timer service tei (λ timer. IsTimelyOf (expires timer) w → Held c service tei p [] (happens (expiry timer) w.near) (end t (ringing k []) [])) (λ x. absurd (never x))
       (λ x. silent-t203 service tei c d p q k [] [] w.near h) timer is x
-  near-waits k w h never gives not is x = gives-nothing service tei c p [] w.near (end t (ringing k []) []) h refl
-  near-waits k w h never takes not is x = absurd (not refl)
+  near-waits k w h never sends not is x = gives-nothing service tei c p [] w.near (end t (ringing k []) []) h refl
+  near-waits k w h never receives not is x = absurd (not refl)
   near-waits k w h never loses not is x = held-lost service tei p [] c w.near (end t (ringing k []) []) h
 
   -- a frame of a link that is up is not served
-  module _ (ws : List ControlFrame) (way : List Parts) (w : Wire) (repeats : ℕ) (near : Held c service tei p [] w.near (end t (ringing repeats ws) way)) (past : List LineTold) (M : End)
+  module _ (ws : List ControlFrame) (way : List Parts) (w : Wire) (repeats : ℕ) (near : Held c service tei p [] w.near (end t (ringing repeats ws) way)) (past : List LineTold) (M : LinkEndpoint)
       (held : Held d service tei q past w.far M) where
-    abbrev it : End
+    abbrev it : LinkEndpoint
     it = end t (ringing repeats ws) way
 
     pub ignores-frame : (f : Parts) (fs : List Parts) → M.way ≡ f ∷ fs → (number : ℕ) → Means number f.control → Held c service tei p [] (with_first_of w.far.way w.near) it
     ignores-frame f fs first number means =
         let its_way = first-way service tei d q past w.far M f fs first held in
         let i : Ignores t repeats ws f = ignores t repeats ws f number means in
-        let s' = comes (spelling d.side f) w.near in
+        let s' = frame_comes (spelling d.side f) w.near in
         let event = link.received (link.frame f) in
         let tells : TellsIt service tei (course t event it.link) =
         assumption (i.notes ∙ ap (λ o. map (λ octets. NoteData service tei) (option_to_list o)) (sym i.delivered)) in
@@ -93,39 +93,39 @@ module _ (service : Service) (tei : ℕ) (c d : Config) (p q : ℕ) (face : Face
         subst (λ ways. Held c service tei p [] (with_first_of ways w.near) it) (sym its_way.0) taken
 
   -- so it rings on, as it takes
-  pub ringing-takes : (P : Station → Type 0) (ws : List ControlFrame) (way : List Parts) (w : Wire) → Rings P ws way w → P (with_first_lost w.far) → (past : List LineTold) (M : End)
-      → Held d service tei q past w.far M → (r : ℕ) (rest : List Parts) → Rising 0 r (M.way ++ rest) → Rings P ws way (acting takes w)
+  pub ringing-takes : (P : Endpoint → Type 0) (ws : List ControlFrame) (way : List Parts) (w : Wire) → Rings P ws way w → P (without_first w.far) → (past : List LineTold) (M : LinkEndpoint)
+      → Held d service tei q past w.far M → (r : ℕ) (rest : List Parts) → Rising 0 r (M.way ++ rest) → Rings P ws way (acting receives w)
   ringing-takes P ws way w h lost past M held r rest rising = go M.way refl
     where
-      go : (its : List Parts) → M.way ≡ its → Rings P ws way (acting takes w)
+      go : (its : List Parts) → M.way ≡ its → Rings P ws way (acting receives w)
       go [] e = subst (Rings P ws way) (sym (takes-none w (empty service tei d q past w.far M held e))) h
       go (f ∷ fs) e =
           let x = subst (λ its. Rising 0 r (its ++ rest)) e rising in
           record { repeats = h.repeats; near = ignores-frame ws way w h.repeats h.near past M held f fs e x.0 x.2; far = lost }
 
-  module _ (P : Station → Type 0) where
+  module _ (P : Endpoint → Type 0) where
     abbrev R : List ControlFrame → List Parts → Wire → Type 0
     R ws way w = Rings P ws way w
 
     module _ (ws : List ControlFrame) (way : List Parts) (w : Wire) (h : R ws way w) where
-      abbrev n : End
+      abbrev n : LinkEndpoint
       n = end t (ringing h.repeats ws) way
 
       near-asks : (r : Request) → IsFullTalkOf service tei (requests r) → R ws way (acting (requests r) w)
       near-asks r is = record { repeats = h.repeats; near = asks-held ws way h.repeats w.near h.near r is; far = h.far }
 
-      near-t203 : R ws way (acting (times_out (timer_T203 service tei)) w)
+      near-t203 : R ws way (acting (expires (timer_T203 service tei)) w)
       near-t203 = record { repeats = h.repeats; near = silent-t203 service tei c d p q h.repeats ws way w.near h.near; far = h.far }
 
       near-loses : way ≡ [] → R ws way (acting loses w)
       near-loses none = subst (R ws way) (sym (loses-none w (empty service tei c p [] w.near n h.near none))) h
 
       -- nothing that it asked is open as T200 expires
-      nothing-asked : IsTimelyOf (times_out (timer_T200 service tei)) w → HasNo is_poll n
+      nothing-asked : IsTimelyOf (expires (timer_T200 service tei)) w → HasNo is_poll n
       nothing-asked x = none-there service tei c p w.near n h.near.stands is_poll (x.0 (awaits-is service tei c p w.near n h.near.stands)).commands
 
     -- T200 expires, and SABME goes again
-    pub repeats-sabme : (w : Wire) (h : R [] [] w) → h.repeats < t.n200 → R (its_sabme ∷ []) [] (acting (times_out (timer_T200 service tei)) w)
+    pub repeats-sabme : (w : Wire) (h : R [] [] w) → h.repeats < t.n200 → R (its_sabme ∷ []) [] (acting (expires (timer_T200 service tei)) w)
     repeats-sabme w h few =
         let rung = end t (ringing h.repeats []) [] in
         let s' = happens (expiry (timer_T200 service tei)) w.near in
@@ -146,38 +146,38 @@ module _ (service : Service) (tei : ℕ) (c d : Config) (p q : ℕ) (face : Face
         }
 
     -- each act of the near end, but that it takes
-    module _ (w : Wire) (act : Act) where
+    module _ (w : Wire) (act : EndStep) where
       abbrev Now : Type 0
       Now = IsFullTalkOf service tei act → IsTimelyOf act w → Ringing P (acting act w)
 
-    silent : (w : Wire) (h : R [] [] w) (act : Act) → (act ≡ takes → ⊥) → Now w act
+    silent : (w : Wire) (h : R [] [] w) (act : EndStep) → (act ≡ receives → ⊥) → Now w act
     silent w h (requests r) not is x = inl (near-asks [] [] w h r is)
-    silent w h (times_out timer) not is x =
-        each-timer service tei (λ timer. IsTimelyOf (times_out timer) w → Ringing P (acting (times_out timer) w))
+    silent w h (expires timer) not is x =
+        each-timer service tei (λ timer. IsTimelyOf (expires timer) w → Ringing P (acting (expires timer) w))
         (λ x. inr (inl (repeats-sabme w h (may-there service tei c p w.near (end t (ringing h.repeats []) []) h.near.stands x.1 refl refl)))) (λ x. inl (near-t203 [] [] w h)) timer is x
-    silent w h gives not is x = inl (record { repeats = h.repeats; near = gives-nothing service tei c p [] w.near (end t (ringing h.repeats []) []) h.near refl; far = h.far })
-    silent w h takes not is x = absurd (not refl)
+    silent w h sends not is x = inl (record { repeats = h.repeats; near = gives-nothing service tei c p [] w.near (end t (ringing h.repeats []) []) h.near refl; far = h.far })
+    silent w h receives not is x = absurd (not refl)
     silent w h loses not is x = inl (near-loses [] [] w h refl)
 
-    asking : (w : Wire) (h : R (its_sabme ∷ []) [] w) (act : Act) → (act ≡ takes → ⊥) → Now w act
-    asking w h (times_out timer) not is x =
-        each-timer service tei (λ timer. IsTimelyOf (times_out timer) w → Ringing P (acting (times_out timer) w))
+    asking : (w : Wire) (h : R (its_sabme ∷ []) [] w) (act : EndStep) → (act ≡ receives → ⊥) → Now w act
+    asking w h (expires timer) not is x =
+        each-timer service tei (λ timer. IsTimelyOf (expires timer) w → Ringing P (acting (expires timer) w))
         (λ x. absurd (waits-first is_poll (end t (ringing h.repeats (its_sabme ∷ [])) []) its_sabme [] refl refl (nothing-asked (its_sabme ∷ []) [] w h x)))
         (λ x. inr (inl (near-t203 (its_sabme ∷ []) [] w h))) timer is x
-    asking w h gives not is x =
+    asking w h sends not is x =
         inr (inr (record { repeats = h.repeats; near = held-given service tei p [] c w.near (end t (ringing h.repeats (its_sabme ∷ [])) []) h.near refl; far = h.far }))
     asking w h act o is x = grind (arith, near-asks, its_sabme, near-loses)
 
-    calling : (w : Wire) (h : R [] (sabme t ∷ []) w) (act : Act) → (act ≡ takes → ⊥) → Now w act
-    calling w h (times_out timer) not is x =
-        each-timer service tei (λ timer. IsTimelyOf (times_out timer) w → Ringing P (acting (times_out timer) w))
+    calling : (w : Wire) (h : R [] (sabme t ∷ []) w) (act : EndStep) → (act ≡ receives → ⊥) → Now w act
+    calling w h (expires timer) not is x =
+        each-timer service tei (λ timer. IsTimelyOf (expires timer) w → Ringing P (acting (expires timer) w))
         (λ x. absurd (goes-first is_poll (end t (ringing h.repeats []) (sabme t ∷ [])) (sabme t) [] refl refl (nothing-asked [] (sabme t ∷ []) w h x)))
         (λ x. inr (inr (near-t203 [] (sabme t ∷ []) w h))) timer is x
-    calling w h gives not is x =
+    calling w h sends not is x =
         inr (inr (record { repeats = h.repeats; near = gives-nothing service tei c p [] w.near (end t (ringing h.repeats []) (sabme t ∷ [])) h.near refl; far = h.far }))
     calling w h act o is x = grind (arith, near-asks, sabme, held-lost, end, ringing)
 
-    pub near-rings : (w : Wire) → Ringing P w → (act : Act) → (act ≡ takes → ⊥) → Now w act
+    pub near-rings : (w : Wire) → Ringing P w → (act : EndStep) → (act ≡ receives → ⊥) → Now w act
     near-rings w (inl h) act not is x = silent w h act not is x
     near-rings w (inr (inl h)) act not is x = asking w h act not is x
     near-rings w (inr (inr h)) act not is x = calling w h act not is x

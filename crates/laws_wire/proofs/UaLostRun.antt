@@ -1,5 +1,5 @@
 -- A whole call in which UA may be lost: what is told, and that all has come where no turn is left and T200 runs at neither end.
-use Rattle.laws_wire.proofs.Vocabulary.{◌≡◌, ℕ, ◌==◌, Bool, true, false, cond, ◌&&◌, ◌||◌, List, [], ◌∷◌, ◌++◌, length, map, refl, sym, ap, subst, ◌∙◌, ◌⊎◌, inl, inr, append-nil, append_assoc, arith, All, All-head, All-tail, Service, Parts, ControlFrame, spelling, fresh, IsInRange, End, frames_of, Config, LineTold, T203, expiry, request, terms, T200, Station, Wire, happens, Act, requests, times_out, gives, takes, loses, acting, turned, Doing, at_near, at_far, doing, doing_all, is_any, confirmed, indicated, heard_in, is_final, IsTimelyOf, eqb-true, timer_T200, timer_T203, IsFullTalkOf, IsFullTalk, IsPatient, StayPatient, Called, error_f, renewed, told_of_sabme, with_sabme, takes_sabme, gives_information, seeing, seen}
+use Rattle.laws_wire.proofs.Vocabulary.{◌≡◌, ℕ, ◌==◌, Bool, true, false, cond, ◌&&◌, ◌||◌, List, [], ◌∷◌, ◌++◌, length, map, refl, sym, ap, subst, ◌∙◌, ◌⊎◌, inl, inr, append-nil, append_assoc, arith, All, All-head, All-tail, Service, Parts, ControlFrame, spelling, fresh, IsInRange, LinkEndpoint, frames_of, Config, LineTold, T203, expiry, request, terms, T200, Endpoint, Wire, happens, EndStep, requests, expires, sends, receives, loses, acting, turned, StepAt, at_near, at_far, doing, doing_all, is_any, confirmed, indicated, heard_in, is_final, IsTimelyOf, eqb-true, timer_T200, timer_T203, IsFullTalkOf, IsFullTalk, IsPatient, StayPatient, Called, error_f, renewed, told_of_sabme, with_sabme, takes_sabme, gives_information, seeing, seen}
 use Rattle.laws_wire.proofs.Awaited.{awaits-is, none-there}
 use Rattle.laws_wire.proofs.Calling.{end, answering, sabme, ua}
 use Rattle.laws_wire.proofs.Held.{Held, held-lost, held-expired}
@@ -21,25 +21,25 @@ module _ (service : Service) (tei : ℕ) (c d : Config) (p q : ℕ) (face : Face
   abbrev pub its_near : List LineTold
   its_near = confirmed service tei ∷ []
 
-  abbrev pub Away : List LineTold → Bool → Station → Type 0
+  abbrev pub Away : List LineTold → Bool → Endpoint → Type 0
   Away past b s = IsAway service tei c d p q face back rt ru past b s
 
-  abbrev pub Waiting : List LineTold → Bool → Station → Type 0
+  abbrev pub Waiting : List LineTold → Bool → Endpoint → Type 0
   Waiting past b s = IsWaiting service tei c d p q face back rt ru past b s
 
   abbrev pub Coming : List LineTold → Bool → Wire → Type 0
   Coming past b w = Comes service tei c d p q face back rt ru past b w
 
-  abbrev pub R : (Station → Type 0) → List ControlFrame → List Parts → Wire → Type 0
+  abbrev pub R : (Endpoint → Type 0) → List ControlFrame → List Parts → Wire → Type 0
   R P ws way w = Rings service tei c d p q face back rt ru P ws way w
 
-  abbrev pub Rs : (Station → Type 0) → Wire → Type 0
+  abbrev pub Rs : (Endpoint → Type 0) → Wire → Type 0
   Rs P w = Ringing service tei c d p q face back rt ru P w
 
-  abbrev down : End
+  abbrev down : LinkEndpoint
   down = end (terms d service tei) fresh []
 
-  abbrev pub Down : Station → Type 0
+  abbrev pub Down : Endpoint → Type 0
   Down s = Held d service tei q [] s down
 
   abbrev pub Up : List LineTold → Wire → Type 0
@@ -51,15 +51,15 @@ module _ (service : Service) (tei : ℕ) (c d : Config) (p q : ℕ) (face : Face
 
   -- ---- what the near end does
 
-  near-but : (past : List LineTold) (b : Bool) (w : Wire) → IsCalled past b w → (act : Act) → (act ≡ takes → ⊥) → IsFullTalkOf service tei act → IsTimelyOf act w → IsCalled past b (acting act w)
+  near-but : (past : List LineTold) (b : Bool) (w : Wire) → IsCalled past b w → (act : EndStep) → (act ≡ receives → ⊥) → IsFullTalkOf service tei act → IsTimelyOf act w → IsCalled past b (acting act w)
   near-but past b w (inl h) act not is x = inl (near-rings service tei c d p q face back rt ru (Away past b) w h act not is x)
   near-but past b w (inr (inl h)) act not is x =
-      let awaited = λ (x : IsTimelyOf (times_out (timer_T200 service tei)) w).
+      let awaited = λ (x : IsTimelyOf (expires (timer_T200 service tei)) w).
       is-awaited service tei c d p q face back rt ru past b (turned w) h.far
       (none-there service tei d q w.far h.far.M h.far.held.stands is_final (x.0 (awaits-is service tei c p w.near (end (terms c service tei) (ringing h.repeats []) []) h.near.stands)).responses) in
       inr (inl (record { repeats = h.repeats; near = near-waits service tei c d p q face back rt ru h.repeats w h.near awaited act not is x; far = subst (Waiting past b) (sym (grind arith)) h.far }))
   near-but past b w (inr (inr (inl h))) act not is x =
-      let awaited = λ (x : IsTimelyOf (times_out (timer_T200 service tei)) w).
+      let awaited = λ (x : IsTimelyOf (expires (timer_T200 service tei)) w).
       comes-awaited service tei c d p q face back rt ru past b w h
       (none-there service tei d q w.far (whole h) h.far.stands is_final (x.0 (awaits-is service tei c p w.near (end (terms c service tei) (ringing h.repeats []) []) h.near.stands)).responses) in
       inr (inr (inl (record {
@@ -74,17 +74,17 @@ module _ (service : Service) (tei : ℕ) (c d : Config) (p q : ℕ) (face : Face
         flag = h.flag;
       })))
     where
-      whole : Coming past b w → End
+      whole : Coming past b w → LinkEndpoint
       whole h = behind (h.stale ++ ua (terms d service tei) ∷ []) h.m
   near-but past b w (inr (inr (inr h))) act not is x = inr (inr (inr (loose-acts service tei c d p q face its_near past w h act is x)))
 
   module _ (past : List LineTold) (b : Bool) (w : Wire) where
-    away-takes : (ws : List ControlFrame) (way : List Parts) → R (Away past b) ws way w → R (Away past b) ws way (acting takes w)
+    away-takes : (ws : List ControlFrame) (way : List Parts) → R (Away past b) ws way w → R (Away past b) ws way (acting receives w)
     away-takes ws way h =
         ringing-takes service tei c d p q face back rt ru (Away past b) ws way w h (away-loses service tei c d p q face back rt ru past b (turned w) h.far) past h.far.M h.far.held
         h.far.M.link.r (frames_of h.far.M.terms h.far.M.link.waiting) h.far.rising
 
-    near-takes : IsCalled past b w → IsCalled past b (acting takes w)
+    near-takes : IsCalled past b w → IsCalled past b (acting receives w)
     near-takes (inl (inl h)) = inl (inl (away-takes [] [] h))
     near-takes (inl (inr (inl h))) = inl (inr (inl (away-takes (its_sabme ∷ []) [] h)))
     near-takes (inl (inr (inr h))) = inl (inr (inr (away-takes [] (sabme (terms c service tei) ∷ []) h)))
@@ -92,46 +92,46 @@ module _ (service : Service) (tei : ℕ) (c d : Config) (p q : ℕ) (face : Face
         inr (inl (ringing-takes service tei c d p q face back rt ru (Waiting past b) [] [] w h (waiting-loses service tei c d p q face back rt ru past b (turned w) h.far) past h.far.M h.far.held
         0 (frames_of (terms d service tei) h.far.old) h.far.rising))
     near-takes (inr (inr (inl h))) = inr (inr (comes-takes service tei c d p q face back rt ru past b w h))
-    near-takes (inr (inr (inr h))) = inr (inr (inr (loose-acts service tei c d p q face its_near past w h takes tt tt)))
+    near-takes (inr (inr (inr h))) = inr (inr (inr (loose-acts service tei c d p q face its_near past w h receives tt tt)))
 
-  near-called : (past : List LineTold) (b : Bool) (w : Wire) → IsCalled past b w → (act : Act) → IsFullTalkOf service tei act → IsTimelyOf act w → IsCalled past b (acting act w)
+  near-called : (past : List LineTold) (b : Bool) (w : Wire) → IsCalled past b w → (act : EndStep) → IsFullTalkOf service tei act → IsTimelyOf act w → IsCalled past b (acting act w)
   near-called past b w h (requests r) is x = near-but past b w h (requests r) (λ e. cc e) is x
-  near-called past b w h (times_out timer) is x = near-but past b w h (times_out timer) (λ e. cc e) is x
-  near-called past b w h gives is x = near-but past b w h gives (λ e. cc e) is x
-  near-called past b w h takes is x = near-takes past b w h
+  near-called past b w h (expires timer) is x = near-but past b w h (expires timer) (λ e. cc e) is x
+  near-called past b w h sends is x = near-but past b w h sends (λ e. cc e) is x
+  near-called past b w h receives is x = near-takes past b w h
   near-called past b w h loses is x = near-but past b w h loses (λ e. cc e) is x
 
   -- ---- what the far end does
 
-  abbrev done : Act → Wire → Wire
+  abbrev done : EndStep → Wire → Wire
   done act w = turned (acting act (turned w))
 
-  rings-far : (P P' : Station → Type 0) (ws : List ControlFrame) (way : List Parts) (w w' : Wire) → w'.near ≡ w.near → (P w.far → P' w'.far) → R P ws way w → R P' ws way w'
+  rings-far : (P P' : Endpoint → Type 0) (ws : List ControlFrame) (way : List Parts) (w w' : Wire) → w'.near ≡ w.near → (P w.far → P' w'.far) → R P ws way w → R P' ws way w'
   rings-far P P' ws way w w' same on h = grind (arith, end, ringing)
 
-  all-far : (P P' : Station → Type 0) (w w' : Wire) → w'.near ≡ w.near → (P w.far → P' w'.far) → Rs P w → Rs P' w'
+  all-far : (P P' : Endpoint → Type 0) (w w' : Wire) → w'.near ≡ w.near → (P w.far → P' w'.far) → Rs P w → Rs P' w'
   all-far P P' w w' same on (inl h) = inl (rings-far P P' [] [] w w' same on h)
   all-far P P' w w' same on (inr (inl h)) = inr (inl (rings-far P P' (its_sabme ∷ []) [] w w' same on h))
   all-far P P' w w' same on (inr (inr h)) = inr (inr (rings-far P P' [] (sabme (terms c service tei) ∷ []) w w' same on h))
 
-  up-far : (past : List LineTold) (w : Wire) → Up past w → (act : Act) → IsFullTalkOf service tei act → IsTimelyOf act (turned w) → Up past (done act w)
+  up-far : (past : List LineTold) (w : Wire) → Up past w → (act : EndStep) → IsFullTalkOf service tei act → IsTimelyOf act (turned w) → Up past (done act w)
   up-far past w h act is x =
       loose-turned-up service tei d c q p past its_near (acting act (turned w))
       (loose-acts service tei d c q p back past its_near (turned w) (loose-turned-up service tei c d p q its_near past w h) act is x)
 
   -- it takes SABME, or nothing
   module _ (w : Wire) where
-    empty-way : (n : End) (ts : List LineTold) → Held c service tei p ts w.near n → n.way ≡ [] → w.near.way ≡ []
+    empty-way : (n : LinkEndpoint) (ts : List LineTold) → Held c service tei p ts w.near n → n.way ≡ [] → w.near.way ≡ []
     empty-way n ts h none = h.stands.way ∙ ap (map (spelling c.side)) none
 
-    stays : (A : Wire → Type 0) → w.near.way ≡ [] → A w → A (done takes w)
+    stays : (A : Wire → Type 0) → w.near.way ≡ [] → A w → A (done receives w)
     stays A none h = subst A (sym (ap turned (takes-none (turned w) none))) h
 
-    told-no : (n : End) → Held c service tei p its_near w.near n → takes_sabme w ≡ false
+    told-no : (n : LinkEndpoint) → Held c service tei p its_near w.near n → takes_sabme w ≡ false
     told-no n h = grind (arith, eqb-true, and-false)
 
   -- it is asked, or a timer expires
-  module _ (past : List LineTold) (b : Bool) (w : Wire) (act : Act) (untaken : act ≡ takes → ⊥) (not : act ≡ gives → ⊥) (nor : act ≡ loses → ⊥) (is : IsFullTalkOf service tei act)
+  module _ (past : List LineTold) (b : Bool) (w : Wire) (act : EndStep) (untaken : act ≡ receives → ⊥) (not : act ≡ sends → ⊥) (nor : act ≡ loses → ⊥) (is : IsFullTalkOf service tei act)
       (x : IsTimelyOf act (turned w)) where
     far-stirs : IsCalled past b w → IsCalled past b (done act w)
     far-stirs (inl h) =
@@ -145,15 +145,15 @@ module _ (service : Service) (tei : ℕ) (c d : Config) (p q : ℕ) (face : Face
     abbrev now : Bool
     now = b || gives_information w.far
 
-    far-gives : IsCalled past b w → IsCalled past now (done gives w)
-    far-gives (inl h) = inl (all-far (Away past b) (Away past now) w (done gives w) refl (λ y. away-gives service tei c d p q face back rt ru past b (turned w) y) h)
-    far-gives (inr (inl h)) = go (waiting-gives service tei c d p q face back rt ru past b (turned w) h.far h.repeats (done gives w) h.near refl)
+    far-gives : IsCalled past b w → IsCalled past now (done sends w)
+    far-gives (inl h) = inl (all-far (Away past b) (Away past now) w (done sends w) refl (λ y. away-gives service tei c d p q face back rt ru past b (turned w) y) h)
+    far-gives (inr (inl h)) = go (waiting-gives service tei c d p q face back rt ru past b (turned w) h.far h.repeats (done sends w) h.near refl)
       where
-        go : Waiting past now (done gives w).far ⊎ Coming past now (done gives w) → IsCalled past now (done gives w)
+        go : Waiting past now (done sends w).far ⊎ Coming past now (done sends w) → IsCalled past now (done sends w)
         go (inl y) = inr (inl (record { repeats = h.repeats; near = h.near; far = y }))
         go (inr y) = inr (inr (inl y))
     far-gives (inr (inr (inl h))) = inr (inr (inl (comes-gives service tei c d p q face back rt ru past b w h)))
-    far-gives (inr (inr (inr h))) = inr (inr (inr (up-far past w h gives tt tt)))
+    far-gives (inr (inr (inr h))) = inr (inr (inr (up-far past w h sends tt tt)))
 
     far-loses : IsCalled past b w → IsCalled past b (done loses w)
     far-loses (inl h) = inl (all-far (Away past b) (Away past b) w (done loses w) refl (λ y. away-loses service tei c d p q face back rt ru past b (turned w) y) h)
@@ -162,9 +162,9 @@ module _ (service : Service) (tei : ℕ) (c d : Config) (p q : ℕ) (face : Face
     far-loses (inr (inr (inr h))) = inr (inr (inr (up-far past w h loses tt tt)))
 
     abbrev Takes : Type 0
-    Takes = ((takes_sabme w ≡ false) × IsCalled past b (done takes w)) ⊎ ((takes_sabme w ≡ true) × TookSabme service tei c d p q face back rt ru past b w (done takes w))
+    Takes = ((takes_sabme w ≡ false) × IsCalled past b (done receives w)) ⊎ ((takes_sabme w ≡ true) × TookSabme service tei c d p q face back rt ru past b w (done receives w))
 
-    far-takes : IsCalled past b w → IsTimelyOf takes (turned w) → Takes
+    far-takes : IsCalled past b w → IsTimelyOf receives (turned w) → Takes
     far-takes (inl (inl h)) x =
         let none = empty-way w (end (terms c service tei) (ringing h.repeats []) []) [] h.near refl in
         inl ((ap (λ way. is_any way && length (heard_in w.near) == 0) none), stays w (IsCalled past b) none (inl (inl h)))
@@ -180,30 +180,30 @@ module _ (service : Service) (tei : ℕ) (c d : Config) (p q : ℕ) (face : Face
     far-takes (inr (inr (inl h))) x =
         let none = empty-way w (end (terms c service tei) (ringing h.repeats []) []) [] h.near refl in
         inl ((ap (λ way. is_any way && length (heard_in w.near) == 0) none), stays w (IsCalled past b) none (inr (inr (inl h))))
-    far-takes (inr (inr (inr h))) x = inl (told-no w h.n h.near, inr (inr (inr (up-far past w h takes tt x))))
+    far-takes (inr (inr (inr h))) x = inl (told-no w h.n h.near, inr (inr (inr (up-far past w h receives tt x))))
 
   -- ---- while it is down
 
   module _ (w : Wire) where
-    down-acts : Down w.far → (act : Act) → (act ≡ takes → ⊥) → IsFullTalkOf service tei act → Down (acting act (turned w)).near
+    down-acts : Down w.far → (act : EndStep) → (act ≡ receives → ⊥) → IsFullTalkOf service tei act → Down (acting act (turned w)).near
     down-acts h (requests r) not is =
         for-asked service tei (λ r. Down (happens (request r) w.far)) (λ octets. subst Down (sym (asks-refused service tei d q [] w.far down h (λ octets none. cc none) octets)) h)
         (subst Down (sym (busy-refused service tei d q [] w.far down h refl)) h) (subst Down (sym (ready-refused service tei d q [] w.far down h refl)) h) r is
-    down-acts h (times_out timer) not is =
+    down-acts h (expires timer) not is =
         each-timer service tei (λ timer. Down (happens (expiry timer) w.far))
         (held-expired service tei q [] d w.far down h (timer_T200 service tei) T200 (λ l. refl) (record { its_notes = refl; no_unit = refl }) refl)
         (held-expired service tei q [] d w.far down h (timer_T203 service tei) T203 (λ l. refl) (record { its_notes = refl; no_unit = refl }) refl) timer is
-    down-acts h gives not is = gives-nothing service tei d q [] w.far down h refl
-    down-acts h takes not is = absurd (not refl)
+    down-acts h sends not is = gives-nothing service tei d q [] w.far down h refl
+    down-acts h receives not is = absurd (not refl)
     down-acts h loses not is = held-lost service tei q [] d w.far down h
 
-    down-far : Rs Down w → (act : Act) → (act ≡ takes → ⊥) → IsFullTalkOf service tei act → Rs Down (done act w)
+    down-far : Rs Down w → (act : EndStep) → (act ≡ receives → ⊥) → IsFullTalkOf service tei act → Rs Down (done act w)
     down-far h act not is = all-far Down Down w (done act w) (grind arith) (λ y. down-acts y act not is) h
 
-    there : (P : Station → Type 0) → Rs P w → P w.far
+    there : (P : Endpoint → Type 0) → Rs P w → P w.far
     there o x = grind arith
 
-    down-takes : Rs Down w → ((takes_sabme w ≡ false) × Rs Down (done takes w)) ⊎ ((takes_sabme w ≡ true) × R (Waiting (indicated service tei ∷ []) false) [] [] (done takes w))
+    down-takes : Rs Down w → ((takes_sabme w ≡ false) × Rs Down (done receives w)) ⊎ ((takes_sabme w ≡ true) × R (Waiting (indicated service tei ∷ []) false) [] [] (done receives w))
     down-takes (inl h) =
         let none = empty-way w (end (terms c service tei) (ringing h.repeats []) []) [] h.near refl in
         inl ((ap (λ way. is_any way && length (heard_in w.near) == 0) none), stays w (Rs Down) none (inl h))
@@ -232,11 +232,11 @@ module _ (service : Service) (tei : ℕ) (c d : Config) (p q : ℕ) (face : Face
           },
         )
 
-    down-near : Rs Down w → (act : Act) → IsFullTalkOf service tei act → IsTimelyOf act w → Rs Down (acting act w)
+    down-near : Rs Down w → (act : EndStep) → IsFullTalkOf service tei act → IsTimelyOf act w → Rs Down (acting act w)
     down-near h (requests r) is x = near-rings service tei c d p q face back rt ru Down w h (requests r) (λ e. cc e) is x
-    down-near h (times_out timer) is x = near-rings service tei c d p q face back rt ru Down w h (times_out timer) (λ e. cc e) is x
-    down-near h gives is x = near-rings service tei c d p q face back rt ru Down w h gives (λ e. cc e) is x
-    down-near h takes is x = subst (Rs Down) (sym (takes-none w ((there Down h).stands.way))) h
+    down-near h (expires timer) is x = near-rings service tei c d p q face back rt ru Down w h (expires timer) (λ e. cc e) is x
+    down-near h sends is x = near-rings service tei c d p q face back rt ru Down w h sends (λ e. cc e) is x
+    down-near h receives is x = subst (Rs Down) (sym (takes-none w ((there Down h).stands.way))) h
     down-near h loses is x = near-rings service tei c d p q face back rt ru Down w h loses (λ e. cc e) is x
 
   -- ---- the whole call
@@ -252,17 +252,17 @@ module _ (service : Service) (tei : ℕ) (c d : Config) (p q : ℕ) (face : Face
     pub phase : Phase x v
 
   module _ (x : Called) (v : Wire) (g : List (List ℕ)) (up : x.given_up ≡ length g) where
-    near-goes : Phase x v → (act : Act) → IsFullTalkOf service tei act → IsTimelyOf act (with_before g v) → Goes x (acting act (with_before g v))
+    near-goes : Phase x v → (act : EndStep) → IsFullTalkOf service tei act → IsTimelyOf act (with_before g v) → Goes x (acting act (with_before g v))
     near-goes h act is timely = record { v = acting act v; earlier = g; is = grind arith; given_up = up; phase = go h }
       where
         go : Phase x v → Phase x (acting act v)
         go (inl (told, sent, h)) = inl (told, sent, down-near v h act is (timely-with act v.near v.far v.near.granted (g ++ v.far.granted) timely))
         go (inr (some, h)) = inr (some, near-called x.told x.sent v h act is (timely-with act v.near v.far v.near.granted (g ++ v.far.granted) timely))
 
-    far-goes : (act : Act) → Phase x (done act v) → Goes x (done act (with_before g v))
+    far-goes : (act : EndStep) → Phase x (done act v) → Goes x (done act (with_before g v))
     far-goes act h = record { v = done act v; earlier = g; is = grind (arith, append_assoc); given_up = up; phase = h }
 
-    stirs-goes : Phase x v → (act : Act) → (act ≡ takes → ⊥) → (act ≡ gives → ⊥) → (act ≡ loses → ⊥) → IsFullTalkOf service tei act → IsTimelyOf act (turned (with_before g v))
+    stirs-goes : Phase x v → (act : EndStep) → (act ≡ receives → ⊥) → (act ≡ sends → ⊥) → (act ≡ loses → ⊥) → IsFullTalkOf service tei act → IsTimelyOf act (turned (with_before g v))
         → Goes x (done act (with_before g v))
     stirs-goes h act untaken not nor is timely = far-goes act (go h)
       where
@@ -277,22 +277,22 @@ module _ (service : Service) (tei : ℕ) (c d : Config) (p q : ℕ) (face : Face
         go (inl (told, sent, h)) = inl (told, sent, down-far v h loses (λ e. cc e) tt)
         go (inr (some, h)) = inr (some, far-loses x.told x.sent v h)
 
-    gives-goes : Phase x v → Goes (record x { sent = x.sent || gives_information v.far }) (done gives (with_before g v))
-    gives-goes h = record { v = done gives v; earlier = g; is = grind (arith, append_assoc); given_up = up; phase = go h }
+    gives-goes : Phase x v → Goes (record x { sent = x.sent || gives_information v.far }) (done sends (with_before g v))
+    gives-goes h = record { v = done sends v; earlier = g; is = grind (arith, append_assoc); given_up = up; phase = go h }
       where
-        go : Phase x v → Phase (record x { sent = x.sent || gives_information v.far }) (done gives v)
+        go : Phase x v → Phase (record x { sent = x.sent || gives_information v.far }) (done sends v)
         go (inl (told, sent, h)) =
             inl (
               told,
               (λ i. sent i || none-informed service tei d q [] (turned v) down (there v Down h) refl i),
-              down-far v h gives (λ e. cc e) tt,
+              down-far v h sends (λ e. cc e) tt,
             )
         go (inr (some, h)) = inr (some, far-gives x.told x.sent v h)
 
     abbrev taken : Called
     taken = with_sabme service tei (length (g ++ v.far.granted)) x
 
-    sabme-goes : TookSabme service tei c d p q face back rt ru x.told x.sent v (done takes v) → (length x.told == 0) ≡ false → Goes taken (done takes (with_before g v))
+    sabme-goes : TookSabme service tei c d p q face back rt ru x.told x.sent v (done receives v) → (length x.told == 0) ≡ false → Goes taken (done receives (with_before g v))
     sabme-goes k some =
         let more = cond x.sent v.far.granted [] in
         record {
@@ -310,45 +310,45 @@ module _ (service : Service) (tei : ℕ) (c d : Config) (p q : ℕ) (face : Face
             → IsCalled (more_told service tei c d p q face back rt ru x.sent x.told) false k.v
         by o = grind arith
 
-    first-goes : x.told ≡ [] → x.sent ≡ false → R (Waiting (indicated service tei ∷ []) false) [] [] (done takes v) → Goes taken (done takes (with_before g v))
+    first-goes : x.told ≡ [] → x.sent ≡ false → R (Waiting (indicated service tei ∷ []) false) [] [] (done receives v) → Goes taken (done receives (with_before g v))
     first-goes told sent h = record {
-      v = done takes v;
+      v = done receives v;
       earlier = g;
       is = grind (arith, append_assoc);
       given_up = ap (λ b. cond b (length (g ++ v.far.granted)) x.given_up) sent ∙ up;
-      phase = inr (more-told x.told (told_of_sabme service tei x), subst (λ past. IsCalled past false (done takes v)) (sym told-is) (inr (inl h)));
+      phase = inr (more-told x.told (told_of_sabme service tei x), subst (λ past. IsCalled past false (done receives v)) (sym told-is) (inr (inl h)));
     }
       where
         told-is : x.told ++ told_of_sabme service tei x ∷ [] ≡ indicated service tei ∷ []
         told-is = ap (λ ts. ts ++ cond (length ts == 0) (indicated service tei) (cond x.sent (renewed service tei) (error_f service tei)) ∷ []) told
 
     abbrev After : Bool → Type 0
-    After b = Goes (cond b taken x) (done takes (with_before g v))
+    After b = Goes (cond b taken x) (done receives (with_before g v))
 
-    takes-goes : Phase x v → Goes (cond (takes_sabme v) taken x) (done takes (with_before g v))
+    takes-goes : Phase x v → Goes (cond (takes_sabme v) taken x) (done receives (with_before g v))
     takes-goes (inl (told, sent, h)) = go (down-takes v h)
       where
-        go : ((takes_sabme v ≡ false) × Rs Down (done takes v)) ⊎ ((takes_sabme v ≡ true) × R (Waiting (indicated service tei ∷ []) false) [] [] (done takes v)) → After (takes_sabme v)
-        go (inl (e, y)) = subst After (sym e) (far-goes takes (inl (told, sent, y)))
+        go : ((takes_sabme v ≡ false) × Rs Down (done receives v)) ⊎ ((takes_sabme v ≡ true) × R (Waiting (indicated service tei ∷ []) false) [] [] (done receives v)) → After (takes_sabme v)
+        go (inl (e, y)) = subst After (sym e) (far-goes receives (inl (told, sent, y)))
         go (inr (e, y)) = subst After (sym e) (first-goes told sent y)
     takes-goes (inr (some, h)) = go (far-takes x.told x.sent v h tt)
       where
         go : Takes x.told x.sent v → After (takes_sabme v)
-        go (inl (e, y)) = subst After (sym e) (far-goes takes (inr (some, y)))
+        go (inl (e, y)) = subst After (sym e) (far-goes receives (inr (some, y)))
         go (inr (e, y)) = subst After (sym e) (sabme-goes y some)
 
-  pub step : (x : Called) (k : Doing) → IsFullTalk service tei k → (w : Wire) → IsPatient k w → Goes x w → Goes (seeing service tei k w x) (doing k w)
+  pub step : (x : Called) (k : StepAt) → IsFullTalk service tei k → (w : Wire) → IsPatient k w → Goes x w → Goes (seeing service tei k w x) (doing k w)
   step x k is w patient h = subst (λ w. IsPatient k w → Goes (seeing service tei k w x) (doing k w)) (sym h.is) (by k is) patient
     where
-      by : (k : Doing) → IsFullTalk service tei k → IsPatient k (with_before h.earlier h.v) → Goes (seeing service tei k (with_before h.earlier h.v) x) (doing k (with_before h.earlier h.v))
+      by : (k : StepAt) → IsFullTalk service tei k → IsPatient k (with_before h.earlier h.v) → Goes (seeing service tei k (with_before h.earlier h.v) x) (doing k (with_before h.earlier h.v))
       by (at_near act) is timely = near-goes x h.v h.earlier h.given_up h.phase act is timely
       by (at_far (requests r)) is timely = stirs-goes x h.v h.earlier h.given_up h.phase (requests r) (λ e. cc e) (λ e. cc e) (λ e. cc e) is timely
-      by (at_far (times_out timer)) is timely = stirs-goes x h.v h.earlier h.given_up h.phase (times_out timer) (λ e. cc e) (λ e. cc e) (λ e. cc e) is timely
-      by (at_far gives) is timely = gives-goes x h.v h.earlier h.given_up h.phase
-      by (at_far takes) is timely = takes-goes x h.v h.earlier h.given_up h.phase
+      by (at_far (expires timer)) is timely = stirs-goes x h.v h.earlier h.given_up h.phase (expires timer) (λ e. cc e) (λ e. cc e) (λ e. cc e) is timely
+      by (at_far sends) is timely = gives-goes x h.v h.earlier h.given_up h.phase
+      by (at_far receives) is timely = takes-goes x h.v h.earlier h.given_up h.phase
       by (at_far loses) is timely = loses-goes x h.v h.earlier h.given_up h.phase
 
-  pub patient-runs : (ds : List Doing) → All (IsFullTalk service tei) ds → (w : Wire) → StayPatient ds w → (x : Called) → Goes x w → Goes (seen service tei ds w x) (doing_all ds w)
+  pub patient-runs : (ds : List StepAt) → All (IsFullTalk service tei) ds → (w : Wire) → StayPatient ds w → (x : Called) → Goes x w → Goes (seen service tei ds w x) (doing_all ds w)
   unfolding doing_all StayPatient seen
   patient-runs [] all w patient x h = h
   patient-runs (k ∷ ds) all w patient x h =

@@ -1,5 +1,5 @@
 -- A whole call in which UA may be lost and an end may be busy: its moves are bounded, and rounds lead to where no turn is left.
-use Rattle.laws_wire.proofs.Vocabulary.{◌≡◌, ℕ, zero, suc, ◌+◌, ◌*◌, ◌≤◌, List, [], ◌∷◌, ◌++◌, length, refl, sym, ap, subst, ◌∙◌, arith, length-append, All, All-nil, All-append, All-head, All-tail, Service, fresh, IsInRange, Config, terms, cond, Wire, Act, gives, takes, Doing, at_near, at_far, turned, doing, doing_all, IsStill, calling, CanCall, granted_of, IsFullTalk, StayPatient, rounds, is_move_of, moves, expiries_of, expiries, most_frames, IsPatient, Called, uncalled, seeing, seen, reports_of, reports, most_moves, LossyMovesComeToAnEnd, LossyRoundsComeToRest, append_assoc}
+use Rattle.laws_wire.proofs.Vocabulary.{◌≡◌, ℕ, zero, suc, ◌+◌, ◌*◌, ◌≤◌, List, [], ◌∷◌, ◌++◌, length, refl, sym, ap, subst, ◌∙◌, arith, length-append, All, All-nil, All-append, All-head, All-tail, Service, fresh, IsInRange, Config, terms, cond, Wire, EndStep, sends, receives, StepAt, at_near, at_far, turned, doing, doing_all, IsStill, calling, CanCall, granted_of, IsFullTalk, StayPatient, rounds, is_move_of, moves, expiries_of, expiries, most_frames, IsPatient, Called, uncalled, seeing, seen, reports_of, reports, most_moves, LossyMovesComeToAnEnd, LossyRoundsComeToRest, append_assoc}
 use Rattle.laws_wire.proofs.Calling.{asked, end}
 use Rattle.laws_wire.proofs.Heft.{heft, heft-is, Pays}
 use Rattle.laws_wire.proofs.LossyRun.{setting}
@@ -21,11 +21,11 @@ module _ (service : Service) (tei v : ℕ) where
 
   -- and what was granted does not matter to what is done
   module _ (g : List (List ℕ)) (w a b : Wire) where
-    near-alike : (act : Act) → P (cond {A = ℕ} (is_move_of act w) 1 0) (expiries_of act) (reports_of act w) a b
+    near-alike : (act : EndStep) → P (cond {A = ℕ} (is_move_of act w) 1 0) (expiries_of act) (reports_of act w) a b
         → P (cond {A = ℕ} (is_move_of act (with_before g w)) 1 0) (expiries_of act) (reports_of act (with_before g w)) a b
     near-alike act h = grind arith
 
-    far-alike : (act : Act) → P (cond {A = ℕ} (is_move_of act (turned w)) 1 0) (expiries_of act) (reports_of act (turned w)) a b
+    far-alike : (act : EndStep) → P (cond {A = ℕ} (is_move_of act (turned w)) 1 0) (expiries_of act) (reports_of act (turned w)) a b
         → P (cond {A = ℕ} (is_move_of act (turned (with_before g w))) 1 0) (expiries_of act) (reports_of act (turned (with_before g w))) a b
     far-alike act h = grind arith
 
@@ -46,11 +46,11 @@ module _ (service : Service) (tei v : ℕ) where
 
   module _ (c d : Config) (p q : ℕ) (face : Face c d) (back : Face d c) (rt : IsInRange (terms c service tei)) (ru : IsInRange (terms d service tei)) (wide_c : 2 * (terms c service tei).k ≤ v)
       (wide_d : 2 * (terms d service tei).k ≤ v) where
-    abbrev Does : Doing → Wire → Type 0
+    abbrev Does : StepAt → Wire → Type 0
     Does k w = Steps service tei c d p q face back rt ru v wide_c wide_d k w
 
     module _ (x : Called) (y : Wire) (h : Phase service tei c d p q face back rt ru x y) (g : List (List ℕ)) where
-      step-before : (k : Doing) → IsFullTalk service tei k → IsPatient k (with_before g y) → Does k (with_before g y)
+      step-before : (k : StepAt) → IsFullTalk service tei k → IsPatient k (with_before g y) → Does k (with_before g y)
       step-before (at_near act) is x' =
           subst (P _ _ _ (with_before g y)) (sym (grind arith))
           (near-alike g y (with_before g y) _ act
@@ -60,10 +60,10 @@ module _ (service : Service) (tei v : ℕ) where
           (far-alike g y (with_before g y) _ act
           (pays-before _ _ _ g y _ (far-pays service tei c d p q face back rt ru v wide_c wide_d x y h act is (timely-with act y.far y.near (g ++ y.far.granted) y.near.granted x'))))
 
-    one : (x : Called) (k : Doing) → IsFullTalk service tei k → (w : Wire) → IsPatient k w → Goes service tei c d p q face back rt ru x w → Does k w
+    one : (x : Called) (k : StepAt) → IsFullTalk service tei k → (w : Wire) → IsPatient k w → Goes service tei c d p q face back rt ru x w → Does k w
     one x k is w patient h = subst (λ w. IsPatient k w → Does k w) (sym h.is) (step-before x h.v h.phase h.earlier k is) patient
 
-    pub runs-pay : (ds : List Doing) → All (IsFullTalk service tei) ds → (w : Wire) → StayPatient ds w → (x : Called) → Goes service tei c d p q face back rt ru x w
+    pub runs-pay : (ds : List StepAt) → All (IsFullTalk service tei) ds → (w : Wire) → StayPatient ds w → (x : Called) → Goes service tei c d p q face back rt ru x w
         → P (moves ds w) (expiries ds) (reports ds w) w (doing_all ds w)
     unfolding doing_all StayPatient moves expiries reports
     runs-pay [] all w patient x h = record { more = 0; granted = omega arith; falls = omega arith }
@@ -94,12 +94,12 @@ lossy-moves-come-to-an-end service c d line other tei k ds can talk wide-near wi
 
 -- ---- rounds
 
-pub both-patient : (ds es : List Doing) (w : Wire) → StayPatient ds w → StayPatient es (doing_all ds w) → StayPatient (ds ++ es) w
+pub both-patient : (ds es : List StepAt) (w : Wire) → StayPatient ds w → StayPatient es (doing_all ds w) → StayPatient (ds ++ es) w
 unfolding StayPatient doing_all
 both-patient [] es w h g = g
 both-patient (d ∷ ds) es w h g = (h.0, both-patient ds es (doing d w) h.1 g)
 
-pub reports-append : (ds es : List Doing) (w : Wire) → reports (ds ++ es) w ≡ reports ds w + reports es (doing_all ds w)
+pub reports-append : (ds es : List StepAt) (w : Wire) → reports (ds ++ es) w ≡ reports ds w + reports es (doing_all ds w)
 unfolding reports doing_all
 reports-append [] es w = omega arith
 reports-append (d ∷ ds) es w =
@@ -112,7 +112,7 @@ many-full service tei zero = All-nil (IsFullTalk service tei)
 many-full service tei (suc n) = grind (arith, many-full service tei n, many)
 
 abbrev rounded : Wire → Wire
-rounded w = doing (at_near takes) (doing (at_far gives) (doing (at_far takes) (doing (at_near gives) w)))
+rounded w = doing (at_near receives) (doing (at_far sends) (doing (at_far receives) (doing (at_near sends) w)))
 
 pub many-patient : (n : ℕ) (w : Wire) → StayPatient (many n) w
 unfolding many StayPatient
@@ -124,7 +124,7 @@ unfolding many reports
 none-reported zero w = refl
 none-reported (suc n) w = let rest : reports (many n) (rounded w) ≡ 0 = none-reported n (rounded w) in omega (arith, rest)
 
-module _ (service : Service) (c d : Config) (line other tei k : ℕ) (ds : List Doing) (can : CanCall c line d other tei) (talk : All (IsFullTalk service tei) ds)
+module _ (service : Service) (c d : Config) (line other tei k : ℕ) (ds : List StepAt) (can : CanCall c line d other tei) (talk : All (IsFullTalk service tei) ds)
     (wide-near : (terms c service tei).k ≤ k) (wide-far : (terms d service tei).k ≤ k) (patient : StayPatient ds (calling service tei c line d other)) where
   abbrev begun : Wire
   begun = calling service tei c line d other

@@ -1,5 +1,5 @@
 -- The end that is called, once it took SABME: its UA is not to come, waits, or is on its way behind what went before.
-use Rattle.laws_wire.proofs.Vocabulary.{◌≡◌, ℕ, Bool, false, not, ◌||◌, IsTrue, List, [], ◌∷◌, ◌++◌, refl, sym, ap, subst, ◌∙◌, ◌⊎◌, inl, inr, append_assoc, append-nil, true≢false, arith, All, All-head, All-nil, Service, Parts, spelling, ControlFrame, LinkTimer, Terms, is_multiple_frame, has_outstanding, frame_of, frames_of, course, given, IsInRange, End, with_sent, Config, LineTold, next, terms, Rising, Sane, HasNo, offer-gave, Station, Wire, happens, comes, with_first_of, with_first_lost, Act, requests, times_out, gives, takes, loses, acting, turned, confirmed, is_poll, is_final, IsTimelyOf, frame_given, with_link, two_ends_with_first_lost, expires, TwoEndsAct, Ends, two_ends_acting, asks, sends, after, IsFullTalkOf, gives_information, all-right, line_of, line-grows, rising-reports, offer-stays, rising-lower}
+use Rattle.laws_wire.proofs.Vocabulary.{◌≡◌, ℕ, Bool, false, not, ◌||◌, IsTrue, List, [], ◌∷◌, ◌++◌, refl, sym, ap, subst, ◌∙◌, ◌⊎◌, inl, inr, append_assoc, append-nil, true≢false, arith, All, All-head, All-nil, Service, Parts, spelling, ControlFrame, LinkTimer, Terms, is_multiple_frame, has_outstanding, frame_of, frames_of, course, given, IsInRange, LinkEndpoint, with_sent, Config, LineTold, next, terms, Rising, Sane, HasNo, offer-gave, Endpoint, Wire, happens, frame_comes, with_first_of, without_first, EndStep, requests, expires, sends, receives, loses, acting, turned, confirmed, is_poll, is_final, IsTimelyOf, frame_given, with_link, two_ends_without_first, link_expires, TwoEndsStep, Ends, two_ends_acting, link_requests, link_sends, after, IsFullTalkOf, gives_information, all-right, line_of, line-grows, rising-reports, offer-stays, rising-lower}
 use Rattle.model_link.specs.Events as link
 use Rattle.laws_link.specs.two.Timely as two_links_timely
 use Rattle.laws_wire.proofs.Acting.{ranges, sound}
@@ -24,12 +24,12 @@ module _ (service : Service) (tei : ℕ) (c d : Config) (p q : ℕ) (face : Face
   abbrev u : Terms
   u = terms d service tei
 
-  abbrev Its : Station → End → Type 0
+  abbrev Its : Endpoint → LinkEndpoint → Type 0
   Its s M = Held d service tei q past s M
 
   -- no UA is to come; the bit says whether an I-frame went
-  pub record IsAway (b : Bool) (s : Station) : Type 0 where
-    pub M : End
+  pub record IsAway (b : Bool) (s : Endpoint) : Type 0 where
+    pub M : LinkEndpoint
     pub held : Its s M
     pub up : IsTrue (is_multiple_frame M.link.state)
     pub a : M.link.a ≡ 0
@@ -41,8 +41,8 @@ module _ (service : Service) (tei : ℕ) (c d : Config) (p q : ℕ) (face : Face
     pub flag : b ≡ has_outstanding M.link
 
   -- UA waits
-  pub record IsWaiting (b : Bool) (s : Station) : Type 0 where
-    pub M : End
+  pub record IsWaiting (b : Bool) (s : Endpoint) : Type 0 where
+    pub M : LinkEndpoint
     pub old : List ControlFrame
     pub post : List ControlFrame
     pub held : Its s M
@@ -56,7 +56,7 @@ module _ (service : Service) (tei : ℕ) (c d : Config) (p q : ℕ) (face : Face
   pub record Comes (b : Bool) (w : Wire) : Type 0 where
     pub repeats : ℕ
     pub near : Held c service tei p [] w.near (end t (ringing repeats []) [])
-    pub m : End
+    pub m : LinkEndpoint
     pub stale : List Parts
     pub far : Its w.far (behind (stale ++ ua u ∷ []) m)
     pub rising : Rising 0 0 stale
@@ -67,10 +67,10 @@ module _ (service : Service) (tei : ℕ) (c d : Config) (p q : ℕ) (face : Face
   -- ---- where no UA is to come
 
   module _ (b : Bool) (v : Wire) (h : IsAway b v.near) where
-    abbrev M : End
+    abbrev M : LinkEndpoint
     M = h.M
 
-    away-stirs : (e : link.Event) (s' : Station) → StirsAt service tei d q past v M h.held h.up h.sane e s' → IsAway b s'
+    away-stirs : (e : link.Event) (s' : Endpoint) → StirsAt service tei d q past v M h.held h.up h.sane e s' → IsAway b s'
     away-stirs e s' x =
         let longer : Rising 0 M.link.r (line_of M ++ frames_of M.terms x.stirs.reports.news) = rising-reports M.terms 0 M.link.r (line_of M) x.stirs.reports.news x.stirs.reports.are h.rising in
         record {
@@ -88,9 +88,9 @@ module _ (service : Service) (tei : ℕ) (c d : Config) (p q : ℕ) (face : Face
           flag = same-flag b M.link x.left x.stirs.s x.stirs.a h.flag;
         }
 
-    pub away-loses : IsAway b (with_first_lost v.near)
+    pub away-loses : IsAway b (without_first v.near)
     away-loses = record {
-      M = two_ends_with_first_lost M;
+      M = two_ends_without_first M;
       held = held-lost service tei q past d v.near M h.held;
       up = h.up;
       a = h.a;
@@ -120,33 +120,33 @@ module _ (service : Service) (tei : ℕ) (c d : Config) (p q : ℕ) (face : Face
           flag = flagged-at service tei d q past v M h.held b h.flag;
         }
 
-    pub away-acts : (act : Act) → (act ≡ takes → ⊥) → (act ≡ gives → ⊥) → IsFullTalkOf service tei act → IsTimelyOf act v → IsAway b (acting act v).near
+    pub away-acts : (act : EndStep) → (act ≡ receives → ⊥) → (act ≡ sends → ⊥) → IsFullTalkOf service tei act → IsTimelyOf act v → IsAway b (acting act v).near
     away-acts (requests r) untaken not is x = asked-at service tei d q past v M h.held h.up h.sane (IsAway b) h (λ rq s' mild y. away-stirs (link.requested rq false) s' y) r is
-    away-acts (times_out timer) untaken not is x =
+    away-acts (expires timer) untaken not is x =
         expired-at service tei d q past v M h.held h.up h.sane (IsAway b) (λ its s' can free y. away-stirs (link.expired its) s' y) timer is x
-    away-acts gives untaken not is x = absurd (not refl)
-    away-acts takes untaken not is x = absurd (untaken refl)
+    away-acts sends untaken not is x = absurd (not refl)
+    away-acts receives untaken not is x = absurd (untaken refl)
     away-acts loses untaken not is x = away-loses
 
   -- ---- where UA waits
 
   module _ (b : Bool) (v : Wire) (h : IsWaiting b v.near) where
-    abbrev M' : End
+    abbrev M' : LinkEndpoint
     M' = h.M
 
     abbrev first : List ControlFrame
     first = h.old ++ its_ua ∷ []
 
-    waiting-stirs : (e : link.Event) (s' : Station) → StirsAt service tei d q past v M' h.held h.poised.up h.poised.sane e s' → IsWaiting b s'
+    waiting-stirs : (e : link.Event) (s' : Endpoint) → StirsAt service tei d q past v M' h.held h.poised.up h.poised.sane e s' → IsWaiting b s'
     waiting-stirs e s' x =
         let on : PoisedOn u x.left first =
         poised-on u M'.link x.left first h.post (HasNo is_poll M') h.waits h.poised x.stirs
         (λ free. none-asked u h.post (all-right IsNoPoll first h.post (subst (All IsNoPoll) h.waits free.waiting))) in
         grind (arith, same-flag)
 
-    pub waiting-loses : IsWaiting b (with_first_lost v.near)
+    pub waiting-loses : IsWaiting b (without_first v.near)
     waiting-loses = record {
-      M = two_ends_with_first_lost M';
+      M = two_ends_without_first M';
       old = h.old;
       post = h.post;
       held = held-lost service tei q past d v.near M' h.held;
@@ -157,10 +157,10 @@ module _ (service : Service) (tei : ℕ) (c d : Config) (p q : ℕ) (face : Face
       flag = h.flag;
     }
 
-    pub waiting-acts : (act : Act) → (act ≡ takes → ⊥) → (act ≡ gives → ⊥) → IsFullTalkOf service tei act → IsTimelyOf act v → IsWaiting b (acting act v).near
+    pub waiting-acts : (act : EndStep) → (act ≡ receives → ⊥) → (act ≡ sends → ⊥) → IsFullTalkOf service tei act → IsTimelyOf act v → IsWaiting b (acting act v).near
     waiting-acts (requests r) untaken not is x =
         asked-at service tei d q past v M' h.held h.poised.up h.poised.sane (IsWaiting b) h (λ rq s' mild y. waiting-stirs (link.requested rq false) s' y) r is
-    waiting-acts (times_out timer) untaken not is x =
+    waiting-acts (expires timer) untaken not is x =
         expired-at service tei d q past v M' h.held h.poised.up h.poised.sane (IsWaiting b) (λ its s' can free y. waiting-stirs (link.expired its) s' y) timer is x
     waiting-acts act untaken o is x = grind (arith, waiting-loses)
 
@@ -173,14 +173,14 @@ module _ (service : Service) (tei : ℕ) (c d : Config) (p q : ℕ) (face : Face
         true≢false (All-head (λ (f : ControlFrame). is_final f.command f.control ≡ false) its_ua h.post here)
 
     -- the end as it is
-    abbrev laid : List ControlFrame → End
+    abbrev laid : List ControlFrame → LinkEndpoint
     laid ws = record { terms = u; link = record M'.link { waiting = ws }; way = M'.way; delivered = [] }
 
     is-laid : (ws : List ControlFrame) → M'.link.waiting ≡ ws → M' ≡ laid ws
     is-laid ws e = λ i. record { terms = h.held.stands.terms i; link = record M'.link { waiting = e i }; way = M'.way; delivered = h.delivered i }
 
     module _ (f : ControlFrame) (fs : List ControlFrame) (e : M'.link.waiting ≡ f ∷ fs) where
-      abbrev went : End
+      abbrev went : LinkEndpoint
       went = record { terms = u; link = record M'.link { waiting = fs }; way = M'.way ++ frame_of u f ∷ []; delivered = [] }
 
       pub rest-held : Its (happens next v.near) went
@@ -197,7 +197,7 @@ module _ (service : Service) (tei : ℕ) (c d : Config) (p q : ℕ) (face : Face
         delivered = refl;
         rising = subst (Rising 0 0) (ap (λ fs. M'.way ++ frames_of u fs) is ∙ sym (append_assoc M'.way (frame_of u f ∷ []) (frames_of u others))) h.rising;
         poised = grind (arith, sane-after);
-        flag = (flagged-at service tei d q past v M' h.held b h.flag ∙ ap (λ (x : End). has_outstanding (after x.terms link.offer x.link)) (is-laid (f ∷ fs) e));
+        flag = (flagged-at service tei d q past v M' h.held b h.flag ∙ ap (λ (x : LinkEndpoint). has_outstanding (after x.terms link.offer x.link)) (is-laid (f ∷ fs) e));
       }
 
     -- it is UA
@@ -219,7 +219,7 @@ module _ (service : Service) (tei : ℕ) (c d : Config) (p q : ℕ) (face : Face
                 loose-poised t u rt ru face.n201 repeats m.link h.post refl (sound service tei q past d (happens next v.near) (went its_ua h.post e) its)
                 (grind (arith, sane-after));
             rejecting = h.poised.rejecting;
-            flag = (flagged-at service tei d q past v M' h.held b h.flag ∙ ap (λ (x : End). has_outstanding (after x.terms link.offer x.link)) (is-laid (its_ua ∷ h.post) e));
+            flag = (flagged-at service tei d q past v M' h.held b h.flag ∙ ap (λ (x : LinkEndpoint). has_outstanding (after x.terms link.offer x.link)) (is-laid (its_ua ∷ h.post) e));
           }
 
       pub waiting-gives : IsWaiting (b || gives_information v.near) w.far ⊎ Comes (b || gives_information v.near) w
@@ -234,23 +234,23 @@ module _ (service : Service) (tei : ℕ) (c d : Config) (p q : ℕ) (face : Face
   -- ---- where UA is on its way
 
   module _ (b : Bool) (w : Wire) (h : Comes b w) where
-    abbrev n : End
+    abbrev n : LinkEndpoint
     n = end t (answered h.repeats []) []
 
     abbrev before : List Parts
     before = h.stale ++ ua u ∷ []
 
-    abbrev whole : End
+    abbrev whole : LinkEndpoint
     whole = behind before h.m
 
     up-there : IsTrue (is_multiple_frame whole.link.state)
     up-there = h.loose.joined.far_up
 
-    with-far : (w' : Wire) → Held c service tei p [] w'.near (end t (ringing h.repeats []) []) → (m : End) (b' : Bool) → Its w'.far (behind before m) → Loose n m → m.link.rejecting ≡ false → b' ≡ has_outstanding m.link → Comes b' w'
+    with-far : (w' : Wire) → Held c service tei p [] w'.near (end t (ringing h.repeats []) []) → (m : LinkEndpoint) (b' : Bool) → Its w'.far (behind before m) → Loose n m → m.link.rejecting ≡ false → b' ≡ has_outstanding m.link → Comes b' w'
     with-far w' near m b' far loose rejecting flag = record { repeats = h.repeats; near = near; m = m; stale = h.stale; far = far; rising = h.rising; loose = loose; rejecting = rejecting; flag = flag }
 
-    comes-stirs : (act : TwoEndsAct) (e : link.Event) → (two_ends_acting act (record { near = h.m; far = n })) ≡ (record { near = with_link e h.m; far = n })
-        → two_links_timely.IsTimelyAct act h.m n → (s' : Station) → StirsAt service tei d q past (turned w) whole h.far up-there h.loose.far_sane e s' → Comes b (record w { far = s' })
+    comes-stirs : (act : TwoEndsStep) (e : link.Event) → (two_ends_acting act (record { near = h.m; far = n })) ≡ (record { near = with_link e h.m; far = n })
+        → two_links_timely.IsTimelyStep act h.m n → (s' : Endpoint) → StirsAt service tei d q past (turned w) whole h.far up-there h.loose.far_sane e s' → Comes b (record w { far = s' })
     comes-stirs act e is timely s' x =
         let m' = record h.m { link = x.left } in
         let becomes : with_link e h.m ≡ m' = (λ i. record h.m { link = (x.becomes i).link; delivered = (x.becomes i).delivered }) in
@@ -265,24 +265,24 @@ module _ (service : Service) (tei : ℕ) (c d : Config) (p q : ℕ) (face : Face
           responses = record { waiting = All-nil (λ (f : ControlFrame). is_final f.command f.control ≡ false); way = All-nil (λ (f : Parts). is_final f.address.command f.control ≡ false) };
         })
 
-    pub comes-acts : (act : Act) → (act ≡ takes → ⊥) → (act ≡ gives → ⊥) → (act ≡ loses → ⊥) → IsFullTalkOf service tei act → IsTimelyOf act (turned w)
+    pub comes-acts : (act : EndStep) → (act ≡ receives → ⊥) → (act ≡ sends → ⊥) → (act ≡ loses → ⊥) → IsFullTalkOf service tei act → IsTimelyOf act (turned w)
         → Comes b (turned (acting act (turned w)))
     comes-acts (requests r) untaken not nor is x =
         asked-at service tei d q past (turned w) whole h.far up-there h.loose.far_sane (λ s. Comes b (record w { far = s })) h
-        (λ rq s' mild y. comes-stirs (asks rq false) (link.requested rq false) refl mild s' y) r is
-    comes-acts (times_out timer) untaken not nor is x =
+        (λ rq s' mild y. comes-stirs (link_requests rq false) (link.requested rq false) refl mild s' y) r is
+    comes-acts (expires timer) untaken not nor is x =
         expired-at service tei d q past (turned w) whole h.far up-there h.loose.far_sane (λ s. Comes b (record w { far = s }))
-        (λ its s' can free y. comes-stirs (expires its) (link.expired its) refl (can, timely-there its free) s' y) timer is x
+        (λ its s' can free y. comes-stirs (link_expires its) (link.expired its) refl (can, timely-there its free) s' y) timer is x
     comes-acts act untaken o nor is x = grind arith
 
-    pub comes-gives : Comes (b || gives_information w.far) (turned (acting gives (turned w)))
+    pub comes-gives : Comes (b || gives_information w.far) (turned (acting sends (turned w)))
     comes-gives =
         let kept = (offer-gave h.m.terms h.loose.joined.far_ranges h.m.link h.loose.joined.far_sound h.m.link.waiting refl).same in
         let given = frame_given h.m.terms (given h.m.terms h.m.link) in
         let is : with_sent whole ≡ behind before (with_sent h.m) = (λ i. record (with_sent h.m) { way = append_assoc before h.m.way given i }) in
         with-far (record w { far = happens next w.far }) h.near (with_sent h.m) (b || gives_information w.far)
         (subst (Its (happens next w.far)) is (held-given service tei q past d w.far whole h.far kept))
-        (loose-turned (with_sent h.m) n (loose-after h.m n (loose-turned n h.m h.loose) sends tt)) (offer-rejecting h.m.terms h.m.link ∙ h.rejecting)
+        (loose-turned (with_sent h.m) n (loose-after h.m n (loose-turned n h.m h.loose) link_sends tt)) (offer-rejecting h.m.terms h.m.link ∙ h.rejecting)
         (flagged-at service tei d q past (turned w) whole h.far b h.flag)
 
     -- a response with F=1 is open
@@ -296,29 +296,29 @@ module _ (service : Service) (tei : ℕ) (c d : Config) (p q : ℕ) (face : Face
     comes-none = h.loose.joined.there.delivered ∙ taken-none h.m.link.r [] refl (flows-low n h.m h.loose.there)
 
     -- the first on its way is lost: it was there before UA, or UA is not to come
-    pub comes-loses : Comes b (turned (acting loses (turned w))) ⊎ IsAway b (with_first_lost w.far)
+    pub comes-loses : Comes b (turned (acting loses (turned w))) ⊎ IsAway b (without_first w.far)
     comes-loses = go h.stale h.rising (held-lost service tei q past d w.far whole h.far)
       where
-        go : (stale : List Parts) → Rising 0 0 stale → Its (with_first_lost w.far) (two_ends_with_first_lost (behind (stale ++ ua u ∷ []) h.m))
-            → Comes b (turned (acting loses (turned w))) ⊎ IsAway b (with_first_lost w.far)
+        go : (stale : List Parts) → Rising 0 0 stale → Its (without_first w.far) (two_ends_without_first (behind (stale ++ ua u ∷ []) h.m))
+            → Comes b (turned (acting loses (turned w))) ⊎ IsAway b (without_first w.far)
         go (f ∷ fs) rising far = grind (arith, rising-lower)
         go [] rising far = grind (arith, up-there, flows-low, comes-none)
 
     -- the near end takes what was before UA, or UA
-    ignores-first : (f : Parts) (fs : List Parts) → h.stale ≡ f ∷ fs → Rising 0 0 (f ∷ fs) → Comes b (acting takes w)
+    ignores-first : (f : Parts) (fs : List Parts) → h.stale ≡ f ∷ fs → Rising 0 0 (f ∷ fs) → Comes b (acting receives w)
     ignores-first f fs e rising =
         let far : Its w.far (behind ((f ∷ fs) ++ ua u ∷ []) h.m) = subst (λ stale. Its w.far (behind (stale ++ ua u ∷ []) h.m)) e h.far in
-        let lost : Its (with_first_lost w.far) (behind (fs ++ ua u ∷ []) h.m) = held-lost service tei q past d w.far (behind ((f ∷ fs) ++ ua u ∷ []) h.m) far in
+        let lost : Its (without_first w.far) (behind (fs ++ ua u ∷ []) h.m) = held-lost service tei q past d w.far (behind ((f ∷ fs) ++ ua u ∷ []) h.m) far in
         let near = ignores-frame service tei c d p q face back rt ru [] [] w h.repeats h.near past (behind ((f ∷ fs) ++ ua u ∷ []) h.m) far f ((fs ++ ua u ∷ []) ++ h.m.way) refl rising.0 rising.2 in
         record { repeats = h.repeats; near = near; m = h.m; stale = fs; far = lost; rising = rising-lower rising.0 0 0 fs (omega arith) rising.3; loose = h.loose; rejecting = h.rejecting; flag = h.flag }
 
-    confirms : h.stale ≡ [] → LooseUp service tei c d p q (first_near service tei c d p q face back rt ru) past (acting takes w)
+    confirms : h.stale ≡ [] → LooseUp service tei c d p q (first_near service tei c d p q face back rt ru) past (acting receives w)
     confirms e =
         let f = ua u in
         let rung = end t (ringing h.repeats []) [] in
         let far : Its w.far (behind (f ∷ []) h.m) = subst (λ stale. Its w.far (behind (stale ++ f ∷ []) h.m)) e h.far in
         let way = first-way service tei d q past w.far (behind (f ∷ []) h.m) f h.m.way refl far in
-        let s' = comes (spelling d.side f) w.near in
+        let s' = frame_comes (spelling d.side f) w.near in
         let held : Held c service tei p (confirmed service tei ∷ []) s' n =
         held-first service tei p [] c w.near rung h.near (confirmed service tei) s' n (course t (link.received (link.frame f)) rung.link) refl refl refl
         (taken-stands service tei p [] c w.near rung h.near d face f way.1) (takes-granted (spelling d.side f) w.near) refl
@@ -331,9 +331,9 @@ module _ (service : Service) (tei : ℕ) (c d : Config) (p q : ℕ) (face : Face
           loose = h.loose;
         }
 
-    pub comes-takes : Comes b (acting takes w) ⊎ LooseUp service tei c d p q (first_near service tei c d p q face back rt ru) past (acting takes w)
+    pub comes-takes : Comes b (acting receives w) ⊎ LooseUp service tei c d p q (first_near service tei c d p q face back rt ru) past (acting receives w)
     comes-takes = go h.stale refl
       where
-        go : (stale : List Parts) → h.stale ≡ stale → Comes b (acting takes w) ⊎ LooseUp service tei c d p q (first_near service tei c d p q face back rt ru) past (acting takes w)
+        go : (stale : List Parts) → h.stale ≡ stale → Comes b (acting receives w) ⊎ LooseUp service tei c d p q (first_near service tei c d p q face back rt ru) past (acting receives w)
         go [] e = inr (confirms e)
         go (f ∷ fs) e = inl (ignores-first f fs e (subst (Rising 0 0) e h.rising))

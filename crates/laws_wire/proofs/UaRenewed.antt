@@ -1,5 +1,5 @@
 -- SABME comes again to the end that is called, whose UA was lost: UA waits again, where there is room, and what it had sent is given up.
-use Rattle.laws_wire.proofs.Vocabulary.{◌≡◌, ℕ, Bool, true, false, cond, List, [], ◌∷◌, ◌++◌, map, refl, sym, ap, subst, ◌∙◌, ◌⊎◌, inl, inr, append-nil, arith, flat_map, Service, spelling, Terms, has_outstanding, has_room, frames_of, course, IsInRange, End, with_link, Config, LineTold, terms, Rising, Sane, flat_map-append, Course, line_of, Station, Wire, comes, with_first_of, with_first_lost, takes, acting, turned, data_told, for_layer_3, heard_in, received, LinkEvent, frame, error_f, renewed}
+use Rattle.laws_wire.proofs.Vocabulary.{◌≡◌, ℕ, Bool, true, false, cond, List, [], ◌∷◌, ◌++◌, map, refl, sym, ap, subst, ◌∙◌, ◌⊎◌, inl, inr, append-nil, arith, flat_map, Service, spelling, Terms, has_outstanding, has_room, frames_of, course, IsInRange, LinkEndpoint, with_link, Config, LineTold, terms, Rising, Sane, flat_map-append, Course, line_of, Endpoint, Wire, frame_comes, with_first_of, without_first, receives, acting, turned, data_told, for_layer_3, heard_in, received, LinkEvent, frame, error_f, renewed}
 use Rattle.laws_wire.proofs.Answered.{takes-granted}
 use Rattle.laws_wire.proofs.Calling.{its_ua, sabme, end}
 use Rattle.laws_wire.proofs.Held.{Held, held-lost, taken-told, taken-stands}
@@ -29,13 +29,13 @@ module _ (service : Service) (tei : ℕ) (c d : Config) (p q : ℕ) (face : Face
 
   module _ (past : List LineTold) (w : Wire) (repeats : ℕ) (near : Held c service tei p [] w.near (end t (ringing repeats []) (sabme t ∷ []))) (bit : Bool)
       (h : IsAway service tei c d p q face back rt ru past bit w.far) where
-    abbrev M : End
+    abbrev M : LinkEndpoint
     M = h.M
 
     abbrev b : Bool
     b = has_outstanding M.link
 
-    abbrev caller_end : End
+    abbrev caller_end : LinkEndpoint
     caller_end = end t (ringing repeats []) (sabme t ∷ [])
 
     abbrev event : LinkEvent
@@ -44,19 +44,19 @@ module _ (service : Service) (tei : ℕ) (c d : Config) (p q : ℕ) (face : Face
     abbrev x : Course
     x = course M.terms event M.link
 
-    abbrev reached : Station
-    reached = comes (spelling c.side (sabme t)) w.far
+    abbrev reached : Endpoint
+    reached = frame_comes (spelling c.side (sabme t)) w.far
 
     its_way : (w.near.way ≡ spelling c.side (sabme t) ∷ []) × IsCarried c service tei (sabme t)
     its_way = first-way service tei c p [] w.near caller_end (sabme t) [] refl near
 
-    abbrev left : Bool → End
+    abbrev left : Bool → LinkEndpoint
     left room = record { terms = M.terms; link = again room (cond b [] M.link.contents) M.link; way = M.way; delivered = [] }
 
     becomes : with_link event M ≡ left (has_room M.terms M.link)
     becomes = grind (arith, renews, append-nil)
 
-    abbrev s' : Station
+    abbrev s' : Endpoint
     s' = record reached { granted = cond b [] w.far.granted }
 
     heard : heard_in s' ≡ more_told b past ++ []
@@ -98,16 +98,16 @@ module _ (service : Service) (tei : ℕ) (c d : Config) (p q : ℕ) (face : Face
     })
     by-room false e = inr (record { M = left false; held = held false e; up = refl; a = refl; r = refl; rejecting = refl; delivered = refl; sane = sane false e; rising = line; flag = refl })
 
-    renewed-so : TookSabme past b w (turned (acting takes (turned w)))
+    renewed-so : TookSabme past b w (turned (acting receives (turned w)))
     renewed-so = record {
-      v = record { near = with_first_lost w.near; far = s' };
+      v = record { near = without_first w.near; far = s' };
       is =
-          ap (λ ways. record { near = with_first_lost w.near; far = with_first_of ways w.far }) its_way.0
-          ∙ (λ i. record { near = with_first_lost w.near; far = record reached { granted = (takes-granted (spelling c.side (sabme t)) w.far ∙ split b w.far.granted) i } });
+          ap (λ ways. record { near = without_first w.near; far = with_first_of ways w.far }) its_way.0
+          ∙ (λ i. record { near = without_first w.near; far = record reached { granted = (takes-granted (spelling c.side (sabme t)) w.far ∙ split b w.far.granted) i } });
       repeats = repeats;
       near = held-lost service tei p [] c w.near caller_end near;
       far = by-room (has_room M.terms M.link) refl;
     }
 
-    pub sabme-renews : TookSabme past bit w (turned (acting takes (turned w)))
-    sabme-renews = subst (λ b. TookSabme past b w (turned (acting takes (turned w)))) (sym h.flag) renewed-so
+    pub sabme-renews : TookSabme past bit w (turned (acting receives (turned w)))
+    sabme-renews = subst (λ b. TookSabme past b w (turned (acting receives (turned w)))) (sym h.flag) renewed-so

@@ -1,5 +1,5 @@
 -- Where one end rings, no turn is left and its T200 expires, one round is enough for it to be told of the establishment.
-use Rattle.laws_wire.proofs.Vocabulary.{◌≡◌, ℕ, ◌<◌, IsTrue, List, [], ◌∷◌, refl, sym, ap, subst, nat_lt, lt-ltb, arith, All, All-head, Service, Timer, Parts, spelling, ControlFrame, Terms, Link, fresh, is_multiple_frame, after, course, IsInRange, End, with_link, with_sent, Config, LineTold, next, terms, Station, Wire, happens, comes, with_first_of, with_first_lost, times_out, gives, acting, doing_all, confirmed, heard_in, MayRepeat, rounds, timer_T200}
+use Rattle.laws_wire.proofs.Vocabulary.{◌≡◌, ℕ, ◌<◌, IsTrue, List, [], ◌∷◌, refl, sym, ap, subst, nat_lt, lt-ltb, arith, All, All-head, Service, Timer, Parts, spelling, ControlFrame, Terms, Link, fresh, is_multiple_frame, after, course, IsInRange, LinkEndpoint, with_link, with_sent, Config, LineTold, next, terms, Endpoint, Wire, happens, frame_comes, with_first_of, without_first, expires, sends, acting, doing_all, confirmed, heard_in, MayRepeat, rounds, timer_T200}
 use Rattle.model_link.specs.Events as link
 use Rattle.laws_wire.proofs.Acting.{ranges}
 use Rattle.laws_wire.proofs.Answered.{takes-granted}
@@ -20,7 +20,7 @@ module _ (service : Service) (tei : ℕ) (c d : Config) (p q : ℕ) (face : Face
   abbrev u : Terms
   u = terms d service tei
 
-  abbrev Rung : ℕ → List ControlFrame → List Parts → Station → Type 0
+  abbrev Rung : ℕ → List ControlFrame → List Parts → Endpoint → Type 0
   Rung k ws way s = Held c service tei p [] s (end t (ringing k ws) way)
 
   abbrev event : link.Event
@@ -37,25 +37,25 @@ module _ (service : Service) (tei : ℕ) (c d : Config) (p q : ℕ) (face : Face
   -- ---- a round
 
   -- SABME waits at the one, and nothing at the other
-  module _ (k : ℕ) (w : Wire) (near : Rung k (its_sabme ∷ []) [] w.near) (past : List LineTold) (M : End) (held : Held d service tei q past w.far M) (way : M.way ≡ []) (answers : (after M.terms event M.link).waiting ≡ its_ua ∷ []) where
+  module _ (k : ℕ) (w : Wire) (near : Rung k (its_sabme ∷ []) [] w.near) (past : List LineTold) (M : LinkEndpoint) (held : Held d service tei q past w.far M) (way : M.way ≡ []) (answers : (after M.terms event M.link).waiting ≡ its_ua ∷ []) where
     -- SABME goes
     abbrev w1 : Wire
-    w1 = acting gives w
+    w1 = acting sends w
 
     way1 : (w1.near.way ≡ spelling c.side (sabme t) ∷ []) × IsCarried c service tei (sabme t)
     way1 = first-way service tei c p [] w1.near (end t (ringing k []) (sabme t ∷ [])) (sabme t) [] refl (held-given service tei p [] c w.near (end t (ringing k (its_sabme ∷ [])) []) near refl)
 
     -- and comes
-    abbrev reached : Station
-    reached = comes (spelling c.side (sabme t)) w.far
+    abbrev reached : Endpoint
+    reached = frame_comes (spelling c.side (sabme t)) w.far
 
     abbrev w2 : Wire
-    w2 = record { near = with_first_lost w1.near; far = reached }
+    w2 = record { near = without_first w1.near; far = reached }
 
     near2 : Rung k [] [] w2.near
     near2 = held-lost service tei p [] c w1.near (end t (ringing k []) (sabme t ∷ [])) (held-given service tei p [] c w.near (end t (ringing k (its_sabme ∷ [])) []) near refl)
 
-    abbrev m : End
+    abbrev m : LinkEndpoint
     m = with_link event M
 
     far2 : StationStands d service tei q reached m
@@ -77,8 +77,8 @@ module _ (service : Service) (tei : ℕ) (c d : Config) (p q : ℕ) (face : Face
         (subst (All (IsCarried d service tei)) gone (subst (λ k. All (IsCarried k service tei) (with_sent m).way) far2.config far3.carried))
 
     -- and comes
-    abbrev told : Station
-    told = comes (spelling d.side (ua u)) w2.near
+    abbrev told : Endpoint
+    told = frame_comes (spelling d.side (ua u)) w2.near
 
     near4 : Held c service tei p (confirmed service tei ∷ []) told (end t (answered_link k []) [])
     near4 =
@@ -89,11 +89,11 @@ module _ (service : Service) (tei : ℕ) (c d : Config) (p q : ℕ) (face : Face
 
     pub round-tells : heard_in (rounds 1 w).near ≡ confirmed service tei ∷ []
     unfolding rounds doing_all
-    round-tells = grind (arith, with_first_lost, w1, with_first_of, way1, far3, far2, gone, near4)
+    round-tells = grind (arith, without_first, w1, with_first_of, way1, far3, far2, gone, near4)
 
   -- ---- T200 expires before it
 
-  module _ (P : Station → Type 0) (w : Wire) (h : Rings service tei c d p q face back rt ru P [] [] w) (may : MayRepeat service tei w.near) (past : List LineTold) (M : End) (held : Held d service tei q past w.far M)
+  module _ (P : Endpoint → Type 0) (w : Wire) (h : Rings service tei c d p q face back rt ru P [] [] w) (may : MayRepeat service tei w.near) (past : List LineTold) (M : LinkEndpoint) (held : Held d service tei q past w.far M)
       (way : M.way ≡ []) (answers : (after M.terms event M.link).waiting ≡ its_ua ∷ []) where
     abbrev timer : Timer
     timer = timer_T200 service tei
@@ -101,7 +101,7 @@ module _ (service : Service) (tei : ℕ) (c d : Config) (p q : ℕ) (face : Face
     few : h.repeats < t.n200
     few = may-there service tei c p w.near (end t (ringing h.repeats []) []) h.near.stands may refl refl
 
-    pub rings-again : heard_in (rounds 1 (acting (times_out timer) w)).near ≡ confirmed service tei ∷ []
+    pub rings-again : heard_in (rounds 1 (acting (expires timer) w)).near ≡ confirmed service tei ∷ []
     rings-again =
         let x = repeats-sabme service tei c d p q face back rt ru P w h few in
-        round-tells x.repeats (acting (times_out timer) w) x.near past M held way answers
+        round-tells x.repeats (acting (expires timer) w) x.near past M held way answers

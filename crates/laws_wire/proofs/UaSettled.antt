@@ -1,5 +1,5 @@
 -- Where both ends are up, neither is busy and no turn is left: once T200 expires, so many rounds are enough for all that is missing, and it stops.
-use Rattle.laws_wire.proofs.Vocabulary.{◌≡◌, ℕ, ◌+◌, ◌≤◌, false, List, ◌++◌, length, map, take, None, refl, sym, ap, subst, arith, length-map, length-append, length-take-le, eq-eqb, Service, Timer, Established, T200, Link, given, End, Ends, with_link, Config, LineTold, next, gave, runs, is_running, IsCutOff, all-recovered, nothing-to_send, awaits_answer, Station, Wire, times_out, acting, turned, answered, IsStill, link_of, data_told, heard_in, is_poll, runs_t200, rounds, with_t200_expired, both_expire, BothMayRepeat, StayPatient, expired, timer_T200, two_links_rounds, TwoLinksHasArrived, HasItsTimer, HasNo, TimerRecovery, enquiry_with, expires-one, is_final, rising-low, ◌<◌, []}
+use Rattle.laws_wire.proofs.Vocabulary.{◌≡◌, ℕ, ◌+◌, ◌≤◌, false, List, ◌++◌, length, map, take, None, refl, sym, ap, subst, arith, length-map, length-append, length-take-le, eq-eqb, Service, Timer, Established, T200, Link, given, LinkEndpoint, Ends, with_link, Config, LineTold, next, gave, runs, is_running, IsCutOff, all-recovered, nothing-to_send, awaits_answer, Endpoint, Wire, expires, acting, turned, answered, IsStill, link_of, data_told, heard_in, is_poll, runs_t200, rounds, with_t200_expired, both_expire, BothMayRepeat, StayPatient, expired, timer_T200, two_links_rounds, TwoLinksHasArrived, HasItsTimer, HasNo, TimerRecovery, enquiry_with, expires-one, is_final, rising-low, ◌<◌, []}
 use Rattle.laws_link.specs.two.CutOff as cut_off
 use Rattle.laws_link.proofs.OfTwo.Arriving.{AreFree}
 use Rattle.laws_link.proofs.OfTwo.Recovery.{free-recovered}
@@ -15,23 +15,23 @@ use Rattle.laws_wire.proofs.Talking.{Face}
 use Rattle.laws_wire.proofs.TimelyUp.{IsHushed, hushed, none-waits, none-of, none-open, timed-8}
 
 -- all frames on the way were lost
-cut-off : (n m : End) → Loose n m → n.link.own_busy ≡ false → n.link.waiting ≡ [] → n.way ≡ [] → (n.link.state ≡ TimerRecovery → n.link.repeats < n.terms.n200) → IsCutOff n m
+cut-off : (n m : LinkEndpoint) → Loose n m → n.link.own_busy ≡ false → n.link.waiting ≡ [] → n.way ≡ [] → (n.link.state ≡ TimerRecovery → n.link.repeats < n.terms.n200) → IsCutOff n m
 cut-off n m h free waiting way repeats = grind (arith, rising-low, line_of, flows-low)
 
 -- once it expires nothing waits but an enquiry
-no-answer : (n m : End) → IsCutOff n m → HasNo is_final (with_link (expired T200) n)
+no-answer : (n m : LinkEndpoint) → IsCutOff n m → HasNo is_final (with_link (expired T200) n)
 no-answer n m h = grind (arith, expires-one, enquiry_with)
 
 -- a link that has had all acknowledged, and takes the other for free, does not run T200
 stops : (l : Link) → HasItsTimer l → l.state ≡ Established → l.s ≡ l.a → l.peer_busy ≡ false → is_running T200 l ≡ false
 stops l h state all free = grind (arith, eq-eqb)
 
-pub nothing-said : (service : Service) (tei : ℕ) (k : Config) (place : ℕ) (its : List LineTold) (s : Station) (n : End) → Held k service tei place its s n → given n.terms n.link ≡ None
+pub nothing-said : (service : Service) (tei : ℕ) (k : Config) (place : ℕ) (its : List LineTold) (s : Endpoint) (n : LinkEndpoint) → Held k service tei place its s n → given n.terms n.link ≡ None
     → answered next s ≡ gave None
 nothing-said service tei k place its s n h none = gives-none service tei place s n (subst (λ k. StationStands k service tei place s n) (sym h.stands.config) h.stands) none
 
 module _ (service : Service) (tei : ℕ) (c d : Config) (p q : ℕ) (face : Face c d) (back : Face d c) (past other : List LineTold) where
-  abbrev At : Wire → End → End → Type 0
+  abbrev At : Wire → LinkEndpoint → LinkEndpoint → Type 0
   At w n m = LooseAt service tei c d p q past other w n m
 
   -- so it is round after round
@@ -46,17 +46,17 @@ module _ (service : Service) (tei : ℕ) (c d : Config) (p q : ℕ) (face : Face
       → heard ≡ told ++ map (data_told service tei) delivered → length (told ++ map (data_told service tei) granted) ≤ length heard + u → length granted ≤ r + u
   missing told r u granted delivered heard low is here h = grind (arith, length-append, length-map, length-take-le)
 
-  module _ (w : Wire) (n m : End) (h : At w n m) (still : IsStill w) (may : BothMayRepeat service tei w) (near_free : n.link.own_busy ≡ false) (far_free : m.link.own_busy ≡ false) where
+  module _ (w : Wire) (n m : LinkEndpoint) (h : At w n m) (still : IsStill w) (may : BothMayRepeat service tei w) (near_free : n.link.own_busy ≡ false) (far_free : m.link.own_busy ≡ false) where
     abbrev timer : Timer
     timer = timer_T200 service tei
 
     abbrev e : Ends
     e = record { near = n; far = m }
 
-    abbrev n' : End
+    abbrev n' : LinkEndpoint
     n' = with_link (expired T200) n
 
-    abbrev m' : End
+    abbrev m' : LinkEndpoint
     m' = with_link (expired T200) m
 
     near-hushed : IsHushed service tei n
@@ -77,7 +77,7 @@ module _ (service : Service) (tei : ℕ) (c d : Config) (p q : ℕ) (face : Face
 
     -- at the first end, and then at the other, which has no answer to come
     abbrev w' : Wire
-    w' = acting (times_out timer) w
+    w' = acting (expires timer) w
 
     near-expired : At w' n' m
     near-expired =
@@ -89,7 +89,7 @@ module _ (service : Service) (tei : ℕ) (c d : Config) (p q : ℕ) (face : Face
 
     both-expired : At (with_t200_expired service tei w) n' m'
     both-expired =
-        at-turned service tei d c q p other past (acting (times_out timer) (turned w')) m' n'
+        at-turned service tei d c q p other past (acting (expires timer) (turned w')) m' n'
         (at-expires service tei d c q p back other past (turned w') m n' (at-turned service tei c d p q past other w' n' m near-expired) timer T200 (λ l. refl) (λ state running. far-cut.repeats state)
         (λ state running. closed m n' far-open))
 

@@ -1,5 +1,5 @@
 -- A call in which UA may be lost and an end may be busy comes to where no turn is left and T200 runs at neither end.
-use Rattle.laws_wire.proofs.Vocabulary.{◌≡◌, ◌≢◌, ℕ, ◌+◌, ◌≤◌, ◌*◌, Bool, false, List, [], ◌∷◌, ◌++◌, length, map, refl, sym, ap, subst, ◌∙◌, inl, inr, arith, All, All-nil, All-append, Service, Parts, ControlFrame, fresh, IsInRange, End, Config, LineTold, terms, Station, Wire, times_out, at_near, at_far, acting, Doing, doing, doing_all, IsStill, link_of, calling, CanCall, confirmed, data_told, heard_in, IsFullTalk, StayPatient, MayRepeat, BothMayRepeat, both_expire, with_t200_expired, rounds, timer_T200, IsAtRest, Called, uncalled, seen, all_kept, none_busy, busy, HasLeft, HasTold, Settles, near_expires, LossyCallsAreAnswered, LossyCallsSettle, HasItsTimer, timely-fresh, append_assoc}
+use Rattle.laws_wire.proofs.Vocabulary.{◌≡◌, ◌≢◌, ℕ, ◌+◌, ◌≤◌, ◌*◌, Bool, false, List, [], ◌∷◌, ◌++◌, length, map, refl, sym, ap, subst, ◌∙◌, inl, inr, arith, All, All-nil, All-append, Service, Parts, ControlFrame, fresh, IsInRange, LinkEndpoint, Config, LineTold, terms, Endpoint, Wire, expires, at_near, at_far, acting, StepAt, doing, doing_all, IsStill, link_of, calling, CanCall, confirmed, data_told, heard_in, IsFullTalk, StayPatient, MayRepeat, BothMayRepeat, both_expire, with_t200_expired, rounds, timer_T200, IsAtRest, Called, uncalled, seen, all_kept, none_busy, busy, HasLeft, HasTold, Settles, near_expires, LossyCallsAreAnswered, LossyCallsSettle, HasItsTimer, timely-fresh, append_assoc}
 use Rattle.laws_wire.specs.Facing.{line_of}
 use Rattle.laws_wire.proofs.Acting.{ranges}
 use Rattle.laws_wire.proofs.Awaited.{open-here, link-is}
@@ -23,10 +23,10 @@ use Rattle.laws_wire.proofs.UaTold.{all-is, still-there, patient-goes}
 -- ---- what was granted before does not matter
 
 module _ (g : List (List ℕ)) where
-  doing-before : (k : Doing) (w : Wire) → doing k (with_before g w) ≡ with_before g (doing k w)
+  doing-before : (k : StepAt) (w : Wire) → doing k (with_before g w) ≡ with_before g (doing k w)
   doing-before k w = grind (arith, append_assoc)
 
-  all-before : (ds : List Doing) (w : Wire) → doing_all ds (with_before g w) ≡ with_before g (doing_all ds w)
+  all-before : (ds : List StepAt) (w : Wire) → doing_all ds (with_before g w) ≡ with_before g (doing_all ds w)
   unfolding doing_all
   all-before [] w = refl
   all-before (k ∷ ds) w = ap (doing_all ds) (doing-before k w) ∙ all-before ds (doing k w)
@@ -36,10 +36,10 @@ module _ (g : List (List ℕ)) where
 
   pub expired-before : (service : Service) (tei : ℕ) (w : Wire) → with_t200_expired service tei (with_before g w) ≡ with_before g (with_t200_expired service tei w)
   expired-before service tei w =
-      ap (doing (at_far (times_out (timer_T200 service tei)))) (doing-before (at_near (times_out (timer_T200 service tei))) w)
-      ∙ doing-before (at_far (times_out (timer_T200 service tei))) (doing (at_near (times_out (timer_T200 service tei))) w)
+      ap (doing (at_far (expires (timer_T200 service tei)))) (doing-before (at_near (expires (timer_T200 service tei))) w)
+      ∙ doing-before (at_far (expires (timer_T200 service tei))) (doing (at_near (expires (timer_T200 service tei))) w)
 
-  pub patient-before : (ds : List Doing) (w : Wire) → StayPatient ds w → StayPatient ds (with_before g w)
+  pub patient-before : (ds : List StepAt) (w : Wire) → StayPatient ds w → StayPatient ds (with_before g w)
   unfolding StayPatient
   patient-before [] w h = tt
   patient-before (at_near act ∷ ds) w h = (
@@ -72,9 +72,9 @@ module _ (service : Service) (tei : ℕ) (c d : Config) (p q : ℕ) (face : Face
   -- it was not: it rings, and nothing waits
   module _ (v : Wire) (still : IsStill v) (may : MayRepeat service tei v.near) where
     abbrev Tells : Type 0
-    Tells = StayPatient (near_expires service tei) v × (heard_in (rounds 1 (acting (times_out (timer_T200 service tei)) v)).near ≡ confirmed service tei ∷ [])
+    Tells = StayPatient (near_expires service tei) v × (heard_in (rounds 1 (acting (expires (timer_T200 service tei)) v)).near ≡ confirmed service tei ∷ [])
 
-    far-quiet : (past : List LineTold) (M : End) → Held d service tei q past v.far M → IsHushed service tei M
+    far-quiet : (past : List LineTold) (M : LinkEndpoint) → Held d service tei q past v.far M → IsHushed service tei M
     far-quiet past M held = hushed service tei d q past v.far M held still.far still.far_way
 
     near-quiet : (k : ℕ) (ws : List ControlFrame) (way : List Parts) → Held c service tei p [] v.near (end (terms c service tei) (ringing k ws) way) → (ws ≡ []) × (way ≡ [])
@@ -83,14 +83,14 @@ module _ (service : Service) (tei : ℕ) (c d : Config) (p q : ℕ) (face : Face
         (none-waits service tei (end (terms c service tei) (ringing k ws) way) x, x.way)
 
     -- no answer is to come
-    long : (P : Station → Type 0) → Rings service tei c d p q face back rt ru P [] [] v → (past : List LineTold) (M : End) → Held d service tei q past v.far M → StayPatient (near_expires service tei) v
+    long : (P : Endpoint → Type 0) → Rings service tei c d p q face back rt ru P [] [] v → (past : List LineTold) (M : LinkEndpoint) → Held d service tei q past v.far M → StayPatient (near_expires service tei) v
     unfolding StayPatient
     long P h past M held =
         let n = end (terms c service tei) (ringing h.repeats []) [] in
         let quiet = hushed service tei c p [] v.near n h.near still.near still.near_way in
         ((λ awaits. open-here service tei c d p q v.near v.far n M h.near.stands held.stands (none-open service tei n M quiet (far-quiet past M held)), may), tt)
 
-    ringing-tells : (P : Station → Type 0) → Rs service tei c d p q face back rt ru P v → (Rings service tei c d p q face back rt ru P [] [] v → Tells) → Tells
+    ringing-tells : (P : Endpoint → Type 0) → Rs service tei c d p q face back rt ru P v → (Rings service tei c d p q face back rt ru P [] [] v → Tells) → Tells
     ringing-tells P (inl h) does = does h
     ringing-tells P (inr (inl h)) does = absurd (cc (near-quiet h.repeats (its_sabme ∷ []) [] h.near).0)
     ringing-tells P (inr (inr h)) does = absurd (cc (near-quiet h.repeats [] (sabme (terms c service tei) ∷ []) h.near).1)
@@ -139,7 +139,7 @@ module _ (service : Service) (tei : ℕ) (c d : Config) (p q : ℕ) (face : Face
     pub rings : IsStill here → heard_in v.near ≡ [] → MayRepeat service tei v.near → TellsSo here
     unfolding doing_all
     rings still none may =
-        let same = ap (rounds 1) (grind arith) ∙ rounds-before g 1 (acting (times_out (timer_T200 service tei)) v) in
+        let same = ap (rounds 1) (grind arith) ∙ rounds-before g 1 (acting (expires (timer_T200 service tei)) v) in
         let tells = phase-tells v (still-there service tei c d p q face back rt ru x v g given_up phase still) may x phase none in
         (patient-before g (near_expires service tei) v tells.0, ap (λ y. heard_in y.near) same ∙ tells.1)
 
@@ -181,7 +181,7 @@ module _ (service : Service) (tei : ℕ) (c d : Config) (p q : ℕ) (face : Face
 
 -- ---- the call
 
-module _ (service : Service) (c d : Config) (line other tei : ℕ) (ds : List Doing) (can : CanCall c line d other tei) (talk : All (IsFullTalk service tei) ds)
+module _ (service : Service) (c d : Config) (line other tei : ℕ) (ds : List StepAt) (can : CanCall c line d other tei) (talk : All (IsFullTalk service tei) ds)
     (patient : StayPatient ds (calling service tei c line d other)) (free : busy ds (calling service tei c line d other) none_busy ≡ none_busy) where
   abbrev begun : Wire
   begun = calling service tei c line d other
@@ -213,23 +213,23 @@ module _ (service : Service) (c d : Config) (line other tei : ℕ) (ds : List Do
         subst (λ y. BothKnown service tei y w) free
         (runs-known service tei c d 0 0 s.face s.back s.near s.far wide narrow.0 narrow.1 ds talk begun patient uncalled first none_busy (near-first, far-first))
 
-    abbrev expires : List Doing
-    expires = both_expire service tei
+    abbrev expiring : List StepAt
+    expiring = both_expire service tei
 
-    timed : StayPatient expires w → (u : ℕ) → HasItsTimer (link_of service tei (line_of (rounds (u + 3) (with_t200_expired service tei w)).near)) × HasItsTimer (link_of service tei (line_of (rounds (u + 3) (with_t200_expired service tei w)).far))
+    timed : StayPatient expiring w → (u : ℕ) → HasItsTimer (link_of service tei (line_of (rounds (u + 3) (with_t200_expired service tei w)).near)) × HasItsTimer (link_of service tei (line_of (rounds (u + 3) (with_t200_expired service tei w)).far))
     unfolding doing_all
     timed goes-on u =
-        let es = expires ++ many (u + 3) in
-        let k = runs-known service tei c d 0 0 s.face s.back s.near s.far wide narrow.0 narrow.1 es (All-append (IsFullTalk service tei) expires (many (u + 3)) (grind arith) (many-full service tei (u + 3))) w
-        (both-patient expires (many (u + 3)) w goes-on (many-patient (u + 3) (doing_all expires w))) x on none_busy known in
-        let same : doing_all es w ≡ rounds (u + 3) (with_t200_expired service tei w) = doing-append expires (many (u + 3)) w ∙ many-rounds (u + 3) (with_t200_expired service tei w) in
+        let es = expiring ++ many (u + 3) in
+        let k = runs-known service tei c d 0 0 s.face s.back s.near s.far wide narrow.0 narrow.1 es (All-append (IsFullTalk service tei) expiring (many (u + 3)) (grind arith) (many-full service tei (u + 3))) w
+        (both-patient expiring (many (u + 3)) w goes-on (many-patient (u + 3) (doing_all expiring w))) x on none_busy known in
+        let same : doing_all es w ≡ rounds (u + 3) (with_t200_expired service tei w) = doing-append expiring (many (u + 3)) w ∙ many-rounds (u + 3) (with_t200_expired service tei w) in
         subst (λ y. HasItsTimer (link_of service tei (line_of y.near)) × HasItsTimer (link_of service tei (line_of y.far))) same (k.0.timed, k.1.timed)
 
     pub call-settles : Settles service tei x w
     call-settles =
         subst (Settles service tei x) (sym on.is)
         (settles-so service tei c d 0 0 s.face s.back s.near s.far x on.v on.earlier on.given_up on.phase (subst Both on.is known)
-        (subst (λ y. StayPatient expires y → (u : ℕ) → HasItsTimer (link_of service tei (line_of (rounds (u + 3) (with_t200_expired service tei y)).near)) × HasItsTimer (link_of service tei (line_of (rounds (u + 3) (with_t200_expired service tei y)).far))) on.is timed))
+        (subst (λ y. StayPatient expiring y → (u : ℕ) → HasItsTimer (link_of service tei (line_of (rounds (u + 3) (with_t200_expired service tei y)).near)) × HasItsTimer (link_of service tei (line_of (rounds (u + 3) (with_t200_expired service tei y)).far))) on.is timed))
 
 pub lossy-calls-are-answered : LossyCallsAreAnswered
 lossy-calls-are-answered service c d line other tei ds can talk = λ patient.

@@ -1,5 +1,5 @@
 -- What is told in a call in which UA may be lost, from its phases.
-use Rattle.laws_wire.proofs.Vocabulary.{arith, ◌≡◌, ℕ, Bool, false, List, [], ◌∷◌, ◌++◌, length, map, take, drop, refl, sym, ap, append-nil, append_assoc, map-append, take-append-drop, subst, ◌∙◌, inl, inr, true≢false, All, front_rest, Service, Parts, ControlFrame, IsInRange, End, Config, LineTold, terms, Station, Wire, turned, Doing, doing_all, IsStill, CanCall, calling, data_told, IsBeginningOf, heard_in, runs_t200, IsFullTalk, StayPatient, Called, uncalled, seen, all_kept, ToldSo, LossyCallsComeThrough}
+use Rattle.laws_wire.proofs.Vocabulary.{arith, ◌≡◌, ℕ, Bool, false, List, [], ◌∷◌, ◌++◌, length, map, take, drop, refl, sym, ap, append-nil, append_assoc, map-append, take-append-drop, subst, ◌∙◌, inl, inr, true≢false, All, front_rest, Service, Parts, ControlFrame, IsInRange, LinkEndpoint, Config, LineTold, terms, Endpoint, Wire, turned, StepAt, doing_all, IsStill, CanCall, calling, data_told, IsBeginningOf, heard_in, runs_t200, IsFullTalk, StayPatient, Called, uncalled, seen, all_kept, ToldSo, LossyCallsComeThrough}
 use Rattle.laws_wire.proofs.Awaited.{runs-is}
 use Rattle.laws_wire.proofs.Calling.{end, sabme}
 use Rattle.laws_wire.proofs.Held.{Held}
@@ -43,7 +43,7 @@ module _ (service : Service) (tei : ℕ) (c d : Config) (p q : ℕ) (face : Face
   FarSoFar past v = IsBeginningOf (past ++ map (data_told service tei) v.near.granted) (heard_in v.far) × IsBeginningOf (heard_in v.far) past
 
   -- where nothing was delivered
-  far-none : (past : List LineTold) (v : Wire) (M : End) → Held d service tei q past v.far M → M.delivered ≡ [] → FarSoFar past v
+  far-none : (past : List LineTold) (v : Wire) (M : LinkEndpoint) → Held d service tei q past v.far M → M.delivered ≡ [] → FarSoFar past v
   far-none past v M h none = grind (arith, none-yet)
 
   away-far : (past : List LineTold) (b : Bool) (v : Wire) → Rs service tei c d p q face back rt ru (Away service tei c d p q face back rt ru past b) v → FarSoFar past v
@@ -79,7 +79,7 @@ module _ (service : Service) (tei : ℕ) (c d : Config) (p q : ℕ) (face : Face
   stops A v k ws way h none =
       absurd (true≢false (sym (runs-is service tei c p v.near (end (terms c service tei) (ringing k ws) way) h.stands (λ e. cc e)) ∙ none))
 
-  ringing-stops : (A : Type 0) (P : Station → Type 0) (v : Wire) → Rs service tei c d p q face back rt ru P v → runs_t200 service tei v.near ≡ false → A
+  ringing-stops : (A : Type 0) (P : Endpoint → Type 0) (v : Wire) → Rs service tei c d p q face back rt ru P v → runs_t200 service tei v.near ≡ false → A
   ringing-stops A P v (inl h) none = stops A v h.repeats [] [] h.near none
   ringing-stops A P v (inr (inl h)) none = stops A v h.repeats (its_sabme ∷ []) [] h.near none
   ringing-stops A P v (inr (inr h)) none = stops A v h.repeats [] (sabme (terms c service tei) ∷ []) h.near none
@@ -126,7 +126,7 @@ module _ (service : Service) (tei : ℕ) (c d : Config) (p q : ℕ) (face : Face
   pub up-where : (x : Called) (w : Wire) (h : Goes service tei c d p q face back rt ru x w) → runs_t200 service tei w.near ≡ false → Up service tei c d p q face back rt ru x.told h.v
   up-where x w h none = phase-up x h.v h.phase (subst (λ w. runs_t200 service tei w.near ≡ false) h.is none)
 
-pub patient-goes : (service : Service) (c d : Config) (line other tei : ℕ) (ds : List Doing) (can : CanCall c line d other tei) → All (IsFullTalk service tei) ds
+pub patient-goes : (service : Service) (c d : Config) (line other tei : ℕ) (ds : List StepAt) (can : CanCall c line d other tei) → All (IsFullTalk service tei) ds
     → let x = setting service c d line other tei can in let begun = calling service tei c line d other in StayPatient ds begun
     → Rattle.laws_wire.proofs.UaLostRun.Goes service tei c d 0 0 x.face x.back x.near x.far (seen service tei ds begun uncalled) (doing_all ds begun)
 patient-goes service c d line other tei ds can talk patient =

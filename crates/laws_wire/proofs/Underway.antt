@@ -1,5 +1,5 @@
 -- Two stations that are up, nothing is lost, and T200 expires at either: what is then sure to arrive, and that it has, where no turn is left.
-use Rattle.laws_wire.proofs.Vocabulary.{◌≡◌, ℕ, ◌≤◌, true, false, ◌&&◌, IsTrue, List, [], ◌∷◌, ◌++◌, map, drop, refl, sym, ap, subst, ◌∙◌, ◌⊎◌, inl, inr, true≢false, arith, All, take_all, All-head, All-tail, Service, Timer, Parts, TimerRecovery, LinkTimer, T203, is_multiple_frame, End, with_link, with_sent, frames_of, Config, LineTold, request, awaits_answer, CanRepeat, HasNothingToSend, line, one_enquiry, one_answer, nothing-given, T200, line_of, Data, Station, Wire, happens, Act, requests, times_out, gives, takes, loses, acting, turned, Doing, at_near, at_far, doing, doing_all, IsStill, confirmed, indicated, data_told, heard_in, IsRoughTalkOf, IsRoughTalk, IsTimelyOf, IsTimely, StayTimely, LosesNothing, runs_t200, is_t200, near_asks, far_asks, ever, lt-ltb, ltb-false, nat_lt, offer-goes, expired, timer_T200, timer_T203, two_ends_with_first_of, two_ends_with_first_lost}
+use Rattle.laws_wire.proofs.Vocabulary.{◌≡◌, ℕ, ◌≤◌, true, false, ◌&&◌, IsTrue, List, [], ◌∷◌, ◌++◌, map, drop, refl, sym, ap, subst, ◌∙◌, ◌⊎◌, inl, inr, true≢false, arith, All, take_all, All-head, All-tail, Service, Timer, Parts, TimerRecovery, LinkTimer, T203, is_multiple_frame, LinkEndpoint, with_link, with_sent, frames_of, Config, LineTold, request, awaits_answer, CanRepeat, HasNothingToSend, line, one_enquiry, one_answer, nothing-given, T200, line_of, Data, Endpoint, Wire, happens, EndStep, requests, expires, sends, receives, loses, acting, turned, StepAt, at_near, at_far, doing, doing_all, IsStill, confirmed, indicated, data_told, heard_in, IsRoughTalkOf, IsRoughTalk, IsTimelyOf, IsTimely, StayTimely, LosesNothing, runs_t200, is_t200, near_asks, far_asks, ever, lt-ltb, ltb-false, nat_lt, offer-goes, expired, timer_T200, timer_T203, two_ends_with_first_of, two_ends_without_first}
 use Rattle.laws_link.specs.two.Timely as two_links
 use Rattle.laws_wire.proofs.Asking.{with_more, asked-form}
 use Rattle.laws_wire.proofs.Awaited.{closed, may-there, long-there, runs-up}
@@ -17,14 +17,14 @@ use Rattle.laws_wire.proofs.Replying.{offer-says}
 
 -- ---- where no turn is left
 
-module _ (n m : End) (h : Firm n m) (quiet : HasNothingToSend n.terms n.link) (way : n.way ≡ []) where
+module _ (n m : LinkEndpoint) (h : Firm n m) (quiet : HasNothingToSend n.terms n.link) (way : n.way ≡ []) where
   pub sure-came : HasNothingToSend m.terms m.link → m.way ≡ [] → Sure n m → (m.delivered ≡ n.link.contents)
   sure-came other away o = grind (arith, one_enquiry, kinds, line, one_answer, line_of, frames_of, take_all, nat_lt, lt-ltb, ltb-false, as-loose)
 
 -- ---- while turns come
 
 -- what is so of a first frame, where there is one
-module _ (n m : End) (h : Firm n m) (wide : 3 ≤ n.terms.control) where
+module _ (n m : LinkEndpoint) (h : Firm n m) (wide : 3 ≤ n.terms.control) where
   abbrev Then : List Parts → Type 0
   Then way = Firm (two_ends_with_first_of way n) (record m { way = drop 1 way })
 
@@ -35,8 +35,8 @@ module _ (n m : End) (h : Firm n m) (wide : 3 ≤ n.terms.control) where
 module _ (service : Service) (tei : ℕ) where
   -- both are up, and what either end sends is sure to arrive where this is so of it
   pub record SureUp (c d : Config) (p q : ℕ) (past other : List LineTold) (A B : Type 0) (w : Wire) : Type 0 where
-    pub n : End
-    pub m : End
+    pub n : LinkEndpoint
+    pub m : LinkEndpoint
     pub up : BothUp service tei c d p q past other w n m
     pub there : A → Sure n m
     pub back : B → Sure m n
@@ -48,10 +48,10 @@ module _ (service : Service) (tei : ℕ) where
   sure-by c d p q past other A B A' B' w f g h = record { n = h.n; m = h.m; up = h.up; there = λ a. h.there (f a); back = λ b. h.back (g b) }
 
   module _ (c d : Config) (p q : ℕ) (face : Face c d) (past other : List LineTold) (A B : Type 0) (wide_c : 3 ≤ c.control) (w : Wire) (h : SureUp c d p q past other A B w) where
-    abbrev n : End
+    abbrev n : LinkEndpoint
     n = h.n
 
-    abbrev m : End
+    abbrev m : LinkEndpoint
     m = h.m
 
     firm : Firm n m
@@ -72,7 +72,7 @@ module _ (service : Service) (tei : ℕ) where
     asks-data : (octets : List ℕ) → Now Nothing (acting (requests (Data service tei octets)) w)
     asks-data octets = go (held-asked service tei p past c w.near n h.up.near octets)
       where
-        s' : Station
+        s' : Endpoint
         s' = happens (request (Data service tei octets)) w.near
 
         go : (s' ≡ w.near) ⊎ Grants service tei p past c w.near n h.up.near octets s' → Now Nothing (record w { near = s' })
@@ -85,11 +85,11 @@ module _ (service : Service) (tei : ℕ) where
           back = λ b. (sure-replied n m firm.joined.back.rising (with_more octets n).link n.way n.delivered refl (inl (refl, refl)) (h.back b));
         }
 
-    abbrev After : LinkTimer → End
+    abbrev After : LinkTimer → LinkEndpoint
     After its = with_link (expired its) n
 
     expires-by : (timer : Timer) (its : LinkTimer) (more : Type 0) → Aims service tei timer its → (can : CanRepeat its n) (timely : two_links.IsTimely its n m)
-        → (IsTrue (is_multiple_frame (After its).link.state) → more → Sure (After its) m) → Now more (acting (times_out timer) w)
+        → (IsTrue (is_multiple_frame (After its).link.state) → more → Sure (After its) m) → Now more (acting (expires timer) w)
     expires-by timer its more aims can timely begins =
         let up = up-expires service tei c d p q face past other w n m h.up timer its aims can timely in
         record {
@@ -103,7 +103,7 @@ module _ (service : Service) (tei : ℕ) where
         go : IsTrue (is_multiple_frame (After its).link.state) → A ⊎ more → Sure (After its) m
         go up o = grind (arith, sure-expires, firm, wide)
 
-    expires-t200 : IsTimelyOf (times_out (timer_T200 service tei)) w → Now (runs_t200 service tei w.near ≡ true) (acting (times_out (timer_T200 service tei)) w)
+    expires-t200 : IsTimelyOf (expires (timer_T200 service tei)) w → Now (runs_t200 service tei w.near ≡ true) (acting (expires (timer_T200 service tei)) w)
     expires-t200 (long, may) =
         let there = may-there service tei c p w.near n h.up.near.stands may in
         let none = λ (state : n.link.state ≡ TimerRecovery).
@@ -111,28 +111,28 @@ module _ (service : Service) (tei : ℕ) where
         expires-by (timer_T200 service tei) T200 (runs_t200 service tei w.near ≡ true) (λ l. refl) (λ state running. there (ap awaits_answer state) running) (λ state running. none state)
         (λ up e. sure-begins n m firm wide (λ state running. none state) (sym (runs-up service tei c p w.near n h.up.near.stands firm.joined.near_up) ∙ e) up)
 
-    expires-t203 : Now Nothing (acting (times_out (timer_T203 service tei)) w)
+    expires-t203 : Now Nothing (acting (expires (timer_T203 service tei)) w)
     expires-t203 =
         expires-by (timer_T203 service tei) T203 Nothing (λ l. refl)
         (λ state running. absurd (never service tei c p past w.near n h.up.near firm.near_sane.timed state running))
         (λ state running. absurd (never service tei c p past w.near n h.up.near firm.near_sane.timed state running)) (λ up e. absurd (true≢false (sym e)))
 
-    sure-acts : (act : Act) → IsRoughTalkOf service tei act → LosesNothing (at_near act) → IsTimelyOf act w
+    sure-acts : (act : EndStep) → IsRoughTalkOf service tei act → LosesNothing (at_near act) → IsTimelyOf act w
         → Now ((is_t200 act && runs_t200 service tei w.near) ≡ true) (acting act w)
     sure-acts (requests r) is kept x = for-data service tei (λ r. Now Nothing (acting (requests r) w)) asks-data r is
-    sure-acts (times_out timer) is kept x =
-        each-timer service tei (λ timer. IsTimelyOf (times_out timer) w → Now ((is_t200 (times_out timer) && runs_t200 service tei w.near) ≡ true) (acting (times_out timer) w))
+    sure-acts (expires timer) is kept x =
+        each-timer service tei (λ timer. IsTimelyOf (expires timer) w → Now ((is_t200 (expires timer) && runs_t200 service tei w.near) ≡ true) (acting (expires timer) w))
         expires-t200 (λ x. expires-t203) timer is x
-    sure-acts gives is kept x = record {
+    sure-acts sends is kept x = record {
       n = with_sent n;
       m = m;
       up = up-gives service tei c d p q face past other w n m h.up;
       there = old (λ a. sure-sends n m firm wide (h.there a));
       back = λ b. (sure-replied n m firm.joined.back.rising (with_sent n).link (with_sent n).way n.delivered (offer-goes n.terms n.link).r (offer-says n.terms n.link n.way) (h.back b));
     }
-    sure-acts takes is kept x = record {
+    sure-acts receives is kept x = record {
       n = two_ends_with_first_of m.way n;
-      m = two_ends_with_first_lost m;
+      m = two_ends_without_first m;
       up = up-takes service tei c d p q face past other w n m h.up;
       there = old (λ a. (grind (arith, (firm-takes n m firm), sure-hears)));
       back = λ b. takes-back n m firm wide m.way refl (firm-takes n m firm) (h.back b);
@@ -145,7 +145,7 @@ module _ (service : Service) (tei : ℕ) where
     abbrev pub Up : Type 0 → Type 0 → Wire → Type 0
     Up A B w = SureUp c d p q (confirmed service tei ∷ []) (indicated service tei ∷ []) A B w
 
-    step : (A B : Type 0) (k : Doing) (w : Wire) → IsRoughTalk service tei k → LosesNothing k → IsTimely k w → Up A B w
+    step : (A B : Type 0) (k : StepAt) (w : Wire) → IsRoughTalk service tei k → LosesNothing k → IsTimely k w → Up A B w
         → Up (A ⊎ (near_asks service tei k w ≡ true)) (B ⊎ (far_asks service tei k w ≡ true)) (doing k w)
     step A B (at_near act) w is kept x h = grind (arith, sure-by, sure-acts)
     step A B (at_far act) w is kept x h =
@@ -158,7 +158,7 @@ module _ (service : Service) (tei : ℕ) where
         no (inl a) = a
         no (inr e) = absurd (true≢false (sym e))
 
-    pub sure-runs : (A B : Type 0) (ds : List Doing) (w : Wire) → All (IsRoughTalk service tei) ds → All LosesNothing ds → StayTimely ds w → Up A B w
+    pub sure-runs : (A B : Type 0) (ds : List StepAt) (w : Wire) → All (IsRoughTalk service tei) ds → All LosesNothing ds → StayTimely ds w → Up A B w
         → Up (A ⊎ (ever (near_asks service tei) ds w ≡ true)) (B ⊎ (ever (far_asks service tei) ds w ≡ true)) (doing_all ds w)
     unfolding doing_all StayTimely ever
     sure-runs A B [] w all kept x h = grind (arith, sure-by)
@@ -172,7 +172,7 @@ module _ (service : Service) (tei : ℕ) where
         (sure-runs (A ⊎ (asks ≡ true)) (B ⊎ (asks' ≡ true)) ds w' (All-tail (IsRoughTalk service tei) k ds all) (All-tail LosesNothing k ds kept) x.1 now)
 
   -- what has come at the link is told
-  module _ (c d : Config) (p q : ℕ) (past other : List LineTold) (w : Wire) (n m : End) (h : BothUp service tei c d p q past other w n m) (still : IsStill w) where
+  module _ (c d : Config) (p q : ℕ) (past other : List LineTold) (w : Wire) (n m : LinkEndpoint) (h : BothUp service tei c d p q past other w n m) (still : IsStill w) where
     near-hushed : IsHushed service tei n
     near-hushed = hushed service tei c p past w.near n h.near still.near still.near_way
 

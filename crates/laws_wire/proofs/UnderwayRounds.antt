@@ -1,5 +1,5 @@
 -- Turns, in any order or in rounds, lead to where all has arrived whose T200 has expired.
-use Rattle.laws_wire.proofs.Vocabulary.{◌≡◌, ℕ, zero, suc, ◌+◌, ◌*◌, ◌<◌, ◌≤◌, Bool, true, false, ◌||◌, List, [], ◌∷◌, ◌++◌, refl, sym, ap, subst, ◌∙◌, inl, inr, arith, nat_lt, ltb-true, ltb-false, true≢false, flat_map, All, All-nil, All-cons, All-append, Service, Config, LineTold, terms, flat_map-append, Station, Wire, gives, takes, Doing, at_near, at_far, acting, turned, doing, doing_all, IsStill, calling, CanCall, granted_of, for_layer_3, heard_in, IsRoughTalk, rounds, HasNoErrors, moves, expiries, most_frames, StayTimely, LosesNothing, ever, HasCome, GoesOn, GivesOrTakes, most_left, ArrivesInRounds, ArrivesInTurns, append-nil}
+use Rattle.laws_wire.proofs.Vocabulary.{◌≡◌, ℕ, zero, suc, ◌+◌, ◌*◌, ◌<◌, ◌≤◌, Bool, true, false, ◌||◌, List, [], ◌∷◌, ◌++◌, refl, sym, ap, subst, ◌∙◌, inl, inr, arith, nat_lt, ltb-true, ltb-false, true≢false, flat_map, All, All-nil, All-cons, All-append, Service, Config, LineTold, terms, flat_map-append, Endpoint, Wire, sends, receives, StepAt, at_near, at_far, acting, turned, doing, doing_all, IsStill, calling, CanCall, granted_of, for_layer_3, heard_in, IsRoughTalk, rounds, HasNoErrors, moves, expiries, most_frames, StayTimely, LosesNothing, ever, HasCome, GoesOn, SendsOrReceives, most_left, ArrivesInRounds, ArrivesInTurns, append-nil}
 use Rattle.laws_wire.proofs.LeftToDo.{weighs-left}
 use Rattle.laws_wire.proofs.LossyPhases.{IsUp, Goes as Phases}
 use Rattle.laws_wire.proofs.LossyRun.{More, near-more, Setting, setting, fair-goes}
@@ -9,15 +9,15 @@ use Rattle.laws_wire.proofs.Turning.{turns-fair, few-turns, all-of_link, all-los
 use Rattle.laws_wire.proofs.UnderwayRun.{arrives-under-traffic}
 use Rattle.laws_wire.proofs.Weighing.{weigh}
 
-many-turns : (n : ℕ) → All GivesOrTakes (many n)
+many-turns : (n : ℕ) → All SendsOrReceives (many n)
 unfolding many
-many-turns zero = All-nil GivesOrTakes
+many-turns zero = All-nil SendsOrReceives
 many-turns (suc n) =
-    All-cons GivesOrTakes (at_near gives) (at_far takes ∷ at_far gives ∷ at_near takes ∷ many n) tt
-    (All-cons GivesOrTakes (at_far takes) (at_far gives ∷ at_near takes ∷ many n) tt
-    (All-cons GivesOrTakes (at_far gives) (at_near takes ∷ many n) tt (All-cons GivesOrTakes (at_near takes) (many n) tt (many-turns n))))
+    All-cons SendsOrReceives (at_near sends) (at_far receives ∷ at_far sends ∷ at_near receives ∷ many n) tt
+    (All-cons SendsOrReceives (at_far receives) (at_far sends ∷ at_near receives ∷ many n) tt
+    (All-cons SendsOrReceives (at_far sends) (at_near receives ∷ many n) tt (All-cons SendsOrReceives (at_near receives) (many n) tt (many-turns n))))
 
-both-timely : (ds es : List Doing) (w : Wire) → StayTimely ds w → StayTimely es (doing_all ds w) → StayTimely (ds ++ es) w
+both-timely : (ds es : List StepAt) (w : Wire) → StayTimely ds w → StayTimely es (doing_all ds w) → StayTimely (ds ++ es) w
 unfolding StayTimely doing_all
 both-timely [] es w h g = g
 both-timely (d ∷ ds) es w h g = (h.0, both-timely ds es (doing d w) h.1 g)
@@ -26,12 +26,12 @@ both-timely (d ∷ ds) es w h g = (h.0, both-timely ds es (doing d w) h.1 g)
 or-first : (b x y : Bool) → (x ≡ true → y ≡ true) → (b || x) ≡ true → (b || y) ≡ true
 or-first b x y h e = grind arith
 
-ever-append : (asks : Doing → Wire → Bool) (ds es : List Doing) (w : Wire) → ever asks ds w ≡ true → ever asks (ds ++ es) w ≡ true
+ever-append : (asks : StepAt → Wire → Bool) (ds es : List StepAt) (w : Wire) → ever asks ds w ≡ true → ever asks (ds ++ es) w ≡ true
 unfolding ever
 ever-append asks [] es w e = absurd (true≢false (sym e))
 ever-append asks (d ∷ ds) es w e = or-first (asks d w) (ever asks ds (doing d w)) (ever asks (ds ++ es) (doing d w)) (ever-append asks ds es (doing d w)) e
 
-come-sooner : (service : Service) (tei : ℕ) (since es : List Doing) (w last : Wire) → HasCome service tei (since ++ es) w last → HasCome service tei since w last
+come-sooner : (service : Service) (tei : ℕ) (since es : List StepAt) (w last : Wire) → HasCome service tei (since ++ es) w last → HasCome service tei since w last
 come-sooner service tei since es w last h = grind (arith, ever-append)
 
 -- ---- what was told stays told
@@ -40,10 +40,10 @@ none-first : (xs ys : List LineTold) → xs ++ ys ≡ [] → xs ≡ []
 none-first [] ys e = refl
 none-first (x ∷ xs) ys e = absurd (cc)
 
-none-before : (s s' : Station) → More s s' → heard_in s' ≡ [] → heard_in s ≡ []
+none-before : (s s' : Endpoint) → More s s' → heard_in s' ≡ [] → heard_in s ≡ []
 none-before s s' x e = none-first (heard_in s) (flat_map for_layer_3 x.more) (sym (flat_map-append for_layer_3 s.told x.more) ∙ sym (ap (flat_map for_layer_3) x.told) ∙ e)
 
-pub told-still : (ds : List Doing) (w : Wire) → (heard_in w.near ≡ [] → ⊥) → heard_in (doing_all ds w).near ≡ [] → ⊥
+pub told-still : (ds : List StepAt) (w : Wire) → (heard_in w.near ≡ [] → ⊥) → heard_in (doing_all ds w).near ≡ [] → ⊥
 unfolding doing_all
 told-still [] w h = h
 told-still (at_near act ∷ ds) w h = told-still ds (acting act w) (λ e. h (none-before w.near (acting act w).near (near-more act w) e))
@@ -59,7 +59,7 @@ least a b = go (nat_lt a b) refl
     go true e = let less = ltb-true a b e in (a, omega arith, omega (arith, less), λ x h g. omega (arith, h))
     go false e = let less = ltb-false a b e in (b, omega (arith, less), omega arith, λ x h g. omega (arith, g))
 
-module _ (service : Service) (c d : Config) (line other tei k : ℕ) (before since : List Doing) (can : CanCall c line d other tei) (wide : (terms c service tei).k ≤ k) (wide' : (terms d service tei).k ≤ k)
+module _ (service : Service) (c d : Config) (line other tei k : ℕ) (before since : List StepAt) (can : CanCall c line d other tei) (wide : (terms c service tei).k ≤ k) (wide' : (terms d service tei).k ≤ k)
     (talk : All (IsRoughTalk service tei) before) where
   abbrev begun : Wire
   begun = calling service tei c line d other
@@ -80,7 +80,7 @@ module _ (service : Service) (c d : Config) (line other tei k : ℕ) (before sin
     told : heard_in last.near ≡ [] → ⊥
     told = told-still since w on.0
 
-    module _ (es : List Doing) (all : All GivesOrTakes es) where
+    module _ (es : List StepAt) (all : All SendsOrReceives es) where
       fair : HasNoErrors (doing_all es last)
       fair = subst (λ v. HasNoErrors (doing_all es v)) same (turns-fair service c d line other tei k (before ++ since) es can whole all (both-timely before since begun timely on.3))
 
@@ -112,10 +112,10 @@ module _ (service : Service) (c d : Config) (line other tei k : ℕ) (before sin
 
     fair-now : HasNoErrors last
     unfolding doing_all
-    fair-now = fair [] (All-nil GivesOrTakes)
+    fair-now = fair [] (All-nil SendsOrReceives)
 
     -- and where none is left all has come
-    pub comes : 3 ≤ c.control → 3 ≤ d.control → (es : List Doing) → All GivesOrTakes es → IsStill (doing_all es last) → HasCome service tei since w (doing_all es last)
+    pub comes : 3 ≤ c.control → 3 ≤ d.control → (es : List StepAt) → All SendsOrReceives es → IsStill (doing_all es last) → HasCome service tei since w (doing_all es last)
     comes three three' es all still =
         let there : doing_all (since ++ es) w ≡ doing_all es last = doing-append since es w in
         let goes : GoesOn service tei (since ++ es) w = (
@@ -130,7 +130,7 @@ module _ (service : Service) (c d : Config) (line other tei k : ℕ) (before sin
     abbrev Bounded : ℕ → Type 0
     Bounded n = (n ≤ most_left service tei k last) × (n ≤ 2 * most_frames k (expiries (before ++ since)) (granted_of last))
 
-    pub bounded : (es : List Doing) → All GivesOrTakes es → Bounded (moves es last)
+    pub bounded : (es : List StepAt) → All SendsOrReceives es → Bounded (moves es last)
     bounded es all = (by-left es all fair-now, by-call es all)
 
     pub rests : (n : ℕ) × Bounded n × IsStill (rounds n last)

@@ -1,5 +1,5 @@
 -- Two stations whose links are up: each turn lowers their weight, and each request that is granted raises it by four.
-use Rattle.laws_wire.proofs.Vocabulary.{◌≡◌, ℕ, ◌+◌, ◌*◌, ◌≤◌, false, List, [], ◌∷◌, ◌++◌, length, map, drop, Option, Some, None, refl, sym, ap, subst, ◌∙◌, ◌⊎◌, inl, inr, append-nil, length-append, arith, All, if◌then◌else◌, All-head, All-tail, Service, Parts, spelling, Terms, Link, given, Given, End, Ends, with_link, with_sent, frame_given, Config, Request, request, next, weight_at, HasNothingToSend, takes-first, Pair, nothing-given, nothing-to_send, silent-stays, refusal, Data, Station, Wire, happens, frames_by, with_first_of, Act, requests, gives, takes, Doing, at_near, at_far, acting, turned, doing, doing_all, is_any, is_turn_of, is_turn, turns, answered, comes, IsTalkOf, IsTalk, received, LinkData, frame, two_ends_with_first_of, two_ends_with_first_lost}
+use Rattle.laws_wire.proofs.Vocabulary.{◌≡◌, ℕ, ◌+◌, ◌*◌, ◌≤◌, false, List, [], ◌∷◌, ◌++◌, length, map, drop, Option, Some, None, refl, sym, ap, subst, ◌∙◌, ◌⊎◌, inl, inr, append-nil, length-append, arith, All, if◌then◌else◌, All-head, All-tail, Service, Parts, spelling, Terms, Link, given, Given, LinkEndpoint, Ends, with_link, with_sent, frame_given, Config, Request, request, next, weight_at, HasNothingToSend, takes-first, Pair, nothing-given, nothing-to_send, silent-stays, refusal, Data, Endpoint, Wire, happens, frames_by, with_first_of, EndStep, requests, sends, receives, StepAt, at_near, at_far, acting, turned, doing, doing_all, is_any, is_turn_of, is_turn, turns, answered, frame_comes, IsTalkOf, IsTalk, received, LinkData, frame, two_ends_with_first_of, two_ends_without_first}
 use Rattle.laws_link.proofs.OfTwo.AnyOrder as any_order
 use Rattle.laws_wire.proofs.Answered.{gives-granted, takes-granted}
 use Rattle.laws_wire.proofs.Asking.{with_more, asked-form, asks-more, Asked}
@@ -7,10 +7,10 @@ use Rattle.laws_wire.proofs.Speaking.{tells-data}
 use Rattle.laws_wire.proofs.Standing.{IsCarried, StationStands, gives-frames}
 use Rattle.laws_wire.proofs.Talking.{Face, Past, Holds, holds-given, holds-lost, holds-taken, fits, More, holds-asked}
 
-abbrev pub pair_of : End → End → Ends
+abbrev pub pair_of : LinkEndpoint → LinkEndpoint → Ends
 pair_of n m = record { near = n; far = m }
 
-pub turned-pair : (n m : End) → Pair (pair_of n m) → Pair (pair_of m n)
+pub turned-pair : (n m : LinkEndpoint) → Pair (pair_of n m) → Pair (pair_of m n)
 turned-pair n m h = record { near = h.far; far = h.near; there = h.back; back = h.there }
 
 -- a turn or none
@@ -18,18 +18,18 @@ abbrev pub turn_of : List (List ℕ) → ℕ
 turn_of frames = if is_any frames then 1 else 0
 
 -- an end with nothing to give stays
-pub stays : (n : End) → given n.terms n.link ≡ None → with_sent n ≡ n
+pub stays : (n : LinkEndpoint) → given n.terms n.link ≡ None → with_sent n ≡ n
 stays n e = grind (arith, silent-stays, nothing-given, append-nil)
 
 some-given : (t : Terms) (l : Link) (g : Given) → given t l ≡ Some g → HasNothingToSend t l → ⊥
 some-given t l g is none = let wrong : None ≡ Some g = sym (nothing-to_send t l none) ∙ is in absurd (cc)
 
-pub record Gives (n m : End) (b : ℕ) : Type 0 where
+pub record Gives (n m : LinkEndpoint) (b : ℕ) : Type 0 where
   pub pair : Pair (pair_of (with_sent n) m)
   pub price : b + weight_at (with_sent n) ≤ weight_at n
   pub kept : (with_sent n).link.contents ≡ n.link.contents
 
-pub end-gives : (f : Parts → List ℕ) (n m : End) → Pair (pair_of n m) → Gives n m (turn_of (map f (frame_given n.terms (given n.terms n.link))))
+pub end-gives : (f : Parts → List ℕ) (n m : LinkEndpoint) → Pair (pair_of n m) → Gives n m (turn_of (map f (frame_given n.terms (given n.terms n.link))))
 end-gives f n m h = go (given n.terms n.link) refl
   where
     go : (o : Option Given) → given n.terms n.link ≡ o → Gives n m (turn_of (map f (frame_given n.terms (given n.terms n.link))))
@@ -45,35 +45,35 @@ pub one-longer : (xs : List (List ℕ)) (x : List ℕ) → length (xs ++ x ∷ [
 one-longer xs x = length-append xs (x ∷ [])
 
 -- more is asked for at one of a pair
-pub record MorePair (octets : List ℕ) (n m : End) : Type 0 where
+pub record MorePair (octets : List ℕ) (n m : LinkEndpoint) : Type 0 where
   pub pair : Pair (pair_of (with_more octets n) m)
   pub heavier : weight_at (with_more octets n) ≡ weight_at n + 4
 
-pub more-pair : (octets : List ℕ) (n m : End) → Pair (pair_of n m) → length octets ≤ m.terms.n201 → refusal n.terms n.link false (LinkData octets) ≡ None → MorePair octets n m
+pub more-pair : (octets : List ℕ) (n m : LinkEndpoint) → Pair (pair_of n m) → length octets ≤ m.terms.n201 → refusal n.terms n.link false (LinkData octets) ≡ None → MorePair octets n m
 more-pair octets n m h small none =
     let y : Asked octets n m (with_more octets n) =
     subst (Asked octets n m) (asked-form octets n none) (asks-more octets n m h.near h.there h.back small none) in
     record { pair = record { near = y.steady; far = h.far; there = y.there; back = y.back }; heavier = y.heavier }
 
 module _ (service : Service) (tei : ℕ) where
-  pub record Talk (c d : Config) (p q : ℕ) (first second : Past) (w : Wire) (n m : End) : Type 0 where
+  pub record Talk (c d : Config) (p q : ℕ) (first second : Past) (w : Wire) (n m : LinkEndpoint) : Type 0 where
     pub near : Holds c service tei p first w.near n
     pub far : Holds d service tei q second w.far m
     pub pair : Pair (pair_of n m)
 
   module _ (c d : Config) (p q : ℕ) (face : Face c d) (back : Face d c) (first second : Past) where
     -- what comes of it, and what it costs
-    pub record Acted (w w' : Wire) (n m : End) (b : ℕ) : Type 0 where
-      pub n' : End
-      pub m' : End
+    pub record Acted (w w' : Wire) (n m : LinkEndpoint) (b : ℕ) : Type 0 where
+      pub n' : LinkEndpoint
+      pub m' : LinkEndpoint
       pub talk : Talk c d p q first second w' n' m'
       pub price : b + (weight_at n' + weight_at m') + 4 * granted_of w ≤ (weight_at n + weight_at m) + 4 * granted_of w'
 
-    module _ (w : Wire) (n m : End) (h : Talk c d p q first second w n m) where
+    module _ (w : Wire) (n m : LinkEndpoint) (h : Talk c d p q first second w n m) where
       turn-is : turn_of (frames_by (answered next w.near)) ≡ turn_of (map (spelling w.near.card.config.side) (frame_given n.terms (given n.terms n.link)))
       turn-is = ap turn_of (gives-frames service tei p w.near n (subst (λ k. StationStands k service tei p w.near n) (sym h.near.stands.config) h.near.stands))
 
-      acts-gives : Acted w (acting gives w) n m (turn_of (frames_by (answered next w.near)))
+      acts-gives : Acted w (acting sends w) n m (turn_of (frames_by (answered next w.near)))
       acts-gives =
           let x = end-gives (spelling w.near.card.config.side) n m h.pair in
           record {
@@ -85,13 +85,13 @@ module _ (service : Service) (tei : ℕ) where
           }
 
       -- nothing is on its way
-      none-lost : (m' : End) → m'.way ≡ [] → two_ends_with_first_lost m' ≡ m'
+      none-lost : (m' : LinkEndpoint) → m'.way ≡ [] → two_ends_without_first m' ≡ m'
       none-lost m' e = λ i. record m' { way = (ap (drop 1) e ∙ sym e) i }
 
-      takes-some : (f : Parts) (fs : List Parts) → m.way ≡ f ∷ fs → Acted w (acting takes w) n m (turn_of w.far.way)
+      takes-some : (f : Parts) (fs : List Parts) → m.way ≡ f ∷ fs → Acted w (acting receives w) n m (turn_of w.far.way)
       takes-some f fs e =
           let way : w.far.way ≡ spelling d.side f ∷ map (spelling d.side) fs = h.far.stands.way ∙ ap (map (spelling d.side)) e in
-          let same : with_first_of w.far.way w.near ≡ comes (spelling d.side f) w.near = ap (λ way. with_first_of way w.near) way in
+          let same : with_first_of w.far.way w.near ≡ frame_comes (spelling d.side f) w.near = ap (λ way. with_first_of way w.near) way in
           let there : 1 ≤ length m.way = subst (λ fs'. 1 ≤ length fs') (sym e) (omega arith) in
           let x = takes-first m n h.pair.far h.pair.near h.pair.back h.pair.there there in
           let n' = with_link (received (frame f)) n in
@@ -100,7 +100,7 @@ module _ (service : Service) (tei : ℕ) where
           let from : IsCarried d service tei f = All-head (IsCarried d service tei) f fs (subst (All (IsCarried d service tei)) e h.far.stands.carried) in
           record {
             n' = n';
-            m' = two_ends_with_first_lost m;
+            m' = two_ends_without_first m;
             talk = record {
               near =
                   subst (λ s. Holds c service tei p first s n') (sym same)
@@ -109,21 +109,21 @@ module _ (service : Service) (tei : ℕ) where
               pair = record { near = taken.taker; far = taken.giver; there = taken.back; back = taken.there };
             };
             price =
-                subst (λ s. turn_of w.far.way + (weight_at n' + weight_at (two_ends_with_first_lost m)) + 4 * granted_of w ≤ (weight_at n + weight_at m) + 4 * (length s.granted + length w.far.granted)) (sym same)
+                subst (λ s. turn_of w.far.way + (weight_at n' + weight_at (two_ends_without_first m)) + 4 * granted_of w ≤ (weight_at n + weight_at m) + 4 * (length s.granted + length w.far.granted)) (sym same)
                 (omega (arith, (ap turn_of way), taken.lighter, (ap length (takes-granted (spelling d.side f) w.near))));
           }
 
-      acts-takes : Acted w (acting takes w) n m (turn_of w.far.way)
+      acts-takes : Acted w (acting receives w) n m (turn_of w.far.way)
       acts-takes = go m.way refl
         where
-          go : (way : List Parts) → m.way ≡ way → Acted w (acting takes w) n m (turn_of w.far.way)
+          go : (way : List Parts) → m.way ≡ way → Acted w (acting receives w) n m (turn_of w.far.way)
           go [] e = grind (arith, none-lost, holds-lost)
           go (f ∷ fs) e = takes-some f fs e
 
       acts-asks : (octets : List ℕ) → Acted w (acting (requests (Data service tei octets)) w) n m 0
       acts-asks octets = go (holds-asked service tei p first c w.near n octets h.near)
         where
-          s' : Station
+          s' : Endpoint
           s' = happens (request (Data service tei octets)) w.near
 
           go : (s' ≡ w.near) ⊎ More service tei p first c w.near s' n octets → Acted w (record w { near = s' }) n m 0
@@ -138,7 +138,7 @@ module _ (service : Service) (tei : ℕ) where
       acts-request (Data s t octets) is = grind (arith, acts-asks)
       acts-request other is = absurd is
 
-      pub acts : (act : Act) → IsTalkOf service tei act → Acted w (acting act w) n m (if is_turn_of act w then 1 else 0)
+      pub acts : (act : EndStep) → IsTalkOf service tei act → Acted w (acting act w) n m (if is_turn_of act w then 1 else 0)
       acts (requests r) is = acts-request r is
       acts act is = grind (arith, acts-gives, acts-takes)
 
@@ -146,7 +146,7 @@ module _ (service : Service) (tei : ℕ) where
   swapped b x y x' y' g h g' h' p = omega (arith, p)
 
   -- at either end
-  pub does : (c d : Config) (p q : ℕ) (face : Face c d) (back : Face d c) (first second : Past) (k : Doing) → IsTalk service tei k → (w : Wire) (n m : End)
+  pub does : (c d : Config) (p q : ℕ) (face : Face c d) (back : Face d c) (first second : Past) (k : StepAt) → IsTalk service tei k → (w : Wire) (n m : LinkEndpoint)
       → Talk c d p q first second w n m → Acted c d p q face back first second w (doing k w) n m (if is_turn k w then 1 else 0)
   does c d p q face back first second (at_near act) is w n m h = acts c d p q face back first second w n m h act is
   does c d p q face back first second (at_far act) is w n m h =
@@ -162,7 +162,7 @@ module _ (service : Service) (tei : ℕ) where
       }
 
   -- and a whole run
-  pub talks : (c d : Config) (p q : ℕ) (face : Face c d) (back : Face d c) (first second : Past) (ds : List Doing) → All (IsTalk service tei) ds → (w : Wire) (n m : End)
+  pub talks : (c d : Config) (p q : ℕ) (face : Face c d) (back : Face d c) (first second : Past) (ds : List StepAt) → All (IsTalk service tei) ds → (w : Wire) (n m : LinkEndpoint)
       → Talk c d p q first second w n m → Acted c d p q face back first second w (doing_all ds w) n m (turns ds w)
   unfolding doing_all turns
   talks c d p q face back first second [] all w n m h = record { n' = n; m' = m; talk = h; price = omega arith }

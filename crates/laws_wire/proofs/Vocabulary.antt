@@ -73,14 +73,14 @@ pub use Rattle.laws_link.specs.States.{as_heard, is_clearing, is_overlong, state
 pub use Rattle.laws_link.specs.Telling.{told_expired}
 pub use Rattle.laws_link.specs.Timed.{IsTimed, IsTimedIn}
 pub use Rattle.laws_link.specs.Waiting.{answers_to, as_response, command_in, is_time, room, waiting_left}
-pub use Rattle.laws_link.specs.two.Ahead.{CanRepeat, IsMildRequest}
+pub use Rattle.laws_link.specs.two.Ahead.{CanRepeat, IsNotRelease}
 pub use Rattle.laws_link.specs.two.AnyOrder.{weight_at}
 unfoldable pub use Rattle.laws_link.specs.two.AnyOrder.{AreTurns}
 pub use Rattle.laws_link.specs.two.CutOff.{IsCutOff}
 pub use Rattle.laws_link.specs.two.Needed.{HasItsTimer}
 pub use Rattle.laws_link.specs.two.Rounds.{IsReady, IsTaken, HasArrived as TwoLinksHasArrived, round as two_links_round}
 unfoldable pub use Rattle.laws_link.specs.two.Rounds.{rounds as two_links_rounds}
-pub use Rattle.laws_link.specs.two.Timely.{HasNo, IsTimelyAct, is_enquiry}
+pub use Rattle.laws_link.specs.two.Timely.{HasNo, IsTimelyStep, is_enquiry}
 pub use Rattle.laws_link.specs.two.Waits.{HasNothingToSend}
 pub use Rattle.model_card.proofs.CardSound.{after_is_sound, fresh_is_sound}
 pub use Rattle.model_card.proofs.Steps.{has_lines, line_sound}
@@ -127,9 +127,9 @@ pub use Rattle.model_link.specs.Requests.{granted, is_down, refusal, serves}
 pub use Rattle.model_link.specs.Sound.{IsInRange, IsSound, IsWaitingFrame}
 pub use Rattle.model_link.specs.Steps.{Course, Step, begun, by_bit, ◌then◌}
 pub use Rattle.model_link.specs.Told.{Given, runs}
-pub use Rattle.model_link.specs.TwoEnds.{End, Ends, IsUp, asks, expires, frame_given, receives, sends, with_link, with_sent, Act as TwoEndsAct, acting as two_ends_acting, at_near as two_ends_at_near, doing as two_ends_doing, with_first_lost as two_ends_with_first_lost, with_first_of as two_ends_with_first_of}
+pub use Rattle.model_link.specs.TwoEnds.{Endpoint as LinkEndpoint, Ends, IsUp, requests as link_requests, expires as link_expires, frame_given, receives as link_receives, sends as link_sends, with_link, with_sent, Step as TwoEndsStep, acting as two_ends_acting, at_near as two_ends_at_near, doing as two_ends_doing, without_first as two_ends_without_first, with_first_of as two_ends_with_first_of}
 unfoldable pub use Rattle.model_link.specs.TwoEnds.{doing_all as two_ends_doing_all}
-pub use Rattle.model_link.specs.Words.{command, has_room, ready_to_receive, response}
+pub use Rattle.model_link.specs.Words.{command, has_room, rr_or_rnr, response}
 pub use Rattle.model_link.specs.declared.frames.ControlFrame.{ControlFrame}
 pub use Rattle.model_link.specs.declared.states.State.{State}
 pub use Rattle.model_link.specs.declared.states.State.TheVariants.{AwaitingEstablishment, AwaitingRelease, Established, TeiAssigned, TimerRecovery}
@@ -138,9 +138,9 @@ pub use Rattle.model_link.specs.declared.timers.LinkTimer.{LinkTimer}
 pub use Rattle.model_link.specs.declared.timers.LinkTimer.TheVariants.{T200, T203}
 pub use Rattle.laws_wire.specs.Answering.{IsAsked, IsFullTalk, IsFullTalkOf, Rests, error_f, Called, IsAtRest, IsPatient, LossyCallsComeThrough, ToldSo, all_kept, gives_information, renewed, seeing, takes_sabme, told_of_sabme, uncalled, with_sabme}
 unfoldable pub use Rattle.laws_wire.specs.Answering.{StayPatient, seen}
-pub use Rattle.laws_wire.specs.Arriving.{ArrivesInRounds, ArrivesInTurns, ArrivesUnderTraffic, GivesOrTakes, GoesOn, HasCome, LosesNothing, far_asks, frames_left, is_any_order, is_t200, most_left, near_asks, notes_left, runs_t200}
+pub use Rattle.laws_wire.specs.Arriving.{ArrivesInRounds, ArrivesInTurns, ArrivesUnderTraffic, SendsOrReceives, GoesOn, HasCome, LosesNothing, far_asks, frames_left, is_any_order, is_t200, most_left, near_asks, notes_left, runs_t200}
 unfoldable pub use Rattle.laws_wire.specs.Arriving.{ever}
-pub use Rattle.laws_wire.specs.Call.{AreOpposite, CallsComeThrough, CanCall, ComesThrough, IsBeginningOf, IsCall, IsTalk, IsTalkOf, IsTold, all_told, assigned, calling, calls_back, confirmed, data_told, indicated, station, told_first}
+pub use Rattle.laws_wire.specs.Call.{AreOpposite, CallsComeThrough, CanCall, ComesThrough, IsBeginningOf, IsCall, IsTalk, IsTalkOf, ToldInOrder, all_told, assigned, calling, calls_back, confirmed, data_told, indicated, endpoint, told_first}
 unfoldable pub use Rattle.laws_wire.specs.Call.{both_call}
 pub use Rattle.laws_wire.specs.Counted.{Counts, ExpiriesAreCounted, IsBelow, IsCounted, IsCountedOf, LossyExpiriesAreCounted, counted, counting, is_7, is_in_7, uncounted}
 unfoldable pub use Rattle.laws_wire.specs.Counted.{StayCounted, StaySpared}
@@ -154,11 +154,11 @@ pub use Rattle.laws_wire.specs.Resting.{MovesComeToAnEnd, RoundsComeToRest, Time
 unfoldable pub use Rattle.laws_wire.specs.Resting.{expiries, moves}
 unfoldable pub use Rattle.laws_wire.specs.Settling.{busy, reports}
 pub use Rattle.laws_wire.specs.Settling.{Busy, HasLeft, HasTold, LossyCallsAreAnswered, LossyCallsComeToRest, LossyCallsSettle, LossyMovesComeToAnEnd, LossyRoundsComeToRest, Settles, busy_behind, most_moves, near_expires, none_busy, reports_in, reports_of}
-pub use Rattle.laws_wire.specs.StillTimely.{IsStillDoing, IsStillOf, WhatIsLostArrivesFromRest}
+pub use Rattle.laws_wire.specs.StillTimely.{IsStillStepAt, IsStillOf, WhatIsLostArrivesFromRest}
 unfoldable pub use Rattle.laws_wire.specs.StillTimely.{StayStill}
 pub use Rattle.laws_wire.specs.Timely.{IsLongEnough, IsNoneOpen, IsSpared, IsTimely, IsTimelyOf, MayRepeat, NoneGoes, awaits_in, awaits_reply, gives_one, is_final, is_poll, is_ua}
 unfoldable pub use Rattle.laws_wire.specs.Timely.{StayTimely, giving}
-pub use Rattle.laws_wire.specs.Wire.{Act, Doing, IsStill, Station, Wire, acting, answered, at_far, at_near, comes, contents_requested, doing, frames_by, gives, happens, is_any, is_turn, is_turn_of, loses, requests, takes, tells_nothing, times_out, told_by, turned, with_first_lost, with_first_of}
+pub use Rattle.laws_wire.specs.Wire.{Step as EndStep, StepAt, IsStill, Endpoint, Wire, acting, answered, at_far, at_near, frame_comes, contents_requested, doing, frames_by, sends, happens, is_any, is_turn, is_turn_of, loses, requests, receives, tells_nothing, expires, told_by, turned, without_first, with_first_of}
 unfoldable pub use Rattle.laws_wire.specs.Wire.{doing_all, turns}
 pub use Rattle.laws_wire.specs.Worked.{begins, establishes, network, talks, user}
 pub use Rattle.laws_wire.specs.WorkedRecovering.{loses_three, lost, recovered}

@@ -1,6 +1,6 @@
 -- What two ends still have to do, where v turns go again at most: what their links have to send, what is on their ways, and for
 -- each contents that are not delivered yet a REJ, v turns, and an acknowledgement.
-use Rattle.laws_wire.proofs.Vocabulary.{◌≡◌, ℕ, ◌+◌, ◌-◌, ◌*◌, ◌≤◌, List, [], ◌∷◌, length, map, refl, sym, ap, ◌∙◌, arith, All, All-head, All-tail, Service, Parts, spelling, Link, End, Config, Station}
+use Rattle.laws_wire.proofs.Vocabulary.{◌≡◌, ℕ, ◌+◌, ◌-◌, ◌*◌, ◌≤◌, List, [], ◌∷◌, length, map, refl, sym, ap, ◌∙◌, arith, All, All-head, All-tail, Service, Parts, spelling, Link, LinkEndpoint, Config, Endpoint}
 use Rattle.laws_wire.proofs.Loads.{load, load_way}
 use Rattle.laws_wire.proofs.Standing.{IsCarried, StationStands}
 
@@ -19,7 +19,7 @@ module _ (service : Service) (tei : ℕ) (c : Config) where
       λ i. same i ∷ others i
   spelled-same other any h g e = absurd (cc)
 
-  module _ (place : ℕ) (s : Station) (n n' : End) (h : StationStands c service tei place s n) (g : StationStands c service tei place s n') where
+  module _ (place : ℕ) (s : Endpoint) (n n' : LinkEndpoint) (h : StationStands c service tei place s n) (g : StationStands c service tei place s n') where
     pub same-way : n.way ≡ n'.way
     same-way = spelled-same n.way n'.way h.carried g.carried (sym h.way ∙ g.way)
 
@@ -31,15 +31,15 @@ undelivered l m = length l.contents - m.r
 abbrev pub weigh_of : ℕ → Link → List Parts → Link → List Parts → ℕ
 weigh_of v l way m back = (load v l + load_way v way) + (load v m + load_way v back) + ((v + 4) * undelivered l m + (v + 4) * undelivered m l)
 
-abbrev pub weigh : ℕ → End → End → ℕ
+abbrev pub weigh : ℕ → LinkEndpoint → LinkEndpoint → ℕ
 weigh v n m = weigh_of v n.link n.way m.link m.way
 
 -- So many turns or losses are made, and so many timers expire, while more contents are accepted.
-pub record Fell (v moved expired more : ℕ) (n m n' m' : End) : Type 0 where
+pub record Fell (v moved expired more : ℕ) (n m n' m' : LinkEndpoint) : Type 0 where
   pub grown : length n'.link.contents + length m'.link.contents ≡ length n.link.contents + length m.link.contents + more
   pub falls : moved + weigh v n' m' ≤ weigh v n m + (v + 4) * expired + (v + 6) * more
 
-pub fell-turned : (v moved expired more : ℕ) (n m n' m' : End) → Fell v moved expired more n m n' m' → Fell v moved expired more m n m' n'
+pub fell-turned : (v moved expired more : ℕ) (n m n' m' : LinkEndpoint) → Fell v moved expired more n m n' m' → Fell v moved expired more m n m' n'
 fell-turned v moved expired more n m n' m' h = grind (arith, load, load_way)
 
 -- ---- what becomes of the weight of one end, while the other stays
@@ -48,9 +48,9 @@ fell-turned v moved expired more n m n' m' h = grind (arith, load, load_way)
 pub accepts-more : (d len r : ℕ) → r ≤ len → d * (len + 1 - r) ≡ d * (len - r) + d
 accepts-more d len r low = let e : len + 1 - r ≡ (len - r) + 1 = omega (arith, low) in ap (λ x. d * x) e ∙ (omega arith)
 
-module _ (v : ℕ) (n m n' m' : End) (same : n'.link.contents ≡ n.link.contents) (kept : m'.link ≡ m.link) where
+module _ (v : ℕ) (n m n' m' : LinkEndpoint) (same : n'.link.contents ≡ n.link.contents) (kept : m'.link ≡ m.link) where
   -- nothing is accepted or delivered
-  abbrev its : End → ℕ
+  abbrev its : LinkEndpoint → ℕ
   its x = load v x.link + load_way v x.way
 
   there : n'.link.r ≡ n.link.r → (v + 4) * undelivered n'.link m'.link + (v + 4) * undelivered m'.link n'.link ≡ (v + 4) * undelivered n.link m.link + (v + 4) * undelivered m.link n.link

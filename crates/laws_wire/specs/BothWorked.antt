@@ -7,24 +7,24 @@ use Rattle.lapd_seq.specs.Numbers.{seq}
 use Rattle.lapd_tei.specs.Events as teis
 use Rattle.model_line.specs.Machine as lines
 use Rattle.model_line.specs.Request.{Establish, Data}
-use Rattle.laws_wire.specs.Wire.{requests, gives, takes, Act, Doing, at_near, at_far, doing_all, turns}
+use Rattle.laws_wire.specs.Wire.{requests, sends, receives, Step, StepAt, at_near, at_far, doing_all, turns}
 use Rattle.laws_wire.specs.Call.{both_call, confirmed, indicated, data_told}
 use Rattle.laws_wire.specs.Worked.{begins, establishes}
 
-abbrev pub asks : Act
+abbrev pub asks : Step
 asks = requests (Establish Call 0)
 
 -- SABMEs cross: the far end calls while SABME is on its way to it. Each answers the other's by UA.
-abbrev pub crosses : List Doing
+abbrev pub crosses : List StepAt
 crosses =
-    at_near gives ∷ at_far asks ∷ at_far gives ∷ at_far takes ∷ at_near takes ∷ at_near gives ∷ at_far gives ∷ at_far takes ∷ at_near takes ∷ []
+    at_near sends ∷ at_far asks ∷ at_far sends ∷ at_far receives ∷ at_near receives ∷ at_near sends ∷ at_far sends ∷ at_far receives ∷ at_near receives ∷ []
 
 -- The far end is up first, and sends: its UA goes before its I-frame. Then the near end sends; and who asks again is refused.
-abbrev pub both_send : List Doing
+abbrev pub both_send : List StepAt
 both_send =
-    at_near asks ∷ at_near gives ∷ at_far asks ∷ at_far gives ∷ at_far takes ∷ at_near takes ∷ at_near gives ∷ at_far takes
-    ∷ at_far (requests (Data Call 0 (0xAB ∷ []))) ∷ at_far asks ∷ at_far gives ∷ at_far gives ∷ at_near takes ∷ at_near takes
-    ∷ at_near (requests (Data Call 0 (0xCD ∷ []))) ∷ at_near gives ∷ at_far takes ∷ at_far gives ∷ at_near takes ∷ []
+    at_near asks ∷ at_near sends ∷ at_far asks ∷ at_far sends ∷ at_far receives ∷ at_near receives ∷ at_near sends ∷ at_far receives
+    ∷ at_far (requests (Data Call 0 (0xAB ∷ []))) ∷ at_far asks ∷ at_far sends ∷ at_far sends ∷ at_near receives ∷ at_near receives
+    ∷ at_near (requests (Data Call 0 (0xCD ∷ []))) ∷ at_near sends ∷ at_far receives ∷ at_far sends ∷ at_near receives ∷ []
 
 both_crossing : both_call crosses begins ≡ true
 unfolding lines.after lines.answer lines.takes_slot reading header_of control_of unnumbered_of supervisory_of teis.course teis.refusal seq distance_of named doing_all turns both_call

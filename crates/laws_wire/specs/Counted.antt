@@ -4,7 +4,7 @@ use Rattle.lapd_frame.specs.declared.services.Service.{Service}
 use Rattle.lapd_frame.specs.declared.timers.Timer.TheVariants.{T200}
 use Rattle.model_line.specs.declared.config.Config.{Config}
 use Rattle.model_line.specs.Line.{state_of}
-use Rattle.laws_wire.specs.Wire.{Station, Wire, Act, times_out, turned, Doing, at_near, at_far, doing}
+use Rattle.laws_wire.specs.Wire.{Endpoint, Wire, Step, expires, turned, StepAt, at_near, at_far, doing}
 use Rattle.laws_wire.specs.Call.{calling, CanCall}
 use Rattle.laws_wire.specs.Losing.{IsRoughTalk}
 use Rattle.laws_wire.specs.Facing.{line_of}
@@ -21,30 +21,30 @@ abbrev pub is_7 : Option ℕ → Bool
 is_7 None = false
 is_7 (Some state) = state == 7
 
-abbrev pub is_in_7 : Service → ℕ → Station → Bool
+abbrev pub is_in_7 : Service → ℕ → Endpoint → Bool
 is_in_7 service tei s = is_7 (state_of service tei (line_of s))
 
-abbrev pub counted : Service → ℕ → Act → Station → ℕ → ℕ
-counted service tei (times_out (T200 s t)) x k = if is_in_7 service tei x then 0 else k + 1
+abbrev pub counted : Service → ℕ → Step → Endpoint → ℕ → ℕ
+counted service tei (expires (T200 s t)) x k = if is_in_7 service tei x then 0 else k + 1
 counted service tei other x k = if is_in_7 service tei x then 0 else k
 
-abbrev pub counting : Service → ℕ → Doing → Wire → Counts → Counts
+abbrev pub counting : Service → ℕ → StepAt → Wire → Counts → Counts
 counting service tei (at_near act) w k = record k { near = counted service tei act w.near k.near }
 counting service tei (at_far act) w k = record k { far = counted service tei act w.far k.far }
 
 -- T200 is long enough, and expires in states 5 and 8 only while this count is below N200.
-abbrev pub IsBelow : Service → ℕ → Station → ℕ → Type 0
+abbrev pub IsBelow : Service → ℕ → Endpoint → ℕ → Type 0
 IsBelow service tei s k = awaits_reply service tei s ≡ true → k < s.card.config.n200
 
-abbrev pub IsCountedOf : Act → ℕ → Wire → Type 0
-IsCountedOf (times_out (T200 service tei)) k w = IsLongEnough service tei w.near w.far × IsBelow service tei w.near k
+abbrev pub IsCountedOf : Step → ℕ → Wire → Type 0
+IsCountedOf (expires (T200 service tei)) k w = IsLongEnough service tei w.near w.far × IsBelow service tei w.near k
 IsCountedOf other k w = Unit {0}
 
-abbrev pub IsCounted : Doing → Counts → Wire → Type 0
+abbrev pub IsCounted : StepAt → Counts → Wire → Type 0
 IsCounted (at_near act) k w = IsCountedOf act k.near w
 IsCounted (at_far act) k w = IsCountedOf act k.far (turned w)
 
-unfoldable pub StayCounted : Service → ℕ → List Doing → Counts → Wire → Type 0
+unfoldable pub StayCounted : Service → ℕ → List StepAt → Counts → Wire → Type 0
 StayCounted service tei [] k w = Unit {0}
 StayCounted service tei (d ∷ ds) k w = IsCounted d k w × StayCounted service tei ds (counting service tei d w k) (doing d w)
 
@@ -54,19 +54,19 @@ uncounted = record { near = 0; far = 0 }
 -- So N200 is not used up: no error is told as T200 expires, where UA is lost and an end is busy, too.
 abbrev pub LossyExpiriesAreCounted : Type 0
 LossyExpiriesAreCounted =
-    (service : Service) (c d : Config) (line other tei : ℕ) (ds : List Doing) → CanCall c line d other tei → All (IsFullTalk service tei) ds →
+    (service : Service) (c d : Config) (line other tei : ℕ) (ds : List StepAt) → CanCall c line d other tei → All (IsFullTalk service tei) ds →
     let w = calling service tei c line d other in StayCounted service tei ds uncounted w → StayPatient ds w
 
 -- And so it is where UA is not lost, as in `Timely`.
-abbrev pub IsSparedIn : Doing → Wire → Type 0
+abbrev pub IsSparedIn : StepAt → Wire → Type 0
 IsSparedIn (at_near act) w = Unit {0}
 IsSparedIn (at_far act) w = IsSpared act w
 
-unfoldable pub StaySpared : List Doing → Wire → Type 0
+unfoldable pub StaySpared : List StepAt → Wire → Type 0
 StaySpared [] w = Unit {0}
 StaySpared (d ∷ ds) w = IsSparedIn d w × StaySpared ds (doing d w)
 
 abbrev pub ExpiriesAreCounted : Type 0
 ExpiriesAreCounted =
-    (service : Service) (c d : Config) (line other tei : ℕ) (ds : List Doing) → CanCall c line d other tei → All (IsRoughTalk service tei) ds →
+    (service : Service) (c d : Config) (line other tei : ℕ) (ds : List StepAt) → CanCall c line d other tei → All (IsRoughTalk service tei) ds →
     let w = calling service tei c line d other in StayCounted service tei ds uncounted w → StaySpared ds w → StayTimely ds w

@@ -3,14 +3,14 @@ use Rattle.std.specs.Prelude.{◌≡◌, ℕ, zero, suc, ◌+◌, ◌≤◌, Lis
 use Rattle.lapd_frame.specs.declared.services.Service.{Service}
 use Rattle.lapd_frame.specs.declared.timers.Timer.TheVariants.{T200}
 use Rattle.model_line.specs.declared.config.Config.{Config}
-use Rattle.laws_wire.specs.Wire.{Wire, times_out, gives, takes, Doing, at_near, at_far, doing, doing_all, IsStill}
+use Rattle.laws_wire.specs.Wire.{Wire, expires, sends, receives, StepAt, at_near, at_far, doing, doing_all, IsStill}
 use Rattle.laws_wire.specs.Call.{calling, CanCall}
 use Rattle.laws_wire.specs.Losing.{IsRoughTalk, heard_in, HasNoError, due_near, due_far}
 use Rattle.laws_wire.specs.Timely.{MayRepeat, StayTimely}
 
 -- A round: each end in turn gives its next frame, if it has one, and the other takes it. Nothing is lost.
-abbrev pub round : List Doing
-round = at_near gives ∷ at_far takes ∷ at_far gives ∷ at_near takes ∷ []
+abbrev pub round : List StepAt
+round = at_near sends ∷ at_far receives ∷ at_far sends ∷ at_near receives ∷ []
 
 unfoldable pub rounds : ℕ → Wire → Wire
 rounds zero w = w
@@ -27,11 +27,11 @@ HasArrived service tei before w =
     (heard_in w.near ≡ due_near service tei before) × (heard_in w.far ≡ due_far service tei before) × IsStill w
 
 -- T200 of the link expires at both ends.
-abbrev pub both_expire : Service → ℕ → List Doing
-both_expire service tei = at_near (times_out (T200 service tei)) ∷ at_far (times_out (T200 service tei)) ∷ []
+abbrev pub both_expire : Service → ℕ → List StepAt
+both_expire service tei = at_near (expires (T200 service tei)) ∷ at_far (expires (T200 service tei)) ∷ []
 
 abbrev pub with_t200_expired : Service → ℕ → Wire → Wire
-with_t200_expired service tei w = doing (at_far (times_out (T200 service tei))) (doing (at_near (times_out (T200 service tei))) w)
+with_t200_expired service tei w = doing (at_far (expires (T200 service tei))) (doing (at_near (expires (T200 service tei))) w)
 
 abbrev pub HasNoErrors : Wire → Type 0
 HasNoErrors w = HasNoError w.near × HasNoError w.far
@@ -50,5 +50,5 @@ pub record Recovers (service : Service) (tei : ℕ) (w : Wire) : Type 0 where
 
 abbrev pub WhatIsLostArrives : Type 0
 WhatIsLostArrives =
-    (service : Service) (c d : Config) (line other tei : ℕ) (ds : List Doing) → CanCall c line d other tei → All (IsRoughTalk service tei) ds →
+    (service : Service) (c d : Config) (line other tei : ℕ) (ds : List StepAt) → CanCall c line d other tei → All (IsRoughTalk service tei) ds →
     let w = calling service tei c line d other in StayTimely ds w → Recovers service tei (doing_all ds w)

@@ -7,7 +7,7 @@ use Rattle.model_line.specs.Event.{request}
 use Rattle.model_line.specs.Line.{terms}
 use Rattle.model_line.specs.Request.{Request, SetBusy, ClearBusy}
 use Rattle.laws_line.specs.Share.{is_granted}
-use Rattle.laws_wire.specs.Wire.{Station, answered, Wire, Act, requests, times_out, turned, Doing, at_near, at_far, doing, doing_all, IsStill}
+use Rattle.laws_wire.specs.Wire.{Endpoint, answered, Wire, Step, requests, expires, turned, StepAt, at_near, at_far, doing, doing_all, IsStill}
 use Rattle.laws_wire.specs.Call.{calling, CanCall, confirmed}
 use Rattle.laws_wire.specs.Losing.{heard_in}
 use Rattle.laws_wire.specs.Facing.{granted_of}
@@ -22,26 +22,26 @@ is_of_busy (SetBusy service tei) = true
 is_of_busy (ClearBusy service tei) = true
 is_of_busy other = false
 
-abbrev pub reports_of : Act → Wire → ℕ
+abbrev pub reports_of : Step → Wire → ℕ
 reports_of (requests r) w = if is_of_busy r && is_granted (answered (request r) w.near) then 1 else 0
 reports_of other w = 0
 
-abbrev pub reports_in : Doing → Wire → ℕ
+abbrev pub reports_in : StepAt → Wire → ℕ
 reports_in (at_near act) w = reports_of act w
 reports_in (at_far act) w = reports_of act (turned w)
 
-unfoldable pub reports : List Doing → Wire → ℕ
+unfoldable pub reports : List StepAt → Wire → ℕ
 reports [] w = 0
 reports (d ∷ ds) w = reports_in d w + reports ds (doing d w)
 
 -- There are at most twice as many moves as `Resting` counts frames, where such a frame counts, too: also where UA is lost, as UA is
 -- counted for each SABME that goes again.
-abbrev pub most_moves : ℕ → List Doing → Wire → ℕ
+abbrev pub most_moves : ℕ → List StepAt → Wire → ℕ
 most_moves k ds w = 2 * (most_frames k (expiries ds) (granted_of (doing_all ds w)) + reports ds w)
 
 abbrev pub LossyMovesComeToAnEnd : Type 0
 LossyMovesComeToAnEnd =
-    (service : Service) (c d : Config) (line other tei k : ℕ) (ds : List Doing) → CanCall c line d other tei →
+    (service : Service) (c d : Config) (line other tei k : ℕ) (ds : List StepAt) → CanCall c line d other tei →
     All (IsFullTalk service tei) ds → (terms c service tei).k ≤ k → (terms d service tei).k ≤ k →
     let begun = calling service tei c line d other in
     StayPatient ds begun → moves ds begun ≤ most_moves k ds begun
@@ -49,7 +49,7 @@ LossyMovesComeToAnEnd =
 -- So where nothing more is asked for and no timer expires, within so many rounds there is a time when no turn is left.
 abbrev pub LossyRoundsComeToRest : Type 0
 LossyRoundsComeToRest =
-    (service : Service) (c d : Config) (line other tei k : ℕ) (ds : List Doing) → CanCall c line d other tei →
+    (service : Service) (c d : Config) (line other tei k : ℕ) (ds : List StepAt) → CanCall c line d other tei →
     All (IsFullTalk service tei) ds → (terms c service tei).k ≤ k → (terms d service tei).k ≤ k →
     let begun = calling service tei c line d other in
     StayPatient ds begun → (n : ℕ) × (n ≤ most_moves k ds begun) × IsStill (rounds n (doing_all ds begun))
@@ -63,26 +63,26 @@ pub record Busy : Type 0 where
 abbrev pub none_busy : Busy
 none_busy = record { near = false; far = false }
 
-abbrev pub busy_by : Act → Station → Bool → Bool
+abbrev pub busy_by : Step → Endpoint → Bool → Bool
 busy_by (requests (SetBusy service tei)) s b = b || is_granted (answered (request (SetBusy service tei)) s)
 busy_by (requests (ClearBusy service tei)) s b = b && not (is_granted (answered (request (ClearBusy service tei)) s))
 busy_by other s b = b
 
-abbrev pub busy_behind : Doing → Wire → Busy → Busy
+abbrev pub busy_behind : StepAt → Wire → Busy → Busy
 busy_behind (at_near act) w x = record x { near = busy_by act w.near x.near }
 busy_behind (at_far act) w x = record x { far = busy_by act w.far x.far }
 
-unfoldable pub busy : List Doing → Wire → Busy → Busy
+unfoldable pub busy : List StepAt → Wire → Busy → Busy
 busy [] w x = x
 busy (d ∷ ds) w x = busy ds (doing d w) (busy_behind d w x)
 
 -- Where no turn is left and the end that calls was told nothing yet, it is told of the establishment in one round, once its T200 expires.
-abbrev pub near_expires : Service → ℕ → List Doing
-near_expires service tei = at_near (times_out (T200 service tei)) ∷ []
+abbrev pub near_expires : Service → ℕ → List StepAt
+near_expires service tei = at_near (expires (T200 service tei)) ∷ []
 
 abbrev pub LossyCallsAreAnswered : Type 0
 LossyCallsAreAnswered =
-    (service : Service) (c d : Config) (line other tei : ℕ) (ds : List Doing) → CanCall c line d other tei → All (IsFullTalk service tei) ds →
+    (service : Service) (c d : Config) (line other tei : ℕ) (ds : List StepAt) → CanCall c line d other tei → All (IsFullTalk service tei) ds →
     let begun = calling service tei c line d other in let w = doing_all ds begun in let rings = near_expires service tei in
     StayPatient ds begun → IsStill w → heard_in w.near ≡ [] → MayRepeat service tei w.near →
     StayPatient rings w × (heard_in (rounds 1 (doing_all rings w)).near ≡ confirmed service tei ∷ [])
@@ -109,7 +109,7 @@ pub record Settles (service : Service) (tei : ℕ) (x : Called) (w : Wire) : Typ
 
 abbrev pub LossyCallsSettle : Type 0
 LossyCallsSettle =
-    (service : Service) (c d : Config) (line other tei : ℕ) (ds : List Doing) → CanCall c line d other tei → All (IsFullTalk service tei) ds →
+    (service : Service) (c d : Config) (line other tei : ℕ) (ds : List StepAt) → CanCall c line d other tei → All (IsFullTalk service tei) ds →
     let begun = calling service tei c line d other in StayPatient ds begun → busy ds begun none_busy ≡ none_busy →
     Settles service tei (seen service tei ds begun uncalled) (doing_all ds begun)
 
@@ -118,7 +118,7 @@ LossyCallsSettle =
 -- granted in all, and three more, lead to rest.
 abbrev pub LossyCallsComeToRest : Type 0
 LossyCallsComeToRest =
-    (service : Service) (c d : Config) (line other tei k : ℕ) (ds : List Doing) → CanCall c line d other tei → All (IsFullTalk service tei) ds →
+    (service : Service) (c d : Config) (line other tei k : ℕ) (ds : List StepAt) → CanCall c line d other tei → All (IsFullTalk service tei) ds →
     (terms c service tei).k ≤ k → (terms d service tei).k ≤ k → let begun = calling service tei c line d other in let w = doing_all ds begun in
     StayPatient ds begun → busy ds begun none_busy ≡ none_busy →
     (n : ℕ) × (n ≤ most_moves k ds begun) × IsStill (rounds n w) × (MayRepeat service tei (rounds n w).near →

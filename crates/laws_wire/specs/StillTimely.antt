@@ -3,30 +3,30 @@ use Rattle.std.specs.Prelude.{◌≢◌, ℕ, ◌+◌, List, [], ◌∷◌, All}
 use Rattle.lapd_frame.specs.declared.services.Service.{Service}
 use Rattle.lapd_frame.specs.declared.timers.Timer.TheVariants.{T200}
 use Rattle.model_line.specs.declared.config.Config.{Config}
-use Rattle.laws_wire.specs.Wire.{Wire, Act, times_out, loses, acting, turned, Doing, at_near, at_far, doing, doing_all, IsStill}
+use Rattle.laws_wire.specs.Wire.{Wire, Step, expires, loses, acting, turned, StepAt, at_near, at_far, doing, doing_all, IsStill}
 use Rattle.laws_wire.specs.Call.{calling, CanCall}
 use Rattle.laws_wire.specs.Losing.{heard_in, IsRoughTalk}
 use Rattle.laws_wire.specs.Recovering.{rounds, with_t200_expired, HasNoErrors, HasMissing, HasArrived}
 
 -- T200 expires where no turn is left, and no error is told as it does, so that N200 is not used up. T203 may expire at any time.
-abbrev pub IsStillOf : Act → Wire → Type 0
-IsStillOf (times_out (T200 service tei)) w = IsStill w × HasNoErrors (acting (times_out (T200 service tei)) w)
+abbrev pub IsStillOf : Step → Wire → Type 0
+IsStillOf (expires (T200 service tei)) w = IsStill w × HasNoErrors (acting (expires (T200 service tei)) w)
 IsStillOf other w = Unit {0}
 
 -- And UA is not lost: before the other has heard that the link is established the end that was called loses no frame, and no timer
 -- expires there.
-abbrev pub IsSparedStill : Act → Wire → Type 0
+abbrev pub IsSparedStill : Step → Wire → Type 0
 IsSparedStill loses w = heard_in w.near ≢ []
-IsSparedStill (times_out timer) w = heard_in w.near ≢ []
+IsSparedStill (expires timer) w = heard_in w.near ≢ []
 IsSparedStill other w = Unit {0}
 
-abbrev pub IsStillDoing : Doing → Wire → Type 0
-IsStillDoing (at_near act) w = IsStillOf act w
-IsStillDoing (at_far act) w = IsStillOf act (turned w) × IsSparedStill act w
+abbrev pub IsStillStepAt : StepAt → Wire → Type 0
+IsStillStepAt (at_near act) w = IsStillOf act w
+IsStillStepAt (at_far act) w = IsStillOf act (turned w) × IsSparedStill act w
 
-unfoldable pub StayStill : List Doing → Wire → Type 0
+unfoldable pub StayStill : List StepAt → Wire → Type 0
 StayStill [] w = Unit {0}
-StayStill (d ∷ ds) w = IsStillDoing d w × StayStill ds (doing d w)
+StayStill (d ∷ ds) w = IsStillStepAt d w × StayStill ds (doing d w)
 
 -- No error is told. And where no turn is left all arrives once T200 expires at both ends with no error, in as many rounds as notes are
 -- missing, and three more.
@@ -37,5 +37,5 @@ pub record RecoversStill (service : Service) (tei : ℕ) (w : Wire) : Type 0 whe
 
 abbrev pub WhatIsLostArrivesFromRest : Type 0
 WhatIsLostArrivesFromRest =
-    (service : Service) (c d : Config) (line other tei : ℕ) (ds : List Doing) → CanCall c line d other tei → All (IsRoughTalk service tei) ds →
+    (service : Service) (c d : Config) (line other tei : ℕ) (ds : List StepAt) → CanCall c line d other tei → All (IsRoughTalk service tei) ds →
     let w = calling service tei c line d other in StayStill ds w → RecoversStill service tei (doing_all ds w)

@@ -1,4 +1,4 @@
--- Two cards on one wire: a line of one faces a line of the other, and what one gives the other takes.
+-- Two cards on one wire: a line of one faces a line of the other, and each receives what the other sends.
 use Rattle.std.specs.Prelude.{◌≡◌, ℕ, ◌+◌, ◌==◌, Bool, true, false, ◌&&◌, not, List, [], ◌∷◌, ◌++◌, length, drop, None, Some, is_some, if◌then◌else◌}
 use Rattle.lapd_frame.specs.declared.timers.Timer.{Timer}
 use Rattle.model_line.specs.Came.{came}
@@ -8,9 +8,9 @@ use Rattle.model_card.specs.Card.{Card}
 use Rattle.model_card.specs.Event.{at}
 use Rattle.model_card.specs.Machine.{after, answer}
 
--- A card at one end of the wire, which is at one of its lines; the frames that it gave and that the other end has not taken
--- yet, the oldest first; the contents that its layer 3 asked to send and was granted; and what its layer 3 was told.
-pub record Station : Type 0 where
+-- An endpoint of the wire: a card, and its line that is on the wire; its frames in transit, which it sent and the other end has
+-- not received yet, the oldest first; the data that its layer 3 was granted to send; and what its layer 3 was told.
+pub record Endpoint : Type 0 where
   pub card : Card
   pub line : ℕ
   pub way : List (List ℕ)
@@ -46,11 +46,11 @@ abbrev pub unless_refused : Answer → List (List ℕ) → List (List ℕ)
 unless_refused (told t) contents = contents
 unless_refused other contents = []
 
--- Something happens at a station: an event at its line, which its card answers.
-abbrev pub answered : Event → Station → Answer
+-- Something happens at an endpoint: an event at its line, which its card answers.
+abbrev pub answered : Event → Endpoint → Answer
 answered e s = answer (at s.line e) s.card
 
-abbrev pub happens : Event → Station → Station
+abbrev pub happens : Event → Endpoint → Endpoint
 happens e s = record {
   card = after (at s.line e) s.card;
   line = s.line;
@@ -59,70 +59,70 @@ happens e s = record {
   told = s.told ++ told_by (answered e s);
 }
 
-abbrev pub comes : List ℕ → Station → Station
-comes octets s = happens (hears (came s.card.config.n201 octets)) s
+abbrev pub frame_comes : List ℕ → Endpoint → Endpoint
+frame_comes octets s = happens (hears (came s.card.config.n201 octets)) s
 
 pub record Wire : Type 0 where
-  pub near : Station
-  pub far : Station
+  pub near : Endpoint
+  pub far : Endpoint
 
--- What can happen at an end: layer 3 or management asks for something, a timer expires, the next frame is called for and goes
--- on its way, the first frame of the other's way comes, or the first of its own way is lost.
-pub data Act : Type 0 where
-  requests : Request → Act
-  times_out : Timer → Act
-  gives : Act
-  takes : Act
-  loses : Act
+-- A step at an endpoint: layer 3 or management requests something, a timer expires, the card sends its next frame, it receives
+-- the oldest frame in transit to it, or the oldest of its own frames in transit is lost.
+pub data Step : Type 0 where
+  requests : Request → Step
+  expires : Timer → Step
+  sends : Step
+  receives : Step
+  loses : Step
 
-pub data Doing : Type 0 where
-  at_near : Act → Doing
-  at_far : Act → Doing
+pub data StepAt : Type 0 where
+  at_near : Step → StepAt
+  at_far : Step → StepAt
 
-abbrev pub with_first_of : List (List ℕ) → Station → Station
+abbrev pub with_first_of : List (List ℕ) → Endpoint → Endpoint
 with_first_of [] s = s
-with_first_of (octets ∷ more) s = comes octets s
+with_first_of (octets ∷ more) s = frame_comes octets s
 
-abbrev pub with_first_lost : Station → Station
-with_first_lost s = record s { way = drop 1 s.way }
+abbrev pub without_first : Endpoint → Endpoint
+without_first s = record s { way = drop 1 s.way }
 
-abbrev pub acting : Act → Wire → Wire
+abbrev pub acting : Step → Wire → Wire
 acting (requests r) w = record w { near = happens (request r) w.near }
-acting (times_out timer) w = record w { near = happens (expiry timer) w.near }
-acting gives w = record w { near = happens next w.near }
-acting takes w = record { near = with_first_of w.far.way w.near; far = with_first_lost w.far }
-acting loses w = record w { near = with_first_lost w.near }
+acting (expires timer) w = record w { near = happens (expiry timer) w.near }
+acting sends w = record w { near = happens next w.near }
+acting receives w = record { near = with_first_of w.far.way w.near; far = without_first w.far }
+acting loses w = record w { near = without_first w.near }
 
 abbrev pub turned : Wire → Wire
 turned w = record { near = w.far; far = w.near }
 
-abbrev pub doing : Doing → Wire → Wire
+abbrev pub doing : StepAt → Wire → Wire
 doing (at_near act) w = acting act w
 doing (at_far act) w = turned (acting act (turned w))
 
-unfoldable pub doing_all : List Doing → Wire → Wire
+unfoldable pub doing_all : List StepAt → Wire → Wire
 doing_all [] w = w
 doing_all (d ∷ ds) w = doing_all ds (doing d w)
 
--- A turn is that an end gives a frame, or takes one; so many of what is done are turns.
+-- A turn is that an endpoint sends a frame, or receives one. So many of the steps are turns.
 abbrev pub is_any : List (List ℕ) → Bool
 is_any [] = false
 is_any (octets ∷ more) = true
 
-abbrev pub is_turn_of : Act → Wire → Bool
-is_turn_of gives w = is_any (frames_by (answered next w.near))
-is_turn_of takes w = is_any w.far.way
+abbrev pub is_turn_of : Step → Wire → Bool
+is_turn_of sends w = is_any (frames_by (answered next w.near))
+is_turn_of receives w = is_any w.far.way
 is_turn_of other w = false
 
-abbrev pub is_turn : Doing → Wire → Bool
+abbrev pub is_turn : StepAt → Wire → Bool
 is_turn (at_near act) w = is_turn_of act w
 is_turn (at_far act) w = is_turn_of act (turned w)
 
-unfoldable pub turns : List Doing → Wire → ℕ
+unfoldable pub turns : List StepAt → Wire → ℕ
 turns [] w = 0
 turns (d ∷ ds) w = (if is_turn d w then 1 else 0) + turns ds (doing d w)
 
--- No turn is left: neither end has a frame to give, and none is on its way.
+-- No turn is left: neither endpoint has a frame to send, and none is in transit.
 pub record IsStill (w : Wire) : Type 0 where
   pub near : answered next w.near ≡ gave None
   pub far : answered next w.far ≡ gave None

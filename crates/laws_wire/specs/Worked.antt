@@ -9,7 +9,7 @@ use Rattle.lapd_tei.specs.Events as teis
 use Rattle.model_line.specs.declared.config.Config.{Config}
 use Rattle.model_line.specs.Machine as lines
 use Rattle.model_line.specs.Request.{Data}
-use Rattle.laws_wire.specs.Wire.{Wire, requests, gives, takes, Doing, at_near, at_far, doing_all, turns}
+use Rattle.laws_wire.specs.Wire.{Wire, requests, sends, receives, StepAt, at_near, at_far, doing_all, turns}
 use Rattle.laws_wire.specs.Call.{calling, confirmed, indicated, data_told}
 
 abbrev pub network : Config
@@ -21,8 +21,8 @@ user = record network { side = User }
 abbrev pub begins : Wire
 begins = calling Call 0 user 0 network 0
 
-abbrev pub establishes : List Doing
-establishes = at_near gives ∷ at_far takes ∷ at_far gives ∷ at_near takes ∷ []
+abbrev pub establishes : List StepAt
+establishes = at_near sends ∷ at_far receives ∷ at_far sends ∷ at_near receives ∷ []
 
 established_near : (doing_all establishes begins).near.told ≡ confirmed Call 0 ∷ []
 unfolding lines.after lines.answer lines.takes_slot reading header_of control_of unnumbered_of supervisory_of teis.course teis.refusal seq distance_of named doing_all turns
@@ -34,10 +34,10 @@ established_far = refl
 
 -- The network's end is granted data as soon as it has taken SABME, and its I-frame follows UA. Then the user's end sends, while
 -- the other's frame is on its way: both ways are busy at once.
-abbrev pub talks : List Doing
+abbrev pub talks : List StepAt
 talks =
-    at_near gives ∷ at_far takes ∷ at_far (requests (Data Call 0 (0xAB ∷ []))) ∷ at_far gives ∷ at_far gives ∷ at_near takes
-    ∷ at_near (requests (Data Call 0 (0xCD ∷ 0xEF ∷ []))) ∷ at_near gives ∷ at_near takes ∷ at_far takes ∷ at_near gives ∷ at_far gives ∷ at_far takes ∷ at_near takes
+    at_near sends ∷ at_far receives ∷ at_far (requests (Data Call 0 (0xAB ∷ []))) ∷ at_far sends ∷ at_far sends ∷ at_near receives
+    ∷ at_near (requests (Data Call 0 (0xCD ∷ 0xEF ∷ []))) ∷ at_near sends ∷ at_near receives ∷ at_far receives ∷ at_near sends ∷ at_far sends ∷ at_far receives ∷ at_near receives
     ∷ []
 
 told_near : (doing_all talks begins).near.told ≡ confirmed Call 0 ∷ data_told Call 0 (0xAB ∷ []) ∷ []

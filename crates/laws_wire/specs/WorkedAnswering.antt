@@ -8,7 +8,7 @@ use Rattle.lapd_seq.specs.Numbers.{seq}
 use Rattle.lapd_tei.specs.Events as teis
 use Rattle.model_line.specs.Machine as lines
 use Rattle.model_line.specs.Request.{Data, SetBusy, ClearBusy}
-use Rattle.laws_wire.specs.Wire.{Wire, requests, times_out, gives, takes, loses, Doing, at_near, at_far, doing_all, turns, IsStill}
+use Rattle.laws_wire.specs.Wire.{Wire, requests, expires, sends, receives, loses, StepAt, at_near, at_far, doing_all, turns, IsStill}
 use Rattle.laws_wire.specs.Call.{confirmed, indicated, data_told, IsBeginningOf}
 use Rattle.laws_wire.specs.Losing.{heard_in}
 use Rattle.laws_wire.specs.Recovering.{round}
@@ -17,14 +17,14 @@ use Rattle.laws_wire.specs.Answering.{uncalled, error_f, renewed, seen, all_of_c
 use Rattle.laws_wire.specs.Worked.{begins}
 
 -- UA is lost, T200 expires, and SABME goes again.
-abbrev pub loses_ua : List Doing
-loses_ua = at_near gives ∷ at_far takes ∷ at_far gives ∷ at_far loses ∷ at_near (times_out (T200 Call 0)) ∷ round
+abbrev pub loses_ua : List StepAt
+loses_ua = at_near sends ∷ at_far receives ∷ at_far sends ∷ at_far loses ∷ at_near (expires (T200 Call 0)) ∷ round
 
 -- Then own busy begins at the far end, which drops an I-frame, and whose RNR is lost; it sends an I-frame itself, and is ready again.
-abbrev pub is_busy : List Doing
+abbrev pub is_busy : List StepAt
 is_busy =
-    at_far (requests (SetBusy Call 0)) ∷ at_near (requests (Data Call 0 (1 ∷ []))) ∷ at_near gives ∷ at_far takes ∷ at_far gives ∷ at_far loses
-    ∷ at_far (requests (Data Call 0 (2 ∷ []))) ∷ at_far gives ∷ at_near takes ∷ at_far (requests (ClearBusy Call 0)) ∷ at_near (times_out (T200 Call 0))
+    at_far (requests (SetBusy Call 0)) ∷ at_near (requests (Data Call 0 (1 ∷ []))) ∷ at_near sends ∷ at_far receives ∷ at_far sends ∷ at_far loses
+    ∷ at_far (requests (Data Call 0 (2 ∷ []))) ∷ at_far sends ∷ at_near receives ∷ at_far (requests (ClearBusy Call 0)) ∷ at_near (expires (T200 Call 0))
     ∷ (round ++ round ++ round)
 
 abbrev pub repeated : Wire
@@ -51,9 +51,9 @@ unfolding lines.after lines.answer lines.takes_slot reading header_of control_of
 repeated_rests = (refl, refl)
 
 -- While the far end is busy, what it dropped is not told, though no turn is left: T200 runs at the near end.
-abbrev stays_busy : List Doing
+abbrev stays_busy : List StepAt
 stays_busy =
-    loses_ua ++ at_far (requests (SetBusy Call 0)) ∷ at_near (requests (Data Call 0 (1 ∷ []))) ∷ at_near gives ∷ at_far takes ∷ round
+    loses_ua ++ at_far (requests (SetBusy Call 0)) ∷ at_near (requests (Data Call 0 (1 ∷ []))) ∷ at_near sends ∷ at_far receives ∷ round
 
 abbrev waits : Wire
 waits = doing_all stays_busy begins
@@ -72,10 +72,10 @@ waits_runs = refl
 
 -- Where the end that was called is granted data before, its I-frame goes behind the UA that is lost, and as SABME comes again its contents
 -- are given up: it is told a second establishment, and the other is told nothing of them, though no turn is left and T200 runs nowhere.
-abbrev pub grants_early : List Doing
+abbrev pub grants_early : List StepAt
 grants_early =
-    at_near gives ∷ at_far takes ∷ at_far (requests (Data Call 0 (2 ∷ []))) ∷ at_far gives ∷ at_far gives ∷ at_far loses ∷ at_near takes
-    ∷ at_near (times_out (T200 Call 0)) ∷ round
+    at_near sends ∷ at_far receives ∷ at_far (requests (Data Call 0 (2 ∷ []))) ∷ at_far sends ∷ at_far sends ∷ at_far loses ∷ at_near receives
+    ∷ at_near (expires (T200 Call 0)) ∷ round
 
 abbrev pub dropped : Wire
 dropped = doing_all grants_early begins
@@ -106,12 +106,12 @@ dropped_rests = (refl, refl)
 
 -- But where it asks how far the other is, as T203 expires before, what it is granted then does not go, and stays: SABME is told as error F
 -- alone, and all arrives.
-abbrev pub asks_early : List Doing
+abbrev pub asks_early : List StepAt
 asks_early =
-    at_near gives ∷ at_far takes ∷ at_far (times_out (T203 Call 0)) ∷ at_far gives ∷ at_far gives ∷ at_far loses ∷ at_far (requests (Data Call 0 (2 ∷ []))) ∷ at_near takes ∷ []
+    at_near sends ∷ at_far receives ∷ at_far (expires (T203 Call 0)) ∷ at_far sends ∷ at_far sends ∷ at_far loses ∷ at_far (requests (Data Call 0 (2 ∷ []))) ∷ at_near receives ∷ []
 
-abbrev pub rings_again : List Doing
-rings_again = at_near (times_out (T200 Call 0)) ∷ (round ++ round ++ round)
+abbrev pub rings_again : List StepAt
+rings_again = at_near (expires (T200 Call 0)) ∷ (round ++ round ++ round)
 
 abbrev pub kept : Wire
 kept = doing_all (asks_early ++ rings_again) begins
@@ -138,9 +138,9 @@ kept_rests = (refl, refl)
 
 -- Where T200 is too short, and expires while SABME is on its way, SABME goes again though nothing is lost. The second comes
 -- as the near end has heard UA, and error F is told: what the far end is told is no beginning of what the law says.
-abbrev repeats_early : List Doing
+abbrev repeats_early : List StepAt
 repeats_early =
-    at_near gives ∷ at_near (times_out (T200 Call 0)) ∷ at_near gives ∷ at_far takes ∷ at_far gives ∷ at_near takes ∷ at_far takes ∷ []
+    at_near sends ∷ at_near (expires (T200 Call 0)) ∷ at_near sends ∷ at_far receives ∷ at_far sends ∷ at_near receives ∷ at_far receives ∷ []
 
 abbrev twice : Wire
 twice = doing_all repeats_early begins

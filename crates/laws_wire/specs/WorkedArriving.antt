@@ -9,7 +9,7 @@ use Rattle.lapd_tei.specs.Events as teis
 use Rattle.model_line.specs.declared.config.Config.{Config}
 use Rattle.model_line.specs.Machine as lines
 use Rattle.model_line.specs.Request.{Data}
-use Rattle.laws_wire.specs.Wire.{Wire, requests, times_out, gives, takes, loses, Doing, at_near, at_far, doing_all, turns, IsStill}
+use Rattle.laws_wire.specs.Wire.{Wire, requests, expires, sends, receives, loses, StepAt, at_near, at_far, doing_all, turns, IsStill}
 use Rattle.laws_wire.specs.Call.{calling, confirmed, indicated, data_told}
 use Rattle.laws_wire.specs.Losing.{heard_in}
 use Rattle.laws_wire.specs.Recovering.{round}
@@ -17,17 +17,17 @@ use Rattle.laws_wire.specs.Arriving.{runs_t200, near_asks, ever, most_left}
 use Rattle.laws_wire.specs.Worked.{user, network, begins}
 
 -- Each end loses its first I-frame, and the far end's second is on its way.
-abbrev pub loses_two : List Doing
+abbrev pub loses_two : List StepAt
 loses_two =
     round
-    ++ at_near (requests (Data Call 0 (1 ∷ []))) ∷ at_near gives ∷ at_near loses
-    ∷ at_far (requests (Data Call 0 (2 ∷ []))) ∷ at_far (requests (Data Call 0 (3 ∷ []))) ∷ at_far gives ∷ at_far loses ∷ at_far gives ∷ []
+    ++ at_near (requests (Data Call 0 (1 ∷ []))) ∷ at_near sends ∷ at_near loses
+    ∷ at_far (requests (Data Call 0 (2 ∷ []))) ∷ at_far (requests (Data Call 0 (3 ∷ []))) ∷ at_far sends ∷ at_far loses ∷ at_far sends ∷ []
 
 -- From then on nothing is lost. The near end takes the second, so that REJ waits, and then its T200 expires; that of the far end never
 -- does.
-abbrev pub goes_on : List Doing
+abbrev pub goes_on : List StepAt
 goes_on =
-    at_near takes ∷ at_near (times_out (T200 Call 0)) ∷ at_far (requests (Data Call 0 (4 ∷ [])))
+    at_near receives ∷ at_near (expires (T200 Call 0)) ∷ at_far (requests (Data Call 0 (4 ∷ [])))
     ∷ (round ++ round ++ round ++ round ++ round)
 
 abbrev pub lossy : Wire
@@ -58,18 +58,18 @@ over_still = record { near = refl; far = refl; near_way = refl; far_way = refl }
 
 -- The same, but behind the last request each end gives three times, and then takes three times, four times over: there are
 -- twenty turns, and all has come.
-abbrev pub asks : List Doing
-asks = at_near takes ∷ at_near (times_out (T200 Call 0)) ∷ at_far (requests (Data Call 0 (4 ∷ []))) ∷ []
+abbrev pub asks : List StepAt
+asks = at_near receives ∷ at_near (expires (T200 Call 0)) ∷ at_far (requests (Data Call 0 (4 ∷ []))) ∷ []
 
 abbrev pub asked : Wire
 asked = doing_all asks lossy
 
-abbrev bulk : List Doing
+abbrev bulk : List StepAt
 bulk =
-    at_near gives ∷ at_near gives ∷ at_near gives ∷ at_far gives ∷ at_far gives ∷ at_far gives
-    ∷ at_far takes ∷ at_far takes ∷ at_far takes ∷ at_near takes ∷ at_near takes ∷ at_near takes ∷ []
+    at_near sends ∷ at_near sends ∷ at_near sends ∷ at_far sends ∷ at_far sends ∷ at_far sends
+    ∷ at_far receives ∷ at_far receives ∷ at_far receives ∷ at_near receives ∷ at_near receives ∷ at_near receives ∷ []
 
-abbrev pub in_bulk : List Doing
+abbrev pub in_bulk : List StepAt
 in_bulk = bulk ++ bulk ++ bulk ++ bulk
 
 bulk_turns : turns in_bulk asked ≡ 20
@@ -96,9 +96,9 @@ narrow = record user { control = 2 }
 abbrev narrow_begins : Wire
 narrow_begins = calling Call 0 narrow 0 network 0
 
-abbrev finds_no_room : List Doing
+abbrev finds_no_room : List StepAt
 finds_no_room =
-    at_near takes ∷ at_far (times_out (T200 Call 0)) ∷ at_far gives ∷ at_near takes ∷ at_near (times_out (T200 Call 0))
+    at_near receives ∷ at_far (expires (T200 Call 0)) ∷ at_far sends ∷ at_near receives ∷ at_near (expires (T200 Call 0))
     ∷ (round ++ round ++ round ++ round)
 
 abbrev stuck : Wire
@@ -122,7 +122,7 @@ stuck_far = refl
 
 -- Where nothing is lost any more, but no T200 expires: the near end takes the second, and by its REJ all that the far end
 -- sent comes. What the near end sent has not been told, though no turn is left: its T200 runs, and an expiry is needed.
-abbrev pub waits : List Doing
+abbrev pub waits : List StepAt
 waits = round ++ round ++ round ++ round
 
 abbrev pub quiet : Wire

@@ -11,7 +11,7 @@ use Rattle.lapd_tei.specs.Events as teis
 use Rattle.model_line.specs.Event.{LineTold, nothing}
 use Rattle.model_line.specs.Machine as lines
 use Rattle.model_line.specs.Request.{Data, SetBusy}
-use Rattle.laws_wire.specs.Wire.{requests, times_out, gives, takes, loses, Doing, at_near, at_far, doing_all, turns}
+use Rattle.laws_wire.specs.Wire.{requests, expires, sends, receives, loses, StepAt, at_near, at_far, doing_all, turns}
 use Rattle.laws_wire.specs.Call.{confirmed, indicated}
 use Rattle.laws_wire.specs.Losing.{heard_in}
 use Rattle.laws_wire.specs.Recovering.{round}
@@ -20,8 +20,8 @@ use Rattle.laws_wire.specs.Worked.{begins}
 
 -- N200 is 3. Each SABME is lost: three expiries repeat it, and the fourth, at a count of 3, tells error G, and that the
 -- link is released.
-abbrev pub is_lost : List Doing
-is_lost = at_near gives ∷ at_near loses ∷ at_near (times_out (T200 Call 0)) ∷ []
+abbrev pub is_lost : List StepAt
+is_lost = at_near sends ∷ at_near loses ∷ at_near (expires (T200 Call 0)) ∷ []
 
 abbrev pub given_up : LineTold
 given_up = record nothing { notes = Error Call 0 G ∷ ReleaseIndication Call 0 ∷ [] }
@@ -35,8 +35,8 @@ unfolding lines.after lines.answer lines.takes_slot reading header_of control_of
 heard_of_four = refl
 
 -- Each UA is lost: three expiries bring SABME again, which is told as error F at the other end, and the fourth tells error G here.
-abbrev pub ua_is_lost : List Doing
-ua_is_lost = at_near gives ∷ at_far takes ∷ at_far gives ∷ at_far loses ∷ at_near (times_out (T200 Call 0)) ∷ []
+abbrev pub ua_is_lost : List StepAt
+ua_is_lost = at_near sends ∷ at_far receives ∷ at_far sends ∷ at_far loses ∷ at_near (expires (T200 Call 0)) ∷ []
 
 ua_of_three : heard_in (doing_all (ua_is_lost ++ ua_is_lost ++ ua_is_lost) begins).near ≡ []
 unfolding lines.after lines.answer lines.takes_slot reading header_of control_of unnumbered_of supervisory_of teis.course teis.refusal seq distance_of named doing_all turns
@@ -51,11 +51,11 @@ unfolding lines.after lines.answer lines.takes_slot reading header_of control_of
 sabme_of_four = refl
 
 -- While the far end is busy, and drops the I-frame, T200 expires on and on: each enquiry is answered by RNR, and the count begins anew.
-abbrev pub drops_one : List Doing
-drops_one = round ++ at_far (requests (SetBusy Call 0)) ∷ at_near (requests (Data Call 0 (1 ∷ []))) ∷ at_near gives ∷ at_far takes ∷ round
+abbrev pub drops_one : List StepAt
+drops_one = round ++ at_far (requests (SetBusy Call 0)) ∷ at_near (requests (Data Call 0 (1 ∷ []))) ∷ at_near sends ∷ at_far receives ∷ round
 
-abbrev pub is_answered : List Doing
-is_answered = at_near (times_out (T200 Call 0)) ∷ round
+abbrev pub is_answered : List StepAt
+is_answered = at_near (expires (T200 Call 0)) ∷ round
 
 busy_of_five : heard_in (doing_all (drops_one ++ is_answered ++ is_answered ++ is_answered ++ is_answered ++ is_answered) begins).near ≡ confirmed Call 0 ∷ []
 unfolding lines.after lines.answer lines.takes_slot reading header_of control_of unnumbered_of supervisory_of teis.course teis.refusal seq distance_of named doing_all turns

@@ -11,7 +11,7 @@ use Rattle.lapd_tei.specs.Events as teis
 use Rattle.model_line.specs.Event.{nothing}
 use Rattle.model_line.specs.Machine as lines
 use Rattle.model_line.specs.Request.{Release}
-use Rattle.laws_wire.specs.Wire.{Wire, requests, times_out, gives, takes, loses, acting, Doing, at_near, at_far, doing_all, turns, IsStill}
+use Rattle.laws_wire.specs.Wire.{Wire, requests, expires, sends, receives, loses, acting, StepAt, at_near, at_far, doing_all, turns, IsStill}
 use Rattle.laws_wire.specs.Call.{confirmed, indicated}
 use Rattle.laws_wire.specs.Losing.{heard_in}
 use Rattle.laws_wire.specs.Recovering.{round}
@@ -34,11 +34,11 @@ abbrev pub released : Wire
 released = acting (requests (Release Call 0)) established
 
 -- DISC is lost, and then UA: DISC goes three times, and is answered by DM the last time.
-abbrev pub loses_disc : List Doing
-loses_disc = at_near gives ∷ at_near loses ∷ at_near (times_out (T200 Call 0)) ∷ at_near gives ∷ at_far takes ∷ at_far gives ∷ at_far loses ∷ []
+abbrev pub loses_disc : List StepAt
+loses_disc = at_near sends ∷ at_near loses ∷ at_near (expires (T200 Call 0)) ∷ at_near sends ∷ at_far receives ∷ at_far sends ∷ at_far loses ∷ []
 
-abbrev pub loses_both : List Doing
-loses_both = loses_disc ++ at_near (times_out (T200 Call 0)) ∷ round
+abbrev pub loses_both : List StepAt
+loses_both = loses_disc ++ at_near (expires (T200 Call 0)) ∷ round
 
 abbrev pub ended : Wire
 ended = doing_all loses_both released
@@ -60,8 +60,8 @@ unfolding lines.after lines.answer lines.takes_slot reading header_of control_of
 ended_rests = refl
 
 -- Where N200 is used up the end that releases tells error H, and the other is not told of it.
-abbrev again : List Doing
-again = at_near gives ∷ at_near loses ∷ at_near (times_out (T200 Call 0)) ∷ []
+abbrev again : List StepAt
+again = at_near sends ∷ at_near loses ∷ at_near (expires (T200 Call 0)) ∷ []
 
 abbrev gives_up : Wire
 gives_up = doing_all (again ++ again ++ again ++ again) released
@@ -75,10 +75,10 @@ unfolding lines.after lines.answer lines.takes_slot reading header_of control_of
 gives_up_far = refl
 
 -- Where timers of the other end expire, too, it may give up first: T203 expires, and each enquiry comes to an end that does not heed it.
-abbrev far_asks : List Doing
-far_asks = at_far gives ∷ at_near takes ∷ at_far (times_out (T200 Call 0)) ∷ []
+abbrev far_asks : List StepAt
+far_asks = at_far sends ∷ at_near receives ∷ at_far (expires (T200 Call 0)) ∷ []
 
-other_gives_up : heard_in (doing_all (at_far (times_out (T203 Call 0)) ∷ far_asks ++ far_asks ++ far_asks ++ far_asks) released).far
+other_gives_up : heard_in (doing_all (at_far (expires (T203 Call 0)) ∷ far_asks ++ far_asks ++ far_asks ++ far_asks) released).far
     ≡ indicated Call 0 ∷ record nothing { notes = Error Call 0 I ∷ [] } ∷ []
 unfolding lines.after lines.answer lines.takes_slot reading header_of control_of unnumbered_of supervisory_of teis.course teis.refusal seq distance_of named doing_all turns
 other_gives_up = refl

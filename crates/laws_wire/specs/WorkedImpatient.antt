@@ -11,7 +11,7 @@ use Rattle.lapd_tei.specs.Events as teis
 use Rattle.model_line.specs.Event.{LineTold, nothing}
 use Rattle.model_line.specs.Machine as lines
 use Rattle.model_line.specs.Request.{Data}
-use Rattle.laws_wire.specs.Wire.{Wire, requests, times_out, gives, takes, loses, Doing, at_near, at_far, doing_all, IsStill}
+use Rattle.laws_wire.specs.Wire.{Wire, requests, expires, sends, receives, loses, StepAt, at_near, at_far, doing_all, IsStill}
 use Rattle.laws_wire.specs.Call.{calling, confirmed, indicated}
 use Rattle.laws_wire.specs.Losing.{heard_in}
 use Rattle.laws_wire.specs.Recovering.{rounds, with_t200_expired}
@@ -21,14 +21,14 @@ use Rattle.laws_wire.specs.Settling.{reports, most_moves, near_expires}
 use Rattle.laws_wire.specs.Worked.{network, user, begins, establishes}
 
 -- SABME is lost, and lost again each time that T200 expires: N200 times.
-abbrev is_lost : List Doing
-is_lost = at_near gives ∷ at_near loses ∷ []
+abbrev is_lost : List StepAt
+is_lost = at_near sends ∷ at_near loses ∷ []
 
-abbrev expires : List Doing
-expires = at_near (times_out (T200 Call 0)) ∷ []
+abbrev expiring : List StepAt
+expiring = at_near (expires (T200 Call 0)) ∷ []
 
-abbrev rings_on : List Doing
-rings_on = is_lost ++ expires ++ is_lost ++ expires ++ is_lost ++ expires ++ is_lost
+abbrev rings_on : List StepAt
+rings_on = is_lost ++ expiring ++ is_lost ++ expiring ++ is_lost ++ expiring ++ is_lost
 
 rings_still : IsStill (doing_all rings_on begins)
 unfolding lines.after lines.answer lines.takes_slot reading header_of control_of unnumbered_of supervisory_of teis.course teis.refusal seq distance_of named doing_all
@@ -47,10 +47,10 @@ unfolding lines.after lines.answer lines.takes_slot reading header_of control_of
 rings_no_more = refl
 
 -- An I-frame is lost, and each enquiry.
-abbrev asks_on : List Doing
+abbrev asks_on : List StepAt
 asks_on =
-    establishes ++ at_near (requests (Data Call 0 (1 ∷ []))) ∷ is_lost ++ expires ++ is_lost ++ expires ++ is_lost ++ expires ++ is_lost
-    ++ expires ++ is_lost
+    establishes ++ at_near (requests (Data Call 0 (1 ∷ []))) ∷ is_lost ++ expiring ++ is_lost ++ expiring ++ is_lost ++ expiring ++ is_lost
+    ++ expiring ++ is_lost
 
 asks_still : IsStill (doing_all asks_on begins)
 unfolding lines.after lines.answer lines.takes_slot reading header_of control_of unnumbered_of supervisory_of teis.course teis.refusal seq distance_of named doing_all
@@ -73,30 +73,30 @@ again_far = refl
 abbrev narrow_begins : Wire
 narrow_begins = calling Call 0 (record user { k = 2 }) 0 (record network { k = 2 }) 0
 
-abbrev is_rejected : List Doing
-is_rejected = at_near gives ∷ at_near loses ∷ at_near gives ∷ at_far takes ∷ at_far gives ∷ at_near takes ∷ []
+abbrev is_rejected : List StepAt
+is_rejected = at_near sends ∷ at_near loses ∷ at_near sends ∷ at_far receives ∷ at_far sends ∷ at_near receives ∷ []
 
-abbrev asks_twice : List Doing
+abbrev asks_twice : List StepAt
 asks_twice =
-    at_near (times_out (T203 Call 0)) ∷ at_near gives ∷ at_near (times_out (T200 Call 0)) ∷ at_near gives
-    ∷ at_far takes ∷ at_far gives ∷ at_near takes ∷ at_far takes ∷ at_far gives ∷ []
+    at_near (expires (T203 Call 0)) ∷ at_near sends ∷ at_near (expires (T200 Call 0)) ∷ at_near sends
+    ∷ at_far receives ∷ at_far sends ∷ at_near receives ∷ at_far receives ∷ at_far sends ∷ []
 
-abbrev both_come : List Doing
-both_come = at_near gives ∷ at_far takes ∷ at_far gives ∷ at_near gives ∷ at_far takes ∷ at_far gives ∷ []
+abbrev both_come : List StepAt
+both_come = at_near sends ∷ at_far receives ∷ at_far sends ∷ at_near sends ∷ at_far receives ∷ at_far sends ∷ []
 
 -- So RR is an error, the establishment is renewed, and both contents go again from number 0 on.
-abbrev goes_back : List Doing
+abbrev goes_back : List StepAt
 goes_back =
-    at_near (times_out (T200 Call 0)) ∷ at_near gives ∷ at_near takes ∷ at_near takes ∷ at_near takes
-    ∷ at_far takes ∷ at_far gives ∷ at_near takes ∷ establishes
+    at_near (expires (T200 Call 0)) ∷ at_near sends ∷ at_near receives ∷ at_near receives ∷ at_near receives
+    ∷ at_far receives ∷ at_far sends ∷ at_near receives ∷ establishes
 
-abbrev comes_twice : List Doing
+abbrev comes_twice : List StepAt
 comes_twice = is_rejected ++ asks_twice ++ both_come ++ goes_back
 
-abbrev comes_often : List Doing
+abbrev comes_often : List StepAt
 comes_often =
     establishes ++ at_near (requests (Data Call 0 (1 ∷ []))) ∷ at_near (requests (Data Call 0 (2 ∷ [])))
-    ∷ comes_twice ++ comes_twice ++ comes_twice ++ comes_twice ++ is_rejected ++ both_come ++ at_near takes ∷ at_near takes ∷ []
+    ∷ comes_twice ++ comes_twice ++ comes_twice ++ comes_twice ++ is_rejected ++ both_come ++ at_near receives ∷ at_near receives ∷ []
 
 moves_of_short : moves comes_often narrow_begins ≡ 138
 unfolding lines.after lines.answer lines.takes_slot reading header_of control_of unnumbered_of supervisory_of teis.course teis.refusal seq distance_of named doing_all moves

@@ -12,17 +12,17 @@ use Rattle.model_line.specs.declared.config.Config.{Config}
 use Rattle.model_line.specs.Event.{LineTold, nothing}
 use Rattle.model_line.specs.Machine as lines
 use Rattle.model_line.specs.Request.{Data}
-use Rattle.laws_wire.specs.Wire.{requests, times_out, gives, takes, loses, Doing, at_near, at_far, doing_all, turns}
+use Rattle.laws_wire.specs.Wire.{requests, expires, sends, receives, loses, StepAt, at_near, at_far, doing_all, turns}
 use Rattle.laws_wire.specs.Call.{calling, confirmed, indicated, data_told}
 use Rattle.laws_wire.specs.Losing.{heard_in}
 use Rattle.laws_wire.specs.Worked.{network, user, begins, establishes}
 
 -- SABME is lost, T200 expires, and it goes again. Then an I-frame is lost, T200 expires, the other end is asked, and it goes again.
-abbrev pub loses_two : List Doing
+abbrev pub loses_two : List StepAt
 loses_two =
-    at_near gives ∷ at_near loses ∷ at_near (times_out (T200 Call 0)) ∷ establishes
-    ++ at_near (requests (Data Call 0 (0xAB ∷ []))) ∷ at_near gives ∷ at_near loses ∷ at_near (times_out (T200 Call 0))
-    ∷ at_near gives ∷ at_far takes ∷ at_far gives ∷ at_near takes ∷ at_near gives ∷ at_far takes ∷ at_far gives ∷ at_near takes ∷ []
+    at_near sends ∷ at_near loses ∷ at_near (expires (T200 Call 0)) ∷ establishes
+    ++ at_near (requests (Data Call 0 (0xAB ∷ []))) ∷ at_near sends ∷ at_near loses ∷ at_near (expires (T200 Call 0))
+    ∷ at_near sends ∷ at_far receives ∷ at_far sends ∷ at_near receives ∷ at_near sends ∷ at_far receives ∷ at_far sends ∷ at_near receives ∷ []
 
 heard_near : heard_in (doing_all loses_two begins).near ≡ confirmed Call 0 ∷ []
 unfolding lines.after lines.answer lines.takes_slot reading header_of control_of unnumbered_of supervisory_of teis.course teis.refusal seq distance_of named doing_all turns
@@ -34,15 +34,15 @@ heard_far = refl
 
 -- No frame is lost, but T200 expires while an enquiry is on its way (`specs/WorkedUntimely` of `laws_link`, with cards): an error
 -- is told, the link is established a second time, and contents come a second time.
-abbrev pub two_enquiries : List Doing
+abbrev pub two_enquiries : List StepAt
 two_enquiries =
-    establishes ++ at_near (requests (Data Call 0 (0xAB ∷ []))) ∷ at_near (times_out (T203 Call 0)) ∷ at_near (times_out (T200 Call 0)) ∷ at_near gives ∷ at_near gives
-    ∷ at_far takes ∷ at_far gives ∷ at_near takes ∷ at_near gives ∷ at_near (times_out (T200 Call 0)) ∷ at_far takes ∷ at_far gives ∷ at_near takes ∷ []
+    establishes ++ at_near (requests (Data Call 0 (0xAB ∷ []))) ∷ at_near (expires (T203 Call 0)) ∷ at_near (expires (T200 Call 0)) ∷ at_near sends ∷ at_near sends
+    ∷ at_far receives ∷ at_far sends ∷ at_near receives ∷ at_near sends ∷ at_near (expires (T200 Call 0)) ∷ at_far receives ∷ at_far sends ∷ at_near receives ∷ []
 
-abbrev pub comes_twice : List Doing
+abbrev pub comes_twice : List StepAt
 comes_twice =
-    two_enquiries ++ at_far takes ∷ at_far gives ∷ at_near takes ∷ at_near gives ∷ at_near gives ∷ at_far takes ∷ at_far takes ∷ at_far gives ∷ at_far gives
-    ∷ at_near takes ∷ at_near takes ∷ at_near gives ∷ at_far takes ∷ []
+    two_enquiries ++ at_far receives ∷ at_far sends ∷ at_near receives ∷ at_near sends ∷ at_near sends ∷ at_far receives ∷ at_far receives ∷ at_far sends ∷ at_far sends
+    ∷ at_near receives ∷ at_near receives ∷ at_near sends ∷ at_far receives ∷ []
 
 abbrev pub error_f : LineTold
 error_f = record nothing { notes = Error Call 0 F ∷ [] }
@@ -55,8 +55,8 @@ heard_twice = refl
 abbrev narrow : Config
 narrow = record network { n201 = 8 }
 
-abbrev sends_nine : List Doing
-sends_nine = establishes ++ at_near (requests (Data Call 0 (1 ∷ 2 ∷ 3 ∷ 4 ∷ 5 ∷ 6 ∷ 7 ∷ 8 ∷ 9 ∷ []))) ∷ at_near gives ∷ at_far takes ∷ []
+abbrev sends_nine : List StepAt
+sends_nine = establishes ++ at_near (requests (Data Call 0 (1 ∷ 2 ∷ 3 ∷ 4 ∷ 5 ∷ 6 ∷ 7 ∷ 8 ∷ 9 ∷ []))) ∷ at_near sends ∷ at_far receives ∷ []
 
 heard_of_nine : heard_in (doing_all sends_nine (calling Call 0 user 0 narrow 0)).far ≡ indicated Call 0 ∷ record nothing { notes = Error Call 0 O ∷ [] } ∷ []
 unfolding lines.after lines.answer lines.takes_slot reading header_of control_of unnumbered_of supervisory_of teis.course teis.refusal seq distance_of named doing_all turns

@@ -8,7 +8,7 @@ use Rattle.lapd_seq.specs.Numbers.{seq}
 use Rattle.lapd_tei.specs.Events as teis
 use Rattle.model_line.specs.Machine as lines
 use Rattle.model_line.specs.Request.{Data}
-use Rattle.laws_wire.specs.Wire.{Wire, requests, times_out, gives, takes, loses, Doing, at_near, at_far, doing_all, turns}
+use Rattle.laws_wire.specs.Wire.{Wire, requests, expires, sends, receives, loses, StepAt, at_near, at_far, doing_all, turns}
 use Rattle.laws_wire.specs.Call.{confirmed, indicated, data_told}
 use Rattle.laws_wire.specs.Losing.{heard_in}
 use Rattle.laws_wire.specs.Recovering.{round, rounds, both_expire, with_t200_expired}
@@ -17,10 +17,10 @@ use Rattle.laws_wire.specs.WorkedAnswering.{loses_ua}
 use Rattle.laws_wire.specs.WorkedLosing.{error_f}
 
 -- SABME is lost, T200 expires, and it goes again. Then each end sends an I-frame, and both are lost.
-abbrev pub loses_three : List Doing
+abbrev pub loses_three : List StepAt
 loses_three =
-    at_near gives ∷ at_near loses ∷ at_near (times_out (T200 Call 0)) ∷ round
-    ++ at_near (requests (Data Call 0 (0xAB ∷ []))) ∷ at_near gives ∷ at_near loses ∷ at_far (requests (Data Call 0 (0xCD ∷ []))) ∷ at_far gives ∷ at_far loses ∷ []
+    at_near sends ∷ at_near loses ∷ at_near (expires (T200 Call 0)) ∷ round
+    ++ at_near (requests (Data Call 0 (0xAB ∷ []))) ∷ at_near sends ∷ at_near loses ∷ at_far (requests (Data Call 0 (0xCD ∷ []))) ∷ at_far sends ∷ at_far loses ∷ []
 
 abbrev pub lost : Wire
 lost = doing_all loses_three begins
@@ -47,11 +47,11 @@ recovered_far = refl
 
 -- Then each end loses an I-frame again, and one an enquiry, too: T200 expires in state 7 while its I-frame is on its
 -- way. And all is recovered again.
-abbrev pub loses_again : List Doing
+abbrev pub loses_again : List StepAt
 loses_again =
     both_expire Call 0 ++ round ++ round ++ round ++ round
-    ++ at_near (requests (Data Call 0 (0xEF ∷ []))) ∷ at_near gives ∷ at_near (times_out (T200 Call 0)) ∷ at_near loses ∷ at_near gives ∷ at_near loses
-    ∷ at_far (requests (Data Call 0 (0x12 ∷ []))) ∷ at_far gives ∷ at_far loses ∷ []
+    ++ at_near (requests (Data Call 0 (0xEF ∷ []))) ∷ at_near sends ∷ at_near (expires (T200 Call 0)) ∷ at_near loses ∷ at_near sends ∷ at_near loses
+    ∷ at_far (requests (Data Call 0 (0x12 ∷ []))) ∷ at_far sends ∷ at_far loses ∷ []
 
 abbrev pub lost_again : Wire
 lost_again = doing_all loses_again lost
@@ -69,8 +69,8 @@ again_far = refl
 
 -- In state 5 T200 has to be long enough, too: where it expires while SABME is on its way SABME comes twice, and error F
 -- is told.
-abbrev pub rings_twice : List Doing
-rings_twice = at_near gives ∷ at_near (times_out (T200 Call 0)) ∷ at_near gives ∷ at_far takes ∷ at_far takes ∷ []
+abbrev pub rings_twice : List StepAt
+rings_twice = at_near sends ∷ at_near (expires (T200 Call 0)) ∷ at_near sends ∷ at_far receives ∷ at_far receives ∷ []
 
 heard_ringing : heard_in (doing_all rings_twice begins).far ≡ indicated Call 0 ∷ error_f ∷ []
 unfolding lines.after lines.answer lines.takes_slot reading header_of control_of unnumbered_of supervisory_of teis.course teis.refusal seq distance_of named doing_all turns

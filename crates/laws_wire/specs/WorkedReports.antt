@@ -7,7 +7,7 @@ use Rattle.lapd_seq.specs.Numbers.{seq}
 use Rattle.lapd_tei.specs.Events as teis
 use Rattle.model_line.specs.Machine as lines
 use Rattle.model_line.specs.Request.{Data, SetBusy, ClearBusy}
-use Rattle.laws_wire.specs.Wire.{Wire, requests, gives, takes, Doing, at_near, at_far, doing_all, IsStill}
+use Rattle.laws_wire.specs.Wire.{Wire, requests, sends, receives, StepAt, at_near, at_far, doing_all, IsStill}
 use Rattle.laws_wire.specs.Call.{indicated}
 use Rattle.laws_wire.specs.Losing.{heard_in}
 use Rattle.laws_wire.specs.Recovering.{round}
@@ -18,9 +18,9 @@ use Rattle.laws_wire.specs.Worked.{begins}
 -- While UA waits the far end is busy, ready, busy, and ready again: four places are taken, and the last RR finds none. Nothing is lost
 -- on the way, and no I-frame comes to it while it is busy. What the near end is granted then does not go, until its T200 expires: no
 -- turn is left, and neither end is busy, but the near end takes the other for busy.
-abbrev pub toggles : List Doing
+abbrev pub toggles : List StepAt
 toggles =
-    at_near gives ∷ at_far takes ∷ at_far (requests (SetBusy Call 0)) ∷ at_far (requests (ClearBusy Call 0)) ∷ at_far (requests (SetBusy Call 0))
+    at_near sends ∷ at_far receives ∷ at_far (requests (SetBusy Call 0)) ∷ at_far (requests (ClearBusy Call 0)) ∷ at_far (requests (SetBusy Call 0))
     ∷ at_far (requests (ClearBusy Call 0)) ∷ (round ++ round ++ round ++ round ++ at_near (requests (Data Call 0 (1 ∷ []))) ∷ round)
 
 abbrev toggled : Wire

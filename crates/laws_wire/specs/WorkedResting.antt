@@ -9,7 +9,7 @@ use Rattle.lapd_seq.specs.Numbers.{seq}
 use Rattle.lapd_tei.specs.Events as teis
 use Rattle.model_line.specs.Machine as lines
 use Rattle.model_line.specs.Request.{Data}
-use Rattle.laws_wire.specs.Wire.{requests, times_out, gives, takes, loses, Wire, Doing, at_near, at_far, doing_all, IsStill}
+use Rattle.laws_wire.specs.Wire.{requests, expires, sends, receives, loses, Wire, StepAt, at_near, at_far, doing_all, IsStill}
 use Rattle.laws_wire.specs.Losing.{heard_in}
 use Rattle.laws_wire.specs.Call.{indicated, data_told}
 use Rattle.laws_wire.specs.Recovering.{rounds}
@@ -17,10 +17,10 @@ use Rattle.laws_wire.specs.Resting.{moves, expiries, most_frames}
 use Rattle.laws_wire.specs.Worked.{begins, establishes}
 
 -- The first of two I-frames is lost. The other is out of sequence: REJ goes, and both go again.
-abbrev pub rejects_one : List Doing
+abbrev pub rejects_one : List StepAt
 rejects_one =
-    establishes ++ at_near (requests (Data Call 0 (0xAB ∷ []))) ∷ at_near (requests (Data Call 0 (0xCD ∷ []))) ∷ at_near gives ∷ at_near loses ∷ at_near gives ∷ at_far takes
-    ∷ at_far gives ∷ at_near takes ∷ at_near gives ∷ at_near gives ∷ at_far takes ∷ at_far takes ∷ at_far gives ∷ at_near takes ∷ []
+    establishes ++ at_near (requests (Data Call 0 (0xAB ∷ []))) ∷ at_near (requests (Data Call 0 (0xCD ∷ []))) ∷ at_near sends ∷ at_near loses ∷ at_near sends ∷ at_far receives
+    ∷ at_far sends ∷ at_near receives ∷ at_near sends ∷ at_near sends ∷ at_far receives ∷ at_far receives ∷ at_far sends ∷ at_near receives ∷ []
 
 rejected_come : heard_in (doing_all rejects_one begins).far ≡ indicated Call 0 ∷ data_told Call 0 (0xAB ∷ []) ∷ data_told Call 0 (0xCD ∷ []) ∷ []
 unfolding lines.after lines.answer lines.takes_slot reading header_of control_of unnumbered_of supervisory_of teis.course teis.refusal seq distance_of named doing_all moves expiries
@@ -36,13 +36,13 @@ unfolding lines.after lines.answer lines.takes_slot reading header_of control_of
 bound_of_rejects = refl
 
 -- Three I-frames are lost, and lost again each time that T200 has expired and the other end was asked.
-abbrev all_lost : List Doing
-all_lost = at_near gives ∷ at_near gives ∷ at_near gives ∷ at_near loses ∷ at_near loses ∷ at_near loses ∷ []
+abbrev all_lost : List StepAt
+all_lost = at_near sends ∷ at_near sends ∷ at_near sends ∷ at_near loses ∷ at_near loses ∷ at_near loses ∷ []
 
-abbrev asks_again : List Doing
-asks_again = at_near (times_out (T200 Call 0)) ∷ at_near gives ∷ at_far takes ∷ at_far gives ∷ at_near takes ∷ all_lost
+abbrev asks_again : List StepAt
+asks_again = at_near (expires (T200 Call 0)) ∷ at_near sends ∷ at_far receives ∷ at_far sends ∷ at_near receives ∷ all_lost
 
-abbrev pub loses_always : List Doing
+abbrev pub loses_always : List StepAt
 loses_always =
     establishes ++ at_near (requests (Data Call 0 (1 ∷ []))) ∷ at_near (requests (Data Call 0 (2 ∷ []))) ∷ at_near (requests (Data Call 0 (3 ∷ []))) ∷ all_lost
     ++ asks_again ++ asks_again ++ asks_again

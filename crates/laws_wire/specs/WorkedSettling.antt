@@ -8,7 +8,7 @@ use Rattle.lapd_seq.specs.Numbers.{seq}
 use Rattle.lapd_tei.specs.Events as teis
 use Rattle.model_line.specs.Machine as lines
 use Rattle.model_line.specs.Request.{Data, SetBusy, ClearBusy}
-use Rattle.laws_wire.specs.Wire.{Wire, requests, gives, takes, loses, Doing, at_near, at_far, doing_all, IsStill}
+use Rattle.laws_wire.specs.Wire.{Wire, requests, sends, receives, loses, StepAt, at_near, at_far, doing_all, IsStill}
 use Rattle.laws_wire.specs.Call.{confirmed, indicated, data_told}
 use Rattle.laws_wire.specs.Losing.{heard_in}
 use Rattle.laws_wire.specs.Recovering.{rounds, with_t200_expired}
@@ -20,13 +20,13 @@ use Rattle.laws_wire.specs.WorkedAnswering.{loses_ua}
 use Rattle.laws_wire.specs.Worked.{begins, establishes}
 
 -- UA is lost, and SABME goes again. Then the far end is busy, drops an I-frame, and says so.
-abbrev pub is_busy : List Doing
+abbrev pub is_busy : List StepAt
 is_busy =
-    loses_ua ++ at_far (requests (SetBusy Call 0)) ∷ at_near (requests (Data Call 0 (1 ∷ []))) ∷ at_near gives ∷ at_far takes ∷ at_far gives ∷ at_near takes ∷ []
+    loses_ua ++ at_far (requests (SetBusy Call 0)) ∷ at_near (requests (Data Call 0 (1 ∷ []))) ∷ at_near sends ∷ at_far receives ∷ at_far sends ∷ at_near receives ∷ []
 
 -- It is ready again, but this RR is lost.
-abbrev pub is_ready : List Doing
-is_ready = is_busy ++ at_far (requests (ClearBusy Call 0)) ∷ at_far gives ∷ at_far loses ∷ []
+abbrev pub is_ready : List StepAt
+is_ready = is_busy ++ at_far (requests (ClearBusy Call 0)) ∷ at_far sends ∷ at_far loses ∷ []
 
 abbrev pub ready : Wire
 ready = doing_all is_ready begins
@@ -87,10 +87,10 @@ settled_stops = (refl, refl)
 
 -- Nothing is lost here, but the far end drops an I-frame while it is busy; RNR is heard, and RR. No turn is left, and neither
 -- end is busy: the I-frame goes again only once T200 of the near end expires, which runs.
-abbrev pub drops_one : List Doing
+abbrev pub drops_one : List StepAt
 drops_one =
-    establishes ++ at_far (requests (SetBusy Call 0)) ∷ at_near (requests (Data Call 0 (1 ∷ []))) ∷ at_near gives ∷ at_far takes
-    ∷ at_far gives ∷ at_near takes ∷ at_far (requests (ClearBusy Call 0)) ∷ at_far gives ∷ at_near takes ∷ []
+    establishes ++ at_far (requests (SetBusy Call 0)) ∷ at_near (requests (Data Call 0 (1 ∷ []))) ∷ at_near sends ∷ at_far receives
+    ∷ at_far sends ∷ at_near receives ∷ at_far (requests (ClearBusy Call 0)) ∷ at_far sends ∷ at_near receives ∷ []
 
 abbrev pub over : Wire
 over = doing_all drops_one begins
@@ -132,8 +132,8 @@ unfolding lines.after lines.answer lines.takes_slot reading header_of control_of
 waits_runs = refl
 
 -- UA is lost: the end that calls was told nothing, and is told in one round, once its T200 expires.
-abbrev pub ua_lost : List Doing
-ua_lost = at_near gives ∷ at_far takes ∷ at_far gives ∷ at_far loses ∷ []
+abbrev pub ua_lost : List StepAt
+ua_lost = at_near sends ∷ at_far receives ∷ at_far sends ∷ at_far loses ∷ []
 
 pub lost_still : IsStill (doing_all ua_lost begins)
 unfolding lines.after lines.answer lines.takes_slot reading header_of control_of unnumbered_of supervisory_of teis.course teis.refusal seq distance_of named doing_all
@@ -160,10 +160,10 @@ unfolding lines.after lines.answer lines.takes_slot reading header_of control_of
 rung_rests = (record { near = refl; far = refl; near_way = refl; far_way = refl }, refl, refl)
 
 -- RNR and RR are to be counted: here they go nine times each, and are lost. Forty moves, and without them the bound would be 36.
-abbrev asks_much : List Doing
-asks_much = at_far (requests (SetBusy Call 0)) ∷ at_far gives ∷ at_far loses ∷ at_far (requests (ClearBusy Call 0)) ∷ at_far gives ∷ at_far loses ∷ []
+abbrev asks_much : List StepAt
+asks_much = at_far (requests (SetBusy Call 0)) ∷ at_far sends ∷ at_far loses ∷ at_far (requests (ClearBusy Call 0)) ∷ at_far sends ∷ at_far loses ∷ []
 
-abbrev asks_always : List Doing
+abbrev asks_always : List StepAt
 asks_always = establishes ++ asks_much ++ asks_much ++ asks_much ++ asks_much ++ asks_much ++ asks_much ++ asks_much ++ asks_much ++ asks_much
 
 moves_of_asks : moves asks_always begins ≡ 40

@@ -28,9 +28,9 @@ pub fn a_call_with_losses_comes_through()
 /// for; frames are given, taken or lost, in any order and at any time, and timers of the end that releases expire, T200
 /// where it is long enough and N200 is not used up (Q.921 clauses 5.5.3.2 and 5.5.3.3). Layer 3 of this end is told
 /// that the release is confirmed, once and nothing else, and layer 3 of the other that the link is released, once and
-/// nothing else; both are told where no turn is left and T200 does not run any more, also where DISC, UA or DM was
-/// lost. Where timers of the other end expire, too, it may give the link up itself before DISC comes
-/// (`specs/WorkedEnding`).
+/// nothing else. Both are told once no turn is left and T200 of the end that releases runs no more, also where DISC, UA
+/// or DM was lost; so "T200 is long enough" and "runs no more" are said of that end alone. Where timers of the other
+/// end expire, too, it may give the link up itself before DISC comes (`specs/WorkedEnding`).
 pub fn a_call_ends()
     ensures { CallsEnd }
 {}

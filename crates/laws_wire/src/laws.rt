@@ -60,13 +60,13 @@ pub fn told_in_order()
 /// expires there while UA is its next frame. Then no error is told at either end, so there is one establishment, and
 /// what [`told_in_order`] says holds at any time. And what was lost arrives: wherever no turn is left, once T200
 /// expires at both ends, again with no error told as it does, u + 3 rounds in which nothing is lost are enough, where
-/// at either end at most u notes are missing; in a round each end in turn gives its next frame, if it has one, and the
-/// other takes it. Then layer 3 of each has heard one establishment and the data that the other was granted to send,
-/// all of it, in order, each once, and nothing else, and no turn is left. So it is where SABME was lost, too. That T200
-/// expires there at both ends is timely (`goes_on`), so the run can go on behind it, with further losses, and the same
-/// holds again wherever it then leads (`specs/WorkedRecovering`). That UA is not lost is needed for that no error is
-/// told, and that T200 does not expire while SABME is on its way (`specs/WorkedRecovering`), or an enquiry
-/// (`specs/WorkedLosing`). That it is long enough can be seen where it expires only as no turn is left
+/// at either end at most u notes are missing; in a round the end that calls, and then the other, gives its next frame,
+/// if it has one, which is taken. Then layer 3 of each has heard one establishment and the data that the other was
+/// granted to send, all of it, in order, each once, and nothing else, and no turn is left. So it is where SABME was
+/// lost, too. That T200 expires there at both ends is timely (`goes_on`), so the run can go on behind it, with further
+/// losses, and the same holds again wherever it then leads (`specs/WorkedRecovering`). That UA is not lost is needed
+/// for that no error is told, and that T200 does not expire while SABME is on its way (`specs/WorkedRecovering`), or an
+/// enquiry (`specs/WorkedLosing`). That it is long enough can be seen where it expires only as no turn is left
 /// ([`what_is_lost_arrives_from_rest`]).
 pub fn what_is_lost_arrives()
     ensures { WhatIsLostArrives }

@@ -21,7 +21,8 @@ pub fn turns_come_to_an_end()
 /// many rounds are needed as the bound of [`turns_come_to_an_end`] says, if no error is told in the call, nor in as
 /// many rounds and one more (`rounds`). So it always is where the call was timely, as in
 /// [`crate::what_is_lost_arrives`] (`timely`): that law speaks of where no turn is left, and there rounds always lead.
-/// In a round each end in turn gives its next frame, if it has one, and the other takes it.
+/// In a round the end that calls gives its next frame, if it has one, and the other takes it; then the other gives its
+/// next, and the end that calls takes it. These numbers are of rounds in this order.
 pub fn rounds_come_to_rest()
     ensures rounds { RoundsComeToRest }
     ensures timely { TimelyRoundsComeToRest }

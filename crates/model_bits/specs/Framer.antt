@@ -48,7 +48,7 @@ last_octets (_ ∷ item ∷ items) = last_octets (item ∷ items)
 
 -- A framer stands for these items and these octets given: the octets are the beginning of the bits of the
 -- items, cut in eights, and what is left are the others.
-pub record Stands (framer : Framing) (items : List Item) (given : List ℕ) : Type 0 where
+pub record FramerStands (framer : Framing) (items : List Item) (given : List ℕ) : Type 0 where
   pub text : line_text items ≡ bits given ++ framer.left
   pub held : framer.held ≡ still_held framer.left (last_octets items)
   pub begun : framer.begun ≡ head_of (latest_frame items)

@@ -2,7 +2,6 @@
 pub mod Vocabulary
 mod FramesIdle
 mod FramesJudged
-pub mod FramesHeard
 pub mod Gains
 pub mod HeardOctets
 pub mod TextGoesOn
@@ -10,6 +9,8 @@ pub mod Steps
 pub mod PortGoesOn
 pub mod Fold
 pub mod Codec
+mod FramesThere
+pub mod FramesHeard
 pub mod Sound
 pub mod Reaching
 pub mod Heard
@@ -25,4 +26,5 @@ pub mod AsOctets
 pub mod LineHeard
 pub mod CallsPut
 pub mod GoingOut
+pub mod AtOnce
 pub mod Pulls

@@ -4,9 +4,9 @@
 -- port, and Card, a card with a port for each of its lines; Event, what happens at such a card; Run, whole lists of events;
 -- Codec, the law: such a run is, at the card of frames inside, the run of what it means. Stored, Counts, Drops and Isolation
 -- are the words of the laws of octets, Promises and Laws their statements. HeardOctets says that what is heard are octets,
--- GoingOut what a receiver hears of a line, Pulls how many pulls bring a frame. Begun and HeadHeard are what a card answers
--- about itself. Whole is what a controller's frames and faults would be in octets, WholeLaws what these are heard as. Worked
--- has worked values.
+-- GoingOut what a receiver hears of a line, Pulls how many pulls bring a frame, AtOnce when a pull takes one. Begun and HeadHeard
+-- are what a card answers about itself. Whole is what a controller's frames and faults would be in octets, WholeLaws what these
+-- are heard as, and that a card hears what stands in its octets. Worked has worked values.
 pub mod Port
 pub mod Line
 pub mod Event
@@ -25,6 +25,7 @@ pub mod Promises
 pub mod HeardOctets
 pub mod GoingOut
 pub mod Pulls
+pub mod AtOnce
 pub mod Laws
 pub mod Whole
 pub mod WholeLaws

@@ -77,7 +77,7 @@ pub record Careful (t : Terms) (Units Anew Taken Window Queued Offered : Type 0)
   pub send : (p q : Purse) (f : ControlFrame) (c : Course) → Waits t f → P (another p) q c → P p q (Words.send t f c)
   -- flags: an acknowledgement that is owed costs the frame with which it goes
   pub peer_busy : (p q : Purse) (b : Bool) (c : Course) → P p q c → P p q (Words.peer_busy_is b c)
-  pub busy : (p q : Purse) (b : Bool) (c : Course) → P (another p) q c → P p q (Words.report_ready t (Words.own_busy_is b c))
+  pub busy : (p q : Purse) (b : Bool) (c : Course) → P (another p) q c → P p q (Words.report_receiver_status t (Words.own_busy_is b c))
   pub rejecting : (p q : Purse) (c : Course) → P p q c → P p q (Words.rejecting_is true c)
   pub settled : (p q : Purse) (c : Course) → P p q c → P p q (Words.pending_is false c)
   pub owing : (p q : Purse) (c : Course) → c.link.own_busy ≡ false → P (another p) q c → P p q (Words.pending_is true c)

@@ -1,5 +1,5 @@
 -- One direction between two ends: what the sender's contents become on the line and at the receiver.
-use Rattle.model_link.proofs.Vocabulary.{length-append, ◌≡◌, ℕ, ◌+◌, ◌%◌, ◌<◌, ◌≤◌, List, [], ◌∷◌, ◌++◌, length, take, Some, refl, sym, drop, ap, subst, append_assoc, append-nil, arith, slice_get, take-append-le, Seq, seq, seq-value, Parts, ControlFrame, Terms, Link, frame_of, End}
+use Rattle.model_link.proofs.Vocabulary.{length-append, ◌≡◌, ℕ, ◌+◌, ◌%◌, ◌<◌, ◌≤◌, List, [], ◌∷◌, ◌++◌, length, take, Some, refl, sym, drop, ap, subst, append_assoc, append-nil, arith, slice_get, take-append-le, Seq, seq, seq-value, Parts, ControlFrame, Terms, Link, frame_of, Endpoint}
 use Rattle.model_link.proofs.Lines.{Carries, Carried, Rising, carried-more, carried-lower, carried-push, rising-lower, rising-push}
 use Rattle.model_link.proofs.Facing.{AreReports, Reports}
 
@@ -13,11 +13,11 @@ frames-append t [] gs = refl
 frames-append t (f ∷ fs) gs = ap (λ xs. frame_of t f ∷ xs) (frames-append t fs gs)
 
 -- The line from an end: what is on the way, and then what waits.
-abbrev pub line_of : End → List Parts
+abbrev pub line_of : Endpoint → List Parts
 line_of n = n.way ++ frames_of n.terms n.link.waiting
 
 -- One direction.
-pub record Direction (sender receiver : End) : Type 0 where
+pub record Direction (sender receiver : Endpoint) : Type 0 where
   pub carried : Carried sender.link.contents (sender.link.a + sender.terms.k) receiver.link.r (line_of sender)
   pub rising : Rising sender.link.a receiver.link.r (line_of receiver)
   pub delivered : receiver.delivered ≡ take receiver.link.r sender.link.contents
@@ -62,7 +62,7 @@ carries-next contents high r top a k ns octets e small low h next =
     (subst (λ i. slice_get contents i ≡ Some octets) same h.same, subst (λ i. i + 1 ≤ top) same h.next)
 
 -- The sender goes on: more contents may be accepted, and reports may wait.
-pub sender-goes : (n m : End) (l : Link) (more : List (List ℕ)) (r : ℕ) → l.contents ≡ n.link.contents ++ more → l.a ≡ n.link.a
+pub sender-goes : (n m : Endpoint) (l : Link) (more : List (List ℕ)) (r : ℕ) → l.contents ≡ n.link.contents ++ more → l.a ≡ n.link.a
     → Reports r n.link.waiting l.waiting → Direction n m → Direction (record n { link = l }) m
 sender-goes n m l more r same still reports h =
     let line = line-grows n.terms n.way n.link.waiting l.waiting r reports in
@@ -71,7 +71,7 @@ sender-goes n m l more r same still reports h =
     grind (arith, take-append-le, length-append)
 
 -- The receiver goes on: it delivers nothing, and reports its V(R).
-pub receiver-goes : (n m : End) (l : Link) → l.r ≡ m.link.r → Reports m.link.r m.link.waiting l.waiting → Direction n m
+pub receiver-goes : (n m : Endpoint) (l : Link) → l.r ≡ m.link.r → Reports m.link.r m.link.waiting l.waiting → Direction n m
     → Direction n (record m { link = l })
 receiver-goes n m l same reports h =
     let line = line-grows m.terms m.way m.link.waiting l.waiting m.link.r reports in
@@ -85,8 +85,8 @@ lost-carried contents high r way rest h = grind (arith, carried-lower)
 lost-rising : (a r : ℕ) (way rest : List Parts) → Rising a r (way ++ rest) → Rising a r (drop 1 way ++ rest)
 lost-rising a r way rest h = grind (arith, rising-lower)
 
-pub sender-loses : (n m : End) → Direction n m → Direction (record n { way = drop 1 n.way }) m
+pub sender-loses : (n m : Endpoint) → Direction n m → Direction (record n { way = drop 1 n.way }) m
 sender-loses n m h = search (lost-carried)
 
-pub receiver-loses : (n m : End) → Direction n m → Direction n (record m { way = drop 1 m.way })
+pub receiver-loses : (n m : Endpoint) → Direction n m → Direction n (record m { way = drop 1 m.way })
 receiver-loses n m h = search (lost-rising)

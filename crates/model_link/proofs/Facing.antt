@@ -1,5 +1,5 @@
 -- What an event does to a link that stays in states 7 and 8, for the end that it faces.
-use Rattle.model_link.proofs.Vocabulary.{◌≡◌, ℕ, ◌≤◌, Bool, true, false, cond, IsTrue, List, [], ◌∷◌, ◌++◌, Option, None, Some, refl, sym, subst, append_assoc, append-nil, true≢false, arith, ltb-false, Seq, seq, named, Control, ReceiveReady, ReceiveNotReady, Reject, ErrorCode, State, Established, ControlFrame, Terms, Link, is_multiple_frame, Course, Step, ◌then◌, TimerRecovery, acknowledge, answer, by_number, command, enquire, error, has_room, pending_is, re_establish, ready_to_receive, reject, report_ready, response, send, clear_busy_in_7_8, failed, set_busy_in_7_8, acknowledged_by_information_in_7, acknowledged_by_rnr_in_7, acknowledged_in_7, frame_in_7, is_all_sent, is_beyond_acknowledged, timer_in_7, frame_in_8, t200_in_8, frame_in}
+use Rattle.model_link.proofs.Vocabulary.{◌≡◌, ℕ, ◌≤◌, Bool, true, false, cond, IsTrue, List, [], ◌∷◌, ◌++◌, Option, None, Some, refl, sym, subst, append_assoc, append-nil, true≢false, arith, ltb-false, Seq, seq, named, Control, ReceiveReady, ReceiveNotReady, Reject, ErrorCode, State, Established, ControlFrame, Terms, Link, is_multiple_frame, Course, Step, ◌then◌, TimerRecovery, acknowledge, answer, by_number, command, enquire, error, has_room, pending_is, re_establish, rr_or_rnr, reject, report_receiver_status, response, send, clear_busy_in_7_8, failed, set_busy_in_7_8, acknowledged_by_information_in_7, acknowledged_by_rnr_in_7, acknowledged_in_7, frame_in_7, is_all_sent, is_beyond_acknowledged, timer_in_7, frame_in_8, t200_in_8, frame_in}
 use Rattle.model_link.proofs.Leads.{Leads, keeping_then, depending_leads, bit_leads, tested_leads, Passed, from_more}
 use Rattle.model_link.proofs.SoundRows.{named-within}
 
@@ -60,13 +60,13 @@ module _ {l : Link} {S : Number} {a r : ℕ} (t : Terms) where
       }
 
   pub enquire_stays : Leads (Stays l S a r) (enquire t) (Stays l S a r)
-  enquire_stays = sends (λ l'. command (ready_to_receive true l')) (λ l'. (grind arith))
+  enquire_stays = sends (λ l'. command (rr_or_rnr true l')) (λ l'. (grind arith))
 
   pub answer_stays : Leads (Stays l S a r) (answer t) (Stays l S a r)
-  answer_stays = sends (λ l'. response (ready_to_receive true l')) (λ l'. (grind arith))
+  answer_stays = sends (λ l'. response (rr_or_rnr true l')) (λ l'. (grind arith))
 
-  pub report_stays : Leads (Stays l S a r) (report_ready t) (Stays l S a r)
-  report_stays = sends (λ l'. response (ready_to_receive false l')) (λ l'. (grind arith))
+  pub report_stays : Leads (Stays l S a r) (report_receiver_status t) (Stays l S a r)
+  report_stays = sends (λ l'. response (rr_or_rnr false l')) (λ l'. (grind arith))
 
   pub reject_stays : (f : Bool) → Leads (Stays l S a r) (reject t f) (Stays l S a r)
   reject_stays f = sends (λ l'. response (Reject (seq l'.r) f)) (λ l'. refl)

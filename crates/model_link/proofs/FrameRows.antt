@@ -82,7 +82,7 @@ module _ {t : Terms} {Units Anew Taken Window Queued Offered : Type 0} {In : Sta
   acknowledge {p} {q} {here} i up = grind arith
 
   pub ready : {X : Claim} {p q : Purse} (b : Bool)
-      → Leads (At X (P (another p) q)) (λ c. (Words.send t (record { command = b; control = Words.ready_to_receive true c.link }) then Words.pending_is false) c) (At X (P p q))
+      → Leads (At X (P (another p) q)) (λ c. (Words.send t (record { command = b; control = Words.rr_or_rnr true c.link }) then Words.pending_is false) c) (At X (P p q))
   ready b = record { leads = λ c h. (send (ready_waits t b true c.link) ▹ settled).leads c h }
 
   reject : {X : Claim} {p q : Purse} (f : Bool) → Leads (At X (P (another p) q)) (Words.reject t f) (At X (P p q))

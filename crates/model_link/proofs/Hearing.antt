@@ -1,5 +1,5 @@
 -- One direction between two ends, where an end receives the first frame of the other's way.
-use Rattle.model_link.proofs.Vocabulary.{◌≡◌, ℕ, zero, suc, ◌+◌, ◌<◌, ◌≤◌, List, [], ◌∷◌, ◌++◌, length, take, Option, Some, refl, ap, subst, ◌∙◌, inl, inr, append-nil, arith, slice_get, option_to_list, slice_get_within, seq, named, Control, Information, Parts, Link, IsInRange, IsSound, End}
+use Rattle.model_link.proofs.Vocabulary.{◌≡◌, ℕ, zero, suc, ◌+◌, ◌<◌, ◌≤◌, List, [], ◌∷◌, ◌++◌, length, take, Option, Some, refl, ap, subst, ◌∙◌, inl, inr, append-nil, arith, slice_get, option_to_list, slice_get_within, seq, named, Control, Information, Parts, Link, IsInRange, IsSound, Endpoint}
 use Rattle.model_link.proofs.SoundRows.{named-within}
 use Rattle.model_link.proofs.Lines.{Piece, Carried, Means, Rising, carried-higher, carried-lower, carried-high, rising-higher, rising-low}
 use Rattle.model_link.proofs.Facing.{Number, Stay, Reports}
@@ -7,7 +7,7 @@ use Rattle.model_link.proofs.Direction.{Direction, line_of, frames_of, carried-r
 use Rattle.model_link.proofs.Taking.{named-is_seq, HasNumber, Advance}
 
 -- What the end that receives learns of its own contents: its V(A) becomes what the N(R) means.
-pub sender-hears : (n m : End) (f : Parts) (fs : List Parts) (l : Link) (ds : List (List ℕ)) (S : Number)
+pub sender-hears : (n m : Endpoint) (f : Parts) (fs : List Parts) (l : Link) (ds : List (List ℕ)) (S : Number)
     → IsInRange n.terms → IsSound n.terms n.link → m.way ≡ f ∷ fs
     → ((p : ℕ) → Means p f.control → (r : ℕ) × (v : ℕ) × (named n.link.a n.link.s (seq p) ≡ Some v) × Stay n.link S v r l.contents l.a l.s l.r l.waiting)
     → Direction n m → Direction (record n { link = l; delivered = ds }) (record m { way = fs })
@@ -69,7 +69,7 @@ brings contents r r' top a k octets control d small low here accepted piece (inr
     }
 
 -- What it takes of the other's contents.
-pub receiver-hears : (n m : End) (f : Parts) (fs : List Parts) (l : Link) (ds : List (List ℕ)) (r : ℕ) (d : Option (List ℕ))
+pub receiver-hears : (n m : Endpoint) (f : Parts) (fs : List Parts) (l : Link) (ds : List (List ℕ)) (r : ℕ) (d : Option (List ℕ))
     → IsInRange m.terms → m.way ≡ f ∷ fs → Advance f.control f.info n.link.r r d → l.r ≡ r → Reports r n.link.waiting l.waiting
     → ds ≡ n.delivered ++ option_to_list d
     → Direction m n → Direction (record m { way = fs }) (record n { link = l; delivered = ds })

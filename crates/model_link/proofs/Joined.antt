@@ -1,5 +1,5 @@
 -- Two ends: what holds in both directions, as long as both links stay in states 7 and 8.
-use Rattle.model_link.proofs.Vocabulary.{◌≡◌, ℕ, Bool, cond, IsTrue, List, [], ◌∷◌, ◌++◌, drop, Option, None, Some, refl, sym, ap, subst, ◌∙◌, append-nil, arith, option_to_list, Refusal, Parts, State, Established, LinkTimer, Terms, Link, is_multiple_frame, frame, Request, Event, received, expired, requested, offer, Course, begun, IsInRange, IsSound, End, Ends, Act, asks, expires, Doing, at_near, at_far, with_link, with_sent, with_first_lost, with_first_of, acting, doing, doing_all, Begins, IsUp, StayUp, Agree, granted, refusal, release_in, after, course, expired_in, is_running, told}
+use Rattle.model_link.proofs.Vocabulary.{◌≡◌, ℕ, Bool, cond, IsTrue, List, [], ◌∷◌, ◌++◌, drop, Option, None, Some, refl, sym, ap, subst, ◌∙◌, append-nil, arith, option_to_list, Refusal, Parts, State, Established, LinkTimer, Terms, Link, is_multiple_frame, frame, Request, Event, received, expired, requested, offer, Course, begun, IsInRange, IsSound, Endpoint, Ends, EndStep, requests, expires, StepAt, at_near, at_far, with_link, with_sent, without_first, with_first_of, acting, doing, doing_all, Begins, IsUp, StayUp, Agree, granted, refusal, release_in, after, course, expired_in, is_running, told}
 use Rattle.model_link.proofs.SoundEvents.{sound-after}
 use Rattle.model_link.proofs.Delivering.{event-delivers}
 use Rattle.model_link.proofs.Lines.{Carried, Rising, rising-low}
@@ -53,7 +53,7 @@ module _ (t : Terms) (l : Link) where
   timer-goes before timer up = either (is_running timer l) _ _ (λ u. expired-goes l.state before timer u) (λ u. stays) up
 
 -- What holds of both ends.
-pub record Joined (n m : End) : Type 0 where
+pub record Joined (n m : Endpoint) : Type 0 where
   pub near_ranges : IsInRange n.terms
   pub far_ranges : IsInRange m.terms
   pub near_sound : IsSound n.terms n.link
@@ -63,19 +63,19 @@ pub record Joined (n m : End) : Type 0 where
   pub there : Direction n m
   pub back : Direction m n
 
-pub joined-turned : (n m : End) → Joined n m → Joined m n
+pub joined-turned : (n m : Endpoint) → Joined n m → Joined m n
 joined-turned n m h = search
 
 -- what a sender has delivered doesn't matter, and what a receiver has is the same
-sender-told : (n m : End) (ds : List (List ℕ)) → Direction n m → Direction (record n { delivered = ds }) m
+sender-told : (n m : Endpoint) (ds : List (List ℕ)) → Direction n m → Direction (record n { delivered = ds }) m
 sender-told n m ds h = record { carried = h.carried; rising = h.rising; delivered = h.delivered; accepted = h.accepted }
 
-receiver-told : (n m : End) (ds : List (List ℕ)) → ds ≡ m.delivered → Direction n m → Direction n (record m { delivered = ds })
+receiver-told : (n m : Endpoint) (ds : List (List ℕ)) → ds ≡ m.delivered → Direction n m → Direction n (record m { delivered = ds })
 receiver-told n m ds e h = record { carried = h.carried; rising = h.rising; delivered = e ∙ h.delivered; accepted = h.accepted }
 
-module _ (n m : End) (h : Joined n m) where
+module _ (n m : Endpoint) (h : Joined n m) where
   -- the near end goes on, and perhaps takes a frame of the other's way
-  moved : (n' : End) (way : List Parts) → IsInRange n'.terms → IsSound n'.terms n'.link → IsTrue (is_multiple_frame n'.link.state)
+  moved : (n' : Endpoint) (way : List Parts) → IsInRange n'.terms → IsSound n'.terms n'.link → IsTrue (is_multiple_frame n'.link.state)
       → Direction n' (record m { way = way }) → Direction (record m { way = way }) n' → Joined n' (record m { way = way })
   moved n' way ranges sound up there back = search
 
@@ -118,11 +118,11 @@ module _ (n m : End) (h : Joined n m) where
   first-of [] e up = subst (λ way. Joined n (record m { way = way })) e h
   first-of (f ∷ fs) e up = hears f fs e up
 
-  loses-first : Joined (with_first_lost n) m
-  loses-first = moved (with_first_lost n) m.way h.near_ranges h.near_sound h.near_up (sender-loses n m h.there) (receiver-loses m n h.back)
+  loses-first : Joined (without_first n) m
+  loses-first = moved (without_first n) m.way h.near_ranges h.near_sound h.near_up (sender-loses n m h.there) (receiver-loses m n h.back)
 
-  acted : (act : Act) → IsUp (acting act (record { near = n; far = m })) → Joined (acting act (record { near = n; far = m })).near (acting act (record { near = n; far = m })).far
-  acted (asks request full) up =
+  acted : (act : EndStep) → IsUp (acting act (record { near = n; far = m })) → Joined (acting act (record { near = n; far = m })).near (acting act (record { near = n; far = m })).far
+  acted (requests request full) up =
       goes (requested request full) (none-delivered n.terms n.link (course n.terms (requested request full) n.link) (event-delivers n.terms n.link (requested request full)))
       (request-goes n.terms n.link h.near_up request (refusal n.terms n.link full request) up.0) up.0
   acted (expires timer) up =
@@ -131,26 +131,26 @@ module _ (n m : End) (h : Joined n m) where
   acted act up = grind (arith, gives, first-of, loses-first)
 
 -- either side
-pub done-at : (d : Doing) (e : Ends) → IsUp (doing d e) → Joined e.near e.far → Joined (doing d e).near (doing d e).far
+pub done-at : (d : StepAt) (e : Ends) → IsUp (doing d e) → Joined e.near e.far → Joined (doing d e).near (doing d e).far
 done-at (at_near act) e up h = acted e.near e.far h act up
 done-at (at_far act) e up h = grind (arith, joined-turned, acted)
 
-all-done : (ds : List Doing) (e : Ends) → StayUp ds e → Joined e.near e.far → Joined (doing_all ds e).near (doing_all ds e).far
+all-done : (ds : List StepAt) (e : Ends) → StayUp ds e → Joined e.near e.far → Joined (doing_all ds e).near (doing_all ds e).far
 unfolding doing_all StayUp
 all-done [] e up h = h
 all-done (d ∷ ds) e up h = all-done ds (doing d e) up.1 (done-at d e up.0 h)
 
 -- the start
-no-line : (n : End) → Begins n → line_of n ≡ []
+no-line : (n : Endpoint) → Begins n → line_of n ≡ []
 no-line n b = ap (λ way. way ++ frames_of n.terms n.link.waiting) b.way ∙ ap (λ ws. frames_of n.terms ws) b.waiting
 
-pub joined-first : (n m : End) → Begins n → Begins m → Joined n m
+pub joined-first : (n m : Endpoint) → Begins n → Begins m → Joined n m
 joined-first n m b c = grind (arith, no-line)
 
 -- in the words of the law
-agree : (n m : End) → Direction m n → Agree n m
+agree : (n m : Endpoint) → Direction m n → Agree n m
 agree n m h = record { delivered = h.delivered; accepted = h.accepted; acknowledged = rising-low m.link.a n.link.r (line_of n) h.rising }
 
-pub ends-agree : (ds : List Doing) (e : Ends) → Begins e.near → Begins e.far → StayUp ds e
+pub ends-agree : (ds : List StepAt) (e : Ends) → Begins e.near → Begins e.far → StayUp ds e
     → Agree (doing_all ds e).near (doing_all ds e).far × Agree (doing_all ds e).far (doing_all ds e).near
 ends-agree ds e b c up = grind (arith, all-done, joined-first, agree)

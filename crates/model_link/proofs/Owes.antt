@@ -1,5 +1,5 @@
 -- What a link owes the line, and how each word raises it: a purse holds the frames that may still be sent.
-use Rattle.model_link.proofs.Vocabulary.{◌≡◌, ℕ, ◌+◌, ◌-◌, ◌≤◌, Bool, true, false, cond, IsTrue, List, [], ◌∷◌, ◌++◌, length, take, drop, Option, is_some, refl, arith, length-append, length-take-le, length-drop, State, TeiAssigned, AwaitingEstablishment, AwaitingRelease, Established, TimerRecovery, LinkTimer, T203, ControlFrame, Terms, may_send, window_back, data_in_7_8, is_multiple_frame, IsInRange, Sent, Course, ◌then◌, changed, acknowledge, asked_is, begin_anew, clear_flags, discard, enter, has_room, own_busy_is, pending_is, ready_to_receive, report_ready, response, send, send_again_from, start, with_own_busy, zero_numbers, give_acknowledgement, give_information, give_waiting, with_one_sent}
+use Rattle.model_link.proofs.Vocabulary.{◌≡◌, ℕ, ◌+◌, ◌-◌, ◌≤◌, Bool, true, false, cond, IsTrue, List, [], ◌∷◌, ◌++◌, length, take, drop, Option, is_some, refl, arith, length-append, length-take-le, length-drop, State, TeiAssigned, AwaitingEstablishment, AwaitingRelease, Established, TimerRecovery, LinkTimer, T203, ControlFrame, Terms, may_send, window_back, data_in_7_8, is_multiple_frame, IsInRange, Sent, Course, ◌then◌, changed, acknowledge, asked_is, begin_anew, clear_flags, discard, enter, has_room, own_busy_is, pending_is, rr_or_rnr, report_receiver_status, response, send, send_again_from, start, with_own_busy, zero_numbers, give_acknowledgement, give_information, give_waiting, with_one_sent}
 use Rattle.model_link.proofs.Waits.{Waits}
 use Rattle.model_link.proofs.Kept.{Purse, another, two}
 unfoldable use Rattle.model_link.proofs.Kept.{how_many}
@@ -55,11 +55,11 @@ module _ (t : Terms) (r : IsInRange t) (total extra : ℕ) (Window : Type 0) (pa
   flags : (p : Purse) (c : Course) → Owes t total extra p c → Owes t total extra p (clear_flags c)
   flags p c h = spends p p c (clear_flags c) (sound.flags p p c h.stands) (omega arith) h
 
-  reports : (p : Purse) (b : Bool) (c : Course) → Owes t total extra (another p) c → Owes t total extra p (report_ready t (own_busy_is b c))
+  reports : (p : Purse) (b : Bool) (c : Course) → Owes t total extra (another p) c → Owes t total extra p (report_receiver_status t (own_busy_is b c))
   unfolding how_many
   reports p b c h =
-      spends (another p) p c (report_ready t (own_busy_is b c)) (sound.busy p p b c h.stands)
-      (let more = one-more (has_room t c.link) c.link.waiting (response (ready_to_receive false (with_own_busy b c.link))) in omega (arith, more)) h
+      spends (another p) p c (report_receiver_status t (own_busy_is b c)) (sound.busy p p b c h.stands)
+      (let more = one-more (has_room t c.link) c.link.waiting (response (rr_or_rnr false (with_own_busy b c.link))) in omega (arith, more)) h
 
   owes : (p : Purse) (c : Course) → c.link.own_busy ≡ false → Owes t total extra (another p) c → Owes t total extra p (pending_is true c)
   unfolding how_many

@@ -1,5 +1,5 @@
 -- What a row does, said once: a claim that every word of the tables leads on is led on by every event.
-use Rattle.model_link.proofs.Vocabulary.{arith, ◌≡◌, ℕ, Bool, true, false, cond, List, [], ◌∷◌, Option, Some, None, inr, refl, Control, ErrorCode, Refusal, State, TeiAssigned, AwaitingEstablishment, AwaitingRelease, Established, TimerRecovery, LinkTimer, T200, T203, ControlFrame, Terms, is_own_busy, Course, ◌then◌, nothing, ClearBusy, Data, Establish, Event, Release, Request, SetBusy, cleared, expired, frame, offer, overlong, received, requested, undefined, wrong_size, own_busy_is, report_ready, clear_busy_in_7_8, set_busy_in_7_8, granted, refusal, release_in, is_awaiting_acknowledgement, is_pending, may_send_information, offer_among, send_acknowledgement, send_information, command, Disc}
+use Rattle.model_link.proofs.Vocabulary.{arith, ◌≡◌, ℕ, Bool, true, false, cond, List, [], ◌∷◌, Option, Some, None, inr, refl, Control, ErrorCode, Refusal, State, TeiAssigned, AwaitingEstablishment, AwaitingRelease, Established, TimerRecovery, LinkTimer, T200, T203, ControlFrame, Terms, is_own_busy, Course, ◌then◌, nothing, ClearBusy, Data, Establish, Event, Release, Request, SetBusy, cleared, expired, frame, offer, overlong, received, requested, undefined, wrong_size, own_busy_is, report_receiver_status, clear_busy_in_7_8, set_busy_in_7_8, granted, refusal, release_in, is_awaiting_acknowledgement, is_pending, may_send_information, offer_among, send_acknowledgement, send_information, command, Disc}
 use Rattle.model_link.specs.Link.{may_repeat}
 use Rattle.model_link.specs.Machine
 use Rattle.model_link.proofs.Leads.{Leads, depending_leads, tested_leads, Passed, from_more}
@@ -42,7 +42,7 @@ module _ {t : Terms} {Units Anew Taken Window Queued Offered : Type 0} {In : Sta
   still : Leads (P one two) nothing E
   still = record { leads = λ c h. k.ends one two c h }
 
-  busy : (b : Bool) → Leads (P one two) (own_busy_is b then report_ready t) E
+  busy : (b : Bool) → Leads (P one two) (own_busy_is b then report_receiver_status t) E
   busy b = record { leads = λ c h. k.ends no_more two _ (k.busy no_more two b c h) }
 
   pub set_busy_by : Leads (P one two) (set_busy_in_7_8 t) E

@@ -1,6 +1,6 @@
 -- Every word of the tables keeps a link sound, over the plain values of which soundness speaks.
 pub use Rattle.model_link.proofs.FrameRows.{named-within}
-use Rattle.model_link.proofs.Vocabulary.{◌≡◌, ℕ, ◌+◌, ◌-◌, ◌<◌, ◌≤◌, Bool, true, false, cond, not, ◌&&◌, IsTrue, List, [], ◌∷◌, ◌++◌, length, take, drop, Option, Some, None, refl, sym, ap, subst, ◌∙◌, true≢false, arith, length-append, length-drop, length-take-le, All, nat_lt, nat_le, ltb-true, ltb-false, leb-false, and_parts, All-push, All-tail, All-take, All-drop, Refusal, WrongState, TooLong, QueueFull, State, TeiAssigned, AwaitingEstablishment, AwaitingRelease, Established, TimerRecovery, ControlFrame, Terms, is_multiple_frame, IsWaitingFrame, Course, ◌then◌, LinkTimer, data_in_7_8, Data, begin_anew, enter, own_busy_is, report_ready, send_again_from, start, with_own_busy, refusal, is_established}
+use Rattle.model_link.proofs.Vocabulary.{◌≡◌, ℕ, ◌+◌, ◌-◌, ◌<◌, ◌≤◌, Bool, true, false, cond, not, ◌&&◌, IsTrue, List, [], ◌∷◌, ◌++◌, length, take, drop, Option, Some, None, refl, sym, ap, subst, ◌∙◌, true≢false, arith, length-append, length-drop, length-take-le, All, nat_lt, nat_le, ltb-true, ltb-false, leb-false, and_parts, All-push, All-tail, All-take, All-drop, Refusal, WrongState, TooLong, QueueFull, State, TeiAssigned, AwaitingEstablishment, AwaitingRelease, Established, TimerRecovery, ControlFrame, Terms, is_multiple_frame, IsWaitingFrame, Course, ◌then◌, LinkTimer, data_in_7_8, Data, begin_anew, enter, own_busy_is, report_receiver_status, send_again_from, start, with_own_busy, refusal, is_established}
 use Rattle.model_link.proofs.Waits.{Waits, ready_waits}
 use Rattle.model_link.proofs.Careful.{is_at_rest, idle, Careful}
 
@@ -141,7 +141,7 @@ module _ (t : Terms) (r : t.tei ≤ 126) (q : ℕ) (Queued : Type 0) (room : Que
       let free = not-first (nat_le t.queue (length (drop c.link.a c.link.contents))) _ QueueFull small.1 in
       queueing h octets parts.0 (ltb-false t.n201 (length octets) small.0) (omega (arith, (room may), leb-false t.queue (length (drop c.link.a c.link.contents)) free.0))
 
-  reports : (b : Bool) (c : Course) → CourseStands t q c → CourseStands t q (report_ready t (own_busy_is b c))
+  reports : (b : Bool) (c : Course) → CourseStands t q c → CourseStands t q (report_receiver_status t (own_busy_is b c))
   reports b c h = sending (silent h b) _ r (ready_waits t false false (with_own_busy b c.link))
 
   pub begins : (c : Course) → CourseStands t q (begin_anew c)

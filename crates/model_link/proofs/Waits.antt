@@ -1,5 +1,5 @@
 -- The frames that a link sends are frames of the exchange, of at most four octets.
-use Rattle.model_link.proofs.Vocabulary.{◌≡◌, ◌<◌, ◌≤◌, Bool, false, IsTrue, length, refl, arith, Network, Sabme, Ua, Service, IsFrame, allows, takes, row, spelling, sapi_of, Terms, ControlFrame, Link, frame_of, IsWaitingFrame, is_information, command, response, ready_to_receive}
+use Rattle.model_link.proofs.Vocabulary.{◌≡◌, ◌<◌, ◌≤◌, Bool, false, IsTrue, length, refl, arith, Network, Sabme, Ua, Service, IsFrame, allows, takes, row, spelling, sapi_of, Terms, ControlFrame, Link, frame_of, IsWaitingFrame, is_information, command, response, rr_or_rnr}
 
 pub sapi-small : (service : Service) → sapi_of service < 64
 sapi-small service = grind arith
@@ -25,5 +25,5 @@ module _ (t : Terms) where
   sabme_waits p = may_wait t (command (Sabme p)) refl refl (omega arith) refl
 
   -- RR or RNR, as a command and as a response
-  pub ready_waits : (b pf : Bool) (l : Link) → Waits t (record { command = b; control = ready_to_receive pf l })
+  pub ready_waits : (b pf : Bool) (l : Link) → Waits t (record { command = b; control = rr_or_rnr pf l })
   ready_waits b pf l = grind (arith, may_wait)

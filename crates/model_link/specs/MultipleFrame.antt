@@ -12,7 +12,7 @@ use Rattle.model_link.specs.declared.timers.LinkTimer.TheVariants.{T200, T203}
 use Rattle.model_link.specs.declared.terms.Terms.{Terms}
 use Rattle.model_link.specs.Link.{Link, has_outstanding, is_own_busy, is_rejecting}
 use Rattle.model_link.specs.Steps.{Step, ◌then◌, nothing, depending_on, by_bit, changed}
-use Rattle.model_link.specs.Words.{error, deliver, establish_indication, release_indication, unit_data, xid, peer_busy_is, clear_flags, pending_is, rejecting_is, own_busy_is, repeats_are, zero_numbers, discard, count_received, start, no_timer, enter, send, command, response, answer, report_ready, reject, re_establish, by_number}
+use Rattle.model_link.specs.Words.{error, deliver, establish_indication, release_indication, unit_data, xid, peer_busy_is, clear_flags, pending_is, rejecting_is, own_busy_is, repeats_are, zero_numbers, discard, count_received, start, no_timer, enter, send, command, response, answer, report_receiver_status, reject, re_establish, by_number}
 
 -- Requests of layer 3.
 
@@ -30,10 +30,10 @@ data_in_7_8 octets = changed (with_contents octets)
 
 -- clause 5.6.6
 abbrev pub set_busy_in_7_8 : Terms → Step
-set_busy_in_7_8 t = depending_on is_own_busy nothing (own_busy_is true then report_ready t)
+set_busy_in_7_8 t = depending_on is_own_busy nothing (own_busy_is true then report_receiver_status t)
 
 abbrev pub clear_busy_in_7_8 : Terms → Step
-clear_busy_in_7_8 t = depending_on is_own_busy (own_busy_is false then report_ready t) nothing
+clear_busy_in_7_8 t = depending_on is_own_busy (own_busy_is false then report_receiver_status t) nothing
 
 -- Unnumbered frames.
 

@@ -176,20 +176,20 @@ abbrev pub response : Control → ControlFrame
 response control = record { command = false; control = control }
 
 -- RR, or RNR where own busy is on, with N(R) = V(R) (clauses 3.6.6 and 3.6.8).
-abbrev pub ready_to_receive : Bool → Link → Control
-ready_to_receive pf l = cond l.own_busy (ReceiveNotReady (seq l.r) pf) (ReceiveReady (seq l.r) pf)
+abbrev pub rr_or_rnr : Bool → Link → Control
+rr_or_rnr pf l = cond l.own_busy (ReceiveNotReady (seq l.r) pf) (ReceiveReady (seq l.r) pf)
 
 -- A command that asks for the terminal's state (clause 5.6.7).
 abbrev pub enquire : Terms → Step
-enquire t c = (send t (command (ready_to_receive true c.link)) then pending_is false) c
+enquire t c = (send t (command (rr_or_rnr true c.link)) then pending_is false) c
 
 -- The answer to a command with P (clauses 5.6.2.1 and 5.6.3).
 abbrev pub answer : Terms → Step
-answer t c = (send t (response (ready_to_receive true c.link)) then pending_is false) c
+answer t c = (send t (response (rr_or_rnr true c.link)) then pending_is false) c
 
 -- A response that no command asked for: RR with F=0, or RNR.
-abbrev pub report_ready : Terms → Step
-report_ready t c = (send t (response (ready_to_receive false c.link)) then pending_is false) c
+abbrev pub report_receiver_status : Terms → Step
+report_receiver_status t c = (send t (response (rr_or_rnr false c.link)) then pending_is false) c
 
 -- REJ: the I-frames from V(R) on are to be sent again (clause 5.8.1).
 abbrev pub reject : Terms → Bool → Step

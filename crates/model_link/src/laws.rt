@@ -14,7 +14,7 @@ ghost use Rattle.model_link.specs.Deliveries.{Arrived, eligible};
 ghost use Rattle.model_link.specs.Numbered.{History, nothing_yet, with_event, with_all, IsNumbered};
 ghost use Rattle.model_link.specs.Rises.{RisesByEvent, may_send, grows, sent, sent_in_all, price_of_all};
 ghost use Rattle.model_link.specs.Sound.{IsInRange, IsSound, IsGiven};
-ghost use Rattle.model_link.specs.TwoEnds.{Ends, Doing, doing_all, Begins, StayUp, Agree};
+ghost use Rattle.model_link.specs.TwoEnds.{Ends, StepAt, doing_all, Begins, StayUp, Agree};
 
 /// A link is sound as it begins, and every event keeps it sound: its numbers are in order and
 /// within the window (Q.921 clause 5.6.1), nothing is queued where it must not be, no acknowledgement is
@@ -85,8 +85,8 @@ pub fn unserved_stays()
 /// accepted, in order, as many as its V(R) counts; and the other takes no more of them for
 /// acknowledged (Q.921 clauses 5.6 and 5.8.1). The ends may have different terms.
 pub fn two_ends()
-    ensures near { (ds : List Doing) (e : Ends) → Begins e.near → Begins e.far → StayUp ds e →
+    ensures near { (ds : List StepAt) (e : Ends) → Begins e.near → Begins e.far → StayUp ds e →
         Agree (doing_all ds e).near (doing_all ds e).far }
-    ensures far { (ds : List Doing) (e : Ends) → Begins e.near → Begins e.far → StayUp ds e →
+    ensures far { (ds : List StepAt) (e : Ends) → Begins e.near → Begins e.far → StayUp ds e →
         Agree (doing_all ds e).far (doing_all ds e).near }
 {}

@@ -5,13 +5,13 @@ use Rattle.lapd_store.specs.SlotRing.{SlotRing}
 use Rattle.lapd_store.specs.Store.{Store}
 
 -- The queue has these messages, the oldest first, and the shelf holds them and what others own.
-pub record Stands (s : Store) (queue : SlotRing) (messages : List (List ℕ)) (others : List Owned) : Type 0 where
+pub record OutboxStands (s : Store) (queue : SlotRing) (messages : List (List ℕ)) (others : List Owned) : Type 0 where
   pub lengths : length queue.slots ≡ length messages
   pub held : Holds s (pairs_of queue.slots messages ++ others)
 
 -- The queue has some messages on the shelf, beside what others own.
 abbrev pub Waits : Store → SlotRing → List Owned → Type 0
-Waits s queue others = (messages : List (List ℕ)) × Stands s queue messages others
+Waits s queue others = (messages : List (List ℕ)) × OutboxStands s queue messages others
 
 -- Two queues have messages on the shelf, and nothing else is there.
 pub record Shares (s : Store) (first second : SlotRing) : Type 0 where

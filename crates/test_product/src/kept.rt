@@ -7,7 +7,7 @@ ghost use Rattle.model_card.specs.ports.Run.{moments};
 ghost use Rattle.lapd_card.specs.Card.{line_count};
 ghost use Rattle.lapd_card.specs.Drive.{line_of, events_of};
 ghost use Rattle.lapd_card.specs.Kept.{replies_in};
-ghost use Rattle.lapd_card.specs.Stands.{Stands};
+ghost use Rattle.lapd_card.specs.Stands.{OctetCardStands};
 
 use lapd_card::{Card, Event, Kept, SinkFault};
 use lapd_store::Shelf;
@@ -24,9 +24,9 @@ pub fn keep_replies<S: Shelf>(
     sink: &mut Kept,
 ) -> Result<usize, SinkFault>
     requires { All (λ event. line_of event < line_count card.old) events.now }
-    ensures all { OnOk result ((m : machine.OctetCard) → Stands S.store card.old m
+    ensures all { OnOk result ((m : machine.OctetCard) → OctetCardStands S.store card.old m
         → replies_in sink.new ≡ replies_in sink.old ++ map reply_of (moments m (events_of events.now))) }
-    ensures before { IfErr result (λ fault. (m : machine.OctetCard) → Stands S.store card.old m
+    ensures before { IfErr result (λ fault. (m : machine.OctetCard) → OctetCardStands S.store card.old m
         → replies_in sink.new ≡ replies_in sink.old ++ map reply_of (moments m (take fault.at (events_of events.now)))) }
 {
     card.drive(events, sink)

@@ -45,6 +45,10 @@ def drop(causes: str) -> Note:
     return Note(f"dropped: {causes}", "red")
 
 
+# The way of what the deframer drops, from Card::hear on.
+DROPS = [
+    Call("FrameCard::dropped", "lapd_card/src/frame_card.rt"), Call("FrameLine::dropped", "lapd_line/src/frame_line.rt"),
+]
 IN_RATTLE = "Card::octet"
 COMES = [
     Call("lapd_octet", "lapd_c/src/octets.rt", [
@@ -54,16 +58,16 @@ COMES = [
     Call("Port::octet", "lapd_line/src/port.rt", [Note("does the octet end anything?")]),
     Call("Deframer::step", "lapd_bits/src/deframer.rt", [
         Note("flags, stuffed 0s, aborts, checks"), Note("nothing ends: nothing is told"),
-        Note("to be dropped: abort, ragged, short, fcs", "red")]),
+        drop("abort, ragged, short, fcs"), Note(f"{DROPS[0].names} tells of it", "red")]),
     Call("FrameCard::heard", "lapd_card/src/frame_card.rt", [
-        Note("Card::hear goes on with what ended"), back("does a frame wait on the line?", "waiting")], "Card::hear"),
+        Note("Card::hear goes on with a frame that ended"), back("does a frame wait on the line?", "waiting")], "Card::hear"),
     Call("FrameLine::heard", "lapd_line/src/frame_line.rt", [
         Note("what is heard is counted", code="counters"), back("so is what is told", "count")]),
     Call("LinkLayer::serve", "lapd_line/src/addressing.rt", [
         Note("lapd_frame/src/reading.rt", code="read"), Note("SAPI 63, lapd_tei/src/teis.rt", code="message"),
         drop("extension, sapi, tei, unserved")]),
     Call("LinkLayer::receive", "lapd_line/src/link_layer.rt", [
-        back("has the link a frame to give?", "awake"), back("where contents begin in the frame", "start")]),
+        back("has the link a frame to give?", "has_frame"), back("where contents begin in the frame", "start")]),
     Call("Links::receive", "lapd_line/src/links.rt", [Note("the link of that service and TEI")]),
     Call("Link::receive, hear", "lapd_link/src/events.rt", [
         back("contents leave the shelf, and", "settle"), back("timers get their orders")]),
@@ -187,11 +191,12 @@ def draw(_: str) -> str:
     """The picture."""
     it = Drawing(
         "The way of an octet in and out",
-        "An octet that comes goes by lapd_octet or Card::octet, Card::hear, Port::octet and Deframer::step; what it "
-        "ends by FrameCard::heard, FrameLine::heard and LinkLayer::receive to Link::receive, and to the row of the "
+        "An octet that comes goes by lapd_octet or Card::octet, Card::hear, Port::octet and Deframer::step; a frame "
+        "that ends by FrameCard::heard, FrameLine::heard and LinkLayer::receive to Link::receive, and to the row of the "
         "link's state in lapd_link_steps, or to TEI management; what this leads to comes back the same way as a "
-        "report. One that goes is asked for by Card::pull; the next frame comes by LinkLayer::take from "
-        "Teis::offer, unit data or Link::offer, and goes by write, Framer::load and Framer::octet.",
+        "report. What the deframer drops goes by FrameCard::dropped and FrameLine::dropped into a report. One that goes "
+        "is asked for by Card::pull; the next frame comes by LinkLayer::take from Teis::offer, unit data or Link::offer, "
+        "and goes by write, Framer::load and Framer::octet.",
     )
     it.text(LEFT, 36, "An octet comes", "blue", 16, bold=True)
     it.text(LEFT + BOX, 36, "files: in crates/", "soft", 12.5, anchor="end")

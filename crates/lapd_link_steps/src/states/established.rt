@@ -72,12 +72,12 @@ impl BareReport {
     // A final response that no command asked for.
     #[inline(always)]
     #[tactic(auto, using(crate::proofs::Steps::bit_yes, crate::proofs::Steps::bit_no))]
-    pub(crate) fn unsolicited(&mut self, terms: &Terms, last: bool)
+    pub(crate) fn unsolicited(&mut self, terms: &Terms, is_final: bool)
         requires { HasRoom 1 0 self.old }
         ensures tells { Tells 1 0 self.old self.new }
-        ensures does { (info : List ℕ) (e : Entity) → Does terms.now info (row.unsolicited terms.now last) e self.old e self.new }
+        ensures does { (info : List ℕ) (e : Entity) → Does terms.now info (row.unsolicited terms.now is_final) e self.old e self.new }
     {
-        if last {
+        if is_final {
             self.error(terms, ErrorCode::A);
         }
     }

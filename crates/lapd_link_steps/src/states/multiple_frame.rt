@@ -42,9 +42,9 @@ impl Entity {
                 if usize::from(terms.n201) < octets {
                     return self.failed(terms, told, ErrorCode::O);
                 }
-                let last = false;
+                let is_final = false;
                 self.contents_in_7_8(terms, told, ns, pf);
-                self.number(terms, told, recovering, nr, Bearer::Information, last);
+                self.number(terms, told, recovering, nr, Bearer::Information, is_final);
             }
             Control::ReceiveReady { nr, pf } => {
                 self.peer_busy = false;
@@ -70,7 +70,8 @@ impl Entity {
         }
     }
 
-    // RR, RNR or REJ, but for whether the terminal is busy. One that is final is a response with F=1: it answers a command.
+    // Handles the P/F bit and N(R) of RR, RNR and REJ; the caller has already set peer-busy. `is_final` means a response with
+    // F=1, which answers a command.
     #[inline(always)]
     fn supervisory(
         &mut self,
@@ -87,10 +88,10 @@ impl Entity {
         ensures does { (info : List ℕ) →
             Does terms.now info (supervisory (particulars recovering terms.now) terms.now by command nr pf) self.old told.old self.new told.new }
     {
-        let last = !command && pf;
+        let is_final = !command && pf;
         self.answer_if(terms, told, command && pf);
-        told.unsolicited(terms, !recovering && last);
-        self.number(terms, told, recovering, nr, by, last);
+        told.unsolicited(terms, !recovering && is_final);
+        self.number(terms, told, recovering, nr, by, is_final);
     }
 
     // An N(R): it is not valid, or it has its effect.
@@ -102,18 +103,18 @@ impl Entity {
         recovering: bool,
         nr: Seq,
         by: Bearer,
-        last: bool,
+        is_final: bool,
     )
         requires { HasRoom 1 1 told.old }
         ensures tells { Tells 1 1 told.old told.new }
         ensures does { (info : List ℕ) →
-            Does terms.now info (by_number terms.now nr (effect_of (particulars recovering terms.now) by last)) self.old told.old self.new told.new }
+            Does terms.now info (by_number terms.now nr (effect_of (particulars recovering terms.now) by is_final)) self.old told.old self.new told.new }
     {
         if !self.names(nr) {
             return self.failed(terms, told, ErrorCode::J);
         }
         if recovering {
-            return self.acknowledged_in_8(told, nr, by, last);
+            return self.acknowledged_in_8(told, nr, by, is_final);
         }
         self.acknowledged_in_7(told, nr, by);
     }
@@ -155,7 +156,7 @@ impl Entity {
             return;
         }
         self.own_busy = true;
-        self.report_ready(terms, told, false);
+        self.report_receiver_status(terms, told, false);
     }
 
     /// Layer 3 can take contents again, in states 7 and 8.
@@ -168,7 +169,7 @@ impl Entity {
             return;
         }
         self.own_busy = false;
-        self.report_ready(terms, told, false);
+        self.report_receiver_status(terms, told, false);
     }
 
     // The terminal establishes the link again.
@@ -242,7 +243,7 @@ impl Entity {
         self.rejecting = false;
         told.deliver(terms);
         if pf {
-            self.report_ready(terms, told, true);
+            self.report_receiver_status(terms, told, true);
         } else {
             self.pending = true;
         }
@@ -257,7 +258,7 @@ impl Entity {
         ensures does { (info : List ℕ) → Does terms.now info (row.dropped terms.now pf) self.old told.old self.new told.new }
     {
         if pf {
-            self.report_ready(terms, told, true);
+            self.report_receiver_status(terms, told, true);
         }
     }
 

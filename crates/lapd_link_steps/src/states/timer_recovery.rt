@@ -38,17 +38,22 @@ impl Entity {
         told: &mut BareReport,
         nr: Seq,
         by: Bearer,
-        last: bool,
+        is_final: bool,
     )
         requires { IsValid (va_of self.old.window) nr (vs_of self.old.window) }
         ensures tells { Tells 0 0 told.old told.new }
         ensures does { (terms : Terms) (info : List ℕ) →
-            DoesBy terms info nr (effect_of (row.particulars_in_8 terms) by last) self.old told.old self.new told.new }
+            DoesBy terms info nr (effect_of (row.particulars_in_8 terms) by is_final) self.old told.old self.new told.new }
     {
         match by {
             Bearer::Information => self.acknowledge(told, nr),
-            Bearer::Rnr => self.acknowledged_by_supervisory_in_8(told, nr, last, LinkTimer::T200),
-            _ => self.acknowledged_by_supervisory_in_8(told, nr, last, LinkTimer::T203),
+            Bearer::Rnr => self.acknowledged_by_supervisory_in_8(
+                told,
+                nr,
+                is_final,
+                LinkTimer::T200,
+            ),
+            _ => self.acknowledged_by_supervisory_in_8(told, nr, is_final, LinkTimer::T203),
         }
     }
 
@@ -57,16 +62,16 @@ impl Entity {
         &mut self,
         told: &mut BareReport,
         nr: Seq,
-        last: bool,
+        is_final: bool,
         timer: LinkTimer,
     )
         requires { IsValid (va_of self.old.window) nr (vs_of self.old.window) }
         ensures tells { Tells 0 0 told.old told.new }
         ensures does { (terms : Terms) (info : List ℕ) →
-            DoesBy terms info nr (row.acknowledged_in_8 timer last) self.old told.old self.new told.new }
+            DoesBy terms info nr (row.acknowledged_in_8 timer is_final) self.old told.old self.new told.new }
     {
         self.acknowledge(told, nr);
-        if last {
+        if is_final {
             self.send_again_from(nr);
             self.start_timer(told, timer);
             self.state = State::Established;

@@ -60,8 +60,8 @@ impl Entity {
 
     // RR, or RNR where own busy is on.
     #[inline(always)]
-    fn ready_to_receive(&self, pf: bool) -> Control
-        ensures { (p : Past) → self.now.vr ≡ seq p.r → result ≡ word.ready_to_receive pf (link_of self.now p) }
+    fn rr_or_rnr(&self, pf: bool) -> Control
+        ensures { (p : Past) → self.now.vr ≡ seq p.r → result ≡ word.rr_or_rnr pf (link_of self.now p) }
     {
         if self.own_busy {
             Control::ReceiveNotReady { nr: self.vr, pf }
@@ -77,19 +77,19 @@ impl Entity {
         ensures repeats { self.new.repeats ≡ self.old.repeats }
         ensures does { (info : List ℕ) → Does terms.now info (word.enquire terms.now) self.old told.old self.new told.new }
     {
-        let ready = self.ready_to_receive(true);
+        let ready = self.rr_or_rnr(true);
         self.command(terms, told, ready);
         self.pending = false;
     }
 
     // Says, as the answer to a command with P (`pf`) or unasked, whether own busy is on.
     #[inline(always)]
-    pub(crate) fn report_ready(&mut self, terms: &Terms, told: &mut BareReport, pf: bool)
+    pub(crate) fn report_receiver_status(&mut self, terms: &Terms, told: &mut BareReport, pf: bool)
         requires { HasRoom 0 1 told.old }
         ensures tells { Tells 0 1 told.old told.new }
         ensures does { (info : List ℕ) → Does terms.now info (ready_reported terms.now pf) self.old told.old self.new told.new }
     {
-        let ready = self.ready_to_receive(pf);
+        let ready = self.rr_or_rnr(pf);
         self.response(terms, told, ready);
         self.pending = false;
     }

@@ -1,7 +1,7 @@
 //! V(A), V(S), V(R), and the contents that they count.
 
 ghost use Rattle.std.specs.Prelude.{◌≡◌, ℕ, List, ◌↔◌, IsTrue, false, MatchOption};
-ghost use Rattle.lapd_link_steps.specs.{IsNamed, IsValid, named, va_of, vs_of, Stands, Terms, DoesBy, Changes, Tells};
+ghost use Rattle.lapd_link_steps.specs.{IsNamed, IsValid, named, va_of, vs_of, WindowStands, Terms, DoesBy, Changes, Tells};
 ghost use Rattle.model_link.specs.Words as word;
 ghost use Rattle.lapd_link_steps.specs.Does.{Does};
 
@@ -40,7 +40,7 @@ impl Entity {
     // Whether an N(R) is valid.
     pub(crate) fn names(&self, nr: Seq) -> bool
         ensures circle { IsTrue result ↔ IsValid (va_of self.now.window) nr (vs_of self.now.window) }
-        ensures named { (a s : ℕ) → Stands self.now.window a s →
+        ensures named { (a s : ℕ) → WindowStands self.now.window a s →
             MatchOption (named a s nr) (result ≡ false) (λ n. IsTrue result × IsNamed a s nr n) }
     {
         valid(self.window.va(), nr, self.window.vs())

@@ -1,8 +1,9 @@
 -- A script is a run of the card: each line's events lead the card as the line does.
-use Rattle.lapd_sim.proofs.OfMachine.Vocabulary.{[], ◌≡◌, ℕ, ◌+◌, ◌<◌, Bool, true, false, cond, List, ◌∷◌, ◌++◌, Option, Some, None, Result, Ok, Err, refl, sym, ap, ◌∙◌, subst, arith, fold, All, All-append, none-some, standard, Config, Field, next, IsInRange, Event, Board, fresh, after_all, IsAtLine, AreAtLines, CardKind, FaultKind, TooLong, BadCard, read, pieces_of, line_in, Setup, begun, Scene, with_card, without_card, Fault, Played, not_begun, played, faulty, is_too_long, after_scene, after_bench, after_reading, unless_faulty, one_more, meant_events, read_events, unless_fault, line_events, events_from, board_meant, first_board, ScriptsAreRuns}
+use Rattle.lapd_sim.proofs.OfMachine.Vocabulary.{[], ◌≡◌, ℕ, ◌+◌, ◌<◌, Bool, true, false, cond, List, ◌∷◌, ◌++◌, Option, Some, None, Result, Ok, Err, refl, sym, ap, ◌∙◌, subst, arith, fold, All, All-append, none-some, standard, Config, Field, next, IsInRange, Event, Board, fresh, after_all, IsAtLine, AreAtLines, CardKind, FaultKind, TooLong, BadCard, read, pieces_of, line_in, Setup, begun, Scene, with_card, without_card, Fault, Played, not_begun, played, faulty, is_too_long, after_scene, after_bench, after_reading, unless_faulty, one_more, meant_events, read_events, unless_fault, line_events, events_from, board_meant, first_board, script_events, ScriptsAreRuns}
 use Rattle.model_line.specs.Config as configs
 use Rattle.lapd_script.specs.Meaning as line
-use Rattle.lapd_sim.proofs.OfMachine.Runs.{after_all-append, config_stays}
+use Rattle.lapd_sim.proofs.OfMachine.Kinds.{IsEventOf, EachIsOf, all_of_kind}
+use Rattle.lapd_sim.proofs.OfMachine.Runs.{after_all-append, config_stays, kind_stays}
 use Rattle.lapd_sim.proofs.OfMachine.Kept.{IsKept}
 use Rattle.lapd_sim.proofs.OfMachine.Meanings.{Led, May, in_range, meaning_brings, nothing_led, scene_of}
 
@@ -48,6 +49,9 @@ one_goes piece b p e =
 led_then : (a b c : Setup) (xs ys : List Event) → Led a xs b → Led b ys c → Led a (xs ++ ys) c
 led_then a b c xs ys first then = record {
   board = then.board ∙ ap (λ x. after_all x ys) first.board ∙ sym (after_all-append a.board xs ys);
+  of_kind =
+      let same : b.board.kind ≡ a.board.kind = ap (λ (x : Board). x.kind) first.board ∙ kind_stays a.board xs in
+      All-append (IsEventOf a.board.kind) xs ys first.of_kind (subst (λ kind. EachIsOf kind ys) same then.of_kind);
   kept = λ k.
       let here = first.kept k in
       let there = then.kept here.0 in
@@ -118,6 +122,7 @@ pub record Ran (p : Played) (pieces : List (List ℕ)) (last : Setup) : Type 0 w
   pub begun : first_board pieces ≡ Some (fresh kind config)
   pub in_range : IsInRange config
   pub at_lines : AreAtLines (fresh kind config) (events_from p pieces)
+  pub of_kind : EachIsOf kind (events_from p pieces)
   pub board : last.board ≡ after_all (fresh kind config) (events_from p pieces)
   pub kept : IsKept last
 
@@ -143,6 +148,7 @@ lines_run (piece ∷ pieces) p last e there = go (λ f. lines_run pieces (one_mo
           begun = ap after_line no_card ∙ ran.begun;
           in_range = ran.in_range;
           at_lines = subst (AreAtLines (fresh ran.kind ran.config)) no_more_events ran.at_lines;
+          of_kind = subst (EachIsOf ran.kind) no_more_events ran.of_kind;
           board = ran.board ∙ ap (λ events. after_all (fresh ran.kind ran.config) events) no_more_events;
           kept = ran.kept;
         }
@@ -156,6 +162,7 @@ lines_run (piece ∷ pieces) p last e there = go (λ f. lines_run pieces (one_mo
           begun = ap after_line is_card;
           in_range = ranged;
           at_lines = subst (AreAtLines (fresh kind c)) no_more_events kept.1;
+          of_kind = subst (EachIsOf kind) no_more_events led.of_kind;
           board = led.board ∙ ap (λ events. after_all (fresh kind c) events) no_more_events;
           kept = kept.0;
         }
@@ -166,4 +173,12 @@ script_ran text setup there = lines_run (pieces_of text) not_begun setup refl th
 pub scripts_are_runs : ScriptsAreRuns
 scripts_are_runs text setup there =
     let ran = script_ran text setup there in
-    record { kind = ran.kind; config = ran.config; begun = ran.begun; in_range = ran.in_range; at_lines = ran.at_lines; board = ran.board }
+    record {
+      kind = ran.kind;
+      config = ran.config;
+      begun = ran.begun;
+      in_range = ran.in_range;
+      at_lines = ran.at_lines;
+      of_kind = all_of_kind ran.kind (script_events text) ran.of_kind;
+      board = ran.board;
+    }

@@ -4,10 +4,11 @@ use Rattle.std.specs.Prelude.{map}
 use Rattle.lapd_clock.specs.declared.fault.LengthFault.TheVariants as fault
 use Rattle.lapd_clock.specs.Timers as clocks
 use Rattle.model_bits.specs.Stream.{dropped}
-use Rattle.model_line.specs.Came.{cause_of}
+use Rattle.model_line.specs.Came.{came, cause_of}
 use Rattle.lapd_script.specs.Meaning as line
 use Rattle.lapd_sim.specs.machine.Replies.{said}
 use Rattle.lapd_sim.proofs.OfMachine.Expiries.{drained}
+use Rattle.lapd_sim.proofs.OfMachine.Kinds.{IsEventOf, EachIsOf, none_of_kind, one_of_kind, request_is, downs_are, expiries_are, octets_are, pulls_are, heard_is, next_is}
 use Rattle.lapd_sim.proofs.OfMachine.Runs.{one_event, no_event, event_before}
 use Rattle.lapd_sim.proofs.OfMachine.Kept.{IsKept, by_expiry, events_kept, pulls_kept, octets_within, downs_within, pulls_within, wait_ticks, none_later}
 
@@ -28,43 +29,44 @@ expiries_lead most end s =
     by_expiry end (λ s t es. t.setup.board ≡ after_all s.setup.board es) (λ s. no_event s.setup.board)
     (λ s due t es is h. h ∙ event_before s.setup.board (at due.0 (expiry due.1)) es) most s
 
--- Events lead one setup to another; and where what each line keeps holds of the first, it holds of the other, and the
--- events are at lines of the card.
+-- Events lead one setup to another, and are of the kind of its card; and where what each line keeps holds of the first, it
+-- holds of the other, and the events are at lines of the card.
 pub record Led (before : Setup) (events : List Event) (after : Setup) : Type 0 where
   pub board : after.board ≡ after_all before.board events
+  pub of_kind : EachIsOf before.board.kind events
   pub kept : IsKept before → IsKept after × AreAtLines before.board events
 
 pub nothing_led : (b : Setup) → Led b [] b
-nothing_led b = record { board = no_event b.board; kept = λ k. (k, All-nil (IsAtLine b.board)) }
+nothing_led b = record { board = no_event b.board; of_kind = none_of_kind b.board.kind; kept = λ k. (k, All-nil (IsAtLine b.board)) }
 
-events_led : (events : List Event) (s : Scene) → AreAtLines s.setup.board events → Led s.setup events (with_events events s).setup
-events_led events s at_lines = record { board = events_lead events s; kept = λ k. (events_kept events s at_lines k, at_lines) }
+events_led : (events : List Event) (s : Scene) → EachIsOf s.setup.board.kind events → AreAtLines s.setup.board events
+    → Led s.setup events (with_events events s).setup
+events_led events s of_kind at_lines = record { board = events_lead events s; of_kind = of_kind; kept = λ k. (events_kept events s at_lines k, at_lines) }
 
-octets_led : (number : ℕ) (octets : List ℕ) (s : Scene) → number < s.setup.board.config.lines → Led s.setup (octets_at number octets) (after_rx number octets s).setup
-octets_led number octets s within = events_led (octets_at number octets) s (octets_within s.setup.board number octets within)
+octets_led : (number : ℕ) (octets : List ℕ) (s : Scene) → s.setup.board.kind ≡ Octets → number < s.setup.board.config.lines
+    → Led s.setup (octets_at number octets) (after_rx number octets s).setup
+octets_led number octets s is within =
+    events_led (octets_at number octets) s (octets_are s.setup.board.kind number octets is) (octets_within s.setup.board number octets within)
 
-in_led : (number : ℕ) (octets : List ℕ) (s : Scene) → number < s.setup.board.config.lines
+in_led : (number : ℕ) (octets : List ℕ) (s : Scene) → s.setup.board.kind ≡ Octets → number < s.setup.board.config.lines
     → Led s.setup (octets_at number (octets_sent octets (terminal_at number s.setup))) (after_in number octets s).setup
-in_led number octets s within =
+in_led number octets s is within =
     let terminal = terminal_at number s.setup in
-    let led = octets_led number (octets_sent octets terminal) (record s { setup = with_terminal number (after_sending octets terminal) s.setup }) within in
-    record { board = led.board; kept = led.kept }
+    let led = octets_led number (octets_sent octets terminal) (record s { setup = with_terminal number (after_sending octets terminal) s.setup }) is within in
+    record { board = led.board; of_kind = led.of_kind; kept = led.kept }
 
-event_led : (e : Event) (s : Scene) → IsAtLine s.setup.board e → Led s.setup (e ∷ []) (with_event s e).setup
-event_led e s within =
+event_led : (e : Event) (s : Scene) → IsEventOf s.setup.board.kind e → IsAtLine s.setup.board e → Led s.setup (e ∷ []) (with_event s e).setup
+event_led e s is within =
     let at_lines = All-cons (IsAtLine s.setup.board) e [] within (All-nil (IsAtLine s.setup.board)) in
-    record { board = one_event s.setup.board e; kept = λ k. (events_kept (e ∷ []) s at_lines k, at_lines) }
+    record { board = one_event s.setup.board e; of_kind = one_of_kind s.setup.board.kind e is; kept = λ k. (events_kept (e ∷ []) s at_lines k, at_lines) }
 
-coming_led : (kind : CardKind) (number : ℕ) (octets : List ℕ) (s : Scene) → number < s.setup.board.config.lines
-    → Led s.setup (coming_events kind number octets s) (after_coming kind number octets s).setup
-coming_led Octets number octets s within = in_led number octets s within
-coming_led Frames number octets s within = event_led (at number (is_heard_as s octets)) s within
-
-pulls_led : (number count : ℕ) (s : Scene) → number < s.setup.board.config.lines → Led s.setup (replicate count (at number pull)) (after_pull number count s).setup
-pulls_led number count s within =
+pulls_led : (number count : ℕ) (s : Scene) → s.setup.board.kind ≡ Octets → number < s.setup.board.config.lines
+    → Led s.setup (replicate count (at number pull)) (after_pull number count s).setup
+pulls_led number count s is within =
     let start : Pulls = record { setup = s.setup; octets = [] } in
     record {
       board = pulls_lead count number start;
+      of_kind = pulls_are s.setup.board.kind number count is;
       kept = λ k. (pulls_kept count number start within k, pulls_within s.setup.board number count within);
     }
 
@@ -75,6 +77,7 @@ wait_led milliseconds s =
     let last = expiries most end s in
     record {
       board = expiries_lead most end s;
+      of_kind = expiries_are most end s;
       kept = λ k.
           let waited = wait_ticks most end s k.ticks in
           let none = drained most end s (clocks.due_at s.setup.clock end) k.ticks.lengths refl (omega arith) in
@@ -147,32 +150,34 @@ module _ (b : Setup) (events : List Event) (text : List ℕ) where
   if_good true r kind h = h refl
   if_good false r kind h = tt
 
-  octets_only : (kind : CardKind) (r : Result Scene FaultKind) → May b events text r → May b events text (for_octets kind r)
-  octets_only Octets r h = h
+  octets_only : (kind : CardKind) (r : Result Scene FaultKind) → (kind ≡ Octets → May b events text r) → May b events text (for_octets kind r)
+  octets_only Octets r h = h refl
   octets_only Frames r h = tt
 
-  frames_only : (kind : CardKind) (r : Result Scene FaultKind) → May b events text r → May b events text (for_frames kind r)
+  frames_only : (kind : CardKind) (r : Result Scene FaultKind) → (kind ≡ Frames → May b events text r) → May b events text (for_frames kind r)
   frames_only Octets r h = tt
-  frames_only Frames r h = h
+  frames_only Frames r h = h refl
 
 -- at a line of the card
 at_it : {events : List Event} {text : List ℕ} (number : ℕ) (b : Setup) (s : Scene) → (number < b.board.config.lines → Brings b events text s) → May b events text (at_line number (scene_of b) s)
 at_it number b s h = if_good _ _ _ (nat_lt number b.board.config.lines) (Ok s) BadLine (λ good. h (ltb-true _ _ good))
 
-event_brought : (e : Event) (b : Setup) → IsAtLine b.board e → Brings b (e ∷ []) (replies_text (moments b.board (e ∷ []))) (with_event (scene_of b) e)
-event_brought e b within = record { led = event_led e (scene_of b) within; says = events_say (e ∷ []) (scene_of b) }
+event_brought : (e : Event) (b : Setup) → IsEventOf b.board.kind e → IsAtLine b.board e
+    → Brings b (e ∷ []) (replies_text (moments b.board (e ∷ []))) (with_event (scene_of b) e)
+event_brought e b is within = record { led = event_led e (scene_of b) is within; says = events_say (e ∷ []) (scene_of b) }
 
-coming_brought : (kind : CardKind) (number : ℕ) (octets : List ℕ) (b : Setup) → number < b.board.config.lines
+coming_brought : (kind : CardKind) (number : ℕ) (octets : List ℕ) (b : Setup) → b.board.kind ≡ kind → number < b.board.config.lines
     → let events = coming_events kind number octets (scene_of b) in Brings b events (replies_text (moments b.board events)) (after_coming kind number octets (scene_of b))
-coming_brought Octets number octets b within = record { led = in_led number octets (scene_of b) within; says = events_say (octets_at number (octets_sent octets (terminal_at number b))) _ }
-coming_brought Frames number octets b within = event_brought (at number (is_heard_as (scene_of b) octets)) b within
+coming_brought Octets number octets b is within = record { led = in_led number octets (scene_of b) is within; says = events_say (octets_at number (octets_sent octets (terminal_at number b))) _ }
+coming_brought Frames number octets b is within =
+    event_brought (at number (is_heard_as (scene_of b) octets)) b (heard_is b.board.kind number (came b.board.config.n201 octets) is) within
 
-pulls_brought : (number count : ℕ) (b : Setup) → number < b.board.config.lines
+pulls_brought : (number count : ℕ) (b : Setup) → b.board.kind ≡ Octets → number < b.board.config.lines
     → let events = replicate count (at number pull) in Brings b events (said (line.pull number count) b (moments b.board events)) (after_pull number count (scene_of b))
-pulls_brought number count b within =
+pulls_brought number count b is within =
     let start : Pulls = record { setup = b; octets = [] } in
     record {
-      led = pulls_led number count (scene_of b) within;
+      led = pulls_led number count (scene_of b) is within;
       says = ap (λ t. pulled_text number (get_or t number []) (pulls count number start).octets) (pulls_keep count number start)
           ∙ ap (pulled_text number (taken_at number b)) (pulls_give count number start);
     }
@@ -186,6 +191,7 @@ timers_brought lengths b = go (first_out_of_range lengths) refl
     go None e = record {
       led = record {
         board = no_event b.board;
+        of_kind = none_of_kind b.board.kind;
         kept = λ k. (record { ticks = record { in_order = k.ticks.in_order; on_lines = k.ticks.on_lines; lengths = in_range lengths e }; later = k.later }, All-nil (IsAtLine b.board));
       };
       says = refl;
@@ -196,20 +202,23 @@ meaning_brings line.skip b = record { led = nothing_led b; says = refl }
 meaning_brings (line.card kind config) b = tt
 meaning_brings (line.rx number octets) b =
     octets_only _ _ _ b.board.kind _
-    (at_it number b _ (λ within. record { led = octets_led number octets (scene_of b) within; says = events_say (octets_at number octets) (scene_of b) }))
+    (λ is. at_it number b _ (λ within. record { led = octets_led number octets (scene_of b) is within; says = events_say (octets_at number octets) (scene_of b) }))
 meaning_brings (line.into number octets) b =
     if_good _ _ _ (nat_lt number b.board.config.lines) _ BadLine
-    (λ good. if_good _ _ _ (can_come b.board.kind octets) _ BadFrame (λ _. coming_brought b.board.kind number octets b (ltb-true _ _ good)))
-meaning_brings (line.failed number fault) b = frames_only _ _ _ b.board.kind _ (at_it number b _ (event_brought (at number (hears (dropped (cause_of fault)))) b))
-meaning_brings (line.next number) b = frames_only _ _ _ b.board.kind _ (at_it number b _ (event_brought (at number next) b))
+    (λ good. if_good _ _ _ (can_come b.board.kind octets) _ BadFrame (λ _. coming_brought b.board.kind number octets b refl (ltb-true _ _ good)))
+meaning_brings (line.failed number fault) b =
+    frames_only _ _ _ b.board.kind _
+    (λ is. at_it number b _ (event_brought (at number (hears (dropped (cause_of fault)))) b (heard_is b.board.kind number (dropped (cause_of fault)) is)))
+meaning_brings (line.next number) b = frames_only _ _ _ b.board.kind _ (λ is. at_it number b _ (event_brought (at number next) b (next_is b.board.kind number is)))
 meaning_brings (line.down number) b =
     let events = downs number (teis_on number b.board) in
-    at_it number b _ (λ within. record { led = events_led events (scene_of b) (downs_within b.board number (teis_on number b.board) within); says = events_say events (scene_of b) })
-meaning_brings (line.pull number count) b = octets_only _ _ _ b.board.kind _ (at_it number b _ (pulls_brought number count b))
+    at_it number b _ (λ within. record { led = events_led events (scene_of b) (downs_are b.board.kind number (teis_on number b.board)) (downs_within b.board number (teis_on number b.board) within); says = events_say events (scene_of b) })
+meaning_brings (line.pull number count) b = octets_only _ _ _ b.board.kind _ (λ is. at_it number b _ (pulls_brought number count b is))
 meaning_brings (line.wait milliseconds) b =
     let end = b.now + milliseconds in
     if_good _ _ _ (nat_le end last_moment) _ TimeOver (λ _. record { led = wait_led milliseconds (scene_of b); says = expiries_say (clocks.time_until end b.clock) end (scene_of b) })
 meaning_brings (line.timers t200 t203 t201) b = timers_brought (record { t200 = t200; t203 = t203; t201 = t201 }) b
 meaning_brings line.stored b = record { led = nothing_led b; says = refl }
 meaning_brings (line.counters number group) b = at_it number b _ (λ within. record { led = nothing_led b; says = refl })
-meaning_brings (line.ask number tei what octets) b = at_it number b _ (event_brought (at number (request (request_for what tei octets))) b)
+meaning_brings (line.ask number tei what octets) b =
+    at_it number b _ (event_brought (at number (request (request_for what tei octets))) b (request_is b.board.kind number (request_for what tei octets)))

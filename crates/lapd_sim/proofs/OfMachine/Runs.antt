@@ -11,6 +11,11 @@ unfolding after_all
 config_stays card [] = refl
 config_stays card (e ∷ events) = config_stays (after e card) events
 
+pub kind_stays : (card : Board) (events : List Event) → (after_all card events).kind ≡ card.kind
+unfolding after_all
+kind_stays card [] = refl
+kind_stays card (e ∷ events) = kind_stays (after e card) events
+
 pub one_event : (card : Board) (e : Event) → after e card ≡ after_all card (e ∷ [])
 unfolding after_all
 one_event card e = refl

@@ -10,7 +10,7 @@ use Rattle.model_card.specs.Run as runs
 use Rattle.model_card.specs.ports.Card.{OctetCard}
 use Rattle.model_card.specs.ports.Event as octets
 use Rattle.model_card.specs.ports.Run as octet_runs
-use Rattle.lapd_sim.specs.machine.Board.{Board, pull, hears, next, expiry, request, Event, at, fresh, after_all, AreAtLines, octet_event, frame_event}
+use Rattle.lapd_sim.specs.machine.Board.{Board, pull, hears, next, expiry, request, Event, Moment, at, fresh, after_all, moments, AreAtLines, octet_event, frame_event, reply_of_octets, reply_of_frames}
 use Rattle.lapd_script.specs.declared.command.CardKind.{CardKind}
 use Rattle.lapd_script.specs.declared.command.CardKind.TheVariants.{Octets, Frames}
 use Rattle.lapd_script.specs.declared.kind.FaultKind.{FaultKind}
@@ -78,6 +78,11 @@ abbrev pub first_board : List (List ℕ) → Option Board
 first_board [] = None
 first_board (piece ∷ pieces) = elim (board_meant (read (line_in piece))) [ None ↦ first_board pieces | Some b ↦ Some b ]
 
+-- These are events of a card of one kind: of octets, or of frames.
+abbrev pub AreEventsOf : CardKind → List Event → Type 0
+AreEventsOf Octets events = (own : List octets.Event) × (events ≡ map octet_event own)
+AreEventsOf Frames events = (own : List frames.Event) × (events ≡ map frame_event own)
+
 -- The board of the setup is that of the card line, fresh, after the script's events. Its configuration is one with which a
 -- card can be started, and the events are at its lines and of its kind: so laws of runs hold of it.
 pub record HasRun (text : List ℕ) (setup : Setup) : Type 0 where
@@ -86,14 +91,33 @@ pub record HasRun (text : List ℕ) (setup : Setup) : Type 0 where
   pub begun : first_board (pieces_of text) ≡ Some (fresh kind config)
   pub in_range : IsInRange config
   pub at_lines : AreAtLines (fresh kind config) (script_events text)
+  pub of_kind : AreEventsOf kind (script_events text)
   pub board : setup.board ≡ after_all (fresh kind config) (script_events text)
 
 abbrev pub ScriptsAreRuns : Type 0
 ScriptsAreRuns = (text : List ℕ) (setup : Setup) → (played (pieces_of text)).setup ≡ Some setup → HasRun text setup
 
--- Runs on a board are those of its card: of one of octets, as `model_card::ports` has them; of one of frames, as `model_card` does.
+-- A board with a card of each kind; and on it a moment of a run of that card.
+abbrev pub board_of_octets : Config → OctetCard → Board
+board_of_octets c m = record { kind = Octets; config = c; card = m }
+
+abbrev pub board_of_frames : Config → OctetCard → Board
+board_of_frames c m = record { kind = Frames; config = c; card = m }
+
+abbrev pub moment_of_octets : Config → octet_runs.Moment → Moment
+moment_of_octets c m = record { board = board_of_octets c m.card; event = octet_event m.event; reply = reply_of_octets m.answer }
+
+abbrev pub moment_of_frames : Config → OctetCard → runs.Moment → Moment
+moment_of_frames c m x = record { board = board_of_frames c (record m { card = x.card }); event = frame_event x.event; reply = reply_of_frames x.answer }
+
+-- Runs on a board are those of its card: of one of octets, as `model_card::ports` has them; of one of frames, as `model_card`
+-- does. They lead to the same card, and have the same moments, with the same answers.
 pub record RunsOnBoards : Type 0 where
+  pub octet_moments : (c : Config) (m : OctetCard) (events : List octets.Event) →
+      moments (board_of_octets c m) (map octet_event events) ≡ map (moment_of_octets c) (octet_runs.moments m events)
+  pub frame_moments : (c : Config) (m : OctetCard) (events : List frames.Event) →
+      moments (board_of_frames c m) (map frame_event events) ≡ map (moment_of_frames c m) (runs.moments m.card events)
   pub octets : (c : Config) (m : OctetCard) (events : List octets.Event) →
-      after_all (record { kind = Octets; config = c; card = m }) (map octet_event events) ≡ record { kind = Octets; config = c; card = octet_runs.after_all m events }
+      after_all (board_of_octets c m) (map octet_event events) ≡ board_of_octets c (octet_runs.after_all m events)
   pub frames : (c : Config) (m : OctetCard) (events : List frames.Event) →
-      after_all (record { kind = Frames; config = c; card = m }) (map frame_event events) ≡ record { kind = Frames; config = c; card = record m { card = runs.after_all m.card events } }
+      after_all (board_of_frames c m) (map frame_event events) ≡ board_of_frames c (record m { card = runs.after_all m.card events })

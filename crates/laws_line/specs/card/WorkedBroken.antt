@@ -1,7 +1,7 @@
 -- Worked values: states, answers and runs that would break the promises, which no card comes to.
 use Rattle.std.specs.Prelude.{◌≡◌, ◌≢◌, ℕ, zero, suc, ◌<◌, true, false, List, [], ◌∷◌, ◌++◌, None, refl}
 use Rattle.std.proofs.Common.{◌∙◌}
-use Rattle.laws_line.specs.WorkedWords.{ap, arith, Fcs, Call, T200, Link, link_fresh as fresh_link, told, gave, hears, next, nothing, cause_in, Line, fresh_line, place_at, tei_at, link_at, Card, fresh, at, card_answer as answer, AreAmong, LinksStay, TellsCause, up_by_notes, runs_at_callers}
+use Rattle.laws_line.specs.WorkedWords.{ap, arith, Fcs, Call, T200, Link, link_fresh as fresh_link, told, gave, hears, next, nothing, cause_in, Line, fresh_line, place_at, tei_at, link_at, Card, fresh, at, card_answer as answer, AreAmong, LinksStay, TellsCause, runs_at_callers}
 use Rattle.model_bits.specs.Stream as stream
 use Rattle.model_line.specs.Machine as lines
 use Rattle.laws_line.specs.card.Worked.{usual}
@@ -26,9 +26,6 @@ untold x = let same = ap cause_in (x.no_frame Fcs refl) in cc same
 -- `timers_follow` and `notes_tell`: a timer that is needed, and was never started; a link that is up, of which no note told.
 not_started : runs_at_callers 0 (T200 Call 64) false [] ≡ true → ⊥
 not_started e = cc e
-
-not_noted : up_by_notes 0 Call 64 false [] ≡ true → ⊥
-not_noted e = cc e
 
 -- `takes_serve_wherever`: what waits is not given; or one frame is, where two alike wait.
 none_there : {X : Type 0} (x : X) (front back : List X) → [] ≡ front ++ x ∷ back → ⊥

@@ -2,19 +2,7 @@
 //! `Promises` (crate `laws_promises`), the comment of the field says it in words.
 
 ghost use Rattle.laws_line.specs.card.GoesDown.{LinesGoDown};
-ghost use Rattle.laws_line.specs.card.Laws.{TakesServe, OneEvent, OthersAreLeft, CausesTold};
-
-/// What is sent is what was accepted, for whom, and in which order. What a call for the next frame takes is the message
-/// of TEI management that has waited longest, else the oldest unit data, else a frame of the first link in turn that
-/// has one; and it takes none only where none waits. Unit data goes whole, once, with its service and TEI. The link's
-/// frame has its SAPI and TEI, of a TEI on the line, and the next turn is that of the link after it; it is the control
-/// frame that has waited longest; else, in state 7 while the terminal is not busy and fewer than k are outstanding, an
-/// I-frame with N(R) = V(R), which carries contents number V(S) of those that were accepted for the link since its
-/// numbers began, and V(S) counts it; else the acknowledgement that is owed (clauses 3.5.2.2, 5.2.2, 5.6.1, 5.6.3.1 and
-/// 5.6.5).
-pub fn takes_serve()
-    ensures { TakesServe }
-{}
+ghost use Rattle.laws_line.specs.card.Laws.{OneEvent, OthersAreLeft, CausesTold};
 
 /// In every moment one part of one line has one event, and all else is as it was. A frame for a link of a TEI on the
 /// line, also one that the grammar does not have, or that is too long, the expiry of a timer of it, or a request of
@@ -24,8 +12,7 @@ pub fn takes_serve()
 /// TEI management notes, and what the links of a TEI that leaves tell as they end. Unit data whose request was
 /// granted waits, whole, behind what waits. Where the line is down, no unit data, no message of TEI management and
 /// no check are left, and all that is told is that T201 stops. A call for the next frame leaves its line, and
-/// answers, as the machine of the line does; so what [`takes_serve`] says of that machine's next call is said of
-/// each call of the run. Whatever else comes changes nothing, and nothing is told (clauses 2.2 to 2.7, 3.6.1, 5.2.2,
+/// answers, as the machine of the line does. Whatever else comes changes nothing, and nothing is told (clauses 2.2 to 2.7, 3.6.1, 5.2.2,
 /// 5.3, 5.8.5, annex B and the profile).
 pub fn one_event()
     ensures { OneEvent }

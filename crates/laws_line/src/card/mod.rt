@@ -2,26 +2,21 @@
 //! comes of what was heard.
 //!
 //! The machine itself, and the laws that say what a card never does, stand in `model_card`; the laws of a line beside
-//! this module, and those of a link in `laws_link`. `specs/card` has the contents of the links from moment to moment
-//! (`Contents`), what holds in a moment (`OneEvent`), what holds of a list of events (`Promises`), and in brief,
+//! this module, and those of a link in `laws_link`. `specs/card` has what holds in a moment (`OneEvent`), what holds of a list of events (`Promises`), and in brief,
 //! beside what the laws of the trace of a line say (`Brief`), which timers a caller runs (`Timers`), what calls for
 //! the next frame of a line come to (`Among`, `PromisesOfTakes`, of octets `WaitingIsHeard`), that a line goes down
-//! (`GoesDown`), what notes tell (`Knowledge`), the laws, which say of which cards and lists (`Laws`, `Machine`), and
+//! (`GoesDown`), the laws, which say of which cards and lists (`Laws`, `Machine`), and
 //! worked values of the laws and of the machine, also some that break them (`Worked*`). Each law is the contract of a
 //! call that does nothing.
 //! `laws_promises` has what is promised of a list of events in one record, `Promises`: a law here names the fields
 //! that it proves, and their comments say it in words.
 //!
-//! - `machine`, `laws`, `timers`, `notes`, `progress`: the laws.
+//! - `machine`, `laws`, `progress`: the laws.
 
 mod laws;
 mod machine;
-mod notes;
 mod progress;
-mod timers;
 
-pub use laws::{causes_are_told, lines_go_down, one_event, others_stay, takes_serve};
+pub use laws::{causes_are_told, lines_go_down, one_event, others_stay};
 pub use machine::cards_are_reached;
-pub use notes::notes_tell;
 pub use progress::{takes_serve_wherever, waiting_is_heard};
-pub use timers::timers_follow;

@@ -1,6 +1,6 @@
 -- Two ends in state 7 with frames on both ways, none of which is lost: each turn lowers their weight, and in the end all has
 -- arrived.
-use Rattle.laws_link.proofs.Vocabulary.{◌≡◌, ℕ, suc, ◌+◌, ◌≤◌, Bool, true, false, ◌==◌, List, [], ◌∷◌, ◌++◌, length, take, drop, Some, refl, sym, ap, subst, ◌∙◌, ◌⊎◌, inl, inr, append-nil, eq-eqb, true≢false, arith, All, if◌then◌else◌, nat_lt, slice_get, unwrap_or, ltb-true, le-ltb, and_parts, seq, named, Parts, Terms, Link, frame, received, IsInRange, IsSound, End, with_link, with_sent, with_first_of, sound-after, HasNothingToSend, load_of, load, weight_at, State, may_send_information}
+use Rattle.laws_link.proofs.Vocabulary.{◌≡◌, ℕ, suc, ◌+◌, ◌≤◌, Bool, true, false, ◌==◌, List, [], ◌∷◌, ◌++◌, length, take, drop, Some, refl, sym, ap, subst, ◌∙◌, ◌⊎◌, inl, inr, append-nil, eq-eqb, true≢false, arith, All, if◌then◌else◌, nat_lt, slice_get, unwrap_or, ltb-true, le-ltb, and_parts, seq, named, Parts, Terms, Link, frame, received, IsInRange, IsSound, Endpoint, with_link, with_sent, with_first_of, sound-after, HasNothingToSend, load_of, load, weight_at, State, may_send_information}
 use Rattle.laws_link.proofs.OfTwo.Plain.{plain, plain_end, with_information, with_acknowledgement, information_frame, acknowledgement_frame, gives-information, gives-acknowledgement}
 use Rattle.laws_link.proofs.OfTwo.Halves.{named-number, fits-at, take-one}
 use Rattle.laws_link.proofs.OfTwo.BusyMoves.{takes-one, takes-note, acked, noted}
@@ -64,7 +64,7 @@ lighter-n : (u w w' p : ℕ) → w' ≡ w + 1 → p ≡ 2 → (u + w' + 0) + 1 �
 lighter-n u w w' p more two = omega (arith, more, two)
 
 -- An end in state 7 with neither side busy and no control frame waiting; and one direction.
-pub record Steady (n : End) : Type 0 where
+pub record Steady (n : Endpoint) : Type 0 where
   pub ranges : IsInRange n.terms
   pub sound : IsSound n.terms n.link
   pub state : n.link.state ≡ State.Established
@@ -72,30 +72,30 @@ pub record Steady (n : End) : Type 0 where
   pub own_busy : n.link.own_busy ≡ false
   pub waiting : n.link.waiting ≡ []
 
-pub record Direction (n m : End) : Type 0 where
+pub record Direction (n m : Endpoint) : Type 0 where
   pub lane : Lane n.terms n.link.contents m.link.r n.link.s m.link.a n.link.r n.link.pending n.way
   pub delivered : m.delivered ≡ take m.link.r n.link.contents
   pub sizes : All (λ octets. length octets ≤ m.terms.n201) n.link.contents
 
-abbrev with_way : List Parts → End → End
+abbrev with_way : List Parts → Endpoint → Endpoint
 with_way fs y = record y { way = fs }
 
-pub is-steady : (n : End) → Steady n → record n { way = [] } ≡ plain_end n
+pub is-steady : (n : Endpoint) → Steady n → record n { way = [] } ≡ plain_end n
 is-steady n h = grind arith
 
 -- what an end gives is put behind what is on its way
-sends-form : (n x : End) → Steady n → with_sent (plain_end n) ≡ x → with_sent n ≡ record n { link = x.link; way = n.way ++ x.way }
+sends-form : (n x : Endpoint) → Steady n → with_sent (plain_end n) ≡ x → with_sent n ≡ record n { link = x.link; way = n.way ++ x.way }
 sends-form n x h e = ap (λ y. record n { link = y.link; way = n.way ++ y.way }) (ap with_sent (is-steady n h) ∙ e)
 
 -- An end gives a frame.
-pub record Gave (n m n' : End) : Type 0 where
+pub record Gave (n m n' : Endpoint) : Type 0 where
   pub steady : Steady n'
   pub there : Direction n' m
   pub back : Direction m n'
   pub lighter : weight_at n' + 1 ≤ weight_at n
   pub kept : n'.link.contents ≡ n.link.contents
 
-module _ (n m : End) (hn : Steady n) (there : Direction n m) (back : Direction m n) where
+module _ (n m : Endpoint) (hn : Steady n) (there : Direction n m) (back : Direction m n) where
   gives-by : (may owed : Bool) → may_send_information n.terms (plain n.link) ≡ may → n.link.pending ≡ owed → (HasNothingToSend n.terms n.link → ⊥) → Gave n m (with_sent n)
   gives-by true owed e p some = grind (arith, and_parts, nat_lt, ltb-true, with_information, information_frame, sends-form, gives-information, load-push, sound-after, lane-information)
   gives-by false true e p some = grind (arith, with_acknowledgement, acknowledgement_frame, sends-form, gives-acknowledgement, load-push, sound-after, lane-note, lighter-n)
@@ -105,7 +105,7 @@ module _ (n m : End) (hn : Steady n) (there : Direction n m) (back : Direction m
   gives = gives-by (may_send_information n.terms (plain n.link)) n.link.pending refl refl
 
 -- An end, m, receives the first frame of the other's way.
-pub record Took (n m n' m' : End) : Type 0 where
+pub record Took (n m n' m' : Endpoint) : Type 0 where
   pub giver : Steady n'
   pub taker : Steady m'
   pub there : Direction n' m'
@@ -114,8 +114,8 @@ pub record Took (n m n' m' : End) : Type 0 where
   pub kept_n : n'.link.contents ≡ n.link.contents
   pub kept_m : m'.link.contents ≡ m.link.contents
 
-module _ (n m : End) (hn : Steady n) (hm : Steady m) (there : Direction n m) (back : Direction m n) where
-  abbrev left : List Parts → End
+module _ (n m : Endpoint) (hn : Steady n) (hm : Steady m) (there : Direction n m) (back : Direction m n) where
+  abbrev left : List Parts → Endpoint
   left fs = record n { way = fs }
 
   high : n.link.r ≤ m.link.s
@@ -134,7 +134,7 @@ module _ (n m : End) (hn : Steady n) (hm : Steady m) (there : Direction n m) (ba
       let fits = le-ltb m.terms.n201 (length octets) (fits-at m.terms.n201 l.contents l.s (subst (λ cs. All (λ octets. length octets ≤ m.terms.n201) cs) (sym here.contents) there.sizes)) in
       let next : ((seq l.s).value == (seq m.link.r).value) ≡ true = eq-eqb (seq l.s).value (seq m.link.r).value (ap (λ i. (seq i).value) here.number) in
       let running = (acked m false n.terms l v fits named-v low).running in
-      let m' : End = record m { link = record (plain m.link) { r = m.link.r + 1; rejecting = false; pending = true; a = v; running = running }; delivered = m.delivered ++ octets ∷ [] } in
+      let m' : Endpoint = record m { link = record (plain m.link) { r = m.link.r + 1; rejecting = false; pending = true; a = v; running = running }; delivered = m.delivered ++ octets ∷ [] } in
       let form : with_link (received (frame f)) m ≡ m' =
       ap (λ g. with_link (received (frame g)) m) here.is
       ∙ ap (with_way m.way) (ap (with_link (received (frame (information_frame n.terms l)))) (is-steady m hm) ∙ takes-one m false n.terms l v fits named-v low next) in
@@ -151,7 +151,7 @@ module _ (n m : End) (hn : Steady n) (hm : Steady m) (there : Direction n m) (ba
       let up : v ≤ n.link.r = lane-low n.terms n.link.contents m.link.r n.link.s v n.link.r n.link.pending fs rest in
       let named-v : named m.link.a m.link.s (seq l.r) ≡ Some v = subst (λ w. named m.link.a m.link.s (seq w) ≡ Some v) (sym here.means) (names v low up) in
       let running = (noted m false n.terms l v named-v low).running in
-      let m' : End = record m { link = record (plain m.link) { a = v; running = running }; delivered = m.delivered ++ [] } in
+      let m' : Endpoint = record m { link = record (plain m.link) { a = v; running = running }; delivered = m.delivered ++ [] } in
       let form : with_link (received (frame f)) m ≡ m' =
       ap (λ g. with_link (received (frame g)) m) here.is
       ∙ ap (with_way m.way) (ap (with_link (received (frame (acknowledgement_frame n.terms l)))) (is-steady m hm) ∙ takes-note m false n.terms l v named-v low) in

@@ -1,34 +1,34 @@
 -- The premises of the law on turns in any order are met: by the worked run in which both ways are busy at once, and after which
 -- no turn is left.
-use Rattle.laws_link.proofs.Vocabulary.{◌≡◌, ℕ, Bool, true, false, ◌&&◌, List, [], ◌∷◌, length, refl, sym, ap, ◌∙◌, true≢false, arith, ◌||◌, nat_le, and_parts, leb-true, seq, distance_of, named, supervisory_of, unnumbered_of, control_of, header_of, reading, Event, Data, requested, after_all, End, Ends, Act, sends, receives, Doing, at_near, at_far, doing, doing_all, sound-all, usual_terms, up, IsReady, IsTaken, asked, IsTurnOf, IsTurn, AreTurns, IsStill, settling, settled, may_send_information}
+use Rattle.laws_link.proofs.Vocabulary.{◌≡◌, ℕ, Bool, true, false, ◌&&◌, List, [], ◌∷◌, length, refl, sym, ap, ◌∙◌, true≢false, arith, ◌||◌, nat_le, and_parts, leb-true, seq, distance_of, named, supervisory_of, unnumbered_of, control_of, header_of, reading, Event, Data, requested, after_all, Endpoint, Ends, EndStep, sends, receives, StepAt, at_near, at_far, doing, doing_all, sound-all, usual_terms, up, IsReady, IsTaken, asked, IsTurnOf, IsTurn, AreTurns, IsStill, settling, settled, may_send_information}
 use Rattle.laws_link.proofs.OfTwo.Premises.{begins}
 
 -- a test of turns
-unfoldable pub is_turn_of : Act → End → End → Bool
+unfoldable pub is_turn_of : EndStep → Endpoint → Endpoint → Bool
 is_turn_of sends n m = may_send_information n.terms n.link || n.link.pending
 is_turn_of receives n m = nat_le 1 (length m.way)
 is_turn_of other n m = false
 
-unfoldable pub is_turn : Doing → Ends → Bool
+unfoldable pub is_turn : StepAt → Ends → Bool
 is_turn (at_near act) e = is_turn_of act e.near e.far
 is_turn (at_far act) e = is_turn_of act e.far e.near
 
-unfoldable pub are_turns : List Doing → Ends → Bool
+unfoldable pub are_turns : List StepAt → Ends → Bool
 are_turns [] e = true
 are_turns (d ∷ ds) e = is_turn d e && are_turns ds (doing d e)
 
-by-act : (act : Act) (n m : End) → is_turn_of act n m ≡ true → IsTurnOf act n m
+by-act : (act : EndStep) (n m : Endpoint) → is_turn_of act n m ≡ true → IsTurnOf act n m
 unfolding is_turn_of
 by-act sends n m e = λ none. true≢false (sym e ∙ ap (λ b. b || n.link.pending) none.information ∙ none.pending)
 by-act receives n m e = leb-true 1 (length m.way) e
 by-act other n m e = true≢false (sym e)
 
-by-doing : (d : Doing) (e : Ends) → is_turn d e ≡ true → IsTurn d e
+by-doing : (d : StepAt) (e : Ends) → is_turn d e ≡ true → IsTurn d e
 unfolding is_turn
 by-doing (at_near act) e h = by-act act e.near e.far h
 by-doing (at_far act) e h = by-act act e.far e.near h
 
-by-test : (ds : List Doing) (e : Ends) → are_turns ds e ≡ true → AreTurns ds e
+by-test : (ds : List StepAt) (e : Ends) → are_turns ds e ≡ true → AreTurns ds e
 unfolding AreTurns are_turns
 by-test [] e h = tt
 by-test (d ∷ ds) e h =

@@ -1,10 +1,10 @@
 -- Half a round after another, until all contents have arrived.
-use Rattle.laws_link.proofs.Vocabulary.{◌≡◌, ℕ, zero, suc, ◌+◌, ◌≤◌, false, List, length, sym, subst, ◌∙◌, ◌⊎◌, inl, inr, arith, nat_lt, lt-ltb, le-ltb, ltb-false, and_right, take-length, End, Ends, IsReady, IsTaken, HasUnsent, HasArrived, rounds, may_send_information}
+use Rattle.laws_link.proofs.Vocabulary.{◌≡◌, ℕ, zero, suc, ◌+◌, ◌≤◌, false, List, length, sym, subst, ◌∙◌, ◌⊎◌, inl, inr, arith, nat_lt, lt-ltb, le-ltb, ltb-false, and_right, take-length, Endpoint, Ends, IsReady, IsTaken, HasUnsent, HasArrived, rounds, may_send_information}
 use Rattle.laws_link.proofs.OfTwo.Plain.{plain}
 use Rattle.laws_link.proofs.OfTwo.Halves.{One, Nothing, giver_of, taker_of, moves, ready-giver, ready-taker, takes, taken}
 
 -- The first end has just moved, and it is the other's turn.
-pub record Turn (v w : ℕ) (cn cm : List (List ℕ)) (n m : End) : Type 0 where
+pub record Turn (v w : ℕ) (cn cm : List (List ℕ)) (n m : Endpoint) : Type 0 where
   pub giver : IsReady n
   pub taker : IsReady m
   pub there : IsTaken n m
@@ -17,28 +17,28 @@ pub record Turn (v w : ℕ) (cn cm : List (List ℕ)) (n m : End) : Type 0 where
   pub left_n : length n.link.contents ≤ n.link.s + w
 
 -- With the window open an end that may send no I-frame has nothing unsent.
-pub nothing-unsent : (n : End) → IsReady n → n.link.a ≡ n.link.s → may_send_information n.terms (plain n.link) ≡ false → length n.link.contents ≤ n.link.s
+pub nothing-unsent : (n : Endpoint) → IsReady n → n.link.a ≡ n.link.s → may_send_information n.terms (plain n.link) ≡ false → length n.link.contents ≤ n.link.s
 nothing-unsent n h open_ may = grind (arith, lt-ltb, ltb-false)
 
 -- no more is left to an end that has moved
-pub no-more : (u : ℕ) (n m n' m' : End) → length n.link.contents ≤ n.link.s + u → n'.link.contents ≡ n.link.contents
+pub no-more : (u : ℕ) (n m n' m' : Endpoint) → length n.link.contents ≤ n.link.s + u → n'.link.contents ≡ n.link.contents
     → One n m n' m' ⊎ Nothing n m n' m' → length n'.link.contents ≤ n'.link.s + u
 no-more u n m n' m' left kept o = grind arith
 
 -- the first move
-pub first-turn : (u : ℕ) (n m : End) → IsReady n → IsReady m → IsTaken n m → IsTaken m n → HasUnsent u n → HasUnsent u m
+pub first-turn : (u : ℕ) (n m : Endpoint) → IsReady n → IsReady m → IsTaken n m → IsTaken m n → HasUnsent u n → HasUnsent u m
     → Turn u u n.link.contents m.link.contents (giver_of n) (taker_of n m)
 first-turn u n m hn hm there back un um =
     let x = moves n m hn hm there back in
     grind (arith, ready-giver, ready-taker, takes, taken, taker_of, no-more, giver_of)
 
 -- the next
-pub next-turn : (v w : ℕ) (cn cm : List (List ℕ)) (n m : End) → Turn (suc v) w cn cm n m → Turn w v cm cn (giver_of m) (taker_of m n)
+pub next-turn : (v w : ℕ) (cn cm : List (List ℕ)) (n m : Endpoint) → Turn (suc v) w cn cm n m → Turn w v cm cn (giver_of m) (taker_of m n)
 next-turn v w cn cm n m h = grind (arith, moves, ready-giver, ready-taker, takes, taken, taker_of, nothing-unsent, giver_of)
 
 -- the last: neither has anything unsent
-module _ (cn cm : List (List ℕ)) (n m : End) (h : Turn 0 0 cn cm n m) where
-  arrived-end : (x y : End) (contents : List (List ℕ)) → IsReady x → IsTaken x y → x.link.contents ≡ contents → x.link.a ≡ x.link.s → length contents ≤ x.link.s
+module _ (cn cm : List (List ℕ)) (n m : Endpoint) (h : Turn 0 0 cn cm n m) where
+  arrived-end : (x y : Endpoint) (contents : List (List ℕ)) → IsReady x → IsTaken x y → x.link.contents ≡ contents → x.link.a ≡ x.link.s → length contents ≤ x.link.s
       → x.link.pending ≡ false → HasArrived contents x y
   arrived-end x y contents r taken kept acknowledged all quiet =
       let most : x.link.s ≤ length contents = subst (λ cs. x.link.s ≤ length cs) kept r.sound.accepted in

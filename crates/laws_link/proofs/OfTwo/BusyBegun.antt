@@ -1,5 +1,5 @@
 -- Own busy begins at one of two ends that are ready: RNR goes to the other, and then what the busy end gives arrives.
-use Rattle.laws_link.proofs.Vocabulary.{◌≡◌, ℕ, suc, ◌+◌, ◌-◌, ◌<◌, ◌≤◌, Bool, true, false, cond, List, [], ◌∷◌, ◌++◌, length, take, Option, Some, refl, sym, ap, subst, ◌∙◌, append-nil, arith, nat_lt, slice_get, unwrap_or, lt-ltb, le-ltb, ltb-true, and_parts, seq, named, LinkTimer, T200, ControlFrame, Terms, Link, frame, received, requested, SetBusy, Course, begun, End, Ends, with_link, with_first_of, with_first_lost, sound-after, IsReady, IsTaken, HasUnsent, rounds, GetsThrough, with_near_busy, with_far_busy, ErrorCode, State, by_number, failed, acknowledged_by_information_in_7, may_send_information}
+use Rattle.laws_link.proofs.Vocabulary.{◌≡◌, ℕ, suc, ◌+◌, ◌-◌, ◌<◌, ◌≤◌, Bool, true, false, cond, List, [], ◌∷◌, ◌++◌, length, take, Option, Some, refl, sym, ap, subst, ◌∙◌, append-nil, arith, nat_lt, slice_get, unwrap_or, lt-ltb, le-ltb, ltb-true, and_parts, seq, named, LinkTimer, T200, ControlFrame, Terms, Link, frame, received, requested, SetBusy, Course, begun, Endpoint, Ends, with_link, with_first_of, without_first, sound-after, IsReady, IsTaken, HasUnsent, rounds, GetsThrough, with_near_busy, with_far_busy, ErrorCode, State, by_number, failed, acknowledged_by_information_in_7, may_send_information}
 use Rattle.laws_link.proofs.OfTwo.Plain.{plain, plain_end, is_plain, with_information, information_frame, acknowledgement_frame, gives-information, gives-acknowledgement, gives-nothing}
 use Rattle.laws_link.proofs.OfTwo.Halves.{named-number, fits-at}
 use Rattle.laws_link.proofs.OfTwo.Arriving.{near_moves, far_moves}
@@ -11,11 +11,11 @@ use Rattle.laws_link.proofs.OfTwo.BusyShapes.{busy_report, learns-7}
 use Rattle.laws_link.proofs.OfTwo.BusyRounds.{Paired, Done, first-open, from-near, from-far, gets-through}
 
 -- what the other's I-frame, or acknowledgement, is to a busy end in state 7 whose report waits
-record Heeds (n : End) (ws : List ControlFrame) (x s : ℕ) (p : Bool) (ds : List (List ℕ)) (n' : End) : Type 0 where
+record Heeds (n : Endpoint) (ws : List ControlFrame) (x s : ℕ) (p : Bool) (ds : List (List ℕ)) (n' : Endpoint) : Type 0 where
   running : Option LinkTimer
   is : n' ≡ in_7_with true false n ws x s p running ds
 
-module _ (n : End) (ws : List ControlFrame) (a s : ℕ) (p : Bool) (running : Option LinkTimer) (ds : List (List ℕ)) (t : Terms) (l : Link) (x : ℕ)
+module _ (n : Endpoint) (ws : List ControlFrame) (a s : ℕ) (p : Bool) (running : Option LinkTimer) (ds : List (List ℕ)) (t : Terms) (l : Link) (x : ℕ)
     (names : named a s (seq l.r) ≡ Some x) (low : a ≤ x) where
   abbrev here : Course
   here = begun (in_7_with true false n ws a s p running ds).link
@@ -33,11 +33,11 @@ module _ (n : End) (ws : List ControlFrame) (a s : ℕ) (p : Bool) (running : Op
   notes = ended _ (by-rr n.terms (seq l.r) x here names low)
 
 -- own busy begins
-abbrev reporting : End → End
+abbrev reporting : Endpoint → Endpoint
 reporting n = in_7_with true false n (busy_report n.link.r ∷ []) n.link.a n.link.s false n.link.running n.delivered
 
-module _ (n : End) (h : IsReady n) where
-  abbrev told : Bool → End
+module _ (n : Endpoint) (h : IsReady n) where
+  abbrev told : Bool → Endpoint
   told b =
       record n {
         link = record n.link { state = State.Established; own_busy = true; peer_busy = false; pending = false; waiting = cond b (busy_report n.link.r ∷ []) [] };
@@ -51,7 +51,7 @@ one-passed P u e h =
     subst (λ i. P (rounds i e)) count (subst P (sym (after-round (u + 1) e)) h)
 
 -- the busy end n and the other, m
-module _ (u : ℕ) (n m : End) (hn : IsReady n) (hm : IsReady m) (there : IsTaken n m) (back : IsTaken m n) (un : HasUnsent u n) where
+module _ (u : ℕ) (n m : Endpoint) (hn : IsReady n) (hm : IsReady m) (there : IsTaken n m) (back : IsTaken m n) (un : HasUnsent u n) where
   names-r : (s' : ℕ) → m.link.s ≤ s' → s' ≤ m.link.a + 127 → named m.link.a s' (seq n.link.r) ≡ Some n.link.r
   names-r s' up within = grind (arith, named-number)
 
@@ -113,8 +113,8 @@ module _ (u : ℕ) (n m : End) (hn : IsReady n) (hm : IsReady m) (there : IsTake
         (from-far u true n.link.r n.delivered n.link.contents m.link.contents (record { near = e2.far; far = e2.near })
         (pair a s' p running up owed (record { near_ranges = s.far_ranges; far_ranges = s.near_ranges; near = s.far; far = s.near })) un)
 
-    abbrev giving : End → Ends
-    giving x = record { near = with_first_lost x; far = with_first_of x.way (reporting n) }
+    abbrev giving : Endpoint → Ends
+    giving x = record { near = without_first x; far = with_first_of x.way (reporting n) }
 
     plain-first : near_moves far_first ≡ near_moves (record { near = plain_end m; far = reporting n })
     plain-first = ap (λ x. near_moves (record { near = x; far = reporting n })) (is_plain m hm)
@@ -153,7 +153,7 @@ module _ (u : ℕ) (n m : End) (hn : IsReady n) (hm : IsReady m) (there : IsTake
         (by-flags (may_send_information m.terms (plain m.link)) m.link.pending refl refl h)
 
 -- So it is from the request on.
-abbrev pub Begun : End → End → End → End → Type 0
+abbrev pub Begun : Endpoint → Endpoint → Endpoint → Endpoint → Type 0
 Begun n m n' m' = GetsThrough n m n' m' × (m'.link.peer_busy ≡ true)
 
 module _ (u : ℕ) (e : Ends) where

@@ -1,6 +1,6 @@
 -- The premises of the laws on an end that is busy itself are met: by a link where own busy has begun, and by the worked run in
 -- which RNR and all frames are lost.
-use Rattle.laws_link.proofs.Vocabulary.{ℕ, true, false, List, [], ◌∷◌, length, refl, arith, ltb-true, leb-true, seq, distance_of, named, supervisory_of, unnumbered_of, control_of, header_of, reading, Information, ReceiveNotReady, Parts, frame_of, command, response, Data, SetBusy, frame, Event, received, requested, offer, after_all, Ends, asks, sends, receives, Doing, at_near, at_far, doing_all, StayUp, sound-all, usual_terms, up, both, StayAhead, IsTaken, HasUnsent, IsSilent, IsSilentWith, HasMissing, IsBusyItself, IsOpenItself, IsDropped, busy_losing, busy_cut_off, near_dropped, far_dropped}
+use Rattle.laws_link.proofs.Vocabulary.{ℕ, true, false, List, [], ◌∷◌, length, refl, arith, ltb-true, leb-true, seq, distance_of, named, supervisory_of, unnumbered_of, control_of, header_of, reading, Information, ReceiveNotReady, Parts, frame_of, command, response, Data, SetBusy, frame, Event, received, requested, offer, after_all, Ends, requests, sends, receives, StepAt, at_near, at_far, doing_all, StayUp, sound-all, usual_terms, up, both, StayAhead, IsTaken, HasUnsent, CanRecoverFrom, CanRecoverFromWith, HasMissing, IsBusyItself, IsUpAndIdle, IsDropped, busy_losing, busy_cut_off, near_dropped, far_dropped}
 use Rattle.laws_link.proofs.OfTwo.Premises.{begins}
 use Rattle.laws_link.proofs.OfTwo.PremisesMet.{by-test, stay_ahead, mild, mild_act, mild_request}
 use Rattle.laws_link.proofs.OfTwo.Together.{all-stay_up}
@@ -13,7 +13,7 @@ busy-losing-ahead = by-test busy_losing both refl
 pub busy-losing-up : StayUp busy_losing both
 busy-losing-up = all-stay_up busy_losing both begins begins refl busy-losing-ahead
 
-pub near-silent : IsSilentWith true busy_cut_off.near busy_cut_off.far
+pub near-silent : CanRecoverFromWith true busy_cut_off.near busy_cut_off.far
 unfolding seq distance_of named reading header_of control_of unnumbered_of supervisory_of after_all doing_all
 near-silent =
     record {
@@ -24,7 +24,7 @@ near-silent =
       high = leb-true busy_cut_off.far.link.r busy_cut_off.near.link.s refl;
     }
 
-pub far-silent : IsSilent busy_cut_off.far busy_cut_off.near
+pub far-silent : CanRecoverFrom busy_cut_off.far busy_cut_off.near
 unfolding seq distance_of named reading header_of control_of unnumbered_of supervisory_of after_all doing_all
 far-silent =
     record {
@@ -40,8 +40,8 @@ unfolding seq distance_of named reading header_of control_of unnumbered_of super
 near-missing = leb-true (length busy_cut_off.near.link.contents) 3 refl
 
 -- own busy has begun, and the other has heard of it
-abbrev begun : List Doing
-begun = at_near (asks SetBusy false) ∷ at_near sends ∷ at_far receives ∷ []
+abbrev begun : List StepAt
+begun = at_near (requests SetBusy false) ∷ at_near sends ∷ at_far receives ∷ []
 
 abbrev busy_now : Ends
 busy_now = doing_all begun both
@@ -50,7 +50,7 @@ pub is-busy : IsBusyItself busy_now.near
 unfolding seq distance_of named reading header_of control_of unnumbered_of supervisory_of after_all doing_all
 is-busy = search (begins.ranges, sound-all usual_terms begins.ranges (requested SetBusy false ∷ offer ∷ []) up begins.sound)
 
-pub is-open : IsOpenItself busy_now.far
+pub is-open : IsUpAndIdle busy_now.far
 unfolding seq distance_of named reading header_of control_of unnumbered_of supervisory_of after_all doing_all
 is-open = search (begins.ranges, sound-all usual_terms begins.ranges (received (frame (frame_of usual_terms (response (ReceiveNotReady (seq 0) false)))) ∷ []) up begins.sound)
 
@@ -80,7 +80,7 @@ pub near-busy : IsBusyItself near_dropped.near
 unfolding seq distance_of named reading header_of control_of unnumbered_of supervisory_of after_all doing_all
 near-busy = search (begins.ranges, sound-all usual_terms begins.ranges (dropping 4 1) up begins.sound)
 
-pub far-open : IsOpenItself near_dropped.far
+pub far-open : IsUpAndIdle near_dropped.far
 unfolding seq distance_of named reading header_of control_of unnumbered_of supervisory_of after_all doing_all
 far-open = search (begins.ranges, sound-all usual_terms begins.ranges (asks_for 4 ∷ offer ∷ []) up begins.sound)
 
@@ -100,7 +100,7 @@ pub far-busy : IsBusyItself far_dropped.far
 unfolding seq distance_of named reading header_of control_of unnumbered_of supervisory_of after_all doing_all
 far-busy = search (begins.ranges, sound-all usual_terms begins.ranges (dropping 1 4) up begins.sound)
 
-pub near-open : IsOpenItself far_dropped.near
+pub near-open : IsUpAndIdle far_dropped.near
 unfolding seq distance_of named reading header_of control_of unnumbered_of supervisory_of after_all doing_all
 near-open = search (begins.ranges, sound-all usual_terms begins.ranges (asks_for 1 ∷ offer ∷ []) up begins.sound)
 

@@ -1,29 +1,29 @@
 -- An end that is busy itself, and the other, in state 7: one gives its next frame, and the other receives it.
-use Rattle.laws_link.proofs.Vocabulary.{◌≡◌, ℕ, ◌+◌, ◌≤◌, Bool, true, false, ◌==◌, List, [], ◌∷◌, ◌++◌, length, Some, refl, ap, ◌∙◌, ◌⊎◌, append-nil, eq-eqb, arith, nat_lt, slice_get, unwrap_or, option_to_list, ltb-true, le-ltb, seq, named, Terms, Link, frame, received, Course, begun, End, with_link, with_sent, IsTaken, IsBusyItself, IsOpenItself, IsDropped, State, by_number, acknowledged_by_information_in_7, acknowledged_in_7, may_send_information}
+use Rattle.laws_link.proofs.Vocabulary.{◌≡◌, ℕ, ◌+◌, ◌≤◌, Bool, true, false, ◌==◌, List, [], ◌∷◌, ◌++◌, length, Some, refl, ap, ◌∙◌, ◌⊎◌, append-nil, eq-eqb, arith, nat_lt, slice_get, unwrap_or, option_to_list, ltb-true, le-ltb, seq, named, Terms, Link, frame, received, Course, begun, Endpoint, with_link, with_sent, IsTaken, IsBusyItself, IsUpAndIdle, IsDropped, State, by_number, acknowledged_by_information_in_7, acknowledged_in_7, may_send_information}
 use Rattle.model_link.specs.MultipleFrame
 use Rattle.laws_link.proofs.OfTwo.Plain.{plain, plain_with, plain_end_with, with_information_with, with_acknowledgement_with, information_frame, acknowledgement_frame, gives-information, gives-acknowledgement, gives-nothing}
 use Rattle.laws_link.proofs.OfTwo.Halves.{named-number, fits-at, One, Nothing, giver_of, taker_of}
 use Rattle.laws_link.proofs.OfTwo.Acknowledging.{Acknowledges, by-rr, by-information}
 
 -- What becomes of the end that gives and of the one that receives: of numbers and contents that stay,
-pub record Same (n n' : End) : Type 0 where
+pub record Same (n n' : Endpoint) : Type 0 where
   pub terms : n'.terms ≡ n.terms
   pub contents : n'.link.contents ≡ n.link.contents
 
 -- and of the flags.
-pub record Flags (own busy : Bool) (n : End) : Type 0 where
+pub record Flags (own busy : Bool) (n : Endpoint) : Type 0 where
   pub state : n.link.state ≡ State.Established
   pub own_busy : n.link.own_busy ≡ own
   pub peer_busy : n.link.peer_busy ≡ busy
   pub waiting : n.link.waiting ≡ []
   pub way : n.way ≡ []
 
-flags : (own busy : Bool) (n : End) → Flags own busy n → n ≡ plain_end_with own busy n
+flags : (own busy : Bool) (n : Endpoint) → Flags own busy n → n ≡ plain_end_with own busy n
 flags own busy n h = grind arith
 
 -- an I-frame at the open end, and at the busy end, and an acknowledgement there
-module _ (m : End) where
-  abbrev having : Course → End
+module _ (m : Endpoint) where
+  abbrev having : Course → Endpoint
   having c = record m { link = c.link; way = []; delivered = m.delivered ++ option_to_list c.delivered }
 
   module _ (busy : Bool) (t : Terms) (l : Link) (x : ℕ) (fits : nat_lt m.terms.n201 (length (unwrap_or (slice_get l.contents l.s) [])) ≡ false)
@@ -72,7 +72,7 @@ module _ (m : End) where
     takes-note = ap having noted.is
 
 -- The busy end's turn.
-pub record BusyMoved (n m n' m' : End) : Type 0 where
+pub record BusyMoved (n m n' m' : Endpoint) : Type 0 where
   pub giver : Same n n'
   pub giver_flags : Flags true false n'
   pub taker : Same m m'
@@ -85,7 +85,7 @@ pub record BusyMoved (n m n' m' : End) : Type 0 where
   pub moved : One n m n' m' ⊎ Nothing n m n' m'
 
 -- The other end's.
-pub record OpenMoved (n m n' m' : End) : Type 0 where
+pub record OpenMoved (n m n' m' : Endpoint) : Type 0 where
   pub giver : Same m m'
   pub giver_flags : Flags false m.link.peer_busy m'
   pub taker : Same n n'
@@ -100,7 +100,7 @@ pub record OpenMoved (n m n' m' : End) : Type 0 where
   pub other_s : m.link.s ≤ m'.link.s
   pub quiet : m'.link.pending ≡ false
 
-module _ (n m : End) (hn : IsBusyItself n) (hm : IsOpenItself m) (there : IsTaken n m) (back : IsDropped n m) where
+module _ (n m : Endpoint) (hn : IsBusyItself n) (hm : IsUpAndIdle m) (there : IsTaken n m) (back : IsDropped n m) where
   quiet : n.link.pending ≡ false
   quiet = hn.sound.owes_nothing hn.own_busy
 

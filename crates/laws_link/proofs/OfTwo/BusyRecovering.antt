@@ -1,6 +1,6 @@
 -- After the loss of all frames, an end that is busy itself and the other, of which each asks or has nothing outstanding:
 -- after a round or two both are in state 7, and what was sent is taken.
-use Rattle.laws_link.proofs.Vocabulary.{◌≡◌, ℕ, suc, ◌+◌, ◌-◌, ◌<◌, ◌≤◌, Bool, true, false, cond, ◌==◌, List, [], ◌∷◌, ◌++◌, length, take, Option, Some, refl, sym, ap, subst, ◌∙◌, eq-eqb, arith, nat_lt, slice_get, unwrap_or, le-ltb, ltb-true, and_parts, seq, named, LinkTimer, T200, T203, IsSound, End, Ends, with_first_of, with_first_lost, HasUnsent, may_send_information}
+use Rattle.laws_link.proofs.Vocabulary.{◌≡◌, ℕ, suc, ◌+◌, ◌-◌, ◌<◌, ◌≤◌, Bool, true, false, cond, ◌==◌, List, [], ◌∷◌, ◌++◌, length, take, Option, Some, refl, sym, ap, subst, ◌∙◌, eq-eqb, arith, nat_lt, slice_get, unwrap_or, le-ltb, ltb-true, and_parts, seq, named, LinkTimer, T200, T203, IsSound, Endpoint, Ends, with_first_of, without_first, HasUnsent, may_send_information}
 use Rattle.laws_link.proofs.OfTwo.Plain.{plain, plain_with, plain_end, plain_end_with, with_information_with, gives-information, gives-acknowledgement, gives-nothing}
 use Rattle.laws_link.proofs.OfTwo.Halves.{named-number, fits-at, take-one}
 use Rattle.laws_link.proofs.OfTwo.Arriving.{near_moves, far_moves}
@@ -10,7 +10,7 @@ use Rattle.laws_link.proofs.OfTwo.BusyShapes.{heeds-8, heeds-7, learns-8, drops-
 use Rattle.laws_link.proofs.OfTwo.BusyRounds.{Paired}
 
 -- The busy end is n.
-module _ (u v : ℕ) (cn cm : List (List ℕ)) (n m : End) (there : Between u cn n m) (back : Between v cm m n) where
+module _ (u v : ℕ) (cn cm : List (List ℕ)) (n m : Endpoint) (there : Between u cn n m) (back : Between v cm m n) where
   abbrev pub PairedNear : Bool → Ends → Type 0
   PairedNear busy e = Paired busy n.link.r n.delivered n.link.contents m.link.contents e.near e.far
 
@@ -26,16 +26,16 @@ module _ (u v : ℕ) (cn cm : List (List ℕ)) (n m : End) (there : Between u cn
 
   -- Both ask: two rounds, whoever begins.
   module _ (bn bm : Bool) where
-    abbrev asking_n : End
+    abbrev asking_n : Endpoint
     asking_n = in_8_with true n (enquiry_with true n.link.r ∷ []) bn n.link.a false n.delivered
 
-    abbrev asking_m : End
+    abbrev asking_m : Endpoint
     asking_m = in_8 m (enquiry m.link.r ∷ []) bm m.link.a false m.delivered
 
-    abbrev answered_n : End
+    abbrev answered_n : Endpoint
     answered_n = in_7_with true false n [] m.link.r m.link.r false (Some T203) n.delivered
 
-    abbrev answered_m : End
+    abbrev answered_m : Endpoint
     answered_m = in_7_with false true m [] n.link.r n.link.r false (Some T200) m.delivered
 
     -- the busy end is near
@@ -176,7 +176,7 @@ module _ (u v : ℕ) (cn cm : List (List ℕ)) (n m : End) (there : Between u cn
     abbrev other_began : Ends
     other_began = record { near = plain_end_with true false n; far = in_8 m (enquiry m.link.r ∷ []) bm m.link.a false m.delivered }
 
-    abbrev with_received : ℕ → Bool → End
+    abbrev with_received : ℕ → Bool → Endpoint
     with_received r q = record m { link = record m.link { r = r; rejecting = q } }
 
     -- what far has made of near's frame, if there was one
@@ -219,7 +219,7 @@ module _ (u v : ℕ) (cn cm : List (List ℕ)) (n m : End) (there : Between u cn
         let running = (with_information_with true false n.link).running in
         let one : suc n.link.s ≡ m.link.r + 1 = omega arith in
         let next : near_moves other_began ≡ heard (m.link.r + 1) n.link.r false bm true running (m.delivered ++ octets ∷ []) =
-        ap (λ x. record { near = with_first_lost x; far = with_first_of x.way (in_8 m (enquiry m.link.r ∷ []) bm m.link.a false m.delivered) }) (gives-information true false n may)
+        ap (λ x. record { near = without_first x; far = with_first_of x.way (in_8 m (enquiry m.link.r ∷ []) bm m.link.a false m.delivered) }) (gives-information true false n may)
         ∙ ap (λ y. record { near = record n { link = with_information_with true false n.link; way = [] }; far = y })
         (informed-8 m (enquiry m.link.r ∷ []) bm m.link.a false m.delivered n.terms n.link n.link.r
         (le-ltb m.terms.n201 (length octets) (fits-at m.terms.n201 n.link.contents n.link.s there.sizes))
@@ -234,7 +234,7 @@ module _ (u v : ℕ) (cn cm : List (List ℕ)) (n m : End) (there : Between u cn
     began-nothing : may_send_information n.terms (plain_with true false n.link) ≡ false → Sounds other_began → BeganReady
     began-nothing may sounds =
         let next : near_moves other_began ≡ heard m.link.r m.link.a m.link.rejecting bm false n.link.running m.delivered =
-        ap (λ x. record { near = with_first_lost x; far = with_first_of x.way (in_8 m (enquiry m.link.r ∷ []) bm m.link.a false m.delivered) }) (gives-nothing true false n may quiet)
+        ap (λ x. record { near = without_first x; far = with_first_of x.way (in_8 m (enquiry m.link.r ∷ []) bm m.link.a false m.delivered) }) (gives-nothing true false n may quiet)
         ∙ ap (λ i. record { near = in_7_with true false n [] n.link.a i false n.link.running n.delivered; far = in_8 m (enquiry m.link.r ∷ []) bm m.link.a false m.delivered }) (grind arith) in
         subst (λ e. NearReady true (near_moves (far_moves e))) (sym next)
         (heard-near m.link.r m.link.a m.link.rejecting bm false n.link.running m.delivered (names-a m n back) there.low (omega arith) there.delivered
@@ -277,8 +277,8 @@ module _ (u v : ℕ) (cn cm : List (List ℕ)) (n m : End) (there : Between u cn
     abbrev NotedReady : Type 0
     NotedReady = FarReady true (near_moves (far_moves (near_moves busy_began)))
 
-    abbrev giving_far : End → Ends
-    giving_far x = record { near = with_first_lost x; far = with_first_of x.way (in_8_with true n (enquiry_with true n.link.r ∷ []) bn n.link.a false n.delivered) }
+    abbrev giving_far : Endpoint → Ends
+    giving_far x = record { near = without_first x; far = with_first_of x.way (in_8_with true n (enquiry_with true n.link.r ∷ []) bn n.link.a false n.delivered) }
 
     noted-information : may_send_information m.terms (plain m.link) ≡ true → Sounds busy_began → NotedReady
     noted-information may sounds =

@@ -1,5 +1,5 @@
 -- After the loss of all frames, what an end that is busy itself gives arrives, from the expiry of T200 on.
-use Rattle.laws_link.proofs.Vocabulary.{◌≡◌, ℕ, suc, ◌+◌, ◌≤◌, Bool, true, false, [], ◌∷◌, length, Some, refl, sym, ap, subst, ◌∙◌, ◌⊎◌, inl, inr, arith, T200, T203, End, Ends, sound-after, rounds, IsCutOff, IsCutOffWith, HasMissing, with_t200_expired, GetsThrough}
+use Rattle.laws_link.proofs.Vocabulary.{◌≡◌, ℕ, suc, ◌+◌, ◌≤◌, Bool, true, false, [], ◌∷◌, length, Some, refl, sym, ap, subst, ◌∙◌, ◌⊎◌, inl, inr, arith, T200, T203, Endpoint, Ends, sound-after, rounds, IsCutOff, IsCutOffWith, HasMissing, with_t200_expired, GetsThrough}
 use Rattle.laws_link.proofs.OfTwo.Plain.{plain_end, plain_end_with}
 use Rattle.laws_link.proofs.OfTwo.Halves.{giver_of, taker_of}
 use Rattle.laws_link.proofs.OfTwo.Arriving.{near_moves, far_moves, no-more}
@@ -12,15 +12,15 @@ use Rattle.laws_link.proofs.OfTwo.BusyRounds.{Done, busy-turn, first-open, from-
 use Rattle.laws_link.proofs.OfTwo.BusyRecovering.{both-near, both-far, busy-near, other-near, none-asks, other-began, busy-began}
 
 -- What comes of the busy end n and the other, m; and whether m takes n for busy then.
-pub record Finished (n m n' m' : End) : Type 0 where
+pub record Finished (n m n' m' : Endpoint) : Type 0 where
   pub busy : Bool
   pub done : Done busy n.link.r n.delivered n.link.contents m.link.contents n' m'
   pub knows : (n.link.running ≡ Some T200) ⊎ (m.link.running ≡ Some T200) → busy ≡ true
 
-pub finished-through : (n m n' m' : End) → Finished n m n' m' → GetsThrough n m n' m'
+pub finished-through : (n m n' m' : Endpoint) → Finished n m n' m' → GetsThrough n m n' m'
 finished-through n m n' m' h = gets-through h.busy n m n' m' h.done
 
-pub knows-after : (n m n' m' : End) → Finished n m n' m' → (n.link.running ≡ Some T200) ⊎ (m.link.running ≡ Some T200) → m'.link.peer_busy ≡ true
+pub knows-after : (n m n' m' : Endpoint) → Finished n m n' m' → (n.link.running ≡ Some T200) ⊎ (m.link.running ≡ Some T200) → m'.link.peer_busy ≡ true
 knows-after n m n' m' h ran = h.done.paired.taken_for ∙ h.knows ran
 
 -- u + 3 rounds, of which two, one or none have passed
@@ -38,14 +38,14 @@ module _ (P : Ends → Type 0) (u : ℕ) (e : Ends) where
   none-passed : P (rounds ((u + 2) + 1) e) → P (rounds (u + 3) e)
   none-passed h = grind arith
 
-no-t200 : (n m : End) (busy : Bool) → n.link.running ≡ Some T203 → m.link.running ≡ Some T203 → (n.link.running ≡ Some T200) ⊎ (m.link.running ≡ Some T200) → busy ≡ true
+no-t200 : (n m : Endpoint) (busy : Bool) → n.link.running ≡ Some T203 → m.link.running ≡ Some T203 → (n.link.running ≡ Some T200) ⊎ (m.link.running ≡ Some T200) → busy ≡ true
 no-t200 n m busy rn rm o = grind arith
 
 sounds : (own own' : Bool) (e : Ends) → IsCutOffWith own e.near e.far → IsCutOffWith own' e.far e.near → Sounds (with_t200_expired e)
 sounds own own' e hn hm = grind (arith, sound-after)
 
 -- the busy end n and the other, m, after T200
-module _ (u : ℕ) (n m : End) (hn : IsCutOffWith true n m) (hm : IsCutOff m n) (un : HasMissing u n m) where
+module _ (u : ℕ) (n m : Endpoint) (hn : IsCutOffWith true n m) (hm : IsCutOff m n) (un : HasMissing u n m) where
   abbrev v : ℕ
   v = length m.link.contents
 
@@ -87,7 +87,7 @@ module _ (u : ℕ) (e : Ends) (hn : IsCutOffWith true e.near e.far) (hm : IsCutO
 
   near-other : (x : Resting true e.near (with_t200_expired e).near) (y : Asking false e.far (with_t200_expired e).far) → NearResult
   near-other x y =
-      let n : End = record e.near { link = record e.near.link { running = x.running; pending = false } } in
+      let n : Endpoint = record e.near { link = record e.near.link { running = x.running; pending = false } } in
       let m = with_count y.count e.far in
       let e0 : Ends = record { near = plain_end_with true false n; far = in_8 m (enquiry m.link.r ∷ []) m.link.peer_busy m.link.a false m.delivered } in
       let is : with_t200_expired e ≡ e0 = λ i. record { near = (x.is ∙ ap (λ p. in_7_with true false e.near [] e.near.link.a e.near.link.s p x.running e.near.delivered) (hn.sound.owes_nothing hn.own_busy)) i; far = y.is i } in
@@ -147,7 +147,7 @@ module _ (u : ℕ) (e : Ends) (hn : IsCutOffWith true e.far e.near) (hm : IsCutO
   far-one : (x : Asking true e.far (with_t200_expired e).far) (y : Resting false e.near (with_t200_expired e).near) → FarResult
   far-one x y =
       let n = with_count x.count e.far in
-      let m : End = record e.near { link = record e.near.link { running = y.running } } in
+      let m : Endpoint = record e.near { link = record e.near.link { running = y.running } } in
       let e0 : Ends = record { near = plain_end m; far = in_8_with true n (enquiry_with true n.link.r ∷ []) n.link.peer_busy n.link.a false n.delivered } in
       let is : with_t200_expired e ≡ e0 = λ i. record { near = y.is i; far = x.is i } in
       let t = there u e.far e.near hn hm un x.count e.near.link.repeats in

@@ -1,14 +1,14 @@
 -- Turn after turn of an end that is busy itself and of the other, until all contents of the busy end have arrived.
-use Rattle.laws_link.proofs.Vocabulary.{◌≡◌, ℕ, zero, suc, ◌+◌, ◌≤◌, Bool, false, List, [], ◌∷◌, ◌++◌, length, take, sym, ap, subst, ◌∙◌, ◌⊎◌, inl, inr, arith, All, nat_lt, slice_get, unwrap_or, lt-ltb, le-ltb, ltb-false, and_right, take-length, offer, End, Ends, sound-after, IsTaken, HasUnsent, HasArrived, rounds, IsBusyItself, IsOpenItself, IsDropped, GetsThrough}
+use Rattle.laws_link.proofs.Vocabulary.{◌≡◌, ℕ, zero, suc, ◌+◌, ◌≤◌, Bool, false, List, [], ◌∷◌, ◌++◌, length, take, sym, ap, subst, ◌∙◌, ◌⊎◌, inl, inr, arith, All, nat_lt, slice_get, unwrap_or, lt-ltb, le-ltb, ltb-false, and_right, take-length, offer, Endpoint, Ends, sound-after, IsTaken, HasUnsent, HasArrived, rounds, IsBusyItself, IsUpAndIdle, IsDropped, GetsThrough}
 use Rattle.laws_link.proofs.OfTwo.Halves.{take-one, One, Nothing, giver_of, taker_of}
 use Rattle.laws_link.proofs.OfTwo.Arriving.{near_moves, far_moves, no-more, one-more}
 use Rattle.laws_link.proofs.OfTwo.BusyMoves.{BusyMoved, busy-moves, open-moves}
 use Rattle.laws_link.proofs.OfTwo.Recovering.{sound-taker}
 
 -- The busy end n and the other, m: what holds of them between two turns, with the busy end's numbers as they were at first.
-pub record Paired (busy : Bool) (r : ℕ) (ds cn cm : List (List ℕ)) (n m : End) : Type 0 where
+pub record Paired (busy : Bool) (r : ℕ) (ds cn cm : List (List ℕ)) (n m : Endpoint) : Type 0 where
   pub itself : IsBusyItself n
-  pub other : IsOpenItself m
+  pub other : IsUpAndIdle m
   pub taken : IsTaken n m
   pub dropped : IsDropped n m
   pub taken_for : m.link.peer_busy ≡ busy
@@ -17,7 +17,7 @@ pub record Paired (busy : Bool) (r : ℕ) (ds cn cm : List (List ℕ)) (n m : En
   pub kept_n : n.link.contents ≡ cn
   pub kept_m : m.link.contents ≡ cm
 
-module _ (busy : Bool) (r : ℕ) (ds cn cm : List (List ℕ)) (n m : End) (h : Paired busy r ds cn cm n m) where
+module _ (busy : Bool) (r : ℕ) (ds cn cm : List (List ℕ)) (n m : Endpoint) (h : Paired busy r ds cn cm n m) where
   by-busy : BusyMoved n m (giver_of n) (taker_of n m)
   by-busy = busy-moves n m h.itself h.other h.taken h.dropped
 
@@ -84,14 +84,14 @@ module _ (busy : Bool) (r : ℕ) (ds cn cm : List (List ℕ)) (n m : End) (h : P
       }
 
 -- Before the busy end's turn, when the other has had its own: all that is sent is acknowledged, and at most u are unsent.
-pub record Ahead (u : ℕ) (busy : Bool) (r : ℕ) (ds cn cm : List (List ℕ)) (n m : End) : Type 0 where
+pub record Ahead (u : ℕ) (busy : Bool) (r : ℕ) (ds cn cm : List (List ℕ)) (n m : Endpoint) : Type 0 where
   pub paired : Paired busy r ds cn cm n m
   pub acknowledged : n.link.a ≡ n.link.s
   pub quiet : m.link.pending ≡ false
   pub left : HasUnsent u n
 
 -- the other's turn leads there
-pub first-open : (u : ℕ) (busy : Bool) (r : ℕ) (ds cn cm : List (List ℕ)) (n m : End) → Paired busy r ds cn cm n m → HasUnsent u n → Ahead u busy r ds cn cm (taker_of m n) (giver_of m)
+pub first-open : (u : ℕ) (busy : Bool) (r : ℕ) (ds cn cm : List (List ℕ)) (n m : Endpoint) → Paired busy r ds cn cm n m → HasUnsent u n → Ahead u busy r ds cn cm (taker_of m n) (giver_of m)
 first-open u busy r ds cn cm n m h left =
     let x = open-moves n m h.itself h.other h.taken h.dropped in
     record {
@@ -102,7 +102,7 @@ first-open u busy r ds cn cm n m h left =
     }
 
 -- the busy end's turn and the other's
-pub next-both : (u : ℕ) (busy : Bool) (r : ℕ) (ds cn cm : List (List ℕ)) (n m : End) → Ahead (suc u) busy r ds cn cm n m
+pub next-both : (u : ℕ) (busy : Bool) (r : ℕ) (ds cn cm : List (List ℕ)) (n m : Endpoint) → Ahead (suc u) busy r ds cn cm n m
     → Ahead u busy r ds cn cm (taker_of (taker_of n m) (giver_of n)) (giver_of (taker_of n m))
 next-both u busy r ds cn cm n m h =
     let p = h.paired in
@@ -110,7 +110,7 @@ next-both u busy r ds cn cm n m h =
     (grind (arith, nat_lt, lt-ltb, ltb-false))
 
 -- At the end.
-pub record Done (busy : Bool) (r : ℕ) (ds cn cm : List (List ℕ)) (n m : End) : Type 0 where
+pub record Done (busy : Bool) (r : ℕ) (ds cn cm : List (List ℕ)) (n m : Endpoint) : Type 0 where
   pub paired : Paired busy r ds cn cm n m
   pub acknowledged : n.link.a ≡ n.link.s
   pub all : length n.link.contents ≤ n.link.s
@@ -129,7 +129,7 @@ rounds-far zero busy r ds cn cm e h = grind (arith, busy-moves, giver_of, taker_
 rounds-far (suc u) busy r ds cn cm e h = rounds-far u busy r ds cn cm (near_moves (far_moves e)) (next-both u busy r ds cn cm e.far e.near h)
 
 -- What is asked of them then.
-module _ (busy : Bool) (r : ℕ) (ds cn cm : List (List ℕ)) (n m : End) (h : Done busy r ds cn cm n m) where
+module _ (busy : Bool) (r : ℕ) (ds cn cm : List (List ℕ)) (n m : Endpoint) (h : Done busy r ds cn cm n m) where
   has-arrived : HasArrived cn n m
   has-arrived =
       let p = h.paired in
@@ -140,7 +140,7 @@ module _ (busy : Bool) (r : ℕ) (ds cn cm : List (List ℕ)) (n m : End) (h : D
       grind (arith, take-length, and_right, le-ltb)
 
 -- So it is of a pair that began as it did.
-pub gets-through : (busy : Bool) (n m n' m' : End) → Done busy n.link.r n.delivered n.link.contents m.link.contents n' m' → GetsThrough n m n' m'
+pub gets-through : (busy : Bool) (n m n' m' : Endpoint) → Done busy n.link.r n.delivered n.link.contents m.link.contents n' m' → GetsThrough n m n' m'
 gets-through busy n m n' m' h =
     let p = h.paired in
     record {
@@ -166,5 +166,5 @@ from-far u busy r ds cn cm e h left =
     (rounds-far u busy r ds cn cm (near_moves e) (first-open u busy r ds cn cm e.far e.near h left))
 
 -- The pair as it is at first.
-pub paired-first : (n m : End) → IsBusyItself n → IsOpenItself m → IsTaken n m → IsDropped n m → Paired m.link.peer_busy n.link.r n.delivered n.link.contents m.link.contents n m
+pub paired-first : (n m : Endpoint) → IsBusyItself n → IsUpAndIdle m → IsTaken n m → IsDropped n m → Paired m.link.peer_busy n.link.r n.delivered n.link.contents m.link.contents n m
 paired-first n m hn hm there back = grind arith

@@ -1,5 +1,5 @@
 -- What comes of two ends once own busy is over at one of them.
-use Rattle.laws_link.proofs.Vocabulary.{◌≡◌, ℕ, ◌+◌, ◌≤◌, Bool, true, false, IsTrue, [], length, Some, refl, sym, subst, ◌∙◌, arith, State, T200, is_multiple_frame, requested, ClearBusy, IsInRange, IsSound, End, Ends, asks, sends, receives, loses, at_near, at_far, with_first_of, turned, doing, sound-after, IsTimedIn, rounds, IsReady, IsTaken, HasUnsent, IsCutOff, IsCutOffWith, HasMissing, with_t200_expired, IsBusyItself, IsOpenItself, with_near_told, with_near_untold, HasDroppedNothing, BothHaveArrived}
+use Rattle.laws_link.proofs.Vocabulary.{◌≡◌, ℕ, ◌+◌, ◌≤◌, Bool, true, false, IsTrue, [], length, Some, refl, sym, subst, ◌∙◌, arith, State, T200, is_multiple_frame, requested, ClearBusy, IsInRange, IsSound, Endpoint, Ends, requests, sends, receives, loses, at_near, at_far, with_first_of, turned, doing, sound-after, IsTimedIn, rounds, IsReady, IsTaken, HasUnsent, IsCutOff, IsCutOffWith, HasMissing, with_t200_expired, IsBusyItself, IsUpAndIdle, with_near_told, with_near_untold, HasDroppedNothing, BothHaveArrived}
 use Rattle.laws_link.proofs.OfTwo.Halves.{named-number}
 use Rattle.laws_link.proofs.OfTwo.Arriving.{Arrived, all-arrived}
 use Rattle.laws_link.proofs.OfTwo.Recovering.{Sounds, sounds-near}
@@ -14,7 +14,7 @@ record Over (e : Ends) (a : ℕ) (busy : Bool) (e' : Ends) : Type 0 where
 
 module _ (e : Ends) where
   abbrev asked : Ends
-  asked = doing (at_near (asks ClearBusy false)) e
+  asked = doing (at_near (requests ClearBusy false)) e
 
   timed-8 : (here : State) → e.far.link.state ≡ here → IsTimedIn here e.far.link → here ≡ State.TimerRecovery → e.far.link.running ≡ Some T200
   timed-8 here s h is = let at : IsTimedIn State.TimerRecovery e.far.link = subst (λ x. IsTimedIn x e.far.link) is h in at
@@ -37,14 +37,14 @@ module _ (e : Ends) where
     untold free waits ways = grind (arith, given)
 
 -- Cut off they were, and so they are.
-cut-off : (own : Bool) (a : ℕ) (busy pending : Bool) (b : ℕ) (busy' pending' : Bool) (n m n' m' : End) → IsCutOffWith own n m → IsLeft a busy pending n n' → IsLeft b busy' pending' m m'
+cut-off : (own : Bool) (a : ℕ) (busy pending : Bool) (b : ℕ) (busy' pending' : Bool) (n m n' m' : Endpoint) → IsCutOffWith own n m → IsLeft a busy pending n n' → IsLeft b busy' pending' m m'
     → a ≤ m.link.r → IsSound n'.terms n'.link → Sane n'.link → IsCutOff n' m'
 cut-off own a busy pending b busy' pending' n m n' m' h x y low sound sane = grind arith
 
 abbrev Recovers : ℕ → Ends → Ends → Type 0
 Recovers u e e' = Arrived e.near.link.contents e.far.link.contents (rounds (u + 3) (with_t200_expired e')) × Arrived e.far.link.contents e.near.link.contents (rounds (u + 3) (with_t200_expired (turned e')))
 
-missing : (u a b : ℕ) (busy pending busy' pending' : Bool) (n m n' m' : End) → IsLeft a busy pending n n' → IsLeft b busy' pending' m m' → HasMissing u n m → HasMissing u n' m'
+missing : (u a b : ℕ) (busy pending busy' pending' : Bool) (n m n' m' : Endpoint) → IsLeft a busy pending n n' → IsLeft b busy' pending' m m' → HasMissing u n m → HasMissing u n' m'
 missing u a b busy pending busy' pending' n m n' m' x y h = subst (λ cs. length cs ≤ m'.link.r + u) (sym x.contents) (omega (arith, h, y.r))
 
 module _ (u : ℕ) (e : Ends) (hn : IsCutOffWith true e.near e.far) (hm : IsCutOff e.far e.near) (un : HasMissing u e.near e.far) (um : HasMissing u e.far e.near) where
@@ -65,7 +65,7 @@ module _ (u : ℕ) (e : Ends) (hn : IsCutOffWith true e.near e.far) (hm : IsCutO
   told-recovers =
       let within : e.far.link.s ≤ e.far.link.a + e.far.terms.k = hm.sound.within in
       let small : e.far.terms.k ≤ 127 = hm.ranges.k_high in
-      let two = sane-doing (at_near sends) (asked e) (sane-doing (at_near (asks ClearBusy false)) e ((record { timed = hn.timed; heeds = hn.heeds }, record { timed = hm.timed; heeds = hm.heeds }))) in
+      let two = sane-doing (at_near sends) (asked e) (sane-doing (at_near (requests ClearBusy false)) e ((record { timed = hn.timed; heeds = hn.heeds }, record { timed = hm.timed; heeds = hm.heeds }))) in
       recovers (with_near_told e) e.near.link.r false
       (told e hn.ranges hn.own_busy hn.waiting hn.way hn.up hm.own_busy hm.waiting hm.way hm.up (timed-8 e e.far.link.state refl hm.timed.timer) hm.low hm.high (omega (arith, within, small)))
       (omega arith) (sounds-near (asked e) (grind (arith, sound-after))) (sane-doing (at_far receives) (doing (at_near sends) (asked e)) two)
@@ -73,12 +73,12 @@ module _ (u : ℕ) (e : Ends) (hn : IsCutOffWith true e.near e.far) (hm : IsCutO
   pub untold-recovers : Recovers u e (with_near_untold e)
   untold-recovers =
       let s = sounds-near (asked e) (grind (arith, sound-after)) in
-      let two = sane-doing (at_near sends) (asked e) (sane-doing (at_near (asks ClearBusy false)) e ((record { timed = hn.timed; heeds = hn.heeds }, record { timed = hm.timed; heeds = hm.heeds }))) in
+      let two = sane-doing (at_near sends) (asked e) (sane-doing (at_near (requests ClearBusy false)) e ((record { timed = hn.timed; heeds = hn.heeds }, record { timed = hm.timed; heeds = hm.heeds }))) in
       recovers (with_near_untold e) e.far.link.a e.far.link.peer_busy (untold e hn.ranges hn.own_busy hn.waiting hn.way hn.up hm.own_busy hm.waiting hm.way) hm.low
       (record { near_ranges = s.near_ranges; far_ranges = hm.ranges; near = s.near; far = hm.sound }) (sane-doing (at_near loses) (doing (at_near sends) (asked e)) two)
 
 -- Where nothing was dropped it goes without T200.
-module _ (u : ℕ) (e : Ends) (hn : IsBusyItself e.near) (hm : IsOpenItself e.far) (there : IsTaken e.near e.far) (kept : HasDroppedNothing e.near e.far) (un : HasUnsent u e.near) (um : HasUnsent u e.far) where
+module _ (u : ℕ) (e : Ends) (hn : IsBusyItself e.near) (hm : IsUpAndIdle e.far) (there : IsTaken e.near e.far) (kept : HasDroppedNothing e.near e.far) (un : HasUnsent u e.near) (um : HasUnsent u e.far) where
   abbrev after : Ends
   after = with_near_told e
 

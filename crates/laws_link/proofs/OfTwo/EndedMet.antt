@@ -1,5 +1,5 @@
 -- Ends that meet what the end of own busy asks, and what it gives them.
-use Rattle.laws_link.proofs.Vocabulary.{true, false, [], ◌∷◌, length, refl, arith, leb-true, seq, distance_of, named, supervisory_of, unnumbered_of, control_of, header_of, reading, ReceiveNotReady, frame_of, response, Data, SetBusy, frame, received, requested, offer, after_all, doing_all, sound-all, ends-agree, usual_terms, up, both, rounds, IsTaken, HasUnsent, HasMissing, with_t200_expired, IsBusyItself, IsOpenItself, with_near_told, HasDroppedNothing, BothHaveArrived, busy_losing, busy_cut_off, kept}
+use Rattle.laws_link.proofs.Vocabulary.{true, false, [], ◌∷◌, length, refl, arith, leb-true, seq, distance_of, named, supervisory_of, unnumbered_of, control_of, header_of, reading, ReceiveNotReady, frame_of, response, Data, SetBusy, frame, received, requested, offer, after_all, doing_all, sound-all, ends-agree, usual_terms, up, both, rounds, IsTaken, HasUnsent, HasMissing, with_t200_expired, IsBusyItself, IsUpAndIdle, with_near_told, HasDroppedNothing, BothHaveArrived, busy_losing, busy_cut_off, kept}
 use Rattle.laws_link.proofs.OfTwo.Premises.{begins}
 use Rattle.laws_link.proofs.OfTwo.Reached.{whole-first, cut-off, cut-off-far}
 use Rattle.laws_link.proofs.OfTwo.PremisesMet.{timed}
@@ -11,7 +11,7 @@ near-busy : IsBusyItself kept.near
 unfolding seq distance_of named reading header_of control_of unnumbered_of supervisory_of after_all doing_all
 near-busy = search (begins.ranges, sound-all usual_terms begins.ranges (requested SetBusy false ∷ offer ∷ requested (Data (1 ∷ [])) false ∷ []) up begins.sound)
 
-far-open : IsOpenItself kept.far
+far-open : IsUpAndIdle kept.far
 unfolding seq distance_of named reading header_of control_of unnumbered_of supervisory_of after_all doing_all
 far-open = search (begins.ranges, sound-all usual_terms begins.ranges (received (frame (frame_of usual_terms (response (ReceiveNotReady (seq 0) false)))) ∷ requested (Data (4 ∷ [])) false ∷ []) up begins.sound)
 

@@ -1,12 +1,12 @@
 -- Own busy ends at an end: what its request and its RR leave, at that end and at the other.
-use Rattle.laws_link.proofs.Vocabulary.{◌≡◌, ℕ, ◌≤◌, Bool, true, false, cond, IsTrue, List, [], ◌∷◌, ◌++◌, Some, refl, sym, ap, subst, ◌∙◌, append-nil, arith, nat_lt, lt-ltb, seq, named, ReceiveReady, Parts, State, T200, Terms, Link, is_multiple_frame, frame, received, requested, ClearBusy, IsInRange, Course, begun, End, with_link, with_sent, with_first_lost, response}
+use Rattle.laws_link.proofs.Vocabulary.{◌≡◌, ℕ, ◌≤◌, Bool, true, false, cond, IsTrue, List, [], ◌∷◌, ◌++◌, Some, refl, sym, ap, subst, ◌∙◌, append-nil, arith, nat_lt, lt-ltb, seq, named, ReceiveReady, Parts, State, T200, Terms, Link, is_multiple_frame, frame, received, requested, ClearBusy, IsInRange, Course, begun, Endpoint, with_link, with_sent, without_first, response}
 use Rattle.laws_link.proofs.OfTwo.Plain.{acknowledgement_frame}
 use Rattle.laws_link.proofs.OfTwo.Shapes.{in_8_with, in_7_with, having, acknowledged-8}
 use Rattle.laws_link.proofs.OfTwo.Acknowledging.{Acknowledges, by-rr}
 
 -- An end that is left as it was, except for V(A), that own busy is off, whether it takes the other for busy, and
 -- whether it owes an acknowledgement.
-pub record IsLeft (va : ℕ) (taken owed : Bool) (n n' : End) : Type 0 where
+pub record IsLeft (va : ℕ) (taken owed : Bool) (n n' : Endpoint) : Type 0 where
   pub terms : n'.terms ≡ n.terms
   pub contents : n'.link.contents ≡ n.link.contents
   pub a : n'.link.a ≡ va
@@ -22,17 +22,17 @@ pub record IsLeft (va : ℕ) (taken owed : Bool) (n n' : End) : Type 0 where
   pub way : n'.way ≡ []
 
 -- The end that was busy gives RR.
-module _ (n : End) (ranges : IsInRange n.terms) (busy : n.link.own_busy ≡ true) (waits : n.link.waiting ≡ []) (ways : n.way ≡ []) where
-  abbrev over : End → End
+module _ (n : Endpoint) (ranges : IsInRange n.terms) (busy : n.link.own_busy ≡ true) (waits : n.link.waiting ≡ []) (ways : n.way ≡ []) where
+  abbrev over : Endpoint → Endpoint
   over x = with_sent (with_link (requested ClearBusy false) x)
 
   room : nat_lt 0 n.terms.control ≡ true
   room = let low : 2 ≤ n.terms.control = ranges.control_low in lt-ltb 0 n.terms.control (omega arith)
 
-  abbrev known : State → End
+  abbrev known : State → Endpoint
   known here = record n { link = record n.link { state = here; own_busy = true; waiting = [] }; way = [] }
 
-  abbrev told : State → Bool → End
+  abbrev told : State → Bool → Endpoint
   told here b =
       record n {
         link = record n.link { state = here; own_busy = false; pending = false; waiting = cond b (response (ReceiveReady (seq n.link.r) false) ∷ []) [] };
@@ -40,12 +40,12 @@ module _ (n : End) (ranges : IsInRange n.terms) (busy : n.link.own_busy ≡ true
         delivered = n.delivered ++ [];
       }
 
-  abbrev quiet : State → List Parts → List (List ℕ) → End
+  abbrev quiet : State → List Parts → List (List ℕ) → Endpoint
   quiet here fs ds = record n { link = record n.link { state = here; own_busy = false; pending = false; waiting = [] }; way = fs; delivered = ds }
 
-  pub record Gives (x : End) : Type 0 where
+  pub record Gives (x : Endpoint) : Type 0 where
     pub way : x.way ≡ acknowledgement_frame n.terms n.link ∷ []
-    pub left : IsLeft n.link.a n.link.peer_busy false n (with_first_lost x)
+    pub left : IsLeft n.link.a n.link.peer_busy false n (without_first x)
 
   in-7 : n.link.state ≡ State.Established → over n ≡ quiet State.Established (acknowledgement_frame n.terms n.link ∷ []) n.delivered
   in-7 s = grind (arith, room, acknowledgement_frame, append-nil)
@@ -60,12 +60,12 @@ module _ (n : End) (ranges : IsInRange n.terms) (busy : n.link.own_busy ≡ true
   gives up = by-state n.link.state refl up
 
 -- The other receives it.
-module _ (m : End) (free : m.link.own_busy ≡ false) (waiting : m.link.waiting ≡ []) (way : m.way ≡ []) (t : Terms) (l : Link) (x : ℕ)
+module _ (m : Endpoint) (free : m.link.own_busy ≡ false) (waiting : m.link.waiting ≡ []) (way : m.way ≡ []) (t : Terms) (l : Link) (x : ℕ)
     (names : named m.link.a m.link.s (seq l.r) ≡ Some x) (low : m.link.a ≤ x) where
-  abbrev hears : End → End
+  abbrev hears : Endpoint → Endpoint
   hears y = with_link (received (frame (acknowledgement_frame t l))) y
 
-  abbrev Hears : End → Type 0
+  abbrev Hears : Endpoint → Type 0
   Hears y = IsLeft x false m.link.pending m y
 
   is-8 : m.link.state ≡ State.TimerRecovery → m.link.running ≡ Some T200 → m ≡ in_8_with false m [] m.link.peer_busy m.link.a m.link.pending m.delivered

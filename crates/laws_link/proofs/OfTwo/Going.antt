@@ -1,5 +1,5 @@
 -- What requests, expiries and offers do to a link that stays in states 7 and 8, and to what is on its line.
-use Rattle.laws_link.proofs.Vocabulary.{arith, ◌≡◌, ◌+◌, Bool, true, cond, IsTrue, List, [], ◌∷◌, ◌++◌, Option, None, Some, refl, ap, append_assoc, append-nil, ◌⊎◌, inl, nat_lt, slice_get, unwrap_or, and_parts, seq, Refusal, WrongState, Parts, State, Established, TimerRecovery, LinkTimer, T200, ControlFrame, Terms, Link, is_multiple_frame, frame_of, Request, Establish, expired, requested, offer, Course, begun, frame_given, frames_of, IsMildRequest, ErrorCode, both_ways, command, enquire, has_room, ready_to_receive, repeated, start, failed, granted, give_waiting, is_awaiting_acknowledgement, may_send_information, next_information, offer_among, send_acknowledgement, with_one_sent, course, expire_running, expired_in, given_of, is_running}
+use Rattle.laws_link.proofs.Vocabulary.{arith, ◌≡◌, ◌+◌, Bool, true, cond, IsTrue, List, [], ◌∷◌, ◌++◌, Option, None, Some, refl, ap, append_assoc, append-nil, ◌⊎◌, inl, nat_lt, slice_get, unwrap_or, and_parts, seq, Refusal, WrongState, Parts, State, Established, TimerRecovery, LinkTimer, T200, ControlFrame, Terms, Link, is_multiple_frame, frame_of, Request, Establish, expired, requested, offer, Course, begun, frame_given, frames_of, IsNotRelease, ErrorCode, both_ways, command, enquire, has_room, rr_or_rnr, repeated, start, failed, granted, give_waiting, is_awaiting_acknowledgement, may_send_information, next_information, offer_among, send_acknowledgement, with_one_sent, course, expire_running, expired_in, given_of, is_running}
 use Rattle.laws_link.proofs.OfTwo.Staying.{refused}
 use Rattle.laws_link.proofs.OfTwo.Trains.{Kind, numbered, enquiry, report, kind_of, kinds_of, kinds-append}
 use Rattle.laws_link.proofs.OfTwo.Effects.{Grown, grows, Kept, Went, unchanged}
@@ -44,12 +44,12 @@ module _ (t : Terms) (l : Link) where
       → l'.waiting ≡ cond (has_room t l) (l.waiting ++ f ∷ []) l.waiting → kind_of f.command f.control ≡ report → Went report l l'
   reports l' f state s r rejecting waiting is = grind (arith, Grown, report, grows)
 
-  pub asks-went : IsTrue (is_multiple_frame l.state) → (request : Request) (full : Bool) → IsMildRequest request → WentIn report l (course t (requested request full) l)
+  pub asks-went : IsTrue (is_multiple_frame l.state) → (request : Request) (full : Bool) → IsNotRelease request → WentIn report l (course t (requested request full) l)
   asks-went up request full mild = grind (arith, by-refusal, both_ways, reports, refuses, refused)
 
   -- An expiry: the timer does not run, or an enquiry waits.
   enquires : (l' : Link) → l'.state ≡ TimerRecovery → l'.s ≡ l.s → l'.r ≡ l.r → l'.rejecting ≡ l.rejecting
-      → l'.waiting ≡ cond (has_room t l) (l.waiting ++ command (ready_to_receive true l) ∷ []) l.waiting → Asked l l'
+      → l'.waiting ≡ cond (has_room t l) (l.waiting ++ command (rr_or_rnr true l) ∷ []) l.waiting → Asked l l'
   enquires l' state s r rejecting waiting = grind (arith, Grown, enquiry, grows)
 
   again : l.state ≡ TimerRecovery → (b : Bool) → IsUpIn (cond b (start T200 (repeated (enquire t (begun l)))) (failed t ErrorCode.I (begun l)))

@@ -1,5 +1,5 @@
 -- Half a round: one end gives its next frame, and the other receives it.
-use Rattle.laws_link.proofs.Vocabulary.{◌≡◌, ℕ, zero, suc, ◌+◌, ◌-◌, ◌<◌, ◌≤◌, Bool, true, false, ◌==◌, List, [], ◌∷◌, ◌++◌, length, take, Some, refl, sym, ap, ◌∙◌, ◌⊎◌, inl, inr, append-nil, eq-eqb, arith, All, nat_lt, slice_get, unwrap_or, ltb-true, ltb-false, le-ltb, le-leb, and_parts, All-head, All-tail, seq, named, distance-plain, Parts, frame, received, offer, IsSound, End, with_link, with_sent, with_first_lost, with_first_of, sound-after, IsReady, IsTaken, State, may_send_information}
+use Rattle.laws_link.proofs.Vocabulary.{◌≡◌, ℕ, zero, suc, ◌+◌, ◌-◌, ◌<◌, ◌≤◌, Bool, true, false, ◌==◌, List, [], ◌∷◌, ◌++◌, length, take, Some, refl, sym, ap, ◌∙◌, ◌⊎◌, inl, inr, append-nil, eq-eqb, arith, All, nat_lt, slice_get, unwrap_or, ltb-true, ltb-false, le-ltb, le-leb, and_parts, All-head, All-tail, seq, named, distance-plain, Parts, frame, received, offer, IsSound, Endpoint, with_link, with_sent, without_first, with_first_of, sound-after, IsReady, IsTaken, State, may_send_information}
 use Rattle.laws_link.proofs.OfTwo.Plain.{plain, is_plain, information_frame, with_information, with_acknowledgement, with_taken, gives-information, gives-acknowledgement, gives-nothing, takes-information, takes-acknowledgement}
 
 -- an N(R) names the number that it means, if that lies between V(A) and V(S)
@@ -19,14 +19,14 @@ take-one (x ∷ xs) zero h = cc
 take-one (x ∷ xs) (suc i) h = ap (λ ys. x ∷ ys) (take-one xs i (omega (arith, h)))
 
 -- What becomes of the number of I-frames.
-pub record One (n m n' m' : End) : Type 0 where
+pub record One (n m n' m' : Endpoint) : Type 0 where
   pub unsent : n.link.s < length n.link.contents
   pub sent : n'.link.s ≡ n.link.s + 1
   pub received : m'.link.r ≡ m.link.r + 1
   pub pending : m'.link.pending ≡ true
   pub delivered : m'.delivered ≡ m.delivered ++ unwrap_or (slice_get n.link.contents n.link.s) [] ∷ []
 
-pub record Nothing (n m n' m' : End) : Type 0 where
+pub record Nothing (n m n' m' : Endpoint) : Type 0 where
   pub may : may_send_information n.terms (plain n.link) ≡ false
   pub sent : n'.link.s ≡ n.link.s
   pub received : m'.link.r ≡ m.link.r
@@ -34,7 +34,7 @@ pub record Nothing (n m n' m' : End) : Type 0 where
   pub delivered : m'.delivered ≡ m.delivered
 
 -- The end that gives, and the end that receives.
-pub record Giver (n n' : End) : Type 0 where
+pub record Giver (n n' : Endpoint) : Type 0 where
   pub terms : n'.terms ≡ n.terms
   pub contents : n'.link.contents ≡ n.link.contents
   pub a : n'.link.a ≡ n.link.a
@@ -47,7 +47,7 @@ pub record Giver (n n' : End) : Type 0 where
   pub waiting : n'.link.waiting ≡ []
   pub way : n'.way ≡ []
 
-pub record Taker (m m' : End) : Type 0 where
+pub record Taker (m m' : Endpoint) : Type 0 where
   pub terms : m'.terms ≡ m.terms
   pub contents : m'.link.contents ≡ m.link.contents
   pub a : m'.link.a ≡ m.link.s
@@ -58,19 +58,19 @@ pub record Taker (m m' : End) : Type 0 where
   pub waiting : m'.link.waiting ≡ []
   pub way : m'.way ≡ []
 
-pub record Moved (n m n' m' : End) : Type 0 where
+pub record Moved (n m n' m' : Endpoint) : Type 0 where
   pub giver : Giver n n'
   pub taker : Taker m m'
   pub moved : One n m n' m' ⊎ Nothing n m n' m'
 
 -- with no acknowledgement owed nothing is outstanding
-abbrev pub giver_of : End → End
-giver_of n = with_first_lost (with_sent n)
+abbrev pub giver_of : Endpoint → Endpoint
+giver_of n = without_first (with_sent n)
 
-abbrev pub taker_of : End → End → End
+abbrev pub taker_of : Endpoint → Endpoint → Endpoint
 taker_of n m = with_first_of (with_sent n).way m
 
-module _ (n m : End) (hn : IsReady n) (hm : IsReady m) (there : IsTaken n m) (back : IsTaken m n) where
+module _ (n m : Endpoint) (hn : IsReady n) (hm : IsReady m) (there : IsTaken n m) (back : IsTaken m n) where
   names : named m.link.a m.link.s (seq n.link.r) ≡ Some m.link.s
   names = grind (arith, named-number)
 

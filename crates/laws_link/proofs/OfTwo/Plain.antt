@@ -1,5 +1,5 @@
 -- An end in state 7 with nothing waiting: what it gives, and, with neither side busy, what it makes of what it receives.
-use Rattle.laws_link.proofs.Vocabulary.{arith, ◌≡◌, ◌+◌, Bool, true, false, cond, ◌==◌, [], ◌∷◌, ◌++◌, length, Some, ap, nat_lt, slice_get, unwrap_or, option_to_list, Seq, seq, named, Information, ReceiveReady, Parts, T200, T203, Terms, Link, frame_of, address_at, runs, frame, received, Course, begun, ◌then◌, changed, given_of, End, with_link, with_sent, frame_given, IsReady, State, acknowledge, by_number, pending_is, response, start, acknowledged_by_information_in_7, acknowledged_in_7, give_information, may_send_information, send_acknowledgement, with_one_sent}
+use Rattle.laws_link.proofs.Vocabulary.{arith, ◌≡◌, ◌+◌, Bool, true, false, cond, ◌==◌, [], ◌∷◌, ◌++◌, length, Some, ap, nat_lt, slice_get, unwrap_or, option_to_list, Seq, seq, named, Information, ReceiveReady, Parts, T200, T203, Terms, Link, frame_of, address_at, runs, frame, received, Course, begun, ◌then◌, changed, given_of, Endpoint, with_link, with_sent, frame_given, IsReady, State, acknowledge, by_number, pending_is, response, start, acknowledged_by_information_in_7, acknowledged_in_7, give_information, may_send_information, send_acknowledgement, with_one_sent}
 
 -- with own busy, and the other end taken for busy, as the bits say
 abbrev pub plain_with : Bool → Bool → Link → Link
@@ -8,13 +8,13 @@ plain_with own busy l = record l { state = State.Established; peer_busy = busy; 
 abbrev pub plain : Link → Link
 plain l = plain_with false false l
 
-abbrev pub plain_end_with : Bool → Bool → End → End
+abbrev pub plain_end_with : Bool → Bool → Endpoint → Endpoint
 plain_end_with own busy n = record n { link = plain_with own busy n.link; way = [] }
 
-abbrev pub plain_end : End → End
+abbrev pub plain_end : Endpoint → Endpoint
 plain_end n = plain_end_with false false n
 
-pub is_plain : (n : End) → IsReady n → n ≡ plain_end n
+pub is_plain : (n : Endpoint) → IsReady n → n ≡ plain_end n
 is_plain n h = grind arith
 
 -- An I-frame, as a sender's end gives it; and the acknowledgement.
@@ -37,12 +37,12 @@ with_acknowledgement_with own busy l = record (plain_with own busy l) { pending 
 abbrev pub with_acknowledgement : Link → Link
 with_acknowledgement l = with_acknowledgement_with false false l
 
-module _ (own busy : Bool) (n : End) where
+module _ (own busy : Bool) (n : Endpoint) where
   abbrev first : Course
   first = begun (plain_with own busy n.link)
 
   -- the end that has given to its way what its link gave
-  abbrev giving : Course → End
+  abbrev giving : Course → Endpoint
   giving c = record n { link = c.link; way = [] ++ frame_given n.terms (given_of n.terms (plain_with own busy n.link) c c.sent) }
 
   abbrev informing : Course
@@ -74,11 +74,11 @@ with_taken l = record (plain l) { r = l.r + 1; rejecting = false; pending = true
 abbrev pub with_all_acknowledged : Link → Link
 with_all_acknowledged l = record (plain l) { a = l.s; running = Some T203 }
 
-module _ (m : End) (same : (m.link.s == m.link.s) ≡ true) where
+module _ (m : Endpoint) (same : (m.link.s == m.link.s) ≡ true) where
   abbrev here : Course
   here = begun (plain m.link)
 
-  abbrev having : Course → End
+  abbrev having : Course → Endpoint
   having c = record m { link = c.link; way = []; delivered = m.delivered ++ option_to_list c.delivered }
 
   -- the effect of an N(R)

@@ -1,6 +1,6 @@
 -- The premises on two ends are met: two links that the terminal established, through the loss of a frame and its
 -- recovery.
-use Rattle.laws_link.proofs.Vocabulary.{◌≡◌, Bool, true, ◌&&◌, List, [], ◌∷◌, refl, arith, and_parts, seq, distance_of, named, supervisory_of, unnumbered_of, control_of, header_of, reading, fresh, is_multiple_frame, offer, after_all, IsInRange, Ends, Doing, doing, Begins, StayUp, sound-fresh, sound-all, usual_terms, sabme, both, mended}
+use Rattle.laws_link.proofs.Vocabulary.{◌≡◌, Bool, true, ◌&&◌, List, [], ◌∷◌, refl, arith, and_parts, seq, distance_of, named, supervisory_of, unnumbered_of, control_of, header_of, reading, fresh, is_multiple_frame, offer, after_all, IsInRange, Ends, StepAt, doing, Begins, StayUp, sound-fresh, sound-all, usual_terms, sabme, both, mended}
 
 in-range : IsInRange usual_terms
 in-range = search arith
@@ -12,11 +12,11 @@ begins = search (in-range, sound-all usual_terms in-range (sabme ∷ offer ∷ [
 are_up : Ends → Bool
 are_up e = is_multiple_frame e.near.link.state && is_multiple_frame e.far.link.state
 
-stay_up : List Doing → Ends → Bool
+stay_up : List StepAt → Ends → Bool
 stay_up [] e = true
 stay_up (d ∷ ds) e = are_up (doing d e) && stay_up ds (doing d e)
 
-by-test : (ds : List Doing) (e : Ends) → stay_up ds e ≡ true → StayUp ds e
+by-test : (ds : List StepAt) (e : Ends) → stay_up ds e ≡ true → StayUp ds e
 unfolding StayUp stay_up are_up
 by-test [] e h = tt
 by-test (d ∷ ds) e h = grind (arith, and_parts, are_up, stay_up, (by-test ds (doing d e)))

@@ -1,6 +1,6 @@
 -- The premises are met: by two links that begin, by the worked run in which every frame is lost, and by one in which a
 -- frame is lost and REJ makes it good.
-use Rattle.laws_link.proofs.Vocabulary.{◌≡◌, Bool, true, false, ◌&&◌, List, [], ◌∷◌, length, refl, inr, arith, nat_lt, nat_le, and_parts, ltb-true, leb-true, seq, distance_of, named, supervisory_of, unnumbered_of, control_of, header_of, reading, Request, Release, after_all, End, Ends, Act, asks, expires, Doing, at_near, at_far, doing, doing_all, StayUp, IsTimed, both, mended, IsMildRequest, IsMildAct, IsMild, StayAhead, IsReady, IsTaken, HasUnsent, IsSilent, HasMissing, losing, cut_off}
+use Rattle.laws_link.proofs.Vocabulary.{◌≡◌, Bool, true, false, ◌&&◌, List, [], ◌∷◌, length, refl, inr, arith, nat_lt, nat_le, and_parts, ltb-true, leb-true, seq, distance_of, named, supervisory_of, unnumbered_of, control_of, header_of, reading, Request, Release, after_all, Endpoint, Ends, EndStep, requests, expires, StepAt, at_near, at_far, doing, doing_all, StayUp, IsTimed, both, mended, IsNotRelease, KeepsLinkUp, KeepsLinksUp, StayAhead, IsReady, IsTaken, HasUnsent, CanRecoverFrom, HasMissing, losing, cut_off}
 use Rattle.laws_link.proofs.OfTwo.Premises.{begins}
 use Rattle.laws_link.proofs.OfTwo.Together.{all-stay_up}
 
@@ -9,36 +9,36 @@ unfoldable pub mild_request : Request → Bool
 mild_request Release = false
 mild_request other = true
 
-unfoldable pub mild_act : Act → End → Bool
-mild_act (asks request full) n = mild_request request
+unfoldable pub mild_act : EndStep → Endpoint → Bool
+mild_act (requests request full) n = mild_request request
 mild_act (expires timer) n = nat_lt n.link.repeats n.terms.n200
 mild_act other n = true
 
-unfoldable pub mild : Doing → Ends → Bool
+unfoldable pub mild : StepAt → Ends → Bool
 mild (at_near act) e = mild_act act e.near
 mild (at_far act) e = mild_act act e.far
 
-unfoldable pub stay_ahead : List Doing → Ends → Bool
+unfoldable pub stay_ahead : List StepAt → Ends → Bool
 stay_ahead [] e = true
 stay_ahead (d ∷ ds) e = nat_le e.far.link.r e.near.link.s && nat_le e.near.link.r e.far.link.s && mild d e && stay_ahead ds (doing d e)
 
-pub by-request : (request : Request) → mild_request request ≡ true → IsMildRequest request
+pub by-request : (request : Request) → mild_request request ≡ true → IsNotRelease request
 unfolding mild_request
 by-request Release e = absurd (cc)
 by-request other e = tt
 
-by-act : (act : Act) (n : End) → mild_act act n ≡ true → IsMildAct act n
+by-act : (act : EndStep) (n : Endpoint) → mild_act act n ≡ true → KeepsLinkUp act n
 unfolding mild_act
-by-act (asks request full) n e = by-request request e
+by-act (requests request full) n e = by-request request e
 by-act (expires timer) n e = λ state running. ltb-true n.link.repeats n.terms.n200 e
 by-act other n e = tt
 
-by-doing : (d : Doing) (e : Ends) → mild d e ≡ true → IsMild d e
+by-doing : (d : StepAt) (e : Ends) → mild d e ≡ true → KeepsLinksUp d e
 unfolding mild
 by-doing (at_near act) e h = by-act act e.near h
 by-doing (at_far act) e h = by-act act e.far h
 
-pub by-test : (ds : List Doing) (e : Ends) → stay_ahead ds e ≡ true → StayAhead ds e
+pub by-test : (ds : List StepAt) (e : Ends) → stay_ahead ds e ≡ true → StayAhead ds e
 unfolding StayAhead stay_ahead
 by-test [] e h = tt
 by-test (d ∷ ds) e h =
@@ -63,7 +63,7 @@ losing-ahead = by-test losing both refl
 pub losing-up : StayUp losing both
 losing-up = all-stay_up losing both begins begins refl losing-ahead
 
-pub near-silent : IsSilent cut_off.near cut_off.far
+pub near-silent : CanRecoverFrom cut_off.near cut_off.far
 unfolding seq distance_of named reading header_of control_of unnumbered_of supervisory_of after_all doing_all
 near-silent =
     record {
@@ -74,7 +74,7 @@ near-silent =
       high = leb-true cut_off.far.link.r cut_off.near.link.s refl;
     }
 
-pub far-silent : IsSilent cut_off.far cut_off.near
+pub far-silent : CanRecoverFrom cut_off.far cut_off.near
 unfolding seq distance_of named reading header_of control_of unnumbered_of supervisory_of after_all doing_all
 far-silent =
     record {

@@ -1,5 +1,5 @@
 -- Two ends of which each asks or has nothing outstanding: after a round or two both are ready, and nothing is missing.
-use Rattle.laws_link.proofs.Vocabulary.{◌≡◌, ℕ, suc, ◌+◌, ◌-◌, ◌<◌, ◌≤◌, Bool, true, false, cond, ◌==◌, List, [], ◌∷◌, ◌++◌, length, take, Option, Some, refl, sym, ap, subst, ◌∙◌, eq-eqb, arith, All, nat_lt, slice_get, unwrap_or, lt-ltb, le-ltb, ltb-true, and_parts, seq, named, Parts, LinkTimer, T203, frame, received, offer, IsInRange, IsSound, End, Ends, with_first_of, with_first_lost, sound-after, IsReady, IsTaken, HasUnsent, may_send_information}
+use Rattle.laws_link.proofs.Vocabulary.{◌≡◌, ℕ, suc, ◌+◌, ◌-◌, ◌<◌, ◌≤◌, Bool, true, false, cond, ◌==◌, List, [], ◌∷◌, ◌++◌, length, take, Option, Some, refl, sym, ap, subst, ◌∙◌, eq-eqb, arith, All, nat_lt, slice_get, unwrap_or, lt-ltb, le-ltb, ltb-true, and_parts, seq, named, Parts, LinkTimer, T203, frame, received, offer, IsInRange, IsSound, Endpoint, Ends, with_first_of, without_first, sound-after, IsReady, IsTaken, HasUnsent, may_send_information}
 use Rattle.laws_link.proofs.OfTwo.Plain.{plain, plain_end, with_information, with_acknowledgement, gives-information, gives-acknowledgement, gives-nothing}
 use Rattle.laws_link.proofs.OfTwo.Halves.{named-number, fits-at, take-one, moves, ready-giver, ready-taker, takes, taken}
 use Rattle.laws_link.proofs.OfTwo.Arriving.{near_moves, far_moves, no-more}
@@ -12,7 +12,7 @@ pub record Sounds (e : Ends) : Type 0 where
   pub near : IsSound e.near.terms e.near.link
   pub far : IsSound e.far.terms e.far.link
 
-pub sound-taker : (m : End) (way : List Parts) → IsInRange m.terms → IsSound m.terms m.link → IsSound (with_first_of way m).terms (with_first_of way m).link
+pub sound-taker : (m : Endpoint) (way : List Parts) → IsInRange m.terms → IsSound m.terms m.link → IsSound (with_first_of way m).terms (with_first_of way m).link
 sound-taker m [] r h = h
 sound-taker m (f ∷ fs) r h = sound-after m.terms r (received (frame f)) m.link h
 
@@ -35,7 +35,7 @@ sounds-far e h =
     }
 
 -- What is known of the numbers of a sender and its receiver, when all frames were lost.
-pub record Between (u : ℕ) (contents : List (List ℕ)) (n m : End) : Type 0 where
+pub record Between (u : ℕ) (contents : List (List ℕ)) (n m : Endpoint) : Type 0 where
   pub ranges : IsInRange n.terms
   pub kept : n.link.contents ≡ contents
   pub low : n.link.a ≤ m.link.r
@@ -61,25 +61,25 @@ pub recovered-far : (u : ℕ) (cn cm : List (List ℕ)) (e : Ends) → Recovered
 recovered-far u cn cm e h = grind (arith, moves, ready-taker, ready-giver, taken, takes, no-more)
 
 -- an end that has recovered
-pub ready-7 : (n : End) (a s : ℕ) (p : Bool) (running : Option LinkTimer) (ds : List (List ℕ)) → IsInRange n.terms → IsSound n.terms (in_7 n [] a s p running ds).link
+pub ready-7 : (n : Endpoint) (a s : ℕ) (p : Bool) (running : Option LinkTimer) (ds : List (List ℕ)) → IsInRange n.terms → IsSound n.terms (in_7 n [] a s p running ds).link
     → IsReady (in_7 n [] a s p running ds)
 ready-7 n a s p running ds ranges sound = grind arith
 
 -- room for a frame, and for a second one
-pub room-0 : (x : End) → IsInRange x.terms → nat_lt 0 x.terms.control ≡ true
+pub room-0 : (x : Endpoint) → IsInRange x.terms → nat_lt 0 x.terms.control ≡ true
 room-0 x h = let low : 2 ≤ x.terms.control = h.control_low in lt-ltb 0 x.terms.control (omega arith)
 
-pub room-1 : (x : End) → IsInRange x.terms → nat_lt 1 x.terms.control ≡ true
+pub room-1 : (x : Endpoint) → IsInRange x.terms → nat_lt 1 x.terms.control ≡ true
 room-1 x h = let low : 2 ≤ x.terms.control = h.control_low in lt-ltb 1 x.terms.control (omega arith)
 
 -- the other's V(R), from V(A) on and from itself on
-pub names-a : (x y : End) {v : ℕ} {cs : List (List ℕ)} → Between v cs x y → named x.link.a x.link.s (seq y.link.r) ≡ Some y.link.r
+pub names-a : (x y : Endpoint) {v : ℕ} {cs : List (List ℕ)} → Between v cs x y → named x.link.a x.link.s (seq y.link.r) ≡ Some y.link.r
 names-a x y h = named-number x.link.a x.link.s y.link.r h.low h.high h.near
 
-pub names-r : (x y : End) {v : ℕ} {cs : List (List ℕ)} → Between v cs x y → named y.link.r x.link.s (seq y.link.r) ≡ Some y.link.r
+pub names-r : (x y : Endpoint) {v : ℕ} {cs : List (List ℕ)} → Between v cs x y → named y.link.r x.link.s (seq y.link.r) ≡ Some y.link.r
 names-r x y h = let low : x.link.a ≤ y.link.r = h.low in let near : x.link.s ≤ x.link.a + 127 = h.near in named-number y.link.r x.link.s y.link.r (omega arith) h.high (omega arith)
 
-module _ (u : ℕ) (cn cm : List (List ℕ)) (n m : End) (there : Between u cn n m) (back : Between u cm m n) where
+module _ (u : ℕ) (cn cm : List (List ℕ)) (n m : Endpoint) (there : Between u cn n m) (back : Between u cm m n) where
   -- Both ask: two rounds.
   module _ (bn bm : Bool) where
     abbrev both_ask : Ends
@@ -154,7 +154,7 @@ module _ (u : ℕ) (cn cm : List (List ℕ)) (n m : End) (there : Between u cn n
 
   -- Far asks, and near has nothing outstanding: a round and a half, after which far's turn is as any other.
   -- what far has made of near's frame
-  record Heard (m' : End) (s' : ℕ) (a' : ℕ) (p : Bool) (ds : List (List ℕ)) : Type 0 where
+  record Heard (m' : Endpoint) (s' : ℕ) (a' : ℕ) (p : Bool) (ds : List (List ℕ)) : Type 0 where
     terms : m'.terms ≡ m.terms
     contents : m'.link.contents ≡ m.link.contents
     sent : m'.link.s ≡ m.link.s
@@ -165,10 +165,10 @@ module _ (u : ℕ) (cn cm : List (List ℕ)) (n m : End) (there : Between u cn n
     left : length n.link.contents ≤ s' + u
 
   module _ (all : n.link.s ≤ n.link.a) where
-    abbrev heard : End → ℕ → ℕ → Bool → Bool → Option LinkTimer → List (List ℕ) → Ends
+    abbrev heard : Endpoint → ℕ → ℕ → Bool → Bool → Option LinkTimer → List (List ℕ) → Ends
     heard m' s' a' b p running ds = record { near = in_7 n [] n.link.a s' false running n.delivered; far = in_8 m' (enquiry m.link.r ∷ []) b a' p ds }
 
-    module _ (m' : End) (s' a' : ℕ) (b p : Bool) (running : Option LinkTimer) (ds : List (List ℕ)) (up : n.link.a ≤ s') (few : s' ≤ n.link.a + 127) (h : Heard m' s' a' p ds) where
+    module _ (m' : Endpoint) (s' a' : ℕ) (b p : Bool) (running : Option LinkTimer) (ds : List (List ℕ)) (up : n.link.a ≤ s') (few : s' ≤ n.link.a + 127) (h : Heard m' s' a' p ds) where
       abbrev later : Option LinkTimer
       later = cond (n.link.a == s') (Some T203) running
 
@@ -209,7 +209,7 @@ module _ (u : ℕ) (cn cm : List (List ℕ)) (n m : End) (there : Between u cn n
           let unsent : n.link.s < length n.link.contents = ltb-true n.link.s (length n.link.contents) parts.1 in
           let octets = unwrap_or (slice_get n.link.contents n.link.s) [] in
           let next : near_moves far_asks ≡ heard (with_one_more m) (n.link.s + 1) n.link.r bm true (with_information n.link).running (m.delivered ++ octets ∷ []) =
-          ap (λ x. record { near = with_first_lost x; far = with_first_of x.way (in_8 m (enquiry m.link.r ∷ []) bm m.link.a false m.delivered) }) (gives-information false false n may)
+          ap (λ x. record { near = without_first x; far = with_first_of x.way (in_8 m (enquiry m.link.r ∷ []) bm m.link.a false m.delivered) }) (gives-information false false n may)
           ∙ ap (λ y. record { near = record n { link = with_information n.link; way = [] }; far = y })
           (informed-8 m (enquiry m.link.r ∷ []) bm m.link.a false m.delivered n.terms n.link n.link.r
           (le-ltb m.terms.n201 (length octets) (fits-at m.terms.n201 n.link.contents n.link.s there.sizes))
@@ -232,7 +232,7 @@ module _ (u : ℕ) (cn cm : List (List ℕ)) (n m : End) (there : Between u cn n
       by-acknowledgement : may_send_information n.terms (plain n.link) ≡ false → n.link.pending ≡ true → Sounds far_asks → Recovered u cn cm (near_moves (far_moves (near_moves far_asks)))
       by-acknowledgement may owed sounds =
           let next : near_moves far_asks ≡ heard m n.link.s n.link.r false false n.link.running m.delivered =
-          ap (λ x. record { near = with_first_lost x; far = with_first_of x.way (in_8 m (enquiry m.link.r ∷ []) bm m.link.a false m.delivered) }) (gives-acknowledgement false false n may owed)
+          ap (λ x. record { near = without_first x; far = with_first_of x.way (in_8 m (enquiry m.link.r ∷ []) bm m.link.a false m.delivered) }) (gives-acknowledgement false false n may owed)
           ∙ ap (λ y. record { near = record n { link = with_acknowledgement n.link; way = [] }; far = y })
           (acknowledged-8 false m (enquiry m.link.r ∷ []) bm m.link.a false m.delivered n.terms n.link n.link.r (names-a m n back)) in
           subst (λ e. Recovered u cn cm (near_moves (far_moves e))) (sym next)
@@ -251,7 +251,7 @@ module _ (u : ℕ) (cn cm : List (List ℕ)) (n m : End) (there : Between u cn n
       by-nothing : may_send_information n.terms (plain n.link) ≡ false → n.link.pending ≡ false → Sounds far_asks → Recovered u cn cm (near_moves (far_moves (near_moves far_asks)))
       by-nothing may owed sounds =
           let next : near_moves far_asks ≡ heard m n.link.s m.link.a bm false n.link.running m.delivered =
-          ap (λ x. record { near = with_first_lost x; far = with_first_of x.way (in_8 m (enquiry m.link.r ∷ []) bm m.link.a false m.delivered) }) (gives-nothing false false n may owed) in
+          ap (λ x. record { near = without_first x; far = with_first_of x.way (in_8 m (enquiry m.link.r ∷ []) bm m.link.a false m.delivered) }) (gives-nothing false false n may owed) in
           subst (λ e. Recovered u cn cm (near_moves (far_moves e))) (sym next)
           (far-recovered m n.link.s m.link.a bm false n.link.running m.delivered (omega (arith, at-r, there.low)) there.near
           (record {

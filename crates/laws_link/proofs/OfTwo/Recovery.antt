@@ -1,11 +1,11 @@
 -- Losses are recovered, from the expiry of T200 on.
-use Rattle.laws_link.proofs.Vocabulary.{◌≡◌, ℕ, suc, ◌+◌, ◌≤◌, Bool, false, List, [], ◌∷◌, refl, sym, subst, ◌∙◌, ◌⊎◌, arith, T200, expired, End, Ends, sound-after, rounds, IsCutOff, IsCutOffWith, HasMissing, with_t200_expired}
+use Rattle.laws_link.proofs.Vocabulary.{◌≡◌, ℕ, suc, ◌+◌, ◌≤◌, Bool, false, List, [], ◌∷◌, refl, sym, subst, ◌∙◌, ◌⊎◌, arith, T200, expired, Endpoint, Ends, sound-after, rounds, IsCutOff, IsCutOffWith, HasMissing, with_t200_expired}
 use Rattle.laws_link.proofs.OfTwo.Arriving.{Arrived, near_moves, far_moves, all-arrived, AreFree, all-free}
 use Rattle.laws_link.proofs.OfTwo.Shapes.{enquiry, in_8, in_7}
 use Rattle.laws_link.proofs.OfTwo.Expiring.{Asking, Resting, with_count, expires-one}
 use Rattle.laws_link.proofs.OfTwo.Recovering.{Sounds, Between, Recovered, both-recover, near-recovers, far-recovers, ready-7}
 
-pub between : (own : Bool) (u v : ℕ) (n m : End) (b c : ℕ) → IsCutOffWith own n m → HasMissing u n m → u ≤ v → Between v n.link.contents (with_count b n) (with_count c m)
+pub between : (own : Bool) (u v : ℕ) (n m : Endpoint) (b c : ℕ) → IsCutOffWith own n m → HasMissing u n m → u ≤ v → Between v n.link.contents (with_count b n) (with_count c m)
 between own u v n m b c h missing le = grind arith
 
 finish : (u : ℕ) (cn cm : List (List ℕ)) (e : Ends) → Recovered u cn cm e → Arrived cn cm (rounds (u + 1) e)
@@ -61,7 +61,7 @@ module _ (u : ℕ) (e : Ends) (hn : IsCutOff e.near e.far) (hm : IsCutOff e.far 
 
     far-asks : (x : Resting false e.near (with_t200_expired e).near) (y : Asking false e.far (with_t200_expired e).far) → Q (rounds (u + 3) (with_t200_expired e))
     far-asks x y =
-        let n : End = record e.near { link = record e.near.link { running = x.running } } in
+        let n : Endpoint = record e.near { link = record e.near.link { running = x.running } } in
         let m = with_count y.count e.far in
         let e0 : Ends = record { near = in_7 e.near [] e.near.link.a e.near.link.s e.near.link.pending x.running e.near.delivered; far = in_8 m (enquiry m.link.r ∷ []) m.link.peer_busy m.link.a false m.delivered } in
         let is : with_t200_expired e ≡ e0 = λ i. record { near = x.is i; far = y.is i } in

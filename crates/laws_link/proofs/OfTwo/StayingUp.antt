@@ -1,5 +1,5 @@
 -- Two links stay up where T200 is timely: what holds in both directions is kept by each act.
-use Rattle.laws_link.proofs.Vocabulary.{◌≡◌, ℕ, ◌+◌, ◌≤◌, Bool, true, false, IsTrue, List, [], ◌∷◌, ◌++◌, refl, sym, ap, subst, ◌∙◌, inl, inr, arith, All, drop, All-head, All-tail, Control, Parts, State, TimerRecovery, LinkTimer, ControlFrame, Terms, Link, is_multiple_frame, Request, frame, received, expired, requested, offer, Course, End, Act, asks, expires, sends, receives, loses, with_link, with_first_of, frame_given, acting, IsUp, rising-low, frames_of, line_of, Joined, IsMildRequest, is_enquiry, is_answer, IsNoneOpen, IsTimelyAct, after, course, given_of, is_running}
+use Rattle.laws_link.proofs.Vocabulary.{◌≡◌, ℕ, ◌+◌, ◌≤◌, Bool, true, false, IsTrue, List, [], ◌∷◌, ◌++◌, refl, sym, ap, subst, ◌∙◌, inl, inr, arith, All, drop, All-head, All-tail, Control, Parts, State, TimerRecovery, LinkTimer, ControlFrame, Terms, Link, is_multiple_frame, Request, frame, received, expired, requested, offer, Course, Endpoint, EndStep, requests, expires, sends, receives, loses, with_link, with_first_of, frame_given, acting, IsUp, rising-low, frames_of, line_of, Joined, IsNotRelease, is_enquiry, is_answer, IsNoneOpen, IsTimelyStep, after, course, given_of, is_running}
 use Rattle.laws_link.proofs.OfTwo.Trains.{Kind, enquiry, report, kind_of, kinds_of, tally, one_enquiry, one_answer, one_rejection, every-push, behind-push}
 use Rattle.laws_link.proofs.OfTwo.Flow.{most, Flow, there-calm, there-enquiry, there-information, there-tail, few-more}
 use Rattle.laws_link.proofs.OfTwo.Effects.{is_recovering}
@@ -31,10 +31,10 @@ module _ (asked : Bool → Control → Bool) (one : Kind → ℕ) (w : (b : Bool
       omega arith
 
 -- One direction between two ends.
-abbrev pub Flows : End → End → Type 0
+abbrev pub Flows : Endpoint → Endpoint → Type 0
 Flows n m = Flow n.link.s m.link.r (is_recovering n.link.state) m.link.rejecting (line n.terms n.way n.link.waiting) (line m.terms m.way m.link.waiting)
 
-module _ (n m : End) (h : Joined n m) (f : Flows n m) (g : Flows m n) where
+module _ (n m : Endpoint) (h : Joined n m) (f : Flows n m) (g : Flows m n) where
   abbrev own : List Kind
   own = line n.terms n.way n.link.waiting
 
@@ -42,7 +42,7 @@ module _ (n m : End) (h : Joined n m) (f : Flows n m) (g : Flows m n) where
   other = line m.terms m.way m.link.waiting
 
   -- requests
-  asks-flows : (request : Request) (full : Bool) → IsMildRequest request → Flows (with_link (requested request full) n) m × Flows m (with_link (requested request full) n)
+  asks-flows : (request : Request) (full : Bool) → IsNotRelease request → Flows (with_link (requested request full) n) m × Flows m (with_link (requested request full) n)
   asks-flows request full mild =
       let w = asks-went n.terms n.link h.near_up request full mild in
       let l' = after n.terms (requested request full) n.link in (
@@ -128,10 +128,10 @@ module _ (n m : End) (h : Joined n m) (f : Flows n m) (g : Flows m n) where
         (grind (arith, one_rejection, tally, one_enquiry, one_answer)),
       )
 
-  pub acted-flows : (act : Act) → IsTimelyAct act n m → IsUp (acting act (record { near = n; far = m }))
+  pub acted-flows : (act : EndStep) → IsTimelyStep act n m → IsUp (acting act (record { near = n; far = m }))
       → Flows (acting act (record { near = n; far = m })).near (acting act (record { near = n; far = m })).far
       × Flows (acting act (record { near = n; far = m })).far (acting act (record { near = n; far = m })).near
-  acted-flows (asks request full) x up = asks-flows request full x
+  acted-flows (requests request full) x up = asks-flows request full x
   acted-flows (expires timer) x up = (ran-flows timer (course n.terms (expired timer) n.link) x.1 (expires-goes n.terms n.link h.near_up timer up.0))
   acted-flows sends x up = (let o = offer-goes n.terms n.link in gives-flows (course n.terms offer n.link) o o.gives)
   acted-flows receives x up = first-flows m.way refl up.0

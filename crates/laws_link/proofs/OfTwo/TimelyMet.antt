@@ -1,6 +1,6 @@
 -- The premises of the law on a timely T200 are met: by the worked run in which it expires twice, and by the one in which
 -- all frames are lost.
-use Rattle.laws_link.proofs.Vocabulary.{◌≡◌, Bool, true, false, not, ◌&&◌, List, [], ◌∷◌, refl, sym, true≢false, All, nat_lt, and_parts, ltb-true, All-nil, All-cons, seq, distance_of, named, Control, Parts, supervisory_of, unnumbered_of, control_of, header_of, reading, ControlFrame, after_all, End, Ends, Act, asks, expires, Doing, at_near, at_far, doing, both, is_enquiry, is_answer, IsNoneOpen, IsTimelyAct, IsTimelyDoing, StayTimely, IsHushed, answered_at_last, losing, cut_off}
+use Rattle.laws_link.proofs.Vocabulary.{◌≡◌, Bool, true, false, not, ◌&&◌, List, [], ◌∷◌, refl, sym, true≢false, All, nat_lt, and_parts, ltb-true, All-nil, All-cons, seq, distance_of, named, Control, Parts, supervisory_of, unnumbered_of, control_of, header_of, reading, ControlFrame, after_all, Endpoint, Ends, EndStep, requests, expires, StepAt, at_near, at_far, doing, both, is_enquiry, is_answer, IsNoneOpen, IsTimelyStep, IsTimelyStepAt, StayTimely, CanRecover, answered_at_last, losing, cut_off}
 use Rattle.laws_link.proofs.OfTwo.PremisesMet.{mild_request, by-request, near-silent}
 
 -- a test of what goes on timely
@@ -12,19 +12,19 @@ none_waiting : (Bool → Control → Bool) → List ControlFrame → Bool
 none_waiting asked [] = true
 none_waiting asked (f ∷ fs) = not (asked f.command f.control) && none_waiting asked fs
 
-none_open : End → End → Bool
+none_open : Endpoint → Endpoint → Bool
 none_open n m = (none_waiting is_enquiry n.link.waiting && none_on_way is_enquiry n.way) && none_waiting is_answer m.link.waiting && none_on_way is_answer m.way
 
-timely_act : Act → End → End → Bool
-timely_act (asks request full) n m = mild_request request
+timely_act : EndStep → Endpoint → Endpoint → Bool
+timely_act (requests request full) n m = mild_request request
 timely_act (expires timer) n m = nat_lt n.link.repeats n.terms.n200 && none_open n m
 timely_act other n m = true
 
-timely : Doing → Ends → Bool
+timely : StepAt → Ends → Bool
 timely (at_near act) e = timely_act act e.near e.far
 timely (at_far act) e = timely_act act e.far e.near
 
-stay_timely : List Doing → Ends → Bool
+stay_timely : List StepAt → Ends → Bool
 stay_timely [] e = true
 stay_timely (d ∷ ds) e = timely d e && stay_timely ds (doing d e)
 
@@ -46,7 +46,7 @@ by-waiting asked (f ∷ fs) e =
     let both = and_parts (not (asked f.command f.control)) (none_waiting asked fs) e in
     All-cons (λ f. asked f.command f.control ≡ false) f fs (is-false (asked f.command f.control) both.0) (by-waiting asked fs both.1)
 
-by-open : (n m : End) → none_open n m ≡ true → IsNoneOpen n m
+by-open : (n m : Endpoint) → none_open n m ≡ true → IsNoneOpen n m
 unfolding none_open
 by-open n m e =
     let one = and_parts ((none_waiting is_enquiry n.link.waiting && none_on_way is_enquiry n.way) && none_waiting is_answer m.link.waiting) (none_on_way is_answer m.way) e in
@@ -57,20 +57,20 @@ by-open n m e =
       answers = record { waiting = by-waiting is_answer m.link.waiting two.1; way = by-way is_answer m.way one.1 };
     }
 
-by-act : (act : Act) (n m : End) → timely_act act n m ≡ true → IsTimelyAct act n m
+by-act : (act : EndStep) (n m : Endpoint) → timely_act act n m ≡ true → IsTimelyStep act n m
 unfolding timely_act
-by-act (asks request full) n m e = by-request request e
+by-act (requests request full) n m e = by-request request e
 by-act (expires timer) n m e =
     let both = and_parts (nat_lt n.link.repeats n.terms.n200) (none_open n m) e in
     (λ state running. ltb-true n.link.repeats n.terms.n200 both.0, λ state running. by-open n m both.1)
 by-act other n m e = tt
 
-by-doing : (d : Doing) (e : Ends) → timely d e ≡ true → IsTimelyDoing d e
+by-doing : (d : StepAt) (e : Ends) → timely d e ≡ true → IsTimelyStepAt d e
 unfolding timely
 by-doing (at_near act) e h = by-act act e.near e.far h
 by-doing (at_far act) e h = by-act act e.far e.near h
 
-by-test : (ds : List Doing) (e : Ends) → stay_timely ds e ≡ true → StayTimely ds e
+by-test : (ds : List StepAt) (e : Ends) → stay_timely ds e ≡ true → StayTimely ds e
 unfolding StayTimely stay_timely
 by-test [] e h = tt
 by-test (d ∷ ds) e h =
@@ -87,5 +87,5 @@ losing-timely : StayTimely losing both
 unfolding seq distance_of named reading header_of control_of unnumbered_of supervisory_of after_all stay_timely timely timely_act none_open none_waiting none_on_way mild_request
 losing-timely = by-test losing both refl
 
-near-hushed : IsHushed cut_off.near
+near-hushed : CanRecover cut_off.near
 near-hushed = let h = near-silent in record { repeats = h.repeats; own_busy = h.own_busy; waiting = h.waiting; way = h.way }

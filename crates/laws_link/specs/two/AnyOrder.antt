@@ -4,24 +4,24 @@ use Rattle.lapd_frame.specs.declared.controls.Control.{Control}
 use Rattle.lapd_frame.specs.declared.controls.Control.TheVariants.{Information}
 use Rattle.lapd_frame.specs.Grammar.{Parts}
 use Rattle.model_link.specs.Link.{unsent}
-use Rattle.model_link.specs.TwoEnds.{End, Ends, Act, asks, expires, sends, receives, loses, Doing, at_near, at_far, doing}
+use Rattle.model_link.specs.TwoEnds.{Endpoint, Ends, Step, requests, expires, sends, receives, loses, StepAt, at_near, at_far, doing}
 use Rattle.laws_link.specs.two.Waits.{HasNothingToSend}
 
 -- A turn that does something: an end that has something to send gives its next frame, or one receives the first frame of the
 -- other's way, where there is one.
-abbrev pub IsTurnOf : Act → End → End → Type 0
-IsTurnOf (asks request full) n m = ⊥
+abbrev pub IsTurnOf : Step → Endpoint → Endpoint → Type 0
+IsTurnOf (requests request full) n m = ⊥
 IsTurnOf (expires timer) n m = ⊥
 IsTurnOf sends n m = HasNothingToSend n.terms n.link → ⊥
 IsTurnOf receives n m = 1 ≤ length m.way
 IsTurnOf loses n m = ⊥
 
-abbrev pub IsTurn : Doing → Ends → Type 0
+abbrev pub IsTurn : StepAt → Ends → Type 0
 IsTurn (at_near act) e = IsTurnOf act e.near e.far
 IsTurn (at_far act) e = IsTurnOf act e.far e.near
 
 -- So it is at each step, before it.
-unfoldable pub AreTurns : List Doing → Ends → Type 0
+unfoldable pub AreTurns : List StepAt → Ends → Type 0
 AreTurns [] e = Unit {0}
 AreTurns (d ∷ ds) e = IsTurn d e × AreTurns ds (doing d e)
 
@@ -42,7 +42,7 @@ abbrev pub load : List Parts → ℕ
 load [] = 0
 load (f ∷ fs) = load_of f.control + load fs
 
-abbrev pub weight_at : End → ℕ
+abbrev pub weight_at : Endpoint → ℕ
 weight_at n = 4 * unsent n.link + load n.way + (if n.link.pending then 2 else 0)
 
 abbrev pub weight : Ends → ℕ

@@ -2,7 +2,7 @@
 use Rattle.std.specs.Prelude.{◌≡◌, ℕ, zero, suc, ◌+◌, ◌<◌, ◌≤◌, true, false, List, [], length, take, All}
 use Rattle.model_link.specs.declared.states.State.TheVariants.{Established}
 use Rattle.model_link.specs.Sound.{IsInRange, IsSound}
-use Rattle.model_link.specs.TwoEnds.{End, Ends, sends, receives, at_near, at_far, doing}
+use Rattle.model_link.specs.TwoEnds.{Endpoint, Ends, sends, receives, at_near, at_far, doing}
 use Rattle.laws_link.specs.two.Waits.{HasNothingToSend}
 
 -- A round: each end in turn gives the next frame, if it has one, and the other receives it. Nothing is lost.
@@ -14,7 +14,7 @@ rounds zero e = e
 rounds (suc n) e = rounds n (round e)
 
 -- An end in state 7, with neither side busy, nothing waiting and nothing on its way.
-pub record IsReady (n : End) : Type 0 where
+pub record IsReady (n : Endpoint) : Type 0 where
   pub ranges : IsInRange n.terms
   pub sound : IsSound n.terms n.link
   pub state : n.link.state ≡ Established
@@ -25,19 +25,19 @@ pub record IsReady (n : End) : Type 0 where
 
 -- What the first end has sent, the second has received and delivered, in order; it owes an acknowledgement for what is
 -- outstanding, and can take what is to come.
-pub record IsTaken (n m : End) : Type 0 where
+pub record IsTaken (n m : Endpoint) : Type 0 where
   pub received : m.link.r ≡ n.link.s
   pub delivered : m.delivered ≡ take m.link.r n.link.contents
   pub owed : n.link.a < n.link.s → m.link.pending ≡ true
   pub sizes : All (λ octets. length octets ≤ m.terms.n201) n.link.contents
 
 -- At most so many contents are unsent.
-abbrev pub HasUnsent : ℕ → End → Type 0
+abbrev pub HasUnsent : ℕ → Endpoint → Type 0
 HasUnsent u n = length n.link.contents ≤ n.link.s + u
 
 -- All contents of the first end have arrived at the second, in order, and are acknowledged; the first is in state 7,
 -- and has nothing more to say.
-pub record HasArrived (contents : List (List ℕ)) (n m : End) : Type 0 where
+pub record HasArrived (contents : List (List ℕ)) (n m : Endpoint) : Type 0 where
   pub kept : n.link.contents ≡ contents
   pub delivered : m.delivered ≡ contents
   pub received : m.link.r ≡ length contents

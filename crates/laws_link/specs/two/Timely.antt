@@ -5,8 +5,8 @@ use Rattle.lapd_frame.specs.declared.controls.Control.TheVariants.{ReceiveReady,
 use Rattle.model_link.specs.declared.states.State.TheVariants.{TimerRecovery}
 use Rattle.model_link.specs.declared.timers.LinkTimer.{LinkTimer}
 use Rattle.model_link.specs.Machine.{is_running}
-use Rattle.model_link.specs.TwoEnds.{End, Ends, Act, asks, expires, sends, receives, loses, Doing, at_near, at_far, doing}
-use Rattle.laws_link.specs.two.Ahead.{IsMildRequest, CanRepeat}
+use Rattle.model_link.specs.TwoEnds.{Endpoint, Ends, Step, requests, expires, sends, receives, loses, StepAt, at_near, at_far, doing}
+use Rattle.laws_link.specs.two.Ahead.{IsNotRelease, CanRepeat}
 
 -- The P or F bit of a supervisory frame.
 abbrev pub supervisory_bit : Control → Bool
@@ -23,38 +23,38 @@ abbrev pub is_answer : Bool → Control → Bool
 is_answer command control = not command && supervisory_bit control
 
 -- None waits, and none is on its way.
-pub record HasNo (asked : Bool → Control → Bool) (n : End) : Type 0 where
+pub record HasNo (asked : Bool → Control → Bool) (n : Endpoint) : Type 0 where
   pub waiting : All (λ f. asked f.command f.control ≡ false) n.link.waiting
   pub way : All (λ f. asked f.address.command f.control ≡ false) n.way
 
 -- No enquiry of the first end, and no answer of the second.
-pub record IsNoneOpen (n m : End) : Type 0 where
+pub record IsNoneOpen (n m : Endpoint) : Type 0 where
   pub enquiries : HasNo is_enquiry n
   pub answers : HasNo is_answer m
 
-abbrev pub IsTimely : LinkTimer → End → End → Type 0
+abbrev pub IsTimely : LinkTimer → Endpoint → Endpoint → Type 0
 IsTimely timer n m = n.link.state ≡ TimerRecovery → is_running timer n.link ≡ true → IsNoneOpen n m
 
 -- Layer 3 does not release the link; a timer expires in time, and an enquiry can be repeated.
-abbrev pub IsTimelyAct : Act → End → End → Type 0
-IsTimelyAct (asks request full) n m = IsMildRequest request
-IsTimelyAct (expires timer) n m = CanRepeat timer n × IsTimely timer n m
-IsTimelyAct sends n m = Unit {0}
-IsTimelyAct receives n m = Unit {0}
-IsTimelyAct loses n m = Unit {0}
+abbrev pub IsTimelyStep : Step → Endpoint → Endpoint → Type 0
+IsTimelyStep (requests request full) n m = IsNotRelease request
+IsTimelyStep (expires timer) n m = CanRepeat timer n × IsTimely timer n m
+IsTimelyStep sends n m = Unit {0}
+IsTimelyStep receives n m = Unit {0}
+IsTimelyStep loses n m = Unit {0}
 
-abbrev pub IsTimelyDoing : Doing → Ends → Type 0
-IsTimelyDoing (at_near act) e = IsTimelyAct act e.near e.far
-IsTimelyDoing (at_far act) e = IsTimelyAct act e.far e.near
+abbrev pub IsTimelyStepAt : StepAt → Ends → Type 0
+IsTimelyStepAt (at_near act) e = IsTimelyStep act e.near e.far
+IsTimelyStepAt (at_far act) e = IsTimelyStep act e.far e.near
 
 -- So it is at each step.
-unfoldable pub StayTimely : List Doing → Ends → Type 0
+unfoldable pub StayTimely : List StepAt → Ends → Type 0
 StayTimely [] e = Unit {0}
-StayTimely (d ∷ ds) e = IsTimelyDoing d e × StayTimely ds (doing d e)
+StayTimely (d ∷ ds) e = IsTimelyStepAt d e × StayTimely ds (doing d e)
 
 -- What is asked of such links for the law of recovery: an enquiry can be repeated, own busy is off, and nothing waits or is
 -- on its way.
-pub record IsHushed (n : End) : Type 0 where
+pub record CanRecover (n : Endpoint) : Type 0 where
   pub repeats : n.link.state ≡ TimerRecovery → n.link.repeats < n.terms.n200
   pub own_busy : n.link.own_busy ≡ false
   pub waiting : n.link.waiting ≡ []

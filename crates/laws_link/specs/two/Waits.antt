@@ -1,8 +1,8 @@
 -- What waits to be sent, and what goes in its turn.
-use Rattle.std.specs.Prelude.{◌≡◌, ℕ, zero, suc, ◌+◌, false, [], length, Option, None, Some, if◌then◌else◌}
+use Rattle.std.specs.Prelude.{[], ◌≡◌, ℕ, zero, suc, false, Option, None, Some}
 use Rattle.model_link.specs.declared.frames.ControlFrame.{ControlFrame}
 use Rattle.model_link.specs.declared.terms.Terms.{Terms}
-use Rattle.model_link.specs.Link.{Link, unsent}
+use Rattle.model_link.specs.Link.{Link}
 use Rattle.model_link.specs.Events.{offer}
 use Rattle.model_link.specs.Told.{Given}
 use Rattle.model_link.specs.Offers.{may_send_information}
@@ -27,8 +27,3 @@ pub record Goes (f : ControlFrame) (g : Given) : Type 0 where
 abbrev pub GoesWhole : ControlFrame → Option Given → Type 0
 GoesWhole f None = ⊥
 GoesWhole f (Some g) = Goes f g
-
--- How many offers what may go takes at most: a frame that waits, contents that are unsent, an acknowledgement that is
--- owed.
-abbrev pub turns : Link → ℕ
-turns l = length l.waiting + unsent l + (if l.pending then 1 else 0)

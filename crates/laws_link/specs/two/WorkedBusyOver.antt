@@ -1,6 +1,6 @@
 -- Worked values: what was kept while an end was busy itself arrives once own busy is over.
 use Rattle.std.specs.Prelude.{◌≡◌, false, [], ◌∷◌, refl}
-use Rattle.laws_link.specs.WorkedWords.{seq, distance_of, named, supervisory_of, unnumbered_of, control_of, header_of, reading, SetBusy, after_all, Ends, asks, sends, receives, at_near, at_far, doing_all, rounds, with_t200_expired, with_near_told, with_far_told, with_far_untold}
+use Rattle.laws_link.specs.WorkedWords.{seq, distance_of, named, supervisory_of, unnumbered_of, control_of, header_of, reading, SetBusy, after_all, Ends, requests, sends, receives, at_near, at_far, doing_all, rounds, with_t200_expired, with_near_told, with_far_told, with_far_untold}
 use Rattle.laws_link.specs.two.WorkedEnds.{both}
 use Rattle.laws_link.specs.two.WorkedRounds.{near_asked, far_asked}
 use Rattle.laws_link.specs.two.WorkedOwnBusy.{near_dropped, far_dropped, far_busy_lost}
@@ -8,7 +8,7 @@ use Rattle.laws_link.specs.two.WorkedOwnBusy.{near_dropped, far_dropped, far_bus
 -- Near is busy itself, far knows it, and each has a content unsent. RR tells that it is over: two rounds are enough, and one is
 -- not.
 abbrev pub kept : Ends
-kept = doing_all (at_near (asks SetBusy false) ∷ at_near sends ∷ at_far receives ∷ far_asked 4 ∷ near_asked 1 ∷ []) both
+kept = doing_all (at_near (requests SetBusy false) ∷ at_near sends ∷ at_far receives ∷ far_asked 4 ∷ near_asked 1 ∷ []) both
 
 taken_by_near : (rounds 2 (with_near_told kept)).near.delivered ≡ (4 ∷ []) ∷ []
 unfolding seq distance_of named reading header_of control_of unnumbered_of supervisory_of after_all doing_all rounds

@@ -1,6 +1,6 @@
 -- Worked values: the loss of the third of seven frames between two links, and its recovery by REJ.
 use Rattle.std.specs.Prelude.{◌≡◌, ℕ, false, List, [], ◌∷◌, ◌++◌, length, replicate, refl}
-use Rattle.laws_link.specs.WorkedWords.{seq, distance_of, named, supervisory_of, unnumbered_of, control_of, header_of, reading, Data, after_all, Ends, asks, sends, receives, loses, Doing, at_near, at_far, doing_all, usual_terms, up}
+use Rattle.laws_link.specs.WorkedWords.{seq, distance_of, named, supervisory_of, unnumbered_of, control_of, header_of, reading, Data, after_all, Ends, requests, sends, receives, loses, StepAt, at_near, at_far, doing_all, usual_terms, up}
 
 abbrev pub both : Ends
 both = record {
@@ -8,11 +8,11 @@ both = record {
   far = record { terms = usual_terms; link = up; way = []; delivered = [] };
 }
 
-abbrev asked : ℕ → Doing
-asked n = at_near (asks (Data (n ∷ [])) false)
+abbrev asked : ℕ → StepAt
+asked n = at_near (requests (Data (n ∷ [])) false)
 
 -- seven contents are accepted and sent; two frames are received, the third is lost, and four are received
-abbrev lossy : List Doing
+abbrev lossy : List StepAt
 lossy =
     asked 1 ∷ asked 2 ∷ asked 3 ∷ asked 4 ∷ asked 5 ∷ asked 6 ∷ asked 7 ∷ replicate 7 (at_near sends)
     ++ at_far receives ∷ at_far receives ∷ at_near loses ∷ replicate 4 (at_far receives)
@@ -22,7 +22,7 @@ unfolding seq distance_of named reading header_of control_of unnumbered_of super
 lost_third = refl
 
 -- then REJ comes back, and five frames go again
-abbrev pub mended : List Doing
+abbrev pub mended : List StepAt
 mended = lossy ++ at_far sends ∷ at_near receives ∷ replicate 7 (at_near sends) ++ replicate 5 (at_far receives)
 
 sent_again : length (doing_all (lossy ++ at_far sends ∷ at_near receives ∷ replicate 7 (at_near sends)) both).near.way ≡ 5

@@ -1,17 +1,17 @@
 -- Worked values: polls and their answers, and what goes in its turn.
 use Rattle.std.specs.Prelude.{◌≡◌, ℕ, false, true, List, [], ◌∷◌, refl, Some}
-use Rattle.laws_link.specs.WorkedWords.{seq, distance_of, named, ReceiveReady, ReceiveNotReady, Reject, Ua, Dm, supervisory_of, unnumbered_of, control_of, header_of, reading, ControlFrame, T200, Link, fresh, Data, SetBusy, response, after, after_all, usual_terms, comes, ask, up, after_offers, turns}
+use Rattle.laws_link.specs.WorkedWords.{seq, distance_of, named, ReceiveReady, ReceiveNotReady, Reject, Ua, Dm, supervisory_of, unnumbered_of, control_of, header_of, reading, ControlFrame, T200, Link, fresh, Data, SetBusy, response, after, after_all, usual_terms, frame_comes, ask, up}
 
 -- What waits after an event.
 abbrev waits_after : List ℕ → Link → List ControlFrame
-waits_after octets l = (after usual_terms (comes octets) l).waiting
+waits_after octets l = (after usual_terms (frame_comes octets) l).waiting
 
 -- RR with P=1 in state 7: RR with F=1. Two of them: two answers.
 rr_polled : waits_after (0x00 ∷ 0x81 ∷ 0x01 ∷ 0x01 ∷ []) up ≡ response (ReceiveReady (seq 0) true) ∷ []
 unfolding seq distance_of named reading header_of control_of unnumbered_of supervisory_of after_all
 rr_polled = refl
 
-rr_polled_twice : waits_after (0x00 ∷ 0x81 ∷ 0x01 ∷ 0x01 ∷ []) (after usual_terms (comes (0x00 ∷ 0x81 ∷ 0x01 ∷ 0x01 ∷ [])) up)
+rr_polled_twice : waits_after (0x00 ∷ 0x81 ∷ 0x01 ∷ 0x01 ∷ []) (after usual_terms (frame_comes (0x00 ∷ 0x81 ∷ 0x01 ∷ 0x01 ∷ [])) up)
     ≡ response (ReceiveReady (seq 0) true) ∷ response (ReceiveReady (seq 0) true) ∷ []
 unfolding seq distance_of named reading header_of control_of unnumbered_of supervisory_of after_all
 rr_polled_twice = refl
@@ -37,7 +37,7 @@ unfolding seq distance_of named reading header_of control_of unnumbered_of super
 no_poll = refl
 
 -- RNR: T200 runs, so that the terminal is asked again.
-busy_asked_again : (after usual_terms (comes (0x00 ∷ 0x81 ∷ 0x05 ∷ 0x00 ∷ [])) up).running ≡ Some T200
+busy_asked_again : (after usual_terms (frame_comes (0x00 ∷ 0x81 ∷ 0x05 ∷ 0x00 ∷ [])) up).running ≡ Some T200
 unfolding seq distance_of named reading header_of control_of unnumbered_of supervisory_of after_all
 busy_asked_again = refl
 
@@ -52,12 +52,4 @@ disc_in_4 = refl
 
 -- With two contents and an acknowledgement owed, three turns at most; two are enough, since an I-frame acknowledges.
 abbrev owing : Link
-owing = after_all usual_terms (ask (Data (1 ∷ [])) ∷ ask (Data (2 ∷ [])) ∷ comes (0x00 ∷ 0x81 ∷ 0x00 ∷ 0x00 ∷ 0x41 ∷ []) ∷ []) up
-
-three_turns : turns owing ≡ 3
-unfolding seq distance_of named reading header_of control_of unnumbered_of supervisory_of after_all
-three_turns = refl
-
-no_turn_left : turns (after_offers usual_terms 2 owing) ≡ 0
-unfolding seq distance_of named reading header_of control_of unnumbered_of supervisory_of after_all after_offers
-no_turn_left = refl
+owing = after_all usual_terms (ask (Data (1 ∷ [])) ∷ ask (Data (2 ∷ [])) ∷ frame_comes (0x00 ∷ 0x81 ∷ 0x00 ∷ 0x00 ∷ 0x41 ∷ []) ∷ []) up

@@ -1,19 +1,19 @@
 -- Worked values: seven contents one way and two the other arrive, after no loss and after the loss of every frame.
 use Rattle.std.specs.Prelude.{◌≡◌, ℕ, false, List, [], ◌∷◌, ◌++◌, length, replicate, refl}
-use Rattle.laws_link.specs.WorkedWords.{seq, distance_of, named, supervisory_of, unnumbered_of, control_of, header_of, reading, Data, after_all, Ends, asks, sends, receives, loses, Doing, at_near, at_far, doing_all, rounds, with_t200_expired}
+use Rattle.laws_link.specs.WorkedWords.{seq, distance_of, named, supervisory_of, unnumbered_of, control_of, header_of, reading, Data, after_all, Ends, requests, sends, receives, loses, StepAt, at_near, at_far, doing_all, rounds, with_t200_expired}
 use Rattle.laws_link.specs.two.WorkedEnds.{both}
 
-abbrev pub near_asked : ℕ → Doing
-near_asked n = at_near (asks (Data (n ∷ [])) false)
+abbrev pub near_asked : ℕ → StepAt
+near_asked n = at_near (requests (Data (n ∷ [])) false)
 
-abbrev pub far_asked : ℕ → Doing
-far_asked n = at_far (asks (Data (n ∷ [])) false)
+abbrev pub far_asked : ℕ → StepAt
+far_asked n = at_far (requests (Data (n ∷ [])) false)
 
 abbrev pub octets : List (List ℕ)
 octets = (1 ∷ []) ∷ (2 ∷ []) ∷ (3 ∷ []) ∷ []
 
 -- Three contents at near, two at far, none sent: four rounds are enough.
-abbrev pub asking : List Doing
+abbrev pub asking : List StepAt
 asking = near_asked 1 ∷ near_asked 2 ∷ near_asked 3 ∷ far_asked 4 ∷ far_asked 5 ∷ []
 
 abbrev pub asked : Ends
@@ -42,7 +42,7 @@ unfolding seq distance_of named reading header_of control_of unnumbered_of super
 two_rounds = refl
 
 -- All three of near's frames are lost, and one of far's. T200 expires at both; three and three rounds later all is there.
-abbrev pub losing : List Doing
+abbrev pub losing : List StepAt
 losing = asking ++ replicate 3 (at_near sends) ++ replicate 3 (at_near loses) ++ at_far sends ∷ at_far loses ∷ []
 
 abbrev pub cut_off : Ends

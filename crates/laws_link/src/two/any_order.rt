@@ -1,7 +1,7 @@
 //! Two links whose turns come in any order.
 
-ghost use Rattle.std.specs.Prelude.{ℕ, ◌+◌, ◌≤◌, List, length};
-ghost use Rattle.model_link.specs.TwoEnds.{Ends, Doing, doing_all};
+ghost use Rattle.std.specs.Prelude.{◌+◌, ◌≤◌, List, length};
+ghost use Rattle.model_link.specs.TwoEnds.{Ends, StepAt, doing_all};
 ghost use Rattle.laws_link.specs.two.AnyOrder.{AreTurns, IsStill, weight};
 ghost use Rattle.laws_link.specs.two.Rounds.{IsReady, IsTaken, HasArrived};
 
@@ -15,10 +15,10 @@ ghost use Rattle.laws_link.specs.two.Rounds.{IsReady, IsTaken, HasArrived};
 /// gave on either side are delivered at the other, in order, and acknowledged, and both links are in state 7 (Q.921 clauses
 /// 5.6.1 to 5.6.3).
 pub fn arrives_in_any_order()
-    ensures bounded { (ds : List Doing) (e : Ends) → IsReady e.near → IsReady e.far → IsTaken e.near e.far → IsTaken e.far e.near → AreTurns ds e →
+    ensures bounded { (ds : List StepAt) (e : Ends) → IsReady e.near → IsReady e.far → IsTaken e.near e.far → IsTaken e.far e.near → AreTurns ds e →
         length ds + weight (doing_all ds e) ≤ weight e }
-    ensures near { (ds : List Doing) (e : Ends) → IsReady e.near → IsReady e.far → IsTaken e.near e.far → IsTaken e.far e.near → AreTurns ds e →
+    ensures near { (ds : List StepAt) (e : Ends) → IsReady e.near → IsReady e.far → IsTaken e.near e.far → IsTaken e.far e.near → AreTurns ds e →
         IsStill (doing_all ds e) → HasArrived e.near.link.contents (doing_all ds e).near (doing_all ds e).far }
-    ensures far { (ds : List Doing) (e : Ends) → IsReady e.near → IsReady e.far → IsTaken e.near e.far → IsTaken e.far e.near → AreTurns ds e →
+    ensures far { (ds : List StepAt) (e : Ends) → IsReady e.near → IsReady e.far → IsTaken e.near e.far → IsTaken e.far e.near → AreTurns ds e →
         IsStill (doing_all ds e) → HasArrived e.far.link.contents (doing_all ds e).far (doing_all ds e).near }
 {}

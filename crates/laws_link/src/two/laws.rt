@@ -1,54 +1,17 @@
 //! The laws of one link, and of two that face each other. Each is the contract of a call that does nothing.
 
-ghost use Rattle.std.specs.Prelude.{◌≡◌, ℕ, ◌+◌, ◌≤◌, Bool, true, false, List, [], ◌∷◌, ◌++◌, length, None, is_some};
-ghost use Rattle.lapd_frame.specs.Grammar.{Parts};
+ghost use Rattle.std.specs.Prelude.{◌≡◌, ℕ, ◌+◌, List};
 ghost use Rattle.model_link.specs.declared.terms.Terms.{Terms};
-ghost use Rattle.model_link.specs.declared.frames.ControlFrame.{ControlFrame};
 ghost use Rattle.model_link.specs.Link.{Link, fresh};
-ghost use Rattle.model_link.specs.Events.{Event, frame, received};
-ghost use Rattle.model_link.specs.Machine.{after, after_all, told, given};
+ghost use Rattle.model_link.specs.Events.{Event};
+ghost use Rattle.model_link.specs.Machine.{after, after_all};
 ghost use Rattle.laws_link.specs.Timed.{IsTimed};
 ghost use Rattle.laws_link.specs.two.Ahead.{IsAhead, StayAhead};
-ghost use Rattle.laws_link.specs.two.CutOff.{IsCutOff, IsSilent, HasMissing, with_t200_expired};
+ghost use Rattle.laws_link.specs.two.CutOff.{IsCutOff, CanRecoverFrom, HasMissing, with_t200_expired};
 ghost use Rattle.laws_link.specs.two.Heeds.{Heeds};
-ghost use Rattle.model_link.specs.TwoEnds.{Ends, Doing, doing_all, Begins, StayUp, Agree};
+ghost use Rattle.model_link.specs.TwoEnds.{Ends, StepAt, doing_all, Begins, StayUp, Agree};
 ghost use Rattle.laws_link.specs.two.Rounds.{rounds, IsReady, IsTaken, HasUnsent, HasArrived};
-ghost use Rattle.laws_link.specs.two.Timely.{StayTimely, IsHushed};
-ghost use Rattle.laws_link.specs.two.Waits.{HasNothingToSend, after_offers, turns, GoesWhole};
-ghost use Rattle.laws_link.specs.two.Polls.{IsPollWhileUp, Answered, AnsweredBy, asked_of, polls, finals};
-
-/// A link holds nothing back: an offer gives nothing exactly where no control frame waits, no I-frame may go, and no
-/// acknowledgement is owed. An I-frame may go in state 7 while the terminal is not busy, fewer than k are
-/// outstanding, and contents are unsent (Q.921 clauses 5.6.1 and 5.6.5). What waits goes in its turn: a control frame
-/// before which others wait goes, alone, at the offer after theirs. And with offers alone, after as many as frames
-/// wait, contents are unsent and acknowledgements are owed, nothing is left that may go. No premise is made on the
-/// link.
-pub fn nothing_is_held_back()
-    ensures nothing_given { (t : Terms) (l : Link) → given t l ≡ None → HasNothingToSend t l }
-    ensures nothing_to_send { (t : Terms) (l : Link) → HasNothingToSend t l → given t l ≡ None }
-    ensures in_turn { (t : Terms) (l : Link) (before : List ControlFrame) (f : ControlFrame) (behind : List ControlFrame) →
-        l.waiting ≡ before ++ f ∷ behind → GoesWhole f (given t (after_offers t (length before) l)) }
-    ensures in_the_end { (t : Terms) (n : ℕ) (l : Link) → turns l ≤ n → HasNothingToSend t (after_offers t n l) }
-{}
-
-/// Each poll is answered. In states 7 and 8 a supervisory command or an I-frame with P=1, with a valid N(R) and, for an
-/// I-frame, contents of at most N201 octets, puts exactly one frame more behind those that wait, if there is room for
-/// one: a response RR, RNR or REJ with F=1 and N(R) = V(R), as V(R) is after the event (Q.921 clauses 5.6.2 to 5.6.7
-/// and 5.8.1). In every state SABME and DISC put exactly one frame more there, with F = P: UA to SABME but in state 6,
-/// where it is DM; UA to DISC in states 6, 7 and 8, and DM in 4 and 5 (clauses 5.5.1.2, 5.5.3.2, 5.5.4 and 5.5.5). And
-/// nothing else puts a response with F=1 there: with each event those that wait grow by at most one, and not at all
-/// where the event is no poll. Where there is no room the answer is lost, and told as lost (`lost`, `lost_unnumbered`).
-pub fn polls_are_answered()
-    ensures multiple_frame { (t : Terms) (l : Link) (f : Parts) → IsPollWhileUp t l f → length l.waiting + 1 ≤ t.control →
-        Answered l.waiting (after t (received (frame f)) l) }
-    ensures unnumbered { (t : Terms) (l : Link) (f : Parts) → length l.waiting + 1 ≤ t.control →
-        AnsweredBy (asked_of l.state f.control) l.waiting (after t (received (frame f)) l) }
-    ensures lost { (t : Terms) (l : Link) (f : Parts) → IsPollWhileUp t l f → t.control ≤ length l.waiting →
-        1 ≤ (told t (received (frame f)) l).lost }
-    ensures lost_unnumbered { (t : Terms) (l : Link) (f : Parts) → is_some (asked_of l.state f.control) ≡ true → t.control ≤ length l.waiting →
-        1 ≤ (told t (received (frame f)) l).lost }
-    ensures nothing_else { (t : Terms) (e : Event) (l : Link) → finals (after t e l).waiting ≤ finals l.waiting + polls e }
-{}
+ghost use Rattle.laws_link.specs.two.Timely.{StayTimely, CanRecover};
 
 /// A busy terminal is asked again: in states 7 and 8 a link that takes its terminal for busy runs T200, whatever
 /// happened to it since its TEI came to the line; so when T200 expires it asks, and the answer tells whether the
@@ -62,11 +25,11 @@ pub fn busy_is_heeded()
 
 /// What layer 3 hands over arrives, on ways that lose nothing. Two links face each other in state 7, neither side is
 /// busy, and nothing waits or is on its way; what either has sent the other has delivered, and owes an acknowledgement
-/// for what is outstanding; and what is to come fits the other's N201. In a round each end in turn gives its next
-/// frame, if it has one, and the other receives it. Where neither has more than u contents unsent, u + 1 rounds
-/// suffice: all contents that layer 3 gave on either side are delivered at the other, in order, and acknowledged; both
-/// links are in state 7, and neither has anything more to say (Q.921 clause 5.6). The ends may have different terms,
-/// and any windows.
+/// for what is outstanding; and what is to come fits the other's N201. In a round the near end sends its next frame, if
+/// it has one, and the far end receives it; then the far end sends its next, and the near end receives it. Where
+/// neither has more than u contents unsent, u + 1 rounds suffice: all contents that layer 3 gave on either side are
+/// delivered at the other, in order, and acknowledged; both links are in state 7, and neither has anything more to say
+/// (Q.921 clause 5.6). The ends may have different terms, and any windows.
 pub fn contents_arrive()
     ensures near { (u : ℕ) (e : Ends) → IsReady e.near → IsReady e.far → IsTaken e.near e.far → IsTaken e.far e.near →
         HasUnsent u e.near → HasUnsent u e.far →
@@ -78,26 +41,27 @@ pub fn contents_arrive()
 
 /// Losses are recovered. Two links face each other in states 7 and 8, and all frames in flight were lost, whatever the
 /// two were doing: their V(S) may be beyond what was received, either may have sent REJ, take the other for busy, or
-/// wait for the answer to an enquiry. Neither is busy itself, and each can repeat an enquiry; what the other has
-/// received lies between V(A) and V(S). Once T200 expires where it runs, and nothing more is lost, u + 3 rounds suffice,
-/// where neither has more than u contents that were not received: all contents that layer 3 gave on either side are
-/// delivered at the other, in order, and acknowledged; both links are in state 7, and neither has anything more to say
-/// (Q.921 clauses 5.6.7 and 5.8.1). So it is with any two links that came from an establishment by whatever was done to
-/// them, as long as both stayed in states 7 and 8 (`reached_near`, `reached_far`): of them only what `IsSilent` says has to
-/// be asked, where the two have the same N201.
+/// wait for the answer to an enquiry. At neither a control frame waits to be sent: if one does, this law says nothing.
+/// Neither is busy itself, and each can repeat an enquiry; what the other has received lies between V(A) and V(S). Once
+/// T200 expires where it runs, and nothing more is lost, u + 3 rounds suffice, where neither has more than u contents
+/// that were not received: all contents that layer 3 gave on either side are delivered at the other, in order, and
+/// acknowledged; both links are in state 7, and neither has anything more to say (Q.921 clauses 5.6.7 and 5.8.1). So it
+/// is with any two links that came from an establishment by whatever was done to them, as long as both stayed in states
+/// 7 and 8 (`reached_near`, `reached_far`): of them only what `CanRecoverFrom` says has to be asked, where the two have
+/// the same N201.
 pub fn losses_are_recovered()
     ensures near { (u : ℕ) (e : Ends) → IsCutOff e.near e.far → IsCutOff e.far e.near → HasMissing u e.near e.far → HasMissing u e.far e.near →
         HasArrived e.near.link.contents (rounds (u + 3) (with_t200_expired e)).near (rounds (u + 3) (with_t200_expired e)).far }
     ensures far { (u : ℕ) (e : Ends) → IsCutOff e.near e.far → IsCutOff e.far e.near → HasMissing u e.near e.far → HasMissing u e.far e.near →
         HasArrived e.far.link.contents (rounds (u + 3) (with_t200_expired e)).far (rounds (u + 3) (with_t200_expired e)).near }
-    ensures reached_near { (ds : List Doing) (u : ℕ) (e : Ends) → Begins e.near → Begins e.far → IsTimed e.near.link → IsTimed e.far.link →
+    ensures reached_near { (ds : List StepAt) (u : ℕ) (e : Ends) → Begins e.near → Begins e.far → IsTimed e.near.link → IsTimed e.far.link →
         e.near.terms.n201 ≡ e.far.terms.n201 → StayUp ds e →
-        IsSilent (doing_all ds e).near (doing_all ds e).far → IsSilent (doing_all ds e).far (doing_all ds e).near →
+        CanRecoverFrom (doing_all ds e).near (doing_all ds e).far → CanRecoverFrom (doing_all ds e).far (doing_all ds e).near →
         HasMissing u (doing_all ds e).near (doing_all ds e).far → HasMissing u (doing_all ds e).far (doing_all ds e).near →
         HasArrived (doing_all ds e).near.link.contents (rounds (u + 3) (with_t200_expired (doing_all ds e))).near (rounds (u + 3) (with_t200_expired (doing_all ds e))).far }
-    ensures reached_far { (ds : List Doing) (u : ℕ) (e : Ends) → Begins e.near → Begins e.far → IsTimed e.near.link → IsTimed e.far.link →
+    ensures reached_far { (ds : List StepAt) (u : ℕ) (e : Ends) → Begins e.near → Begins e.far → IsTimed e.near.link → IsTimed e.far.link →
         e.near.terms.n201 ≡ e.far.terms.n201 → StayUp ds e →
-        IsSilent (doing_all ds e).near (doing_all ds e).far → IsSilent (doing_all ds e).far (doing_all ds e).near →
+        CanRecoverFrom (doing_all ds e).near (doing_all ds e).far → CanRecoverFrom (doing_all ds e).far (doing_all ds e).near →
         HasMissing u (doing_all ds e).near (doing_all ds e).far → HasMissing u (doing_all ds e).far (doing_all ds e).near →
         HasArrived (doing_all ds e).far.link.contents (rounds (u + 3) (with_t200_expired (doing_all ds e))).far (rounds (u + 3) (with_t200_expired (doing_all ds e))).near }
 {}
@@ -109,11 +73,11 @@ pub fn losses_are_recovered()
 /// links out of states 7 and 8 but a release, repeats that are used up, and a V(S) that went back too far; the last takes
 /// a T200 that is too short (`specs/WorkedUntimely`). A timely T200 rules it out: [`links_stay_up`].
 pub fn stay_up_while_ahead()
-    ensures up { (ds : List Doing) (e : Ends) → Begins e.near → Begins e.far → e.near.terms.n201 ≡ e.far.terms.n201 → StayAhead ds e →
+    ensures up { (ds : List StepAt) (e : Ends) → Begins e.near → Begins e.far → e.near.terms.n201 ≡ e.far.terms.n201 → StayAhead ds e →
         StayUp ds e }
-    ensures near { (ds : List Doing) (e : Ends) → Begins e.near → Begins e.far → e.near.terms.n201 ≡ e.far.terms.n201 → StayAhead ds e →
+    ensures near { (ds : List StepAt) (e : Ends) → Begins e.near → Begins e.far → e.near.terms.n201 ≡ e.far.terms.n201 → StayAhead ds e →
         Agree (doing_all ds e).near (doing_all ds e).far }
-    ensures far { (ds : List Doing) (e : Ends) → Begins e.near → Begins e.far → e.near.terms.n201 ≡ e.far.terms.n201 → StayAhead ds e →
+    ensures far { (ds : List StepAt) (e : Ends) → Begins e.near → Begins e.far → e.near.terms.n201 ≡ e.far.terms.n201 → StayAhead ds e →
         Agree (doing_all ds e).far (doing_all ds e).near }
 {}
 
@@ -128,20 +92,20 @@ pub fn stay_up_while_ahead()
 /// than u contents that were not received. That T200 has to be timely is needed: `specs/WorkedUntimely` is a run in
 /// which it is not, and contents are delivered twice.
 pub fn links_stay_up()
-    ensures up { (ds : List Doing) (e : Ends) → Begins e.near → Begins e.far → e.near.terms.n201 ≡ e.far.terms.n201 → StayTimely ds e →
+    ensures up { (ds : List StepAt) (e : Ends) → Begins e.near → Begins e.far → e.near.terms.n201 ≡ e.far.terms.n201 → StayTimely ds e →
         StayUp ds e }
-    ensures ahead { (ds : List Doing) (e : Ends) → Begins e.near → Begins e.far → e.near.terms.n201 ≡ e.far.terms.n201 → StayTimely ds e →
+    ensures ahead { (ds : List StepAt) (e : Ends) → Begins e.near → Begins e.far → e.near.terms.n201 ≡ e.far.terms.n201 → StayTimely ds e →
         IsAhead (doing_all ds e) }
-    ensures near { (ds : List Doing) (e : Ends) → Begins e.near → Begins e.far → e.near.terms.n201 ≡ e.far.terms.n201 → StayTimely ds e →
+    ensures near { (ds : List StepAt) (e : Ends) → Begins e.near → Begins e.far → e.near.terms.n201 ≡ e.far.terms.n201 → StayTimely ds e →
         Agree (doing_all ds e).near (doing_all ds e).far }
-    ensures far { (ds : List Doing) (e : Ends) → Begins e.near → Begins e.far → e.near.terms.n201 ≡ e.far.terms.n201 → StayTimely ds e →
+    ensures far { (ds : List StepAt) (e : Ends) → Begins e.near → Begins e.far → e.near.terms.n201 ≡ e.far.terms.n201 → StayTimely ds e →
         Agree (doing_all ds e).far (doing_all ds e).near }
-    ensures recovered_near { (ds : List Doing) (u : ℕ) (e : Ends) → Begins e.near → Begins e.far → IsTimed e.near.link → IsTimed e.far.link →
-        e.near.terms.n201 ≡ e.far.terms.n201 → StayTimely ds e → IsHushed (doing_all ds e).near → IsHushed (doing_all ds e).far →
+    ensures recovered_near { (ds : List StepAt) (u : ℕ) (e : Ends) → Begins e.near → Begins e.far → IsTimed e.near.link → IsTimed e.far.link →
+        e.near.terms.n201 ≡ e.far.terms.n201 → StayTimely ds e → CanRecover (doing_all ds e).near → CanRecover (doing_all ds e).far →
         HasMissing u (doing_all ds e).near (doing_all ds e).far → HasMissing u (doing_all ds e).far (doing_all ds e).near →
         HasArrived (doing_all ds e).near.link.contents (rounds (u + 3) (with_t200_expired (doing_all ds e))).near (rounds (u + 3) (with_t200_expired (doing_all ds e))).far }
-    ensures recovered_far { (ds : List Doing) (u : ℕ) (e : Ends) → Begins e.near → Begins e.far → IsTimed e.near.link → IsTimed e.far.link →
-        e.near.terms.n201 ≡ e.far.terms.n201 → StayTimely ds e → IsHushed (doing_all ds e).near → IsHushed (doing_all ds e).far →
+    ensures recovered_far { (ds : List StepAt) (u : ℕ) (e : Ends) → Begins e.near → Begins e.far → IsTimed e.near.link → IsTimed e.far.link →
+        e.near.terms.n201 ≡ e.far.terms.n201 → StayTimely ds e → CanRecover (doing_all ds e).near → CanRecover (doing_all ds e).far →
         HasMissing u (doing_all ds e).near (doing_all ds e).far → HasMissing u (doing_all ds e).far (doing_all ds e).near →
         HasArrived (doing_all ds e).far.link.contents (rounds (u + 3) (with_t200_expired (doing_all ds e))).far (rounds (u + 3) (with_t200_expired (doing_all ds e))).near }
 {}

@@ -3,9 +3,9 @@
 ghost use Rattle.std.specs.Prelude.{◌≡◌, ◌⊎◌, ℕ, ◌+◌, true, Some, List};
 ghost use Rattle.model_link.specs.declared.timers.LinkTimer.TheVariants.{T200};
 ghost use Rattle.laws_link.specs.Timed.{IsTimed};
-ghost use Rattle.model_link.specs.TwoEnds.{Ends, Doing, doing_all, Begins, StayUp};
-ghost use Rattle.laws_link.specs.two.CutOff.{IsCutOff, IsCutOffWith, IsSilent, IsSilentWith, HasMissing, with_t200_expired};
-ghost use Rattle.laws_link.specs.two.OwnBusy.{IsBusyItself, IsOpenItself, IsDropped, GetsThrough, with_near_busy, with_far_busy};
+ghost use Rattle.model_link.specs.TwoEnds.{Ends, StepAt, doing_all, Begins, StayUp};
+ghost use Rattle.laws_link.specs.two.CutOff.{IsCutOff, IsCutOffWith, CanRecoverFrom, CanRecoverFromWith, HasMissing, with_t200_expired};
+ghost use Rattle.laws_link.specs.two.OwnBusy.{IsBusyItself, IsUpAndIdle, IsDropped, GetsThrough, with_near_busy, with_far_busy};
 ghost use Rattle.laws_link.specs.two.BusyOver.{with_near_told, with_near_untold, with_far_told, with_far_untold, HasDroppedNothing, BothHaveArrived};
 ghost use Rattle.laws_link.specs.two.Rounds.{rounds, IsReady, IsTaken, HasUnsent};
 
@@ -22,9 +22,9 @@ ghost use Rattle.laws_link.specs.two.Rounds.{rounds, IsReady, IsTaken, HasUnsent
 /// may go to the RNR that tells of it; and the other takes the busy end for busy then (`begun_near`, `begun_far`), and so
 /// asks again ([`crate::busy_is_heeded`]).
 pub fn busy_ends_are_heard()
-    ensures near { (u : ℕ) (e : Ends) → IsBusyItself e.near → IsOpenItself e.far → IsTaken e.near e.far → IsDropped e.near e.far → HasUnsent u e.near →
+    ensures near { (u : ℕ) (e : Ends) → IsBusyItself e.near → IsUpAndIdle e.far → IsTaken e.near e.far → IsDropped e.near e.far → HasUnsent u e.near →
         GetsThrough e.near e.far (rounds (u + 1) e).near (rounds (u + 1) e).far }
-    ensures far { (u : ℕ) (e : Ends) → IsBusyItself e.far → IsOpenItself e.near → IsTaken e.far e.near → IsDropped e.far e.near → HasUnsent u e.far →
+    ensures far { (u : ℕ) (e : Ends) → IsBusyItself e.far → IsUpAndIdle e.near → IsTaken e.far e.near → IsDropped e.far e.near → HasUnsent u e.far →
         GetsThrough e.far e.near (rounds (u + 1) e).far (rounds (u + 1) e).near }
     ensures begun_near { (u : ℕ) (e : Ends) → IsReady e.near → IsReady e.far → IsTaken e.near e.far → IsTaken e.far e.near → HasUnsent u e.near →
         GetsThrough e.near e.far (rounds (u + 2) (with_near_busy e)).near (rounds (u + 2) (with_near_busy e)).far × ((rounds (u + 2) (with_near_busy e)).far.link.peer_busy ≡ true) }
@@ -41,7 +41,7 @@ pub fn busy_ends_are_heard()
 /// busy end did not take. Where T200 ran at either end, the other takes the busy end for busy then (`near_known`,
 /// `far_known`), and so asks again ([`crate::busy_is_heeded`]). So it is with any two links that came from an establishment
 /// by whatever was done to them, as long as both stayed in states 7 and 8 (`reached_near`, `reached_far`): of them only what
-/// `IsSilentWith` says has to be asked, where the two have the same N201 (Q.921 clauses 5.6.5, 5.6.6 and 5.6.7).
+/// `CanRecoverFromWith` says has to be asked, where the two have the same N201 (Q.921 clauses 5.6.5, 5.6.6 and 5.6.7).
 pub fn busy_ends_recover()
     ensures near { (u : ℕ) (e : Ends) → IsCutOffWith true e.near e.far → IsCutOff e.far e.near → HasMissing u e.near e.far →
         GetsThrough e.near e.far (rounds (u + 3) (with_t200_expired e)).near (rounds (u + 3) (with_t200_expired e)).far }
@@ -51,14 +51,14 @@ pub fn busy_ends_recover()
         (e.near.link.running ≡ Some T200) ⊎ (e.far.link.running ≡ Some T200) → (rounds (u + 3) (with_t200_expired e)).far.link.peer_busy ≡ true }
     ensures far_known { (u : ℕ) (e : Ends) → IsCutOffWith true e.far e.near → IsCutOff e.near e.far → HasMissing u e.far e.near →
         (e.far.link.running ≡ Some T200) ⊎ (e.near.link.running ≡ Some T200) → (rounds (u + 3) (with_t200_expired e)).near.link.peer_busy ≡ true }
-    ensures reached_near { (ds : List Doing) (u : ℕ) (e : Ends) → Begins e.near → Begins e.far → IsTimed e.near.link → IsTimed e.far.link →
+    ensures reached_near { (ds : List StepAt) (u : ℕ) (e : Ends) → Begins e.near → Begins e.far → IsTimed e.near.link → IsTimed e.far.link →
         e.near.terms.n201 ≡ e.far.terms.n201 → StayUp ds e →
-        IsSilentWith true (doing_all ds e).near (doing_all ds e).far → IsSilent (doing_all ds e).far (doing_all ds e).near →
+        CanRecoverFromWith true (doing_all ds e).near (doing_all ds e).far → CanRecoverFrom (doing_all ds e).far (doing_all ds e).near →
         HasMissing u (doing_all ds e).near (doing_all ds e).far →
         GetsThrough (doing_all ds e).near (doing_all ds e).far (rounds (u + 3) (with_t200_expired (doing_all ds e))).near (rounds (u + 3) (with_t200_expired (doing_all ds e))).far }
-    ensures reached_far { (ds : List Doing) (u : ℕ) (e : Ends) → Begins e.near → Begins e.far → IsTimed e.near.link → IsTimed e.far.link →
+    ensures reached_far { (ds : List StepAt) (u : ℕ) (e : Ends) → Begins e.near → Begins e.far → IsTimed e.near.link → IsTimed e.far.link →
         e.near.terms.n201 ≡ e.far.terms.n201 → StayUp ds e →
-        IsSilentWith true (doing_all ds e).far (doing_all ds e).near → IsSilent (doing_all ds e).near (doing_all ds e).far →
+        CanRecoverFromWith true (doing_all ds e).far (doing_all ds e).near → CanRecoverFrom (doing_all ds e).near (doing_all ds e).far →
         HasMissing u (doing_all ds e).far (doing_all ds e).near →
         GetsThrough (doing_all ds e).far (doing_all ds e).near (rounds (u + 3) (with_t200_expired (doing_all ds e))).far (rounds (u + 3) (with_t200_expired (doing_all ds e))).near }
 {}
@@ -73,9 +73,9 @@ pub fn busy_ends_recover()
 /// u contents that the other has not received (clauses 5.6.5 and 5.6.7). So it is with any two links that came from an
 /// establishment by whatever was done to them, as long as both stayed in states 7 and 8 (`reached_near`, `reached_far`).
 pub fn kept_contents_arrive()
-    ensures near { (u : ℕ) (e : Ends) → IsBusyItself e.near → IsOpenItself e.far → IsTaken e.near e.far → HasDroppedNothing e.near e.far →
+    ensures near { (u : ℕ) (e : Ends) → IsBusyItself e.near → IsUpAndIdle e.far → IsTaken e.near e.far → HasDroppedNothing e.near e.far →
         HasUnsent u e.near → HasUnsent u e.far → BothHaveArrived e (rounds (u + 1) (with_near_told e)) }
-    ensures far { (u : ℕ) (e : Ends) → IsBusyItself e.far → IsOpenItself e.near → IsTaken e.far e.near → HasDroppedNothing e.far e.near →
+    ensures far { (u : ℕ) (e : Ends) → IsBusyItself e.far → IsUpAndIdle e.near → IsTaken e.far e.near → HasDroppedNothing e.far e.near →
         HasUnsent u e.far → HasUnsent u e.near → BothHaveArrived e (rounds (u + 1) (with_far_told e)) }
     ensures near_told { (u : ℕ) (e : Ends) → IsCutOffWith true e.near e.far → IsCutOff e.far e.near → HasMissing u e.near e.far → HasMissing u e.far e.near →
         BothHaveArrived e (rounds (u + 3) (with_t200_expired (with_near_told e))) }
@@ -85,14 +85,14 @@ pub fn kept_contents_arrive()
         BothHaveArrived e (rounds (u + 3) (with_t200_expired (with_near_untold e))) }
     ensures far_untold { (u : ℕ) (e : Ends) → IsCutOffWith true e.far e.near → IsCutOff e.near e.far → HasMissing u e.far e.near → HasMissing u e.near e.far →
         BothHaveArrived e (rounds (u + 3) (with_t200_expired (with_far_untold e))) }
-    ensures reached_near { (ds : List Doing) (u : ℕ) (e : Ends) → Begins e.near → Begins e.far → IsTimed e.near.link → IsTimed e.far.link →
+    ensures reached_near { (ds : List StepAt) (u : ℕ) (e : Ends) → Begins e.near → Begins e.far → IsTimed e.near.link → IsTimed e.far.link →
         e.near.terms.n201 ≡ e.far.terms.n201 → StayUp ds e →
-        IsSilentWith true (doing_all ds e).near (doing_all ds e).far → IsSilent (doing_all ds e).far (doing_all ds e).near →
+        CanRecoverFromWith true (doing_all ds e).near (doing_all ds e).far → CanRecoverFrom (doing_all ds e).far (doing_all ds e).near →
         HasMissing u (doing_all ds e).near (doing_all ds e).far → HasMissing u (doing_all ds e).far (doing_all ds e).near →
         BothHaveArrived (doing_all ds e) (rounds (u + 3) (with_t200_expired (with_near_told (doing_all ds e)))) }
-    ensures reached_far { (ds : List Doing) (u : ℕ) (e : Ends) → Begins e.near → Begins e.far → IsTimed e.near.link → IsTimed e.far.link →
+    ensures reached_far { (ds : List StepAt) (u : ℕ) (e : Ends) → Begins e.near → Begins e.far → IsTimed e.near.link → IsTimed e.far.link →
         e.near.terms.n201 ≡ e.far.terms.n201 → StayUp ds e →
-        IsSilentWith true (doing_all ds e).far (doing_all ds e).near → IsSilent (doing_all ds e).near (doing_all ds e).far →
+        CanRecoverFromWith true (doing_all ds e).far (doing_all ds e).near → CanRecoverFrom (doing_all ds e).near (doing_all ds e).far →
         HasMissing u (doing_all ds e).far (doing_all ds e).near → HasMissing u (doing_all ds e).near (doing_all ds e).far →
         BothHaveArrived (doing_all ds e) (rounds (u + 3) (with_t200_expired (with_far_told (doing_all ds e)))) }
 {}

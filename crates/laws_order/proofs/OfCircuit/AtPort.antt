@@ -1,8 +1,8 @@
 -- An end, as its octets are pulled, and as octets are heard there that end nothing.
-use Rattle.laws_order.proofs.Vocabulary.{◌≡◌, ℕ, ◌+◌, Bool, true, false, cond, [], ◌∷◌, ◌++◌, length, Option, None, Some, option_map, ap, ◌∙◌, arith, length-drop, Config, Card, answer_to, Port, given_in, is_due, item_of, left_of, gained, with_item, with_octet, ready_where, left_with_octet, Station, at, port_pull, port_octet, card_answer}
+use Rattle.laws_order.proofs.Vocabulary.{◌≡◌, ℕ, ◌+◌, Bool, true, false, cond, [], ◌∷◌, ◌++◌, length, Option, None, Some, option_map, ap, ◌∙◌, arith, length-drop, Config, Card, answer_to, Port, given_in, is_due, item_of, left_of, gained, with_item, with_octet, ready_where, left_with_octet, Endpoint, at, port_pull, port_octet, card_answer}
 use Rattle.model_line.specs.Event as line
 unfoldable use Rattle.model_card.specs.ports.Card.{meant}
-use Rattle.laws_order.specs.circuit.Circuit.{Termination, port_of, happens}
+use Rattle.laws_order.specs.circuit.Circuit.{Endpoint as OctetEndpoint, port_of, happens}
 use Rattle.laws_order.proofs.OfCircuit.AsFrames.{as_station, if_meant, heard-as, pulled-as}
 use Rattle.laws_order.proofs.OfCircuit.Projected.{Fits, port-after}
 use Rattle.laws_order.proofs.OfCircuit.Ran.{Ran, config, sound-port, within-ports}
@@ -14,20 +14,20 @@ next_of_card number card = card_answer (at number line.next) card
 -- ---- a pull
 
 -- the port and the card after a pull, where an item is due or not
-abbrev said_if : Bool → Termination → Option line.Answer
+abbrev said_if : Bool → OctetEndpoint → Option line.Answer
 said_if due s = option_map (answer_to s.card.card) (option_map (at s.line) (cond due (Some line.next) None))
 
-abbrev pulled_port : Bool → Termination → Port
+abbrev pulled_port : Bool → OctetEndpoint → Port
 pulled_port due s = with_octet (with_item (said_if due s) (port_of s))
 
-abbrev pulled_card : Bool → Termination → Card
+abbrev pulled_card : Bool → OctetEndpoint → Card
 pulled_card due s = (if_meant (cond due (Some line.next) None) (as_station [] s)).card
 
-card-pulled : (s : Termination) → (happens port_pull s).card.card ≡ pulled_card (is_due (port_of s)) s
-card-pulled s = ap (λ (x : Station). x.card) (pulled-as s [])
+card-pulled : (s : OctetEndpoint) → (happens port_pull s).card.card ≡ pulled_card (is_due (port_of s)) s
+card-pulled s = ap (λ (x : Endpoint). x.card) (pulled-as s [])
 
-module _ (n201 : ℕ) (c : Config) (fits : Fits n201 c) (s : Termination) (ran : Ran c s) where
-  abbrev after_pull : Termination
+module _ (n201 : ℕ) (c : Config) (fits : Fits n201 c) (s : OctetEndpoint) (ran : Ran c s) where
+  abbrev after_pull : OctetEndpoint
   after_pull = happens port_pull s
 
   port-pulled : port_of after_pull ≡ pulled_port (is_due (port_of s)) s
@@ -57,14 +57,14 @@ module _ (n201 : ℕ) (c : Config) (fits : Fits n201 c) (s : Termination) (ran :
 
 -- ---- an octet that ends nothing is heard
 
-module _ (n201 : ℕ) (c : Config) (fits : Fits n201 c) (s : Termination) (ran : Ran c s) (value : ℕ) (none : gained n201 (port_of s).received value ≡ None) where
-  abbrev after_octet : Termination
+module _ (n201 : ℕ) (c : Config) (fits : Fits n201 c) (s : OctetEndpoint) (ran : Ran c s) (value : ℕ) (none : gained n201 (port_of s).received value ≡ None) where
+  abbrev after_octet : OctetEndpoint
   after_octet = happens (port_octet value) s
 
   pub card-heard : after_octet.card.card ≡ s.card.card
   card-heard =
       let size : s.card.card.config.n201 ≡ n201 = ap (λ (x : Config). x.n201) (config c fits.ranged s ran) ∙ fits.size in
-      ap (λ (x : Station). x.card)
+      ap (λ (x : Endpoint). x.card)
       (heard-as value s [] ∙ ap (λ o. if_meant (option_map line.hears o) (as_station [] s)) (ap (λ n. gained n (port_of s).received value) size ∙ none))
 
   pub port-heard : port_of after_octet ≡ record (port_of s) { received = (port_of s).received ++ value ∷ [] }

@@ -1,5 +1,5 @@
 -- So many beats are enough.
-use Rattle.laws_order.proofs.Vocabulary.{IsToldAll, ◌≡◌, ℕ, zero, suc, ◌+◌, ◌*◌, ◌-◌, ◌≤◌, ◌<◌, Bool, false, ◌||◌, List, [], ◌∷◌, ◌++◌, length, map, refl, sym, ap, ◌∙◌, subst, arith, append-nil, append_assoc, All, if◌then◌else◌, append_cancel_left, All-append, All-head, All-tail, Service, Config, LineTold, Assign, CanCall, confirmed, told_first, data_told, Wire, IsStill, asks-way, doing-append, beats, enough_beats, granted_of, AllIsToldInBeats, wire_turns, wire_doing_all, Establish, Circuit, OctetDoing, doing, or-both}
+use Rattle.laws_order.proofs.Vocabulary.{IsToldAll, ◌≡◌, ℕ, zero, suc, ◌+◌, ◌*◌, ◌-◌, ◌≤◌, ◌<◌, Bool, false, ◌||◌, List, [], ◌∷◌, ◌++◌, length, map, refl, sym, ap, ◌∙◌, subst, arith, append-nil, append_assoc, All, if◌then◌else◌, append_cancel_left, All-append, All-head, All-tail, Service, Config, LineTold, Assign, CanCall, confirmed, told_first, data_told, Wire, IsStill, asks-way, doing-append, beats, enough_beats, granted_of, AllIsToldInBeats, wire_turns, wire_doing_all, Establish, Circuit, OctetStepAt, doing, or-both}
 use Rattle.laws_wire.specs.Call as call
 unfoldable use Rattle.laws_wire.specs.Wire.{doing_all as frames_done}
 unfoldable use Rattle.laws_order.specs.circuit.Circuit.{doing_all}
@@ -83,20 +83,20 @@ front-is-all all told now more rest same grown beginning =
 
 -- ---- a call
 
-both-append : (ds es : List OctetDoing) (w : Circuit) → both_call (ds ++ es) w ≡ (both_call ds w || both_call es (doing_all ds w))
+both-append : (ds es : List OctetStepAt) (w : Circuit) → both_call (ds ++ es) w ≡ (both_call ds w || both_call es (doing_all ds w))
 unfolding both_call doing_all
 both-append [] es w = refl
 both-append (x ∷ ds) es w = ap (λ b. calls_back x w || b) (both-append ds es (doing x w)) ∙ sym (or-both (calls_back x w) (both_call ds (doing x w)) (both_call es (doing_all ds (doing x w))))
 
-mute-calls_not : (x : OctetDoing) → IsMute x → (w : Circuit) → calls_back x w ≡ false
+mute-calls_not : (x : OctetStepAt) → IsMute x → (w : Circuit) → calls_back x w ≡ false
 mute-calls_not x h w = grind arith
 
-none-call : (ds : List OctetDoing) → All IsMute ds → (w : Circuit) → both_call ds w ≡ false
+none-call : (ds : List OctetStepAt) → All IsMute ds → (w : Circuit) → both_call ds w ≡ false
 unfolding both_call
 none-call [] all w = refl
 none-call (x ∷ ds) all w = ap (λ b. b || both_call ds (doing x w)) (mute-calls_not x (All-head IsMute x ds all) w) ∙ none-call ds (All-tail IsMute x ds all) (doing x w)
 
-module _ (service : Service) (c d : Config) (line other tei way n : ℕ) (ds : List OctetDoing) (can : CanCall c line d other tei) (talk : All (IsTalk service tei) ds) where
+module _ (service : Service) (c d : Config) (line other tei way n : ℕ) (ds : List OctetStepAt) (can : CanCall c line d other tei) (talk : All (IsTalk service tei) ds) where
   abbrev size : ℕ
   size = c.n201
 
@@ -151,7 +151,7 @@ module _ (service : Service) (c d : Config) (line other tei way n : ℕ) (ds : L
 
   none-yet : on_ways start ≡ 0
   none-yet =
-      omega (arith, (ap length (asks-way (Establish service tei) (call.assigned c line tei) ∙ asks-way (Assign tei) (call.station c line))), (ap length (asks-way (Assign tei) (call.station d other))))
+      omega (arith, (ap length (asks-way (Establish service tei) (call.assigned c line tei) ∙ asks-way (Assign tei) (call.endpoint c line))), (ap length (asks-way (Assign tei) (call.endpoint d other))))
 
   halved : (both : Bool) (t k a b g : ℕ) → 2 * t + a ≤ k + b → k ≤ (if both then 8 else 4) + 4 * g → b ≡ 0 → t ≤ (if both then 4 else 2) + 2 * g
   halved both t k a b g paid few none = grind arith

@@ -1,5 +1,5 @@
 -- Where no frame comes in so many beats, no turn was left before them.
-use Rattle.laws_order.proofs.Vocabulary.{◌≡◌, ℕ, ◌+◌, ◌*◌, ◌≤◌, ◌<◌, ◌⊎◌, inl, inr, Bool, true, false, List, [], ◌∷◌, ◌++◌, length, Option, None, Some, option_map, refl, sym, ap, ◌∙◌, subst, arith, append-nil, length-append, Service, heard_in, Item, Config, NextFrame, gave, taken, next_of, line_at, left_of, longest_text, Wire, IsStill, gives-taken, longest, Termination, port_of, Circuit, doing_all, wire_doing_all, stream_frame, length-map}
+use Rattle.laws_order.proofs.Vocabulary.{◌≡◌, ℕ, ◌+◌, ◌*◌, ◌≤◌, ◌<◌, ◌⊎◌, inl, inr, Bool, true, false, List, [], ◌∷◌, ◌++◌, length, Option, None, Some, option_map, refl, sym, ap, ◌∙◌, subst, arith, append-nil, length-append, Service, heard_in, Item, Config, NextFrame, gave, taken, next_of, line_at, left_of, longest_text, Wire, IsStill, gives-taken, longest, OctetEndpoint, port_of, Circuit, doing_all, wire_doing_all, stream_frame, length-map}
 use Rattle.laws_order.proofs.OfCircuit.AsFrames.{as_station}
 use Rattle.laws_order.proofs.OfCircuit.Coming.{Kept, from-near, from-far, frames_of, Puts, putting, GoesOn, going, all-out, Hears, hearing, IsBehind}
 use Rattle.laws_order.proofs.OfCircuit.AtPort.{next_of_card}
@@ -30,11 +30,11 @@ all-come way first received heard enough o = grind arith
 
 -- ---- from either end
 
-abbrev sender : Bool → Circuit → Termination
+abbrev sender : Bool → Circuit → OctetEndpoint
 sender false w = w.near
 sender true w = w.far
 
-abbrev receiver : Bool → Circuit → Termination
+abbrev receiver : Bool → Circuit → OctetEndpoint
 receiver false w = w.far
 receiver true w = w.near
 
@@ -78,7 +78,7 @@ module _ (n201 way : ℕ) where
         → Carries n201 (port_of (sender b w)) (sender b w).way (port_of (receiver b w)).received (its_frames b there back)
     its-carries b w there back h = grind arith
 
-    from : (b : Bool) (R : Termination → Termination → ℕ → ℕ → Type 0) → Kept n201 R → (n : ℕ) (w : Circuit) (there back : List (List ℕ)) → Follows n201 c d w there back
+    from : (b : Bool) (R : OctetEndpoint → OctetEndpoint → ℕ → ℕ → Type 0) → Kept n201 R → (n : ℕ) (w : Circuit) (there back : List (List ℕ)) → Follows n201 c d w there back
         → takings (doings_meant (many n) w) (as_wire there back w) ≡ 0 → R (sender b w) (receiver b w) 0 0 → R (sender b (doing_all (many n) w)) (receiver b (doing_all (many n) w)) n n
     from false R kept n w there back h none p = grind (arith, from-near, many, many-mute, pulls-near, count_near, one_pull, hearings-far)
     from true R kept n w there back h none p =
@@ -180,7 +180,7 @@ module _ (n201 way : ℕ) where
         → next_of_card (sender b w).line (sender b w).card.card ≡ gave None
     gives-none b way w never = go (option_map next_of (taken s.card.card.config (line_at s.line s.card.card))) (gives-taken (as_station way s))
       where
-        s : Termination
+        s : OctetEndpoint
         s = sender b w
 
         go : (o : Option NextFrame) → next_of_card s.line s.card.card ≡ gave o → next_of_card s.line s.card.card ≡ gave None

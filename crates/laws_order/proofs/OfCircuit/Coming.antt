@@ -1,7 +1,7 @@
 -- A frame that an end has to give, or that is on its way, comes in so many beats, whatever else is given meanwhile.
 use Rattle.laws_order.proofs.Vocabulary.{◌≡◌, ℕ, ◌+◌, ◌*◌, ◌≤◌, ◌<◌, ◌⊎◌, inl, inr, Bool, true, false, cond, List, [], ◌∷◌, ◌++◌, length, drop, Option, None, Some, is_some, option_map, option_to_list, refl, sym, ap, ◌∙◌, subst, arith, append-nil, append_assoc, length-append, All, length-map, All-head, All-tail, Service, Item, idle, heard_in, Config, NextFrame, gave, frames_among, Port, gained, given_in, is_due, item_of, left_of, IsSoundPort, heard_with, Wire, stream_frame, StreamEvent, port_pull, port_octet, frame}
 use Rattle.laws_wire.specs.Wire as wire
-use Rattle.laws_order.specs.circuit.Circuit.{Termination, port_of, happens, with_first_of, Circuit, OctetAct, hears, OctetDoing, at_near, at_far, acting, turned, doing}
+use Rattle.laws_order.specs.circuit.Circuit.{Endpoint as OctetEndpoint, port_of, happens, with_first_of, Circuit, Step as OctetStep, receives as octet_receives, StepAt as OctetStepAt, at_near, at_far, acting, turned, doing}
 unfoldable use Rattle.laws_order.specs.circuit.Circuit.{doing_all}
 use Rattle.laws_order.proofs.OfCircuit.AtPort.{next_of_card, pull-between, pull-put, pull-given, pull-received, card-heard, port-heard}
 use Rattle.laws_order.proofs.OfCircuit.Takings.{IsMuteOf, IsMute, one_pull, one_hearing, mute-talk, count_near, count_far}
@@ -13,15 +13,15 @@ use Rattle.laws_order.proofs.OfCircuit.Takings.{is_taking_of, takings, takings-a
 
 -- ---- no frame is taken
 
-abbrev pub IsDeaf : Option wire.Act → Wire → Type 0
+abbrev pub IsDeaf : Option wire.Step → Wire → Type 0
 IsDeaf None f = Unit {0}
 IsDeaf (Some act) f = is_taking_of act f ≡ false
 
-deaf-near : (o : Option wire.Act) (f : Wire) → takings (option_to_list (option_map wire.at_near o)) f ≡ 0 → IsDeaf o f
+deaf-near : (o : Option wire.Step) (f : Wire) → takings (option_to_list (option_map wire.at_near o)) f ≡ 0 → IsDeaf o f
 unfolding takings
 deaf-near o f e = grind (arith, is_taking_of)
 
-deaf-far : (o : Option wire.Act) (f : Wire) → takings (option_to_list (option_map wire.at_far o)) f ≡ 0 → IsDeaf o (wire.turned f)
+deaf-far : (o : Option wire.Step) (f : Wire) → takings (option_to_list (option_map wire.at_far o)) f ≡ 0 → IsDeaf o (wire.turned f)
 unfolding takings
 deaf-far o f e = grind (arith, is_taking_of)
 
@@ -32,9 +32,9 @@ module _ (n201 : ℕ) where
   deaf-heard c d fits fits_far w there back h value more is deaf =
       let size : w.near.card.card.config.n201 ≡ n201 = ap (λ (x : Config). x.n201) (config c fits.ranged w.near h.near) ∙ fits.size in
       go (gained n201 (port_of w.near).received value) refl
-      (subst (λ n. IsDeaf (cond (is_some (gained n (port_of w.near).received value)) (Some wire.takes) None) (as_wire there back w)) size deaf)
+      (subst (λ n. IsDeaf (cond (is_some (gained n (port_of w.near).received value)) (Some wire.receives) None) (as_wire there back w)) size deaf)
     where
-      go : (o : Option StreamEvent) → gained n201 (port_of w.near).received value ≡ o → IsDeaf (cond (is_some o) (Some wire.takes) None) (as_wire there back w) → o ≡ None
+      go : (o : Option StreamEvent) → gained n201 (port_of w.near).received value ≡ o → IsDeaf (cond (is_some o) (Some wire.receives) None) (as_wire there back w) → o ≡ None
       go None e deaf = refl
       go (Some event) e deaf =
           let x =
@@ -43,12 +43,12 @@ module _ (n201 : ℕ) where
           grind arith
 
   -- What each act at either end keeps, so does a list of them in which no frame is taken; what is done is counted.
-  module _ (P : Circuit → ℕ → ℕ → Type 0) (one two : OctetAct → ℕ)
-      (near : (c d : Config) → Fits n201 c → Fits n201 d → (w : Circuit) (there back : List (List ℕ)) → Follows n201 c d w there back → (act : OctetAct) → IsMuteOf act
+  module _ (P : Circuit → ℕ → ℕ → Type 0) (one two : OctetStep → ℕ)
+      (near : (c d : Config) → Fits n201 c → Fits n201 d → (w : Circuit) (there back : List (List ℕ)) → Follows n201 c d w there back → (act : OctetStep) → IsMuteOf act
       → IsDeaf (act_meant act w) (as_wire there back w) → (a b : ℕ) → P w a b → P (acting act w) (a + one act) b)
-      (far : (c d : Config) → Fits n201 c → Fits n201 d → (w : Circuit) (there back : List (List ℕ)) → Follows n201 c d w there back → (act : OctetAct) → IsMuteOf act
+      (far : (c d : Config) → Fits n201 c → Fits n201 d → (w : Circuit) (there back : List (List ℕ)) → Follows n201 c d w there back → (act : OctetStep) → IsMuteOf act
       → IsDeaf (act_meant act (turned w)) (wire.turned (as_wire there back w)) → (a b : ℕ) → P w a b → P (turned (acting act (turned w))) a (b + two act)) where
-    one-kept : (c d : Config) → Fits n201 c → Fits n201 d → (w : Circuit) (there back : List (List ℕ)) → Follows n201 c d w there back → (x : OctetDoing) → IsMute x
+    one-kept : (c d : Config) → Fits n201 c → Fits n201 d → (w : Circuit) (there back : List (List ℕ)) → Follows n201 c d w there back → (x : OctetStepAt) → IsMute x
         → takings (option_to_list (doing_meant x w)) (as_wire there back w) ≡ 0 → (a b : ℕ) → P w a b → P (doing x w) (a + count_near one (x ∷ [])) (b + count_far two (x ∷ []))
     one-kept c d fits fits_far w there back h (at_near act) mute none a b p =
         subst (λ m. P (acting act w) m (b + 0)) (let e : a + one act ≡ a + (one act + 0) = omega arith in e)
@@ -60,13 +60,13 @@ module _ (n201 : ℕ) where
         (subst (λ m. P w' a m) (let e : b + two act ≡ b + (two act + 0) = omega arith in e)
         (far c d fits fits_far w there back h act mute (deaf-far (act_meant act (turned w)) (as_wire there back w) none) a b p))
 
-    near-one : (x : OctetDoing) (ds : List OctetDoing) → count_near one (x ∷ ds) ≡ count_near one (x ∷ []) + count_near one ds
+    near-one : (x : OctetStepAt) (ds : List OctetStepAt) → count_near one (x ∷ ds) ≡ count_near one (x ∷ []) + count_near one ds
     near-one x ds = grind arith
 
-    far-one : (x : OctetDoing) (ds : List OctetDoing) → count_far two (x ∷ ds) ≡ count_far two (x ∷ []) + count_far two ds
+    far-one : (x : OctetStepAt) (ds : List OctetStepAt) → count_far two (x ∷ ds) ≡ count_far two (x ∷ []) + count_far two ds
     far-one x ds = grind arith
 
-    all-kept : (service : Service) (tei : ℕ) (c d : Config) (fits : Fits n201 c) (fits_far : Fits n201 d) (ds : List OctetDoing) → All IsMute ds → (w : Circuit) (there back : List (List ℕ))
+    all-kept : (service : Service) (tei : ℕ) (c d : Config) (fits : Fits n201 c) (fits_far : Fits n201 d) (ds : List OctetStepAt) → All IsMute ds → (w : Circuit) (there back : List (List ℕ))
         → Follows n201 c d w there back → takings (doings_meant ds w) (as_wire there back w) ≡ 0 → (a b : ℕ) → P w a b → P (doing_all ds w) (a + count_near one ds) (b + count_far two ds)
     unfolding doing_all doings_meant
     all-kept service tei c d fits fits_far [] all w there back h none a b p = grind arith
@@ -89,19 +89,19 @@ module _ (n201 : ℕ) where
 
   -- ---- from one end to the other: a sender's pulls and a receiver's hearings are counted
 
-  pub record Kept (R : Termination → Termination → ℕ → ℕ → Type 0) : Type 0 where
-    pub on_pull : (c : Config) (fits : Fits n201 c) (s r : Termination) → Ran c s → (a b : ℕ) → R s r a b → R (happens port_pull s) r (a + 1) b
-    pub on_octet : (c : Config) (fits : Fits n201 c) (s r : Termination) → Ran c s → (value : ℕ) → gained n201 (port_of s).received value ≡ None → (a b : ℕ) → R s r a b → R (happens (port_octet value) s) r a b
-    pub on_way : (s r : Termination) (way : List ℕ) (a b : ℕ) → R s r a b → R (record s { way = way }) r a b
-    pub there_pull : (c : Config) (fits : Fits n201 c) (s r : Termination) → Ran c r → (a b : ℕ) → R s r a b → R s (happens port_pull r) a b
-    pub there_octet : (c : Config) (fits : Fits n201 c) (s r : Termination) → Ran c r → (value : ℕ) → gained n201 (port_of r).received value ≡ None → (a b : ℕ) → R s r a b → R s (happens (port_octet value) r) a (b + 1)
-    pub there_none : (s r : Termination) (frames : List (List ℕ)) → Carries n201 (port_of s) s.way (port_of r).received frames → s.way ≡ [] → (a b : ℕ) → R s r a b → R s r a (b + 1)
-    pub there_way : (s r : Termination) (way : List ℕ) (a b : ℕ) → R s r a b → R s (record r { way = way }) a b
+  pub record Kept (R : OctetEndpoint → OctetEndpoint → ℕ → ℕ → Type 0) : Type 0 where
+    pub on_pull : (c : Config) (fits : Fits n201 c) (s r : OctetEndpoint) → Ran c s → (a b : ℕ) → R s r a b → R (happens port_pull s) r (a + 1) b
+    pub on_octet : (c : Config) (fits : Fits n201 c) (s r : OctetEndpoint) → Ran c s → (value : ℕ) → gained n201 (port_of s).received value ≡ None → (a b : ℕ) → R s r a b → R (happens (port_octet value) s) r a b
+    pub on_way : (s r : OctetEndpoint) (way : List ℕ) (a b : ℕ) → R s r a b → R (record s { way = way }) r a b
+    pub there_pull : (c : Config) (fits : Fits n201 c) (s r : OctetEndpoint) → Ran c r → (a b : ℕ) → R s r a b → R s (happens port_pull r) a b
+    pub there_octet : (c : Config) (fits : Fits n201 c) (s r : OctetEndpoint) → Ran c r → (value : ℕ) → gained n201 (port_of r).received value ≡ None → (a b : ℕ) → R s r a b → R s (happens (port_octet value) r) a (b + 1)
+    pub there_none : (s r : OctetEndpoint) (frames : List (List ℕ)) → Carries n201 (port_of s) s.way (port_of r).received frames → s.way ≡ [] → (a b : ℕ) → R s r a b → R s r a (b + 1)
+    pub there_way : (s r : OctetEndpoint) (way : List ℕ) (a b : ℕ) → R s r a b → R s (record r { way = way }) a b
 
-  module _ (R : Termination → Termination → ℕ → ℕ → Type 0) (kept : Kept R) where
-    sender : (c d : Config) (fits : Fits n201 c) (fits_far : Fits n201 d) (w : Circuit) (there back : List (List ℕ)) (h : Follows n201 c d w there back) (act : OctetAct) → IsMuteOf act
+  module _ (R : OctetEndpoint → OctetEndpoint → ℕ → ℕ → Type 0) (kept : Kept R) where
+    sender : (c d : Config) (fits : Fits n201 c) (fits_far : Fits n201 d) (w : Circuit) (there back : List (List ℕ)) (h : Follows n201 c d w there back) (act : OctetStep) → IsMuteOf act
         → IsDeaf (act_meant act w) (as_wire there back w) → (a b : ℕ) → R w.near w.far a b → R (acting act w).near (acting act w).far (a + one_pull act) b
-    sender c d fits fits_far w there back h hears mute deaf a b p = go w.far.way refl deaf
+    sender c d fits fits_far w there back h octet_receives mute deaf a b p = go w.far.way refl deaf
       where
         same : a ≡ a + 0
         same = omega arith
@@ -113,9 +113,9 @@ module _ (n201 : ℕ) where
             (kept.there_way (happens (port_octet value) w.near) w.far more a b (kept.on_octet c fits w.near w.far h.near value (deaf-heard c d fits fits_far w there back h value more is deaf) a b p))
     sender c d o fits_far w there back h act mute deaf a b p = grind arith
 
-    receiver : (c d : Config) (fits : Fits n201 c) (fits_far : Fits n201 d) (w : Circuit) (there back : List (List ℕ)) (h : Follows n201 c d w there back) (act : OctetAct) → IsMuteOf act
+    receiver : (c d : Config) (fits : Fits n201 c) (fits_far : Fits n201 d) (w : Circuit) (there back : List (List ℕ)) (h : Follows n201 c d w there back) (act : OctetStep) → IsMuteOf act
         → IsDeaf (act_meant act w) (as_wire there back w) → (a b : ℕ) → R w.far w.near a b → R (acting act w).far (acting act w).near a (b + one_hearing act)
-    receiver c d fits fits_far w there back h hears mute deaf a b p = go w.far.way refl deaf
+    receiver c d fits fits_far w there back h octet_receives mute deaf a b p = go w.far.way refl deaf
       where
         go : (way : List ℕ) → w.far.way ≡ way → IsDeaf (hearing_means way w.near) (as_wire there back w) → R (record w.far { way = drop 1 way }) (with_first_of way w.near) a (b + 1)
         go [] is deaf = kept.on_way w.far w.near [] a (b + 1) (kept.there_none w.far w.near back h.comes is a b p)
@@ -125,7 +125,7 @@ module _ (n201 : ℕ) where
     receiver c d o fits_far w there back h act mute deaf a b p = grind arith
 
     -- from the near end, and from the far one
-    pub from-near : (service : Service) (tei : ℕ) (c d : Config) (fits : Fits n201 c) (fits_far : Fits n201 d) (ds : List OctetDoing) → All IsMute ds → (w : Circuit) (there back : List (List ℕ))
+    pub from-near : (service : Service) (tei : ℕ) (c d : Config) (fits : Fits n201 c) (fits_far : Fits n201 d) (ds : List OctetStepAt) → All IsMute ds → (w : Circuit) (there back : List (List ℕ))
         → Follows n201 c d w there back → takings (doings_meant ds w) (as_wire there back w) ≡ 0 → R w.near w.far 0 0
         → R (doing_all ds w).near (doing_all ds w).far (0 + count_near one_pull ds) (0 + count_far one_hearing ds)
     from-near service tei c d fits fits_far ds all w there back h none p =
@@ -133,7 +133,7 @@ module _ (n201 : ℕ) where
         (λ c d fits fits_far w there back h act mute deaf a b p. receiver d c fits_far fits (turned w) back there (other-way n201 c d w there back h) act mute deaf a b p)
         service tei c d fits fits_far ds all w there back h none 0 0 p
 
-    pub from-far : (service : Service) (tei : ℕ) (c d : Config) (fits : Fits n201 c) (fits_far : Fits n201 d) (ds : List OctetDoing) → All IsMute ds → (w : Circuit) (there back : List (List ℕ))
+    pub from-far : (service : Service) (tei : ℕ) (c d : Config) (fits : Fits n201 c) (fits_far : Fits n201 d) (ds : List OctetStepAt) → All IsMute ds → (w : Circuit) (there back : List (List ℕ))
         → Follows n201 c d w there back → takings (doings_meant ds w) (as_wire there back w) ≡ 0 → R w.far w.near 0 0
         → R (doing_all ds w).far (doing_all ds w).near (0 + count_far one_pull ds) (0 + count_near one_hearing ds)
     from-far service tei c d fits fits_far ds all w there back h none p =
@@ -143,11 +143,11 @@ module _ (n201 : ℕ) where
 
   -- ---- a sender's part, so long as the receiver hears no frame
 
-  module _ (events : List StreamEvent) (Q : Termination → ℕ → Type 0)
-      (pull : (c : Config) (fits : Fits n201 c) (s : Termination) → Ran c s → (a : ℕ) → Q s a → Q (happens port_pull s) (a + 1))
-      (hear : (c : Config) (fits : Fits n201 c) (s : Termination) → Ran c s → (value : ℕ) → gained n201 (port_of s).received value ≡ None → (a : ℕ) → Q s a → Q (happens (port_octet value) s) a)
-      (way : (s : Termination) (way : List ℕ) (a : ℕ) → Q s a → Q (record s { way = way }) a) where
-    abbrev pub Both : Termination → Termination → ℕ → ℕ → Type 0
+  module _ (events : List StreamEvent) (Q : OctetEndpoint → ℕ → Type 0)
+      (pull : (c : Config) (fits : Fits n201 c) (s : OctetEndpoint) → Ran c s → (a : ℕ) → Q s a → Q (happens port_pull s) (a + 1))
+      (hear : (c : Config) (fits : Fits n201 c) (s : OctetEndpoint) → Ran c s → (value : ℕ) → gained n201 (port_of s).received value ≡ None → (a : ℕ) → Q s a → Q (happens (port_octet value) s) a)
+      (way : (s : OctetEndpoint) (way : List ℕ) (a : ℕ) → Q s a → Q (record s { way = way }) a) where
+    abbrev pub Both : OctetEndpoint → OctetEndpoint → ℕ → ℕ → Type 0
     Both s r a b = Q s a × (heard_in n201 (port_of r).received ≡ events)
 
     sending : Kept Both
@@ -161,13 +161,13 @@ module _ (n201 : ℕ) where
       there_way = λ s r left a b p. p;
     }
       where
-        heard-so : (c : Config) (fits : Fits n201 c) (r : Termination) → Ran c r → (value : ℕ) → gained n201 (port_of r).received value ≡ None → heard_in n201 (port_of r).received ≡ events
+        heard-so : (c : Config) (fits : Fits n201 c) (r : OctetEndpoint) → Ran c r → (value : ℕ) → gained n201 (port_of r).received value ≡ None → heard_in n201 (port_of r).received ≡ events
             → heard_in n201 (port_of (happens (port_octet value) r)).received ≡ events
         heard-so c fits r ran value none same = grind (arith, port-heard, heard_with, option_to_list, append-nil)
 
   -- ---- the frame that it has to give is put on the line
 
-  abbrev pub frames_of : Termination → List (List ℕ)
+  abbrev pub frames_of : OctetEndpoint → List (List ℕ)
   frames_of s = frames_among (port_of s).items
 
   more-frames : (items : List Item) (i : Item) → length (frames_among (items ++ i ∷ [])) ≡ length (frames_among items) + length (frames_among (i ∷ []))
@@ -175,13 +175,13 @@ module _ (n201 : ℕ) where
 
   module _ (f : NextFrame) (most n : ℕ) where
     -- more frames than so many have been put there, or the frame waits, and so few bits are left before it
-    abbrev pub Puts : Termination → ℕ → Type 0
+    abbrev pub Puts : OctetEndpoint → ℕ → Type 0
     Puts s a = (n < length (frames_of s)) ⊎ ((next_of_card s.line s.card.card ≡ gave (Some f)) × (length (left_of (port_of s)) + 8 * a ≤ most) × (n ≤ length (frames_of s)))
 
-    puts-pulled : (c : Config) (fits : Fits n201 c) (s : Termination) → Ran c s → (a : ℕ) → Puts s a → Puts (happens port_pull s) (a + 1)
+    puts-pulled : (c : Config) (fits : Fits n201 c) (s : OctetEndpoint) → Ran c s → (a : ℕ) → Puts s a → Puts (happens port_pull s) (a + 1)
     puts-pulled c fits s ran a p = go (is_due (port_of s)) refl p
       where
-        s' : Termination
+        s' : OctetEndpoint
         s' = happens port_pull s
 
         go : (due : Bool) → is_due (port_of s) ≡ due → Puts s a → Puts s' (a + 1)
@@ -196,7 +196,7 @@ module _ (n201 : ℕ) where
             let same = ap (λ is. length (frames_among is)) (pull-put n201 c fits s ran e ∙ ap (λ a. (port_of s).items ++ item_of (given_in a) ∷ []) waits) ∙ more-frames (port_of s).items (frame f.octets) in
             inl (omega (arith, low, same))
 
-    puts-heard : (c : Config) (fits : Fits n201 c) (s : Termination) → Ran c s → (value : ℕ) → gained n201 (port_of s).received value ≡ None → (a : ℕ) → Puts s a → Puts (happens (port_octet value) s) a
+    puts-heard : (c : Config) (fits : Fits n201 c) (s : OctetEndpoint) → Ran c s → (value : ℕ) → gained n201 (port_of s).received value ≡ None → (a : ℕ) → Puts s a → Puts (happens (port_octet value) s) a
     puts-heard c fits s ran value none a p = grind (arith, port-heard, next_of_card, card-heard)
 
     pub putting : (events : List StreamEvent) → Kept (λ s r a b. Puts s a × (heard_in n201 (port_of r).received ≡ events))
@@ -210,13 +210,13 @@ module _ (n201 : ℕ) where
       pub more : List Item
       pub is : now ≡ items ++ (item ∷ more)
 
-    abbrev pub GoesOn : Termination → ℕ → Type 0
+    abbrev pub GoesOn : OctetEndpoint → ℕ → Type 0
     GoesOn s a = IsBehind (port_of s).items ⊎ (((port_of s).items ≡ items) × (length (left_of (port_of s)) + 8 * a ≤ most))
 
-    goes-pulled : (c : Config) (fits : Fits n201 c) (s : Termination) → Ran c s → (a : ℕ) → GoesOn s a → GoesOn (happens port_pull s) (a + 1)
+    goes-pulled : (c : Config) (fits : Fits n201 c) (s : OctetEndpoint) → Ran c s → (a : ℕ) → GoesOn s a → GoesOn (happens port_pull s) (a + 1)
     goes-pulled c fits s ran a p = go (is_due (port_of s)) refl p
       where
-        s' : Termination
+        s' : OctetEndpoint
         s' = happens port_pull s
 
         go : (due : Bool) → is_due (port_of s) ≡ due → GoesOn s a → GoesOn s' (a + 1)
@@ -232,7 +232,7 @@ module _ (n201 : ℕ) where
         go true e (inr (same, few)) =
             let i = item_of (given_in (next_of_card s.line s.card.card)) in inl (record { item = i; more = []; is = pull-put n201 c fits s ran e ∙ ap (λ is. is ++ i ∷ []) same })
 
-    goes-heard : (c : Config) (fits : Fits n201 c) (s : Termination) → Ran c s → (value : ℕ) → gained n201 (port_of s).received value ≡ None → (a : ℕ) → GoesOn s a → GoesOn (happens (port_octet value) s) a
+    goes-heard : (c : Config) (fits : Fits n201 c) (s : OctetEndpoint) → Ran c s → (value : ℕ) → gained n201 (port_of s).received value ≡ None → (a : ℕ) → GoesOn s a → GoesOn (happens (port_octet value) s) a
     goes-heard c fits s ran value none a p = grind (arith, port-heard)
 
     pub going : (events : List StreamEvent) → Kept (λ s r a b. GoesOn s a × (heard_in n201 (port_of r).received ≡ events))
@@ -244,7 +244,7 @@ module _ (n201 : ℕ) where
   all-idle idle (j ∷ more) e = let x = all-idle j more e in (idle ∷ x.0, ap (λ is. idle ∷ is) x.1)
   all-idle (frame octets) more e = absurd (cc e)
 
-  module _ (c : Config) (fits : Fits n201 c) (s : Termination) (ran : Ran c s) (received : List ℕ) (frames : List (List ℕ)) (carries : Carries n201 (port_of s) s.way received frames) where
+  module _ (c : Config) (fits : Fits n201 c) (s : OctetEndpoint) (ran : Ran c s) (received : List ℕ) (frames : List (List ℕ)) (carries : Carries n201 (port_of s) s.way received frames) where
     its-sound : IsSoundPort n201 (port_of s)
     its-sound = subst (λ n. IsSoundPort n (port_of s)) fits.size (sound-port c fits.ranged s ran)
 
@@ -277,7 +277,7 @@ module _ (n201 : ℕ) where
   -- ---- what was given is heard
 
   module _ (first : List ℕ) (way : ℕ) (events : List StreamEvent) where
-    abbrev pub Hears : Termination → Termination → ℕ → ℕ → Type 0
+    abbrev pub Hears : OctetEndpoint → OctetEndpoint → ℕ → ℕ → Type 0
     Hears s r a b =
         ((more : List ℕ) × ((port_of s).given ≡ first ++ more)) × ((length first + b ≤ length (port_of r).received + way) ⊎ (length first ≤ length (port_of r).received))
         × (heard_in n201 (port_of r).received ≡ events)
@@ -296,10 +296,10 @@ module _ (n201 : ℕ) where
         Come : ℕ → List ℕ → Type 0
         Come b received = (length first + b ≤ length received + way) ⊎ (length first ≤ length received)
 
-        heard-so : (c : Config) (fits : Fits n201 c) (r : Termination) → Ran c r → (value : ℕ) → gained n201 (port_of r).received value ≡ None → (b : ℕ) → Come b (port_of r).received
+        heard-so : (c : Config) (fits : Fits n201 c) (r : OctetEndpoint) → Ran c r → (value : ℕ) → gained n201 (port_of r).received value ≡ None → (b : ℕ) → Come b (port_of r).received
             → heard_in n201 (port_of r).received ≡ events → Come (b + 1) (port_of (happens (port_octet value) r)).received × (heard_in n201 (port_of (happens (port_octet value) r)).received ≡ events)
         heard-so c fits r ran value none b come same = grind (arith, port-heard, Come, length-append, heard_with, option_to_list, append-nil)
 
-        all-there : (s r : Termination) (frames : List (List ℕ)) → Carries n201 (port_of s) s.way (port_of r).received frames → s.way ≡ [] → (more : List ℕ) → (port_of s).given ≡ first ++ more
+        all-there : (s r : OctetEndpoint) (frames : List (List ℕ)) → Carries n201 (port_of s) s.way (port_of r).received frames → s.way ≡ [] → (more : List ℕ) → (port_of s).given ≡ first ++ more
             → length first ≤ length (port_of r).received
         all-there s r frames carries empty more given = grind (arith, length-append, append-nil)

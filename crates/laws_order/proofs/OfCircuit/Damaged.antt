@@ -1,5 +1,5 @@
 -- What happens on a circuit on which octets are damaged is, at the cards of frames inside, what happens on a wire of frames.
-use Rattle.laws_order.proofs.Vocabulary.{arith, ◌≡◌, ℕ, List, [], ◌∷◌, ◌++◌, drop, Option, None, Some, option_map, option_to_list, refl, sym, ap, ◌∙◌, subst, append-nil, All, flat_map, option_map_or, All-nil, All-cons, Service, LineTold, Card, port_at, answer_to, card_after, gained, Seen, Station, Wire, frames_by, Past, known, FaceInStep, IsToldInOrder, kept_by, stream_frame, StreamEvent, Port, port_pull, PortEvent, port_octet, port_meant}
+use Rattle.laws_order.proofs.Vocabulary.{arith, ◌≡◌, ℕ, List, [], ◌∷◌, ◌++◌, drop, Option, None, Some, option_map, option_to_list, refl, sym, ap, ◌∙◌, subst, append-nil, All, flat_map, option_map_or, All-nil, All-cons, Service, LineTold, Card, port_at, answer_to, card_after, gained, Seen, Endpoint, Wire, frames_by, Past, known, FaceInStep, IsToldInOrder, kept_by, stream_frame, StreamEvent, Port, port_pull, PortEvent, port_octet, port_meant}
 use Rattle.model_line.specs.Event as line
 use Rattle.model_card.specs.Event as frames
 unfoldable use Rattle.model_card.specs.ports.Card.{after, meant}
@@ -8,32 +8,33 @@ use Rattle.laws_wire.specs.Wire as wire
 use Rattle.laws_order.specs.Happenings as order
 unfoldable use Rattle.laws_order.specs.Happenings.{seen_near as frames_near, seen_far as frames_far}
 use Rattle.laws_order.proofs.Ordered.{StaysAt, near-place, far-place, still-possible, delivered-in-order}
-use Rattle.laws_order.specs.circuit.Damaged.{Socket, Noisy, Deed, happens, completes, elsewhere, loses, meaning, IsOther, IsFirst, IsPossibleAt, with_deed, left_by, befalling, turned, Happening, by_near, by_far, seen_of, seen_by, as_wire, DeliveredThoughDamaged}
-unfoldable use Rattle.laws_order.specs.circuit.Damaged.{ArePossible, seen_near, seen_far}
+use Rattle.laws_order.specs.circuit.Damaged.{Endpoint as NoisyEndpoint, Noisy, Step as NoisyStep, happens, completes, elsewhere, loses, meaning, with_deed, left_by, befalling, turned, StepAt as NoisyStepAt, by_near, by_far, seen_of, seen_by, as_wire, DeliveredThoughDamaged}
+unfoldable use Rattle.laws_order.specs.circuit.Damaged.{ArePossible, happening_all, seen_near, seen_far}
+use Rattle.laws_order.proofs.OfCircuit.Received.{Hears, IsOther, IsFirst, IsPossibleAt, Receives, receives, away, as-meant, deed-receives, deed-heard, none-heard, one-heard}
 use Rattle.laws_order.proofs.OfCircuit.HeardWhole.{HasCome, gained-whole}
 
 -- ---- the ends as stations
 
-abbrev pub station : List (List ℕ) → List LineTold → Socket → Station
+abbrev pub station : List (List ℕ) → List LineTold → NoisyEndpoint → Endpoint
 station granted told s = record { card = s.card.card; line = s.line; way = s.way; granted = granted; told = told }
 
 -- What an event means on the wire of frames, where it brings no frame on the other's way.
-abbrev deed_meant : Option line.Event → Option order.Deed
+abbrev deed_meant : Option line.Event → Option order.AnyStep
 deed_meant None = None
 deed_meant (Some (line.hears e)) = Some (order.disturbed e)
-deed_meant (Some (line.expiry timer)) = Some (order.acts (wire.times_out timer))
-deed_meant (Some (line.request r)) = Some (order.acts (wire.requests r))
-deed_meant (Some line.next) = Some (order.acts wire.gives)
+deed_meant (Some (line.expiry timer)) = Some (order.step (wire.expires timer))
+deed_meant (Some (line.request r)) = Some (order.step (wire.requests r))
+deed_meant (Some line.next) = Some (order.step wire.sends)
 
-abbrev pub if_done : Option order.Deed → Wire → Wire
+abbrev pub if_done : Option order.AnyStep → Wire → Wire
 if_done None x = x
 if_done (Some deed) x = order.befalling deed x
 
-abbrev pub if_seen : Option order.Deed → Wire → List Seen
+abbrev pub if_seen : Option order.AnyStep → Wire → List Seen
 if_seen None x = []
 if_seen (Some deed) x = order.seen_by deed x
 
-abbrev pub CanBe : Service → ℕ → Station → Option order.Deed → Type 0
+abbrev pub CanBe : Service → ℕ → Endpoint → Option order.AnyStep → Type 0
 CanBe service tei s None = Unit {0}
 CanBe service tei s (Some deed) = order.IsPossibleAt service tei s deed
 
@@ -51,15 +52,15 @@ meaning-comes n201 port_pull p = grind arith
 meaning-comes n201 other p = tt
 
 -- What one deed of an end is on the wire of frames, where this is the other end.
-pub record Done (service : Service) (tei : ℕ) (s s' : Socket) (y : Station) (way : List (List ℕ)) (g : List (List ℕ)) (t : List LineTold) (seen : List Seen) : Type 0 where
-  pub deed : Option order.Deed
+pub record Done (service : Service) (tei : ℕ) (s s' : NoisyEndpoint) (y : Endpoint) (way : List (List ℕ)) (g : List (List ℕ)) (t : List LineTold) (seen : List Seen) : Type 0 where
+  pub deed : Option order.AnyStep
   pub granted : List (List ℕ)
   pub told : List LineTold
   pub same : if_done deed (record { near = station g t s; far = y }) ≡ record { near = station granted told s'; far = record y { way = way } }
   pub shown : if_seen deed (record { near = station g t s; far = y }) ≡ seen
   pub can : CanBe service tei (station g t s) deed
 
-module _ (service : Service) (tei : ℕ) (s : Socket) (y : Station) (g : List (List ℕ)) (t : List LineTold) where
+module _ (service : Service) (tei : ℕ) (s : NoisyEndpoint) (y : Endpoint) (g : List (List ℕ)) (t : List LineTold) where
   abbrev card : Card
   card = s.card.card
 
@@ -73,10 +74,10 @@ module _ (service : Service) (tei : ℕ) (s : Socket) (y : Station) (g : List (L
   abbrev way_then : Option frames.Event → List (List ℕ)
   way_then o = s.way ++ flat_map frames_by (option_to_list (option_map (answer_to card) o))
 
-  abbrev near_then : List (List ℕ) → List LineTold → Option frames.Event → Station
+  abbrev near_then : List (List ℕ) → List LineTold → Option frames.Event → Endpoint
   near_then granted told o = record { card = card_then o; line = s.line; way = way_then o; granted = granted; told = told }
 
-  abbrev with_near : Station → List (List ℕ) → Wire
+  abbrev with_near : Endpoint → List (List ℕ) → Wire
   with_near z way = record { near = z; far = record y { way = way } }
 
   abbrev then_granted : line.Event → List (List ℕ)
@@ -89,7 +90,7 @@ module _ (service : Service) (tei : ℕ) (s : Socket) (y : Station) (g : List (L
   happened e = grind (arith, append-nil)
 
   -- an event that means this leads to where the machine of frames does
-  record Led (o : Option line.Event) (deed : Option order.Deed) (way : List (List ℕ)) : Type 0 where
+  record Led (o : Option line.Event) (deed : Option order.AnyStep) (way : List (List ℕ)) : Type 0 where
     granted : List (List ℕ)
     told : List LineTold
     same : if_done deed x ≡ with_near (near_then granted told (option_map (frames.at s.line) o)) way
@@ -114,7 +115,7 @@ module _ (service : Service) (tei : ℕ) (s : Socket) (y : Station) (g : List (L
       record { granted = then_granted line.next; told = then_told line.next; same = ap (λ z. with_near z y.way) (happened line.next); shown = refl; can = tt }
 
   -- a frame of the other end has come
-  come : (o : Option line.Event) → Comes card.config.n201 o → IsFirst o y.way → Led o (Some (order.acts wire.takes)) (drop 1 y.way)
+  come : (o : Option line.Event) → Comes card.config.n201 o → IsFirst o y.way → Led o (Some (order.step wire.receives)) (drop 1 y.way)
   come (Some (line.hears (stream_frame octets))) whole first =
       let e = line.hears (stream_frame octets) in
       let way : y.way ≡ octets ∷ first.0 = first.1 in
@@ -137,51 +138,51 @@ module _ (service : Service) (tei : ℕ) (s : Socket) (y : Station) (g : List (L
   unfolding after meant
   by-frame value first =
       let one = come (meaning (port_octet value) s) (meaning-comes card.config.n201 (port_octet value) (port_at s.line s.card)) first in
-      record { deed = Some (order.acts wire.takes); granted = one.granted; told = one.told; same = one.same; shown = one.shown; can = tt }
+      record { deed = Some (order.step wire.receives); granted = one.granted; told = one.told; same = one.same; shown = one.shown; can = tt }
 
   by-other : (e : Event) → IsPossibleAt service tei (elsewhere e) s y.way → Done service tei s (with_deed (elsewhere e) s) y y.way g t []
   unfolding after meant
   by-other e is = go (port_meant card.config.n201 e.what (port_at e.line s.card))
     where
       go : (o : Option line.Event) → let m = card_then (option_map (frames.at e.line) o) in
-          Done service tei s (record { card = record { card = m; ports = (after e s.card).ports }; line = s.line; way = s.way }) y y.way g t []
+          Done service tei s (record { card = record { card = m; ports = (after e s.card).ports }; line = s.line; way = s.way; came = s.came }) y y.way g t []
       go None = record { deed = None; granted = g; told = t; same = refl; shown = refl; can = tt }
       go (Some f) =
           record { deed = Some (order.elsewhere (frames.at e.line f)); granted = g; told = t; same = refl; shown = refl; can = is }
 
-  pub one-done : (deed : Deed) → IsPossibleAt service tei deed s y.way → Done service tei s (with_deed deed s) y (left_by deed y.way) g t (seen_by deed s)
+  pub one-done : (deed : NoisyStep) → IsPossibleAt service tei deed s y.way → Done service tei s (with_deed deed s) y (left_by deed y.way) g t (seen_by deed s)
   one-done (happens what) is = by-event what is
   one-done (completes value) is = by-frame value is
   one-done (elsewhere e) is = by-other e is
-  one-done loses is = record { deed = Some (order.acts wire.loses); granted = g; told = t; same = refl; shown = refl; can = tt }
+  one-done loses is = record { deed = Some (order.step wire.loses); granted = g; told = t; same = refl; shown = refl; can = tt }
 
 -- ---- a run of two ends, of which each step is one on the wire of frames, or none
 
-abbrev pub if_happens : Option order.Happening → Wire → Wire
+abbrev pub if_happens : Option order.AnyStepAt → Wire → Wire
 if_happens None v = v
 if_happens (Some h) v = order.happening h v
 
-abbrev pub if_near : Option order.Happening → Wire → List Seen
+abbrev pub if_near : Option order.AnyStepAt → Wire → List Seen
 if_near None v = []
 if_near (Some h) v = order.seen_at_near h v
 
-abbrev pub if_far : Option order.Happening → Wire → List Seen
+abbrev pub if_far : Option order.AnyStepAt → Wire → List Seen
 if_far None v = []
 if_far (Some h) v = order.seen_at_far h v
 
-abbrev pub CanHappen : Service → ℕ → Wire → Option order.Happening → Type 0
+abbrev pub CanHappen : Service → ℕ → Wire → Option order.AnyStepAt → Type 0
 CanHappen service tei v None = Unit {0}
 CanHappen service tei v (Some h) = order.IsPossible service tei v h
 
 pub record One (service : Service) (tei : ℕ) (v v' : Wire) (near far : List Seen) : Type 0 where
-  pub step : Option order.Happening
+  pub step : Option order.AnyStepAt
   pub same : if_happens step v ≡ v'
   pub can : CanHappen service tei v step
   pub near_is : if_near step v ≡ near
   pub far_is : if_far step v ≡ far
 
 pub record Ran (service : Service) (tei : ℕ) (first v : Wire) (near far : List Seen) : Type 0 where
-  pub run : List order.Happening
+  pub run : List order.AnyStepAt
   pub can : All (order.IsPossible service tei first) run
   pub near_is : order.seen_near run v ≡ near
   pub far_is : order.seen_far run v ≡ far
@@ -193,7 +194,7 @@ pub record Stay (first v : Wire) : Type 0 where
 pub stays : (v : Wire) → Stay v v
 stays v = record { near = record { config = refl; line = refl }; far = record { config = refl; line = refl } }
 
-back-at : (a b : Station) → StaysAt a b → StaysAt b a
+back-at : (a b : Endpoint) → StaysAt a b → StaysAt b a
 back-at a b x = record { config = sym x.config; line = sym x.line }
 
 module _ (service : Service) (tei : ℕ) (first : Wire) where
@@ -206,7 +207,7 @@ module _ (service : Service) (tei : ℕ) (first : Wire) where
   unfolding frames_near frames_far
   one-ran v v' near far near' far' stay x others = go x.step x.same x.can x.near_is x.far_is
     where
-      go : (o : Option order.Happening) → if_happens o v ≡ v' → CanHappen service tei v o → if_near o v ≡ near → if_far o v ≡ far → Ran service tei first v (near ++ near') (far ++ far')
+      go : (o : Option order.AnyStepAt) → if_happens o v ≡ v' → CanHappen service tei v o → if_near o v ≡ near → if_far o v ≡ far → Ran service tei first v (near ++ near') (far ++ far')
       go None same can near-is far-is = grind arith
       go (Some h) same can near-is far-is =
           let rest = others (subst (Stay first) same (grind (arith, near-place, far-place))) in
@@ -219,17 +220,17 @@ module _ (service : Service) (tei : ℕ) (first : Wire) where
           }
 
   -- an end for octets
-  module _ (s s' : Socket) (y : Station) (way : List (List ℕ)) (g : List (List ℕ)) (t : List LineTold) (seen : List Seen) (x : Done service tei s s' y way g t seen) where
-    abbrev pub near_end : Station
+  module _ (s s' : NoisyEndpoint) (y : Endpoint) (way : List (List ℕ)) (g : List (List ℕ)) (t : List LineTold) (seen : List Seen) (x : Done service tei s s' y way g t seen) where
+    abbrev pub near_end : Endpoint
     near_end = station g t s
 
-    abbrev pub then_end : Station
+    abbrev pub then_end : Endpoint
     then_end = station x.granted x.told s'
 
     pub near-one : One service tei (record { near = near_end; far = y }) (record { near = then_end; far = record y { way = way } }) seen []
     near-one = go x.deed x.same x.shown x.can
       where
-        go : (o : Option order.Deed) → if_done o (record { near = near_end; far = y }) ≡ record { near = then_end; far = record y { way = way } }
+        go : (o : Option order.AnyStep) → if_done o (record { near = near_end; far = y }) ≡ record { near = then_end; far = record y { way = way } }
             → if_seen o (record { near = near_end; far = y }) ≡ seen → CanBe service tei near_end o
             → One service tei (record { near = near_end; far = y }) (record { near = then_end; far = record y { way = way } }) seen []
         go None same shown can = record { step = None; same = same; can = tt; near_is = shown; far_is = refl }
@@ -238,7 +239,7 @@ module _ (service : Service) (tei : ℕ) (first : Wire) where
     pub far-one : One service tei (record { near = y; far = near_end }) (record { near = record y { way = way }; far = then_end }) [] seen
     far-one = go x.deed x.same x.shown x.can
       where
-        go : (o : Option order.Deed) → if_done o (record { near = near_end; far = y }) ≡ record { near = then_end; far = record y { way = way } }
+        go : (o : Option order.AnyStep) → if_done o (record { near = near_end; far = y }) ≡ record { near = then_end; far = record y { way = way } }
             → if_seen o (record { near = near_end; far = y }) ≡ seen → CanBe service tei near_end o
             → One service tei (record { near = y; far = near_end }) (record { near = record y { way = way }; far = then_end }) [] seen
         go None same shown can = record { step = None; same = ap wire.turned same; can = tt; near_is = refl; far_is = shown }
@@ -260,23 +261,46 @@ delivered-as service tei w p q near far step ran =
 abbrev wire_of : List (List ℕ) → List (List ℕ) → List LineTold → List LineTold → Noisy → Wire
 wire_of g h t u w = record { near = station g t w.near; far = station h u w.far }
 
-all-ran : (service : Service) (tei : ℕ) (first : Wire) (hs : List Happening) (w : Noisy) (g h : List (List ℕ)) (t u : List LineTold) → Stay first (wire_of g h t u w) → ArePossible service tei hs w
-    → Ran service tei first (wire_of g h t u w) (seen_near hs w) (seen_far hs w)
+all-ran : (service : Service) (tei n m : ℕ) (first : Wire) (hs : List NoisyStepAt) (w : Noisy) (g h : List (List ℕ)) (t u : List LineTold) → Stay first (wire_of g h t u w)
+    → Receives n w.near → Receives m w.far → ArePossible service tei hs w → Ran service tei first (wire_of g h t u w) (seen_near hs w) (seen_far hs w)
 unfolding ArePossible seen_near seen_far
-all-ran service tei first [] w g h t u stay can = none-ran service tei first (wire_of g h t u w)
-all-ran service tei first (by_near deed ∷ hs) w g h t u stay can =
+all-ran service tei n m first [] w g h t u stay a b can = none-ran service tei first (wire_of g h t u w)
+all-ran service tei n m first (by_near deed ∷ hs) w g h t u stay a b can =
     let w' = befalling deed w in
     let y = station h u w.far in
-    let x = one-done service tei w.near y g t deed can.0 in
+    let x = one-done service tei w.near y g t deed (as-meant n w.near a service tei deed w.far.way can.0) in
     one-ran service tei first (wire_of g h t u w) (wire_of x.granted h x.told u w') (seen_by deed w.near) [] (seen_near hs w') (seen_far hs w') stay
-    (near-one service tei first w.near w'.near y (left_by deed w.far.way) g t (seen_by deed w.near) x) (λ stay'. all-ran service tei first hs w' x.granted h x.told u stay' can.1)
-all-ran service tei first (by_far deed ∷ hs) w g h t u stay can =
+    (near-one service tei first w.near w'.near y (left_by deed w.far.way) g t (seen_by deed w.near) x)
+    (λ stay'. all-ran service tei n m first hs w' x.granted h x.told u stay' (deed-receives n w.near a service tei deed w.far.way can.0) (away m w.far (left_by deed w.far.way) b) can.1)
+all-ran service tei n m first (by_far deed ∷ hs) w g h t u stay a b can =
     let w' = turned (befalling deed (turned w)) in
     let y = station g t w.near in
-    let x = one-done service tei w.far y h u deed can.0 in
+    let x = one-done service tei w.far y h u deed (as-meant m w.far b service tei deed w.near.way can.0) in
     one-ran service tei first (wire_of g h t u w) (wire_of g x.granted t x.told w') [] (seen_by deed w.far) (seen_near hs w') (seen_far hs w') stay
-    (far-one service tei first w.far w'.far y (left_by deed w.near.way) h u (seen_by deed w.far) x) (λ stay'. all-ran service tei first hs w' g x.granted t x.told stay' can.1)
+    (far-one service tei first w.far w'.far y (left_by deed w.near.way) h u (seen_by deed w.far) x)
+    (λ stay'. all-ran service tei n m first hs w' g x.granted t x.told stay' (away n w.near (left_by deed w.near.way) a) (deed-receives m w.far b service tei deed w.near.way can.0) can.1)
+
+-- what each heard
+all-heard : (service : Service) (tei n m : ℕ) (hs : List NoisyStepAt) (w : Noisy) → Receives n w.near → Receives m w.far → ArePossible service tei hs w → let v = happening_all hs w in
+    Hears n w.near.came v.near.came (seen_near hs w) × Hears m w.far.came v.far.came (seen_far hs w)
+unfolding ArePossible happening_all seen_near seen_far
+all-heard service tei n m [] w a b can = (none-heard n w.near.came, none-heard m w.far.came)
+all-heard service tei n m (by_near deed ∷ hs) w a b can =
+    let w' = befalling deed w in
+    let rest = all-heard service tei n m hs w' (deed-receives n w.near a service tei deed w.far.way can.0) (away m w.far (left_by deed w.far.way) b) can.1 in
+    (one-heard n w.near.came w'.near.came (happening_all hs w').near.came (seen_by deed w.near) (seen_near hs w') (deed-heard n w.near a deed) rest.0, rest.1)
+all-heard service tei n m (by_far deed ∷ hs) w a b can =
+    let w' = turned (befalling deed (turned w)) in
+    let rest = all-heard service tei n m hs w' (away n w.near (left_by deed w.near.way) a) (deed-receives m w.far b service tei deed w.near.way can.0) can.1 in
+    (rest.0, one-heard m w.far.came w'.far.came (happening_all hs w').far.came (seen_by deed w.far) (seen_far hs w') (deed-heard m w.far b deed) rest.1)
 
 pub delivered-though-damaged : DeliveredThoughDamaged
-delivered-though-damaged service tei w p q hs step can =
-    delivered-as service tei (as_wire w) p q (seen_near hs w) (seen_far hs w) step (all-ran service tei (as_wire w) hs w [] [] [] [] (stays (as_wire w)) can)
+delivered-though-damaged service tei w p q hs step came others can =
+    let n = w.near.card.card.config.n201 in
+    let m = w.far.card.card.config.n201 in
+    let a = receives w.near came p.line.1 in
+    let b = receives w.far others q.line.1 in
+    let order =
+    delivered-as service tei (as_wire w) p q (seen_near hs w) (seen_far hs w) step (all-ran service tei n m (as_wire w) hs w [] [] [] [] (stays (as_wire w)) a b can) in
+    let heard = all-heard service tei n m hs w a b can in
+    (order.0, order.1, heard.0, heard.1)

@@ -1,9 +1,9 @@
 -- The premises of the law on damaged octets are met by the worked run.
-use Rattle.laws_order.proofs.Vocabulary.{arith, ◌≡◌, ℕ, ◌&&◌, ◌==◌, Bool, true, false, List, [], ◌∷◌, ◌++◌, Option, Some, eqb-true, refl, ap, and_parts, Call, Parts, reading, header_of, control_of, unnumbered_of, supervisory_of, distance_of, named, seq, low_bits, Config, heard_side, IsFront, user, network, Station, of_link_at, data_noted, data_granted, None, port_of, known, kept_by, Circuit, doing_all, Mixed, establishes, stream_frame, next, gave, Event, hears, port_octet, card_answer, tei_refusal, tei_course, FaceAtRest}
+use Rattle.laws_order.proofs.Vocabulary.{arith, ◌≡◌, ℕ, ◌&&◌, ◌==◌, Bool, true, false, List, [], ◌∷◌, ◌++◌, Option, Some, eqb-true, refl, ap, and_parts, Call, Parts, reading, header_of, control_of, unnumbered_of, supervisory_of, distance_of, named, seq, low_bits, Config, heard_side, IsFront, user, network, Endpoint, of_link_at, data_noted, data_granted, None, port_of, known, kept_by, Circuit, doing_all, Mixed, establishes, stream_frame, StreamEvent, next, gave, port_octet, card_answer, tei_refusal, tei_course, FaceAtRest}
 use Rattle.model_line.specs.Machine as lines
 use Rattle.model_card.specs.ports.Card as ports
 use Rattle.laws_order.specs.Happenings as order
-use Rattle.laws_order.specs.circuit.Damaged.{Socket, Noisy, Deed, happens, completes, elsewhere, loses, meaning, IsOther, IsFirst, IsPossibleAt, Happening, by_near, by_far, happening, as_station, as_wire, seen_near, seen_far}
+use Rattle.laws_order.specs.circuit.Damaged.{Endpoint as NoisyEndpoint, Noisy, Step as NoisyStep, happens, completes, elsewhere, loses, stands_with, IsOther, IsFirst, IsPossibleAt, HasReceived, StepAt as NoisyStepAt, by_near, by_far, happening, as_frame_endpoint, as_wire, seen_near, seen_far}
 unfoldable use Rattle.laws_order.specs.circuit.Damaged.{ArePossible}
 use Rattle.laws_order.specs.circuit.Mixed as mixed
 unfoldable use Rattle.laws_order.specs.circuit.Mixed.{ArePossible as mixed_possible}
@@ -36,49 +36,49 @@ abbrev is_none : List Parts → Bool
 is_none [] = true
 is_none (f ∷ fs) = false
 
-abbrev is_other : Config → Option Event → Bool
-is_other c (Some (hears (stream_frame octets))) = is_none (of_link_at Call 0 (heard_side c) octets)
+abbrev is_other : Config → Option StreamEvent → Bool
+is_other c (Some (stream_frame octets)) = is_none (of_link_at Call 0 (heard_side c) octets)
 is_other c other = true
 
 abbrev is_head : List ℕ → List (List ℕ) → Bool
 is_head octets [] = false
 is_head octets (f ∷ fs) = same_octets f octets
 
-abbrev is_first : Option Event → List (List ℕ) → Bool
-is_first (Some (hears (stream_frame octets))) way = is_head octets way
+abbrev is_first : Option StreamEvent → List (List ℕ) → Bool
+is_first (Some (stream_frame octets)) way = is_head octets way
 is_first other way = false
 
-abbrev pub is_possible_at : Deed → Socket → List (List ℕ) → Bool
-is_possible_at (happens what) s way = is_other s.card.card.config (meaning what s)
-is_possible_at (completes value) s way = is_first (meaning (port_octet value) s) way
+abbrev pub is_possible_at : NoisyStep → NoisyEndpoint → List (List ℕ) → Bool
+is_possible_at (happens what) s way = is_other s.card.card.config (stands_with what s)
+is_possible_at (completes value) s way = is_first (stands_with (port_octet value) s) way
 is_possible_at (elsewhere e) s way = false
 is_possible_at loses s way = true
 
-abbrev is_possible : Happening → Noisy → Bool
+abbrev is_possible : NoisyStepAt → Noisy → Bool
 is_possible (by_near deed) w = is_possible_at deed w.near w.far.way
 is_possible (by_far deed) w = is_possible_at deed w.far w.near.way
 
-unfoldable are_possible : List Happening → Noisy → Bool
+unfoldable are_possible : List NoisyStepAt → Noisy → Bool
 are_possible [] w = true
 are_possible (h ∷ hs) w = is_possible h w && are_possible hs (happening h w)
 
 none-so : (fs : List Parts) → is_none fs ≡ true → fs ≡ []
 none-so fs e = grind arith
 
-other-so : (c : Config) (o : Option Event) → is_other c o ≡ true → IsOther Call 0 c o
+other-so : (c : Config) (o : Option StreamEvent) → is_other c o ≡ true → IsOther Call 0 c o
 other-so c o e = grind (arith, none-so)
 
 head-so : (octets : List ℕ) (way : List (List ℕ)) → is_head octets way ≡ true → (rest : List (List ℕ)) × (way ≡ octets ∷ rest)
 head-so octets [] e = absurd (cc e)
 head-so octets (f ∷ fs) e = (fs, ap (λ x. x ∷ fs) (same-octets f octets e))
 
-first-so : (o : Option Event) (way : List (List ℕ)) → is_first o way ≡ true → IsFirst o way
+first-so : (o : Option StreamEvent) (way : List (List ℕ)) → is_first o way ≡ true → IsFirst o way
 first-so o way e = grind (arith, head-so)
 
-pub at-so : (deed : Deed) (s : Socket) (way : List (List ℕ)) → is_possible_at deed s way ≡ true → IsPossibleAt Call 0 deed s way
+pub at-so : (deed : NoisyStep) (s : NoisyEndpoint) (way : List (List ℕ)) → is_possible_at deed s way ≡ true → IsPossibleAt Call 0 deed s way
 at-so deed s way e = grind (arith, other-so, first-so)
 
-all-so : (hs : List Happening) (w : Noisy) → are_possible hs w ≡ true → ArePossible Call 0 hs w
+all-so : (hs : List NoisyStepAt) (w : Noisy) → are_possible hs w ≡ true → ArePossible Call 0 hs w
 unfolding ArePossible are_possible
 all-so [] w e = tt
 all-so (by_near deed ∷ hs) w e =
@@ -119,8 +119,8 @@ far-heard : established.far.way ≡ []
 unfolding lines.after lines.answer lines.takes_slot reading header_of control_of unnumbered_of supervisory_of tei_course tei_refusal seq distance_of named low_bits ports.after ports.answer ports.meant doing_all
 far-heard = refl
 
-pub rest : FaceAtRest Call 0 (as_wire begins)
-rest =
+pub rested : FaceAtRest Call 0 (as_wire begins) × HasReceived begins.near × HasReceived begins.far
+rested =
     let near = ends-in-flag (port_of established.near).items near-flag in
     let far = ends-in-flag (port_of established.far).items far-flag in
     calls-come-to-rest Call user network 0 0 0 establishes can (by-mutes establishes refl) (
@@ -128,29 +128,32 @@ rest =
       record { none = far-none; flag = (far.front, far.flag); heard = far-heard },
     )
 
+pub rest : FaceAtRest Call 0 (as_wire begins)
+rest = rested.0
+
 -- what is kept at the near end, and the far end was not told of
 abbrev pub kept : List (List ℕ)
-kept = kept_by (known Call 0 (as_station begins.near) rest.0) (known Call 0 (as_station begins.far) rest.1)
+kept = kept_by (known Call 0 (as_frame_endpoint begins.near) rest.0) (known Call 0 (as_frame_endpoint begins.far) rest.1)
 
 -- so the law says what the worked values show
 pub in-order : IsFront (data_noted Call 0 (seen_far goes_again begins)) (kept ++ data_granted Call 0 (seen_near goes_again begins))
-in-order = (delivered-though-damaged Call 0 begins rest.0 rest.1 goes_again rest.2.0 (all-so goes_again begins computed)).1 far_stays
+in-order = (delivered-though-damaged Call 0 begins rest.0 rest.1 goes_again rest.2.0 rested.1 rested.2 (all-so goes_again begins computed)).1 far_stays
 
 -- ---- and so of a card of frames and one of octets
 
-abbrev is_act : order.Deed → Bool
-is_act (order.acts act) = true
+abbrev is_act : order.AnyStep → Bool
+is_act (order.step act) = true
 is_act other = false
 
-unfoldable are_mixed : List mixed.Happening → Mixed → Bool
+unfoldable are_mixed : List mixed.StepAt → Mixed → Bool
 are_mixed [] w = true
 are_mixed (mixed.by_frames deed ∷ hs) w = is_act deed && are_mixed hs (mixed.happening (mixed.by_frames deed) w)
 are_mixed (mixed.by_octets deed ∷ hs) w = is_possible_at deed w.far w.near.way && are_mixed hs (mixed.happening (mixed.by_octets deed) w)
 
-act-so : (deed : order.Deed) (s : Station) → is_act deed ≡ true → order.IsPossibleAt Call 0 s deed
+act-so : (deed : order.AnyStep) (s : Endpoint) → is_act deed ≡ true → order.IsPossibleAt Call 0 s deed
 act-so deed s e = grind arith
 
-mixed-so : (hs : List mixed.Happening) (w : Mixed) → are_mixed hs w ≡ true → mixed.ArePossible Call 0 hs w
+mixed-so : (hs : List mixed.StepAt) (w : Mixed) → are_mixed hs w ≡ true → mixed.ArePossible Call 0 hs w
 unfolding mixed_possible are_mixed
 mixed-so [] w e = tt
 mixed-so (mixed.by_frames deed ∷ hs) w e =
@@ -164,4 +167,4 @@ unfolding lines.after lines.answer lines.takes_slot reading header_of control_of
 mixed-computed = refl
 
 pub mixed-in-order : IsFront (data_noted Call 0 (mixed.seen_far worked.goes_again worked.begins)) (kept ++ data_granted Call 0 (mixed.seen_near worked.goes_again worked.begins))
-mixed-in-order = (delivered-between-kinds Call 0 worked.begins rest.0 rest.1 worked.goes_again rest.2.0 (mixed-so worked.goes_again worked.begins mixed-computed)).1 worked.far_stays
+mixed-in-order = (delivered-between-kinds Call 0 worked.begins rest.0 rest.1 worked.goes_again rest.2.0 rested.2 (mixed-so worked.goes_again worked.begins mixed-computed)).1 worked.far_stays

@@ -3,7 +3,7 @@ use Rattle.laws_order.proofs.Vocabulary.{◌≡◌, ℕ, zero, suc, ◌+◌, Lis
 unfoldable use Rattle.model_card.specs.ports.Card.{answer}
 use Rattle.model_card.specs.ports.Event.{at}
 unfoldable use Rattle.laws_order.specs.circuit.Beats.{beats}
-use Rattle.laws_order.specs.circuit.Circuit.{Termination, port_of, happens, with_first_of, Circuit, pulls, hears, OctetDoing, at_near, at_far, doing}
+use Rattle.laws_order.specs.circuit.Circuit.{Endpoint as OctetEndpoint, port_of, happens, with_first_of, Circuit, sends as octet_sends, receives as octet_receives, StepAt as OctetStepAt, at_near, at_far, doing}
 unfoldable use Rattle.laws_order.specs.circuit.Circuit.{doing_all}
 use Rattle.laws_order.proofs.OfCircuit.Projected.{doing_meant, heard-way}
 unfoldable use Rattle.laws_order.proofs.OfCircuit.Projected.{doings_meant}
@@ -11,21 +11,21 @@ use Rattle.laws_order.proofs.OfCircuit.Takings.{IsMute, one_pull, one_hearing, c
 
 -- ---- lists
 
-pub acts-append : (ds es : List OctetDoing) (w : Circuit) → doing_all (ds ++ es) w ≡ doing_all es (doing_all ds w)
+pub acts-append : (ds es : List OctetStepAt) (w : Circuit) → doing_all (ds ++ es) w ≡ doing_all es (doing_all ds w)
 unfolding doing_all
 acts-append [] es w = refl
 acts-append (d ∷ ds) es w = acts-append ds es (doing d w)
 
-pub meant-append : (ds es : List OctetDoing) (w : Circuit) → doings_meant (ds ++ es) w ≡ doings_meant ds w ++ doings_meant es (doing_all ds w)
+pub meant-append : (ds es : List OctetStepAt) (w : Circuit) → doings_meant (ds ++ es) w ≡ doings_meant ds w ++ doings_meant es (doing_all ds w)
 unfolding doing_all doings_meant
 meant-append [] es w = refl
 meant-append (d ∷ ds) es w =
     ap (λ l. option_to_list (doing_meant d w) ++ l) (meant-append ds es (doing d w))
     ∙ sym (append_assoc (option_to_list (doing_meant d w)) (doings_meant ds (doing d w)) (doings_meant es (doing_all ds (doing d w))))
 
-unfoldable pub many : ℕ → List OctetDoing
+unfoldable pub many : ℕ → List OctetStepAt
 many zero = []
-many (suc n) = at_near pulls ∷ at_far pulls ∷ at_near hears ∷ at_far hears ∷ many n
+many (suc n) = at_near octet_sends ∷ at_far octet_sends ∷ at_near octet_receives ∷ at_far octet_receives ∷ many n
 
 pub many-beats : (n : ℕ) (w : Circuit) → doing_all (many n) w ≡ beats n w
 unfolding many doing_all beats
@@ -37,16 +37,16 @@ unfolding many
 many-append zero n = ap many (let e : zero + n ≡ n = omega arith in e)
 many-append (suc m) n =
     ap many (let e : suc m + n ≡ suc (m + n) = omega arith in e)
-    ∙ ap (λ l. at_near pulls ∷ at_far pulls ∷ at_near hears ∷ at_far hears ∷ l) (many-append m n)
+    ∙ ap (λ l. at_near octet_sends ∷ at_far octet_sends ∷ at_near octet_receives ∷ at_far octet_receives ∷ l) (many-append m n)
 
 pub many-mute : (n : ℕ) → All IsMute (many n)
 unfolding many
 many-mute zero = All-nil IsMute
 many-mute (suc n) =
-    All-cons IsMute (at_near pulls) (at_far pulls ∷ at_near hears ∷ at_far hears ∷ many n) tt
-    (All-cons IsMute (at_far pulls) (at_near hears ∷ at_far hears ∷ many n) tt
-    (All-cons IsMute (at_near hears) (at_far hears ∷ many n) tt
-    (All-cons IsMute (at_far hears) (many n) tt (many-mute n))))
+    All-cons IsMute (at_near octet_sends) (at_far octet_sends ∷ at_near octet_receives ∷ at_far octet_receives ∷ many n) tt
+    (All-cons IsMute (at_far octet_sends) (at_near octet_receives ∷ at_far octet_receives ∷ many n) tt
+    (All-cons IsMute (at_near octet_receives) (at_far octet_receives ∷ many n) tt
+    (All-cons IsMute (at_far octet_receives) (many n) tt (many-mute n))))
 
 pub pulls-near : (n : ℕ) → count_near one_pull (many n) ≡ n
 unfolding many
@@ -70,10 +70,10 @@ hearings-far (suc n) = let rest = hearings-far n in omega (arith, rest)
 
 -- ---- as many octets stay on the way
 
-first-way : (way : List ℕ) (s : Termination) → (with_first_of way s).way ≡ s.way
+first-way : (way : List ℕ) (s : OctetEndpoint) → (with_first_of way s).way ≡ s.way
 first-way way s = grind (arith, heard-way)
 
-pulled-way : (s : Termination) → (value : ℕ) × ((happens port_pull s).way ≡ s.way ++ value ∷ [])
+pulled-way : (s : OctetEndpoint) → (value : ℕ) × ((happens port_pull s).way ≡ s.way ++ value ∷ [])
 unfolding answer
 pulled-way s = (next_octet (with_item (said (at s.line port_pull) s.card) (port_of s)), refl)
 
@@ -102,29 +102,29 @@ many-stay (suc n) w =
 
 -- ---- nothing is granted, and what was told stays
 
-pub record Adds (s t : Termination) : Type 0 where
+pub record Adds (s t : OctetEndpoint) : Type 0 where
   pub granted : t.granted ≡ s.granted
   pub more : List LineTold
   pub told : t.told ≡ s.told ++ more
 
-then-adds : (s t u : Termination) → Adds s t → Adds t u → Adds s u
+then-adds : (s t u : OctetEndpoint) → Adds s t → Adds t u → Adds s u
 then-adds s t u h k = grind (arith, append_assoc)
 
-pull-adds : (s : Termination) → Adds s (happens port_pull s)
+pull-adds : (s : OctetEndpoint) → Adds s (happens port_pull s)
 unfolding answer
 pull-adds s = record { granted = append-nil s.granted; more = []; told = refl }
 
-octet-adds : (value : ℕ) (s : Termination) → Adds s (happens (port_octet value) s)
+octet-adds : (value : ℕ) (s : OctetEndpoint) → Adds s (happens (port_octet value) s)
 unfolding answer
 octet-adds value s = grind (arith, append-nil)
 
-first-adds : (way : List ℕ) (s : Termination) → Adds s (with_first_of way s)
+first-adds : (way : List ℕ) (s : OctetEndpoint) → Adds s (with_first_of way s)
 first-adds o s = grind (arith, append-nil, octet-adds)
 
-on-way : (s t : Termination) (way : List ℕ) → Adds s t → Adds s (record t { way = way })
+on-way : (s t : OctetEndpoint) (way : List ℕ) → Adds s t → Adds s (record t { way = way })
 on-way s t way h = record { granted = h.granted; more = h.more; told = h.told }
 
-from-way : (s t : Termination) (way : List ℕ) → Adds (record s { way = way }) t → Adds s t
+from-way : (s t : OctetEndpoint) (way : List ℕ) → Adds (record s { way = way }) t → Adds s t
 from-way s t way h = record { granted = h.granted; more = h.more; told = h.told }
 
 pub record BothAdd (w w' : Circuit) : Type 0 where
@@ -137,7 +137,7 @@ beat-adds w =
     let near = happens port_pull w.near in
     let far = happens port_pull w.far in
     let near-heard = with_first_of far.way near in
-    let far-left : Termination = record far { way = drop 1 far.way } in
+    let far-left : OctetEndpoint = record far { way = drop 1 far.way } in
     record {
       near = on-way w.near near-heard (drop 1 near-heard.way) (then-adds w.near near near-heard (pull-adds w.near) (first-adds far.way near));
       far = then-adds w.far far (with_first_of near-heard.way far-left) (pull-adds w.far) (from-way far (with_first_of near-heard.way far-left) (drop 1 far.way) (first-adds near-heard.way far-left));

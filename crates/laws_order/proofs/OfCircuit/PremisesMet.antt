@@ -1,5 +1,5 @@
 -- The premises of the laws are met by the worked call: all has gone behind it, so layer 3 of each was told all.
-use Rattle.laws_order.proofs.Vocabulary.{◌≡◌, Bool, true, false, List, [], ◌∷◌, ◌++◌, ◌&&◌, ◌<◌, None, refl, ap, arith, All, and_parts, All-append, All-cons, All-nil, Call, reading, header_of, control_of, unnumbered_of, supervisory_of, distance_of, named, seq, low_bits, Item, idle, AreOctets, next, gave, CanCall, user, network, IsCall, calling, Circuit, OctetAct, asks, OctetDoing, at_near, at_far, doing_all, port_of, IsTalkOf, IsTalk, both_call, HasAllGone, IsToldAll, begins, establishes, goes_on, sends, at, Doing, wire_doing_all, card_answer, tei_refusal, tei_course, Data, frame}
+use Rattle.laws_order.proofs.Vocabulary.{◌≡◌, Bool, true, false, List, [], ◌∷◌, ◌++◌, ◌&&◌, ◌<◌, None, refl, ap, arith, All, and_parts, All-append, All-cons, All-nil, Call, reading, header_of, control_of, unnumbered_of, supervisory_of, distance_of, named, seq, low_bits, Item, idle, AreOctets, next, gave, CanCall, user, network, IsCall, calling, Circuit, OctetStep, octet_requests, OctetStepAt, at_near, at_far, doing_all, port_of, IsTalkOf, IsTalk, both_call, HasAllGone, IsToldAll, begins, establishes, goes_on, sends_octets, at, StepAt, wire_doing_all, card_answer, tei_refusal, tei_course, Data, frame}
 use Rattle.model_line.specs.Machine as lines
 use Rattle.model_card.specs.ports.Card as ports
 use Rattle.laws_order.specs.circuit.MixedCall as mixed
@@ -12,7 +12,7 @@ pub can : CanCall user 0 network 0 0
 can = record { near = (refl, omega arith); far = (refl, omega arith); opposite = (refl, refl); terminal = omega arith }
 
 abbrev after_it : Circuit
-after_it = doing_all sends begins
+after_it = doing_all sends_octets begins
 
 -- an idle flag is the last item
 abbrev pub is_flag : Bool → List Item → Bool
@@ -65,19 +65,19 @@ gone =
     (record { none = near-none; flag = (near.front, near.flag); heard = near-heard }, record { none = far-none; flag = (far.front, far.flag); heard = far-heard })
 
 -- what is done in it
-abbrev mute : OctetAct → Bool
-mute (asks r) = false
+abbrev mute : OctetStep → Bool
+mute (octet_requests r) = false
 mute other = true
 
-abbrev are_mute : List OctetDoing → Bool
+abbrev are_mute : List OctetStepAt → Bool
 are_mute [] = true
 are_mute (at_near act ∷ ds) = mute act && are_mute ds
 are_mute (at_far act ∷ ds) = mute act && are_mute ds
 
-mute-talk : (act : OctetAct) → mute act ≡ true → IsTalkOf Call 0 act
+mute-talk : (act : OctetStep) → mute act ≡ true → IsTalkOf Call 0 act
 mute-talk act e = grind arith
 
-pub by-mutes : (ds : List OctetDoing) → are_mute ds ≡ true → All (IsTalk Call 0) ds
+pub by-mutes : (ds : List OctetStepAt) → are_mute ds ≡ true → All (IsTalk Call 0) ds
 by-mutes [] e = All-nil (IsTalk Call 0)
 by-mutes (at_near act ∷ ds) e =
     let both = and_parts (mute act) (are_mute ds) e in All-cons (IsTalk Call 0) (at_near act) ds (mute-talk act both.0) (by-mutes ds both.1)
@@ -87,18 +87,18 @@ by-mutes (at_far act ∷ ds) e =
 is-octet : AreOctets (0xAB ∷ [])
 is-octet = let few : 0xAB < 256 = omega arith in All-cons (λ octet. octet < 256) 0xAB [] few (All-nil (λ octet. octet < 256))
 
-pub talk : All (IsTalk Call 0) sends
+pub talk : All (IsTalk Call 0) sends_octets
 talk =
-    let asked : IsTalk Call 0 (at_near (asks (Data Call 0 (0xAB ∷ [])))) = (refl, refl, is-octet) in
-    All-append (IsTalk Call 0) establishes (at_near (asks (Data Call 0 (0xAB ∷ []))) ∷ goes_on) (by-mutes establishes refl)
-    (All-cons (IsTalk Call 0) (at_near (asks (Data Call 0 (0xAB ∷ [])))) goes_on asked (by-mutes goes_on refl))
+    let asked : IsTalk Call 0 (at_near (octet_requests (Data Call 0 (0xAB ∷ [])))) = (refl, refl, is-octet) in
+    All-append (IsTalk Call 0) establishes (at_near (octet_requests (Data Call 0 (0xAB ∷ []))) ∷ goes_on) (by-mutes establishes refl)
+    (All-cons (IsTalk Call 0) (at_near (octet_requests (Data Call 0 (0xAB ∷ [])))) goes_on asked (by-mutes goes_on refl))
 
 -- so each was told all
-pub told : IsToldAll Call 0 (both_call sends begins) after_it
-told = let x = calls-come-through-in-octets Call user network 0 0 0 sends can talk in record { near = x.near.1 gone; far = x.far.1 gone }
+pub told : IsToldAll Call 0 (both_call sends_octets begins) after_it
+told = let x = calls-come-through-in-octets Call user network 0 0 0 sends_octets can talk in record { near = x.near.1 gone; far = x.far.1 gone }
 
 -- and so by the call between a card of frames and one of octets
-mixed-call : (es : List Doing) × All (IsCall Call 0) es × (wire_doing_all es (mixed.as_wire call_begins) ≡ mixed.as_wire (mixed.doing_all talks call_begins))
+mixed-call : (es : List StepAt) × All (IsCall Call 0) es × (wire_doing_all es (mixed.as_wire call_begins) ≡ mixed.as_wire (mixed.doing_all talks call_begins))
 mixed-call = calls-are-of-frames Call 0 call_begins talks are_talk
 
 mixed-through : IsThrough Call 0 (calling Call 0 user 0 network 0) (mixed.as_wire (mixed.doing_all talks call_begins))

@@ -1,5 +1,5 @@
 -- What is done on a circuit of octets is, at the cards of frames inside, done on a wire of frames.
-use Rattle.laws_order.proofs.Vocabulary.{arith, ◌≡◌, ℕ, ◌<◌, Bool, true, false, cond, List, [], ◌∷◌, ◌++◌, length, drop, Option, None, Some, is_some, option_map, option_to_list, refl, sym, ap, ◌∙◌, subst, append-nil, All, option_map_or, get_or-set_same, All-append, All-head, All-nil, All-tail, Service, AreOctets, Config, came, NextFrame, said, answer_to, frames_among, octet_pulled, Port, fresh_port, answer_of, gained, given_in, is_due, item_of, next_octet, with_item, with_octet, IsSoundPort, contents_given, Station, Wire, doing-append, Request, IsInRange, IsTalkOf, IsTalk, StreamEvent, port_pull, port_request, PortEvent, port_octet, port_after, port_told, card_answer, IsCall}
+use Rattle.laws_order.proofs.Vocabulary.{arith, ◌≡◌, ℕ, ◌<◌, Bool, true, false, cond, List, [], ◌∷◌, ◌++◌, length, drop, Option, None, Some, is_some, option_map, option_to_list, refl, sym, ap, ◌∙◌, subst, append-nil, All, option_map_or, get_or-set_same, All-append, All-head, All-nil, All-tail, Service, AreOctets, Config, came, NextFrame, said, answer_to, frames_among, octet_pulled, Port, fresh_port, answer_of, gained, given_in, is_due, item_of, next_octet, with_item, with_octet, IsSoundPort, contents_given, Endpoint, Wire, doing-append, Request, IsInRange, IsTalkOf, IsTalk, StreamEvent, port_pull, port_request, PortEvent, port_octet, port_after, port_told, card_answer, IsCall}
 use Rattle.model_line.specs.Event as line
 unfoldable use Rattle.model_line.specs.Machine.{answer as line_answer, takes_slot}
 use Rattle.model_card.specs.Event as frames
@@ -7,7 +7,7 @@ unfoldable use Rattle.model_card.specs.ports.Card.{after, answer, meant}
 use Rattle.model_card.specs.ports.Event.{at}
 use Rattle.laws_wire.specs.Wire as wire
 unfoldable use Rattle.laws_wire.specs.Wire.{doing_all as frames_done}
-use Rattle.laws_order.specs.circuit.Circuit.{Termination, port_of, happens, with_first_of, Circuit, OctetAct, asks, pulls, hears, OctetDoing, at_near, at_far, acting, turned, doing}
+use Rattle.laws_order.specs.circuit.Circuit.{Endpoint as OctetEndpoint, port_of, happens, with_first_of, Circuit, Step as OctetStep, requests as octet_requests, sends as octet_sends, receives as octet_receives, StepAt as OctetStepAt, at_near, at_far, acting, turned, doing}
 unfoldable use Rattle.laws_order.specs.circuit.Circuit.{doing_all}
 use Rattle.laws_order.proofs.OfCircuit.AsFrames.{as_station, meaning, if_meant, heard-as, asked-as, pulled-as}
 use Rattle.laws_order.proofs.OfCircuit.OneWay.{Carries, one-given, one-put, none-heard, one-heard}
@@ -20,41 +20,41 @@ abbrev pub as_wire : List (List ℕ) → List (List ℕ) → Circuit → Wire
 as_wire there back w = record { near = as_station there w.near; far = as_station back w.far }
 
 -- A request is a request; a pull gives a frame where an item is due; an octet that ends something brings a frame.
-abbrev pub hearing_means : List ℕ → Termination → Option wire.Act
+abbrev pub hearing_means : List ℕ → OctetEndpoint → Option wire.Step
 hearing_means [] s = None
-hearing_means (value ∷ more) s = cond (is_some (gained s.card.card.config.n201 (port_of s).received value)) (Some wire.takes) None
+hearing_means (value ∷ more) s = cond (is_some (gained s.card.card.config.n201 (port_of s).received value)) (Some wire.receives) None
 
-abbrev pub act_meant : OctetAct → Circuit → Option wire.Act
-act_meant (asks r) w = Some (wire.requests r)
-act_meant pulls w = cond (is_due (port_of w.near)) (Some wire.gives) None
-act_meant hears w = hearing_means w.far.way w.near
+abbrev pub act_meant : OctetStep → Circuit → Option wire.Step
+act_meant (octet_requests r) w = Some (wire.requests r)
+act_meant octet_sends w = cond (is_due (port_of w.near)) (Some wire.sends) None
+act_meant octet_receives w = hearing_means w.far.way w.near
 
-abbrev pub doing_meant : OctetDoing → Circuit → Option wire.Doing
+abbrev pub doing_meant : OctetStepAt → Circuit → Option wire.StepAt
 doing_meant (at_near act) w = option_map wire.at_near (act_meant act w)
 doing_meant (at_far act) w = option_map wire.at_far (act_meant act (turned w))
 
-unfoldable pub doings_meant : List OctetDoing → Circuit → List wire.Doing
+unfoldable pub doings_meant : List OctetStepAt → Circuit → List wire.StepAt
 doings_meant [] w = []
 doings_meant (d ∷ ds) w = option_to_list (doing_meant d w) ++ doings_meant ds (doing d w)
 
-abbrev pub if_acted : Option wire.Act → Wire → Wire
+abbrev pub if_acted : Option wire.Step → Wire → Wire
 if_acted None f = f
 if_acted (Some act) f = wire.acting act f
 
 -- ---- a port after an event
 
-pub port-after : (s : Termination) (what : PortEvent) → s.line < length s.card.ports → port_of (happens what s) ≡ port_after what (said (at s.line what) s.card) (port_of s)
+pub port-after : (s : OctetEndpoint) (what : PortEvent) → s.line < length s.card.ports → port_of (happens what s) ≡ port_after what (said (at s.line what) s.card) (port_of s)
 unfolding after
 port-after s what within = get_or-set_same s.card.ports s.line (port_after what (said (at s.line what) s.card) (port_of s)) fresh_port within
 
 same-way : (way : List ℕ) (o : Option line.Answer) → way ++ octet_pulled (option_map_or answer_of o (port_told line.nothing)) ≡ way
 same-way way o = ap (λ l. way ++ l) (grind arith) ∙ append-nil way
 
-pub asked-way : (r : Request) (s : Termination) → (happens (port_request r) s).way ≡ s.way
+pub asked-way : (r : Request) (s : OctetEndpoint) → (happens (port_request r) s).way ≡ s.way
 unfolding answer
 asked-way r s = same-way s.way (said (at s.line (port_request r)) s.card)
 
-pub heard-way : (value : ℕ) (s : Termination) → (happens (port_octet value) s).way ≡ s.way
+pub heard-way : (value : ℕ) (s : OctetEndpoint) → (happens (port_octet value) s).way ≡ s.way
 unfolding answer
 heard-way value s = same-way s.way (said (at s.line (port_octet value)) s.card)
 
@@ -91,16 +91,16 @@ module _ (n201 : ℕ) where
   -- ---- one act at an end
 
   module _ (c d : Config) (fits : Fits c) (fits_far : Fits d) (w : Circuit) (there back : List (List ℕ)) (h : Follows c d w there back) where
-    pub record Acted (act : Option wire.Act) (w' : Circuit) : Type 0 where
+    pub record Acted (act : Option wire.Step) (w' : Circuit) : Type 0 where
       pub there' : List (List ℕ)
       pub back' : List (List ℕ)
       pub follows : Follows c d w' there' back'
       pub same : if_acted act (as_wire there back w) ≡ as_wire there' back' w'
 
-    abbrev near : Termination
+    abbrev near : OctetEndpoint
     near = w.near
 
-    abbrev far : Termination
+    abbrev far : OctetEndpoint
     far = w.far
 
     inside : near.line < length near.card.ports
@@ -109,13 +109,13 @@ module _ (n201 : ℕ) where
     n201-is : near.card.card.config.n201 ≡ n201
     n201-is = ap (λ (x : Config). x.n201) (config c fits.ranged near h.near) ∙ fits.size
 
-    abbrev with_ends : Station → Station → Wire
+    abbrev with_ends : Endpoint → Endpoint → Wire
     with_ends x y = record { near = x; far = y }
 
-    abbrev with-near : Station → Wire
+    abbrev with-near : Endpoint → Wire
     with-near x = with_ends x (as_station back far)
 
-    asked-one : (r : Request) → AreOctets (contents_given r) → Acted (Some (wire.requests r)) (acting (asks r) w)
+    asked-one : (r : Request) → AreOctets (contents_given r) → Acted (Some (wire.requests r)) (acting (octet_requests r) w)
     asked-one r octets =
         let s = happens (port_request r) near in
         let same = port-after near (port_request r) inside in
@@ -133,7 +133,7 @@ module _ (n201 : ℕ) where
 
     -- ---- a pull
 
-    pulled-meant : (due : Bool) → if_acted (cond due (Some wire.gives) None) (as_wire there back w) ≡ with-near (if_meant (cond due (Some line.next) None) (as_station there near))
+    pulled-meant : (due : Bool) → if_acted (cond due (Some wire.sends) None) (as_wire there back w) ≡ with-near (if_meant (cond due (Some line.next) None) (as_station there near))
     pulled-meant due = grind arith
 
     pulled-goes : (due : Bool) → let o : Option line.Event = cond due (Some line.next) None in
@@ -150,7 +150,7 @@ module _ (n201 : ℕ) where
         (next_octet q))
     pulled-goes false = one-given n201 (port_of near) near.way (port_of far).received there h.goes (next_octet (port_of near))
 
-    pulled-one : Acted (act_meant pulls w) (acting pulls w)
+    pulled-one : Acted (act_meant octet_sends w) (acting octet_sends w)
     unfolding answer meant
     pulled-one =
         let s = happens port_pull near in
@@ -177,10 +177,10 @@ module _ (n201 : ℕ) where
     heard-none empty = grind arith
 
     heard-one : (value : ℕ) (more : List ℕ) (o : Option StreamEvent) → far.way ≡ value ∷ more → gained n201 (port_of near).received value ≡ o
-        → Acted (cond (is_some o) (Some wire.takes) None) (hearing (value ∷ more))
+        → Acted (cond (is_some o) (Some wire.receives) None) (hearing (value ∷ more))
     heard-one value more o is what = go o what
       where
-        s : Termination
+        s : OctetEndpoint
         s = happens (port_octet value) near
 
         after-it : port_of s ≡ record (port_of near) { received = (port_of near).received ++ value ∷ [] }
@@ -200,7 +200,7 @@ module _ (n201 : ℕ) where
         comes : (frames : List (List ℕ)) → Carries n201 (port_of far) more ((port_of near).received ++ value ∷ []) frames → Carries n201 (port_of far) more (port_of s).received frames
         comes frames x = subst (λ received. Carries n201 (port_of far) more received frames) (sym (ap (λ (p : Port). p.received) after-it)) x
 
-        go : (o : Option StreamEvent) → gained n201 (port_of near).received value ≡ o → Acted (cond (is_some o) (Some wire.takes) None) (hearing (value ∷ more))
+        go : (o : Option StreamEvent) → gained n201 (port_of near).received value ≡ o → Acted (cond (is_some o) (Some wire.receives) None) (hearing (value ∷ more))
         go None e = record {
           there' = there;
           back' = back;
@@ -221,30 +221,30 @@ module _ (n201 : ℕ) where
                   ∙ ap (λ s. with_ends s (as_station x.rest far)) (sym (as-heard (Some event) e));
             }
 
-    pub one-act : (service : Service) (tei : ℕ) (act : OctetAct) → IsTalkOf service tei act → Acted (act_meant act w) (acting act w)
-    one-act service tei (asks r) is = asked-one r (grind arith)
-    one-act service tei pulls is = pulled-one
-    one-act service tei hears is = grind (arith, heard-none, is_some, n201-is, heard-one)
+    pub one-act : (service : Service) (tei : ℕ) (act : OctetStep) → IsTalkOf service tei act → Acted (act_meant act w) (acting act w)
+    one-act service tei (octet_requests r) is = asked-one r (grind arith)
+    one-act service tei octet_sends is = pulled-one
+    one-act service tei octet_receives is = grind (arith, heard-none, is_some, n201-is, heard-one)
 
   -- ---- all that is done
 
   module _ (service : Service) (tei : ℕ) (c d : Config) (fits : Fits c) (fits_far : Fits d) where
-    pub record Done (ds : List wire.Doing) (w : Circuit) (there back : List (List ℕ)) (w' : Circuit) : Type 0 where
+    pub record Done (ds : List wire.StepAt) (w : Circuit) (there back : List (List ℕ)) (w' : Circuit) : Type 0 where
       pub there' : List (List ℕ)
       pub back' : List (List ℕ)
       pub follows : Follows c d w' there' back'
       pub same : wire.doing_all ds (as_wire there back w) ≡ as_wire there' back' w'
       pub talk : All (IsCall service tei) ds
 
-    by-near : (o : Option wire.Act) (f : Wire) → wire.doing_all (option_to_list (option_map wire.at_near o)) f ≡ if_acted o f
+    by-near : (o : Option wire.Step) (f : Wire) → wire.doing_all (option_to_list (option_map wire.at_near o)) f ≡ if_acted o f
     unfolding frames_done
     by-near o f = grind arith
 
-    by-far : (o : Option wire.Act) (f : Wire) → wire.doing_all (option_to_list (option_map wire.at_far o)) f ≡ wire.turned (if_acted o (wire.turned f))
+    by-far : (o : Option wire.Step) (f : Wire) → wire.doing_all (option_to_list (option_map wire.at_far o)) f ≡ wire.turned (if_acted o (wire.turned f))
     unfolding frames_done
     by-far o f = grind arith
 
-    pub one-done : (x : OctetDoing) → IsTalk service tei x → (w : Circuit) (there back : List (List ℕ)) → Follows c d w there back → Done (option_to_list (doing_meant x w)) w there back (doing x w)
+    pub one-done : (x : OctetStepAt) → IsTalk service tei x → (w : Circuit) (there back : List (List ℕ)) → Follows c d w there back → Done (option_to_list (doing_meant x w)) w there back (doing x w)
     one-done (at_near act) is w there back h =
         let one = one-act c d fits fits_far w there back h service tei act is in
         record { there' = one.there'; back' = one.back'; follows = one.follows; same = by-near (act_meant act w) (as_wire there back w) ∙ one.same; talk = grind arith }
@@ -258,7 +258,7 @@ module _ (n201 : ℕ) where
           talk = grind arith;
         }
 
-    pub all-done : (ds : List OctetDoing) → All (IsTalk service tei) ds → (w : Circuit) (there back : List (List ℕ)) → Follows c d w there back → Done (doings_meant ds w) w there back (doing_all ds w)
+    pub all-done : (ds : List OctetStepAt) → All (IsTalk service tei) ds → (w : Circuit) (there back : List (List ℕ)) → Follows c d w there back → Done (doings_meant ds w) w there back (doing_all ds w)
     unfolding doing_all doings_meant frames_done
     all-done [] all w there back h = record { there' = there; back' = back; follows = h; same = refl; talk = All-nil (IsCall service tei) }
     all-done (x ∷ ds) all w there back h =

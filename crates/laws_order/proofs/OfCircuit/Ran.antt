@@ -15,7 +15,7 @@ use Rattle.model_card.specs.ports.HeardOctets.{HearsOctets}
 unfoldable use Rattle.model_card.specs.ports.Run.{after_all, meant_all}
 use Rattle.model_card.specs.ports.Sound.{IsSoundOctetCard}
 use Rattle.laws_trace.specs.Trace as traces
-use Rattle.laws_order.specs.circuit.Circuit.{Termination, port_of, happens}
+use Rattle.laws_order.specs.circuit.Circuit.{Endpoint as OctetEndpoint, port_of, happens}
 
 -- ---- one event more
 
@@ -66,14 +66,14 @@ moment-exact card number o h = grind (arith, append-nil)
 
 -- ---- an end that came about by events at lines of a card that had just begun, and octets alone were asked to be sent there
 
-pub record Ran (c : Config) (s : Termination) : Type 0 where
+pub record Ran (c : Config) (s : OctetEndpoint) : Type 0 where
   pub within : s.line < c.lines
   pub events : List Event
   pub at_lines : AreAtLines (fresh c) events
   pub is : s.card ≡ after_all (fresh c) events
   pub exact : All GivesOctets (trace_of c (meant_all (fresh c) events) s.line)
 
-pub goes-on : (c : Config) (s : Termination) (what : PortEvent) → AsksOctets what → Ran c s → Ran c (happens what s)
+pub goes-on : (c : Config) (s : OctetEndpoint) (what : PortEvent) → AsksOctets what → Ran c s → Ran c (happens what s)
 unfolding meant
 goes-on c s what asks h =
     let m = after_all (fresh c) h.events in
@@ -94,7 +94,7 @@ goes-on c s what asks h =
           (All-append GivesOctets (trace_of c fs s.line) (trace s.line (runs.moments (runs.after_all (cards.fresh c) fs) (option_to_list (meant e m)))) h.exact new));
     }
 
-module _ (c : Config) (ranged : IsInRange c) (s : Termination) (h : Ran c s) where
+module _ (c : Config) (ranged : IsInRange c) (s : OctetEndpoint) (h : Ran c s) where
   pub config : s.card.card.config ≡ c
   config = ap (λ (m : OctetCard). m.card.config) h.is ∙ config_stays (fresh c) h.events
 

@@ -1,5 +1,8 @@
 -- Two cards that face each other as a call leaves them are at rest.
-use Rattle.laws_order.proofs.Vocabulary.{◌≡◌, ◌∙◌, ℕ, List, [], map, sym, ap, subst, arith, All, Service, frame_of, is_multiple_frame, Config, terms, CanCall, Face, Speaks, Station, IsStill, calls-face, Wire, length, drop, length-drop, ◌-◌, said_by, AreOfStep, IsInStep, FaceInStep, Circuit, OctetDoing, IsTalk, HasAllGone, window, AreSilent, FaceAtRest, CallsComeToRest}
+use Rattle.laws_order.proofs.Vocabulary.{◌≡◌, ◌∙◌, ℕ, List, [], map, refl, sym, ap, subst, arith, All, Service, frame_of, is_multiple_frame, Config, terms, CanCall, Face, Speaks, Endpoint, IsStill, calls-face, Wire, length, drop, length-drop, ◌-◌, said_by, AreOfStep, IsInStep, FaceInStep, Circuit, OctetStepAt, IsTalk, HasAllGone, window, AreSilent, FaceAtRest, CallsComeToRest}
+use Rattle.laws_order.specs.circuit.Damaged.{HasReceived}
+use Rattle.laws_order.specs.circuit.Resting.{as_noisy_endpoint}
+use Rattle.laws_order.proofs.OfCircuit.Ran.{sound}
 use Rattle.laws_order.proofs.Beginning.{within-window, Pasts, past-same, past-all, past-calling, link_known, up-here, from-links}
 use Rattle.laws_order.proofs.Pairs.{link_here}
 use Rattle.laws_wire.proofs.Delivering.{is-established, is-sound, is-quiet}
@@ -7,11 +10,11 @@ use Rattle.laws_order.proofs.OfCircuit.Projected.{as_wire, doings_meant}
 use Rattle.laws_order.proofs.OfCircuit.Through as through
 
 -- An end from where nothing is on its way.
-abbrev rested : Station → Station
+abbrev rested : Endpoint → Endpoint
 rested s = record { card = s.card; line = s.line; way = []; granted = []; told = [] }
 
 -- That of a call in which all has gone, of which nothing waits.
-rests : (service : Service) (tei : ℕ) (s u : Station) → Speaks service tei s u → Speaks service tei u s → said_by service tei (rested s) (link_known service tei s) ≡ [] → IsInStep service tei (rested s) (link_known service tei s) (link_known service tei u)
+rests : (service : Service) (tei : ℕ) (s u : Endpoint) → Speaks service tei s u → Speaks service tei u s → said_by service tei (rested s) (link_known service tei s) ≡ [] → IsInStep service tei (rested s) (link_known service tei s) (link_known service tei u)
 rests service tei s u h k none =
     let l = link_here service tei s in
     let its = is-sound service tei s u h in
@@ -26,7 +29,7 @@ rests service tei s u h k none =
           (omega (arith, all, its.within));
     }
 
-module _ (service : Service) (c d : Config) (line other tei : ℕ) (ds : List OctetDoing) (can : CanCall c line d other tei) (talk : All (IsTalk service tei) ds) where
+module _ (service : Service) (c d : Config) (line other tei : ℕ) (ds : List OctetStepAt) (can : CanCall c line d other tei) (talk : All (IsTalk service tei) ds) where
   abbrev last : Circuit
   last = through.last service c d line other tei ds can talk
 
@@ -65,5 +68,16 @@ module _ (service : Service) (c d : Config) (line other tei : ℕ) (ds : List Oc
         ),
       )
 
+  -- what came is what the ports have received
+  received-near : HasReceived (as_noisy_endpoint last.near)
+  received-near = record { received = refl; ports = (sound c can.near.0 last.near (through.done service c d line other tei ds can talk).follows.near).count }
+
+  received-far : HasReceived (as_noisy_endpoint last.far)
+  received-far = record { received = refl; ports = (sound d can.far.0 last.far (through.done service c d line other tei ds can talk).follows.far).count }
+
 pub calls-come-to-rest : CallsComeToRest
-calls-come-to-rest service c d line other tei ds can talk gone = at-rest service c d line other tei ds can talk (faces service c d line other tei ds can talk gone)
+calls-come-to-rest service c d line other tei ds can talk gone = (
+  at-rest service c d line other tei ds can talk (faces service c d line other tei ds can talk gone),
+  received-near service c d line other tei ds can talk,
+  received-far service c d line other tei ds can talk,
+)

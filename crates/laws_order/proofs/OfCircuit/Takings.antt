@@ -1,21 +1,21 @@
 -- How often a frame is taken: at most half as often as there are turns, since each was given first.
-use Rattle.laws_order.proofs.Vocabulary.{◌≡◌, ℕ, ◌+◌, ◌*◌, ◌≤◌, Bool, false, List, [], ◌∷◌, ◌++◌, length, arith, length-append, All, if◌then◌else◌, All-head, All-tail, Service, Wire, Act, Doing, is_any, asks-way, takes-way, All-cons, All-nil, IsTalk, wire_at_near, wire_is_turn, turned, wire_doing, wire_doing_all, wire_turns, wire_at_far, takes, IsCall}
+use Rattle.laws_order.proofs.Vocabulary.{◌≡◌, ℕ, ◌+◌, ◌*◌, ◌≤◌, Bool, false, List, [], ◌∷◌, ◌++◌, length, arith, length-append, All, if◌then◌else◌, All-head, All-tail, Service, Wire, EndStep, StepAt, is_any, asks-way, takes-way, All-cons, All-nil, IsTalk, wire_at_near, wire_is_turn, turned, wire_doing, wire_doing_all, wire_turns, wire_at_far, receives, IsCall}
 unfoldable use Rattle.laws_wire.specs.Wire.{doing_all, turns}
-use Rattle.laws_order.specs.circuit.Circuit.{OctetAct, asks, pulls, hears, OctetDoing, at_near, at_far}
+use Rattle.laws_order.specs.circuit.Circuit.{Step as OctetStep, requests as octet_requests, sends as octet_sends, receives as octet_receives, StepAt as OctetStepAt, at_near, at_far}
 
-abbrev pub is_taking_of : Act → Wire → Bool
-is_taking_of takes f = is_any f.far.way
+abbrev pub is_taking_of : EndStep → Wire → Bool
+is_taking_of receives f = is_any f.far.way
 is_taking_of other f = false
 
-abbrev pub is_taking : Doing → Wire → Bool
+abbrev pub is_taking : StepAt → Wire → Bool
 is_taking (wire_at_near act) f = is_taking_of act f
 is_taking (wire_at_far act) f = is_taking_of act (turned f)
 
-unfoldable pub takings : List Doing → Wire → ℕ
+unfoldable pub takings : List StepAt → Wire → ℕ
 takings [] f = 0
 takings (d ∷ ds) f = (if is_taking d f then 1 else 0) + takings ds (wire_doing d f)
 
-pub takings-append : (ds es : List Doing) (f : Wire) → takings (ds ++ es) f ≡ takings ds f + takings es (wire_doing_all ds f)
+pub takings-append : (ds es : List StepAt) (f : Wire) → takings (ds ++ es) f ≡ takings ds f + takings es (wire_doing_all ds f)
 unfolding takings doing_all
 takings-append [] es f = omega arith
 takings-append (d ∷ ds) es f =
@@ -31,13 +31,13 @@ record Paid (taking turn : Bool) (before after : ℕ) : Type 0 where
   paid : 2 * (if taking then 1 else 0) + after ≤ (if turn then 1 else 0) + before
 
 module _ (service : Service) (tei : ℕ) where
-  one-paid : (d : Doing) → IsCall service tei d → (f : Wire) → Paid (is_taking d f) (wire_is_turn d f) (on_ways f) (on_ways (wire_doing d f))
+  one-paid : (d : StepAt) → IsCall service tei d → (f : Wire) → Paid (is_taking d f) (wire_is_turn d f) (on_ways f) (on_ways (wire_doing d f))
   one-paid d is f = grind (arith, asks-way, length-append, takes-way)
 
   joined : (t t' k k' a b c : ℕ) → 2 * t + b ≤ k + a → 2 * t' + c ≤ k' + b → 2 * (t + t') + c ≤ (k + k') + a
   joined t t' k k' a b c h h' = omega (arith, h, h')
 
-  pub all-paid : (ds : List Doing) → All (IsCall service tei) ds → (f : Wire) → 2 * takings ds f + on_ways (wire_doing_all ds f) ≤ wire_turns ds f + on_ways f
+  pub all-paid : (ds : List StepAt) → All (IsCall service tei) ds → (f : Wire) → 2 * takings ds f + on_ways (wire_doing_all ds f) ≤ wire_turns ds f + on_ways f
   unfolding takings doing_all turns
   all-paid [] all f = omega arith
   all-paid (d ∷ ds) all f =
@@ -48,37 +48,37 @@ module _ (service : Service) (tei : ℕ) where
 
 -- Pulls and hearings alone: how often each is done at either end, and that they are what is done in a call.
 
-abbrev pub IsMuteOf : OctetAct → Type 0
-IsMuteOf (asks r) = ⊥
+abbrev pub IsMuteOf : OctetStep → Type 0
+IsMuteOf (octet_requests r) = ⊥
 IsMuteOf other = Unit {0}
 
-abbrev pub IsMute : OctetDoing → Type 0
+abbrev pub IsMute : OctetStepAt → Type 0
 IsMute (at_near act) = IsMuteOf act
 IsMute (at_far act) = IsMuteOf act
 
-abbrev pub one_pull : OctetAct → ℕ
-one_pull pulls = 1
+abbrev pub one_pull : OctetStep → ℕ
+one_pull octet_sends = 1
 one_pull other = 0
 
-abbrev pub one_hearing : OctetAct → ℕ
-one_hearing hears = 1
+abbrev pub one_hearing : OctetStep → ℕ
+one_hearing octet_receives = 1
 one_hearing other = 0
 
 -- how often something is done at either end
-abbrev pub count_near : (OctetAct → ℕ) → List OctetDoing → ℕ
+abbrev pub count_near : (OctetStep → ℕ) → List OctetStepAt → ℕ
 count_near one [] = 0
 count_near one (at_near act ∷ ds) = one act + count_near one ds
 count_near one (at_far act ∷ ds) = count_near one ds
 
-abbrev pub count_far : (OctetAct → ℕ) → List OctetDoing → ℕ
+abbrev pub count_far : (OctetStep → ℕ) → List OctetStepAt → ℕ
 count_far one [] = 0
 count_far one (at_near act ∷ ds) = count_far one ds
 count_far one (at_far act ∷ ds) = one act + count_far one ds
 
-pub mute-talk : (service : Service) (tei : ℕ) (x : OctetDoing) → IsMute x → IsTalk service tei x
+pub mute-talk : (service : Service) (tei : ℕ) (x : OctetStepAt) → IsMute x → IsTalk service tei x
 mute-talk service tei x h = grind arith
 
-pub all-talk : (service : Service) (tei : ℕ) (ds : List OctetDoing) → All IsMute ds → All (IsTalk service tei) ds
+pub all-talk : (service : Service) (tei : ℕ) (ds : List OctetStepAt) → All IsMute ds → All (IsTalk service tei) ds
 all-talk service tei [] all = All-nil (IsTalk service tei)
 all-talk service tei (x ∷ ds) all =
     All-cons (IsTalk service tei) x ds (mute-talk service tei x (All-head IsMute x ds all)) (all-talk service tei ds (All-tail IsMute x ds all))

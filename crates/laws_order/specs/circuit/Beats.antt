@@ -4,12 +4,12 @@ use Rattle.lapd_frame.specs.declared.services.Service.{Service}
 use Rattle.model_line.specs.declared.config.Config.{Config}
 use Rattle.model_card.specs.ports.Pulls.{longest_text}
 use Rattle.laws_wire.specs.Call.{CanCall, confirmed, told_first}
-use Rattle.laws_order.specs.circuit.Circuit.{Circuit, pulls, hears, OctetDoing, at_near, at_far, doing_all}
+use Rattle.laws_order.specs.circuit.Circuit.{Circuit, sends, receives, StepAt, at_near, at_far, doing_all}
 use Rattle.laws_order.specs.circuit.Through.{calling, IsTalk, both_call, all_told}
 
 -- A beat: each end's next octet is pulled, and then the first octet on the way to each end is heard.
-abbrev pub beat : List OctetDoing
-beat = at_near pulls ∷ at_far pulls ∷ at_near hears ∷ at_far hears ∷ []
+abbrev pub beat : List StepAt
+beat = at_near sends ∷ at_far sends ∷ at_near receives ∷ at_far receives ∷ []
 
 unfoldable pub beats : ℕ → Circuit → Circuit
 beats zero w = w
@@ -37,7 +37,7 @@ pub record IsToldAll (service : Service) (tei : ℕ) (both : Bool) (w : Circuit)
 
 abbrev pub AllIsToldInBeats : Type 0
 AllIsToldInBeats =
-    (service : Service) (c d : Config) (line other tei way n : ℕ) (ds : List OctetDoing) → CanCall c line d other tei →
+    (service : Service) (c d : Config) (line other tei way n : ℕ) (ds : List StepAt) → CanCall c line d other tei →
     All (IsTalk service tei) ds → let begun = calling service tei c line d other in let w = doing_all ds begun in
     length w.near.way ≤ way → length w.far.way ≤ way → enough_beats c.n201 way (both_call ds begun) (granted_of w) ≤ n →
     IsToldAll service tei (both_call ds begun) (beats n w)

@@ -9,16 +9,16 @@ use Rattle.model_card.specs.ports.Event.{at}
 use Rattle.model_card.specs.ports.Port.{Port, Event, octet, expiry, request, pull, Answer, told, refused, pulled}
 use Rattle.laws_wire.specs.Wire.{without_orders, contents_requested}
 
--- A card at one end of the circuit, which is at one of its lines; the octets that its pulls gave and that the other end has
--- not heard yet, the oldest first; the contents that its layer 3 asked to send and was granted; and what its layer 3 was told.
-pub record Termination : Type 0 where
+-- An endpoint of the circuit: a card, and its line that is on the circuit; its octets in transit, which its pulls gave and the other
+-- end has not received yet, the oldest first; the data that its layer 3 was granted to send; and what its layer 3 was told.
+pub record Endpoint : Type 0 where
   pub card : OctetCard
   pub line : ℕ
   pub way : List ℕ
   pub granted : List (List ℕ)
   pub told : List LineTold
 
-abbrev pub port_of : Termination → Port
+abbrev pub port_of : Endpoint → Port
 port_of s = port_at s.line s.card
 
 -- What layer 3 is told by an answer, and which contents are granted by it.
@@ -38,11 +38,11 @@ contents_in (expiry timer) = []
 contents_in (request r) = contents_requested r
 contents_in pull = []
 
--- Something happens at an end: an event at its line, which its card answers.
-abbrev pub answered : Event → Termination → Answer
+-- Something happens at an endpoint: an event at its line, which its card answers.
+abbrev pub answered : Event → Endpoint → Answer
 answered e s = answer (at s.line e) s.card
 
-abbrev pub happens : Event → Termination → Termination
+abbrev pub happens : Event → Endpoint → Endpoint
 happens e s = record {
   card = after (at s.line e) s.card;
   line = s.line;
@@ -52,39 +52,39 @@ happens e s = record {
 }
 
 pub record Circuit : Type 0 where
-  pub near : Termination
-  pub far : Termination
+  pub near : Endpoint
+  pub far : Endpoint
 
--- What can happen at an end: layer 3 or management asks for something; the next octet is pulled and goes on its way; or the
--- first octet of the other's way is heard.
-pub data OctetAct : Type 0 where
-  asks : Request → OctetAct
-  pulls : OctetAct
-  hears : OctetAct
+-- A step at an endpoint: layer 3 or management requests something, the next octet is pulled and sent, or the oldest octet in
+-- transit to it is received. No octet is lost, and no timer expires.
+pub data Step : Type 0 where
+  requests : Request → Step
+  sends : Step
+  receives : Step
 
-pub data OctetDoing : Type 0 where
-  at_near : OctetAct → OctetDoing
-  at_far : OctetAct → OctetDoing
+pub data StepAt : Type 0 where
+  at_near : Step → StepAt
+  at_far : Step → StepAt
 
-abbrev pub with_first_of : List ℕ → Termination → Termination
+abbrev pub with_first_of : List ℕ → Endpoint → Endpoint
 with_first_of [] s = s
 with_first_of (value ∷ more) s = happens (octet value) s
 
-abbrev pub with_first_heard : Termination → Termination
-with_first_heard s = record s { way = drop 1 s.way }
+abbrev pub without_first : Endpoint → Endpoint
+without_first s = record s { way = drop 1 s.way }
 
-abbrev pub acting : OctetAct → Circuit → Circuit
-acting (asks r) w = record w { near = happens (request r) w.near }
-acting pulls w = record w { near = happens pull w.near }
-acting hears w = record { near = with_first_of w.far.way w.near; far = with_first_heard w.far }
+abbrev pub acting : Step → Circuit → Circuit
+acting (requests r) w = record w { near = happens (request r) w.near }
+acting sends w = record w { near = happens pull w.near }
+acting receives w = record { near = with_first_of w.far.way w.near; far = without_first w.far }
 
 abbrev pub turned : Circuit → Circuit
 turned w = record { near = w.far; far = w.near }
 
-abbrev pub doing : OctetDoing → Circuit → Circuit
+abbrev pub doing : StepAt → Circuit → Circuit
 doing (at_near act) w = acting act w
 doing (at_far act) w = turned (acting act (turned w))
 
-unfoldable pub doing_all : List OctetDoing → Circuit → Circuit
+unfoldable pub doing_all : List StepAt → Circuit → Circuit
 doing_all [] w = w
 doing_all (d ∷ ds) w = doing_all ds (doing d w)

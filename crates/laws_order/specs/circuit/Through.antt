@@ -11,15 +11,15 @@ use Rattle.model_card.specs.Machine as machine
 use Rattle.model_card.specs.ports.Card.{fresh}
 use Rattle.model_card.specs.ports.Port as port
 use Rattle.model_card.specs.ports.Port.{request, Answer}
-use Rattle.laws_wire.specs.Call.{CanCall, IsTold, confirmed, told_first, data_told}
-use Rattle.laws_order.specs.circuit.Circuit.{Termination, port_of, Circuit, happens, answered, OctetAct, asks, pulls, hears, OctetDoing, at_near, at_far, doing, doing_all}
+use Rattle.laws_wire.specs.Call.{CanCall, ToldInOrder, confirmed, told_first, data_told}
+use Rattle.laws_order.specs.circuit.Circuit.{Endpoint, port_of, Circuit, happens, answered, Step, requests, sends, receives, StepAt, at_near, at_far, doing, doing_all}
 
 -- A card that has just begun, at one of its lines; it has the TEI assigned; and two such, of which one is asked to establish.
-abbrev pub termination : Config → ℕ → Termination
-termination c line = record { card = fresh c; line = line; way = []; granted = []; told = [] }
+abbrev pub octet_endpoint : Config → ℕ → Endpoint
+octet_endpoint c line = record { card = fresh c; line = line; way = []; granted = []; told = [] }
 
-abbrev pub assigned : Config → ℕ → ℕ → Termination
-assigned c line tei = happens (request (Assign tei)) (termination c line)
+abbrev pub assigned : Config → ℕ → ℕ → Endpoint
+assigned c line tei = happens (request (Assign tei)) (octet_endpoint c line)
 
 abbrev pub calling : Service → ℕ → Config → ℕ → Config → ℕ → Circuit
 calling service tei c line d other =
@@ -32,12 +32,12 @@ IsAsked service tei (Establish s t) = (s ≡ service) × (t ≡ tei)
 IsAsked service tei (Data s t contents) = (s ≡ service) × (t ≡ tei) × AreOctets contents
 IsAsked service tei other = ⊥
 
-abbrev pub IsTalkOf : Service → ℕ → OctetAct → Type 0
-IsTalkOf service tei (asks r) = IsAsked service tei r
-IsTalkOf service tei pulls = Unit {0}
-IsTalkOf service tei hears = Unit {0}
+abbrev pub IsTalkOf : Service → ℕ → Step → Type 0
+IsTalkOf service tei (requests r) = IsAsked service tei r
+IsTalkOf service tei sends = Unit {0}
+IsTalkOf service tei receives = Unit {0}
 
-abbrev pub IsTalk : Service → ℕ → OctetDoing → Type 0
+abbrev pub IsTalk : Service → ℕ → StepAt → Type 0
 IsTalk service tei (at_near act) = IsTalkOf service tei act
 IsTalk service tei (at_far act) = IsTalkOf service tei act
 
@@ -47,17 +47,17 @@ is_granted (port.told t) = true
 is_granted (port.refused why) = false
 is_granted (port.pulled value begun orders) = false
 
-abbrev pub calls_back : OctetDoing → Circuit → Bool
-calls_back (at_far (asks (Establish s t))) w = is_granted (answered (request (Establish s t)) w.far)
+abbrev pub calls_back : StepAt → Circuit → Bool
+calls_back (at_far (requests (Establish s t))) w = is_granted (answered (request (Establish s t)) w.far)
 calls_back other w = false
 
-unfoldable pub both_call : List OctetDoing → Circuit → Bool
+unfoldable pub both_call : List StepAt → Circuit → Bool
 both_call [] w = false
 both_call (d ∷ ds) w = calls_back d w || both_call ds (doing d w)
 
 -- All that an end had to send has gone: no frame waits, what was put on its line last is an idle flag, and each octet that it
 -- gave was heard.
-pub record HasGone (s : Termination) : Type 0 where
+pub record HasGone (s : Endpoint) : Type 0 where
   pub none : machine.answer (frames.at s.line next) s.card.card ≡ gave None
   pub flag : (front : List Item) × ((port_of s).items ≡ front ++ idle ∷ [])
   pub heard : s.way ≡ []
@@ -67,14 +67,14 @@ HasAllGone w = HasGone w.near × HasGone w.far
 
 -- One establishment, and then the data that the other was granted to send, in order, and nothing else: at any time layer 3 of
 -- each was told a beginning of that, and all of it where all has gone.
-abbrev pub all_told : Service → ℕ → LineTold → Termination → List LineTold
+abbrev pub all_told : Service → ℕ → LineTold → Endpoint → List LineTold
 all_told service tei first other = first ∷ map (data_told service tei) other.granted
 
 pub record ComesThrough (service : Service) (tei : ℕ) (both : Bool) (w : Circuit) : Type 0 where
-  pub near : IsTold (HasAllGone w) (all_told service tei (confirmed service tei) w.far) w.near.told
-  pub far : IsTold (HasAllGone w) (all_told service tei (told_first service tei both) w.near) w.far.told
+  pub near : ToldInOrder (HasAllGone w) (all_told service tei (confirmed service tei) w.far) w.near.told
+  pub far : ToldInOrder (HasAllGone w) (all_told service tei (told_first service tei both) w.near) w.far.told
 
 abbrev pub CallsComeThroughInOctets : Type 0
 CallsComeThroughInOctets =
-    (service : Service) (c d : Config) (line other tei : ℕ) (ds : List OctetDoing) → CanCall c line d other tei → All (IsTalk service tei) ds →
+    (service : Service) (c d : Config) (line other tei : ℕ) (ds : List StepAt) → CanCall c line d other tei → All (IsTalk service tei) ds →
     let w = calling service tei c line d other in ComesThrough service tei (both_call ds w) (doing_all ds w)

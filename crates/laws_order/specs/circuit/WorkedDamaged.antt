@@ -15,7 +15,7 @@ use Rattle.model_card.specs.ports.Port as port
 use Rattle.model_card.specs.ports.Port.{octet, pull}
 use Rattle.laws_order.specs.Order.{data_noted, data_granted, StaysEstablished}
 use Rattle.laws_order.specs.circuit.Circuit.{doing_all}
-use Rattle.laws_order.specs.circuit.Damaged.{Noisy, happens, completes, loses, Happening, by_near, by_far, happening_all, ArePossible, seen_near, seen_far}
+use Rattle.laws_order.specs.circuit.Damaged.{Noisy, happens, completes, loses, StepAt, by_near, by_far, happening_all, ArePossible, seen_near, seen_far}
 use Rattle.laws_order.specs.circuit.Resting.{from_then_on}
 use Rattle.laws_order.specs.circuit.WorkedCall as call
 use Rattle.laws_order.specs.circuit.WorkedCall.{establishes}
@@ -24,41 +24,41 @@ use Rattle.laws_order.specs.circuit.WorkedCall.{establishes}
 abbrev pub begins : Noisy
 begins = from_then_on (doing_all establishes call.begins)
 
-abbrev near_asks : ℕ → Happening
+abbrev near_asks : ℕ → StepAt
 near_asks value = by_near (happens (port.request (Data Call 0 (value ∷ []))))
 
-abbrev near_hears : ℕ → Happening
+abbrev near_hears : ℕ → StepAt
 near_hears value = by_near (happens (octet value))
 
-abbrev far_hears : ℕ → Happening
+abbrev far_hears : ℕ → StepAt
 far_hears value = by_far (happens (octet value))
 
-abbrev near_pulls : Happening
+abbrev near_pulls : StepAt
 near_pulls = by_near (happens pull)
 
-abbrev far_pulls : Happening
+abbrev far_pulls : StepAt
 far_pulls = by_far (happens pull)
 
-abbrev far_gets : ℕ → Happening
+abbrev far_gets : ℕ → StepAt
 far_gets value = by_far (completes value)
 
-abbrev near_gets : ℕ → Happening
+abbrev near_gets : ℕ → StepAt
 near_gets value = by_near (completes value)
 
 -- The octets of both I-frames. As they come first, a bit of the fifth is turned, and the first is lost.
-abbrev both_come : List Happening
+abbrev both_come : List StepAt
 both_come =
     map far_hears (0 ∷ 2 ∷ 0 ∷ 0 ∷ 86 ∷ 43 ∷ 144 ∷ 253 ∷ []) ++ (far_gets 0 ∷ map far_hears (2 ∷ 4 ∷ 0 ∷ 154 ∷ 59 ∷ 247 ∷ 252 ∷ []) ++ (far_gets 252 ∷ []))
 
-abbrev one_comes : List Happening
+abbrev one_comes : List StepAt
 one_comes =
     map far_hears (0 ∷ 2 ∷ 0 ∷ 0 ∷ 70 ∷ 43 ∷ 144 ∷ 253 ∷ 0 ∷ 2 ∷ 4 ∷ 0 ∷ 154 ∷ 59 ∷ 247 ∷ 252 ∷ []) ++ (by_near loses ∷ far_gets 252 ∷ [])
 
 -- The second is out of sequence: REJ goes, and both go again.
-abbrev rejected : List Happening
+abbrev rejected : List StepAt
 rejected = replicate 7 far_pulls ++ (map near_hears (0 ∷ 1 ∷ 9 ∷ 0 ∷ 26 ∷ 113 ∷ []) ++ (near_gets 126 ∷ []))
 
-abbrev pub goes_again : List Happening
+abbrev pub goes_again : List StepAt
 goes_again = near_asks 0xAB ∷ near_asks 0xCD ∷ replicate 17 near_pulls ++ (one_comes ++ (rejected ++ (replicate 17 near_pulls ++ both_come)))
 
 told_far : data_noted Call 0 (seen_far goes_again begins) ≡ (0xAB ∷ []) ∷ (0xCD ∷ []) ∷ []
@@ -75,7 +75,7 @@ far_stays = refl
 
 -- Octets in which a frame stands that was never pulled, as errors make them that the check does not show: it is told, and was never
 -- granted.
-abbrev pub never_pulled : List Happening
+abbrev pub never_pulled : List StepAt
 never_pulled = map far_hears (0 ∷ 2 ∷ 0 ∷ 0 ∷ 50 ∷ 9 ∷ 181 ∷ 253 ∷ 252 ∷ [])
 
 told_of_none : data_noted Call 0 (seen_far never_pulled begins) ≡ (0x99 ∷ []) ∷ []

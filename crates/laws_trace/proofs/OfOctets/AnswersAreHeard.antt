@@ -10,7 +10,7 @@ use Rattle.laws_line.specs.card.PromisesOfTakes.{StaysAt, IsNotDeactivated, come
 use Rattle.laws_line.specs.card.WaitingIsHeard.{AreHeardSince}
 use Rattle.laws_line.proofs.OfCard.GoingOut.{waiting_heard}
 use Rattle.laws_trace.specs.AnswersAreGiven.{texts}
-use Rattle.laws_trace.specs.octets.AnswersAreHeard.{IsPulled, AllThatWaitsIsHeard, AnswersAreHeard}
+use Rattle.laws_trace.specs.octets.AnswersAreHeard.{IsPulled, AllThatWaitsIsHeard}
 use Rattle.laws_trace.proofs.AnswersAreGiven as given
 use Rattle.laws_trace.proofs.OfOctets.Emptied.{meant_both}
 
@@ -74,9 +74,3 @@ pub waiting-is-heard : OfEachLine AllThatWaitsIsHeard
 waiting-is-heard c events number ranged all within before behind service tei split h =
     subst (λ es. AreHeardSince c.n201 (octets_given c before number) (octets_given c es number) (texts c service tei (outgoing_of c service tei number (meant_all (fresh c) before)).waiting))
     (sym split) (since c before behind number ranged (subst (AreAtLines (fresh c)) split all) within service tei h)
-
-pub answers-are-heard : OfEachLine AnswersAreHeard
-answers-are-heard c events number ranged all within before behind earlier what service tei split latest none h =
-    given.wait-so c number ranged within service tei earlier what (AreHeardSince c.n201 (octets_given c before number) (octets_given c events number)) none
-    (subst (λ es. AreHeardSince c.n201 (octets_given c before number) (octets_given c events number) (texts c service tei (outgoing_of c service tei number es).waiting)) latest
-    (waiting-is-heard c events number ranged all within before behind service tei split h))

@@ -15,7 +15,7 @@ use Rattle.model_line.specs.Request.{Assign}
 use Rattle.laws_line.specs.WorkedPolled.{small}
 use Rattle.laws_line.specs.card.WaitingIsHeard.{AreHeardSince}
 use Rattle.laws_line.specs.Drains.{most_frames_before}
-use Rattle.laws_trace.specs.AnswersAreGiven.{Stays, WaitLast, come_first}
+use Rattle.laws_trace.specs.AnswersAreGiven.{Stays, priority_added, queue, texts}
 use Rattle.laws_trace.specs.Managing.{is_on, led, managed_after, none_on}
 use Rattle.laws_trace.specs.octets.AnswersAreHeard.{IsPulled}
 use Rattle.model_card.specs.ports.Pulls.{most_pulls_behind, pulls_of}
@@ -44,10 +44,9 @@ on_then = refl
 abbrev given_by : ℕ → List ℕ
 given_by n = octets_given small (comes ++ replicate n (at 0 pull)) 0
 
-ua_heard : WaitLast small 0 Call 64 (frames.at 0 (line_event.request (Assign 64)) ∷ []) sabme (AreHeardSince small.n201 (octets_given small comes 0) (given_by 7))
+ua_heard : AreHeardSince small.n201 (octets_given small comes 0) (given_by 7) (texts small Call 64 (queue small 0 Call 64 (meant_all (fresh small) comes)))
 unfolding moments meant_all after_all after answer meant runs.moments runs.after_all lines.after lines.answer lines.takes_slot teis.course teis.refusal low_bits seq distance_of named reading header_of control_of unnumbered_of supervisory_of
-ua_heard =
-    record { earlier = []; wait = refl; go = record { since = stream.frame (0x00 ∷ 0x81 ∷ 0x73 ∷ []) ∷ []; goes_on = refl; among = ([], [], refl, tt) } }
+ua_heard = record { since = stream.frame (0x00 ∷ 0x81 ∷ 0x73 ∷ []) ∷ []; goes_on = refl; among = ([], [], refl, tt) }
 
 not_yet : stream.heard_in small.n201 (given_by 6) ≡ []
 unfolding moments after_all after answer meant lines.after lines.answer lines.takes_slot teis.course teis.refusal low_bits reading header_of control_of unnumbered_of
@@ -72,8 +71,8 @@ unfolding Stays
 stays_on zero before on = on
 stays_on (suc n) before on = (on, refl, stays_on n (before ++ calls 1) (still_on before ∙ on))
 
-none_come : (n : ℕ) (before : List frames.Event) → come_first small 0 before (calls n) ≡ 0
-unfolding come_first
+none_come : (n : ℕ) (before : List frames.Event) → priority_added small 0 before (calls n) ≡ 0
+unfolding priority_added
 none_come zero before = refl
 none_come (suc n) before = let rest = none_come n (before ++ calls 1) in omega (arith, rest)
 
@@ -82,7 +81,7 @@ is_pulled =
     let first = meant_all (fresh small) comes in
     record {
       stays = subst (Stays small 0 Call 64 first) (sym calls_meant) (stays_on 172 first (ap (λ es. is_on 64 (managed_after small 0 es)) sabme_latest ∙ on_then));
-      enough = subst (λ es. most_pulls_behind small.n201 (most_frames_before small + come_first small 0 first es + 1) ≤ pulls_of 0 many) (sym calls_meant)
+      enough = subst (λ es. most_pulls_behind small.n201 (most_frames_before small + priority_added small 0 first es + 1) ≤ pulls_of 0 many) (sym calls_meant)
           (subst (λ n. most_pulls_behind small.n201 (most_frames_before small + n + 1) ≤ pulls_of 0 many) (sym (none_come 172 first)) (omega arith));
     }
 

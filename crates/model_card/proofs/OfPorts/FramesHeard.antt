@@ -1,8 +1,12 @@
 -- What is heard in the octets that a frame or a fault means.
-use Rattle.model_card.proofs.OfPorts.Vocabulary.{◌≡◌, ℕ, zero, suc, ◌+◌, ◌*◌, ◌/◌, ◌≤◌, Bool, true, List, [], ◌∷◌, ◌++◌, length, replicate, reverse, refl, ap, sym, ◌∙◌, arith, length-append, length-replicate, bits, flag, low_bits, check, frame_text, heard_until, heard_in, room_for, AreOctets, bits-append, low_bits-number_of_n, NoSix-stuffed, after_flag, heard_until-onto, hears_text, after_text, reverse_aux-append, Fault, IsIdle, filling, filled, line_octets, came, fault_octets, cause_of, AreHeardAs, FramesAreHeard, hears, hears-append, reverse_aux, some_text}
+use Rattle.model_card.proofs.OfPorts.Vocabulary.{◌≡◌, ℕ, zero, suc, ◌+◌, ◌*◌, ◌/◌, ◌≤◌, Bool, true, List, [], ◌∷◌, ◌++◌, length, replicate, reverse, refl, ap, sym, ◌∙◌, arith, length-append, length-replicate, bits, flag, low_bits, check, frame_text, heard_until, heard_in, room_for, AreOctets, bits-append, low_bits-number_of_n, NoSix-stuffed, after_flag, heard_until-onto, hears_text, after_text, reverse_aux-append, Fault, IsIdle, filling, filled, line_octets, came, fault_octets, cause_of, AreHeardAs, FramesAreHeard, hears, hears-append, reverse_aux, some_text, append_assoc, ◌<◌, get_or-replicate, Config, Port, after_all, fresh, fresh_port, meant_all, octets_come, port_at, Event as CardEvent}
 use Rattle.model_bits.specs.Bits.{octets_of}
 use Rattle.model_bits.specs.Stream.{Event, dropped}
 use Rattle.model_line.specs.declared.faults.Fault.TheVariants.{Fcs, Abort, Ragged, Short}
+use Rattle.model_card.specs.ports.Codec.{heard_at}
+use Rattle.model_card.proofs.OfPorts.Codec.{run_goes_on}
+use Rattle.model_card.specs.ports.WholeLaws.{IsHeardIn, StandsIn}
+use Rattle.model_card.proofs.OfPorts.FramesThere.{frames_there}
 use Rattle.model_card.proofs.OfPorts.FramesIdle.{IdleAt, hears_first_flag, idle_again}
 use Rattle.model_card.proofs.OfPorts.FramesJudged.{gap_event_came}
 
@@ -77,6 +81,33 @@ frame_heard n201 before octets idle are =
     ∙ ap (heard_until room) (sym (after_text text (after_flag past)))
     ∙ after_first_flag room past (text ++ flag) (came n201 octets) (IsIdle-IdleAt before idle) heard)
 
+-- ---- a frame, whatever came before it
+
+by_bits : (n201 : ℕ) (octets : List ℕ) → heard_in n201 octets ≡ hears (room_for n201) [] (bits octets)
+by_bits n201 octets = heard_until-onto (room_for n201) (bits octets) []
+
+all_heard : (n201 : ℕ) (octets frame : List ℕ) → AreOctets frame → StandsIn (bits octets) frame → IsHeardIn n201 octets (came n201 frame)
+all_heard n201 octets frame are h =
+    let room = room_for n201 in
+    let text = frame_text frame in
+    let first = reverse_aux h.before [] in
+    let place = after_flag first in
+    let end = reverse_aux (text ++ flag) place in
+    let one : hears room place (text ++ flag) ≡ came n201 frame ∷ [] =
+    hears_text room first text (some_text frame) (NoSix-stuffed (bits frame ++ check (bits frame))) ∙ ap (λ e. e ∷ []) (gap_event_came n201 frame are) in
+    let rest : hears room place (text ++ (flag ++ h.after)) ≡ came n201 frame ∷ hears room end h.after =
+    ap (hears room place) (sym (append_assoc text flag h.after)) ∙ hears-append room (text ++ flag) h.after place ∙ ap (λ l. l ++ hears room end h.after) one in
+    let earlier = hears room [] h.before ++ hears room first flag in
+    record {
+      earlier = earlier;
+      later = hears room end h.after;
+      is =
+          by_bits n201 octets ∙ ap (hears room []) h.is
+          ∙ hears-append room h.before (flag ++ (text ++ (flag ++ h.after))) []
+          ∙ ap (λ l. hears room [] h.before ++ l) (hears-append room flag (text ++ (flag ++ h.after)) first ∙ ap (λ l. hears room first flag ++ l) rest)
+          ∙ sym (append_assoc (hears room [] h.before) (hears room first flag) (came n201 frame ∷ hears room end h.after));
+    }
+
 -- ---- a fault
 
 -- the bits that a fault means after its flag
@@ -107,8 +138,21 @@ fault_heard n201 before fault idle =
     heard_as n201 before (fault_octets fault) (dropped (cause_of fault)) (reverse_aux (more_bits fault) (after_flag past)) place (idle_after_fault past fault)
     (after_first_flag room past (more_bits fault) (dropped (cause_of fault)) (IsIdle-IdleAt before idle) (hears_fault room past fault))
 
+-- ---- at a card
+
+card_heard : (c : Config) (events : List CardEvent) (number : ℕ) → number < c.lines → heard_at number (meant_all (fresh c) events) ≡ heard_in c.n201 (octets_come number events)
+card_heard c events number within =
+    let goes = run_goes_on (fresh c) events number (omega (arith, within, length-replicate c.lines fresh_port)) in
+    let fresh_is : port_at number (fresh c) ≡ fresh_port = get_or-replicate c.lines number fresh_port fresh_port within in
+    let came : (port_at number (after_all (fresh c) events)).received ≡ octets_come number events =
+    goes.received ∙ ap (λ (p : Port). p.received ++ octets_come number events) fresh_is in
+    sym (sym (ap (heard_in c.n201) came) ∙ goes.heard ∙ ap (λ (p : Port). heard_in c.n201 p.received ++ heard_at number (meant_all (fresh c) events)) fresh_is)
+
 pub frames_are_heard : FramesAreHeard
 frames_are_heard = record {
+  card = card_heard;
+  there = frames_there;
+  all = all_heard;
   begins = record { ones = refl; no_gap = refl };
   frames = frame_heard;
   faults = fault_heard;

@@ -14,7 +14,7 @@ use Rattle.model_card.specs.Takes.{frames_given}
 use Rattle.model_card.specs.ports.Event.{Event}
 use Rattle.model_card.specs.ports.Port as port
 use Rattle.model_card.specs.ports.Port.{Answer, Port, left_of}
-use Rattle.model_card.specs.ports.Card.{OctetCard, meant, said, port_at}
+use Rattle.model_card.specs.ports.Card.{OctetCard, meant, port_at}
 use Rattle.model_card.specs.ports.Run.{Moment, moments, after_all, meant_all, AreAtLines}
 
 -- The moment of the card of frames that a moment means, if it means one.
@@ -61,8 +61,12 @@ abbrev pub SaysSo : port.Event → Answer → Option line.Answer → Type 0
 SaysSo what a None = SaysNothing what a
 SaysSo what a (Some said) = Says a said
 
+-- To what an event means, the card of frames says what its machine answers.
+abbrev pub answer_in : OctetCard → frames.Event → line.Answer
+answer_in m f = machine.answer f m.card
+
 abbrev pub IsAnswered : Moment → Type 0
-IsAnswered moment = SaysSo moment.event.what moment.answer (said moment.event moment.card)
+IsAnswered moment = SaysSo moment.event.what moment.answer (option_map (answer_in moment.card) (meant moment.event moment.card))
 
 pub record Refines (m : OctetCard) (events : List Event) : Type 0 where
   pub asked : flat_map asked_among (meant_all m events) ≡ flat_map asked_with events

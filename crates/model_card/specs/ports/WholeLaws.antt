@@ -1,9 +1,17 @@
--- What is heard in the octets in which whole frames and faults stand: what `Came` of `model_line` says of them.
-use Rattle.std.specs.Prelude.{◌≡◌, ℕ, List, [], ◌∷◌, ◌++◌}
+-- What a card of octets hears is what stands in the octets that come; and what stands in those of whole frames and of faults is
+-- what `Came` of `model_line` says of them.
+use Rattle.std.specs.Prelude.{◌≡◌, ℕ, ◌<◌, Bool, List, [], ◌∷◌, ◌++◌, All}
+use Rattle.model_bits.specs.Bits.{bits, flag}
+use Rattle.model_bits.specs.Sent.{frame_text}
 use Rattle.model_bits.specs.StuffingLaws.{AreOctets}
-use Rattle.model_bits.specs.Stream.{Event, dropped, heard_in}
+use Rattle.model_bits.specs.Stream.{Event, frame, dropped, heard_in}
 use Rattle.model_line.specs.Came.{came, cause_of}
+use Rattle.model_line.specs.declared.config.Config.{Config}
 use Rattle.model_line.specs.declared.faults.Fault.{Fault}
+use Rattle.model_card.specs.ports.Card.{fresh}
+use Rattle.model_card.specs.ports.Codec.{heard_at, octets_come}
+use Rattle.model_card.specs.ports.Event as octets
+use Rattle.model_card.specs.ports.Run.{meant_all}
 use Rattle.model_card.specs.ports.Whole.{IsIdle, line_octets, fault_octets}
 
 -- After some octets, these octets are heard as exactly this event, and leave the line idle.
@@ -11,7 +19,32 @@ pub record AreHeardAs (n201 : ℕ) (before octets : List ℕ) (event : Event) : 
   pub heard : heard_in n201 (before ++ octets) ≡ heard_in n201 before ++ event ∷ []
   pub idle : IsIdle (before ++ octets)
 
+-- A frame stands in a text: its octets and their check, stuffed, between two flags.
+pub record StandsIn (text : List Bool) (octets : List ℕ) : Type 0 where
+  pub before : List Bool
+  pub after : List Bool
+  pub is : text ≡ before ++ (flag ++ (frame_text octets ++ (flag ++ after)))
+
+abbrev pub IsThere : List Bool → Event → Type 0
+IsThere text (frame octets) = StandsIn text octets
+IsThere text other = Unit {0}
+
+-- An event is one of those that are heard in octets.
+pub record IsHeardIn (n201 : ℕ) (octets : List ℕ) (event : Event) : Type 0 where
+  pub earlier : List Event
+  pub later : List Event
+  pub is : heard_in n201 octets ≡ earlier ++ event ∷ later
+
 pub record FramesAreHeard : Type 0 where
+  -- A card, from its start on: after any events, what its card of frames has heard at a line is exactly what stands in all
+  -- octets that came there, whatever else happened, there or at other lines. As it holds after each event of a list, each
+  -- is heard with the octet that ends it.
+  pub card : (c : Config) (events : List octets.Event) (number : ℕ) → number < c.lines →
+      heard_at number (meant_all (fresh c) events) ≡ heard_in c.n201 (octets_come number events)
+  -- What stands in octets: each frame that is heard does, and each that does is heard, whatever came before it; and on an idle line
+  -- each frame and each fault that stands there is heard as itself and nothing else.
+  pub there : (n201 : ℕ) (octets : List ℕ) → All (IsThere (bits octets)) (heard_in n201 octets)
+  pub all : (n201 : ℕ) (octets frame : List ℕ) → AreOctets frame → StandsIn (bits octets) frame → IsHeardIn n201 octets (came n201 frame)
   pub begins : IsIdle []
   pub frames : (n201 : ℕ) (before octets : List ℕ) → IsIdle before → AreOctets octets →
       AreHeardAs n201 before (line_octets octets) (came n201 octets)

@@ -2,6 +2,7 @@
 //! events, and so for every front of a list.
 
 ghost use Rattle.model_card.specs.ports.Laws.{CardsStaySound, DropsAreWithoutEffect, FramesLinear, LinesIsolated, OctetsAreACodec, RunIsMoments, StoredWithinLimit};
+ghost use Rattle.model_card.specs.ports.AtOnce.{FramesGoAtOnce};
 ghost use Rattle.model_card.specs.ports.GoingOut.{GivenFramesAreHeard};
 ghost use Rattle.model_card.specs.ports.HeardOctets.{HeardFramesAreOctets};
 ghost use Rattle.model_card.specs.ports.Pulls.{PullsAreTakes};
@@ -55,9 +56,11 @@ pub fn lines_isolated()
     ensures { LinesIsolated }
 {}
 
-/// On an idle line the octets in which a frame stands, between flags, are heard as this frame and nothing else, or, by its
-/// length, as one that is too short or overlong; those in which a fault stands are heard as what is dropped for its cause and
-/// nothing else. So a card of frames takes what a controller tells for what stood on its line.
+/// What a card hears at a line is exactly what stands in the octets that came there, from its start on (`card`). A frame
+/// is heard there that stands with its check, stuffed, between two flags, and no other (`there`, `all`). On an idle line
+/// the octets in which a frame stands, between flags, are heard as this frame and nothing else, or, by its length, as one
+/// that is too short or overlong; those in which a fault stands are heard as what is dropped for its cause and nothing
+/// else. So a card of frames takes what a controller tells for what stood on its line.
 #[tactic(auto, using(crate::proofs::OfPorts::FramesHeard::frames_are_heard))]
 pub fn frames_are_heard()
     ensures { FramesAreHeard }
@@ -87,4 +90,13 @@ pub fn given_frames_are_heard()
 #[tactic(auto, using(crate::proofs::OfPorts::Pulls::pulls_are_takes))]
 pub fn pulls_are_takes()
     ensures { PullsAreTakes }
+{}
+
+/// Frames go at once. From a fresh card on, for each line: a pull calls for the next frame exactly where fewer than eight
+/// bits are left of what was put on the line before. The frame that the call gives stands right after these bits, with
+/// its check and a flag; where it gives none, one flag stands there. So the octets pulled are a beginning of one opening
+/// flag and what the calls gave, with nothing between (Q.921 clauses 2.2 to 2.7, and profile).
+#[tactic(auto, using(crate::proofs::OfPorts::AtOnce::frames_go_at_once))]
+pub fn frames_go_at_once()
+    ensures { FramesGoAtOnce }
 {}

@@ -5,7 +5,8 @@
 //! a line and a card with ports (`Line`, `Card`), whole lists of events (`Run`), and the law of the codec (`Codec`): all that
 //! is proved of cards of frames holds of cards of octets by it. What is said of octets alone is promised here too
 //! (`Promises`, `Laws`; `HeardOctets`, that what is heard are octets; `GoingOut`, what a receiver hears of a line; `Pulls`, how
-//! many pulls bring a frame). `Whole` has the octets in which a controller's frames and faults would stand on a line.
+//! many pulls bring a frame; `AtOnce`, when a pull takes one). `Whole` has the octets in which a controller's frames and faults
+//! would stand on a line.
 //!
 //! - `events`: `Event`, what happens at a card of octets.
 //! - `laws`: what holds of whole runs, as calls without effect.
@@ -15,7 +16,7 @@ mod laws;
 
 pub use events::Event;
 pub use laws::{
-    cards_stay_sound, drops_are_without_effect, frames_are_heard, frames_linear,
+    cards_stay_sound, drops_are_without_effect, frames_are_heard, frames_go_at_once, frames_linear,
     given_frames_are_heard, heard_frames_are_octets, lines_isolated, octets_are_a_codec,
     pulls_are_takes, run_is_moments, stored_within_limit,
 };

@@ -1,5 +1,5 @@
 -- Hand-written answers for `lapd_frame`: the frame is heard by the configuration of the machine.
-use Rattle.lapd_c.proofs.Vocabulary.{◌≤◌, ℕ, List, length, Option, Some, refl, sym, ap, subst, ◌∙◌, Config, ShowsAnswer, told, Event, answer, comes, Shows, contents_or_none, alone}
+use Rattle.lapd_c.proofs.Vocabulary.{◌≤◌, ℕ, List, length, Option, Some, refl, sym, ap, subst, ◌∙◌, Config, ShowsAnswer, told, Event, answer, frame_comes, Shows, contents_or_none, alone}
 use Rattle.lapd_line.proofs.Quiet.{quiet_told}
 use Rattle.lapd_line.specs.Reports.{delivered_in, octets_of, told_beside, told_in}
 use Rattle.model_card.specs.Machine.{after}
@@ -17,9 +17,9 @@ returns-clause-served c = λ m s w.
     let is = comes_at c.args.line c.args.octets.now _ m t in
     let delivered = c.contents.ensures ∙ ap (λ (d : Config). delivered_in (octets_of (Some (came d.n201 c.args.octets.now))) c.frame.new.report) c.frame.ensures.after.config in (
       refl,
-      still_stands (alone (after (comes c.args.line c.args.octets.now m) m)) c.tell_reopened-2.ensures.card (subst (λ (e : Event). FrameCardStands c.frame.new.self (after e m)) is (c.frame.ensures.after.stands m t)),
+      still_stands (alone (after (frame_comes c.args.line c.args.octets.now m) m)) c.tell_reopened-2.ensures.card (subst (λ (e : Event). FrameCardStands c.frame.new.self (after e m)) is (c.frame.ensures.after.stands m t)),
       still_answered c.tell_reopened-2.new.report c.show.new.self _ c.tell_reopened-2.ensures.rest
-          (shown_told m (comes c.args.line c.args.octets.now m) _ c.show.new.self t.reached.config (c.frame.ensures.told m t ∙ ap (λ (e : Event). answer e m) is)
+          (shown_told m (frame_comes c.args.line c.args.octets.now m) _ c.show.new.self t.reached.config (c.frame.ensures.told m t ∙ ap (λ (e : Event). answer e m) is)
           (subst (λ (o : Option (List ℕ)). length (contents_or_none o) ≤ 260 → Shows c.show.new.self (told_beside o c.frame.new.report)) delivered c.show.ensures)),
     )
 
@@ -30,7 +30,7 @@ returns-then-frame-clause-served c = λ m s w.
     let is = comes_at c.args.line c.args.octets.now _ m t in
     let octets = octets_of (Some (came _ c.args.octets.now)) in (
       refl,
-      still_stands (alone (after (comes c.args.line c.args.octets.now m) m)) c.tell_reopened.ensures.card (subst (λ (e : Event). FrameCardStands c.frame.new.self (after e m)) is (c.frame.ensures.after.stands m t)),
+      still_stands (alone (after (frame_comes c.args.line c.args.octets.now m) m)) c.tell_reopened.ensures.card (subst (λ (e : Event). FrameCardStands c.frame.new.self (after e m)) is (c.frame.ensures.after.stands m t)),
       still_answered c.tell_reopened.new.report c.show_orders.new.self _ c.tell_reopened.ensures.rest
           (subst (ShowsAnswer c.show_orders.new.self) (ap told (sym (quiet_told octets c.frame.new.report (c.frame.ensures.quiet c.if-frame.true))) ∙ c.frame.ensures.told m t ∙ ap (λ (e : Event). answer e m) is)
           c.show_orders.ensures.told),

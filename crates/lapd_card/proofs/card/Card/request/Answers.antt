@@ -4,7 +4,7 @@ use Rattle.model_line.specs.Request.{request_of}
 use Rattle.model_card.specs.ports.Port.{told}
 use Rattle.lapd_card.specs.Card.{line_count}
 use Rattle.lapd_card.specs.Reply.{answer_of_result}
-use Rattle.lapd_card.specs.Stands.{Stands}
+use Rattle.lapd_card.specs.Stands.{OctetCardStands}
 use Rattle.lapd_card.proofs.OnePort.{past_after, seen, stood, inside}
 use Rattle.lapd_card.proofs.OneOctet.{request_passes, passed_leads, passed_told, err_is}
 use Rattle.lapd_card.proofs.card.Card.request.Goals as goal
@@ -14,7 +14,7 @@ invariant_of-self g c = past_after g.S.Shelf.store (passed_leads (request_passes
 
 pub returns-in_err-request-clause-refused : goal.returns-in_err-request-clause-refused
 returns-in_err-request-clause-refused g c =
-    subst (λ r. IfErr r (λ why. (m : OctetCard) → Stands g.S.Shelf.store c.args.self.now m → refusal m.card.config (is_full m.card) (request_of c.args.request) (line_at c.args.line m.card) ≡ Some why)) (sym (err_is c.from_residual.result c.in_err-request.field-0.0 c.from_residual.ensures))
+    subst (λ r. IfErr r (λ why. (m : OctetCard) → OctetCardStands g.S.Shelf.store c.args.self.now m → refusal m.card.config (is_full m.card) (request_of c.args.request) (line_at c.args.line m.card) ≡ Some why)) (sym (err_is c.from_residual.result c.in_err-request.field-0.0 c.from_residual.ensures))
     (inside g.S.Shelf.store c.self.view_is c.in_err-request.ensures.refused)
 
 pub returns-in_err-request-clause-told : goal.returns-in_err-request-clause-told

@@ -7,20 +7,20 @@ use Rattle.lapd_card.proofs.Served.{expiry_takes}
 use Rattle.lapd_card.proofs.Headline.{at_line}
 use Rattle.lapd_card.proofs.frame_card.FrameCard.expire.Goals as goal
 
-pub index_mut-lane-requires : goal.index_mut-lane-requires
-index_mut-lane-requires g c = line-there g.S.Shelf.store _ c.args.self.now c.args.line _ c.self.invariant c.self.view_is c.requires.within c.self.inside.lines.ok.0
+pub index_mut-frame_line-requires : goal.index_mut-frame_line-requires
+index_mut-frame_line-requires g c = line-there g.S.Shelf.store _ c.args.self.now c.args.line _ c.self.invariant c.self.view_is c.requires.within c.self.inside.lines.ok.0
 
 pub expire-requires-clause-stands : goal.expire-requires-clause-stands
-expire-requires-clause-stands g c = one_serves g.S.Shelf.store (record { past = c.self.invariant; same = c.self.view_is; within = c.requires.within; is = c.index_mut-lane.ensures.value })
+expire-requires-clause-stands g c = one_serves g.S.Shelf.store (record { past = c.self.invariant; same = c.self.view_is; within = c.requires.within; is = c.index_mut-frame_line.ensures.value })
 
 pub invariant_of-self : goal.invariant_of-self
-invariant_of-self g c = past_after g.S.Shelf.store c.self.view_is (event_leads g.S.Shelf.store (record { past = c.self.invariant; same = c.self.view_is; within = c.requires.within; is = c.index_mut-lane.ensures.value }) (line_event.expiry c.args.timer) (expiry_takes c.args.timer) c.expire.ensures.after (record { told = c.has_next.result; says = c.has_next.ensures; sets = c.set.ensures })) c.self.invariant
+invariant_of-self g c = past_after g.S.Shelf.store c.self.view_is (event_leads g.S.Shelf.store (record { past = c.self.invariant; same = c.self.view_is; within = c.requires.within; is = c.index_mut-frame_line.ensures.value }) (line_event.expiry c.args.timer) (expiry_takes c.args.timer) c.expire.ensures.after (record { told = c.has_next.result; says = c.has_next.ensures; sets = c.set.ensures })) c.self.invariant
 
 pub returns-clause-told : goal.returns-clause-told
-returns-clause-told g c = event_told g.S.Shelf.store (record { past = c.self.invariant; same = c.self.view_is; within = c.requires.within; is = c.index_mut-lane.ensures.value }) (line_event.expiry c.args.timer) (expiry_takes c.args.timer) c.expire.ensures.told
+returns-clause-told g c = event_told g.S.Shelf.store (record { past = c.self.invariant; same = c.self.view_is; within = c.requires.within; is = c.index_mut-frame_line.ensures.value }) (line_event.expiry c.args.timer) (expiry_takes c.args.timer) c.expire.ensures.told
 
 pub returns-clause-after : goal.returns-clause-after
-returns-clause-after g c = event_leads g.S.Shelf.store (record { past = c.self.invariant; same = c.self.view_is; within = c.requires.within; is = c.index_mut-lane.ensures.value }) (line_event.expiry c.args.timer) (expiry_takes c.args.timer) c.expire.ensures.after (record { told = c.has_next.result; says = c.has_next.ensures; sets = c.set.ensures })
+returns-clause-after g c = event_leads g.S.Shelf.store (record { past = c.self.invariant; same = c.self.view_is; within = c.requires.within; is = c.index_mut-frame_line.ensures.value }) (line_event.expiry c.args.timer) (expiry_takes c.args.timer) c.expire.ensures.after (record { told = c.has_next.result; says = c.has_next.ensures; sets = c.set.ensures })
 
 pub returns-clause-frames : goal.returns-clause-frames
 returns-clause-frames g c = at_line g.S.Shelf.store c.requires.within (λ m s w. frames_by_event.expiries m c.args.line c.args.timer s w)

@@ -7,17 +7,17 @@ use Rattle.lapd_card.proofs.OneEvent.{past_after, event_leads, event_told}
 use Rattle.lapd_card.proofs.Served.{heard_takes}
 use Rattle.lapd_card.proofs.frame_card.FrameCard.failed.Goals as goal
 
-pub index_mut-lane-requires : goal.index_mut-lane-requires
-index_mut-lane-requires g c = line-there g.S.Shelf.store _ c.args.self.now c.args.line _ c.self.invariant c.self.view_is c.requires.within c.self.inside.lines.ok.0
+pub index_mut-frame_line-requires : goal.index_mut-frame_line-requires
+index_mut-frame_line-requires g c = line-there g.S.Shelf.store _ c.args.self.now c.args.line _ c.self.invariant c.self.view_is c.requires.within c.self.inside.lines.ok.0
 
 pub invariant_of-self : goal.invariant_of-self
-invariant_of-self g c = past_after g.S.Shelf.store c.self.view_is (event_leads g.S.Shelf.store (record { past = c.self.invariant; same = c.self.view_is; within = c.requires.within; is = c.index_mut-lane.ensures.value }) (line_event.hears (stream.dropped (cause_of c.args.fault))) (heard_takes (stream.dropped (cause_of c.args.fault))) (c.failed.ensures.after _) (record { told = c.has_next.result; says = c.has_next.ensures; sets = c.set.ensures })) c.self.invariant
+invariant_of-self g c = past_after g.S.Shelf.store c.self.view_is (event_leads g.S.Shelf.store (record { past = c.self.invariant; same = c.self.view_is; within = c.requires.within; is = c.index_mut-frame_line.ensures.value }) (line_event.hears (stream.dropped (cause_of c.args.fault))) (heard_takes (stream.dropped (cause_of c.args.fault))) (c.failed.ensures.after _) (record { told = c.has_next.result; says = c.has_next.ensures; sets = c.set.ensures })) c.self.invariant
 
 pub returns-clause-told : goal.returns-clause-told
-returns-clause-told g c = event_told g.S.Shelf.store (record { past = c.self.invariant; same = c.self.view_is; within = c.requires.within; is = c.index_mut-lane.ensures.value }) (line_event.hears (stream.dropped (cause_of c.args.fault))) (heard_takes (stream.dropped (cause_of c.args.fault))) (λ others l stands. c.failed.ensures.told l)
+returns-clause-told g c = event_told g.S.Shelf.store (record { past = c.self.invariant; same = c.self.view_is; within = c.requires.within; is = c.index_mut-frame_line.ensures.value }) (line_event.hears (stream.dropped (cause_of c.args.fault))) (heard_takes (stream.dropped (cause_of c.args.fault))) (λ others l stands. c.failed.ensures.told l)
 
 pub returns-clause-after : goal.returns-clause-after
-returns-clause-after g c = event_leads g.S.Shelf.store (record { past = c.self.invariant; same = c.self.view_is; within = c.requires.within; is = c.index_mut-lane.ensures.value }) (line_event.hears (stream.dropped (cause_of c.args.fault))) (heard_takes (stream.dropped (cause_of c.args.fault))) (c.failed.ensures.after _) (record { told = c.has_next.result; says = c.has_next.ensures; sets = c.set.ensures })
+returns-clause-after g c = event_leads g.S.Shelf.store (record { past = c.self.invariant; same = c.self.view_is; within = c.requires.within; is = c.index_mut-frame_line.ensures.value }) (line_event.hears (stream.dropped (cause_of c.args.fault))) (heard_takes (stream.dropped (cause_of c.args.fault))) (c.failed.ensures.after _) (record { told = c.has_next.result; says = c.has_next.ensures; sets = c.set.ensures })
 
 pub set-requires : goal.set-requires
 set-requires g c = few_line g.S.Shelf.store c.self.invariant c.self.view_is c.requires.within

@@ -12,20 +12,20 @@ use Rattle.lapd_card.proofs.Served.{heard_takes}
 use Rattle.lapd_card.proofs.Headline.{at_line}
 use Rattle.lapd_card.proofs.frame_card.FrameCard.frame.Goals as goal
 
-pub index_mut-lane-requires : goal.index_mut-lane-requires
-index_mut-lane-requires g c = line-there g.S.Shelf.store _ c.args.self.now c.args.line _ c.self.invariant c.self.view_is c.requires.within c.self.inside.lines.ok.0
+pub index_mut-frame_line-requires : goal.index_mut-frame_line-requires
+index_mut-frame_line-requires g c = line-there g.S.Shelf.store _ c.args.self.now c.args.line _ c.self.invariant c.self.view_is c.requires.within c.self.inside.lines.ok.0
 
 pub frame-is_quiet-requires-clause-stands : goal.frame-is_quiet-requires-clause-stands
-frame-is_quiet-requires-clause-stands g c = one_serves g.S.Shelf.store (record { past = c.self.invariant; same = c.self.view_is; within = c.requires.within; is = c.index_mut-lane.ensures.value })
+frame-is_quiet-requires-clause-stands g c = one_serves g.S.Shelf.store (record { past = c.self.invariant; same = c.self.view_is; within = c.requires.within; is = c.index_mut-frame_line.ensures.value })
 
 pub invariant_of-self : goal.invariant_of-self
-invariant_of-self g c = past_after g.S.Shelf.store c.self.view_is (event_leads g.S.Shelf.store (record { past = c.self.invariant; same = c.self.view_is; within = c.requires.within; is = c.index_mut-lane.ensures.value }) (hears (came c.args.self.now.config.n201 c.args.octets.now)) (heard_takes (came c.args.self.now.config.n201 c.args.octets.now)) (subst (λ n. line.Leads (hears (came n c.args.octets.now)) c.index_mut-lane.result.now (g.S.Shelf.store c.self.inside.shelf) c.frame-is_quiet.new.self (g.S.Shelf.store c.frame-is_quiet.new.shelf)) (ap (λ d. d.n201) (has_config g.S.Shelf.store (record { past = c.self.invariant; same = c.self.view_is; within = c.requires.within; is = c.index_mut-lane.ensures.value }))) c.frame-is_quiet.ensures.after) (record { told = c.has_next.result; says = c.has_next.ensures; sets = c.set.ensures })) c.self.invariant
+invariant_of-self g c = past_after g.S.Shelf.store c.self.view_is (event_leads g.S.Shelf.store (record { past = c.self.invariant; same = c.self.view_is; within = c.requires.within; is = c.index_mut-frame_line.ensures.value }) (hears (came c.args.self.now.config.n201 c.args.octets.now)) (heard_takes (came c.args.self.now.config.n201 c.args.octets.now)) (subst (λ n. line.Leads (hears (came n c.args.octets.now)) c.index_mut-frame_line.result.now (g.S.Shelf.store c.self.inside.shelf) c.frame-is_quiet.new.self (g.S.Shelf.store c.frame-is_quiet.new.shelf)) (ap (λ d. d.n201) (has_config g.S.Shelf.store (record { past = c.self.invariant; same = c.self.view_is; within = c.requires.within; is = c.index_mut-frame_line.ensures.value }))) c.frame-is_quiet.ensures.after) (record { told = c.has_next.result; says = c.has_next.ensures; sets = c.set.ensures })) c.self.invariant
 
 pub returns-clause-told : goal.returns-clause-told
-returns-clause-told g c = event_told g.S.Shelf.store (record { past = c.self.invariant; same = c.self.view_is; within = c.requires.within; is = c.index_mut-lane.ensures.value }) (hears (came c.args.self.now.config.n201 c.args.octets.now)) (heard_takes (came c.args.self.now.config.n201 c.args.octets.now)) (subst (λ n. (others : List Owned) (l : machine.Line) → line.Stands c.index_mut-lane.result.now (g.S.Shelf.store c.self.inside.shelf) others l → told (told_in (octets_of (Some (came n c.args.octets.now))) c.frame-is_quiet.new.report) ≡ answer (config_of c.index_mut-lane.result.now) (hears (came n c.args.octets.now)) l) (ap (λ d. d.n201) (has_config g.S.Shelf.store (record { past = c.self.invariant; same = c.self.view_is; within = c.requires.within; is = c.index_mut-lane.ensures.value }))) c.frame-is_quiet.ensures.told)
+returns-clause-told g c = event_told g.S.Shelf.store (record { past = c.self.invariant; same = c.self.view_is; within = c.requires.within; is = c.index_mut-frame_line.ensures.value }) (hears (came c.args.self.now.config.n201 c.args.octets.now)) (heard_takes (came c.args.self.now.config.n201 c.args.octets.now)) (subst (λ n. (others : List Owned) (l : machine.Line) → line.LineStands c.index_mut-frame_line.result.now (g.S.Shelf.store c.self.inside.shelf) others l → told (told_in (octets_of (Some (came n c.args.octets.now))) c.frame-is_quiet.new.report) ≡ answer (config_of c.index_mut-frame_line.result.now) (hears (came n c.args.octets.now)) l) (ap (λ d. d.n201) (has_config g.S.Shelf.store (record { past = c.self.invariant; same = c.self.view_is; within = c.requires.within; is = c.index_mut-frame_line.ensures.value }))) c.frame-is_quiet.ensures.told)
 
 pub returns-clause-after : goal.returns-clause-after
-returns-clause-after g c = event_leads g.S.Shelf.store (record { past = c.self.invariant; same = c.self.view_is; within = c.requires.within; is = c.index_mut-lane.ensures.value }) (hears (came c.args.self.now.config.n201 c.args.octets.now)) (heard_takes (came c.args.self.now.config.n201 c.args.octets.now)) (subst (λ n. line.Leads (hears (came n c.args.octets.now)) c.index_mut-lane.result.now (g.S.Shelf.store c.self.inside.shelf) c.frame-is_quiet.new.self (g.S.Shelf.store c.frame-is_quiet.new.shelf)) (ap (λ d. d.n201) (has_config g.S.Shelf.store (record { past = c.self.invariant; same = c.self.view_is; within = c.requires.within; is = c.index_mut-lane.ensures.value }))) c.frame-is_quiet.ensures.after) (record { told = c.has_next.result; says = c.has_next.ensures; sets = c.set.ensures })
+returns-clause-after g c = event_leads g.S.Shelf.store (record { past = c.self.invariant; same = c.self.view_is; within = c.requires.within; is = c.index_mut-frame_line.ensures.value }) (hears (came c.args.self.now.config.n201 c.args.octets.now)) (heard_takes (came c.args.self.now.config.n201 c.args.octets.now)) (subst (λ n. line.Leads (hears (came n c.args.octets.now)) c.index_mut-frame_line.result.now (g.S.Shelf.store c.self.inside.shelf) c.frame-is_quiet.new.self (g.S.Shelf.store c.frame-is_quiet.new.shelf)) (ap (λ d. d.n201) (has_config g.S.Shelf.store (record { past = c.self.invariant; same = c.self.view_is; within = c.requires.within; is = c.index_mut-frame_line.ensures.value }))) c.frame-is_quiet.ensures.after) (record { told = c.has_next.result; says = c.has_next.ensures; sets = c.set.ensures })
 
 pub set-requires : goal.set-requires
 set-requires g c = few_line g.S.Shelf.store c.self.invariant c.self.view_is c.requires.within

@@ -7,24 +7,24 @@ use Rattle.lapd_card.proofs.Served.{next_takes}
 use Rattle.lapd_card.proofs.Headline.{at_line}
 use Rattle.lapd_card.proofs.frame_card.FrameCard.next_frame.Goals as goal
 
-pub index_mut-lane-requires : goal.index_mut-lane-requires
-index_mut-lane-requires g c = line-there g.S.Shelf.store _ c.args.self.now c.args.line _ c.self.invariant c.self.view_is c.requires c.self.inside.lines.ok.0
+pub index_mut-frame_line-requires : goal.index_mut-frame_line-requires
+index_mut-frame_line-requires g c = line-there g.S.Shelf.store _ c.args.self.now c.args.line _ c.self.invariant c.self.view_is c.requires c.self.inside.lines.ok.0
 
 pub next_frame-given-requires-clause-stands : goal.next_frame-given-requires-clause-stands
-next_frame-given-requires-clause-stands g c = one_serves g.S.Shelf.store (record { past = c.self.invariant; same = c.self.view_is; within = c.requires; is = c.index_mut-lane.ensures.value })
+next_frame-given-requires-clause-stands g c = one_serves g.S.Shelf.store (record { past = c.self.invariant; same = c.self.view_is; within = c.requires; is = c.index_mut-frame_line.ensures.value })
 
 -- there is room for what a line of the machine may give
 pub next_frame-given-requires-clause-room : goal.next_frame-given-requires-clause-room
-next_frame-given-requires-clause-room g c = subst (λ d. d.n201 + 4 ≤ length c.args.out.now) (sym (has_config g.S.Shelf.store (record { past = c.self.invariant; same = c.self.view_is; within = c.requires; is = c.index_mut-lane.ensures.value }))) (omega (arith, c.if-out-room.false, c.frame_room-room.ensures))
+next_frame-given-requires-clause-room g c = subst (λ d. d.n201 + 4 ≤ length c.args.out.now) (sym (has_config g.S.Shelf.store (record { past = c.self.invariant; same = c.self.view_is; within = c.requires; is = c.index_mut-frame_line.ensures.value }))) (omega (arith, c.if-out-room.false, c.frame_room-room.ensures))
 
 pub invariant_of-self : goal.invariant_of-self
-invariant_of-self g c = past_after g.S.Shelf.store c.self.view_is (event_leads g.S.Shelf.store (record { past = c.self.invariant; same = c.self.view_is; within = c.requires; is = c.index_mut-lane.ensures.value }) next next_takes c.next_frame-given.ensures.after (record { told = c.has_next.result; says = c.has_next.ensures; sets = c.set.ensures })) c.self.invariant
+invariant_of-self g c = past_after g.S.Shelf.store c.self.view_is (event_leads g.S.Shelf.store (record { past = c.self.invariant; same = c.self.view_is; within = c.requires; is = c.index_mut-frame_line.ensures.value }) next next_takes c.next_frame-given.ensures.after (record { told = c.has_next.result; says = c.has_next.ensures; sets = c.set.ensures })) c.self.invariant
 
 pub returns-clause-gave : goal.returns-clause-gave
-returns-clause-gave g c = event_told g.S.Shelf.store (record { past = c.self.invariant; same = c.self.view_is; within = c.requires; is = c.index_mut-lane.ensures.value }) next next_takes c.next_frame-given.ensures.gave
+returns-clause-gave g c = event_told g.S.Shelf.store (record { past = c.self.invariant; same = c.self.view_is; within = c.requires; is = c.index_mut-frame_line.ensures.value }) next next_takes c.next_frame-given.ensures.gave
 
 pub returns-clause-after : goal.returns-clause-after
-returns-clause-after g c = event_leads g.S.Shelf.store (record { past = c.self.invariant; same = c.self.view_is; within = c.requires; is = c.index_mut-lane.ensures.value }) next next_takes c.next_frame-given.ensures.after (record { told = c.has_next.result; says = c.has_next.ensures; sets = c.set.ensures })
+returns-clause-after g c = event_leads g.S.Shelf.store (record { past = c.self.invariant; same = c.self.view_is; within = c.requires; is = c.index_mut-frame_line.ensures.value }) next next_takes c.next_frame-given.ensures.after (record { told = c.has_next.result; says = c.has_next.ensures; sets = c.set.ensures })
 
 pub set-requires : goal.set-requires
 set-requires g c = few_line g.S.Shelf.store c.self.invariant c.self.view_is c.requires

@@ -46,7 +46,7 @@ returns g c = λ what before octets is.
     let first = subst (λ n. links.Serves n event.cleared [] c.args.self.now.links s c.clear.new.self u c.clear.new.report) (k.exact c.link_number-first.ensures) c.clear.ensures in
     let second = subst (λ n. links.Serves n event.cleared [] c.clear.new.self u c.clear-2.new.self t c.clear-2.new.report) (k.exact c.link_number-second.ensures) c.clear-2.ensures in
     left c.args.self.now before what c.args.told is s u t octets c.tell_cleared.new.report c.args.tei c.args.place c.clear.new.self c.clear-2.new.self c.clear.new.report c.clear-2.new.report c.set.new.self c.set-2.new.self c.requires.left
-    (subst (λ n. Sets n false c.args.self.now.awake c.set.new.self) (k.exact c.link_number-first.ensures) c.set.ensures)
+    (subst (λ n. Sets n false c.args.self.now.has_frame c.set.new.self) (k.exact c.link_number-first.ensures) c.set.ensures)
     (subst (λ n. Sets n false c.set.new.self c.set-2.new.self) (k.exact c.link_number-second.ensures) c.set-2.ensures)
     first second
     (c.tell_cleared.ensures octets ∙ ap (with_cleared (told_of_link (told_with [] c.clear.new.report)) (told_of_link (told_with [] c.clear-2.new.report))) (c.tell_management.ensures.told octets))

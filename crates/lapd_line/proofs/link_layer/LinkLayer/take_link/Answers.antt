@@ -12,7 +12,7 @@ offer-requires-clause-stands g c =
 
 pub returns-in_err-offer : goal.returns-in_err-offer
 returns-in_err-offer g c =
-    absurd (false≢true (awake_offers c.args.self.now (g.S.Shelf.store c.args.shelf.now) c.args.number c.offer.new.self None c.requires.within c.requires.stands c.requires.awake c.in_err-offer.ensures))
+    absurd (false≢true (awake_offers c.args.self.now (g.S.Shelf.store c.args.shelf.now) c.args.number c.offer.new.self None c.requires.within c.requires.stands c.requires.has_frame c.in_err-offer.ensures))
 
 pub send-requires-clause-frame : goal.send-requires-clause-frame
 send-requires-clause-frame g c =
@@ -42,10 +42,10 @@ send-requires-in-Some-clause-info g c =
 pub returns-in-None-clause-taken : goal.returns-in-None-clause-taken
 returns-in-None-clause-taken g c =
     link_sent c.args.self.now (g.S.Shelf.store c.args.shelf.now) (g.O.Outlet.loading c.args.out.now) (g.O.Outlet.loading c.send.new.out) c.args.number c.offer.new.self c.in_ok-offer.offer [] c.send.new.self c.requires.within
-    c.send.ensures.awake c.send.ensures.rest c.in_ok-offer.ensures (no_contents (g.S.Shelf.store c.args.shelf.now) c.in_ok-offer.offer.contents c.in-None.is) c.send.ensures.room c.send.ensures.reference c.send.ensures.loaded
+    c.send.ensures.has_frame c.send.ensures.rest c.in_ok-offer.ensures (no_contents (g.S.Shelf.store c.args.shelf.now) c.in_ok-offer.offer.contents c.in-None.is) c.send.ensures.room c.send.ensures.reference c.send.ensures.loaded
 
 pub returns-in-Some-clause-taken : goal.returns-in-Some-clause-taken
 returns-in-Some-clause-taken g c =
     link_sent c.args.self.now (g.S.Shelf.store c.args.shelf.now) (g.O.Outlet.loading c.args.out.now) (g.O.Outlet.loading c.send-in-Some.new.out) c.args.number c.offer.new.self c.in_ok-offer.offer c.get.result.now c.send-in-Some.new.self c.requires.within
-    c.send-in-Some.ensures.awake c.send-in-Some.ensures.rest c.in_ok-offer.ensures (its_contents (g.S.Shelf.store c.args.shelf.now) c.in_ok-offer.offer.contents c.in-Some.slot c.get.result.now c.in-Some.is c.get.ensures.octets)
+    c.send-in-Some.ensures.has_frame c.send-in-Some.ensures.rest c.in_ok-offer.ensures (its_contents (g.S.Shelf.store c.args.shelf.now) c.in_ok-offer.offer.contents c.in-Some.slot c.get.result.now c.in-Some.is c.get.ensures.octets)
     c.send-in-Some.ensures.room c.send-in-Some.ensures.reference c.send-in-Some.ensures.loaded

@@ -4,8 +4,8 @@ use Rattle.model_link.specs.TimerRecovery as row
 use Rattle.lapd_link_steps.proofs.Steps.{◌▹◌, acknowledged_then, by_then, by_bit_yes, by_bit_no, state_set}
 use Rattle.lapd_link_steps.proofs.entity.Entity.acknowledged_by_supervisory_in_8.Goals as goal
 
-pub returns-then-last-clause-does : goal.returns-then-last-clause-does
-returns-then-last-clause-does c = λ terms info. by_bit_yes _ acknowledge c.if-last.true (acknowledged_then (c.acknowledge.ensures.does terms info) (by_then (c.send_again_from.ensures terms info _) (c.start_timer.ensures.does terms info ▹ state_set)))
+pub returns-then-is_final-clause-does : goal.returns-then-is_final-clause-does
+returns-then-is_final-clause-does c = λ terms info. by_bit_yes _ acknowledge c.if-is_final.true (acknowledged_then (c.acknowledge.ensures.does terms info) (by_then (c.send_again_from.ensures terms info _) (c.start_timer.ensures.does terms info ▹ state_set)))
 
-pub returns-else-last-clause-does : goal.returns-else-last-clause-does
-returns-else-last-clause-does c = λ terms info. by_bit_no _ (row.recovered c.args.timer) c.if-last.false (c.acknowledge.ensures.does terms info)
+pub returns-else-is_final-clause-does : goal.returns-else-is_final-clause-does
+returns-else-is_final-clause-does c = λ terms info. by_bit_no _ (row.recovered c.args.timer) c.if-is_final.false (c.acknowledge.ensures.does terms info)

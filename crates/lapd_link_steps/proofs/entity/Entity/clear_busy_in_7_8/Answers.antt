@@ -4,4 +4,4 @@ use Rattle.lapd_link_steps.proofs.Steps.{◌▹◌, where_yes, own_busy_set}
 use Rattle.lapd_link_steps.proofs.entity.Entity.clear_busy_in_7_8.Goals as goal
 
 pub returns-clause-does : goal.returns-clause-does
-returns-clause-does c = λ info. where_yes is_own_busy nothing (λ messages p fits. c.if-not-self.false) (own_busy_set ▹ c.report_ready.ensures.does info)
+returns-clause-does c = λ info. where_yes is_own_busy nothing (λ messages p fits. c.if-not-self.false) (own_busy_set ▹ c.report_receiver_status.ensures.does info)

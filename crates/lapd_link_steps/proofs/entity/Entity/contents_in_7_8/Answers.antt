@@ -24,7 +24,7 @@ returns-then-pf-clause-does c = λ info.
     where_no is_own_busy (row.dropped c.args.terms.now c.args.pf) (λ messages p fits. c.if-self.false)
     (where_yes (row.is_next c.args.ns) (row.out_of_sequence c.args.terms.now c.args.pf)
     (λ messages p fits. eq-eqb c.args.ns.value (seq p.r).value (c.if-ns-self.false ∙ ap (λ (v : Seq). v.value) fits.received))
-    (c.count_received.ensures _ _ _ ▹ rejecting_set ▹ c.deliver.ensures.does info _ ▹ bit_yes _ (word.pending_is true) c.if-pf.true (c.report_ready.ensures.does info)))
+    (c.count_received.ensures _ _ _ ▹ rejecting_set ▹ c.deliver.ensures.does info _ ▹ bit_yes _ (word.pending_is true) c.if-pf.true (c.report_receiver_status.ensures.does info)))
 
 pub returns-else-pf-clause-does : goal.returns-else-pf-clause-does
 returns-else-pf-clause-does c = λ info.

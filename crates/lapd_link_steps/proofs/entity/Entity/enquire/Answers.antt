@@ -9,5 +9,5 @@ returns-clause-does c = λ info.
     same_step
     (λ messages p fits.
     ap (λ (ready : Control). (word.send c.args.terms.now (word.command ready) then word.pending_is false) (course_of info c.args.self.now c.args.told.now p))
-    (c.ready_to_receive-ready.ensures p fits.received))
+    (c.rr_or_rnr-ready.ensures p fits.received))
     (c.command.ensures.does info ▹ pending_set)

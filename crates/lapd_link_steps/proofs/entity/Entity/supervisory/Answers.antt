@@ -11,18 +11,18 @@ told_final false final done = done
 
 pub returns-clause-does : goal.returns-clause-does
 returns-clause-does c = λ info.
-    let last : c.if-not-command.last ≡ row.is_final c.args.command c.args.pf = elim c.if-not-command.branch [
-      | then-not-command w ↦ w.last-is ∙ ap (λ b. not b && c.args.pf) (sym w.if-not-command.true)
-      | else-not-command w ↦ w.last-is ∙ ap not w.if-not-command.false ∙ ap (λ b. not b && c.args.pf) (sym w.if-not-command.false)
+    let is_final : c.if-not-command.is_final ≡ row.is_final c.args.command c.args.pf = elim c.if-not-command.branch [
+      | then-not-command w ↦ w.is_final-is ∙ ap (λ b. not b && c.args.pf) (sym w.if-not-command.true)
+      | else-not-command w ↦ w.is_final-is ∙ ap not w.if-not-command.false ∙ ap (λ b. not b && c.args.pf) (sym w.if-not-command.false)
     ] in
     let polled : c.if-command.answer_if ≡ c.args.command && c.args.pf = elim c.if-command.branch [
       | then-command w ↦ w.answer_if-is ∙ ap (λ b. b && c.args.pf) (sym w.if-command.true)
       | else-command w ↦ w.answer_if-is ∙ w.if-command.false ∙ ap (λ b. b && c.args.pf) (sym w.if-command.false)
     ] in
     let told : c.if-not-recovering.unsolicited ≡ not c.args.recovering && row.is_final c.args.command c.args.pf = elim c.if-not-recovering.branch [
-      | then-not-recovering w ↦ w.unsolicited-is ∙ last ∙ ap (λ b. not b && row.is_final c.args.command c.args.pf) (sym w.if-not-recovering.true)
+      | then-not-recovering w ↦ w.unsolicited-is ∙ is_final ∙ ap (λ b. not b && row.is_final c.args.command c.args.pf) (sym w.if-not-recovering.true)
       | else-not-recovering w ↦ w.unsolicited-is ∙ ap not w.if-not-recovering.false ∙ ap (λ b. not b && row.is_final c.args.command c.args.pf) (sym w.if-not-recovering.false)
     ] in
     with_known (row.dropped c.args.terms.now) _ _ (sym polled) (c.answer_if.ensures.does info)
     ▹ told_final c.args.recovering _ (with_known (unsolicited c.args.terms.now) _ _ (sym told) (c.unsolicited.ensures.does info _))
-    ▹ with_known (λ final. by_number c.args.terms.now c.args.nr (effect_of (particulars c.args.recovering c.args.terms.now) c.args.by final)) _ _ (sym last) (c.number.ensures.does info)
+    ▹ with_known (λ final. by_number c.args.terms.now c.args.nr (effect_of (particulars c.args.recovering c.args.terms.now) c.args.by final)) _ _ (sym is_final) (c.number.ensures.does info)

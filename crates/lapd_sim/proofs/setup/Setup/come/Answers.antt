@@ -1,5 +1,5 @@
 -- Hand-written answers for `Setup::come`.
-use Rattle.lapd_sim.proofs.Vocabulary.{[], ◌≡◌, ◌<◌, ◌∙◌, Some, ap, length, refl, sym, subst, arith, option_copied, Config, came, at, hears, told, told_beside, terminal_at, octets_sent, after_sending, with_terminal, after_rx, scene, shelf_of, kind_of, on, Tells, Stands, Sends}
+use Rattle.lapd_sim.proofs.Vocabulary.{[], ◌≡◌, ◌<◌, ◌∙◌, Some, ap, length, refl, sym, subst, arith, option_copied, Config, came, at, hears, told, told_beside, terminal_at, octets_sent, after_sending, with_terminal, after_rx, scene, shelf_of, kind_of, on, Tells, SetupStands, Sends}
 use Rattle.lapd_card.specs.FrameStands as frames
 use Rattle.lapd_line.specs.Reports.{delivered_in, octets_of, told_in}
 use Rattle.lapd_script.specs.declared.command.CardKind.TheVariants as kind
@@ -20,7 +20,7 @@ returns-in-Frames g c = λ m h.
     let report = c.frame.new.report in
     let same = same_config s c.in-Frames.card c.in-Frames.is ∙ sym h.config in
     let after = subst (λ (k : Config). frames.Leads shelf_of (frame_event.at line (line_event.hears (came k.n201 frame))) c.in-Frames.card c.frame.new.self) same c.frame.ensures.after in
-    obeyed c.carry_out.result _ c.written.ensures _ _ (Stands _) _ _
+    obeyed c.carry_out.result _ c.written.ensures _ _ (SetupStands _) _ _
     (into_is s m h c.in_ok-line.ensures.0 c.in_ok-line.ensures.1 kind.Frames frame (ap kind_of c.in-Frames.is) refl)
     (told_on (at line (hears e)) s _ (frames_on _ c.in-Frames.card c.frame.new.self c.in-Frames.is line (hears e) (line_event.hears e) refl after) refl refl refl refl m h
     c.carry_out.result _ _ (told (told_beside (option_copied c.contents-contents.result) report))
@@ -39,10 +39,10 @@ returns-else-frame-gt-LONGEST_FRAME g c = λ m h.
     let sends = subst (λ d. Sends d t) (sym c.index_mut.ensures.value) (each_at Sends s.terminals.items m.terminals line c.index_mut.result.now (record { items = []; given = 0 }) bound h.terminals) in
     let sent = c.send-octets.ensures t sends in
     let moved = with_terminal line (after_sending frame t) m in
-    obeyed c.hear.result _ c.written-in-Octets.ensures _ _ (Stands _) _ _
+    obeyed c.hear.result _ c.written-in-Octets.ensures _ _ (SetupStands _) _ _
     (into_is s m h c.in_ok-line.ensures.0 c.in_ok-line.ensures.1 kind.Octets frame (ap kind_of c.in-Octets.is)
     (is_frame_is frame (omega (arith, c.if-frame-lt-SHORTEST_FRAME.false)) (omega (arith, c.if-frame-gt-LONGEST_FRAME.false))))
-    (subst (λ octets. Tells c.hear.result (on g.T.Target.taken c.args.page.now) (on g.T.Target.taken c.hear.new.page) (Stands c.hear.new.self) (after_rx line octets (scene moved))) (c.as_slice.ensures.value ∙ sent.0)
+    (subst (λ octets. Tells c.hear.result (on g.T.Target.taken c.args.page.now) (on g.T.Target.taken c.hear.new.page) (SetupStands c.hear.new.self) (after_rx line octets (scene moved))) (c.as_slice.ensures.value ∙ sent.0)
     (c.hear.ensures moved (record {
       config = h.config;
       board = h.board;

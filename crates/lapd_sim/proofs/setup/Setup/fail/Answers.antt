@@ -1,5 +1,5 @@
 -- Hand-written answers for `Setup::fail`.
-use Rattle.lapd_sim.proofs.Vocabulary.{None, ap, kind_of, refl, at, hears, told, told_beside, dropped, cause_of, Stands}
+use Rattle.lapd_sim.proofs.Vocabulary.{None, ap, kind_of, refl, at, hears, told, told_beside, dropped, cause_of, SetupStands}
 use Rattle.lapd_sim.proofs.Boards.{frames_on, frames_told, told_on}
 use Rattle.lapd_sim.proofs.Scenes.{there_frames, obeyed}
 use Rattle.lapd_sim.specs.machine.Steps.{after_failed}
@@ -11,7 +11,7 @@ returns g c = λ m h.
     let s = c.args.self.now in
     let line = c.in_ok-line.line in
     let e = dropped (cause_of c.args.fault) in
-    obeyed c.carry_out.result _ c.written.ensures _ _ (Stands _) _ _
+    obeyed c.carry_out.result _ c.written.ensures _ _ (SetupStands _) _ _
     (there_frames s m h c.in_ok-line.ensures.0 c.in_ok-line.ensures.1 (λ n. after_failed n c.args.fault) (ap kind_of c.in-Frames.is))
     (told_on (at line (hears e)) s _ (frames_on _ c.in-Frames.card c.failed.new.self c.in-Frames.is line (hears e) (line_event.hears e) refl c.failed.ensures.after) refl refl refl refl m h
     c.carry_out.result _ _ (told (told_beside None c.failed.new.report))

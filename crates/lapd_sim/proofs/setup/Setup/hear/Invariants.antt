@@ -1,5 +1,5 @@
 -- The invariants of the loops of `Setup::hear`.
-use Rattle.lapd_sim.proofs.Vocabulary.{◌≡◌, Ok, take, after_rx, kind_of, on, Says, WriteFailed}
+use Rattle.lapd_sim.proofs.Vocabulary.{◌≡◌, Ok, take, after_rx, kind_of, on, SetupSays, WriteFailed}
 use Rattle.lapd_sim.proofs.setup.Setup.hear.Given as goal
 
 -- configuration and kind are the same, and the octets so far have come
@@ -7,4 +7,4 @@ abbrev pub invariant-loop-octet : goal.invariant-loop-octet
 invariant-loop-octet g l =
     (l.self.config ≡ l.fn.self.config)
     × (kind_of l.self.board ≡ kind_of l.fn.self.board)
-    × Says {E = WriteFailed} (Ok tt) l.fn.self l.self (on g.T.Target.taken l.fn.page) (on g.T.Target.taken l.page) (after_rx l.line (take l.octet-index l.octets))
+    × SetupSays {E = WriteFailed} (Ok tt) l.fn.self l.self (on g.T.Target.taken l.fn.page) (on g.T.Target.taken l.page) (after_rx l.line (take l.octet-index l.octets))

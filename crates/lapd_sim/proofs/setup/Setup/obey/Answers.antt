@@ -1,5 +1,5 @@
 -- Hand-written answers for `Setup::obey`.
-use Rattle.lapd_sim.proofs.Vocabulary.{refl, ◌≡◌, sym, ap, ◌∙◌, Config, scene, Stands}
+use Rattle.lapd_sim.proofs.Vocabulary.{refl, ◌≡◌, sym, ap, ◌∙◌, Config, scene, SetupStands}
 use Rattle.lapd_transcript.specs.Text.{stored_text}
 use Rattle.model_card.specs.ports.Stored.{limit}
 use Rattle.lapd_sim.specs.machine.Steps.{after_stored, held}
@@ -10,8 +10,8 @@ use Rattle.lapd_sim.proofs.setup.Setup.obey.Goals as goal
 pub returns-in-Stored : goal.returns-in-Stored
 returns-in-Stored g c = λ m h.
     rw c.in-Stored.is
-    (obeyed c.put_stored.result _ c.written.ensures _ _ (Stands c.args.self.now) _ (after_stored (scene m)) refl
-    (tells c.put_stored.result _ _ (Stands c.args.self.now) (after_stored (scene m)) (record (scene m) { text = stored_text c.stored.result c.limit.result })
+    (obeyed c.put_stored.result _ c.written.ensures _ _ (SetupStands c.args.self.now) _ (after_stored (scene m)) refl
+    (tells c.put_stored.result _ _ (SetupStands c.args.self.now) (after_stored (scene m)) (record (scene m) { text = stored_text c.stored.result c.limit.result })
     (ap (λ n. record (scene m) { text = stored_text n c.limit.result }) (held_on c.args.self.now.board m.board h.board c.stored.result c.stored.ensures)
     ∙ ap (λ n. record (scene m) { text = stored_text (held m.board) n }) (c.limit.ensures ∙ ap (λ (d : Config). limit d) (sym h.config)))
     c.put_stored.ensures (on_ok c.put_stored.result h)))

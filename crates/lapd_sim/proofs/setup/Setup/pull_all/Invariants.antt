@@ -1,5 +1,5 @@
 -- The invariants of the loops of `Setup::pull_all`.
-use Rattle.lapd_sim.proofs.Vocabulary.{◌≡◌, take, kind_of, Stands}
+use Rattle.lapd_sim.proofs.Vocabulary.{◌≡◌, take, kind_of, SetupStands}
 use Rattle.lapd_sim.proofs.Pulls.{Pulled}
 use Rattle.lapd_sim.specs.machine.Setup as machine
 use Rattle.lapd_sim.proofs.setup.Setup.pull_all.Given as goal
@@ -9,5 +9,5 @@ abbrev pub invariant-loop-place : goal.invariant-loop-place
 invariant-loop-place l = record {
   config : l.self.config ≡ l.fn.self.config;
   kind : kind_of l.self.board ≡ kind_of l.fn.self.board;
-  pulled : (m : machine.Setup) → Stands l.fn.self m → Pulled l.self l.line l.place-index (take l.place-index l.room) m;
+  pulled : (m : machine.Setup) → SetupStands l.fn.self m → Pulled l.self l.line l.place-index (take l.place-index l.room) m;
 }

@@ -1,5 +1,5 @@
 -- Hand-written answers for `Setup::take`.
-use Rattle.lapd_sim.proofs.Vocabulary.{◌≡◌, ◌∙◌, fold, take, refl, ap, sym, subst, None, Some, at, next, kind_of, ordered, after_next, Puts, on, Stands}
+use Rattle.lapd_sim.proofs.Vocabulary.{◌≡◌, ◌∙◌, fold, take, refl, ap, sym, subst, None, Some, at, next, kind_of, ordered, after_next, Puts, on, SetupStands}
 use Rattle.lapd_line.specs.Reports.{gave_in}
 use Rattle.lapd_transcript.specs.Text.{frame_text, nothing_text}
 use Rattle.lapd_sim.proofs.Boards.{frames_on, frames_told, told_on}
@@ -13,7 +13,7 @@ pub returns-in-Ok-Some : goal.returns-in-Ok-Some
 returns-in-Ok-Some g c = λ m h.
     let s = c.args.self.now in
     let line = c.in_ok-number.number in
-    obeyed c.put_frame.result _ c.written.ensures _ _ (Stands _) _ _
+    obeyed c.put_frame.result _ c.written.ensures _ _ (SetupStands _) _ _
     (there_frames s m h c.in_ok-number.ensures.0 c.in_ok-number.ensures.1 after_next (ap kind_of c.in-Frames.is))
     (told_on (at line next) s _ (frames_on _ c.in-Frames.card c.next_frame.new.self c.in-Frames.is line next line_event.next refl c.in-Ok-Some.ensures.after) refl refl refl refl m h
     c.put_frame.result _ _ _
@@ -26,7 +26,7 @@ pub returns-in-Ok-None : goal.returns-in-Ok-None
 returns-in-Ok-None g c = λ m h.
     let s = c.args.self.now in
     let line = c.in_ok-number.number in
-    obeyed c.put_nothing.result _ c.written-in-Ok-None.ensures _ _ (Stands _) _ _
+    obeyed c.put_nothing.result _ c.written-in-Ok-None.ensures _ _ (SetupStands _) _ _
     (there_frames s m h c.in_ok-number.ensures.0 c.in_ok-number.ensures.1 after_next (ap kind_of c.in-Frames.is))
     (told_on (at line next) s _ (frames_on _ c.in-Frames.card c.next_frame.new.self c.in-Frames.is line next line_event.next refl c.in-Ok-None.ensures.after) refl refl refl refl m h
     c.put_nothing.result _ _ _

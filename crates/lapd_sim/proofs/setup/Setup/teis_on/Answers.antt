@@ -1,5 +1,5 @@
 -- Hand-written answers for `Setup::teis_on`.
-use Rattle.lapd_sim.proofs.Vocabulary.{◌≡◌, ◌+◌, length, take, filter, ap, sym, subst, ◌∙◌, arith, is_on_line, FrameCardStands, Stands}
+use Rattle.lapd_sim.proofs.Vocabulary.{◌≡◌, ◌+◌, length, take, filter, ap, sym, subst, ◌∙◌, arith, is_on_line, FrameCardStands, SetupStands}
 use Rattle.lapd_sim.specs.machine.Setup as machine
 use Rattle.lapd_sim.specs.machine.Steps.{teis_on}
 use Rattle.std.specs.List.{range_with_len}
@@ -15,7 +15,7 @@ loop-tei-preserved c =
     let before = c.loop-tei.invariant in
     let count = c.loop-tei.count in
     let tei = c.loop-tei.tei in
-    let state = λ (m : machine.Setup) (h : Stands c.args.self.now m).
+    let state = λ (m : machine.Setup) (h : SetupStands c.args.self.now m).
     ap is_some (c.state.ensures m.board.card.card (subst (λ f. FrameCardStands f m.board.card.card) (sym c.frames-frames.ensures.card) (inside c.args.self.now.board m.board h.board))) in
     elim c.if-is_some.branch [
       | then-is_some w ↦ record {

@@ -1,5 +1,5 @@
 -- The invariants of the loops of `Setup::teis_on`.
-use Rattle.lapd_sim.proofs.Vocabulary.{◌≡◌, ◌≤◌, length, take, filter, is_on_line, Stands}
+use Rattle.lapd_sim.proofs.Vocabulary.{◌≡◌, ◌≤◌, length, take, filter, is_on_line, SetupStands}
 use Rattle.std.specs.List.{range_with_len}
 use Rattle.lapd_sim.specs.machine.Setup as machine
 use Rattle.lapd_sim.proofs.setup.Setup.teis_on.Given as goal
@@ -9,5 +9,5 @@ abbrev pub invariant-loop-tei : goal.invariant-loop-tei
 invariant-loop-tei l = record {
   size : length l.room ≡ length l.fn.room;
   few : l.count ≤ l.tei;
-  teis : (m : machine.Setup) → Stands l.self m → take l.count l.room ≡ filter (is_on_line l.line m.board) (range_with_len 0 l.tei);
+  teis : (m : machine.Setup) → SetupStands l.self m → take l.count l.room ≡ filter (is_on_line l.line m.board) (range_with_len 0 l.tei);
 }

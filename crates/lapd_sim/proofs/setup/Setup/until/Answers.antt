@@ -1,5 +1,5 @@
 -- Hand-written answers for `Setup::until`.
-use Rattle.lapd_sim.proofs.Vocabulary.{refl, sym, subst, at_expiry, on, Stands}
+use Rattle.lapd_sim.proofs.Vocabulary.{refl, sym, subst, at_expiry, on, SetupStands}
 use Rattle.lapd_sim.proofs.OneByOne.{leaves_told}
 use Rattle.lapd_sim.proofs.Waits.{waits_begins, waits_on, waits_in_vain, waits_over}
 use Rattle.lapd_sim.specs.declared.setup.Setup as rust
@@ -25,5 +25,5 @@ pub returns : goal.returns
 returns g c = λ m h.
     waits_over c.loop-line.self _ _ _ c.args.end m c.in_default.ensures.due (c.loop-line.invariant m h)
     (λ n stands.
-    let s = subst (λ (s : rust.Setup). Stands s n) (sym c.in_default.ensures.unchanged) stands in
+    let s = subst (λ (s : rust.Setup). SetupStands s n) (sym c.in_default.ensures.unchanged) stands in
     record { config = s.config; board = s.board; counters = s.counters; clock = s.clock; now = refl; terminals = s.terminals; listeners = s.listeners })

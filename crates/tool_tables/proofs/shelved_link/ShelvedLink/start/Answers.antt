@@ -3,7 +3,7 @@ use Rattle.std.proofs.Common.{◌≡◌, [], refl, sym, ap, subst, arith}
 use Rattle.lapd_store.specs.Store.{Store, empty_store}
 use Rattle.lapd_store.proofs.Ownership.{Holds-empty}
 use Rattle.model_link.specs.Link.{fresh}
-use Rattle.lapd_link.specs.Stands.{Stands}
+use Rattle.lapd_link.specs.Stands.{LinkStands}
 use Rattle.tool_tables.proofs.shelved_link.ShelvedLink.start.Goals as goal
 
 pub open-requires-clause-down : goal.open-requires-clause-down
@@ -14,7 +14,7 @@ pub returns : goal.returns
 returns c =
     let shelf : c.in-Ok.shelf ≡ empty_store 2 8 = c.in-Ok.ensures in (
       fresh,
-      subst (λ (s : Store). Stands c.open.new.self s [] fresh) (sym shelf)
+      subst (λ (s : Store). LinkStands c.open.new.self s [] fresh) (sym shelf)
           (c.open.ensures.fresh (empty_store 2 8) [] fresh (omega arith)
           (c.in_ok-link.ensures.fresh (empty_store 2 8) [] (omega arith) (Holds-empty 2 8))),
       ap (λ (s : Store). s.slots) shelf,

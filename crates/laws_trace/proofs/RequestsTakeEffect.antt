@@ -1,0 +1,311 @@
+-- What layer 3 asks of a link is refused, or it takes effect: the law.
+use Rattle.laws_trace.proofs.Vocabulary.{◌≡◌, ℕ, ◌+◌, ◌-◌, ◌<◌, ◌≤◌, ⊎_elim, ◌==◌, ◌&&◌, ◌||◌, Bool, true, false, cond, nat_le, nat_lt, list_any, List, Option, [], ◌∷◌, ◌++◌, length, take, drop, filter, Some, None, Ok, Err, Result, refl, sym, ap, ◌∙◌, subst, arith, eqb-true, append-nil, All-nil, All-cons, All-append, Note, Service, Refusal, ControlFrame, Config, Answer, Line, link_of, has_tei, unless_refused_told, of_request, queue_of, IsInRange, lost_in, notes_of, is_loss_of, is_granted, deactivates, Card, line_at, is_full, at, fresh, refusal, refused_by_the_table, answer_is, CardEvent as Event, after_all, IsAtLine, AreAtLines, managing_is_on as is_on, due, releases, is_news, Observed, View, in_state, moment_of, view_of, views, observer_by_request, Outgoing, outgoing_of, watches, is_empty, is_own, is_up, Always, request, Request, Establish, Release, Data, SetBusy, ClearBusy, Deactivate, Moment, state_number, is_multiple_frame, result_err, keeps, config-stays, used, of_link, LinkRequest, LinkEstablish, LinkRelease, LinkData, LinkSetBusy, LinkClearBusy, put_in, changed, went_on, data_granted, Link, as_command, Sabme, Disc, ReleaseConfirm}
+use Rattle.model_card.specs.Card.{state}
+use Rattle.model_link.specs.Requests.{serves}
+use Rattle.laws_trace.specs.News as news
+use Rattle.laws_trace.specs.NoLossInVain.{puts_by}
+use Rattle.laws_trace.specs.NoSlotIsLost.{slots_taken}
+use Rattle.laws_trace.specs.RequestsTakeEffect.{Effect, IsAnswered, RequestsTakeEffect, effect, deactivated, of_tei, puts}
+use Rattle.laws_trace.proofs.Addressed.{at-some-place}
+use Rattle.laws_trace.proofs.Facts.{either-none, number-up}
+use Rattle.laws_trace.proofs.LinkLed.{own-is}
+use Rattle.laws_trace.proofs.LineAtEnd.{line-at-end, link-at-end}
+use Rattle.laws_trace.proofs.NoLossInVain.{no-loss-in-vain}
+use Rattle.laws_trace.proofs.ObservedLaws.{links-move-so, news-is-told-so}
+use Rattle.laws_trace.proofs.Outgoing.{then-is, view-is, kept-now}
+use Rattle.laws_trace.proofs.Plain.{all-wait}
+use Rattle.laws_trace.proofs.SeenAs.{seen-before, tei-seen}
+use Rattle.laws_trace.proofs.SlotsTaken.{taken-is}
+use Rattle.laws_trace.proofs.WaitingNow.{waiting-now}
+use Rattle.laws_trace.proofs.RequestsRefused.{same-ok, served, either-served, room-served, there, by-state, by-either, by-room, by-tei, serves-establish, serves-release}
+use Rattle.laws_trace.proofs.RequestsOfLink.{as-many, losses, put_by, told_by, still, sabme-put, disc-put, busy-put, up-told, released-told, ended-told, no-went, teis-then, link-then, waiting-then, waiting-ended, kept-then}
+
+-- What follows, one fact after the other.
+record TakesEffect (service : Service) (tei : ℕ) (a : Answer) (told_state : Option ℕ) (now : Outgoing) (e : Effect) : Type 0 where
+  granted : is_granted a ≡ true
+  told : filter (is_news service tei) (notes_of a) ≡ e.told
+  state : told_state ≡ Some e.link.state
+  link : now.view.link ≡ e.link
+  waiting : now.waiting ≡ e.waiting
+  kept : now.kept ≡ e.kept
+
+same-effect : (x y : Effect) → x.link ≡ y.link → x.waiting ≡ y.waiting → x.kept ≡ y.kept → x.told ≡ y.told → x ≡ y
+same-effect x y link waiting kept told = λ i. record { link = link i; waiting = waiting i; kept = kept i; told = told i }
+
+module _ (c : Config) (events : List Event) (number : ℕ) (ranged : IsInRange c) (all : AreAtLines (fresh c) events) (within : number < c.lines) (service : Service) (tei : ℕ) where
+  abbrev card : Card
+  card = after_all (fresh c) events
+
+  abbrev l : Line
+  l = line_at number (after_all (fresh c) events)
+
+  abbrev own : Link
+  own = link_of service tei (line_at number (after_all (fresh c) events))
+
+  abbrev o : Outgoing
+  o = outgoing_of c service tei number events
+
+  view : (outgoing_of c service tei number events).view ≡ view_of c service tei number events
+  view = view-is c number ranged within service tei events
+
+  on-is : is_on tei (outgoing_of c service tei number events).view.teis ≡ has_tei tei l
+  on-is = ap (λ (v : View). is_on tei v.teis) view ∙ tei-seen c events number ranged all within service tei
+
+  -- A request that is granted.
+  module _ (r : Request) (same : is_on tei (due c (request r) o.view.teis) ≡ is_on tei o.view.teis) (on : is_on tei o.view.teis ≡ true)
+      (unrefused : refusal card.config (is_full card) r l ≡ None) where
+    abbrev a : Answer
+    a = (moment_of c events number (request r)).answer
+
+    abbrev longer : List Event
+    longer = events ++ at number (request r) ∷ []
+
+    abbrev now : Outgoing
+    now = outgoing_of c service tei number longer
+
+    all-then : AreAtLines (fresh c) longer
+    all-then = All-append (IsAtLine (fresh c)) events (at number (request r) ∷ []) all (All-cons (IsAtLine (fresh c)) (at number (request r)) [] within (All-nil (IsAtLine (fresh c))))
+
+    so : is_granted a ≡ true
+    so = ap is_granted (answer_is card number r) ∙ ap (λ why. is_granted (unless_refused_told why (of_request card.config r l))) unrefused
+
+    now-is : now ≡ watches c service tei number o (moment_of c events number (request r))
+    now-is = then-is c number ranged within service tei events (at number (request r))
+
+    abbrev next : Observed
+    next = observer_by_request service tei r o.view.link
+
+    link : now.view.link ≡ next
+    link = ap (λ (n : Outgoing). n.view.link) now-is ∙ link-then c number service tei o card r a same on so
+
+    state-is : state number service tei (after_all (fresh c) longer) ≡ Some next.state
+    state-is =
+        links-move-so c longer number ranged all-then within service tei ∙ ap (λ (v : View). cond (is_on tei v.teis) (Some v.link.state) None) (sym (view-is c number ranged within service tei longer))
+        ∙ ap (λ (n : Outgoing). cond (is_on tei n.view.teis) (Some n.view.link.state) None) now-is
+        ∙ ap (λ b. cond b (Some (watches c service tei number o (moment_of c events number (request r))).view.link.state) None) (teis-then c number service tei o card r a same on so)
+        ∙ ap (λ (x : Observed). Some x.state) (link-then c number service tei o card r a same on so)
+
+    abbrev Told : Observed → Observed → List Note
+    Told was now = cond (was.state == 1) [] (news.due service tei false false (releases service tei (request r) a) was now.state)
+
+    abbrev its : Moment
+    its = moment_of c events number (request r)
+
+    teis-now : is_on tei (views c service tei number o.view its).teis ≡ true
+    teis-now = teis-then c number service tei o card r a same on so
+
+    link-now : (views c service tei number o.view its).link ≡ next
+    link-now = link-then c number service tei o card r a same on so
+
+    told-is : filter (is_news service tei) (notes_of a) ≡ Told o.view.link next
+    told-is =
+        news-is-told-so c longer number ranged all-then within service tei events (request r) [] refl
+        ∙ ap (λ (w : View). Told w.link (views c service tei number w its).link) (sym view)
+        ∙ ap (λ (n : Observed). Told o.view.link n) link-now
+
+    abbrev fs : List ControlFrame
+    fs = put_in c service tei o.view.link next its
+
+    puts-are : puts_by c number events (request r) service tei ≡ fs
+    puts-are =
+        ap (λ (w : View). let n = views c service tei number w its in cond (is_on tei n.teis && is_on tei w.teis) (put_in c service tei w.link n.link its) []) (sym view)
+        ∙ ap (λ b. cond (b && is_on tei o.view.teis) (put_in c service tei o.view.link (views c service tei number o.view its).link its) []) teis-now
+        ∙ ap (λ b. cond b (put_in c service tei o.view.link (views c service tei number o.view its).link its) []) on
+        ∙ ap (λ (n : Observed). put_in c service tei o.view.link n its) link-now
+
+    few : length o.waiting ≤ c.control
+    few =
+        let p = at-some-place l tei (sym on-is ∙ on) in
+        let same = waiting-now c number ranged within service tei events all p.0 p.1 ∙ all-wait c events number ranged all within service tei p.0 p.1 in
+        subst (λ (ws : List ControlFrame). length ws ≤ c.control) (sym same) (link-at-end c l ranged (line-at-end c events number ranged all within) service tei p.0 p.1).ring
+
+    waiting-is : deactivates service tei (request r) ≡ false → now.waiting ≡ take c.control (o.waiting ++ fs)
+    waiting-is stays =
+        ap (λ (n : Outgoing). n.waiting) now-is
+        ∙ waiting-then c number service tei o card r a same on so stays fs (ap (λ (n : Observed). put_in c service tei o.view.link n its) link-now)
+        ∙ as-many o.waiting fs c.control (lost_in a) few
+        (subst (λ ps. is_empty ps ≡ false → lost_in a ≡ length o.waiting + length ps - c.control) puts-are ((no-loss-in-vain c events number ranged all within (request r)).of_link service tei))
+
+    kept-is : now.kept ≡ keeps c service tei o.view.link next (request r) a o.kept
+    kept-is = ap (λ (n : Outgoing). n.kept) now-is ∙ kept-then c number service tei o card r a same on so
+
+    abbrev Takes : Effect → Type 0
+    Takes e = TakesEffect service tei a (state number service tei (after_all (fresh c) longer)) now e
+
+    -- where it is no deactivation
+    gives : (e : Effect) → deactivates service tei (request r) ≡ false → next ≡ e.link → take c.control (o.waiting ++ put_by o.view.link e.link) ≡ e.waiting
+        → told_by service tei (releases service tei (request r) a) o.view.link e.link ≡ e.told
+        → (list_any (is_loss_of service tei) (notes_of a) ≡ list_any (is_loss_of service tei) e.told → keeps c service tei o.view.link e.link (request r) a o.kept ≡ e.kept) → Takes e
+    gives e stays link_is waits tells keep =
+        let tells_all = told-is ∙ ap (λ (n : Observed). Told o.view.link n) link_is ∙ tells in
+        record {
+          granted = so;
+          told = tells_all;
+          state = state-is ∙ ap (λ (n : Observed). Some n.state) link_is;
+          link = link ∙ link_is;
+          waiting = waiting-is stays ∙ ap (λ (n : Observed). take c.control (o.waiting ++ put_in c service tei o.view.link n its)) link_is ∙ waits;
+          kept = kept-is ∙ ap (λ (n : Observed). keeps c service tei o.view.link n (request r) a o.kept) link_is ∙ keep (sym (losses service tei (notes_of a)) ∙ ap (list_any (is_loss_of service tei)) tells_all);
+        }
+
+  full-is : nat_le c.slots (slots_taken c events) ≡ is_full card
+  full-is = ap (nat_le c.slots) (taken-is c events ranged all) ∙ ap (λ (d : Config). nat_le d.slots (used card)) (sym (config-stays (fresh c) events))
+
+  abbrev full : Bool
+  full = nat_le c.slots (slots_taken c events)
+
+  module _ (on : has_tei tei l ≡ true) where
+    state-seen : o.view.link.state ≡ state_number own.state
+    state-seen = let p = at-some-place l tei on in ap (λ (v : View). v.link.state) view ∙ (seen-before c events number ranged all within service tei p.0 p.1).state_is
+
+    kept-seen : o.kept ≡ queue_of own
+    kept-seen = let p = at-some-place l tei on in kept-now c number ranged within service tei events all p.0 p.1
+
+  up-seen : has_tei tei l ≡ true → is_up o.view.link.state ≡ is_multiple_frame own.state
+  up-seen on = ap is_up (state-seen on) ∙ number-up own.state
+
+  refusal-is : (asked : LinkRequest) → refusal card.config (is_full card) (of_link service tei asked) l ≡ result_err (of_tei tei o (effect c full service tei o asked))
+  refusal-is LinkEstablish =
+      by-state (nat_lt 126 tei) (has_tei tei l) (is_on tei o.view.teis) (serves own.state LinkEstablish) (o.view.link.state == 4) _ on-is
+      (λ on. ap (λ n. n == 4) (state-seen on) ∙ serves-establish own.state)
+  refusal-is LinkRelease =
+      by-either (nat_lt 126 tei) (has_tei tei l) (is_on tei o.view.teis) (serves own.state LinkRelease) (o.view.link.state == 4) (is_up o.view.link.state) _ _ on-is
+      (λ on. ap (λ n. is_up n || n == 4) (state-seen on) ∙ serves-release own.state)
+  refusal-is (LinkData contents) =
+      ap (λ (d : Config). refusal d (is_full card) (Data service tei contents) l) (config-stays (fresh c) events)
+      ∙ by-room (nat_lt 126 tei) (has_tei tei l) (is_on tei o.view.teis) (is_multiple_frame own.state) (is_up o.view.link.state) (nat_lt c.n201 (length contents))
+      (nat_le c.queue (length (queue_of own))) (nat_le c.queue (length o.kept)) (is_full card) full _ on-is up-seen (λ on. ap (λ xs. nat_le c.queue (length xs)) (kept-seen on)) full-is
+  refusal-is LinkSetBusy = by-state (nat_lt 126 tei) (has_tei tei l) (is_on tei o.view.teis) (is_multiple_frame own.state) (is_up o.view.link.state) _ on-is up-seen
+  refusal-is LinkClearBusy = by-state (nat_lt 126 tei) (has_tei tei l) (is_on tei o.view.teis) (is_multiple_frame own.state) (is_up o.view.link.state) _ on-is up-seen
+
+  -- What layer 3 asks, where it is granted.
+  Effective : Request → Effect → Type 0
+  Effective r e =
+      TakesEffect service tei (moment_of c events number (request r)).answer (state number service tei (after_all (fresh c) (events ++ at number (request r) ∷ [])))
+      (outgoing_of c service tei number (events ++ at number (request r) ∷ [])) e
+
+  module _ (on : is_on tei o.view.teis ≡ true) where
+    abbrev w : Observed
+    w = o.view.link
+
+    abbrev fine : Request → Type 0
+    fine r = refusal card.config (is_full card) r l ≡ None
+
+    establish-takes : fine (Establish service tei) → (w.state == 4) ≡ true → Effective (Establish service tei) (record (puts c (as_command (Sabme true)) o) { link = record (in_state 5) { asked = true } })
+    unfolding Effective
+    establish-takes unrefused is =
+        let at_4 : w.state ≡ 4 = eqb-true w.state 4 is in
+        gives (Establish service tei) refl on unrefused (record (puts c (as_command (Sabme true)) o) { link = record (in_state 5) { asked = true } }) refl
+        (ap (λ b. cond (b && w.state == 4) (record (in_state 5) { asked = true }) w) (own-is service tei) ∙ ap (λ b. cond b (record (in_state 5) { asked = true }) w) is)
+        (ap (λ fs. take c.control (o.waiting ++ fs)) (sabme-put w at_4)) (either-none (w.state == 1))
+        (λ none. ap (λ b. cond b [] (cond (is_up w.state) (drop (went_on false w (record (in_state 5) { asked = true })) o.kept ++ []) o.kept)) none
+        ∙ ap (λ n. cond (is_up n) (drop (went_on false w (record (in_state 5) { asked = true })) o.kept ++ []) o.kept) at_4)
+
+    released-takes : fine (Release service tei) → (w.state == 4) ≡ true → Effective (Release service tei) (record (puts c [] o) { kept = []; told = ReleaseConfirm service tei ∷ [] })
+    unfolding Effective
+    released-takes unrefused is =
+        let at_4 : w.state ≡ 4 = eqb-true w.state 4 is in
+        let its_answer = (moment_of c events number (request (Release service tei))).answer in
+        let granted_so : is_granted its_answer ≡ true = so (Release service tei) refl on unrefused in
+        let own : releases service tei (request (Release service tei)) its_answer ≡ true = ap (λ b. b && is_own service tei service tei) granted_so ∙ own-is service tei in
+        gives (Release service tei) refl on unrefused (record (puts c [] o) { kept = []; told = ReleaseConfirm service tei ∷ [] }) refl
+        (ap (λ b. cond (b && is_up w.state) (in_state 6) w) (own-is service tei) ∙ ap (λ n. cond (is_up n) (in_state 6) w) at_4)
+        (ap (λ fs. take c.control (o.waiting ++ fs)) (still w)) (ap (λ b. told_by service tei b w w) own ∙ released-told service tei w at_4)
+        (λ lost. grind (arith, own))
+
+    disc-takes : fine (Release service tei) → is_up w.state ≡ true → Effective (Release service tei) (record (puts c (as_command (Disc true)) o) { link = in_state 6; kept = [] })
+    unfolding Effective
+    disc-takes unrefused up =
+        let its_answer = (moment_of c events number (request (Release service tei))).answer in
+        let granted_so : is_granted its_answer ≡ true = so (Release service tei) refl on unrefused in
+        let own : releases service tei (request (Release service tei)) its_answer ≡ true = ap (λ b. b && is_own service tei service tei) granted_so ∙ own-is service tei in
+        gives (Release service tei) refl on unrefused (record (puts c (as_command (Disc true)) o) { link = in_state 6; kept = [] }) refl
+        (ap (λ b. cond (b && is_up w.state) (in_state 6) w) (own-is service tei) ∙ ap (λ b. cond b (in_state 6) w) up)
+        (ap (λ fs. take c.control (o.waiting ++ fs)) (disc-put w up)) (either-none (w.state == 1)) (λ none. grind (arith, own))
+
+    data-takes : (contents : List ℕ) → fine (Data service tei contents) → is_up w.state ≡ true → Effective (Data service tei contents) (record (puts c [] o) { kept = o.kept ++ contents ∷ [] })
+    unfolding Effective
+    data-takes contents unrefused up =
+        let its_answer = (moment_of c events number (request (Data service tei contents))).answer in
+        let granted_so : is_granted its_answer ≡ true = so (Data service tei contents) refl on unrefused in
+        let its : data_granted service tei (request (Data service tei contents)) its_answer ≡ contents ∷ [] =
+        ap (λ b. cond (b && is_own service tei service tei) (contents ∷ []) []) granted_so ∙ ap (λ b. cond b (contents ∷ []) []) (own-is service tei) in
+        gives (Data service tei contents) refl on unrefused (record (puts c [] o) { kept = o.kept ++ contents ∷ [] }) refl refl
+        (ap (λ fs. take c.control (o.waiting ++ fs)) (still w)) (up-told service tei w w up refl)
+        (λ none. ap (λ b. cond b [] (cond (is_up w.state) (drop (went_on false w w) o.kept ++ data_granted service tei (request (Data service tei contents)) its_answer) o.kept)) none
+        ∙ ap (λ b. cond b (drop (went_on false w w) o.kept ++ data_granted service tei (request (Data service tei contents)) its_answer) o.kept) up
+        ∙ ap (λ n. drop n o.kept ++ data_granted service tei (request (Data service tei contents)) its_answer) (no-went w w refl)
+        ∙ ap (λ xs. o.kept ++ xs) its)
+
+    abbrev busy : Bool → Observed
+    busy b = record w { own_busy = b }
+
+    same-kept : (b : Bool) → is_up w.state ≡ true → cond (is_up w.state) (drop (went_on false w (busy b)) o.kept ++ []) o.kept ≡ o.kept
+    same-kept b up =
+        ap (λ u. cond u (drop (went_on false w (busy b)) o.kept ++ []) o.kept) up ∙ append-nil (drop (went_on false w (busy b)) o.kept) ∙ ap (λ n. drop n o.kept) (no-went w (busy b) refl)
+
+    set-takes : fine (SetBusy service tei) → is_up w.state ≡ true → Effective (SetBusy service tei) (record (puts c (changed w (busy true)) o) { link = busy true })
+    unfolding Effective
+    set-takes unrefused up =
+        gives (SetBusy service tei) refl on unrefused (record (puts c (changed w (busy true)) o) { link = busy true }) refl
+        (ap (λ b. cond b (busy true) w) (own-is service tei)) (ap (λ fs. take c.control (o.waiting ++ fs)) (busy-put w true)) (up-told service tei w (busy true) up refl)
+        (λ none. ap (λ b. cond b [] (cond (is_up w.state) (drop (went_on false w (busy true)) o.kept ++ []) o.kept)) none ∙ same-kept true up)
+
+    clear-takes : fine (ClearBusy service tei) → is_up w.state ≡ true → Effective (ClearBusy service tei) (record (puts c (changed w (busy false)) o) { link = busy false })
+    unfolding Effective
+    clear-takes unrefused up =
+        gives (ClearBusy service tei) refl on unrefused (record (puts c (changed w (busy false)) o) { link = busy false }) refl
+        (ap (λ b. cond b (busy false) w) (own-is service tei)) (ap (λ fs. take c.control (o.waiting ++ fs)) (busy-put w false)) (up-told service tei w (busy false) up refl)
+        (λ none. ap (λ b. cond b [] (cond (is_up w.state) (drop (went_on false w (busy false)) o.kept ++ []) o.kept)) none ∙ same-kept false up)
+
+    takes : (asked : LinkRequest) (e : Effect) → fine (of_link service tei asked) → effect c full service tei o asked ≡ Ok e → Effective (of_link service tei asked) e
+    takes LinkEstablish e unrefused is =
+        let x = served (w.state == 4) _ e is in subst (Effective (Establish service tei)) x.1 (establish-takes unrefused x.0)
+    takes LinkRelease e unrefused is =
+        ⊎_elim (λ x. subst (Effective (Release service tei)) x.1 (released-takes unrefused x.0)) (λ x. subst (Effective (Release service tei)) x.1 (disc-takes unrefused x.0))
+        (either-served (w.state == 4) (is_up w.state) _ _ e is)
+    takes (LinkData contents) e unrefused is =
+        let x = room-served (is_up w.state) (nat_lt c.n201 (length contents)) (nat_le c.queue (length o.kept)) full _ e is in
+        subst (Effective (Data service tei contents)) x.1 (data-takes contents unrefused x.0)
+    takes LinkSetBusy e unrefused is = let x = served (is_up w.state) _ e is in subst (Effective (SetBusy service tei)) x.1 (set-takes unrefused x.0)
+    takes LinkClearBusy e unrefused is = let x = served (is_up w.state) _ e is in subst (Effective (ClearBusy service tei)) x.1 (clear-takes unrefused x.0)
+
+    -- A deactivation.
+    ended-takes : fine (Deactivate service tei) → Effective (Deactivate service tei) (deactivated service tei o.view.link)
+    unfolding Effective
+    ended-takes unrefused =
+        let r = Deactivate service tei in
+        let its_answer = (moment_of c events number (request r)).answer in
+        let granted_so : is_granted its_answer ≡ true = so r refl on unrefused in
+        let link_is : observer_by_request service tei r w ≡ in_state 4 = ap (λ b. cond b (in_state 4) w) (own-is service tei) in
+        let its_own : has_tei tei l ≡ true = sym on-is ∙ on in
+        record {
+          granted = granted_so;
+          told = told-is r refl on unrefused ∙ ap (λ (n : Observed). told_by service tei false w n) link_is ∙ ended-told service tei w own.state (state-seen its_own);
+          state = state-is r refl on unrefused ∙ ap (λ (n : Observed). Some n.state) link_is;
+          link = link r refl on unrefused ∙ link_is;
+          waiting = ap (λ (n : Outgoing). n.waiting) (now-is r refl on unrefused) ∙ waiting-ended c number service tei o card r its_answer refl on granted_so (own-is service tei);
+          kept = kept-is r refl on unrefused ∙ (grind (arith, granted_so, own-is));
+        }
+
+  answered : (r : Request) (due : Result Effect Refusal) → refusal card.config (is_full card) r l ≡ result_err due → ((e : Effect) → due ≡ Ok e → refusal card.config (is_full card) r l ≡ None → Effective r e)
+      → IsAnswered c events number service tei r due
+  unfolding Effective
+  answered r (Err why) refuses grants = (refused_by_the_table.refused_exactly card number r why).1 refuses
+  answered r (Ok e) refuses grants = let t = grants e refl refuses in (t.granted, t.state, same-effect _ e t.link t.waiting t.kept t.told)
+
+  asked-answered : (asked : LinkRequest) → IsAnswered c events number service tei (of_link service tei asked) (of_tei tei o (effect c full service tei o asked))
+  asked-answered asked =
+      answered (of_link service tei asked) (of_tei tei o (effect c full service tei o asked)) (refusal-is asked)
+      (λ e is unrefused. let x = there (nat_lt 126 tei) (is_on tei o.view.teis) (effect c full service tei o asked) e is in takes x.0 asked e unrefused x.1)
+
+  deactivation-answered : IsAnswered c events number service tei (Deactivate service tei) (of_tei tei o (Ok (deactivated service tei o.view.link)))
+  deactivation-answered =
+      answered (Deactivate service tei) (of_tei tei o (Ok (deactivated service tei o.view.link)))
+      (by-tei (nat_lt 126 tei) (has_tei tei l) (is_on tei o.view.teis) (deactivated service tei o.view.link) on-is)
+      (λ e is unrefused.
+      let x = there (nat_lt 126 tei) (is_on tei o.view.teis) (Ok (deactivated service tei o.view.link)) e is in
+      subst (Effective (Deactivate service tei)) (same-ok (deactivated service tei o.view.link) e x.1) (ended-takes x.0 unrefused))
+
+pub requests-take-effect : Always RequestsTakeEffect
+requests-take-effect c events number ranged all within service tei =
+    (asked-answered c events number ranged all within service tei, deactivation-answered c events number ranged all within service tei)

@@ -1,0 +1,91 @@
+-- Why what is heard is dropped: the causes that answers name.
+use Rattle.std.specs.Prelude.{◌≡◌, ℕ, ◌/◌, ◌%◌, ◌==◌, ◌&&◌, ◌||◌, Bool, true, false, List, [], ◌∷◌, Option, Some, None, is_some, IfSome, Result, Ok, Err, if◌then◌else◌}
+use Rattle.std.specs.Option.{option_map_or}
+use Rattle.model_bits.specs.Stream as stream
+use Rattle.model_bits.specs.declared.heard.Cause.{Cause}
+use Rattle.model_bits.specs.declared.heard.Cause.TheVariants.{Extension, Sapi, Tei, Unserved}
+use Rattle.lapd_frame.specs.declared.addresses.Address.{Address}
+use Rattle.lapd_frame.specs.declared.controls.Control.{Control}
+use Rattle.lapd_frame.specs.declared.controls.Control.TheVariants.{Sabme, Disc, Ui, Ua, Dm, Xid}
+use Rattle.lapd_frame.specs.declared.faults.ReadFault.{ReadFault}
+use Rattle.lapd_frame.specs.declared.faults.ReadFault.TheVariants.{BadExtension, Undefined, WrongSize, Short}
+use Rattle.lapd_frame.specs.declared.overlong.Long.{Long}
+use Rattle.lapd_frame.specs.declared.overlong.Long.TheVariants as long
+use Rattle.lapd_frame.specs.declared.services.Service.{Service}
+use Rattle.lapd_frame.specs.Grammar.{Parts, other_side}
+use Rattle.lapd_frame.specs.Reading.{reading, long_reading}
+use Rattle.lapd_frame.specs.Services.{service_of}
+use Rattle.model_line.specs.declared.config.Config.{Config}
+use Rattle.model_line.specs.Event as line_event
+use Rattle.model_line.specs.Event.{hears, told}
+use Rattle.model_line.specs.Laws.{cause_in}
+use Rattle.model_card.specs.Event.{Event}
+use Rattle.laws_trace.specs.Deliveries.{is_unit_taken}
+use Rattle.laws_trace.specs.Managing.{Checked, Managed, is_on, may_check, managed_after, manages}
+use Rattle.laws_trace.specs.Observer.{view_of, moment_of}
+use Rattle.laws_trace.specs.Trace.{is_up}
+use Rattle.laws_trace.specs.Units.{is_ui}
+
+-- A link serves every frame in states 7 and 8; SABME, DISC, UA and XID in any state; and DM with F=1 in states 5 and 6, too (Q.921
+-- annex B). A UI that is not told (`is_unit_taken`) is not served.
+abbrev pub serves : Control → ℕ → Bool
+serves (Sabme p) state = true
+serves (Disc p) state = true
+serves (Ua f) state = true
+serves (Xid pf) state = true
+serves (Ui p) state = false
+serves (Dm f) state = is_up state || (f && (state == 5 || state == 6))
+serves other state = is_up state
+
+-- TEI management serves three messages of a terminal (clause 5.3.1, table 8), as `by_message` has them: it asks for any TEI; it
+-- answers a check of its TEI, while that runs; and it asks for a check of a TEI that may be checked (profile).
+abbrev pub serves_message : Managed → List ℕ → Bool
+serves_message w (entity ∷ high ∷ low ∷ type ∷ last ∷ []) =
+    (entity == 0x0F && last % 2 == 1)
+    && ((type == 1 && last / 2 == 127) || (type == 5 && option_map_or (λ (check : Checked). check.tei == last / 2) w.check false) || (type == 7 && may_check (last / 2) w))
+serves_message w other = false
+
+-- A frame is by its address for TEI management, which has SAPI 63 and the TEI of the group; or for the link of a service with a
+-- TEI on the line, in its state; or for none, by its SAPI, and else by its TEI (clauses 2.9, 3.3.3, 3.3.4 and 5.3.1).
+abbrev pub unless : Bool → Option Cause
+unless served = if served then None else Some Unserved
+
+abbrev pub by_address : Managed → (Service → ℕ → ℕ) → (ℕ → Bool) → Bool → Address → Option Cause
+by_address w states served is_message a =
+    if a.sapi == 63 then (if a.tei == 127 then unless is_message else Some Tei)
+    else option_map_or (λ service. if is_on a.tei w then unless (served (states service a.tei)) else Some Tei) (service_of a.sapi) (Some Sapi)
+
+-- One that the grammar does not have is served in states 7 and 8 (clauses 2.9, 3.3.1 and 5.8.5). So is an I-frame that was too long
+-- to keep; such a UI, and such an XID, is not (profile).
+abbrev pub by_fault : (Address → Option Cause) → ReadFault → Option Cause
+by_fault malformed BadExtension = Some Extension
+by_fault malformed (Undefined a) = malformed a
+by_fault malformed (WrongSize a) = malformed a
+by_fault malformed Short = Some Unserved
+
+abbrev pub by_frame : Config → Managed → (Service → ℕ → ℕ) → Result Parts ReadFault → Option Cause
+by_frame c w states (Ok f) =
+    if is_some (service_of f.address.sapi) && is_unit_taken c f.address.tei w f then None
+    else by_address w states (serves f.control) ((manages c.side && is_ui f.control) && serves_message w f.info) f.address
+by_frame c w states (Err fault) = by_fault (by_address w states is_up false) fault
+
+abbrev pub by_long : Managed → (Service → ℕ → ℕ) → Result Long ReadFault → Option Cause
+by_long w states (Ok (long.Information a)) = by_address w states is_up false a
+by_long w states (Ok (long.Unnumbered a)) = by_address w states (λ state. false) false a
+by_long w states (Err fault) = by_fault (by_address w states is_up false) fault
+
+-- The cause that is due by an event: of a stretch that is no frame its own, of a frame that is not served the one above, and
+-- else none.
+abbrev pub cause_due : Config → Managed → (Service → ℕ → ℕ) → line_event.Event → Option Cause
+cause_due c w states (hears (stream.dropped cause)) = Some cause
+cause_due c w states (hears (stream.frame octets)) = by_frame c w states (reading (other_side c.side) octets)
+cause_due c w states (hears (stream.overlong head)) = by_long w states (long_reading (other_side c.side) head)
+cause_due c w states other = None
+
+-- After whatever happened to the card, the answer to an event of the line names the cause that is due, and where one is, nothing
+-- else is answered; where none is, none is named.
+abbrev pub CausesAreTold : Config → List Event → ℕ → Type 0
+CausesAreTold c events number =
+    (what : line_event.Event) →
+    let due = cause_due c (managed_after c number events) (λ service tei. (view_of c service tei number events).link.state) what in
+    let a = (moment_of c events number what).answer in (cause_in a ≡ due) × IfSome due (λ cause. a ≡ told (line_event.dropped cause))

@@ -1,0 +1,150 @@
+-- A frame that is heard stands in the octets, with its check, between two flags.
+use Rattle.model_card.proofs.OfPorts.Vocabulary.{◌≡◌, ℕ, ◌-◌, ◌≤◌, Bool, true, false, nat_lt, not, cond, List, [], ◌∷◌, ◌++◌, length, take, drop, reverse, Option, None, Some, option_map, option_and_then, option_to_list, refl, sym, ap, ◌∙◌, subst, arith, append_assoc, length-drop, take-append-drop, ltb-false, All, All-nil, All-cons, All-append, bits, bits-append, flag, stuffed, octets_sent, check, is_good, frame_text, judged, text_event, gap_event, closed_by_flag, ends_flag, given_up, heard_at, heard_in, heard_until, room_for, since_flag, octets_are_those_sent}
+use Rattle.std.specs.Prelude.{IsTrue, ◌||◌}
+use Rattle.std.proofs.lemmas.Bool.{or_parts}
+use Rattle.std.proofs.lemmas.List.{reverse-append, reverse-reverse}
+use Rattle.std.proofs.lemmas.List.Elements.{All-weaker}
+use Rattle.std.proofs.lemmas.Option.{same_Some}
+use Rattle.model_bits.proofs.BitLemmas.{length-bits}
+use Rattle.model_bits.proofs.Division.Unique.{only_check_lem}
+use Rattle.model_bits.specs.Stream.{Event, frame, overlong, dropped, has_abort, is_short}
+use Rattle.model_bits.specs.declared.heard.Cause.TheVariants.{Short, Fcs}
+use Rattle.model_card.specs.ports.WholeLaws.{IsThere}
+
+-- ---- the octets between two flags
+
+-- What a text is heard as: the frame of which a sender makes it.
+abbrev IsText : List Bool → Event → Type 0
+IsText text (frame octets) = text ≡ frame_text octets
+IsText text other = Unit {0}
+
+-- octets whose check is good end in it
+checked : (octets : List ℕ) → 2 ≤ length octets → is_good (bits octets) ≡ true → let front = take (length octets - 2) octets in bits octets ≡ bits front ++ check (bits front)
+checked octets few good =
+    let n = length octets - 2 in
+    let front = take n octets in
+    let last = drop n octets in
+    let two : length last ≡ 2 = omega (arith, few, length-drop n octets) in
+    let both : bits octets ≡ bits front ++ bits last = ap bits (sym (take-append-drop n octets)) ∙ bits-append front last in
+    let sixteen : length (bits last) ≡ 16 = omega (arith, two, length-bits last) in
+    let so : IsTrue (is_good (bits front ++ bits last)) = sym (ap is_good both) ∙ good in
+    both ∙ ap (λ x. bits front ++ x) ((only_check_lem (bits front) (bits last) sixteen).0 so)
+
+not_short : (octets : List ℕ) → is_short octets ≡ false → 2 ≤ length octets
+not_short octets h = grind (arith, nat_lt, or_parts, ltb-false)
+
+judged_text : (room : ℕ) (octets : List ℕ) (text : List Bool) → text ≡ stuffed (bits octets) → IsText text (judged room octets)
+judged_text room octets text is = go (is_short octets) (is_good (bits octets)) (nat_lt room (length octets)) refl refl
+  where
+    go : (s g l : Bool) → is_short octets ≡ s → is_good (bits octets) ≡ g
+        → IsText text (cond s (dropped Short) (cond (not g) (dropped Fcs) (cond l (overlong (take 4 octets)) (frame (take (length octets - 2) octets)))))
+    go true g l e f = tt
+    go false false l e f = tt
+    go false true true e f = tt
+    go false true false e f = is ∙ ap stuffed (checked octets (not_short octets e) f)
+
+text_heard : (room : ℕ) (text : List Bool) (o : Option (List ℕ)) → octets_sent text ≡ o → IsText text (text_event room o)
+text_heard room text None e = tt
+text_heard room text (Some octets) e = judged_text room octets text ((octets_are_those_sent text octets).0 e).0
+
+-- ---- the flags around it
+
+flag_here : (l : List Bool) → ends_flag l ≡ true → (rest : List Bool) × (l ≡ flag ++ rest)
+flag_here (false ∷ true ∷ true ∷ true ∷ true ∷ true ∷ true ∷ false ∷ rest) e = (rest, refl)
+flag_here other e = absurd (cc e)
+
+-- the bits since the latest flag stand before it
+flag_before : (past g : List Bool) → since_flag past ≡ Some g → (older : List Bool) × (past ≡ g ++ (flag ++ older))
+flag_before [] g e = absurd (cc e)
+flag_before (b ∷ past) g e = go (ends_flag (b ∷ past)) (since_flag past) (flag_before past) refl refl e
+  where
+    go : (ends : Bool) (o : Option (List Bool)) → ((h : List Bool) → since_flag past ≡ Some h → (older : List Bool) × (past ≡ h ++ (flag ++ older)))
+        → ends_flag (b ∷ past) ≡ ends → since_flag past ≡ o → cond ends (Some []) (option_map (λ h. b ∷ h) o) ≡ Some g → (older : List Bool) × (b ∷ past ≡ g ++ (flag ++ older))
+    go true o again at so same =
+        let here = flag_here (b ∷ past) at in
+        let none : [] ≡ g = same_Some [] g same in (here.0, here.1 ∙ ap (λ h. h ++ (flag ++ here.0)) none)
+    go false None again at so same = absurd (cc same)
+    go false (Some h) again at so same =
+        let there = again h so in
+        let more : b ∷ h ≡ g = same_Some (b ∷ h) g same in (there.0, ap (λ l. b ∷ l) there.1 ∙ ap (λ l. l ++ (flag ++ there.0)) more)
+
+seven_off : (g rest : List Bool) → 7 ≤ length g → drop 7 (g ++ rest) ≡ drop 7 g ++ rest
+seven_off (x1 ∷ x2 ∷ x3 ∷ x4 ∷ x5 ∷ x6 ∷ x7 ∷ g) rest few = refl
+seven_off short rest few = absurd (omega (arith, few))
+
+-- a flag that closes a gap, of which these bits stand since the flag before
+closing : (b : Bool) (past g : List Bool) → ends_flag (b ∷ past) ≡ true → since_flag past ≡ Some g → 8 ≤ length g
+    → (older : List Bool) × (b ∷ past ≡ flag ++ (drop 7 g ++ (flag ++ older)))
+closing b past g at since few =
+    let here = flag_here (b ∷ past) at in
+    let there = flag_before past g since in
+    let behind : here.0 ≡ drop 7 past = sym (ap (drop 8) here.1) in
+    let rest : here.0 ≡ drop 7 g ++ (flag ++ there.0) = behind ∙ ap (drop 7) there.1 ∙ seven_off g (flag ++ there.0) (omega (arith, few)) in
+    (there.0, here.1 ∙ ap (λ l. flag ++ l) rest)
+
+-- the same in order of time
+in_time : (t older : List Bool) → reverse (flag ++ (t ++ (flag ++ older))) ≡ reverse older ++ (flag ++ (reverse t ++ (flag ++ [])))
+in_time t older =
+    reverse-append flag (t ++ (flag ++ older))
+    ∙ ap (λ l. l ++ flag) (reverse-append t (flag ++ older) ∙ ap (λ l. l ++ reverse t) (reverse-append flag older))
+    ∙ append_assoc (reverse older ++ flag) (reverse t) flag
+    ∙ append_assoc (reverse older) flag (reverse t ++ flag)
+
+stands : (past : List Bool) (g older : List Bool) (e : Event) → past ≡ flag ++ (drop 7 g ++ (flag ++ older)) → IsText (reverse (drop 7 g)) e → IsThere (reverse past) e
+stands past g older (frame octets) place is = record {
+  before = reverse older;
+  after = [];
+  is = ap reverse place ∙ in_time (drop 7 g) older ∙ ap (λ t. reverse older ++ (flag ++ (t ++ (flag ++ [])))) is;
+}
+stands past g older other place is = tt
+
+-- ---- at each place
+
+more : (text rest : List Bool) (e : Event) → IsThere text e → IsThere (text ++ rest) e
+more text rest (frame octets) h = record {
+  before = h.before;
+  after = h.after ++ rest;
+  is =
+      ap (λ t. t ++ rest) h.is
+      ∙ append_assoc h.before (flag ++ (frame_text octets ++ (flag ++ h.after))) rest
+      ∙ ap (λ t. h.before ++ (flag ++ t)) (append_assoc (frame_text octets) (flag ++ h.after) rest);
+}
+more text rest other h = tt
+
+closed : (room : ℕ) (b : Bool) (past g : List Bool) → ends_flag (b ∷ past) ≡ true → since_flag past ≡ Some g
+    → All (IsThere (reverse (b ∷ past))) (option_to_list (closed_by_flag room g))
+closed room b past g at since = go (nat_lt (length g) 8 || has_abort g) refl
+  where
+    go : (none : Bool) → (nat_lt (length g) 8 || has_abort g) ≡ none
+        → All (IsThere (reverse (b ∷ past))) (option_to_list (cond none None (Some (gap_event room (reverse (drop 7 g))))))
+    go true e = All-nil (IsThere (reverse (b ∷ past)))
+    go false e =
+        let place = closing b past g at since (ltb-false (length g) 8 (or_parts (nat_lt (length g) 8) (has_abort g) e).0) in
+        let text = reverse (drop 7 g) in
+        All-cons (IsThere (reverse (b ∷ past))) (gap_event room text) []
+        (stands (b ∷ past) g place.0 (gap_event room text) place.1 (text_heard room text (octets_sent text) refl)) (All-nil (IsThere (reverse (b ∷ past))))
+
+given_there : (text g : List Bool) → All (IsThere text) (option_to_list (given_up g))
+given_there text g = grind (arith, nat_lt, option_to_list)
+
+at_there : (room : ℕ) (b : Bool) (past : List Bool) → All (IsThere (reverse (b ∷ past))) (option_to_list (heard_at room (b ∷ past)))
+at_there room b past = go (ends_flag (b ∷ past)) (since_flag past) refl refl
+  where
+    go : (ends : Bool) (o : Option (List Bool)) → ends_flag (b ∷ past) ≡ ends → since_flag past ≡ o
+        → All (IsThere (reverse (b ∷ past))) (option_to_list (cond ends (option_and_then (closed_by_flag room) o) (option_and_then (λ g. given_up (b ∷ g)) o)))
+    go true None at so = All-nil (IsThere (reverse (b ∷ past)))
+    go true (Some g) at so = closed room b past g at so
+    go false None at so = All-nil (IsThere (reverse (b ∷ past)))
+    go false (Some g) at so = given_there (reverse (b ∷ past)) (b ∷ g)
+
+until_there : (room : ℕ) (past : List Bool) → All (IsThere (reverse past)) (heard_until room past)
+until_there room [] = All-nil (IsThere [])
+until_there room (b ∷ past) =
+    All-append (IsThere (reverse (b ∷ past))) (heard_until room past) (option_to_list (heard_at room (b ∷ past)))
+    (subst (λ t. All (IsThere t) (heard_until room past)) (sym (reverse-append (b ∷ []) past))
+    (All-weaker (IsThere (reverse past)) (IsThere (reverse past ++ b ∷ [])) (more (reverse past) (b ∷ [])) (heard_until room past) (until_there room past)))
+    (at_there room b past)
+
+pub frames_there : (n201 : ℕ) (octets : List ℕ) → All (IsThere (bits octets)) (heard_in n201 octets)
+frames_there n201 octets =
+    subst (λ t. All (IsThere t) (heard_in n201 octets)) (reverse-reverse (bits octets)) (until_there (room_for n201) (reverse (bits octets)))

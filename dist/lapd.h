@@ -1,0 +1,827 @@
+/*
+ * lapd.h: a line card that ends ISDN D-channels (ITU-T Q.921, modulo 128), for C99 and C++.
+ *
+ * A card takes what comes from its lines and answers with notes for layer 3, orders for timers, and what to send. It
+ * is the network's side of its lines or, where `side` of its configuration says so, the user's: a private exchange's
+ * end of a trunk. It is one of two kinds, as its start says. Where a driver gives and takes whole frames, as it does
+ * over every controller that has flags, stuffed 0s and checks in hardware, it is a card of frames:
+ * lapd_card_start_frames. Where it gives and takes the octets of the bit stream, it is a card of octets:
+ * lapd_card_start.
+ *
+ * A card has no callbacks, starts no thread, prints nothing, sets no errno, and takes memory in its start alone, as a
+ * clock does. The library comes in two ways, with this header for both:
+ *
+ *  - as one file in C99, lapd.c, for every processor of 32 or 64 bits, x86-64 among them: cc program.c lapd.c. A program
+ *    without malloc has one region of memory (-DLAPD_HEAP_OCTETS=N), or two functions of its own (-DLAPD_OWN_MEMORY).
+ *  - built by the toolchain, for Linux on every x86-64 and 64-bit ARM processor. Link as pkg-config says of lapd, for the
+ *    archives, or of lapd-shared (-llapd); or in CMake with lapd::lapd of find_package(lapd). A program without malloc
+ *    brings three functions of its own.
+ *
+ * lapd_memory.h declares the functions of memory.
+ *
+ * What the caller promises, and no call can test:
+ *
+ *  - Each pointer is valid for what it points to, and none is null, also where a length is 0.
+ *  - A length is the true number of octets behind its pointer.
+ *  - What two arguments of a call point to does not overlap, and neither overlaps what a card or a clock holds: the
+ *    proofs take each as a place of its own. Where it could happen by mistake, the call says what to do.
+ *  - A card or a clock is used by one call at a time, also where an interrupt comes: a second call would meet it half
+ *    changed, and nothing tells of that. Other cards and clocks may be used meanwhile. Where starts and frees run at
+ *    the same time, the functions of memory must allow it (malloc's do, heap.c's do not).
+ *  - It begins as LAPD_CARD_NONE or LAPD_CLOCK_NONE, no copy of it is used, and its fields are left alone.
+ *
+ * No card and no clock is const, also where a call only asks: an export of the toolchain's cannot read through a const
+ * pointer what owns memory, and nothing is proved of two questions at once.
+ *
+ * Everything else is tested: each function says by its status what was wrong, and then nothing has changed, neither
+ * the card or clock nor what is behind the other pointers (except LAPD_NO_PLACE of lapd_clock_apply_report, and that a
+ * link waits for room after LAPD_REFUSED_QUEUE_FULL of lapd_data). Where several things are wrong, the first is told:
+ * that there is no card or clock, that the card is of the other kind, the line, the other arguments in their order; a
+ * refusal of a request is told last.
+ */
+#ifndef LAPD_H
+#define LAPD_H
+
+#include <stdbool.h>
+#include <stddef.h>
+#include <stdint.h>
+
+/* What a call answers. One that is not looked at is warned of, in C++17 and C23 by their own attribute and before them by that of
+ * GCC and Clang. `(void)!` before the call says that it is meant so: in C99, GCC warns of `(void)` alone, too. */
+#ifndef LAPD_NODISCARD
+#if defined(__cplusplus) && __cplusplus >= 201703L
+#define LAPD_NODISCARD [[nodiscard]]
+#elif defined(__STDC_VERSION__) && __STDC_VERSION__ > 201710L && defined(__has_c_attribute)
+#define LAPD_NODISCARD [[nodiscard]]
+#elif defined(__GNUC__)
+#define LAPD_NODISCARD __attribute__((warn_unused_result))
+#else
+#define LAPD_NODISCARD
+#endif
+#endif
+#define LAPD_STATUS LAPD_NODISCARD uint32_t
+
+/* Functions that this header defines. The library has them as symbols as well, for languages that read no header of C. In C++
+ * each is one function for the whole program, as those of lapd.hpp that call them. */
+#ifndef LAPD_INLINE
+#ifdef __cplusplus
+#define LAPD_INLINE inline
+#else
+#define LAPD_INLINE static inline
+#endif
+#endif
+#define LAPD_INLINE_STATUS LAPD_NODISCARD LAPD_INLINE uint32_t
+
+/* What C and C++ spell in two ways. */
+#if defined(__cplusplus) && __cplusplus >= 201103L
+#define LAPD_NULL nullptr
+#else
+#define LAPD_NULL NULL
+#endif
+#ifdef __cplusplus
+#define LAPD_ADDRESS(at) reinterpret_cast<uintptr_t>(at)
+#else
+#define LAPD_ADDRESS(at) ((uintptr_t)(at))
+#endif
+
+#ifdef __cplusplus
+#ifdef __GNUC__ /* a call that is called like its struct hides the struct's constructor, which -Wshadow would tell */
+#pragma GCC diagnostic push
+#pragma GCC diagnostic ignored "-Wshadow"
+#endif
+extern "C" {
+#endif
+
+/* ---- The version ------------------------------------------------------------------------------------------------ */
+
+/*
+ * The version of this header, 1.0: the major number times 1,000, and the minor one. `lapdsim --version` and lapd.pc say
+ * the same. While the major number stays, what compiled goes on compiling, and a program that was linked with the
+ * shared library runs with a later one: no function goes, and no type, number or meaning changes. A new minor number
+ * brings functions and statuses at most. A new major number may change anything; its shared library has another name.
+ * No version was released yet: what comes before that is all 1.0.
+ */
+#define LAPD_VERSION 1000
+
+/* The version of the library that is linked, in the same way; it may be later than the header's. */
+uint32_t lapd_version(void);
+
+/* ---- Statuses: what a function answers -------------------------------------------------------------------------- */
+
+enum {
+    LAPD_OK = 0, /* the call did what it says */
+
+    /* A request was refused: the first of these that holds. Nothing has changed. */
+    LAPD_REFUSED_BAD_TEI = 1,       /* the TEI is over 126 (for unit data on the network's side over 127) */
+    LAPD_REFUSED_NO_LINK = 2,       /* the TEI is not on the line (not for assign, nor for unit data to 127) */
+    LAPD_REFUSED_WRONG_STATE = 3,   /* the state of the link does not serve the request */
+    LAPD_REFUSED_TOO_LONG = 4,      /* the contents are longer than n201 */
+    LAPD_REFUSED_QUEUE_FULL = 5,    /* the link's queue is full, or the line's queue of unit data */
+    LAPD_REFUSED_POOL_FULL = 6,     /* as many contents wait on the card as it has slots */
+    LAPD_REFUSED_TEI_TAKEN = 7,     /* the TEI is on the line already */
+    LAPD_REFUSED_TABLE_FULL = 8,    /* the line has as many TEIs as it may have */
+    LAPD_REFUSED_CHECK_RUNNING = 9, /* an identity check is running on the line */
+    LAPD_REFUSED_CONTROL_FULL = 10, /* no room for one more message of TEI management */
+    LAPD_REFUSED_WRONG_SIDE = 29,   /* only the network's side removes and checks TEIs */
+
+    /* A wrong call. Nothing has changed. */
+    LAPD_NO_CARD = 11,       /* no card is there: it was not started, or was freed */
+    LAPD_NO_CLOCK = 12,      /* no clock is there */
+    LAPD_SECOND_START = 13,  /* a card or a clock is there already */
+    LAPD_WRONG_LINE = 14,    /* the card, or the clock, has no such line */
+    LAPD_WRONG_SERVICE = 15, /* neither LAPD_CALL nor LAPD_PACKET */
+    LAPD_WRONG_TEI = 16,     /* a TEI over 126 */
+    LAPD_WRONG_TIMER = 17,   /* none of LAPD_T200, LAPD_T203 and LAPD_T201 */
+    LAPD_WRONG_REQUEST = 18, /* none of the requests */
+    LAPD_WRONG_LENGTH = 19,  /* contents of a request that has none; an exchange of two lengths, or beyond them; or too
+                                little room for a frame */
+    LAPD_WRONG_ORDER = 20,   /* an order is none, or a report's number of orders is over 4 */
+    LAPD_WRONG_TIME = 21,    /* a moment after LAPD_LATEST, or a timer's length out of range */
+
+    /* What else can be. */
+    LAPD_NO_MEMORY = 22, /* a start was refused memory; what it had taken is given back */
+    LAPD_NO_TIMER = 23,  /* no timer is due, or none runs */
+    LAPD_NO_PLACE = 24,  /* no place for one more timer of the line; tests see none where a card alone orders */
+    LAPD_NO_MORE_LINKS = 25, /* the line has no link from that place on */
+
+    /* Of cards of frames. Nothing has changed. */
+    LAPD_WRONG_CARD = 26,  /* a call for octets on a card of frames, or one for frames on a card of octets */
+    LAPD_WRONG_CAUSE = 27, /* none of LAPD_ABORT, LAPD_RAGGED, LAPD_SHORT and LAPD_FCS */
+    LAPD_NO_FRAME = 28,    /* no frame of the line waits to be sent */
+
+    /* A field of the configuration is out of range: the first, in their order. */
+    LAPD_BAD_LINES = 33,
+    LAPD_BAD_TERMINALS = 34,
+    LAPD_BAD_K = 35,
+    LAPD_BAD_K16 = 36,
+    LAPD_BAD_QUEUE = 37,
+    LAPD_BAD_UNIT_QUEUE = 38,
+    LAPD_BAD_CONTROL = 39,
+    LAPD_BAD_SLOTS = 40,
+    LAPD_BAD_N201 = 41,
+    LAPD_BAD_N200 = 42,
+    LAPD_BAD_SIDE = 43
+};
+
+/* ---- The configuration of a card -------------------------------------------------------------------------------- */
+
+/* How large a card is, and the limits of its lines and links. */
+typedef struct lapd_config {
+    uint16_t lines;      /* lines: 1 to 64 */
+    uint16_t terminals;  /* TEIs on each line at most: 1 to 8 */
+    uint16_t k;          /* the window of call control links: 1 to 127 (clause 5.9.5) */
+    uint16_t k16;        /* the window of packet links: 1 to 127 */
+    uint16_t queue;      /* contents that wait on each link, sent or unsent: the greater of k and k16, to 127 */
+    uint16_t unit_queue; /* unit data that wait on each line: 1 to 16 */
+    uint16_t control;    /* control frames that wait on each link: 2 to 16 */
+    uint16_t slots;      /* contents that wait on the whole card: 1 to 8192 */
+    uint16_t n201;       /* octets of an information field at most: 8 to 260 (clause 5.9.3) */
+    uint16_t n200;       /* how often a command is repeated: 0 to 10 (clause 5.9.2) */
+    uint16_t side;       /* which side of its lines the card is: LAPD_NETWORK or LAPD_USER */
+} lapd_config;
+
+enum {
+    LAPD_NETWORK = 0, /* the exchange */
+    LAPD_USER = 1     /* a private exchange (PBX), or a terminal whose TEI the network does not assign */
+};
+
+/* ---- What is told ----------------------------------------------------------------------------------------------- */
+
+enum {
+    LAPD_CALL = 0,   /* the service of SAPI 0: call control */
+    LAPD_PACKET = 16 /* the service of SAPI 16: packet mode */
+};
+
+enum {
+    LAPD_GROUP_TEI = 127,   /* the TEI of all terminals of a line, for unit data that the network's side sends */
+    LAPD_MOST_NOTES = 4,    /* no event tells more notes */
+    LAPD_MOST_ORDERS = 4,   /* nor gives more orders */
+    LAPD_MOST_OCTETS = 260, /* no configuration allows longer contents */
+    LAPD_MOST_FRAME = 264,  /* no frame to send has more octets: the greatest n201 and four */
+    LAPD_MOST_LINES = 64    /* no card has more lines */
+};
+
+/* What a note says. Those of a link name its service and TEI. A SABME while the link is up (states 7 and 8) tells
+ * error F; an establish indication comes with it only where something that was sent was not acknowledged. */
+enum {
+    LAPD_ESTABLISH_INDICATION = 1, /* the link is up without a request; contents not acknowledged are lost */
+    LAPD_ESTABLISH_CONFIRM = 2,    /* the link is up, as was asked for */
+    LAPD_RELEASE_INDICATION = 3,   /* the link is down without a request */
+    LAPD_RELEASE_CONFIRM = 4,      /* the link is down, as was asked for */
+    LAPD_DATA_INDICATION = 5,      /* the report's contents came in an I-frame, in order */
+    LAPD_UNIT_INDICATION = 6,      /* the report's contents came in a UI frame; on the user's side also to the group */
+    LAPD_ERROR_INDICATION = 7,     /* an error, for layer management; its letter is in the note */
+    LAPD_ASSIGNED = 8,             /* TEI management gave the TEI to a terminal that asked for one */
+    LAPD_REMOVED = 9,              /* no terminal has the TEI any more: it left the line */
+    LAPD_DOUBLED = 10,             /* two terminals had the TEI: it left the line */
+    LAPD_XID_INDICATION = 11       /* an XID frame came; it is not answered */
+};
+
+/* A note for layer 3 or management. */
+typedef struct lapd_note {
+    uint8_t note;    /* LAPD_ESTABLISH_INDICATION to LAPD_XID_INDICATION */
+    uint8_t service; /* LAPD_CALL or LAPD_PACKET; LAPD_CALL for assigned, removed and doubled, which are of both */
+    uint8_t tei;     /* the TEI that it is about */
+    uint8_t error;   /* of LAPD_ERROR_INDICATION: the letter, 'A' to 'O' without 'M'; else 0 */
+} lapd_note;
+
+enum {
+    LAPD_T200 = 1, /* an answer or an acknowledgement is awaited; 1,000 ms by default (clause 5.9.1) */
+    LAPD_T203 = 2, /* the longest time without frames; 10,000 ms by default (clause 5.9.8) */
+    LAPD_T201 = 3  /* responses to an identity check are awaited; 1,000 ms by default (clause 5.9.6) */
+};
+
+/* A timer of a line. */
+typedef struct lapd_timer {
+    uint8_t timer;   /* LAPD_T200, LAPD_T203 or LAPD_T201 */
+    uint8_t service; /* of the link, for T200 and T203; told as 0 for T201, and not read then */
+    uint8_t tei;     /* of the link, for T200 and T203: 0 to 126; told as 0 for T201, and not read then */
+} lapd_timer;
+
+enum {
+    LAPD_START = 1, /* start the timer; where it runs, anew */
+    LAPD_STOP = 2   /* stop the timer, which ran */
+};
+
+/* What is to be done with a timer. */
+typedef struct lapd_order {
+    uint8_t order; /* LAPD_START or LAPD_STOP */
+    lapd_timer timer;
+} lapd_order;
+
+/* Why a frame, or what stood for one, was dropped: the first that holds. */
+enum {
+    LAPD_ABORT = 1,     /* seven contiguous 1s gave up what stood since the latest flag (clause 2.10) */
+    LAPD_RAGGED = 2,    /* not what a sender makes of whole octets (clauses 2.6 and 2.9) */
+    LAPD_SHORT = 3,     /* too short for a frame (clause 2.9) */
+    LAPD_FCS = 4,       /* the frame check tells of an error (clause 2.7) */
+    LAPD_EXTENSION = 5, /* the address is not one of two octets (clauses 2.9 and 3.3.1) */
+    LAPD_SAPI = 6,      /* the SAPI is none of 0, 16 and 63 */
+    LAPD_TEI = 7,       /* the TEI is not on the line; for SAPI 63: is not 127 */
+    LAPD_UNSERVED = 8   /* a good frame for a known address that is not served */
+};
+
+/*
+ * What an event led to: notes, then why something was dropped, then orders. Each call that succeeds tells all of one
+ * event: the numbers of notes and orders, cause, lost, begun, delivered, length and more are always those of this event;
+ * behind the numbers, and behind length, the arrays may hold what earlier events told.
+ *
+ * A link on which contents were refused as LAPD_REFUSED_QUEUE_FULL waits for room, and is told once when its queue has
+ * some (`reopened`): by the first call of its line that writes a report and at whose end it has, whatever made the room:
+ * contents were acknowledged, or given up as the link was released, established anew or taken down. Where more than
+ * one that waits has room, a report tells one, the lowest TEI first, and call control before packet; the next reports of
+ * the line tell the others, if they still have. A link whose TEI leaves the line waits no longer, and is not told.
+ */
+typedef struct lapd_report {
+    uint8_t note_count;  /* 0 to 4 */
+    uint8_t order_count; /* 0 to 4 */
+    uint8_t cause;       /* 0, or LAPD_ABORT to LAPD_UNSERVED */
+    uint8_t lost;        /* so many frames to send found no room to wait, and are lost as if on the line */
+    uint8_t begun;       /* of a pull: 1 where it began a frame that waited; 1 with the next frame; else 0 */
+    uint8_t delivered;   /* 1 where contents were delivered, of `length` octets; else 0, and length is 0 */
+    uint16_t length;     /* octets of contents, at most the card's n201 */
+    lapd_note notes[LAPD_MOST_NOTES];
+    lapd_order orders[LAPD_MOST_ORDERS];
+    uint8_t contents[LAPD_MOST_OCTETS];
+    uint8_t more;        /* of the next frame: 1 where another waits on its line, so that the next call gives one; else 0 */
+    uint8_t reopened;    /* 1 where a link that waited for room has some again; else 0, and the next two tell nothing */
+    uint8_t reopened_service; /* of that link: LAPD_CALL or LAPD_PACKET */
+    uint8_t reopened_tei;     /* of that link: 0 to 126 */
+} lapd_report;
+
+/* ---- A card ----------------------------------------------------------------------------------------------------- */
+
+/* A card, or none: `lapd_card card = LAPD_CARD_NONE;` (so does zeroed memory). */
+typedef struct lapd_card {
+    bool started;
+    void *at;
+} lapd_card;
+
+#define LAPD_CARD_NONE { false, LAPD_NULL }
+
+/* Starts a card of octets, on which no TEI is on any line. Takes memory, as only the starts of a card do.
+ * LAPD_SECOND_START, the first bad field (LAPD_BAD_LINES to LAPD_BAD_SIDE) or LAPD_NO_MEMORY: there is no other card than
+ * before. */
+LAPD_STATUS lapd_card_start(lapd_card *card, const lapd_config *config);
+
+/* Starts a card of frames in the same way. It takes less memory, as no line of it has room for a frame on its way. */
+LAPD_STATUS lapd_card_start_frames(lapd_card *card, const lapd_config *config);
+
+/* Ends a card of either kind and gives back all memory that its start took. LAPD_NO_CARD: nothing happens. */
+LAPD_STATUS lapd_card_free(lapd_card *card);
+
+/* ---- What happens at a card of octets. On a card of frames: LAPD_WRONG_CARD ------------------------------------- */
+
+/* Takes an octet that came from a line, bit 1 (the low bit) first. Controllers of E1 and T1 mostly have the bit that came first
+ * as bit 8: turn their octets by lapd_turned, here, at lapd_pull and at lapd_exchange. */
+LAPD_STATUS lapd_octet(lapd_card *card, uint32_t line, uint8_t octet, lapd_report *report);
+
+/* Gives the next octet of a line to send, bit 1 first: of a frame where one waits or is on its way, else of flags. */
+LAPD_STATUS lapd_pull(lapd_card *card, uint32_t line, uint8_t *octet, lapd_report *report);
+
+/*
+ * Takes and gives octets in turn: step 2i takes in[i], step 2i+1 gives out[i]. Goes on from step *steps, up to and with
+ * the first step that has something to tell (a note, an order, a cause, a frame lost, contents, a frame begun), or to
+ * the end; *steps is then the next step, and the report is that of this step, or tells nothing where no step had
+ * anything to tell. For room of a link it does not stop: the report has it as it is at the end of the call (lapd.c stops
+ * after 256 octets where a link has room again then). LAPD_WRONG_LENGTH: the two lengths differ, or *steps is beyond
+ * twice the length. For a step that has nothing to tell no report is written. `in` and `out` are two buffers: what is
+ * proved of the octets that are taken holds while none of them is written over. With one buffer call lapd_octet and
+ * lapd_pull in turn.
+ *
+ *     for (size_t steps = 0; steps < 2 * n && lapd_exchange(&card, line, in, n, out, n, &steps, &report) == LAPD_OK;)
+ *         ... what the report tells ...
+ */
+LAPD_STATUS lapd_exchange(lapd_card *card, uint32_t line, const uint8_t *in, size_t in_length, uint8_t *out,
+                          size_t out_length, size_t *steps, lapd_report *report);
+
+/* ---- What happens at a card of frames. On a card of octets: LAPD_WRONG_CARD ------------------------------------- */
+
+/*
+ * A frame came from a line: its octets from the address to the information, without the check, which was good. One with
+ * too few octets, or with more than n201 and four, is answered as such octets between flags are: as LAPD_SHORT, or as
+ * information that is too long (error O of a link). The octets lie outside of *report. Whoever gets two octets of check
+ * with each frame, as some drivers give them, leaves them off.
+ */
+LAPD_STATUS lapd_frame(lapd_card *card, uint32_t line, const uint8_t *octets, size_t length, lapd_report *report);
+
+/* The controller of a line told a fault in place of a frame: LAPD_ABORT, LAPD_RAGGED (no whole octets), LAPD_SHORT or
+ * LAPD_FCS. The report has it as its cause; nothing else happens. LAPD_WRONG_CAUSE: it is none of these four. */
+LAPD_STATUS lapd_frame_failed(lapd_card *card, uint32_t line, uint8_t cause, lapd_report *report);
+
+/*
+ * Gives the next frame of a line to send: writes it in front of `out`, from the address to the information, without a
+ * check, and *length is how many octets it has. The frame counts as sent then, so call it when the controller can take
+ * one. LAPD_NO_FRAME: none waits, and nothing has changed. LAPD_WRONG_LENGTH: `room` is less than n201 and four, whatever
+ * waits. Behind the frame nothing of `out` is written; `out` lies outside of *report. Carry out the report's orders as
+ * those of each other call. Where report->more is 0, the next call would answer LAPD_NO_FRAME, unless something happens at
+ * the line before it.
+ *
+ *     uint8_t out[LAPD_MOST_FRAME];
+ *     for (size_t length; lapd_next_frame(&card, line, out, sizeof out, &length, &report) == LAPD_OK;)
+ *         ... the report's orders, then out[0] to out[length - 1] to the controller ...
+ */
+LAPD_STATUS lapd_next_frame(lapd_card *card, uint32_t line, uint8_t *out, size_t room, size_t *length,
+                            lapd_report *report);
+
+/*
+ * The first line on which a frame waits, from line `from` on: lapd_next_frame gives one there, and none on the lines that
+ * are passed over. LAPD_NO_FRAME: none waits from there on, and *line is as it was. It costs the same for 64 lines as for
+ * one. A frame of each line whose controller has room:
+ *
+ *     for (uint32_t line = 0; lapd_next_waiting(&card, line, &line) == LAPD_OK; line++)
+ *         ... if the controller of this line has room for one: lapd_next_frame ...
+ */
+LAPD_STATUS lapd_next_waiting(lapd_card *card, uint32_t from, uint32_t *line);
+
+/* ---- What happens at a card of either kind ---------------------------------------------------------------------- */
+
+/* A timer of a line expired. One that does not run has no effect, and nothing is told. The timer lies outside of
+ * *report, which is written while it is read: a lapd_due's does; copy that of one of the report's own orders. */
+LAPD_STATUS lapd_expire(lapd_card *card, uint32_t line, const lapd_timer *timer, lapd_report *report);
+
+enum {
+    LAPD_ESTABLISH = 1, /* establish the link (DL-ESTABLISH request, clause 4.1.1.1) */
+    LAPD_RELEASE = 2,   /* release the link (DL-RELEASE request, clause 4.1.1.2) */
+    LAPD_DATA = 3,      /* send contents on the link, acknowledged (DL-DATA request, clause 4.1.1.3) */
+    LAPD_UNIT = 4,      /* send contents without acknowledgement (DL-UNIT DATA request, clause 4.1.1.4) */
+    LAPD_ASSIGN = 5,    /* put the TEI on the line (MDL-ASSIGN request, clause 4.1.1.5) */
+    LAPD_REMOVE = 6,    /* take the TEI from the line (MDL-REMOVE request, clause 4.1.1.6) */
+    LAPD_CHECK = 7,     /* ask which terminals have the TEI (clause 5.3.3.2) */
+    LAPD_BUSY = 8,      /* take no I-frames on the link for now (clause 5.6.6) */
+    LAPD_READY = 9,     /* take I-frames again */
+    LAPD_DEACTIVATE = 10, /* the line is down: give the link up (annex B, persistent deactivation) */
+    LAPD_DOWN = 11        /* the line is down: give up what waits on it and is of no link (annex B) */
+};
+
+/* Asks for something at a line; the contents are copied. LAPD_REFUSED_BAD_TEI to LAPD_REFUSED_CONTROL_FULL, or
+ * LAPD_REFUSED_WRONG_SIDE, where it is refused. The service is LAPD_CALL or LAPD_PACKET in each, though assign, remove
+ * and check are about both, and LAPD_DOWN about the line, which reads no TEI either; the length is 0 except for LAPD_DATA
+ * and LAPD_UNIT. The contents lie outside of *report; where they are those of the report itself, ask by lapd_data or
+ * lapd_unit. */
+LAPD_STATUS lapd_request(lapd_card *card, uint32_t line, uint8_t request, uint8_t service, uint8_t tei,
+                         const uint8_t *contents, size_t length, lapd_report *report);
+
+/* ---- What a card says of itself --------------------------------------------------------------------------------- */
+
+/* The state of the link of a service with this TEI, by its number in Q.921: 4 (TEI assigned), 5 (awaiting
+ * establishment), 6 (awaiting release), 7 (multiple frame established), 8 (timer recovery); 0 where the TEI is not on
+ * the line. */
+LAPD_STATUS lapd_state(lapd_card *card, uint32_t line, uint8_t service, uint8_t tei, uint8_t *state);
+
+/* A link of a line. */
+typedef struct lapd_link {
+    uint8_t service; /* LAPD_CALL or LAPD_PACKET */
+    uint8_t tei;     /* 0 to 126 */
+    uint8_t state;   /* as lapd_state tells it: 4 to 8 */
+} lapd_link;
+
+/*
+ * The links of a line one after the other, by TEI, call control before packet. *place says from where to look: 0 for
+ * the first, and afterwards the place behind the link that was told, as the call leaves it. LAPD_NO_MORE_LINKS: there
+ * is none from there on.
+ *
+ *     uint8_t place = 0;
+ *     for (lapd_link link; lapd_next_link(&card, line, &place, &link) == LAPD_OK;)
+ *         ... link.service, link.tei, link.state ...
+ */
+LAPD_STATUS lapd_next_link(lapd_card *card, uint32_t line, uint8_t *place, lapd_link *link);
+
+/* How much room a link has for contents. As the call has the same name, it is `struct lapd_room` also in C++. */
+struct lapd_room {
+    uint32_t pool; /* so many more find a slot of the card: 0 to its slots */
+    uint8_t queue; /* so many more find a place in the link's queue: 0 to the card's `queue` */
+    uint8_t va;    /* V(A), 0 to 127: the number of the oldest contents that are not acknowledged (clause 3.5.2.3) */
+};
+
+/*
+ * The room of the link of a service with this TEI. In states 7 and 8, contents that are not too long are refused as
+ * LAPD_REFUSED_QUEUE_FULL exactly where `queue` is 0, and else as LAPD_REFUSED_POOL_FULL exactly where `pool` is 0.
+ * LAPD_REFUSED_NO_LINK: the TEI is not on the line.
+ *
+ * Each contents that the terminal acknowledges raises V(A) by one, modulo 128, and `queue` and `pool` too. So where
+ * the link keeps n contents (the card's `queue` less the room's), all of them are acknowledged once V(A) has risen by n;
+ * unless the link is established anew, which sets V(A) to 0.
+ */
+LAPD_STATUS lapd_room(lapd_card *card, uint32_t line, uint8_t service, uint8_t tei, struct lapd_room *room);
+
+/* How a frame begins, and how long it is. */
+typedef struct lapd_head {
+    uint16_t length;   /* octets from its address to its information, without its check: 3 or more, or 0 for no frame */
+    uint8_t octets[4]; /* its address and its control field; where that has one octet, the first of the information, or 0 */
+} lapd_head;
+
+/* Which frame a pull of the line began last, as after one whose report says `begun`: it stays until a pull begins
+ * another. The length is 0 where no pull has begun one yet. LAPD_WRONG_CARD on a card of frames, which has no pulls. */
+LAPD_STATUS lapd_begun(lapd_card *card, uint32_t line, lapd_head *head);
+
+/* Which frame was heard last at the line, also where it was dropped afterwards, as for a TEI that is not on the line: it stays
+ * until the next is. Of one that is too long to be kept the length is n201 and five, whatever it was. The length is 0 where
+ * none was heard yet. How many were heard so far, lapd_counters tells: the sum of LAPD_HEARD_I to LAPD_HEARD_UNDEFINED, and
+ * LAPD_HEARD_OVERLONG. LAPD_WRONG_CARD on a card of frames, whose caller has each frame that it hands over. */
+LAPD_STATUS lapd_heard(lapd_card *card, uint32_t line, lapd_head *head);
+
+/*
+ * What is counted of a line: the place of each number in lapd_counters.
+ */
+enum {
+    /* frames heard, by their third octet, the first of their control field, whether or not they are otherwise well formed
+     * and for a TEI of the line; what is dropped before its check is found good, and what is too long to be kept, is none
+     * of them. SABME heard are isdnLapdPeerSabme of RFC 2127, and FRMR heard isdnLapdRecvdFrmr */
+    LAPD_HEARD_I = 0, LAPD_HEARD_RR = 1, LAPD_HEARD_RNR = 2, LAPD_HEARD_REJ = 3, LAPD_HEARD_SABME = 4,
+    LAPD_HEARD_DISC = 5, LAPD_HEARD_UI = 6, LAPD_HEARD_UA = 7, LAPD_HEARD_DM = 8, LAPD_HEARD_FRMR = 9,
+    LAPD_HEARD_XID = 10, LAPD_HEARD_UNDEFINED = 11,
+    /* frames begun: a pull has begun to send them, or lapd_next_frame gave them */
+    LAPD_BEGUN_I = 12, LAPD_BEGUN_RR = 13, LAPD_BEGUN_RNR = 14, LAPD_BEGUN_REJ = 15, LAPD_BEGUN_SABME = 16,
+    LAPD_BEGUN_DISC = 17, LAPD_BEGUN_UI = 18, LAPD_BEGUN_UA = 19, LAPD_BEGUN_DM = 20, LAPD_BEGUN_FRMR = 21,
+    LAPD_BEGUN_XID = 22, LAPD_BEGUN_UNDEFINED = 23,
+    /* octets of these frames, from the address to the information */
+    LAPD_HEARD_OCTETS = 24, LAPD_BEGUN_OCTETS = 25,
+    /* of these frames, the commands I, RR, RNR and REJ with P=1, which ask for an answer: by the C/R bit of the first octet, the
+     * third octet, and the lowest bit of the fourth, also where the frame is not well formed */
+    LAPD_HEARD_POLLS = 26, LAPD_BEGUN_POLLS = 27,
+    /* good frames that are too long to be kept, also those that are then dropped, as for a TEI that is not on the line */
+    LAPD_HEARD_OVERLONG = 28,
+    /* what was dropped, by its cause */
+    LAPD_DROPPED_ABORT = 29, LAPD_DROPPED_RAGGED = 30, LAPD_DROPPED_SHORT = 31, LAPD_DROPPED_FCS = 32,
+    LAPD_DROPPED_EXTENSION = 33, LAPD_DROPPED_SAPI = 34, LAPD_DROPPED_TEI = 35, LAPD_DROPPED_UNSERVED = 36,
+    /* MDL-ERROR indications, by their code */
+    LAPD_ERRORS_A = 37, LAPD_ERRORS_B = 38, LAPD_ERRORS_C = 39, LAPD_ERRORS_D = 40, LAPD_ERRORS_E = 41,
+    LAPD_ERRORS_F = 42, LAPD_ERRORS_G = 43, LAPD_ERRORS_H = 44, LAPD_ERRORS_I = 45, LAPD_ERRORS_J = 46,
+    LAPD_ERRORS_K = 47, LAPD_ERRORS_L = 48, LAPD_ERRORS_N = 49, LAPD_ERRORS_O = 50,
+    /* other notes */
+    LAPD_TOLD_ESTABLISH_INDICATION = 51, LAPD_TOLD_ESTABLISH_CONFIRM = 52, LAPD_TOLD_RELEASE_INDICATION = 53,
+    LAPD_TOLD_RELEASE_CONFIRM = 54, LAPD_TOLD_DATA = 55, LAPD_TOLD_UNIT = 56, LAPD_TOLD_XID = 57,
+    LAPD_TOLD_ASSIGNED = 58, LAPD_TOLD_REMOVED = 59, LAPD_TOLD_DOUBLED = 60,
+    /* control frames and messages that found no room to wait */
+    LAPD_LOST = 61,
+    /* messages of TEI management heard and begun (clause 5.3.1, table 8), by their type: of the UI frames above, those with
+     * SAPI 63 and FF as the second octet (TEI 127 and its extension bit) whose information begins with the entity identifier 15,
+     * whether or not they are otherwise well formed and are served. The network's side begins those that assign, deny, check
+     * and remove, and hears the others */
+    LAPD_HEARD_REQUEST = 62, LAPD_HEARD_ASSIGNED = 63, LAPD_HEARD_DENIED = 64, LAPD_HEARD_CHECK_REQUEST = 65,
+    LAPD_HEARD_CHECK_RESPONSE = 66, LAPD_HEARD_REMOVE = 67, LAPD_HEARD_VERIFY = 68,
+    LAPD_BEGUN_REQUEST = 69, LAPD_BEGUN_ASSIGNED = 70, LAPD_BEGUN_DENIED = 71, LAPD_BEGUN_CHECK_REQUEST = 72,
+    LAPD_BEGUN_CHECK_RESPONSE = 73, LAPD_BEGUN_REMOVE = 74, LAPD_BEGUN_VERIFY = 75,
+    LAPD_COUNTERS = 76
+};
+
+/* As the call has the same name, it is `struct lapd_counters` also in C++. While the major version stays, it has these
+ * places and no others; a number that is counted later comes with a call of its own. */
+struct lapd_counters {
+    uint64_t values[LAPD_COUNTERS]; /* each stays at its greatest value once it is there */
+};
+
+/* What was counted of a line since the card began, on a card of either kind. A request that is refused is not counted. It
+ * changes nothing. */
+LAPD_STATUS lapd_counters(lapd_card *card, uint32_t line, struct lapd_counters *counters);
+
+/* How many octets the card stores now, of frames, messages and contents; at most lapd_limit's. A card of frames stores
+ * none of frames that come and go. */
+LAPD_STATUS lapd_stored(lapd_card *card, uint32_t *octets);
+
+/* How many octets a card of octets of this configuration stores at most, and so also one of frames, which stores less. */
+LAPD_STATUS lapd_limit(lapd_card *card, uint32_t *octets);
+
+/* How many lines the card has. */
+LAPD_STATUS lapd_lines(lapd_card *card, uint32_t *lines);
+
+/* ---- A clock ---------------------------------------------------------------------------------------------------- */
+
+/* Keeps the timers of all lines of a card, for a caller that has none of its own. It reads no time: each moment is a
+ * number that the caller hands in, in milliseconds from any origin. */
+typedef struct lapd_clock {
+    bool started;
+    void *at;
+} lapd_clock;
+
+#define LAPD_CLOCK_NONE { false, LAPD_NULL }
+
+/* The latest moment that a timer may be ordered at: 2^63 ms. */
+#define LAPD_LATEST (UINT64_C(1) << 63)
+
+/* A timer that fell due. */
+typedef struct lapd_due {
+    uint32_t line;
+    lapd_timer timer;
+} lapd_due;
+
+/* Starts a clock on which no timer runs, for a card of this configuration. Takes memory, as the only call on a clock.
+ * LAPD_SECOND_START, the first bad field or LAPD_NO_MEMORY: there is no other clock than before. */
+LAPD_STATUS lapd_clock_start(lapd_clock *clock, const lapd_config *config);
+
+/* How long timers run that are started from now on, in milliseconds, 1 to 3,600,000 each: T200 and T203 of each link, and
+ * T201 of each line. Those that run keep their moments. A clock begins with 1,000, 10,000 and 1,000 (clauses 5.9.1, 5.9.8
+ * and 5.9.6). LAPD_WRONG_TIME: one is out of range, and nothing has changed. */
+LAPD_STATUS lapd_clock_set_lengths(lapd_clock *clock, uint32_t t200, uint32_t t203, uint32_t t201);
+
+/* Ends a clock and gives back all memory that its start took. LAPD_NO_CLOCK: nothing happens. */
+LAPD_STATUS lapd_clock_free(lapd_clock *clock);
+
+/* Carries out one order for a timer of a line at a moment. LAPD_NO_PLACE: the line has no place for the timer, and
+ * nothing has changed. */
+LAPD_STATUS lapd_clock_apply(lapd_clock *clock, uint32_t line, const lapd_order *order, uint64_t now);
+
+/* Carries out all orders of a report, in order, at a moment: to be called with each report whose order_count is not 0.
+ * LAPD_NO_PLACE: at least one found no place; the others were carried out. */
+LAPD_STATUS lapd_clock_apply_report(lapd_clock *clock, uint32_t line, const lapd_report *report, uint64_t now);
+
+/* Takes out the timer that falls due first, where its moment is not after `now`; hand it to lapd_expire. At one moment:
+ * by line, then T200 before T203 before T201, by TEI, and call control before packet. LAPD_NO_TIMER: none is due. */
+LAPD_STATUS lapd_clock_due(lapd_clock *clock, uint64_t now, lapd_due *due);
+
+/* The moment of the timer that falls due first, due or not. LAPD_NO_TIMER: none runs. */
+LAPD_STATUS lapd_clock_next(lapd_clock *clock, uint64_t *moment);
+
+#ifdef __cplusplus
+}
+#ifdef __GNUC__
+#pragma GCC diagnostic pop
+#endif
+#endif
+
+/* ---- In words and by name: defined here ------------------------------------------------------------------------- */
+
+/* Whether a report has anything to tell. */
+LAPD_INLINE bool lapd_tells(const lapd_report *report) {
+    return report->note_count != 0 || report->order_count != 0 || report->cause != 0 || report->lost != 0
+           || report->begun != 0 || report->delivered != 0 || report->reopened != 0;
+}
+
+/* A block of memory in a heap: rounded up to 16 octets, and 16 octets for what the heap notes of it. */
+LAPD_INLINE uint64_t lapd_block_octets(uint64_t octets) {
+    return (octets + 15) / 16 * 16 + 16;
+}
+
+/* So many octets of memory are enough for the start of a card of frames whose configuration is in range, by blocks as above.
+ * This is no promise of the proofs: tests start cards in so many, on a target with 8 octets a pointer. */
+LAPD_INLINE uint64_t lapd_card_octets_frames(const lapd_config *config) {
+    uint64_t lines = config->lines, slots = config->slots, links = 2u * config->terminals;
+    uint64_t link = lapd_block_octets(8u * config->control) + lapd_block_octets(8u * config->queue);
+    uint64_t line = lapd_block_octets(128 * links) + links * link + lapd_block_octets(16u * config->unit_queue)
+                    + lapd_block_octets(64);
+    return lapd_block_octets(288) + lapd_block_octets(944 * lines) + lines * line + lapd_block_octets(2 * slots)
+           + lapd_block_octets(slots * config->n201) + lapd_block_octets(32 * lines);
+}
+
+/* The same of a card of octets, which has room besides for a frame that comes and one that goes on each line. */
+LAPD_INLINE uint64_t lapd_card_octets(const lapd_config *config) {
+    uint64_t lines = config->lines, frame = config->n201 + 6u;
+    uint64_t port = lapd_block_octets(frame) + lapd_block_octets(frame * 6 / 5 + 2);
+    return lapd_card_octets_frames(config) + lapd_block_octets(176 * lines) + lines * port;
+}
+
+/* The same of a clock. */
+LAPD_INLINE uint64_t lapd_clock_octets(const lapd_config *config) {
+    uint64_t lines = config->lines, places = 4u * config->terminals + 1u;
+    return lapd_block_octets(96) + lapd_block_octets(32 * lines) + lapd_block_octets(16 * lines)
+           + lines * lapd_block_octets(24 * places);
+}
+
+/* An octet with its bits turned round: bit 1 becomes bit 8. For an octet that has the bit that came first as bit 8. */
+LAPD_INLINE uint8_t lapd_turned(uint8_t octet) {
+    static const uint8_t low[16] = {0x00, 0x80, 0x40, 0xC0, 0x20, 0xA0, 0x60, 0xE0,
+                                    0x10, 0x90, 0x50, 0xD0, 0x30, 0xB0, 0x70, 0xF0};
+    static const uint8_t high[16] = {0x00, 0x08, 0x04, 0x0C, 0x02, 0x0A, 0x06, 0x0E,
+                                     0x01, 0x09, 0x05, 0x0D, 0x03, 0x0B, 0x07, 0x0F};
+    return low[octet & 15u] | high[octet >> 4];
+}
+
+/* A request with contents, which may lie in the report: they are copied before that is written. Without contents the pointer
+ * may be null. */
+LAPD_INLINE_STATUS lapd_request_with(lapd_card *card, uint32_t line, uint8_t request, uint8_t service, uint8_t tei,
+                                     const uint8_t *contents, size_t length, lapd_report *report) {
+    static const uint8_t nothing = 0;
+    uint8_t copy[sizeof(lapd_report)];
+    uintptr_t at = LAPD_ADDRESS(contents), from = LAPD_ADDRESS(report);
+    if (length == 0)
+        return lapd_request(card, line, request, service, tei, &nothing, 0, report);
+    if (at < from || at >= from + sizeof *report || length > from + sizeof *report - at)
+        return lapd_request(card, line, request, service, tei, contents, length, report);
+    for (size_t i = 0; i < length; i++)
+        copy[i] = contents[i];
+    return lapd_request(card, line, request, service, tei, copy, length, report);
+}
+
+/* Asks for the link (DL-ESTABLISH request). */
+LAPD_INLINE_STATUS lapd_establish(lapd_card *card, uint32_t line, uint8_t service, uint8_t tei, lapd_report *report) {
+    return lapd_request_with(card, line, LAPD_ESTABLISH, service, tei, LAPD_NULL, 0, report);
+}
+
+/* Releases the link (DL-RELEASE request). */
+LAPD_INLINE_STATUS lapd_release(lapd_card *card, uint32_t line, uint8_t service, uint8_t tei, lapd_report *report) {
+    return lapd_request_with(card, line, LAPD_RELEASE, service, tei, LAPD_NULL, 0, report);
+}
+
+/* Contents for the link, acknowledged (DL-DATA request); also those of the report itself. */
+LAPD_INLINE_STATUS lapd_data(lapd_card *card, uint32_t line, uint8_t service, uint8_t tei, const uint8_t *contents,
+                             size_t length, lapd_report *report) {
+    return lapd_request_with(card, line, LAPD_DATA, service, tei, contents, length, report);
+}
+
+/* Contents without acknowledgement (DL-UNIT DATA request), also those of the report itself; LAPD_GROUP_TEI is all
+ * terminals of the line, to which the network's side alone sends. */
+LAPD_INLINE_STATUS lapd_unit(lapd_card *card, uint32_t line, uint8_t service, uint8_t tei, const uint8_t *contents,
+                             size_t length, lapd_report *report) {
+    return lapd_request_with(card, line, LAPD_UNIT, service, tei, contents, length, report);
+}
+
+/* Puts the TEI on the line (MDL-ASSIGN request). */
+LAPD_INLINE_STATUS lapd_assign(lapd_card *card, uint32_t line, uint8_t tei, lapd_report *report) {
+    return lapd_request_with(card, line, LAPD_ASSIGN, LAPD_CALL, tei, LAPD_NULL, 0, report);
+}
+
+/* Takes the TEI from the line (MDL-REMOVE request). Of the network's side alone: LAPD_REFUSED_WRONG_SIDE. */
+LAPD_INLINE_STATUS lapd_remove(lapd_card *card, uint32_t line, uint8_t tei, lapd_report *report) {
+    return lapd_request_with(card, line, LAPD_REMOVE, LAPD_CALL, tei, LAPD_NULL, 0, report);
+}
+
+/* Asks the terminals of the line who has the TEI. Of the network's side alone: LAPD_REFUSED_WRONG_SIDE. */
+LAPD_INLINE_STATUS lapd_check(lapd_card *card, uint32_t line, uint8_t tei, lapd_report *report) {
+    return lapd_request_with(card, line, LAPD_CHECK, LAPD_CALL, tei, LAPD_NULL, 0, report);
+}
+
+/* Layer 3 can take no data of the link for now. */
+LAPD_INLINE_STATUS lapd_busy(lapd_card *card, uint32_t line, uint8_t service, uint8_t tei, lapd_report *report) {
+    return lapd_request_with(card, line, LAPD_BUSY, service, tei, LAPD_NULL, 0, report);
+}
+
+/* It can again. */
+LAPD_INLINE_STATUS lapd_ready(lapd_card *card, uint32_t line, uint8_t service, uint8_t tei, lapd_report *report) {
+    return lapd_request_with(card, line, LAPD_READY, service, tei, LAPD_NULL, 0, report);
+}
+
+/* The line is down, as where layer 1 lost its synchronization: gives the link up, in each state, with all contents and
+ * control frames that wait on it. It is in state 4 then, its timer stops, and its release is told as its state has it. The
+ * TEI stays, unless a check of it that runs takes it off the line; unit data and messages of the line go on waiting, which
+ * lapd_line_down gives up, too. LAPD_REFUSED_BAD_TEI and LAPD_REFUSED_NO_LINK alone refuse it. */
+LAPD_INLINE_STATUS lapd_deactivate(lapd_card *card, uint32_t line, uint8_t service, uint8_t tei, lapd_report *report) {
+    return lapd_request_with(card, line, LAPD_DEACTIVATE, service, tei, LAPD_NULL, 0, report);
+}
+
+/*
+ * The same of a whole line, a link a call, since a report has no room for the releases of all: gives up the next link from a
+ * place on, which is 0 for the first, and afterwards as the call leaves it. Behind the last link one call (LAPD_DOWN) gives
+ * up what waits on the line and is of none: unit data, and messages of TEI management; a check that runs ends without a
+ * result, and its timer stops, which is that report's order. LAPD_NO_MORE_LINKS: the line is down, after two calls for each
+ * of its TEIs, and one more, if nothing else was asked or heard there meanwhile. The TEIs stay. Begin again at 0 where the
+ * line goes down the next time.
+ *
+ *     uint8_t place = 0;
+ *     while (lapd_line_down(&card, line, &place, &report) == LAPD_OK)
+ *         ... the report's note, if any, and its orders ...
+ */
+LAPD_INLINE_STATUS lapd_line_down(lapd_card *card, uint32_t line, uint8_t *place, lapd_report *report) {
+    lapd_link link;
+    uint32_t status = lapd_next_link(card, line, place, &link);
+    if (status == LAPD_OK)
+        return lapd_deactivate(card, line, link.service, link.tei, report);
+    if (status != LAPD_NO_MORE_LINKS || *place == 0xFF)
+        return status;
+    *place = 0xFF; /* behind all links: the line itself comes last, once */
+    return lapd_request_with(card, line, LAPD_DOWN, LAPD_CALL, 0, LAPD_NULL, 0, report);
+}
+
+/* A status in words: a refusal by its name in docs/FORMAT.md. */
+LAPD_INLINE const char *lapd_status_text(uint32_t status) {
+    switch (status) {
+    case LAPD_OK: return "ok";
+    case LAPD_REFUSED_BAD_TEI: return "bad-tei";
+    case LAPD_REFUSED_NO_LINK: return "no-link";
+    case LAPD_REFUSED_WRONG_STATE: return "wrong-state";
+    case LAPD_REFUSED_TOO_LONG: return "too-long";
+    case LAPD_REFUSED_QUEUE_FULL: return "queue-full";
+    case LAPD_REFUSED_POOL_FULL: return "pool-full";
+    case LAPD_REFUSED_TEI_TAKEN: return "tei-taken";
+    case LAPD_REFUSED_TABLE_FULL: return "table-full";
+    case LAPD_REFUSED_CHECK_RUNNING: return "check-running";
+    case LAPD_REFUSED_CONTROL_FULL: return "control-full";
+    case LAPD_REFUSED_WRONG_SIDE: return "wrong-side";
+    case LAPD_NO_CARD: return "no card";
+    case LAPD_NO_CLOCK: return "no clock";
+    case LAPD_SECOND_START: return "second start";
+    case LAPD_WRONG_LINE: return "wrong line";
+    case LAPD_WRONG_SERVICE: return "wrong service";
+    case LAPD_WRONG_TEI: return "wrong TEI";
+    case LAPD_WRONG_TIMER: return "wrong timer";
+    case LAPD_WRONG_REQUEST: return "wrong request";
+    case LAPD_WRONG_LENGTH: return "wrong length";
+    case LAPD_WRONG_ORDER: return "wrong order";
+    case LAPD_WRONG_TIME: return "wrong time";
+    case LAPD_NO_MEMORY: return "out of memory";
+    case LAPD_NO_TIMER: return "no timer";
+    case LAPD_NO_PLACE: return "no place";
+    case LAPD_NO_MORE_LINKS: return "no more links";
+    case LAPD_WRONG_CARD: return "wrong card";
+    case LAPD_WRONG_CAUSE: return "wrong cause";
+    case LAPD_NO_FRAME: return "no frame";
+    case LAPD_BAD_LINES: return "lines is out of range";
+    case LAPD_BAD_TERMINALS: return "terminals is out of range";
+    case LAPD_BAD_K: return "k is out of range";
+    case LAPD_BAD_K16: return "k16 is out of range";
+    case LAPD_BAD_QUEUE: return "queue is out of range";
+    case LAPD_BAD_UNIT_QUEUE: return "unit_queue is out of range";
+    case LAPD_BAD_CONTROL: return "control is out of range";
+    case LAPD_BAD_SLOTS: return "slots is out of range";
+    case LAPD_BAD_N201: return "n201 is out of range";
+    case LAPD_BAD_N200: return "n200 is out of range";
+    case LAPD_BAD_SIDE: return "side is out of range";
+    default: return "unknown status";
+    }
+}
+
+/* A note in words: its name in docs/FORMAT.md, with -16 for a packet link. */
+LAPD_INLINE const char *lapd_note_text(const lapd_note *note) {
+    bool packet = note->service == LAPD_PACKET;
+    switch (note->note) {
+    case LAPD_ESTABLISH_INDICATION: return packet ? "establish-indication-16" : "establish-indication";
+    case LAPD_ESTABLISH_CONFIRM: return packet ? "establish-confirm-16" : "establish-confirm";
+    case LAPD_RELEASE_INDICATION: return packet ? "release-indication-16" : "release-indication";
+    case LAPD_RELEASE_CONFIRM: return packet ? "release-confirm-16" : "release-confirm";
+    case LAPD_DATA_INDICATION: return packet ? "data-16" : "data";
+    case LAPD_UNIT_INDICATION: return packet ? "unit-16" : "unit";
+    case LAPD_ERROR_INDICATION: return packet ? "error-16" : "error";
+    case LAPD_ASSIGNED: return "assigned";
+    case LAPD_REMOVED: return "removed";
+    case LAPD_DOUBLED: return "doubled";
+    case LAPD_XID_INDICATION: return packet ? "xid-16" : "xid";
+    default: return "unknown note";
+    }
+}
+
+/* A cause in words: its name in docs/FORMAT.md. */
+LAPD_INLINE const char *lapd_cause_text(uint8_t cause) {
+    switch (cause) {
+    case 0: return "none";
+    case LAPD_ABORT: return "abort";
+    case LAPD_RAGGED: return "ragged";
+    case LAPD_SHORT: return "short";
+    case LAPD_FCS: return "fcs";
+    case LAPD_EXTENSION: return "extension";
+    case LAPD_SAPI: return "sapi";
+    case LAPD_TEI: return "tei";
+    case LAPD_UNSERVED: return "unserved";
+    default: return "unknown cause";
+    }
+}
+
+/* A counter in words, by its place: its name in lapdsim(5). */
+LAPD_INLINE const char *lapd_counter_text(unsigned place) {
+    static const char *const names[LAPD_COUNTERS] = {
+        "heard-i", "heard-rr", "heard-rnr", "heard-rej", "heard-sabme", "heard-disc", "heard-ui", "heard-ua",
+        "heard-dm", "heard-frmr", "heard-xid", "heard-undefined", "begun-i", "begun-rr", "begun-rnr", "begun-rej",
+        "begun-sabme", "begun-disc", "begun-ui", "begun-ua", "begun-dm", "begun-frmr", "begun-xid", "begun-undefined",
+        "heard-octets", "begun-octets", "heard-polls", "begun-polls", "heard-overlong", "dropped-abort",
+        "dropped-ragged", "dropped-short", "dropped-fcs", "dropped-extension", "dropped-sapi", "dropped-tei",
+        "dropped-unserved", "errors-a", "errors-b", "errors-c", "errors-d", "errors-e", "errors-f", "errors-g",
+        "errors-h", "errors-i", "errors-j", "errors-k", "errors-l", "errors-n", "errors-o",
+        "told-establish-indication", "told-establish-confirm", "told-release-indication", "told-release-confirm",
+        "told-data", "told-unit", "told-xid", "told-assigned", "told-removed", "told-doubled", "lost",
+        "heard-request", "heard-assigned", "heard-denied", "heard-check-request", "heard-check-response", "heard-remove",
+        "heard-verify", "begun-request", "begun-assigned", "begun-denied", "begun-check-request", "begun-check-response",
+        "begun-remove", "begun-verify",
+    };
+    return place < LAPD_COUNTERS ? names[place] : "unknown counter";
+}
+
+#endif

@@ -1,0 +1,416 @@
+/*
+ * lapd.hpp: lapd.h for C++17. A card and a clock end themselves, what is told comes in enums, and octets come in spans. It is
+ * this header over lapd.h and no more: no exception, nothing of the standard library, no memory but what a start takes.
+ *
+ *     lapd::frame_card card;
+ *     lapd::clock timers;
+ *     lapd::report report;
+ *     if (lapd::status is = card.start(config); is != lapd::status::ok)
+ *         return fail(lapd::text(is));
+ *     if (card.frame(0, octets, report) == lapd::status::ok)
+ *         for (lapd::note note : report.notes())
+ *             tell(note.text(), note.tei);
+ *
+ * lapd.h says of each call what it does, and what the caller promises. Here a status can't go unseen: the compiler warns.
+ * A card and a clock are neither copied nor moved, since the handle inside mustn't be.
+ */
+#ifndef LAPD_HPP
+#define LAPD_HPP
+
+#include "lapd.h"
+
+namespace lapd {
+
+// ---- Spans and lists ------------------------------------------------------------------------------------------------
+
+/// Values that lie together and belong to somebody else: an array, or what has data() and size().
+template <class T> class span {
+public:
+    constexpr span() = default;
+    constexpr span(T *data, size_t size) : data_(data), size_(size) {}
+    span(int, size_t) = delete; // {0x00, 0x81} would be 0x81 octets at null
+    template <size_t N> constexpr span(T (&array)[N]) : data_(array), size_(N) {}
+    template <class C, class = decltype(static_cast<T *>(static_cast<C *>(nullptr)->data()))>
+    constexpr span(C &of) : data_(of.data()), size_(of.size()) {}
+    template <class C, class = decltype(static_cast<T *>(static_cast<const C *>(nullptr)->data()))>
+    constexpr span(const C &of) : data_(of.data()), size_(of.size()) {}
+
+    constexpr T *data() const { return data_; }
+    constexpr size_t size() const { return size_; }
+    constexpr bool empty() const { return size_ == 0; }
+    constexpr T *begin() const { return data_; }
+    constexpr T *end() const { return data_ + size_; }
+    constexpr T &operator[](size_t at) const { return data_[at]; }
+    constexpr span first(size_t size) const { return {data_, size}; }
+
+private:
+    T *data_ = nullptr;
+    size_t size_ = 0;
+};
+
+using octets = span<const uint8_t>;
+
+/// Structs of C that are read as values of this header.
+template <class Raw, class Value> class list {
+public:
+    class iterator {
+    public:
+        constexpr explicit iterator(const Raw *at) : at_(at) {}
+        constexpr Value operator*() const { return Value(*at_); }
+        constexpr iterator &operator++() {
+            ++at_;
+            return *this;
+        }
+        constexpr bool operator!=(const iterator &other) const { return at_ != other.at_; }
+
+    private:
+        const Raw *at_;
+    };
+
+    constexpr list(const Raw *data, size_t size) : data_(data), size_(size) {}
+    constexpr size_t size() const { return size_; }
+    constexpr bool empty() const { return size_ == 0; }
+    constexpr iterator begin() const { return iterator(data_); }
+    constexpr iterator end() const { return iterator(data_ + size_); }
+    constexpr Value operator[](size_t at) const { return Value(data_[at]); }
+
+private:
+    const Raw *data_;
+    size_t size_;
+};
+
+// ---- Enums: the numbers of lapd.h -----------------------------------------------------------------------------------
+
+enum class [[nodiscard]] status : uint32_t {
+    ok = LAPD_OK,
+    refused_bad_tei = LAPD_REFUSED_BAD_TEI,
+    refused_no_link = LAPD_REFUSED_NO_LINK,
+    refused_wrong_state = LAPD_REFUSED_WRONG_STATE,
+    refused_too_long = LAPD_REFUSED_TOO_LONG,
+    refused_queue_full = LAPD_REFUSED_QUEUE_FULL,
+    refused_pool_full = LAPD_REFUSED_POOL_FULL,
+    refused_tei_taken = LAPD_REFUSED_TEI_TAKEN,
+    refused_table_full = LAPD_REFUSED_TABLE_FULL,
+    refused_check_running = LAPD_REFUSED_CHECK_RUNNING,
+    refused_control_full = LAPD_REFUSED_CONTROL_FULL,
+    refused_wrong_side = LAPD_REFUSED_WRONG_SIDE,
+    no_card = LAPD_NO_CARD,
+    no_clock = LAPD_NO_CLOCK,
+    second_start = LAPD_SECOND_START,
+    wrong_line = LAPD_WRONG_LINE,
+    wrong_service = LAPD_WRONG_SERVICE,
+    wrong_tei = LAPD_WRONG_TEI,
+    wrong_timer = LAPD_WRONG_TIMER,
+    wrong_request = LAPD_WRONG_REQUEST,
+    wrong_length = LAPD_WRONG_LENGTH,
+    wrong_order = LAPD_WRONG_ORDER,
+    wrong_time = LAPD_WRONG_TIME,
+    no_memory = LAPD_NO_MEMORY,
+    no_timer = LAPD_NO_TIMER,
+    no_place = LAPD_NO_PLACE,
+    no_more_links = LAPD_NO_MORE_LINKS,
+    wrong_card = LAPD_WRONG_CARD,
+    wrong_cause = LAPD_WRONG_CAUSE,
+    no_frame = LAPD_NO_FRAME,
+    bad_lines = LAPD_BAD_LINES,
+    bad_terminals = LAPD_BAD_TERMINALS,
+    bad_k = LAPD_BAD_K,
+    bad_k16 = LAPD_BAD_K16,
+    bad_queue = LAPD_BAD_QUEUE,
+    bad_unit_queue = LAPD_BAD_UNIT_QUEUE,
+    bad_control = LAPD_BAD_CONTROL,
+    bad_slots = LAPD_BAD_SLOTS,
+    bad_n201 = LAPD_BAD_N201,
+    bad_n200 = LAPD_BAD_N200,
+    bad_side = LAPD_BAD_SIDE
+};
+
+enum class service : uint8_t { call = LAPD_CALL, packet = LAPD_PACKET };
+
+enum class note_kind : uint8_t {
+    establish_indication = LAPD_ESTABLISH_INDICATION,
+    establish_confirm = LAPD_ESTABLISH_CONFIRM,
+    release_indication = LAPD_RELEASE_INDICATION,
+    release_confirm = LAPD_RELEASE_CONFIRM,
+    data_indication = LAPD_DATA_INDICATION,
+    unit_indication = LAPD_UNIT_INDICATION,
+    error_indication = LAPD_ERROR_INDICATION,
+    assigned = LAPD_ASSIGNED,
+    removed = LAPD_REMOVED,
+    doubled = LAPD_DOUBLED,
+    xid_indication = LAPD_XID_INDICATION
+};
+
+enum class timer_kind : uint8_t { t200 = LAPD_T200, t203 = LAPD_T203, t201 = LAPD_T201 };
+
+enum class order_kind : uint8_t { start = LAPD_START, stop = LAPD_STOP };
+
+enum class cause : uint8_t {
+    none = 0,
+    abort = LAPD_ABORT,
+    ragged = LAPD_RAGGED,
+    too_short = LAPD_SHORT,
+    fcs = LAPD_FCS,
+    extension = LAPD_EXTENSION,
+    sapi = LAPD_SAPI,
+    tei = LAPD_TEI,
+    unserved = LAPD_UNSERVED
+};
+
+/// Of a link; `none` where the TEI is not on the line.
+enum class state : uint8_t {
+    none = 0,
+    tei_assigned = 4,
+    awaiting_establishment = 5,
+    awaiting_release = 6,
+    established = 7,
+    timer_recovery = 8
+};
+
+inline const char *text(status of) { return lapd_status_text(static_cast<uint32_t>(of)); }
+inline const char *text(cause of) { return lapd_cause_text(static_cast<uint8_t>(of)); }
+
+/// Whether a request was refused.
+constexpr bool is_refusal(status of) {
+    return of == status::refused_wrong_side || (of >= status::refused_bad_tei && of <= status::refused_control_full);
+}
+
+// ---- What is told ---------------------------------------------------------------------------------------------------
+
+struct note {
+    constexpr explicit note(const lapd_note &of)
+        : kind(static_cast<note_kind>(of.note)), service(static_cast<lapd::service>(of.service)), tei(of.tei),
+          error(static_cast<char>(of.error)) {}
+
+    /// Its name in docs/FORMAT.md, with -16 for a packet link.
+    const char *text() const {
+        const lapd_note raw = {static_cast<uint8_t>(kind), static_cast<uint8_t>(service), tei, 0};
+        return lapd_note_text(&raw);
+    }
+
+    note_kind kind;
+    lapd::service service;
+    uint8_t tei;
+    char error; ///< of an error indication its letter, else 0
+};
+
+struct timer {
+    constexpr explicit timer(const lapd_timer &of)
+        : kind(static_cast<timer_kind>(of.timer)), service(static_cast<lapd::service>(of.service)), tei(of.tei) {}
+    constexpr lapd_timer raw() const { return {static_cast<uint8_t>(kind), static_cast<uint8_t>(service), tei}; }
+
+    timer_kind kind;
+    lapd::service service;
+    uint8_t tei;
+};
+
+struct order {
+    constexpr explicit order(const lapd_order &of) : kind(static_cast<order_kind>(of.order)), timer(of.timer) {}
+    constexpr lapd_order raw() const { return {static_cast<uint8_t>(kind), timer.raw()}; }
+
+    order_kind kind;
+    lapd::timer timer;
+};
+
+/// What an event led to. It is written by the next call that it is handed to.
+class report {
+public:
+    list<lapd_note, note> notes() const { return {raw_.notes, raw_.note_count}; }
+    list<lapd_order, order> orders() const { return {raw_.orders, raw_.order_count}; }
+    lapd::cause cause() const { return static_cast<lapd::cause>(raw_.cause); }
+    unsigned lost() const { return raw_.lost; }
+    bool begun() const { return raw_.begun != 0; }
+    bool delivered() const { return raw_.delivered != 0; }
+    octets contents() const { return {raw_.contents, raw_.length}; }
+    /// Of the next frame: whether another waits on its line.
+    bool more() const { return raw_.more != 0; }
+    /// Whether a link that was refused contents for its full queue has room again; and which.
+    bool reopened() const { return raw_.reopened != 0; }
+    service reopened_service() const { return static_cast<service>(raw_.reopened_service); }
+    uint8_t reopened_tei() const { return raw_.reopened_tei; }
+    bool tells() const { return lapd_tells(&raw_); }
+    lapd_report *raw() { return &raw_; }
+    const lapd_report *raw() const { return &raw_; }
+
+private:
+    lapd_report raw_ = {};
+};
+
+/// A link of a line, and how much room one has.
+struct link {
+    lapd::service service;
+    uint8_t tei;
+    lapd::state state;
+};
+
+struct room {
+    uint32_t pool;
+    uint8_t queue, va;
+};
+
+// ---- Cards ----------------------------------------------------------------------------------------------------------
+
+/// What a card of either kind does.
+class any_card {
+public:
+    any_card(const any_card &) = delete;
+    any_card &operator=(const any_card &) = delete;
+
+    status end() { return of(lapd_card_free(&card_)); }
+
+    status expire(uint32_t line, const timer &expired, report &to) {
+        const lapd_timer raw = expired.raw();
+        return of(lapd_expire(&card_, line, &raw, to.raw()));
+    }
+    status establish(uint32_t line, service by, uint8_t tei, report &to) {
+        return of(lapd_establish(&card_, line, number(by), tei, to.raw()));
+    }
+    status release(uint32_t line, service by, uint8_t tei, report &to) {
+        return of(lapd_release(&card_, line, number(by), tei, to.raw()));
+    }
+    /// The contents may be those of the report.
+    status data(uint32_t line, service by, uint8_t tei, octets contents, report &to) {
+        return of(lapd_data(&card_, line, number(by), tei, contents.data(), contents.size(), to.raw()));
+    }
+    status unit(uint32_t line, service by, uint8_t tei, octets contents, report &to) {
+        return of(lapd_unit(&card_, line, number(by), tei, contents.data(), contents.size(), to.raw()));
+    }
+    status assign(uint32_t line, uint8_t tei, report &to) { return of(lapd_assign(&card_, line, tei, to.raw())); }
+    status remove(uint32_t line, uint8_t tei, report &to) { return of(lapd_remove(&card_, line, tei, to.raw())); }
+    status check(uint32_t line, uint8_t tei, report &to) { return of(lapd_check(&card_, line, tei, to.raw())); }
+    status busy(uint32_t line, service by, uint8_t tei, report &to) {
+        return of(lapd_busy(&card_, line, number(by), tei, to.raw()));
+    }
+    status ready(uint32_t line, service by, uint8_t tei, report &to) {
+        return of(lapd_ready(&card_, line, number(by), tei, to.raw()));
+    }
+    status deactivate(uint32_t line, service by, uint8_t tei, report &to) {
+        return of(lapd_deactivate(&card_, line, number(by), tei, to.raw()));
+    }
+    /// The line is down: gives up its next link from this place on, which begins as 0, and behind the last what waits and is of
+    /// none; then status::no_more_links.
+    status line_down(uint32_t line, uint8_t &place, report &to) { return of(lapd_line_down(&card_, line, &place, to.raw())); }
+
+    status state_of(uint32_t line, service by, uint8_t tei, state &to) {
+        uint8_t raw = 0;
+        const status is = of(lapd_state(&card_, line, number(by), tei, &raw));
+        if (is == status::ok)
+            to = static_cast<state>(raw);
+        return is;
+    }
+    /// The link of a line from this place on, which is then behind it; it begins as 0.
+    status next_link(uint32_t line, uint8_t &place, link &to) {
+        lapd_link raw = {};
+        const status is = of(lapd_next_link(&card_, line, &place, &raw));
+        if (is == status::ok)
+            to = {static_cast<service>(raw.service), raw.tei, static_cast<state>(raw.state)};
+        return is;
+    }
+    status room_of(uint32_t line, service by, uint8_t tei, room &to) {
+        struct lapd_room raw = {};
+        const status is = of(lapd_room(&card_, line, number(by), tei, &raw));
+        if (is == status::ok)
+            to = {raw.pool, raw.queue, raw.va};
+        return is;
+    }
+    status counters(uint32_t line, struct lapd_counters &to) { return of(lapd_counters(&card_, line, &to)); }
+    status stored(uint32_t &to) { return of(lapd_stored(&card_, &to)); }
+    status limit(uint32_t &to) { return of(lapd_limit(&card_, &to)); }
+    status lines(uint32_t &to) { return of(lapd_lines(&card_, &to)); }
+
+protected:
+    any_card() = default;
+    ~any_card() { (void)lapd_card_free(&card_); }
+    static constexpr status of(uint32_t number) { return static_cast<status>(number); }
+    static constexpr uint8_t number(service by) { return static_cast<uint8_t>(by); }
+    /// Where a span's octets lie; not null where it has none, as lapd.h asks.
+    template <class T> static T *at(span<T> of) {
+        static T none = 0;
+        return of.empty() ? &none : of.data();
+    }
+
+    lapd_card card_ = LAPD_CARD_NONE;
+};
+
+/// A card of octets.
+class card : public any_card {
+public:
+    status start(const lapd_config &config) { return of(lapd_card_start(&card_, &config)); }
+    status octet(uint32_t line, uint8_t came, report &to) { return of(lapd_octet(&card_, line, came, to.raw())); }
+    status pull(uint32_t line, uint8_t &goes, report &to) { return of(lapd_pull(&card_, line, &goes, to.raw())); }
+    status exchange(uint32_t line, octets in, span<uint8_t> out, size_t &steps, report &to) {
+        return of(lapd_exchange(&card_, line, at(in), in.size(), at(out), out.size(), &steps, to.raw()));
+    }
+    status begun(uint32_t line, lapd_head &to) { return of(lapd_begun(&card_, line, &to)); }
+    status heard(uint32_t line, lapd_head &to) { return of(lapd_heard(&card_, line, &to)); }
+};
+
+/// A card of frames.
+class frame_card : public any_card {
+public:
+    status start(const lapd_config &config) { return of(lapd_card_start_frames(&card_, &config)); }
+    status frame(uint32_t line, octets came, report &to) {
+        return of(lapd_frame(&card_, line, at(came), came.size(), to.raw()));
+    }
+    status failed(uint32_t line, cause why, report &to) {
+        return of(lapd_frame_failed(&card_, line, static_cast<uint8_t>(why), to.raw()));
+    }
+    /// The next frame lies in front of the room; status::no_frame where none waits.
+    status next_frame(uint32_t line, span<uint8_t> room, octets &goes, report &to) {
+        size_t length = 0;
+        const status is = of(lapd_next_frame(&card_, line, at(room), room.size(), &length, to.raw()));
+        if (is == status::ok)
+            goes = {room.data(), length};
+        return is;
+    }
+    /// The first line on which a frame waits, from one on; status::no_frame where there is none.
+    status next_waiting(uint32_t from, uint32_t &line) { return of(lapd_next_waiting(&card_, from, &line)); }
+};
+
+// ---- A clock --------------------------------------------------------------------------------------------------------
+
+/// A timer that fell due at a line.
+struct due {
+    uint32_t line = 0;
+    lapd::timer timer = lapd::timer(lapd_timer{});
+};
+
+/// The timers of all lines; each moment is a number of milliseconds that the caller hands in.
+class clock {
+public:
+    clock() = default;
+    clock(const clock &) = delete;
+    clock &operator=(const clock &) = delete;
+    ~clock() { (void)lapd_clock_free(&clock_); }
+
+    status start(const lapd_config &config) { return of(lapd_clock_start(&clock_, &config)); }
+    status end() { return of(lapd_clock_free(&clock_)); }
+    status set_lengths(uint32_t t200, uint32_t t203, uint32_t t201) {
+        return of(lapd_clock_set_lengths(&clock_, t200, t203, t201));
+    }
+    status apply(uint32_t line, const order &one, uint64_t now) {
+        const lapd_order raw = one.raw();
+        return of(lapd_clock_apply(&clock_, line, &raw, now));
+    }
+    status apply(uint32_t line, const report &all, uint64_t now) {
+        return of(lapd_clock_apply_report(&clock_, line, all.raw(), now));
+    }
+    /// status::no_timer where none is due.
+    status take_due(uint64_t now, due &to) {
+        lapd_due raw = {};
+        const status is = of(lapd_clock_due(&clock_, now, &raw));
+        if (is == status::ok)
+            to = {raw.line, timer(raw.timer)};
+        return is;
+    }
+    status next(uint64_t &moment) { return of(lapd_clock_next(&clock_, &moment)); }
+
+private:
+    static constexpr status of(uint32_t number) { return static_cast<status>(number); }
+
+    lapd_clock clock_ = LAPD_CLOCK_NONE;
+};
+
+} // namespace lapd
+
+#endif

@@ -1,0 +1,663 @@
+"""LAPD for line cards (ITU-T Q.921, modulo 128), over the shared library that tools/install leaves, or one of lapd.c.
+
+    import lapd
+
+    # Basic access: windows of 1 for call control and 3 for packet mode (Q.921, 5.9.5)
+    config = lapd.Config(lines=1, terminals=8, k=1, k16=3, queue=8, unit_queue=4, control=4, slots=64, n201=260, n200=3)
+    with lapd.FrameCard(config) as card, lapd.Clock(config) as timers:
+        timers.apply(0, card.assign(0, 64), now=0)
+        report = card.frame(0, bytes.fromhex("00817F"))         # SABME of TEI 64
+        timers.apply(0, report, now=0)
+        print([str(note) for note in report.notes])             # ['establish-indication']
+        octets, report = card.next_frame(0)                     # UA: 008173
+
+lapd.h says of each call what it does. Here a card is a `Card` (for octets) or a `FrameCard` (for frames), a wrong call or a
+refused request raises an `Error` with its `Status`, and what an event led to comes as a `Report` of its own; a number that
+the call can't be handed raises a ValueError. Cards and clocks end with their `with`, or by `close`. A card or a clock is used
+by one thread at a time.
+
+Words stand in another order than in C where a call is about a link: the TEI comes first, and its service last, which is
+Service.CALL where it is left out. So `lapd_data(&card, line, LAPD_PACKET, 64, contents, length, &report)` is
+`card.data(line, 64, contents, Service.PACKET)`.
+
+The library is the file that LAPD_LIBRARY names in the environment; else ../../lib/liblapd.so.1 beside this file, as it is
+installed; else liblapd.so.1 in this file's folder; else liblapd.so.1 where the system looks.
+"""
+import ctypes
+import dataclasses
+import enum
+import functools
+import os
+from typing import Any, Dict, Iterator, List, NamedTuple, Optional, Tuple, TypeVar
+
+# ---- Numbers of lapd.h ---------------------------------------------------------------------------------------------------
+
+
+class Status(enum.IntEnum):
+    """What a call answers; a later library may have more."""
+
+    OK = 0
+    REFUSED_BAD_TEI = 1
+    REFUSED_NO_LINK = 2
+    REFUSED_WRONG_STATE = 3
+    REFUSED_TOO_LONG = 4
+    REFUSED_QUEUE_FULL = 5
+    REFUSED_POOL_FULL = 6
+    REFUSED_TEI_TAKEN = 7
+    REFUSED_TABLE_FULL = 8
+    REFUSED_CHECK_RUNNING = 9
+    REFUSED_CONTROL_FULL = 10
+    NO_CARD = 11
+    NO_CLOCK = 12
+    SECOND_START = 13
+    WRONG_LINE = 14
+    WRONG_SERVICE = 15
+    WRONG_TEI = 16
+    WRONG_TIMER = 17
+    WRONG_REQUEST = 18
+    WRONG_LENGTH = 19
+    WRONG_ORDER = 20
+    WRONG_TIME = 21
+    NO_MEMORY = 22
+    NO_TIMER = 23
+    NO_PLACE = 24
+    NO_MORE_LINKS = 25
+    WRONG_CARD = 26
+    WRONG_CAUSE = 27
+    NO_FRAME = 28
+    REFUSED_WRONG_SIDE = 29
+    BAD_LINES = 33
+    BAD_TERMINALS = 34
+    BAD_K = 35
+    BAD_K16 = 36
+    BAD_QUEUE = 37
+    BAD_UNIT_QUEUE = 38
+    BAD_CONTROL = 39
+    BAD_SLOTS = 40
+    BAD_N201 = 41
+    BAD_N200 = 42
+    BAD_SIDE = 43
+
+    @classmethod
+    def _missing_(cls, value: Any) -> Optional["Status"]:
+        if not isinstance(value, int) or value < 0:
+            return None
+        later = int.__new__(cls, value)
+        later._name_, later._value_ = f"STATUS_{value}", value
+        return later
+
+
+class Side(enum.IntEnum):
+    NETWORK = 0
+    USER = 1
+
+
+class Service(enum.IntEnum):
+    CALL = 0
+    PACKET = 16
+
+
+class NoteKind(enum.IntEnum):
+    ESTABLISH_INDICATION = 1
+    ESTABLISH_CONFIRM = 2
+    RELEASE_INDICATION = 3
+    RELEASE_CONFIRM = 4
+    DATA_INDICATION = 5
+    UNIT_INDICATION = 6
+    ERROR_INDICATION = 7
+    ASSIGNED = 8
+    REMOVED = 9
+    DOUBLED = 10
+    XID_INDICATION = 11
+
+
+class TimerKind(enum.IntEnum):
+    T200 = 1
+    T203 = 2
+    T201 = 3
+
+
+class OrderKind(enum.IntEnum):
+    START = 1
+    STOP = 2
+
+
+class Cause(enum.IntEnum):
+    """Why a frame, or what stood for one, was dropped."""
+
+    ABORT = 1
+    RAGGED = 2
+    SHORT = 3
+    FCS = 4
+    EXTENSION = 5
+    SAPI = 6
+    TEI = 7
+    UNSERVED = 8
+
+    def __str__(self) -> str:
+        return _text(library().lapd_cause_text(self))
+
+
+class Request(enum.IntEnum):
+    ESTABLISH = 1
+    RELEASE = 2
+    DATA = 3
+    UNIT = 4
+    ASSIGN = 5
+    REMOVE = 6
+    CHECK = 7
+    BUSY = 8
+    READY = 9
+    DEACTIVATE = 10
+    DOWN = 11
+
+
+class State(enum.IntEnum):
+    """Of a link; NONE where the TEI is not on the line."""
+
+    NONE = 0
+    TEI_ASSIGNED = 4
+    AWAITING_ESTABLISHMENT = 5
+    AWAITING_RELEASE = 6
+    ESTABLISHED = 7
+    TIMER_RECOVERY = 8
+
+
+GROUP_TEI = 127
+MOST_NOTES, MOST_ORDERS, MOST_OCTETS, MOST_FRAME = 4, 4, 260, 264
+COUNTERS = 76
+
+# ---- Structs of lapd.h ---------------------------------------------------------------------------------------------------
+
+
+class _Config(ctypes.Structure):
+    _fields_ = [(name, ctypes.c_uint16) for name in ("lines", "terminals", "k", "k16", "queue", "unit_queue", "control",
+                                                     "slots", "n201", "n200", "side")]
+
+
+class _Note(ctypes.Structure):
+    _fields_ = [(name, ctypes.c_uint8) for name in ("note", "service", "tei", "error")]
+
+
+class _Timer(ctypes.Structure):
+    _fields_ = [(name, ctypes.c_uint8) for name in ("timer", "service", "tei")]
+
+
+class _Order(ctypes.Structure):
+    _fields_ = [("order", ctypes.c_uint8), ("timer", _Timer)]
+
+
+class _Report(ctypes.Structure):
+    _fields_ = [*((name, ctypes.c_uint8) for name in ("note_count", "order_count", "cause", "lost", "begun", "delivered")),
+                ("length", ctypes.c_uint16), ("notes", _Note * MOST_NOTES), ("orders", _Order * MOST_ORDERS),
+                ("contents", ctypes.c_uint8 * MOST_OCTETS),
+                *((name, ctypes.c_uint8) for name in ("more", "reopened", "reopened_service", "reopened_tei"))]
+
+
+class _Handle(ctypes.Structure):
+    """A card or a clock; zeroed it is none."""
+
+    _fields_ = [("started", ctypes.c_bool), ("at", ctypes.c_void_p)]
+
+
+class _Link(ctypes.Structure):
+    _fields_ = [(name, ctypes.c_uint8) for name in ("service", "tei", "state")]
+
+
+class _Room(ctypes.Structure):
+    _fields_ = [("pool", ctypes.c_uint32), ("queue", ctypes.c_uint8), ("va", ctypes.c_uint8)]
+
+
+class _Head(ctypes.Structure):
+    _fields_ = [("length", ctypes.c_uint16), ("octets", ctypes.c_uint8 * 4)]
+
+
+class _Counters(ctypes.Structure):
+    _fields_ = [("values", ctypes.c_uint64 * COUNTERS)]
+
+
+class _Due(ctypes.Structure):
+    _fields_ = [("line", ctypes.c_uint32), ("timer", _Timer)]
+
+
+# ---- The library ---------------------------------------------------------------------------------------------------------
+
+_AT = ctypes.c_void_p  # a struct by reference, or octets
+_U8, _U32, _U64, _SIZE = ctypes.c_uint8, ctypes.c_uint32, ctypes.c_uint64, ctypes.c_size_t
+# What each function takes; but for those of _ANSWERS it answers a status.
+_TAKES: Dict[str, List[Any]] = {
+    "lapd_version": [],
+    "lapd_card_start": [_AT, _AT], "lapd_card_start_frames": [_AT, _AT], "lapd_card_free": [_AT],
+    "lapd_octet": [_AT, _U32, _U8, _AT], "lapd_pull": [_AT, _U32, _AT, _AT],
+    "lapd_exchange": [_AT, _U32, _AT, _SIZE, _AT, _SIZE, _AT, _AT],
+    "lapd_frame": [_AT, _U32, _AT, _SIZE, _AT], "lapd_frame_failed": [_AT, _U32, _U8, _AT],
+    "lapd_next_frame": [_AT, _U32, _AT, _SIZE, _AT, _AT], "lapd_next_waiting": [_AT, _U32, _AT],
+    "lapd_expire": [_AT, _U32, _AT, _AT],
+    "lapd_request_with": [_AT, _U32, _U8, _U8, _U8, _AT, _SIZE, _AT], "lapd_line_down": [_AT, _U32, _AT, _AT],
+    "lapd_state": [_AT, _U32, _U8, _U8, _AT], "lapd_next_link": [_AT, _U32, _AT, _AT],
+    "lapd_room": [_AT, _U32, _U8, _U8, _AT], "lapd_begun": [_AT, _U32, _AT], "lapd_heard": [_AT, _U32, _AT],
+    "lapd_counters": [_AT, _U32, _AT], "lapd_stored": [_AT, _AT], "lapd_limit": [_AT, _AT], "lapd_lines": [_AT, _AT],
+    "lapd_clock_start": [_AT, _AT], "lapd_clock_set_lengths": [_AT, _U32, _U32, _U32], "lapd_clock_free": [_AT],
+    "lapd_clock_apply_report": [_AT, _U32, _AT, _U64], "lapd_clock_due": [_AT, _U64, _AT], "lapd_clock_next": [_AT, _AT],
+    "lapd_status_text": [_U32], "lapd_note_text": [_AT], "lapd_cause_text": [_U8], "lapd_counter_text": [_U32],
+    "lapd_turned": [_U8],
+}
+_ANSWERS: Dict[str, Any] = {**{f"lapd_{it}_text": ctypes.c_char_p for it in ("status", "note", "cause", "counter")},
+                            "lapd_turned": ctypes.c_uint8}
+
+
+def _path() -> str:
+    folder, name = os.path.dirname(os.path.abspath(__file__)), "liblapd.so.1"
+    beside = [os.path.join(folder, *it, name) for it in (("..", "..", "lib"), ())]
+    return os.environ.get("LAPD_LIBRARY") or next(filter(os.path.exists, beside), name)
+
+
+@functools.lru_cache(None)
+def library() -> ctypes.PyDLL:
+    """The shared library, with each function as lapd.h declares it. OSError: it is not found."""
+    found = ctypes.PyDLL(_path())  # one call at a time: none lasts
+    for name, takes in _TAKES.items():
+        function = getattr(found, name)
+        function.argtypes, function.restype = takes, _ANSWERS.get(name, ctypes.c_uint32)
+    return found
+
+
+def _text(of: bytes) -> str:
+    return of.decode("ascii")
+
+
+def version() -> Tuple[int, int]:
+    """The library's major and minor number."""
+    major, minor = divmod(library().lapd_version(), 1000)
+    return major, minor
+
+
+class Error(Exception):
+    """A call that answered another status than OK: nothing has changed by it, but for NO_PLACE of `Clock.apply`."""
+
+    def __init__(self, status: Status) -> None:
+        super().__init__(_text(library().lapd_status_text(status)))
+        self.status = status
+
+    def __reduce__(self) -> Any:
+        return type(self), (self.status,)
+
+
+class Refused(Error):
+    """A request that was refused."""
+
+
+def _whole(kind: Any, number: int) -> int:
+    """A number for a kind of numbers, which ctypes alone would cut to its bits."""
+    if kind(number).value != number:
+        raise ValueError(f"{number} is not in 0 to {kind(-1).value}")
+    return number
+
+
+def _call(name: str, *words: Any) -> None:
+    function = getattr(library(), name)
+    status = Status(function(*(it if kind is _AT else _whole(kind, it) for kind, it in zip(_TAKES[name], words))))
+    if status != Status.OK:
+        raise (Refused if status.name.startswith("REFUSED") else Error)(status)
+
+
+def _unless(empty: Status, name: str, *words: Any) -> bool:
+    """Whether a call did what it says; False where it says that there is nothing."""
+    try:
+        _call(name, *words)
+    except Error as fault:
+        if fault.status != empty:
+            raise
+        return False
+    return True
+
+
+def turned(octets: bytes) -> bytes:
+    """Each octet with its bits turned round, bit 1 as bit 8: for a controller that has the bit that came first as bit 8."""
+    return _octets(octets).translate(_turned())
+
+
+@functools.lru_cache(None)
+def _turned() -> bytes:
+    return bytes(library().lapd_turned(octet) for octet in range(256))
+
+
+# ---- What is told --------------------------------------------------------------------------------------------------------
+
+
+@dataclasses.dataclass(frozen=True)
+class Config:
+    """How large a card is, and the limits of its lines and links, as lapd.h says at lapd_config."""
+
+    lines: int
+    terminals: int
+    k: int
+    k16: int
+    queue: int
+    unit_queue: int
+    control: int
+    slots: int
+    n201: int
+    n200: int
+    side: Side = Side.NETWORK
+
+    def _raw(self) -> _Config:
+        """A number that no field of the C struct holds is told as the largest, which is in no range."""
+        return _Config(*(it if 0 <= it <= 0xFFFF else 0xFFFF for it in dataclasses.astuple(self)))
+
+
+class Note(NamedTuple):
+    """A note for layer 3 or management. As a string it is its name in docs/FORMAT.md."""
+
+    kind: NoteKind
+    service: Service
+    tei: int
+    error: str  # of an error indication its letter, else empty
+
+    def __str__(self) -> str:
+        return _text(library().lapd_note_text(ctypes.byref(_Note(self.kind, self.service, self.tei, 0))))
+
+
+class Timer(NamedTuple):
+    kind: TimerKind
+    service: Service
+    tei: int
+
+
+class Order(NamedTuple):
+    kind: OrderKind
+    timer: Timer
+
+
+class Report(NamedTuple):
+    """What an event led to; false where that is nothing."""
+
+    notes: Tuple[Note, ...] = ()
+    orders: Tuple[Order, ...] = ()
+    cause: Optional[Cause] = None
+    lost: int = 0
+    begun: bool = False
+    contents: Optional[bytes] = None  # of a data or a unit indication
+    more: bool = False  # of the next frame: whether another waits on its line
+    reopened: Optional[Tuple[Service, int]] = None  # a link, with its TEI, that was refused contents and has room again
+
+    def __bool__(self) -> bool:
+        return self != Report()
+
+
+class Link(NamedTuple):
+    service: Service
+    tei: int
+    state: State
+
+
+class Room(NamedTuple):
+    """How many more contents find a slot of the card and a place of the link's queue, and the link's V(A)."""
+
+    pool: int
+    queue: int
+    va: int
+
+
+class Head(NamedTuple):
+    """How a frame begins, and how many octets it has."""
+
+    octets: bytes
+    length: int
+
+
+class Due(NamedTuple):
+    line: int
+    timer: Timer
+
+
+def _timer(of: _Timer) -> Timer:
+    return Timer(TimerKind(of.timer), Service(of.service), of.tei)
+
+
+def _raw_timer(of: Timer) -> _Timer:
+    return _Timer(*(_whole(_U8, it) for it in of))
+
+
+def _note(of: _Note) -> Note:
+    return Note(NoteKind(of.note), Service(of.service), of.tei, chr(of.error) if of.error else "")
+
+
+def _report(of: _Report) -> Report:
+    return Report(tuple(_note(it) for it in of.notes[: of.note_count]),
+                  tuple(Order(OrderKind(it.order), _timer(it.timer)) for it in of.orders[: of.order_count]),
+                  Cause(of.cause) if of.cause else None, of.lost, bool(of.begun),
+                  bytes(of.contents[: of.length]) if of.delivered else None, bool(of.more),
+                  (Service(of.reopened_service), of.reopened_tei) if of.reopened else None)
+
+
+def _octets(of: bytes) -> bytes:
+    """All octets of a buffer, whatever its items are; a TypeError where it is no buffer."""
+    return memoryview(of).tobytes()
+
+
+# ---- Cards ---------------------------------------------------------------------------------------------------------------
+
+_Owned = TypeVar("_Owned", bound="_Owner")
+
+
+class _Owner:
+    """What holds memory of the library: ended by `with`, by `close`, or with the object."""
+
+    _start, _free = "", ""
+
+    def __init__(self, config: Config) -> None:
+        self._handle = _Handle()
+        self._at = ctypes.byref(self._handle)
+        _call(self._start, self._at, ctypes.byref(config._raw()))
+
+    def close(self) -> None:
+        """Ends it, and gives its memory back. Nothing happens where that was done."""
+        if self._handle.started:
+            _call(self._free, self._at)
+
+    def __reduce__(self) -> Any:
+        raise TypeError(f"a {type(self).__name__} is not copied: the copy's end would be its own")
+
+    def __enter__(self: _Owned) -> _Owned:
+        return self
+
+    def __exit__(self, *_: Any) -> None:
+        self.close()
+
+    def __del__(self) -> None:
+        if hasattr(self, "_at"):
+            self.close()
+
+
+class AnyCard(_Owner):
+    """What a card of either kind does."""
+
+    _free = "lapd_card_free"
+
+    def __init__(self, config: Config) -> None:
+        self._told = _Report()
+        super().__init__(config)
+
+    def _event(self, name: str, line: int, *words: Any) -> Report:
+        _call(name, self._at, line, *words, ctypes.byref(self._told))
+        return _report(self._told)
+
+    def _ask(self, line: int, request: Request, service: Service, tei: int, contents: bytes = b"") -> Report:
+        octets = _octets(contents)
+        return self._event("lapd_request_with", line, request, service, tei, octets, len(octets))
+
+    def establish(self, line: int, tei: int, service: Service = Service.CALL) -> Report:
+        return self._ask(line, Request.ESTABLISH, service, tei)
+
+    def release(self, line: int, tei: int, service: Service = Service.CALL) -> Report:
+        return self._ask(line, Request.RELEASE, service, tei)
+
+    def data(self, line: int, tei: int, contents: bytes, service: Service = Service.CALL) -> Report:
+        """Contents for the link, acknowledged."""
+        return self._ask(line, Request.DATA, service, tei, contents)
+
+    def unit(self, line: int, tei: int, contents: bytes, service: Service = Service.CALL) -> Report:
+        """Contents without acknowledgement; GROUP_TEI is all terminals of the line."""
+        return self._ask(line, Request.UNIT, service, tei, contents)
+
+    def assign(self, line: int, tei: int) -> Report:
+        return self._ask(line, Request.ASSIGN, Service.CALL, tei)
+
+    def remove(self, line: int, tei: int) -> Report:
+        return self._ask(line, Request.REMOVE, Service.CALL, tei)
+
+    def check(self, line: int, tei: int) -> Report:
+        return self._ask(line, Request.CHECK, Service.CALL, tei)
+
+    def busy(self, line: int, tei: int, service: Service = Service.CALL) -> Report:
+        return self._ask(line, Request.BUSY, service, tei)
+
+    def ready(self, line: int, tei: int, service: Service = Service.CALL) -> Report:
+        return self._ask(line, Request.READY, service, tei)
+
+    def deactivate(self, line: int, tei: int, service: Service = Service.CALL) -> Report:
+        return self._ask(line, Request.DEACTIVATE, service, tei)
+
+    def line_down(self, line: int) -> List[Report]:
+        """The line is down: gives up each of its links, and what waits and is of none; answers what that told and ordered."""
+        place, reports, told = ctypes.c_uint8(), [], ctypes.byref(self._told)
+        while _unless(Status.NO_MORE_LINKS, "lapd_line_down", self._at, line, ctypes.byref(place), told):
+            reports.append(_report(self._told))
+        return [it for it in reports if it]
+
+    def expire(self, line: int, timer: Timer) -> Report:
+        return self._event("lapd_expire", line, ctypes.byref(_raw_timer(timer)))
+
+    def state(self, line: int, tei: int, service: Service = Service.CALL) -> State:
+        state = ctypes.c_uint8()
+        _call("lapd_state", self._at, line, service, tei, ctypes.byref(state))
+        return State(state.value)
+
+    def links(self, line: int) -> Iterator[Link]:
+        """The links of a line, by TEI, call control before packet."""
+        place, link = ctypes.c_uint8(), _Link()
+        while _unless(Status.NO_MORE_LINKS, "lapd_next_link", self._at, line, ctypes.byref(place), ctypes.byref(link)):
+            yield Link(Service(link.service), link.tei, State(link.state))
+
+    def room(self, line: int, tei: int, service: Service = Service.CALL) -> Room:
+        room = _Room()
+        _call("lapd_room", self._at, line, service, tei, ctypes.byref(room))
+        return Room(room.pool, room.queue, room.va)
+
+    def counters(self, line: int) -> Dict[str, int]:
+        """What was counted of a line, by its name in lapdsim(5)."""
+        counters = _Counters()
+        _call("lapd_counters", self._at, line, ctypes.byref(counters))
+        return {_text(library().lapd_counter_text(place)): value for place, value in enumerate(counters.values)}
+
+    def _number(self, name: str) -> int:
+        number = ctypes.c_uint32()
+        _call(name, self._at, ctypes.byref(number))
+        return number.value
+
+    def stored(self) -> int:
+        return self._number("lapd_stored")
+
+    def limit(self) -> int:
+        return self._number("lapd_limit")
+
+    def lines(self) -> int:
+        return self._number("lapd_lines")
+
+
+class Card(AnyCard):
+    """A card of octets."""
+
+    _start = "lapd_card_start"
+
+    def octet(self, line: int, octet: int) -> Report:
+        return self._event("lapd_octet", line, octet)
+
+    def pull(self, line: int) -> Tuple[int, Report]:
+        """The next octet to send."""
+        octet = ctypes.c_uint8()
+        report = self._event("lapd_pull", line, ctypes.byref(octet))
+        return octet.value, report
+
+    def exchange(self, line: int, taken: bytes, given: bytearray, steps: int = 0) -> Tuple[int, Report]:
+        """Takes and gives octets in turn from a step on, up to the first that has something to tell; the next step."""
+        at = _SIZE(_whole(_SIZE, steps))
+        octets, out = _octets(taken), (ctypes.c_uint8 * len(given)).from_buffer(given) if given else b""
+        report = self._event("lapd_exchange", line, octets, len(octets), out, len(given), ctypes.byref(at))
+        return at.value, report
+
+    def begun(self, line: int) -> Optional[Head]:
+        """Which frame a pull began last; None where none has begun one."""
+        return self._head("lapd_begun", line)
+
+    def heard(self, line: int) -> Optional[Head]:
+        """Which frame was heard last; None where none was. Of one that is too long the length is n201 and five."""
+        return self._head("lapd_heard", line)
+
+    def _head(self, function: str, line: int) -> Optional[Head]:
+        head = _Head()
+        _call(function, self._at, line, ctypes.byref(head))
+        return Head(bytes(head.octets), head.length) if head.length else None
+
+
+class FrameCard(AnyCard):
+    """A card of frames."""
+
+    _start = "lapd_card_start_frames"
+
+    def __init__(self, config: Config) -> None:
+        self._room = (ctypes.c_uint8 * MOST_FRAME)()
+        super().__init__(config)
+
+    def frame(self, line: int, octets: bytes) -> Report:
+        """A frame came: its octets without the check."""
+        octets = _octets(octets)
+        return self._event("lapd_frame", line, octets, len(octets))
+
+    def failed(self, line: int, cause: Cause) -> Report:
+        return self._event("lapd_frame_failed", line, cause)
+
+    def next_frame(self, line: int) -> Optional[Tuple[bytes, Report]]:
+        """The next frame to send, which counts as sent then; None where none waits."""
+        length, told = ctypes.c_size_t(), ctypes.byref(self._told)
+        words = (self._at, line, self._room, MOST_FRAME, ctypes.byref(length), told)
+        is_there = _unless(Status.NO_FRAME, "lapd_next_frame", *words)
+        return (bytes(self._room[: length.value]), _report(self._told)) if is_there else None
+
+    def next_waiting(self, start: int = 0) -> Optional[int]:
+        """The first line on which a frame waits, from one on; None where there is none."""
+        line = ctypes.c_uint32()
+        is_there = _unless(Status.NO_FRAME, "lapd_next_waiting", self._at, start, ctypes.byref(line))
+        return line.value if is_there else None
+
+
+# ---- A clock -------------------------------------------------------------------------------------------------------------
+
+
+class Clock(_Owner):
+    """The timers of all lines of a card; each moment is a number of milliseconds that the caller hands in."""
+
+    _start, _free = "lapd_clock_start", "lapd_clock_free"
+
+    def set_lengths(self, t200: int, t203: int, t201: int) -> None:
+        _call("lapd_clock_set_lengths", self._at, t200, t203, t201)
+
+    def apply(self, line: int, report: Report, now: int) -> None:
+        """Carries out the orders of a report, in order."""
+        told = _Report(order_count=_whole(_U8, len(report.orders)))
+        for place, order in enumerate(report.orders[:MOST_ORDERS]):
+            told.orders[place] = _Order(_whole(_U8, order.kind), _raw_timer(order.timer))
+        _call("lapd_clock_apply_report", self._at, line, ctypes.byref(told), now)
+
+    def due(self, now: int) -> Optional[Due]:
+        """Takes out the timer that falls due first, for `expire`; None where none is due."""
+        due = _Due()
+        is_there = _unless(Status.NO_TIMER, "lapd_clock_due", self._at, now, ctypes.byref(due))
+        return Due(due.line, _timer(due.timer)) if is_there else None
+
+    def next(self) -> Optional[int]:
+        """The moment of the timer that falls due first; None where none runs."""
+        moment = ctypes.c_uint64()
+        is_there = _unless(Status.NO_TIMER, "lapd_clock_next", self._at, ctypes.byref(moment))
+        return moment.value if is_there else None

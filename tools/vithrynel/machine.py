@@ -1,0 +1,92 @@
+"""What wabt's wasm2c makes of a module, as the middle of a file in C99: for the card (portable.py) and for the simulator
+(portable_program.py). A function a step:
+
+    machine     wasm2c's output without its own head: the parts are found by what they say
+    plain       its text for a machine whose memory is c/portable's
+    asked_for   the loads and stores of c/portable/memory.c that it calls
+    comment     what a file begins with: what it was made by
+"""
+import re
+from typing import NamedTuple
+
+from .crates import ROOT, sum_of
+from .static_library import NotBuilt
+from .wasm import run, versions
+
+# A load or a store goes less than so far ahead of the place that is tested, and takes eight octets at most.
+AHEAD, WIDEST = 512, 8
+
+
+def content(path: str) -> str:
+    with open(f"{ROOT}/{path}", encoding="utf-8") as file:
+        return file.read()
+
+
+class Machine(NamedTuple):
+    """Parts of wasm2c's output: the fields of an instance, and all functions with their prototypes and data; where the heap
+    begins, and how many pages of memory there are at first."""
+    fields: str
+    functions: str
+    heap_base: int
+    pages: int
+
+
+def part(text: str, pattern: str, what: str) -> str:
+    found = re.findall(pattern, text, re.M | re.S)
+    if len(found) != 1:
+        raise NotBuilt(f"wasm2c writes another form than that of wabt 1.0.32: {what}")
+    return found[0]
+
+
+def machine(wasm: str, folder: str) -> Machine:
+    run(["wasm2c", "-n", "machine", wasm, "-o", "machine.c"], folder)
+    with open(f"{folder}/machine.h", encoding="ascii") as file:
+        fields = part(file.read(), r"^typedef struct Z_machine_instance_t \{\n(.*?)  wasm_rt_memory_t w2c_memory;\n\}", "an instance")
+    with open(f"{folder}/machine.c", encoding="ascii") as file:
+        text = file.read()
+    body = part(text, r"^  func_types\[\d+\] = [^\n]*\n\}\n\n(static \w+ w2c_.*?)^/\* export: 'memory' \*/$", "functions")
+    base = part(body, r"instance->w2c___heap_base = (\d+)ull;", "where the heap begins")
+    pages = part(body, r"wasm_rt_allocate_memory\(&instance->w2c_memory, (\d+), \d+\);", "pages of memory")
+    body = body.replace(part(body, r"^(static void init_data_instances\([^)]*\) \{\n\}\n)", "data that are put in later"), "")
+    return Machine(plain(fields), plain(body), int(base), int(pages))
+
+
+def plain(body: str) -> str:
+    """wasm2c's text without indentation, for a machine that holds its memory itself. What it asks of its system are functions
+    that begin with host_."""
+    body = re.sub(r"^ +", "", body, flags=re.M)
+    body = re.sub(r"^.*\bZ_env_instance;\n", "", body, flags=re.M)
+    body = re.sub(r"\(\*Z_envZ_(\w+)\)\(instance->Z_env_instance(, )?", r"host_\1(instance\2", body)
+    body = re.sub(r"\bZ_machine_instance_t ?\* ?", "machine *", body)
+    body = body.replace("instance->w2c_memory.pages", "(u32)(instance->octets / 65536)")
+    body = body.replace("&instance->w2c_memory", "instance").replace("instance->w2c_memory", "instance")
+    return re.sub(r"\b(i\d\d_(?:load|store)\w*)\(instance, (\(u64\)\(w2c_i\d+\))(?: \+ (\d+)u?)?", access, body)
+
+
+def access(found: "re.Match[str]") -> str:
+    """The beginning of a load or a store: its place, and how far ahead of it it goes, where that is near enough."""
+    name, at, ahead = found[1], found[2], int(found[3] or 0)
+    return f"{name}(instance, LIMIT, {at}, {ahead}" if ahead < AHEAD else f"{name}(instance, LIMIT, {at} + {ahead}, 0"
+
+
+def asked_for(memory: str, rest: str) -> str:
+    """The loads and stores of c/portable/memory.c that the rest calls: some compilers warn of the others."""
+    return re.sub(r"^DEFINE_(?:LOAD|STORE)\((\w+), .*\n", lambda it: it[0] if f"{it[1]}(" in rest else "", memory, flags=re.M)
+
+
+MADE = """\
+Made by {by}
+through a module with the sum
+{sum}.
+
+The code is proved, each function of it, in Rattle. Proofs end with the code as the kit's compiler has it. From there on nothing
+is proved, and all is tested: that code is compiled for WebAssembly by the kit's clang, its addresses are lowered by wasm-opt,
+and wasm2c writes the module as C."""
+
+
+def comment(text: str, wasm: str) -> str:
+    """A file's first comment: a text, with what the file was made by in it."""
+    kit, *others = versions("wasm-opt", "wasm2c")
+    made = MADE.format(by=f"{kit}, {' and '.join(others)}", sum=sum_of(wasm))
+    rows = text.format(made=made).rstrip("\n").split("\n")
+    return "/*\n" + "".join(f" * {it}".rstrip() + "\n" for it in rows) + " */\n"

@@ -1,5 +1,5 @@
 -- A frame that is heard stands in the octets, with its check, between two flags.
-use Rattle.model_card.proofs.OfPorts.Vocabulary.{◌≡◌, ℕ, ◌-◌, ◌≤◌, Bool, true, false, nat_lt, not, cond, List, [], ◌∷◌, ◌++◌, length, take, drop, reverse, Option, None, Some, option_map, option_and_then, option_to_list, refl, sym, ap, ◌∙◌, subst, arith, append_assoc, length-drop, take-append-drop, ltb-false, All, All-nil, All-cons, All-append, bits, bits-append, flag, stuffed, octets_sent, check, is_good, frame_text, judged, text_event, gap_event, closed_by_flag, ends_flag, given_up, heard_at, heard_in, heard_until, room_for, since_flag, octets_are_those_sent}
+use Rattle.model_card.proofs.OfPorts.Vocabulary.{◌≡◌, ℕ, suc, ◌-◌, ◌≤◌, Bool, true, false, nat_lt, not, cond, List, [], ◌∷◌, ◌++◌, length, take, drop, reverse, Option, None, Some, option_map, option_and_then, option_to_list, refl, sym, ap, ◌∙◌, subst, arith, append_assoc, length-drop, take-append-drop, ltb-false, ltb-true, All, All-nil, All-cons, All-append, bits, bits-append, flag, stuffed, octets_sent, check, is_good, frame_text, judged, text_event, gap_event, closed_by_flag, ends_flag, given_up, heard_at, heard_in, heard_until, room_for, since_flag, octets_are_those_sent}
 use Rattle.std.specs.Prelude.{IsTrue, ◌||◌}
 use Rattle.std.proofs.lemmas.Bool.{or_parts}
 use Rattle.std.proofs.lemmas.List.{reverse-append, reverse-reverse}
@@ -9,14 +9,15 @@ use Rattle.model_bits.proofs.BitLemmas.{length-bits}
 use Rattle.model_bits.proofs.Division.Unique.{only_check_lem}
 use Rattle.model_bits.specs.Stream.{Event, frame, overlong, dropped, has_abort, is_short}
 use Rattle.model_bits.specs.declared.heard.Cause.TheVariants.{Short, Fcs}
-use Rattle.model_card.specs.ports.WholeLaws.{IsThere}
+use Rattle.model_card.specs.ports.WholeLaws.{StandsIn, IsThere}
 
 -- ---- the octets between two flags
 
 -- What a text is heard as: the frame of which a sender makes it.
 abbrev IsText : List Bool → Event → Type 0
 IsText text (frame octets) = text ≡ frame_text octets
-IsText text other = Unit {0}
+IsText text (overlong head) = (octets : List ℕ) × (head ≡ take 4 octets) × (text ≡ frame_text octets)
+IsText text (dropped cause) = Unit {0}
 
 -- octets whose check is good end in it
 checked : (octets : List ℕ) → 2 ≤ length octets → is_good (bits octets) ≡ true → let front = take (length octets - 2) octets in bits octets ≡ bits front ++ check (bits front)
@@ -33,19 +34,35 @@ checked octets few good =
 not_short : (octets : List ℕ) → is_short octets ≡ false → 2 ≤ length octets
 not_short octets h = grind (arith, nat_lt, or_parts, ltb-false)
 
-judged_text : (room : ℕ) (octets : List ℕ) (text : List Bool) → text ≡ stuffed (bits octets) → IsText text (judged room octets)
-judged_text room octets text is = go (is_short octets) (is_good (bits octets)) (nat_lt room (length octets)) refl refl
-  where
-    go : (s g l : Bool) → is_short octets ≡ s → is_good (bits octets) ≡ g
-        → IsText text (cond s (dropped Short) (cond (not g) (dropped Fcs) (cond l (overlong (take 4 octets)) (frame (take (length octets - 2) octets)))))
-    go true g l e f = tt
-    go false false l e f = tt
-    go false true true e f = tt
-    go false true false e f = is ∙ ap stuffed (checked octets (not_short octets e) f)
+-- the first four octets are of the frame, and not of its check
+first_four : (l : List ℕ) (n : ℕ) → take 4 l ≡ take 4 (take (suc (suc (suc (suc n)))) l)
+first_four [] n = refl
+first_four (a ∷ []) n = refl
+first_four (a ∷ b ∷ []) n = refl
+first_four (a ∷ b ∷ c ∷ []) n = refl
+first_four (a ∷ b ∷ c ∷ d ∷ l) n = refl
 
-text_heard : (room : ℕ) (text : List Bool) (o : Option (List ℕ)) → octets_sent text ≡ o → IsText text (text_event room o)
-text_heard room text None e = tt
-text_heard room text (Some octets) e = judged_text room octets text ((octets_are_those_sent text octets).0 e).0
+four_of : (l : List ℕ) (n : ℕ) → 4 ≤ n → take 4 l ≡ take 4 (take n l)
+four_of l (suc (suc (suc (suc n)))) few = first_four l n
+four_of l other few = absurd (omega (arith, few))
+
+four_kept : (room : ℕ) (octets : List ℕ) → 6 ≤ room → nat_lt room (length octets) ≡ true → take 4 octets ≡ take 4 (take (length octets - 2) octets)
+four_kept room octets fits long = four_of octets (length octets - 2) (omega (arith, fits, ltb-true room (length octets) long))
+
+judged_text : (room : ℕ) (octets : List ℕ) (text : List Bool) → 6 ≤ room → text ≡ stuffed (bits octets) → IsText text (judged room octets)
+judged_text room octets text fits is = go (is_short octets) (is_good (bits octets)) (nat_lt room (length octets)) refl refl refl
+  where
+    go : (s g l : Bool) → is_short octets ≡ s → is_good (bits octets) ≡ g → nat_lt room (length octets) ≡ l
+        → IsText text (cond s (dropped Short) (cond (not g) (dropped Fcs) (cond l (overlong (take 4 octets)) (frame (take (length octets - 2) octets)))))
+    go true g l e f long = tt
+    go false false l e f long = tt
+    go false true true e f long =
+        (take (length octets - 2) octets, four_kept room octets fits long, is ∙ ap stuffed (checked octets (not_short octets e) f))
+    go false true false e f long = is ∙ ap stuffed (checked octets (not_short octets e) f)
+
+text_heard : (room : ℕ) (text : List Bool) (o : Option (List ℕ)) → 6 ≤ room → octets_sent text ≡ o → IsText text (text_event room o)
+text_heard room text None fits e = tt
+text_heard room text (Some octets) fits e = judged_text room octets text fits ((octets_are_those_sent text octets).0 e).0
 
 -- ---- the flags around it
 
@@ -90,18 +107,23 @@ in_time t older =
     ∙ append_assoc (reverse older ++ flag) (reverse t) flag
     ∙ append_assoc (reverse older) flag (reverse t ++ flag)
 
-stands : (past : List Bool) (g older : List Bool) (e : Event) → past ≡ flag ++ (drop 7 g ++ (flag ++ older)) → IsText (reverse (drop 7 g)) e → IsThere (reverse past) e
-stands past g older (frame octets) place is = record {
+standing : (past : List Bool) (g older : List Bool) (octets : List ℕ) → past ≡ flag ++ (drop 7 g ++ (flag ++ older)) → reverse (drop 7 g) ≡ frame_text octets
+    → StandsIn (reverse past) octets
+standing past g older octets place is = record {
   before = reverse older;
   after = [];
   is = ap reverse place ∙ in_time (drop 7 g) older ∙ ap (λ t. reverse older ++ (flag ++ (t ++ (flag ++ [])))) is;
 }
-stands past g older other place is = tt
+
+stands : (past : List Bool) (g older : List Bool) (e : Event) → past ≡ flag ++ (drop 7 g ++ (flag ++ older)) → IsText (reverse (drop 7 g)) e → IsThere (reverse past) e
+stands past g older (frame octets) place is = standing past g older octets place is
+stands past g older (overlong head) place is = (is.0, is.1, standing past g older is.0 place is.2)
+stands past g older (dropped cause) place is = tt
 
 -- ---- at each place
 
-more : (text rest : List Bool) (e : Event) → IsThere text e → IsThere (text ++ rest) e
-more text rest (frame octets) h = record {
+longer : (text rest : List Bool) (octets : List ℕ) → StandsIn text octets → StandsIn (text ++ rest) octets
+longer text rest octets h = record {
   before = h.before;
   after = h.after ++ rest;
   is =
@@ -109,11 +131,15 @@ more text rest (frame octets) h = record {
       ∙ append_assoc h.before (flag ++ (frame_text octets ++ (flag ++ h.after))) rest
       ∙ ap (λ t. h.before ++ (flag ++ t)) (append_assoc (frame_text octets) (flag ++ h.after) rest);
 }
-more text rest other h = tt
 
-closed : (room : ℕ) (b : Bool) (past g : List Bool) → ends_flag (b ∷ past) ≡ true → since_flag past ≡ Some g
+more : (text rest : List Bool) (e : Event) → IsThere text e → IsThere (text ++ rest) e
+more text rest (frame octets) h = longer text rest octets h
+more text rest (overlong head) h = (h.0, h.1, longer text rest h.0 h.2)
+more text rest (dropped cause) h = tt
+
+closed : (room : ℕ) (b : Bool) (past g : List Bool) → 6 ≤ room → ends_flag (b ∷ past) ≡ true → since_flag past ≡ Some g
     → All (IsThere (reverse (b ∷ past))) (option_to_list (closed_by_flag room g))
-closed room b past g at since = go (nat_lt (length g) 8 || has_abort g) refl
+closed room b past g fits at since = go (nat_lt (length g) 8 || has_abort g) refl
   where
     go : (none : Bool) → (nat_lt (length g) 8 || has_abort g) ≡ none
         → All (IsThere (reverse (b ∷ past))) (option_to_list (cond none None (Some (gap_event room (reverse (drop 7 g))))))
@@ -122,29 +148,29 @@ closed room b past g at since = go (nat_lt (length g) 8 || has_abort g) refl
         let place = closing b past g at since (ltb-false (length g) 8 (or_parts (nat_lt (length g) 8) (has_abort g) e).0) in
         let text = reverse (drop 7 g) in
         All-cons (IsThere (reverse (b ∷ past))) (gap_event room text) []
-        (stands (b ∷ past) g place.0 (gap_event room text) place.1 (text_heard room text (octets_sent text) refl)) (All-nil (IsThere (reverse (b ∷ past))))
+        (stands (b ∷ past) g place.0 (gap_event room text) place.1 (text_heard room text (octets_sent text) fits refl)) (All-nil (IsThere (reverse (b ∷ past))))
 
 given_there : (text g : List Bool) → All (IsThere text) (option_to_list (given_up g))
 given_there text g = grind (arith, nat_lt, option_to_list)
 
-at_there : (room : ℕ) (b : Bool) (past : List Bool) → All (IsThere (reverse (b ∷ past))) (option_to_list (heard_at room (b ∷ past)))
-at_there room b past = go (ends_flag (b ∷ past)) (since_flag past) refl refl
+at_there : (room : ℕ) (b : Bool) (past : List Bool) → 6 ≤ room → All (IsThere (reverse (b ∷ past))) (option_to_list (heard_at room (b ∷ past)))
+at_there room b past fits = go (ends_flag (b ∷ past)) (since_flag past) refl refl
   where
     go : (ends : Bool) (o : Option (List Bool)) → ends_flag (b ∷ past) ≡ ends → since_flag past ≡ o
         → All (IsThere (reverse (b ∷ past))) (option_to_list (cond ends (option_and_then (closed_by_flag room) o) (option_and_then (λ g. given_up (b ∷ g)) o)))
     go true None at so = All-nil (IsThere (reverse (b ∷ past)))
-    go true (Some g) at so = closed room b past g at so
+    go true (Some g) at so = closed room b past g fits at so
     go false None at so = All-nil (IsThere (reverse (b ∷ past)))
     go false (Some g) at so = given_there (reverse (b ∷ past)) (b ∷ g)
 
-until_there : (room : ℕ) (past : List Bool) → All (IsThere (reverse past)) (heard_until room past)
-until_there room [] = All-nil (IsThere [])
-until_there room (b ∷ past) =
+until_there : (room : ℕ) (past : List Bool) → 6 ≤ room → All (IsThere (reverse past)) (heard_until room past)
+until_there room [] fits = All-nil (IsThere [])
+until_there room (b ∷ past) fits =
     All-append (IsThere (reverse (b ∷ past))) (heard_until room past) (option_to_list (heard_at room (b ∷ past)))
     (subst (λ t. All (IsThere t) (heard_until room past)) (sym (reverse-append (b ∷ []) past))
-    (All-weaker (IsThere (reverse past)) (IsThere (reverse past ++ b ∷ [])) (more (reverse past) (b ∷ [])) (heard_until room past) (until_there room past)))
-    (at_there room b past)
+    (All-weaker (IsThere (reverse past)) (IsThere (reverse past ++ b ∷ [])) (more (reverse past) (b ∷ [])) (heard_until room past) (until_there room past fits)))
+    (at_there room b past fits)
 
 pub frames_there : (n201 : ℕ) (octets : List ℕ) → All (IsThere (bits octets)) (heard_in n201 octets)
 frames_there n201 octets =
-    subst (λ t. All (IsThere t) (heard_in n201 octets)) (reverse-reverse (bits octets)) (until_there (room_for n201) (reverse (bits octets)))
+    subst (λ t. All (IsThere t) (heard_in n201 octets)) (reverse-reverse (bits octets)) (until_there (room_for n201) (reverse (bits octets)) (omega arith))

@@ -1,10 +1,10 @@
 -- What a card of octets hears is what stands in the octets that come; and what stands in those of whole frames and of faults is
 -- what `Came` of `model_line` says of them.
-use Rattle.std.specs.Prelude.{◌≡◌, ℕ, ◌<◌, Bool, List, [], ◌∷◌, ◌++◌, All}
+use Rattle.std.specs.Prelude.{◌≡◌, ℕ, ◌<◌, Bool, List, [], ◌∷◌, ◌++◌, take, All}
 use Rattle.model_bits.specs.Bits.{bits, flag}
 use Rattle.model_bits.specs.Sent.{frame_text}
 use Rattle.model_bits.specs.StuffingLaws.{AreOctets}
-use Rattle.model_bits.specs.Stream.{Event, frame, dropped, heard_in}
+use Rattle.model_bits.specs.Stream.{Event, frame, overlong, dropped, heard_in}
 use Rattle.model_line.specs.Came.{came, cause_of}
 use Rattle.model_line.specs.declared.config.Config.{Config}
 use Rattle.model_line.specs.declared.faults.Fault.{Fault}
@@ -25,9 +25,11 @@ pub record StandsIn (text : List Bool) (octets : List ℕ) : Type 0 where
   pub after : List Bool
   pub is : text ≡ before ++ (flag ++ (frame_text octets ++ (flag ++ after)))
 
+-- So does one that is heard as too long, of which the first four octets are told.
 abbrev pub IsThere : List Bool → Event → Type 0
 IsThere text (frame octets) = StandsIn text octets
-IsThere text other = Unit {0}
+IsThere text (overlong head) = (octets : List ℕ) × (head ≡ take 4 octets) × StandsIn text octets
+IsThere text (dropped cause) = Unit {0}
 
 -- An event is one of those that are heard in octets.
 pub record IsHeardIn (n201 : ℕ) (octets : List ℕ) (event : Event) : Type 0 where

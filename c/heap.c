@@ -19,6 +19,8 @@
 #endif
 
 enum { UNITS = (LAPD_HEAP_OCTETS) / UNIT };
+/* A block has a header and a unit. */
+typedef char the_region_has_room_for_a_block[UNITS >= 2 ? 1 : -1];
 
 /* One unit more than the region has, so that it can begin at a multiple of 16. */
 static unit room[UNITS + 1];

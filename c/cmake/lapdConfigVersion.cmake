@@ -10,7 +10,9 @@ endif()
 if(PACKAGE_FIND_VERSION VERSION_EQUAL PACKAGE_VERSION)
   set(PACKAGE_VERSION_EXACT TRUE)
 endif()
-# The library is for processors with addresses of 64 bits.
+# The library is for one kind of processor, with addresses of 64 bits. CMake has these names for it, by systems.
 if(CMAKE_SIZEOF_VOID_P AND NOT CMAKE_SIZEOF_VOID_P EQUAL 8)
+  set(PACKAGE_VERSION_UNSUITABLE TRUE)
+elseif(CMAKE_SYSTEM_PROCESSOR AND NOT CMAKE_SYSTEM_PROCESSOR MATCHES "^(@PROCESSORS@)$")
   set(PACKAGE_VERSION_UNSUITABLE TRUE)
 endif()

@@ -262,6 +262,9 @@ def cmake(dist):
     check("CMake alone", said.returncode == 0, (said.stdout + said.stderr).decode()[-600:])
     ran = run([f"{dist.folder}/alone/lapdsim", "--version"]) if said.returncode == 0 else said
     check("the simulator of CMake", ran.stdout.startswith(b"lapdsim "), ran.stderr.decode()[-300:])
+    said = run(["cmake", "--install", f"{dist.folder}/alone", "--prefix", f"{dist.folder}/there"])
+    check("CMake installs", said.returncode == 0, (said.stdout + said.stderr).decode()[-600:])
+    cmake_by(dist, "the installed package", "find_package(lapd CONFIG REQUIRED)", "C", (f"-DCMAKE_PREFIX_PATH={dist.folder}/there",))
 
 
 def cmake_by(dist, name, found, language, flags):

@@ -158,6 +158,9 @@ def one_file(portable, folder):
         check(f"first.c with lapd.c {flag}", said == ways[flag], f"{compiled} {said}")
     two = run(["cc", "-fsyntax-only", "-DLAPD_HEAP_OCTETS=120000", "-DLAPD_OWN_MEMORY", f"{portable.folder}/lapd.c"], timeout=LONG)
     check("two choices of memory are refused", two.returncode != 0 and b"Choose one" in two.stderr, two.stderr.decode()[:600])
+    for octets, is_taken in (("31", False), ("32", True), ("(2 * 16)", True)):
+        said = run(["cc", "-fsyntax-only", f"-DLAPD_HEAP_OCTETS={octets}", f"{portable.folder}/lapd.c"], timeout=LONG)
+        check(f"a region of {octets} octets", (said.returncode == 0) == is_taken, said.stderr.decode()[:600])
 
 
 def first_with(portable, flag, folder):

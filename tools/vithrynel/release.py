@@ -74,13 +74,14 @@ def made_by() -> str:
     return "\n".join(f"    {it}" for it in versions("wasm-opt", "wasm2c"))
 
 
-def readme(memory: str) -> str:
-    return content("c/dist/README").format(version=number(), memory=memory, tools=made_by(), trees=in_columns(trees()))
+def readme(memory: str, ids: Dict[str, str]) -> str:
+    return content("c/dist/README").format(version=number(), memory=memory, tools=made_by(), trees=in_columns(ids))
 
 
 def release(over_gate: bool) -> Dict[str, bytes]:
-    """Each file, SHA256SUMS last."""
+    """Each file, SHA256SUMS last. Git is asked first: without it nothing is built in vain."""
     made: Dict[str, bytes] = {}
+    ids = trees()
     with tempfile.TemporaryDirectory(prefix="release-") as folder:
         for name in ("card", "program"):
             os.makedirs(f"{folder}/{name}")
@@ -92,7 +93,7 @@ def release(over_gate: bool) -> Dict[str, bytes]:
         with open(f"{ROOT}/{path}", "rb") as file:
             made[name] = file.read()
     made["CMakeLists.txt"] = content("c/dist/CMakeLists.txt").replace("@VERSION@", version()).encode("ascii")
-    made["README"] = readme(memory).encode()
+    made["README"] = readme(memory, ids).encode()
     made[SUMS] = "".join(f"{hashlib.sha256(made[it]).hexdigest()}  {it}\n" for it in sorted(made)).encode("ascii")
     return made
 

@@ -3,4 +3,5 @@
  * that read no header of C. tools/install adds it to liblapd.a and liblapd.so.1.
  */
 #define LAPD_INLINE
+#undef LAPD_CHECKED
 #include "lapd.h"

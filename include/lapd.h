@@ -19,9 +19,14 @@
  *
  * lapd_memory.h declares the functions of memory.
  *
+ * A null pointer is answered by LAPD_WRONG_POINTER: by lapd.c always, and with a library of the toolchain's where the program
+ * is compiled with -DLAPD_CHECKED, by lapd_checked.h. So compile a program that is not finished yet. A pointer to octets may
+ * be null there if the length behind it is 0.
+ *
  * What the caller promises, and no call can test:
  *
- *  - Each pointer is valid for what it points to, and none is null, also where a length is 0.
+ *  - Each pointer is valid for what it points to. Where null pointers are not answered, as above, none is null, also where a
+ *    length is 0.
  *  - A length is the true number of octets behind its pointer.
  *  - What two arguments of a call point to does not overlap, and neither overlaps what a card or a clock holds: the
  *    proofs take each as a place of its own. Where it could happen by mistake, the call says what to do.
@@ -36,8 +41,8 @@
  * Everything else is tested: each function says by its status what was wrong, and then nothing has changed, neither
  * the card or clock nor what is behind the other pointers (except LAPD_NO_PLACE of lapd_clock_apply_report, and that a
  * link waits for room after LAPD_REFUSED_QUEUE_FULL of lapd_data). Where several things are wrong, the first is told:
- * that there is no card or clock, that the card is of the other kind, the line, the other arguments in their order; a
- * refusal of a request is told last.
+ * that a pointer is null, that there is no card or clock, that the card is of the other kind, the line, the other
+ * arguments in their order; a refusal of a request is told last.
  */
 #ifndef LAPD_H
 #define LAPD_H
@@ -137,6 +142,7 @@ enum {
                                 little room for a frame */
     LAPD_WRONG_ORDER = 20,   /* an order is none, or a report's number of orders is over 4 */
     LAPD_WRONG_TIME = 21,    /* a moment after LAPD_LATEST, or a timer's length out of range */
+    LAPD_WRONG_POINTER = 30, /* a pointer is null: of lapd.c, and where LAPD_CHECKED is defined */
 
     /* What else can be. */
     LAPD_NO_MEMORY = 22, /* a start was refused memory; what it had taken is given back */
@@ -271,6 +277,22 @@ enum {
  * contents were acknowledged, or given up as the link was released, established anew or taken down. Where more than
  * one that waits has room, a report tells one, the lowest TEI first, and call control before packet; the next reports of
  * the line tell the others, if they still have. A link whose TEI leaves the line waits no longer, and is not told.
+ *
+ * A report is written by the calls that it is handed to, and by these alone: no card keeps its address. It has no pointers, so
+ * a copy tells the same, and stays as it is. While layer 3 reads a report and asks for something meanwhile, its requests take
+ * another one. So nothing is copied:
+ *
+ *     lapd_report came, asked;
+ *     if (lapd_frame(&card, line, frame, length, &came) == LAPD_OK) {
+ *         ... the orders of `came`
+ *         for (const lapd_note *note = came.notes; note < came.notes + came.note_count; note++)
+ *             if (note->note == LAPD_DATA_INDICATION
+ *                 && lapd_data(&card, line, note->service, note->tei, came.contents, came.length, &asked) == LAPD_OK)
+ *                 ... the orders of `asked`, and its notes, which are of the request
+ *     }
+ *
+ * With the same report for both, what was told is gone after the first request: read all of it before, or only answer with
+ * its contents, which lapd_data and lapd_unit copy first.
  */
 typedef struct lapd_report {
     uint8_t note_count;  /* 0 to 4 */
@@ -580,6 +602,10 @@ LAPD_STATUS lapd_clock_next(lapd_clock *clock, uint64_t *moment);
 #endif
 #endif
 
+#ifdef LAPD_CHECKED
+#include "lapd_checked.h"
+#endif
+
 /* ---- In words and by name: defined here ------------------------------------------------------------------------- */
 
 /* Whether a report has anything to tell. */
@@ -636,7 +662,7 @@ LAPD_INLINE_STATUS lapd_request_with(lapd_card *card, uint32_t line, uint8_t req
     uintptr_t at = LAPD_ADDRESS(contents), from = LAPD_ADDRESS(report);
     if (length == 0)
         return lapd_request(card, line, request, service, tei, &nothing, 0, report);
-    if (at < from || at >= from + sizeof *report || length > from + sizeof *report - at)
+    if (contents == LAPD_NULL || at < from || at >= from + sizeof *report || length > from + sizeof *report - at)
         return lapd_request(card, line, request, service, tei, contents, length, report);
     for (size_t i = 0; i < length; i++)
         copy[i] = contents[i];
@@ -713,6 +739,8 @@ LAPD_INLINE_STATUS lapd_deactivate(lapd_card *card, uint32_t line, uint8_t servi
  */
 LAPD_INLINE_STATUS lapd_line_down(lapd_card *card, uint32_t line, uint8_t *place, lapd_report *report) {
     lapd_link link;
+    if (place == LAPD_NULL || report == LAPD_NULL)
+        return LAPD_WRONG_POINTER;
     uint32_t status = lapd_next_link(card, line, place, &link);
     if (status == LAPD_OK)
         return lapd_deactivate(card, line, link.service, link.tei, report);
@@ -748,6 +776,7 @@ LAPD_INLINE const char *lapd_status_text(uint32_t status) {
     case LAPD_WRONG_LENGTH: return "wrong length";
     case LAPD_WRONG_ORDER: return "wrong order";
     case LAPD_WRONG_TIME: return "wrong time";
+    case LAPD_WRONG_POINTER: return "wrong pointer";
     case LAPD_NO_MEMORY: return "out of memory";
     case LAPD_NO_TIMER: return "no timer";
     case LAPD_NO_PLACE: return "no place";

@@ -105,6 +105,7 @@ enum class [[nodiscard]] status : uint32_t {
     wrong_length = LAPD_WRONG_LENGTH,
     wrong_order = LAPD_WRONG_ORDER,
     wrong_time = LAPD_WRONG_TIME,
+    wrong_pointer = LAPD_WRONG_POINTER,
     no_memory = LAPD_NO_MEMORY,
     no_timer = LAPD_NO_TIMER,
     no_place = LAPD_NO_PLACE,

@@ -66,6 +66,7 @@ class Status(enum.IntEnum):
     WRONG_CAUSE = 27
     NO_FRAME = 28
     REFUSED_WRONG_SIDE = 29
+    WRONG_POINTER = 30
     BAD_LINES = 33
     BAD_TERMINALS = 34
     BAD_K = 35

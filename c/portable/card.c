@@ -39,6 +39,9 @@ static u32 fault_of(const lapd_config *config) {
     return LAPD_OK;
 }
 
+/* What a null pointer to no octets is taken for. */
+static const uint8_t no_octet = 0;
+
 typedef u32 starts(machine *instance, u64 handle, u64 config);
 
 /* Starts a card or a clock in a machine of its own. */
@@ -65,14 +68,20 @@ uint32_t lapd_version(void) {
 }
 
 uint32_t lapd_card_start(lapd_card *card, const lapd_config *config) {
+    if (card == NULL || config == NULL)
+        return LAPD_WRONG_POINTER;
     return start(&card->started, &card->at, config, lapd_card_octets(config), w2c_lapd_card_start);
 }
 
 uint32_t lapd_card_start_frames(lapd_card *card, const lapd_config *config) {
+    if (card == NULL || config == NULL)
+        return LAPD_WRONG_POINTER;
     return start(&card->started, &card->at, config, lapd_card_octets_frames(config), w2c_lapd_card_start_frames);
 }
 
 uint32_t lapd_clock_start(lapd_clock *clock, const lapd_config *config) {
+    if (clock == NULL || config == NULL)
+        return LAPD_WRONG_POINTER;
     return start(&clock->started, &clock->at, config, lapd_clock_octets(config), w2c_lapd_clock_start);
 }
 
@@ -90,10 +99,14 @@ static uint32_t finish(bool *started, void **at, uint32_t none, ends *call) {
 }
 
 uint32_t lapd_card_free(lapd_card *card) {
+    if (card == NULL)
+        return LAPD_WRONG_POINTER;
     return finish(&card->started, &card->at, LAPD_NO_CARD, w2c_lapd_card_free);
 }
 
 uint32_t lapd_clock_free(lapd_clock *clock) {
+    if (clock == NULL)
+        return LAPD_WRONG_POINTER;
     return finish(&clock->started, &clock->at, LAPD_NO_CLOCK, w2c_lapd_clock_free);
 }
 
@@ -107,6 +120,8 @@ static bool is_exchange(size_t taken, size_t given, size_t steps) {
 uint32_t lapd_exchange(lapd_card *card, uint32_t line, const uint8_t *in, size_t in_length, uint8_t *out, size_t out_length,
                        size_t *steps, lapd_report *report) {
     enum { STEPS = OTHER, IN = OTHER + 16, OUT = IN + RUN };
+    if (card == NULL || (in == NULL && in_length != 0) || (out == NULL && out_length != 0) || steps == NULL || report == NULL)
+        return LAPD_WRONG_POINTER;
     if (!card->started)
         return LAPD_NO_CARD;
     machine *instance = card->at;
@@ -114,13 +129,15 @@ uint32_t lapd_exchange(lapd_card *card, uint32_t line, const uint8_t *in, size_t
         return w2c_lapd_exchange(instance, HANDLE, line, IN, 0, OUT, 1, STEPS, REPORT);
     for (;;) {
         size_t from = *steps / 2, run = at_most(in_length - from, RUN), first = *steps % 2, last = first;
-        memcpy(instance->data + IN, in + from, run);
+        if (run != 0)
+            memcpy(instance->data + IN, in + from, run);
         put_size_t(instance, STEPS, &last);
         u32 status = w2c_lapd_exchange(instance, HANDLE, line, IN, run, OUT, run, STEPS, REPORT);
         if (status != LAPD_OK)
             return status;
         get_size_t(instance, STEPS, &last);
-        memcpy(out + from, instance->data + OUT, at_most(last / 2, run));
+        if (run != 0)
+            memcpy(out + from, instance->data + OUT, at_most(last / 2, run));
         *steps = 2 * from + last;
         get_lapd_report(instance, REPORT, report);
         if (lapd_tells(report) || *steps == 2 * in_length)

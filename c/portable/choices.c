@@ -24,4 +24,5 @@
 #ifdef LAPD_SYMBOLS
 #define LAPD_INLINE
 #endif
+#undef LAPD_CHECKED /* each call looks at its pointers by itself */
 #include "lapd.h"

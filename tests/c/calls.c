@@ -1,7 +1,7 @@
 /*
  * calls.c: calls that no script makes. The links of a line, as lapd_next_link tells them, are those that lapd_state has
- * a state of, in order, from each place on; contents of a report go back with the same report; the room of a link is
- * what it refuses contents by; the frame begun last is the one that goes; what is counted is what
+ * a state of, in order, from each place on; contents of a report go back with the same report, and with another one while the
+ * first stays as it is; the room of a link is what it refuses contents by; the frame begun last is the one that goes; what is counted is what
  * came, went and was told; a line goes down as docs/EMBEDDING.md has it; lengths of timers that are out of range change
  * nothing; and the version is the header's. For tests alone.
  */
@@ -138,6 +138,27 @@ static void echo(void) {
     size_t last = sizeof told.contents - 1;
     wants(lapd_data(&card, 0, LAPD_CALL, 64, told.contents + last, 1, &told) == LAPD_OK, "the last octet of a report");
     wants(lapd_data(&card, 0, LAPD_CALL, 64, NULL, 0, &told) == LAPD_OK, "no contents");
+}
+
+/* While one report is read, a request writes to another: the first stays, and what it has goes back without a copy. */
+static void two_reports(void) {
+    static const uint8_t sabme[] = {0x00, 0x81, 0x7F}, data[] = {0x00, 0x81, 0x00, 0x00, 0x11, 0x22, 0x33, 0x44};
+    static const uint8_t wanted[] = {0x02, 0x81, 0x00, 0x02, 0x11, 0x22, 0x33, 0x44};
+    lapd_card own = LAPD_CARD_NONE;
+    lapd_report came, asked, copy;
+    uint8_t out[LAPD_MOST_FRAME];
+    size_t length = 0;
+    wants(lapd_card_start_frames(&own, &config) == LAPD_OK && lapd_assign(&own, 0, 64, &asked) == LAPD_OK, "no card of frames");
+    wants(lapd_frame(&own, 0, sabme, sizeof sabme, &came) == LAPD_OK && came.note_count == 1, "no link");
+    wants(lapd_next_frame(&own, 0, out, sizeof out, &length, &asked) == LAPD_OK && length == 3, "no UA");
+    memset(&came, 0, sizeof came);
+    wants(lapd_frame(&own, 0, data, sizeof data, &came) == LAPD_OK && came.delivered, "nothing came");
+    memcpy(&copy, &came, sizeof copy);
+    wants(lapd_data(&own, 0, came.notes[0].service, came.notes[0].tei, came.contents, came.length, &asked) == LAPD_OK, "no answer");
+    wants(asked.note_count == 0 && !asked.delivered && memcmp(&copy, &came, sizeof copy) == 0, "a request writes to two reports");
+    wants(lapd_next_frame(&own, 0, out, sizeof out, &length, &asked) == LAPD_OK && length == sizeof wanted
+              && memcmp(out, wanted, sizeof wanted) == 0, "other contents are sent");
+    wants(memcmp(&copy, &came, sizeof copy) == 0 && lapd_card_free(&own) == LAPD_OK, "a frame that goes writes to another report");
 }
 
 /* The room of TEI 64 on line 0 is this. */
@@ -328,6 +349,7 @@ int main(void) {
         look_at(0, 2 * (i + 1));
     }
     look_at(1, 0);
+    two_reports();
     echo();
     rooms();
     counts();

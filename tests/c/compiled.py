@@ -69,12 +69,13 @@ def sanitized(words, folder):
 class Build:
     """The programs of one compiler, in a folder of its own. Where a runner is named, as an emulator, a program is a script that
     has it run. `each` is what a card takes of a heap besides lapd_card_octets, and `blocks` how many blocks a conversation
-    takes at least."""
+    takes at least. `is_one_file` says whether the library is lapd.c."""
 
     def __init__(self, name, compiler, words, library, folder, runner=(), each=0, blocks=10, stack=()):
         self.name, self.compiler, self.words, self.library = name, compiler, words, library
         self.folder, self.runner = f"{folder}/{name}", runner
         self.each, self.blocks, self.stack, self.is_brief = each, blocks, stack, False
+        self.is_one_file = each != 0
         os.makedirs(self.folder)
 
     def program(self, name, sources, *flags, words=None):

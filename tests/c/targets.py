@@ -139,7 +139,7 @@ def one_file(portable, folder):
     with first.c alone it is a program that says the same, in each way to take memory."""
     again = f"{folder}/again"
     if tool("portable", again):
-        for name in ("lapd.c", "lapd.h", "lapd_memory.h", "README"):
+        for name in ("lapd.c", "lapd.h", "lapd_checked.h", "lapd_memory.h", "README"):
             check(f"{name} is the same when made again", read(f"{again}/{name}") == read(f"{portable.folder}/{name}"), "another file")
     check("the size of lapd.c", os.path.getsize(f"{portable.folder}/lapd.c") <= 1500000, os.path.getsize(f"{portable.folder}/lapd.c"))
     rows = [it.split() for it in run(["nm", f"{folder}/portable.o"]).stdout.decode().splitlines()]

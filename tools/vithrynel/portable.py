@@ -9,6 +9,7 @@ import re
 import tempfile
 from typing import Dict, List, Tuple
 
+from .checked import buffers, length_of, tag, tests, wrapped
 from .header import Field, Function, Parameter, Struct, functions, numbers, structs
 from .machine import AHEAD, WIDEST, Machine, asked_for, comment, content, machine
 from .static_library import built, module
@@ -83,11 +84,6 @@ def plain_mover(kind: str, is_put: bool) -> str:
     return f"static inline {what} {kind} *it) {{\n    FUNC_PROLOGUE;\n    {moved(kind, 'at', 0, '*it', is_put)}\n}}\n"
 
 
-def tag(name: str) -> str:
-    """A struct's name in C: those that are called like a function have no other."""
-    return f"struct {name}" if name in {it.name for it in functions()} else name
-
-
 def below(name: str) -> List[str]:
     """A struct and those that it has, these first."""
     return [one for field in structs()[name].fields if field.kind in structs() for one in below(field.kind)] + [name]
@@ -156,12 +152,18 @@ class Call:
         else:
             self.last.append(f"memcpy({it.name}, instance->data + {at}, at_most(*{rest[0].name}, at_most({length}, {most})));")
 
+    def look(self) -> List[str]:
+        """Whether a pointer is null; that of no octets is taken for one to none."""
+        none = [row for it in buffers(self.of) if it.is_const
+                for row in (f"if ({it.name} == NULL && {length_of(self.of, it).name} == 0)", f"    {it.name} = &no_octet;")]
+        return [*none, *wrapped("if (", tests(self.of, "NULL"), ")", " || ", 116).split("\n"), "    return LAPD_WRONG_POINTER;"]
+
     def text(self) -> str:
         words = ", ".join(f"{'const ' * one.is_const}{tag(one.kind) if one.kind in structs() else one.kind} "
                           f"{'*' * one.is_pointer}{one.name}" for one in self.of.parameters)
         handle = self.of.parameters[0]
         none = "LAPD_NO_CARD" if handle.kind == "lapd_card" else "LAPD_NO_CLOCK"
-        rows = [f"if (!{handle.name}->started)", f"    return {none};", f"machine *instance = {handle.name}->at;", *self.before,
+        rows = [*self.look(), f"if (!{handle.name}->started)", f"    return {none};", f"machine *instance = {handle.name}->at;", *self.before,
                 f"u32 status = w2c_{self.of.name}(instance, {', '.join(['HANDLE', *self.words])});"]
         after = self.after + self.last
         if after:
@@ -225,7 +227,7 @@ def portable(made: Machine, head: str) -> str:
 
 
 NAME = "lapd_c"
-WRITTEN = ("lapd.c", "lapd.h", "lapd_memory.h", "README")
+WRITTEN = ("lapd.c", "lapd.h", "lapd_checked.h", "lapd_memory.h", "README")
 COMMENT = """\
 lapd.c: the whole of lapd.h in one file, for each processor. Written by tools/portable of Vithrynel; not to be edited.
 
@@ -267,7 +269,7 @@ def written(to: str, over_gate: bool = False) -> None:
     """lapd.c, its headers and a page, in a folder."""
     with tempfile.TemporaryDirectory(prefix="portable-") as folder:
         card, memory_of = card_of(over_gate, folder)
-        for name, text in zip(WRITTEN, (card, content("include/lapd.h"), content("include/lapd_memory.h"), README.format(memory=memory_of))):
+        for name, text in zip(WRITTEN, (card, *(content(f"include/{it}") for it in WRITTEN[1:-1]), README.format(memory=memory_of))):
             with open(f"{folder}/{name}", "w", encoding="utf-8") as file:
                 file.write(text)
         put(folder, list(WRITTEN), to)

@@ -1,0 +1,493 @@
+-- A dead line is told.
+use Rattle.std.proofs.Common.{arith, ◌≡◌, ℕ, ◌+◌, ◌-◌, ◌*◌, ◌<◌, ◌≤◌, ◌==◌, ◌&&◌, Bool, true, false, cond, List, [], ◌∷◌, ◌++◌, Option, Some, None, refl, sym, ap, ◌∙◌, subst, eqb-true, is_some, ◌⊎◌, inl, inr, ⊎_elim, filter, nat_le, append-nil, append_assoc, length, length-append}
+use Rattle.std.specs.Option.{option_map_or}
+use Rattle.std.specs.Prelude.{option_to_list}
+use Rattle.std.proofs.lemmas.Bool.{true≢false}
+use Rattle.lapd_clock.specs.Timer.{Lengths, is_same}
+use Rattle.lapd_clock.specs.Timers.{Expiry, is_of}
+use Rattle.lapd_frame.specs.declared.notes.Note.{Note}
+use Rattle.lapd_frame.specs.declared.services.Service.{Service}
+use Rattle.lapd_frame.specs.declared.timers.Timer.{Timer}
+use Rattle.lapd_frame.specs.declared.timers.Timer.TheVariants as timers
+use Rattle.model_line.specs.Event as line_event
+use Rattle.model_line.specs.Event.{expiry, hears, request, next}
+use Rattle.model_line.specs.Sound.{IsInRange}
+use Rattle.model_line.specs.declared.config.Config.{Config}
+use Rattle.model_link.specs.declared.timers.LinkTimer.{LinkTimer}
+use Rattle.model_link.specs.declared.timers.LinkTimer.TheVariants.{T200, T203}
+use Rattle.model_card.specs.Card as cards
+use Rattle.model_card.specs.Card.{state}
+use Rattle.model_card.specs.Event.{Event, at}
+use Rattle.model_card.specs.Machine.{answer}
+use Rattle.model_card.specs.Run as runs_of
+use Rattle.model_card.specs.Run.{Moment}
+use Rattle.laws_line.proofs.Obeyed.{both-true, services-equal}
+use Rattle.laws_trace.specs.Managing.{is_on}
+use Rattle.laws_trace.specs.Observer.{Observed, View, view_of, view_behind, awaits}
+use Rattle.laws_trace.specs.TimersAreTimely.{runs, is_timer_of}
+use Rattle.laws_trace.specs.Trace.{is_own, IsFront}
+use Rattle.laws_line.specs.Heard.{notes_of}
+use Rattle.laws_trace.specs.News.{is_news}
+use Rattle.lapd_frame.specs.Services.{same_service}
+use Rattle.model_timed.specs.Clock.{Clock, due, without_first, at_moment}
+use Rattle.model_timed.specs.Frames.{TimedCard, fresh, after, event_of, IsNoExpiry}
+use Rattle.model_timed.specs.Timed.{Step, happens, time, falls_due}
+use Rattle.laws_time.proofs.TimedFrames.{with_event, expiry_of, with_expiry as timed_expiry, IsPrompt}
+use Rattle.model_timed.specs.Frames.{after_all, events_of, ArePrompt}
+unfoldable use Rattle.model_timed.specs.Timed.{after_all as timed_after_all, events_of as timed_events_of, ArePrompt as TimedArePrompt}
+use Rattle.laws_time.specs.Watched.{of_frames}
+use Rattle.laws_time.specs.Silence.{IsStillAt, news_in, told_in, first_in, all_in, IsToldInTime, ADeadLineIsTold}
+unfoldable use Rattle.laws_time.specs.Silence.{AreStill, news}
+use Rattle.laws_time.proofs.Links.{view-then, on-where, state-is, elsewhere}
+use Rattle.laws_time.proofs.Moments.{own, IsOf}
+use Rattle.laws_time.proofs.Effects.{is_its_expiry}
+use Rattle.laws_time.proofs.Walk.{Stands, Holds, seen}
+use Rattle.laws_time.proofs.Falls.{in-time}
+use Rattle.laws_time.proofs.Before.{Goes, other-line, step-goes, dropped-holds, before-goes, begins}
+use Rattle.laws_time.proofs.Silent.{Waits, waits-still, waits-200, waits-203, idle, idle-200-is, idle-203-is}
+use Rattle.laws_time.proofs.Phases.{Due200, Due203, owed, limit, whole, one-more, IsPhase}
+use Rattle.model_link.specs.declared.states.State.{State}
+use Rattle.model_link.specs.declared.states.State.TheVariants.{TeiAssigned, AwaitingEstablishment, AwaitingRelease, Established, TimerRecovery}
+use Rattle.model_link.specs.Link.{state_number}
+use Rattle.model_line.specs.Line.{place_in, link_in}
+use Rattle.model_card.specs.Card.{line_at}
+use Rattle.std.proofs.Common.{option_map}
+use Rattle.std.specs.Prelude.{nat_lt}
+use Rattle.laws_time.proofs.Silent.{idle-7, never-both}
+use Rattle.std.proofs.lemmas.Nat.{mul-le}
+
+no-expiry : (service : Service) (tei : ℕ) (what : line_event.Event) → IsNoExpiry what → is_its_expiry service tei what ≡ false
+no-expiry service tei what none = grind arith
+
+differs : (service : Service) (tei : ℕ) (timer its : Timer) → IsOf service tei its → is_timer_of service tei timer ≡ false → is_same timer its ≡ false
+differs service tei timer its of none = go (is_same timer its) refl
+  where
+    go : (b : Bool) → is_same timer its ≡ b → b ≡ false
+    go true e = absurd (true≢false (sym (own service tei its timer of e) ∙ none))
+    go false e = refl
+
+and-false : (b : Bool) → (b && false) ≡ false
+and-false true = refl
+and-false false = refl
+
+module _ (c : Config) (lengths : Lengths) (late number : ℕ) (ranged : IsInRange c) (within : number < c.lines) (service : Service) (tei first all : ℕ) (whole_told : List Note) where
+  abbrev W : List Event → TimedCard → List Note → Type 0
+  W events t told = Waits c lengths late number ranged within service tei first all whole_told events t told
+
+  abbrev G : List Event → TimedCard → Type 0
+  G events t = Goes c lengths late number ranged within service tei events t
+
+  abbrev S : List Event → TimedCard → Type 0
+  S events t = Stands c lengths late number ranged within service tei events t
+
+  abbrev o_at : List Event → Observed
+  o_at events = seen c lengths late number ranged within service tei events
+
+  abbrev H : LinkTimer → List Event → Clock → (ℕ → Type 0) → Type 0
+  H timer events clock P = Holds c lengths late number ranged within service tei timer events clock P
+
+  abbrev D2 : List Event → ℕ → Type 0
+  D2 events m = Due200 c.n200 lengths.t200 late first all (o_at events).state (o_at events).expiries m
+
+  abbrev D3 : ℕ → Type 0
+  D3 m = Due203 c.n200 lengths.t200 late first all m
+
+  -- Its TEI stays on the line.
+  on-now : (events : List Event) (t : TimedCard) → G events t → is_some (state number service tei t.card) ≡ true → is_on tei (view_of c service tei number events).teis ≡ true
+  on-now events t g some = on-where c events number ranged g.stands.all within service tei (ap (λ card. is_some (state number service tei card)) (sym g.stands.card) ∙ some)
+
+  abbrev OnAfter : List Event → Event → Type 0
+  OnAfter events e = is_on tei (view_of c service tei number (events ++ e ∷ [])).teis ≡ true
+
+  behind-on : (events : List Event) (what : line_event.Event) → OnAfter events (at number what) → is_on tei (view_behind c service tei number events what).teis ≡ true
+  behind-on events what on = ap (λ (v : View). is_on tei v.teis) (sym (view-then c service tei number events (at number what))) ∙ on
+
+  -- An event at another line.
+  other-waits : (events : List Event) (t u : TimedCard) (told : List Note) → W events t told → S events u → (e : Event) → (e.line == number) ≡ false → G (events ++ e ∷ []) (with_event e u) → OnAfter events e
+      → H T200 events u.clock (D2 events) → H T203 events u.clock D3 → W (events ++ e ∷ []) (with_event e u) (told ++ news_in of_frames service tei number (Some e) u.card)
+  other-waits events t u told w s e other g on h200 h203 =
+      let m : Moment = record { card = runs_of.after_all (cards.fresh c) events; event = e; answer = answer e (runs_of.after_all (cards.fresh c) events) } in
+      let same : o_at (events ++ e ∷ []) ≡ o_at events =
+      ap (λ (v : View). v.link) (view-then c service tei number events e) ∙ elsewhere c service tei number (view_of c service tei number events) m other w.on in
+      record {
+        goes = g;
+        on = on;
+        phase = subst IsPhase (sym same) w.phase;
+        told_is = ap (λ b. (told ++ cond b (filter (is_news service tei) (notes_of (answer e u.card))) []) ++ owed service tei (o_at (events ++ e ∷ [])).state) other
+            ∙ ap (λ ns. ns ++ owed service tei (o_at (events ++ e ∷ [])).state) (append-nil told) ∙ ap (λ (o : Observed). told ++ owed service tei o.state) same ∙ w.told_is;
+        wait = λ up. w.wait (ap (λ (o : Observed). nat_le 7 o.state) (sym same) ∙ up);
+        t200 = subst (λ (o : Observed). H T200 (events ++ e ∷ []) (with_event e u).clock (λ m. Due200 c.n200 lengths.t200 late first all o.state o.expiries m)) (sym same)
+            (other-line c lengths late number ranged within service tei events u s (D2 events) e T200 other h200);
+        t203 = other-line c lengths late number ranged within service tei events u s D3 e T203 other h203;
+      }
+
+  -- An event, at one or the other.
+  event-waits : (events : List Event) (t u : TimedCard) (told : List Note) → W events t told → S events u → (e : Event) → G (events ++ e ∷ []) (with_event e u) → OnAfter events e
+      → ((e.line == number) ≡ false → H T200 events u.clock (D2 events) × H T203 events u.clock D3)
+      → ((e.line == number) ≡ true → G (events ++ at number e.what ∷ []) (with_event (at number e.what) u) → OnAfter events (at number e.what)
+      → W (events ++ at number e.what ∷ []) (with_event (at number e.what) u) (told ++ news_in of_frames service tei number (Some (at number e.what)) u.card))
+      → W (events ++ e ∷ []) (with_event e u) (told ++ news_in of_frames service tei number (Some e) u.card)
+  event-waits events t u told w s e g on apart here = go (e.line == number) refl
+    where
+      go : (b : Bool) → (e.line == number) ≡ b → W (events ++ e ∷ []) (with_event e u) (told ++ news_in of_frames service tei number (Some e) u.card)
+      go false other = let h = apart other in other-waits events t u told w s e other g on h.0 h.1
+      go true own_line =
+          let is = eqb-true e.line number own_line in
+          subst (λ n. W (events ++ at n e.what ∷ []) (with_event (at n e.what) u) (told ++ news_in of_frames service tei number (Some (at n e.what)) u.card)) (sym is)
+          (here own_line (subst (λ n. G (events ++ at n e.what ∷ []) (with_event (at n e.what) u)) is g) (subst (λ n. OnAfter events (at n e.what)) is on))
+
+  happens-waits : (events : List Event) (t : TimedCard) (told : List Note) → W events t told → (e : Event) → IsNoExpiry e.what → G (events ++ e ∷ []) (with_event e t) → OnAfter events e
+      → IsStillAt of_frames c service tei number (happens e) t → W (events ++ e ∷ []) (with_event e t) (told ++ news_in of_frames service tei number (Some e) t.card)
+  happens-waits events t told w e none g on still =
+      event-waits events t t told w w.goes.stands e g on (λ other. (w.t200, w.t203))
+      (λ own_line g2 on2. waits-still c lengths late number ranged within service tei first all whole_told events t t told w w.goes.stands e.what (behind-on events e.what on2) g2
+      (still (eqb-true e.line number own_line)) (no-expiry service tei e.what none) w.t200 w.t203)
+
+  -- A timer that falls due.
+  module _ (events : List Event) (t : TimedCard) (told : List Note) (w : W events t told) (x : Expiry) (is : due t.clock ≡ Some x) where
+    abbrev u : TimedCard
+    u = record t { clock = without_first t.clock }
+
+    based : S events u
+    based = record { card = w.goes.stands.card; all = w.goes.stands.all; lengths_are = w.goes.stands.lengths_are }
+
+    drop-200 : (is_of number (timers.T200 service tei) x ≡ false) → H T200 events u.clock (D2 events)
+    drop-200 other run = dropped-holds c lengths late number ranged within service tei (D2 events) events t x is T200 other (w.t200 run)
+
+    drop-203 : (is_of number (timers.T203 service tei) x ≡ false) → H T203 events u.clock D3
+    drop-203 other run = dropped-holds c lengths late number ranged within service tei D3 events t x is T203 other (w.t203 run)
+
+    by-line : (its : Timer) → (x.line == number) ≡ false → is_of number its x ≡ false
+    by-line its other = ap (λ b. b && is_same x.timer its) other
+
+    by-timer : (its : Timer) → is_same x.timer its ≡ false → is_of number its x ≡ false
+    by-timer its other = ap (λ b. (x.line == number) && b) other ∙ and-false (x.line == number)
+
+    abbrev Own : Timer → Type 0
+    Own timer = G (events ++ at number (expiry timer) ∷ []) (with_event (at number (expiry timer)) u) → OnAfter events (at number (expiry timer))
+        → W (events ++ at number (expiry timer) ∷ []) (with_event (at number (expiry timer)) u) (told ++ news_in of_frames service tei number (Some (at number (expiry timer))) u.card)
+
+    foreign : (timer : Timer) → x.timer ≡ timer → is_timer_of service tei timer ≡ false → Own timer
+    foreign timer same none g on =
+        waits-still c lengths late number ranged within service tei first all whole_told events t u told w based (expiry timer) (behind-on events (expiry timer) on) g refl none
+        (drop-200 (by-timer (timers.T200 service tei) (ap (λ timer. is_same timer (timers.T200 service tei)) same ∙ differs service tei timer (timers.T200 service tei) (inl refl) none)))
+        (drop-203 (by-timer (timers.T203 service tei) (ap (λ timer. is_same timer (timers.T203 service tei)) same ∙ differs service tei timer (timers.T203 service tei) (inr refl) none)))
+
+    own-200 : x.timer ≡ timers.T200 service tei → Own (timers.T200 service tei)
+    own-200 same g on = go (runs T200 (o_at events)) refl
+      where
+        go : (b : Bool) → runs T200 (o_at events) ≡ b → W (events ++ at number (expiry (timers.T200 service tei)) ∷ []) (with_event (at number (expiry (timers.T200 service tei))) u) (told ++ news_in of_frames service tei number (Some (at number (expiry (timers.T200 service tei)))) u.card)
+        go true run = waits-200 c lengths late number ranged within service tei first all whole_told events t u told w based refl (behind-on events (expiry (timers.T200 service tei)) on) g run
+        go false none =
+            idle c lengths late number ranged within service tei first all whole_told events t u told w based refl (timers.T200 service tei) (behind-on events (expiry (timers.T200 service tei)) on) g
+            (idle-200-is c lengths late number ranged within service tei first all whole_told events t u told w based refl none)
+            (λ run. absurd (true≢false (sym run ∙ none)))
+            (drop-203 (by-timer (timers.T203 service tei) (ap (λ timer. is_same timer (timers.T203 service tei)) same)))
+
+    own-203 : x.timer ≡ timers.T203 service tei → Own (timers.T203 service tei)
+    own-203 same g on = go (runs T203 (o_at events)) refl
+      where
+        go : (b : Bool) → runs T203 (o_at events) ≡ b → W (events ++ at number (expiry (timers.T203 service tei)) ∷ []) (with_event (at number (expiry (timers.T203 service tei))) u) (told ++ news_in of_frames service tei number (Some (at number (expiry (timers.T203 service tei)))) u.card)
+        go true run = waits-203 c lengths late number ranged within service tei first all whole_told events t u told w based refl (behind-on events (expiry (timers.T203 service tei)) on) g run
+        go false none =
+            idle c lengths late number ranged within service tei first all whole_told events t u told w based refl (timers.T203 service tei) (behind-on events (expiry (timers.T203 service tei)) on) g
+            (idle-203-is c lengths late number ranged within service tei first all whole_told events t u told w based refl none)
+            (drop-200 (by-timer (timers.T200 service tei) (ap (λ timer. is_same timer (timers.T200 service tei)) same)))
+            (λ run. absurd (true≢false (sym run ∙ none)))
+
+    any : (timer : Timer) → x.timer ≡ timer → Own timer
+    any timers.T201 same = foreign timers.T201 same refl
+    any (timers.T200 of by) same = go (is_own service tei of by) refl
+      where
+        go : (b : Bool) → is_own service tei of by ≡ b → Own (timers.T200 of by)
+        go false none = foreign (timers.T200 of by) same none
+        go true mine =
+            let parts = both-true (same_service of service) (by == tei) mine in
+            let is_it : timers.T200 of by ≡ timers.T200 service tei = ap (λ s. timers.T200 s by) (services-equal of service parts.0) ∙ ap (timers.T200 service) (eqb-true by tei parts.1) in
+            subst Own (sym is_it) (own-200 (same ∙ is_it))
+    any (timers.T203 of by) same = go (is_own service tei of by) refl
+      where
+        go : (b : Bool) → is_own service tei of by ≡ b → Own (timers.T203 of by)
+        go false none = foreign (timers.T203 of by) same none
+        go true mine =
+            let parts = both-true (same_service of service) (by == tei) mine in
+            let is_it : timers.T203 of by ≡ timers.T203 service tei = ap (λ s. timers.T203 s by) (services-equal of service parts.0) ∙ ap (timers.T203 service) (eqb-true by tei parts.1) in
+            subst Own (sym is_it) (own-203 (same ∙ is_it))
+
+    fell-waits : G (events ++ expiry_of x ∷ []) (with_event (expiry_of x) u) → OnAfter events (expiry_of x)
+        → W (events ++ expiry_of x ∷ []) (with_event (expiry_of x) u) (told ++ news_in of_frames service tei number (Some (expiry_of x)) u.card)
+    fell-waits g on =
+        event-waits events t u told w based (expiry_of x) g on
+        (λ other. (drop-200 (by-line (timers.T200 service tei) other), drop-203 (by-line (timers.T203 service tei) other))) (λ own_line g2 on2. any x.timer refl g2 on2)
+
+  -- A deed.
+  step-waits : (events : List Event) (t : TimedCard) (told : List Note) (d : Step Event) → W events t told → IsPrompt late d t → IsStillAt of_frames c service tei number d t
+      → is_some (state number service tei (after d t).card) ≡ true → W (events ++ option_to_list (event_of d t)) (after d t) (told ++ news_in of_frames service tei number (event_of d t) t.card)
+  step-waits events t told (happens e) w prompt still some =
+      let g = step-goes c lengths late number ranged within service tei events t (happens e) w.goes prompt in
+      happens-waits events t told w e prompt.1 g (on-now (events ++ e ∷ []) (with_event e t) g some) still
+  step-waits events t told (time moment) w prompt still some =
+      let u = record t { clock = at_moment moment t.clock } in
+      subst (λ es. W es (record t { clock = at_moment moment t.clock }) (told ++ [])) (sym (append-nil events))
+      (subst (W events (record t { clock = at_moment moment t.clock })) (sym (append-nil told))
+      (record {
+        goes = subst (λ es. G es (record t { clock = at_moment moment t.clock })) (append-nil events) (step-goes c lengths late number ranged within service tei events t (time moment) w.goes prompt);
+        on = w.on;
+        phase = w.phase;
+        told_is = w.told_is;
+        wait = w.wait;
+        t200 = λ run. let d = w.t200 run in (d.0, d.1, in-time late moment number (timers.T200 service tei) t.clock.running d.0 prompt.1 d.1, d.3);
+        t203 = λ run. let d = w.t203 run in (d.0, d.1, in-time late moment number (timers.T203 service tei) t.clock.running d.0 prompt.1 d.1, d.3);
+      }))
+  step-waits events t told falls_due w prompt still some = go (due t.clock) refl (step-goes c lengths late number ranged within service tei events t falls_due w.goes prompt) some
+    where
+      event_for : Option Expiry → Option Event
+      event_for o = option_map expiry_of o
+
+      go : (o : Option Expiry) → due t.clock ≡ o
+          → G (events ++ option_to_list (option_map expiry_of o)) (option_map_or (timed_expiry t) o t)
+          → is_some (state number service tei (option_map_or (timed_expiry t) o t).card) ≡ true
+          → W (events ++ option_to_list (option_map expiry_of o)) (option_map_or (timed_expiry t) o t)
+          (told ++ news_in of_frames service tei number (option_map expiry_of o) t.card)
+      go None is g on = subst (λ es. W es t (told ++ [])) (sym (append-nil events)) (subst (W events t) (sym (append-nil told)) w)
+      go (Some x) is g on = fell-waits events t told w x is g (on-now (events ++ expiry_of x ∷ []) (timed_expiry t x) g on)
+
+  -- Many.
+  pub steps-wait : (events : List Event) (t : TimedCard) (told : List Note) (steps : List (Step Event)) → W events t told → ArePrompt late steps t → AreStill of_frames c service tei number steps t
+      → W (events ++ events_of steps t) (after_all steps t) (told ++ news of_frames service tei number steps t)
+  unfolding timed_after_all timed_events_of TimedArePrompt AreStill news
+  steps-wait events t told [] w prompt still = subst (λ es. W es t (told ++ [])) (sym (append-nil events)) (subst (W events t) (sym (append-nil told)) w)
+  steps-wait events t told (d ∷ steps) w prompt still =
+      subst (λ es. W es (after_all steps (after d t)) (told ++ (news_in of_frames service tei number (event_of d t) t.card ++ news of_frames service tei number steps (after d t))))
+      (append_assoc events (option_to_list (event_of d t)) (events_of steps (after d t)))
+      (subst (W ((events ++ option_to_list (event_of d t)) ++ events_of steps (after d t)) (after_all steps (after d t)))
+      (append_assoc told (news_in of_frames service tei number (event_of d t) t.card) (news of_frames service tei number steps (after d t)))
+      (steps-wait (events ++ option_to_list (event_of d t)) (after d t) (told ++ news_in of_frames service tei number (event_of d t) t.card) steps
+      (step-waits events t told d w prompt.0 still.0 still.1) prompt.1 still.2))
+
+-- At first, and in the end: over plain values.
+mono : (n e x : ℕ) → (n - e) * x ≤ n * x
+mono n e x = mul-le (n - e) x n x (omega arith) (omega arith)
+
+four : (n : ℕ) → 4 ≤ n → n ≤ 8 → (n ≡ 4) ⊎ ((n ≡ 5) ⊎ ((n ≡ 6) ⊎ ((n ≡ 7) ⊎ (n ≡ 8))))
+four n low high = grind arith
+
+module _ (c : Config) (lengths : Lengths) (late now : ℕ) where
+  abbrev F : ℕ → ℕ
+  F from = now + first_in from late c lengths
+
+  abbrev A : ℕ → ℕ
+  A from = now + all_in from late c lengths
+
+  abbrev Start : ℕ → Type 0
+  Start from = (e m : ℕ) → m ≤ now + lengths.t200 → Due200 c.n200 lengths.t200 late (F from) (A from) from e m
+
+  whole-left : (e : ℕ) → (c.n200 - e) * (lengths.t200 + late) + (lengths.t200 + late) ≤ (c.n200 + 1) * (lengths.t200 + late)
+  whole-left e = omega (arith, mono c.n200 e (lengths.t200 + late), one-more c.n200 (lengths.t200 + late))
+
+  start-7 : Start 7
+  start-7 e m h = omega (arith, h)
+
+  start-8 : Start 8
+  start-8 e m h = omega (arith, h, whole-left e)
+
+  start-5 : Start 5
+  start-5 e m h = omega (arith, h, whole-left e)
+
+  start-6 : Start 6
+  start-6 e m h = omega (arith, h, whole-left e)
+
+  pub start-200 : (from : ℕ) → 5 ≤ from → from ≤ 8 → Start from
+  start-200 from low high = go (four from (omega (arith, low)) high)
+    where
+      go : (from ≡ 4) ⊎ ((from ≡ 5) ⊎ ((from ≡ 6) ⊎ ((from ≡ 7) ⊎ (from ≡ 8)))) → Start from
+      go (inl is) = absurd (omega (arith, low, is))
+      go (inr (inl is)) = subst Start (sym is) start-5
+      go (inr (inr (inl is))) = subst Start (sym is) start-6
+      go (inr (inr (inr (inl is)))) = subst Start (sym is) start-7
+      go (inr (inr (inr (inr is)))) = subst Start (sym is) start-8
+
+  pub start-203 : (m : ℕ) → m ≤ now + lengths.t203 → Due203 c.n200 lengths.t200 late (F 7) (A 7) m
+  start-203 m h = omega (arith, h)
+
+  abbrev Up : ℕ → Type 0
+  Up from = nat_le 7 from ≡ true → F from + whole c.n200 lengths.t200 late (F from) (A from) ≤ A from
+
+  pub start-wait : (from : ℕ) → 5 ≤ from → from ≤ 8 → Up from
+  start-wait from low high = go (four from (omega (arith, low)) high)
+    where
+      up-7 : Up 7
+      up-7 up = omega arith
+
+      up-8 : Up 8
+      up-8 up = omega arith
+
+      go : (from ≡ 4) ⊎ ((from ≡ 5) ⊎ ((from ≡ 6) ⊎ ((from ≡ 7) ⊎ (from ≡ 8)))) → Up from
+      go (inl is) = absurd (omega (arith, low, is))
+      go (inr (inl is)) = subst Up (sym is) (λ up. cc up)
+      go (inr (inr (inl is))) = subst Up (sym is) (λ up. cc up)
+      go (inr (inr (inr (inl is)))) = subst Up (sym is) up-7
+      go (inr (inr (inr (inr is)))) = subst Up (sym is) up-8
+
+  -- The end: a state, what was told, and a moment that T200 or T203 is not overdue.
+  module _ (service : Service) (tei : ℕ) (from : ℕ) (low : 5 ≤ from) (high : from ≤ 8) (to then_is : ℕ) (told : List Note) (told_is : told ++ owed service tei to ≡ told_in from service tei)
+      (waits_7 : (to ≡ 7) ⊎ (to ≡ 8) → then_is ≤ F from) (waits_5 : (to ≡ 5) ⊎ (to ≡ 6) → then_is ≤ A from) where
+    counted : length told + length (owed service tei to) ≡ length (told_in from service tei)
+    counted = sym (length-append told (owed service tei to)) ∙ ap length told_is
+
+    F-below : F from ≤ A from
+    F-below = omega arith
+
+    at-least : 2 ≤ length (told_in from service tei)
+    at-least = go (four from (omega (arith, low)) high)
+      where
+        go : (from ≡ 4) ⊎ ((from ≡ 5) ⊎ ((from ≡ 6) ⊎ ((from ≡ 7) ⊎ (from ≡ 8)))) → 2 ≤ length (told_in from service tei)
+        go (inl is) = absurd (omega (arith, low, is))
+        go (inr (inl is)) = subst (λ n. 2 ≤ length (told_in n service tei)) (sym is) (omega arith)
+        go (inr (inr (inl is))) = subst (λ n. 2 ≤ length (told_in n service tei)) (sym is) (omega arith)
+        go (inr (inr (inr (inl is)))) = subst (λ n. 2 ≤ length (told_in n service tei)) (sym is) (omega arith)
+        go (inr (inr (inr (inr is)))) = subst (λ n. 2 ≤ length (told_in n service tei)) (sym is) (omega arith)
+
+    -- In states 5 and 6, two are owed: either all of it, as at first, where both times are the same, or one was told.
+    two-owed : length (owed service tei to) ≡ 2 → then_is ≤ A from → F from < then_is → 1 ≤ length told
+    two-owed two bound later = go (four from (omega (arith, low)) high)
+      where
+        same-times : (n : ℕ) → from ≡ n → A n ≡ F n → 1 ≤ length told
+        same-times n is same = absurd (omega (arith, later, bound, subst (λ n. A n ≡ F n) (sym is) same))
+
+        go : (from ≡ 4) ⊎ ((from ≡ 5) ⊎ ((from ≡ 6) ⊎ ((from ≡ 7) ⊎ (from ≡ 8)))) → 1 ≤ length told
+        go (inl is) = absurd (omega (arith, low, is))
+        go (inr (inl is)) = same-times 5 is (omega arith)
+        go (inr (inr (inl is))) = same-times 6 is (omega arith)
+        go (inr (inr (inr (inl is)))) = let three : length (told_in from service tei) ≡ 3 = ap (λ n. length (told_in n service tei)) is in omega (arith, counted, two, three)
+        go (inr (inr (inr (inr is)))) = let three : length (told_in from service tei) ≡ 3 = ap (λ n. length (told_in n service tei)) is in omega (arith, counted, two, three)
+
+    pub ended : 4 ≤ to → to ≤ 8 → IsToldInTime late from c lengths service tei now then_is told
+    ended least most = go (four to least most)
+      where
+        front : IsFront told (told_in from service tei)
+        front = record { rest = owed service tei to; whole_is = sym told_is }
+
+        go : (to ≡ 4) ⊎ ((to ≡ 5) ⊎ ((to ≡ 6) ⊎ ((to ≡ 7) ⊎ (to ≡ 8)))) → IsToldInTime late from c lengths service tei now then_is told
+        go (inl is) =
+            let done : told ≡ told_in from service tei = sym (append-nil told) ∙ ap (λ n. told ++ owed service tei n) (sym is) ∙ told_is in
+            record { front = front; first = λ later. subst (λ ns. 1 ≤ length ns) (sym done) (omega (arith, at-least)); all = λ later. done }
+        go (inr (inl is)) = record { front = front; first = two-owed (ap (λ n. length (owed service tei n)) is) (waits_5 (inl is)); all = λ later. absurd (omega (arith, later, waits_5 (inl is))) }
+        go (inr (inr (inl is))) = record { front = front; first = two-owed (ap (λ n. length (owed service tei n)) is) (waits_5 (inr is)); all = λ later. absurd (omega (arith, later, waits_5 (inr is))) }
+        go (inr (inr (inr (inl is)))) =
+            record { front = front; first = λ later. absurd (omega (arith, later, waits_7 (inl is))); all = λ later. absurd (omega (arith, later, waits_7 (inl is), F-below)) }
+        go (inr (inr (inr (inr is)))) =
+            record { front = front; first = λ later. absurd (omega (arith, later, waits_7 (inr is))); all = λ later. absurd (omega (arith, later, waits_7 (inr is), F-below)) }
+
+state-low : (s : State) → state_number s ≤ 8
+state-low TeiAssigned = omega arith
+state-low AwaitingEstablishment = omega arith
+state-low AwaitingRelease = omega arith
+state-low Established = omega arith
+state-low TimerRecovery = omega arith
+
+some-low : (b : Bool) (place : Option ℕ) (f : ℕ → State) (n : ℕ) → cond b (option_map (λ p. state_number (f p)) place) None ≡ Some n → n ≤ 8
+some-low true (Some p) f n is = subst (λ n. n ≤ 8) (the-same (state_number (f p)) n is) (state-low (f p))
+  where
+    the-same : (m n : ℕ) → Some m ≡ Some n → m ≡ n
+    the-same m n is = grind arith
+some-low true None f n is = cc is
+some-low false place f n is = cc is
+
+told-low : (service : Service) (tei number : ℕ) (card : cards.Card) (n : ℕ) → state number service tei card ≡ Some n → n ≤ 8
+told-low service tei number card n is =
+    let l = line_at number card in some-low (nat_lt number card.config.lines) (place_in l tei) (λ p. (link_in l service p).state) n is
+
+waits-8 : (o : Observed) → (o.state ≡ 5) ⊎ ((o.state ≡ 6) ⊎ (o.state ≡ 8)) → runs T200 o ≡ true
+waits-8 o is = grind arith
+
+one-of-7 : (o : Observed) → o.state ≡ 7 → (runs T200 o ≡ true) ⊎ (runs T203 o ≡ true)
+one-of-7 o is = go (awaits o) refl
+  where
+    go : (b : Bool) → awaits o ≡ b → (runs T200 o ≡ true) ⊎ (runs T203 o ≡ true)
+    go true e = inl e
+    go false e = inr (idle-7 o is e)
+
+module _ (n200 t200 late first all now m : ℕ) (late_is : now ≤ m + late) where
+  within-200 : (s e : ℕ) → Due200 n200 t200 late first all s e m → now ≤ limit n200 t200 late first all s
+  within-200 s e h = omega (arith, h, late_is)
+
+  within-203 : Due203 n200 t200 late first all m → now ≤ first
+  within-203 h = omega (arith, h, late_is)
+
+owed-is : (service : Service) (tei n : ℕ) → 5 ≤ n → owed service tei n ≡ told_in n service tei
+owed-is service tei n low = grind arith
+
+pub a-dead-line-is-told : ADeadLineIsTold of_frames
+a-dead-line-is-told service c lengths late number tei from before steps ranged within low prompt_before prompt at_from still =
+    ended c lengths late t.clock.now service tei from low high (o_last).state (after_all steps t).clock.now (news of_frames service tei number steps t) last.told_is waits-7 waits-5 last.phase.least last.phase.most
+  where
+    t : TimedCard
+    t = after_all before (fresh c lengths)
+
+    events : List Event
+    events = events_of before (fresh c lengths)
+
+    g : Goes c lengths late number ranged within service tei (events_of before (fresh c lengths)) (after_all before (fresh c lengths))
+    g = before-goes c lengths late number ranged within service tei [] (fresh c lengths) before (begins c lengths late number ranged within service tei) prompt_before
+
+    there_from : state number service tei (runs_of.after_all (cards.fresh c) (events_of before (fresh c lengths))) ≡ Some from
+    there_from = ap (state number service tei) (sym g.stands.card) ∙ at_from
+
+    o : Observed
+    o = seen c lengths late number ranged within service tei events
+
+    state_is : (seen c lengths late number ranged within service tei (events_of before (fresh c lengths))).state ≡ from
+    state_is = state-is c (events_of before (fresh c lengths)) number ranged g.stands.all within service tei from there_from
+
+    high : from ≤ 8
+    high = told-low service tei number (after_all before (fresh c lengths)).card from at_from
+
+    first : ℕ
+    first = F c lengths late t.clock.now from
+
+    all : ℕ
+    all = A c lengths late t.clock.now from
+
+    w : Waits c lengths late number ranged within service tei first all (told_in from service tei) events t []
+    w = record {
+      goes = g;
+      on = on-where c (events_of before (fresh c lengths)) number ranged g.stands.all within service tei (ap is_some there_from);
+      phase = record { least = omega (arith, low, state_is); most = omega (arith, high, state_is) };
+      told_is = ap (owed service tei) state_is ∙ owed-is service tei from low;
+      wait = λ up. start-wait c lengths late t.clock.now from low high (ap (nat_le 7) (sym state_is) ∙ up);
+      t200 = λ run. let d = g.timers_are T200 run in (
+        d.0,
+        d.1,
+        d.2,
+        subst (λ s. Due200 c.n200 lengths.t200 late (F c lengths late t.clock.now from) (A c lengths late t.clock.now from) s o.expiries d.0) (sym state_is)
+            (start-200 c lengths late t.clock.now from low high o.expiries d.0 d.3),
+      );
+      t203 = λ run. let d = g.timers_are T203 run in let at_7 = never-both o run in (
+        d.0,
+        d.1,
+        d.2,
+        subst (λ n. Due203 c.n200 lengths.t200 late (F c lengths late t.clock.now n) (A c lengths late t.clock.now n) d.0) (sym at_7.0 ∙ state_is)
+            (start-203 c lengths late t.clock.now d.0 d.3),
+      );
+    }
+
+    last : Waits c lengths late number ranged within service tei first all (told_in from service tei) (events ++ events_of steps t) (after_all steps t) (news of_frames service tei number steps t)
+    last = steps-wait c lengths late number ranged within service tei first all (told_in from service tei) events t [] steps w prompt still
+
+    o_last : Observed
+    o_last = seen c lengths late number ranged within service tei (events ++ events_of steps t)
+
+    by-200 : (n : ℕ) → o_last.state ≡ n → runs T200 o_last ≡ true → (after_all steps t).clock.now ≤ limit c.n200 lengths.t200 late first all n
+    by-200 n is run =
+        let d = last.t200 run in
+        subst (λ s. (after_all steps t).clock.now ≤ limit c.n200 lengths.t200 late first all s) is
+        (within-200 c.n200 lengths.t200 late first all (after_all steps t).clock.now d.0 d.2 o_last.state o_last.expiries d.3)
+
+    waits-7 : (o_last.state ≡ 7) ⊎ (o_last.state ≡ 8) → (after_all steps t).clock.now ≤ F c lengths late t.clock.now from
+    waits-7 (inl is) = ⊎_elim (λ run. by-200 7 is run) (λ run. let d = last.t203 run in within-203 c.n200 lengths.t200 late first all (after_all steps t).clock.now d.0 d.2 d.3) (one-of-7 o_last is)
+    waits-7 (inr is) = by-200 8 is (waits-8 o_last (inr (inr is)))
+
+    waits-5 : (o_last.state ≡ 5) ⊎ (o_last.state ≡ 6) → (after_all steps t).clock.now ≤ A c lengths late t.clock.now from
+    waits-5 (inl is) = by-200 5 is (waits-8 o_last (inl is))
+    waits-5 (inr is) = by-200 6 is (waits-8 o_last (inr (inl is)))

@@ -1,0 +1,101 @@
+-- What an event at the line makes of a link of which nothing is heard, and what is told.
+use Rattle.std.proofs.Common.{arith, ◌≡◌, ℕ, ◌≤◌, ◌==◌, ◌&&◌, not, Bool, true, false, cond, List, [], ◌∷◌, ◌++◌, Option, refl, sym, ap, ◌∙◌, subst, eq-eqb, nat_le, map}
+use Rattle.std.specs.Prelude.{fold}
+use Rattle.std.specs.Option.{option_map_or}
+use Rattle.std.proofs.lemmas.Bool.{le-ltb}
+use Rattle.model_bits.specs.Stream as stream
+use Rattle.lapd_frame.specs.declared.notes.Note.{Note}
+use Rattle.lapd_frame.specs.declared.notes.Note.TheVariants.{Error}
+use Rattle.lapd_frame.specs.declared.services.Service.{Service}
+use Rattle.lapd_frame.specs.Grammar.{Parts}
+use Rattle.model_line.specs.Event.{Event, Answer, hears, expiry, request, next}
+use Rattle.model_line.specs.Request.{Request}
+use Rattle.model_line.specs.declared.config.Config.{Config}
+use Rattle.model_link.specs.declared.timers.LinkTimer.{LinkTimer}
+use Rattle.laws_trace.specs.News.{notes_due, wrong, due, brings, is_xid, is_sabme, releases}
+use Rattle.laws_trace.specs.Observer.{Observed, by_event, by_heard, by_request, by_frame, by_frame_begun, awaits, anew}
+use Rattle.laws_trace.specs.Trace.{frame_in}
+use Rattle.laws_trace.specs.TimersAreTimely.{is_anew, is_timer_of}
+use Rattle.laws_trace.specs.Units.{is_ui}
+use Rattle.laws_time.specs.Silence.{is_stirred, is_heard, moves_link}
+
+abbrev pub is_its_expiry : Service → ℕ → Event → Bool
+is_its_expiry service tei (expiry timer) = is_timer_of service tei timer
+is_its_expiry service tei other = false
+
+-- The same but for what layer 3 and the other side's numbers are.
+pub record IsLike (o q : Observed) : Type 0 where
+  pub state : q.state ≡ o.state
+  pub expiries : q.expiries ≡ o.expiries
+
+like-self : (o : Observed) → IsLike o o
+like-self o = record { state = refl; expiries = refl }
+
+one-sent : (c : Config) (service : Service) (tei : ℕ) (o : Observed) (f : List ℕ) → IsLike o (by_frame_begun c service tei o f)
+one-sent c service tei o f = grind (arith, like-self)
+
+then-like : (o p q : Observed) → IsLike o p → IsLike p q → IsLike o q
+then-like o p q h i = record { state = i.state ∙ h.state; expiries = i.expiries ∙ h.expiries }
+
+sent-like : (c : Config) (service : Service) (tei : ℕ) (o : Observed) (fs : List (List ℕ)) → IsLike o (fold (by_frame_begun c service tei) o fs)
+sent-like c service tei o [] = like-self o
+sent-like c service tei o (f ∷ fs) =
+    then-like o (by_frame_begun c service tei o f) (fold (by_frame_begun c service tei) (by_frame_begun c service tei o f) fs) (one-sent c service tei o f)
+    (sent-like c service tei (by_frame_begun c service tei o f) fs)
+
+module _ (c : Config) (service : Service) (tei : ℕ) (a : Answer) (o : Observed) where
+  heard-same : (m : Bool) (f : Option Parts) → m ≡ false → option_map_or (λ (f : Parts). not (is_ui f.control)) f false ≡ false
+      → cond (nat_le 7 o.state && m) (anew o) (option_map_or (by_frame c o) f o) ≡ o
+  heard-same m f none ui = grind arith
+
+  pub heard-stays : (e : stream.Event) → is_heard c service tei e ≡ false → by_heard c service tei e o ≡ o
+  heard-stays e quiet = grind (arith, heard-same)
+
+  asked-like : (r : Request) → moves_link service tei r ≡ false → IsLike o (by_request service tei r o)
+  asked-like r quiet = grind (arith, like-self)
+
+  pub calm : (what : Event) → is_stirred c service tei what ≡ false → is_its_expiry service tei what ≡ false → IsLike o (by_event c service tei what a o)
+  calm (hears e) quiet mine = subst (IsLike o) (sym (heard-stays e quiet)) (like-self o)
+  calm (request r) quiet mine = grind (arith, asked-like, like-self)
+  calm (expiry timer) quiet mine = grind (arith, like-self)
+  calm next quiet mine = sent-like c service tei o (frame_in a)
+
+  pub same-awaits : (what : Event) → is_stirred c service tei what ≡ false → is_its_expiry service tei what ≡ false → (what ≡ next → ⊥) → awaits (by_event c service tei what a o) ≡ awaits o
+  same-awaits (hears e) quiet mine not_next = ap awaits (heard-stays e quiet)
+  same-awaits (request r) quiet mine not_next = grind arith
+  same-awaits (expiry timer) quiet mine not_next = grind arith
+  same-awaits next quiet mine not_next = absurd (not_next refl)
+
+  -- Nothing starts its timers anew.
+  pub none-renews : (timer : LinkTimer) (what : Event) → is_stirred c service tei what ≡ false → is_its_expiry service tei what ≡ false → (q : Observed) → IsLike o q → is_anew c service tei timer o q what ≡ false
+  none-renews timer what quiet mine q like = grind (arith, le-ltb, eq-eqb)
+
+  -- And nothing is told.
+  due-none : (q : Observed) (xid sabme released : Bool) → xid ≡ false → sabme ≡ false → released ≡ false → 4 ≤ o.state → q.state ≡ o.state → due service tei xid sabme released o q.state ≡ []
+  due-none q xid sabme released x s r up same = grind arith
+
+  quiet-frame : (m : Bool) (f : Option Parts) → m ≡ false → option_map_or (λ (f : Parts). not (is_ui f.control)) f false ≡ false → (m ≡ false) × (option_map_or (λ (f : Parts). is_xid f.control) f false ≡ false) × (option_map_or (λ (f : Parts). is_sabme f.control) f false ≡ false)
+  quiet-frame m f none ui = grind arith
+
+  wrong-none : (what : Event) → is_stirred c service tei what ≡ false → is_its_expiry service tei what ≡ false → (to : ℕ) → to ≡ o.state → wrong c service tei what o.state to ≡ []
+  wrong-none (hears e) quiet mine to same = grind arith
+  wrong-none (expiry timer) quiet mine to same = grind arith
+  wrong-none (request r) quiet mine to same = refl
+  wrong-none next quiet mine to same = refl
+
+  brings-none : (what : Event) → is_stirred c service tei what ≡ false → (brings is_xid c service tei what ≡ false) × (brings is_sabme c service tei what ≡ false) × (releases service tei what a ≡ false)
+  brings-none (hears e) quiet = grind arith
+  brings-none (expiry timer) quiet = (refl, refl, refl)
+  brings-none (request r) quiet = grind arith
+  brings-none next quiet = (refl, refl, refl)
+
+  pub no-news : (what : Event) → is_stirred c service tei what ≡ false → is_its_expiry service tei what ≡ false → 4 ≤ o.state → (q : Observed) → IsLike o q → notes_due c service tei o q what a ≡ []
+  no-news what quiet mine up q like =
+      let none = brings-none what quiet in
+      let later = ap (λ es. map (Error service tei) es ++ due service tei (brings is_xid c service tei what) (brings is_sabme c service tei what) (releases service tei what a) o q.state) (wrong-none what quiet mine q.state like.state)
+      ∙ due-none q (brings is_xid c service tei what) (brings is_sabme c service tei what) (releases service tei what a) none.0 none.1 none.2 up like.state in
+      either (o.state == 1) (map (Error service tei) (wrong c service tei what o.state q.state) ++ due service tei (brings is_xid c service tei what) (brings is_sabme c service tei what) (releases service tei what a) o q.state) later
+    where
+      either : (b : Bool) (xs : List Note) → xs ≡ [] → cond b [] xs ≡ []
+      either true xs none = refl
+      either false xs none = none

@@ -1,0 +1,305 @@
+-- A timed card, of a link of which nothing is heard any more.
+use Rattle.std.proofs.Common.{arith, ◌≡◌, ℕ, ◌+◌, ◌<◌, ◌≤◌, ◌||◌, not, Bool, true, false, cond, List, [], ◌∷◌, ◌++◌, Some, refl, sym, ap, ◌∙◌, subst, eq-eqb, eqb-true, inl, inr, filter, nat_le, append-nil, append_assoc}
+use Rattle.std.proofs.lemmas.Bool.{true≢false}
+use Rattle.lapd_clock.specs.Timer.{Lengths}
+use Rattle.lapd_frame.specs.declared.notes.Note.{Note}
+use Rattle.lapd_frame.specs.declared.services.Service.{Service}
+use Rattle.lapd_frame.specs.declared.timers.Timer.{Timer}
+use Rattle.lapd_frame.specs.declared.timers.Timer.TheVariants as timers
+use Rattle.model_line.specs.Event as line_event
+use Rattle.model_line.specs.Event.{Answer, expiry, hears, request, next}
+use Rattle.model_line.specs.Sound.{IsInRange}
+use Rattle.model_line.specs.declared.config.Config.{Config}
+use Rattle.model_link.specs.declared.timers.LinkTimer.{LinkTimer}
+use Rattle.model_link.specs.declared.timers.LinkTimer.TheVariants.{T200, T203}
+use Rattle.model_card.specs.Card as cards
+use Rattle.model_card.specs.Card.{state}
+use Rattle.model_card.specs.Event.{Event, at}
+use Rattle.model_card.specs.Machine.{answer}
+use Rattle.model_card.specs.Run.{AreAtLines}
+use Rattle.laws_line.specs.Steady.{timer_of}
+use Rattle.laws_trace.specs.Managing.{is_on}
+use Rattle.laws_trace.specs.News.{notes_due}
+use Rattle.laws_trace.specs.Observer.{Observed, View, view_of, view_behind, by_event, by_t200, enquires, awaits, moment_of}
+use Rattle.laws_trace.specs.TimersAreTimely.{runs, is_anew}
+use Rattle.laws_trace.proofs.ObservedLaws.{news-is-told-so}
+use Rattle.std.proofs.lemmas.Bool.{le-ltb}
+use Rattle.model_timed.specs.Clock.{Clock}
+use Rattle.model_timed.specs.Frames.{TimedCard}
+use Rattle.laws_time.proofs.TimedFrames.{with_event}
+use Rattle.laws_time.specs.Watched.{of_frames}
+use Rattle.laws_time.specs.Silence.{is_stirred, news_in}
+use Rattle.laws_time.proofs.Links.{view-then, stays-on}
+use Rattle.laws_time.proofs.Sending.{sends-on}
+use Rattle.laws_time.proofs.Effects.{IsLike, is_its_expiry, calm, same-awaits, none-renews, no-news}
+use Rattle.laws_line.specs.Heard.{notes_of}
+use Rattle.laws_trace.specs.News.{is_news}
+use Rattle.laws_time.proofs.Walk.{stands-then, Stands, Holds, seen, step, q-is}
+use Rattle.laws_time.proofs.Before.{Goes, t200-leads, t203-leads, expired-anew}
+use Rattle.laws_time.proofs.Phases.{Due200, Due203, whole, sent, owed, IsPhase, leads, enquiry-203, notes-none}
+
+only-7 : (o q : Observed) → q.state ≡ o.state → awaits o ≡ false → awaits q ≡ true → o.state ≡ 7
+only-7 o q same none some = grind (arith, eqb-true)
+
+pub idle-7 : (o : Observed) → o.state ≡ 7 → awaits o ≡ false → runs T203 o ≡ true
+idle-7 o is none = grind arith
+
+pub never-both : (o : Observed) → runs T203 o ≡ true → (o.state ≡ 7) × (awaits o ≡ false)
+never-both o run = grind (arith, eqb-true)
+
+not-false : (b : Bool) → not b ≡ true → b ≡ false
+not-false b e = grind arith
+
+idle-200 : (n200 : ℕ) (o : Observed) → awaits o ≡ false → by_t200 n200 o ≡ o
+idle-200 n200 o none = grind arith
+
+like-self : (o : Observed) → IsLike o o
+like-self o = record { state = refl; expiries = refl }
+
+not-anew : (c : Config) (service : Service) (tei : ℕ) (timer : LinkTimer) (its : Timer) (o : Observed) → is_anew c service tei timer o o (expiry its) ≡ false
+not-anew c service tei timer its o = grind (arith, le-ltb, eq-eqb)
+
+not-or : (r a : Bool) → a ≡ false → (not r || a) ≡ true → r ≡ false
+not-or r a none some = grind arith
+
+busy-7 : (o : Observed) → o.state ≡ 7 → runs T203 o ≡ false → awaits o ≡ true
+busy-7 o is none = grind arith
+
+module _ (c : Config) (lengths : Lengths) (late number : ℕ) (ranged : IsInRange c) (within : number < c.lines) (service : Service) (tei first all : ℕ) where
+  abbrev o_of : List Event → Observed
+  o_of events = seen c lengths late number ranged within service tei events
+
+  abbrev D200 : Observed → ℕ → Type 0
+  D200 o m = Due200 c.n200 lengths.t200 late first all o.state o.expiries m
+
+  abbrev D203 : ℕ → Type 0
+  D203 m = Due203 c.n200 lengths.t200 late first all m
+
+  abbrev Has : LinkTimer → List Event → Clock → (ℕ → Type 0) → Type 0
+  Has timer events clock P = Holds c lengths late number ranged within service tei timer events clock P
+
+  abbrev Stand : List Event → TimedCard → Type 0
+  Stand events t = Stands c lengths late number ranged within service tei events t
+
+  like-due : (o q : Observed) → IsLike o q → (m : ℕ) → D200 o m → D200 q m
+  like-due o q like m h =
+      subst (λ s. Due200 c.n200 lengths.t200 late first all s q.expiries m) (sym like.state)
+      (subst (λ e. Due200 c.n200 lengths.t200 late first all o.state e m) (sym like.expiries) h)
+
+  -- An event of the line that moves nothing.
+  module _ (events : List Event) (t : TimedCard) (s : Stand events t) (what : line_event.Event) where
+    abbrev o : Observed
+    o = seen c lengths late number ranged within service tei events
+
+    abbrev q : Observed
+    q = (view_behind c service tei number events what).link
+
+    abbrev q' : Observed
+    q' = seen c lengths late number ranged within service tei (events ++ at number what ∷ [])
+
+    abbrev Then : LinkTimer → (ℕ → Type 0) → Type 0
+    Then timer P = Has timer (events ++ at number what ∷ []) (with_event (at number what) t).clock P
+
+    is-q : q' ≡ q
+    is-q = q-is c lengths late number ranged within service tei events t s what T200
+
+    begun-less : (timer : LinkTimer) → is_anew c service tei timer o q what ≡ false → (not (runs timer o) || is_anew c service tei timer o q what) ≡ true → runs timer o ≡ false
+    begun-less timer none begun = not-or (runs timer o) (is_anew c service tei timer o q what) none begun
+
+    pub calm-200 : IsLike o q → is_anew c service tei T200 o q what ≡ false → Has T200 events t.clock (D200 o) → Has T203 events t.clock D203 → Then T200 (D200 q')
+    calm-200 like none h200 h203 =
+        step c lengths late number ranged within service tei events t s what T200 (D200 o) (D200 q') (λ run same. h200 run)
+        (λ run m late_is h. subst (λ q. D200 q m) (sym is-q) (like-due o q like m h))
+        (λ begun run. subst (λ q. D200 q (t.clock.now + lengths.t200)) (sym is-q) (from-203 (begun-less T200 none begun) run))
+      where
+        from-203 : runs T200 o ≡ false → runs T200 q ≡ true → D200 q (t.clock.now + lengths.t200)
+        from-203 idle run =
+            let at_7 = only-7 o q like.state idle run in
+            let d = h203 (idle-7 o at_7 idle) in
+            subst (λ s. Due200 c.n200 lengths.t200 late first all s q.expiries (t.clock.now + lengths.t200)) (sym (like.state ∙ at_7))
+            (sent c.n200 lengths.t200 late first all t.clock.now d.0 d.2 q.expiries d.3)
+
+    pub calm-203 : IsLike o q → is_anew c service tei T203 o q what ≡ false → (o.state ≡ 7 → awaits o ≡ true → awaits q ≡ true) → Has T203 events t.clock D203 → Then T203 D203
+    calm-203 like none keeps h203 =
+        step c lengths late number ranged within service tei events t s what T203 D203 D203 (λ run same. h203 run) (λ run m late_is h. h)
+        (λ begun run. absurd (not-so (begun-less T203 none begun) run))
+      where
+        not-so : runs T203 o ≡ false → runs T203 q ≡ true → ⊥
+        not-so idle run =
+            let now_7 = never-both q run in
+            let at_7 = sym like.state ∙ now_7.0 in
+            true≢false (sym (keeps at_7 (busy-7 o at_7 idle)) ∙ now_7.1)
+
+    -- What is told.
+    pub own-news : news_in of_frames service tei number (Some (at number what)) t.card ≡ notes_due c service tei o q what (moment_of c events number what).answer
+    own-news =
+        ap (λ b. cond b (filter (is_news service tei) (notes_of (answer (at number what) t.card))) []) (eq-eqb number number refl)
+        ∙ ap (λ card. filter (is_news service tei) (notes_of (answer (at number what) card))) s.card
+        ∙ news-is-told-so c (events ++ at number what ∷ []) number ranged ((stands-then c lengths late number ranged within service tei events t (at number what) s within).all) within service tei events what [] refl
+
+  pub record Waits (whole_told : List Note) (events : List Event) (t : TimedCard) (told : List Note) : Type 0 where
+    pub goes : Goes c lengths late number ranged within service tei events t
+    pub on : is_on tei (view_of c service tei number events).teis ≡ true
+    pub phase : IsPhase (o_of events)
+    pub told_is : told ++ owed service tei (o_of events).state ≡ whole_told
+    pub wait : nat_le 7 (o_of events).state ≡ true → first + whole c.n200 lengths.t200 late first all ≤ all
+    pub t200 : Has T200 events t.clock (D200 (o_of events))
+    pub t203 : Has T203 events t.clock D203
+
+  -- An event of the line, from a clock in which the timers are held but the one that expires.
+  module _ (whole_told : List Note) (events : List Event) (t u : TimedCard) (told : List Note) (w : Waits whole_told events t told) (s : Stand events u) (what : line_event.Event)
+      (on_then : is_on tei (view_behind c service tei number events what).teis ≡ true)
+      (g : Goes c lengths late number ranged within service tei (events ++ at number what ∷ []) (with_event (at number what) u)) where
+    abbrev Result : Type 0
+    Result = Waits whole_told (events ++ at number what ∷ []) (with_event (at number what) u) (told ++ news_in of_frames service tei number (Some (at number what)) u.card)
+
+    abbrev p : Observed
+    p = o_of events
+
+    abbrev r : Observed
+    r = (view_behind c service tei number events what).link
+
+    r-is : o_of (events ++ at number what ∷ []) ≡ r
+    r-is = is-q events u s what
+
+    on-after : is_on tei (view_of c service tei number (events ++ at number what ∷ [])).teis ≡ true
+    on-after = ap (λ (v : View). is_on tei v.teis) (view-then c service tei number events (at number what)) ∙ on_then
+
+    pub waits-calm : IsLike p r → ((timer : LinkTimer) → is_anew c service tei timer p r what ≡ false) → (p.state ≡ 7 → awaits p ≡ true → awaits r ≡ true)
+        → notes_due c service tei p r what (moment_of c events number what).answer ≡ [] → Has T200 events u.clock (D200 p) → Has T203 events u.clock D203 → Result
+    waits-calm like none keeps quiet h200 h203 = record {
+      goes = g;
+      on = on-after;
+      phase = subst IsPhase (sym r-is) (record { least = subst (λ n. 4 ≤ n) (sym like.state) w.phase.least; most = subst (λ n. n ≤ 8) (sym like.state) w.phase.most });
+      told_is = ap (λ ns. (told ++ ns) ++ owed service tei (o_of (events ++ at number what ∷ [])).state) (own-news events u s what ∙ quiet)
+          ∙ ap (λ ns. ns ++ owed service tei (o_of (events ++ at number what ∷ [])).state) (append-nil told)
+          ∙ ap (λ (o : Observed). told ++ owed service tei o.state) r-is ∙ ap (λ n. told ++ owed service tei n) like.state ∙ w.told_is;
+      wait = λ up. w.wait (ap (nat_le 7) (sym like.state ∙ ap (λ (o : Observed). o.state) (sym r-is)) ∙ up);
+      t200 = calm-200 events u s what like (none T200) h200 h203;
+      t203 = calm-203 events u s what like (none T203) keeps h203;
+    }
+
+  -- One of its timers expires: the clock is without it.
+  module _ (whole_told : List Note) (events : List Event) (t u : TimedCard) (told : List Note) (w : Waits whole_told events t told) (s : Stand events u) (same_now : u.clock.now ≡ t.clock.now) where
+    abbrev o_was : Observed
+    o_was = o_of events
+
+    abbrev r_of : Timer → Observed
+    r_of timer = (view_behind c service tei number events (expiry timer)).link
+
+    abbrev OnThen : Timer → Type 0
+    OnThen timer = is_on tei (view_behind c service tei number events (expiry timer)).teis ≡ true
+
+    abbrev GoesThen : Timer → Type 0
+    GoesThen timer = Goes c lengths late number ranged within service tei (events ++ at number (expiry timer) ∷ []) (with_event (at number (expiry timer)) u)
+
+    abbrev ResultOf : Timer → Type 0
+    ResultOf timer = Waits whole_told (events ++ at number (expiry timer) ∷ []) (with_event (at number (expiry timer)) u) (told ++ news_in of_frames service tei number (Some (at number (expiry timer))) u.card)
+
+    -- One that does not run, which does nothing.
+    pub idle : (timer : Timer) → OnThen timer → GoesThen timer → r_of timer ≡ o_was → Has T200 events u.clock (D200 o_was) → Has T203 events u.clock D203 → ResultOf timer
+    idle timer on g same h200 h203 =
+        waits-calm whole_told events t u told w s (expiry timer) on g (subst (IsLike o_was) (sym same) (like-self o_was))
+        (λ its. ap (λ r. is_anew c service tei its o_was r (expiry timer)) same ∙ not-anew c service tei its timer o_was)
+        (λ at_7 waits. ap awaits same ∙ waits)
+        (ap (λ r. notes_due c service tei o_was r (expiry timer) (moment_of c events number (expiry timer)).answer) same
+        ∙ notes-none c service tei (moment_of c events number (expiry timer)).answer timer o_was o_was w.phase.least (inl refl)) h200 h203
+
+    -- One that runs, and leads on to this.
+    module _ (timer : LinkTimer) (x : Observed) (leads_to : r_of (timer_of service tei timer) ≡ x) (on : OnThen (timer_of service tei timer)) (g : GoesThen (timer_of service tei timer)) where
+      abbrev what : line_event.Event
+      what = expiry (timer_of service tei timer)
+
+      abbrev more : List Event
+      more = events ++ at number (expiry (timer_of service tei timer)) ∷ []
+
+      abbrev a : Answer
+      a = (moment_of c events number (expiry (timer_of service tei timer))).answer
+
+      now_is : o_of (events ++ at number (expiry (timer_of service tei timer)) ∷ []) ≡ x
+      now_is = r-is whole_told events t u told w s (expiry (timer_of service tei timer)) on g ∙ leads_to
+
+      news-are : news_in of_frames service tei number (Some (at number (expiry (timer_of service tei timer)))) u.card ≡ notes_due c service tei o_was x (expiry (timer_of service tei timer)) (moment_of c events number (expiry (timer_of service tei timer))).answer
+      news-are = own-news events u s what ∙ ap (λ q. notes_due c service tei o_was q what a) leads_to
+
+      pub waits-led : IsPhase x → owed service tei o_was.state ≡ notes_due c service tei o_was x (expiry (timer_of service tei timer)) (moment_of c events number (expiry (timer_of service tei timer))).answer ++ owed service tei x.state
+          → (runs T200 x ≡ true → D200 x (u.clock.now + lengths.t200)) → runs T203 x ≡ false → (nat_le 7 x.state ≡ true → nat_le 7 o_was.state ≡ true)
+          → (runs T200 o_was ≡ true → is_anew c service tei T200 o_was (r_of (timer_of service tei timer)) (expiry (timer_of service tei timer)) ≡ true) → ResultOf (timer_of service tei timer)
+      waits-led phase owes due_then none up anew = record {
+        goes = g;
+        on = on-after whole_told events t u told w s what on g;
+        phase = subst IsPhase (sym now_is) phase;
+        told_is = append_assoc told (news_in of_frames service tei number (Some (at number what)) u.card) (owed service tei (o_of more).state)
+            ∙ ap (λ ns. told ++ ns) (ap (λ xs. xs ++ owed service tei (o_of more).state) news-are
+            ∙ ap (λ (o : Observed). notes_due c service tei o_was x what a ++ owed service tei o.state) now_is ∙ sym owes) ∙ w.told_is;
+        wait = λ above. w.wait (up (ap (λ (o : Observed). nat_le 7 o.state) (sym now_is) ∙ above));
+        t200 = step c lengths late number ranged within service tei events u s what T200 (λ m. ⊥) (D200 (o_of more))
+            (λ run same. absurd (true≢false (sym (anew run) ∙ same)))
+            (λ run m late_is h. absurd h) (λ begun run. subst (λ o. D200 o (u.clock.now + lengths.t200)) (sym now_is) (due_then (ap (runs T200) (sym leads_to) ∙ run)));
+        t203 = λ run. absurd (true≢false (sym run ∙ ap (runs T203) now_is ∙ none));
+      }
+
+    -- T200 runs, and leads on.
+    pub waits-200 : OnThen (timers.T200 service tei) → GoesThen (timers.T200 service tei) → runs T200 o_was ≡ true → ResultOf (timers.T200 service tei)
+    waits-200 on g run =
+        let l = leads c service tei (moment_of c events number (expiry (timers.T200 service tei))).answer (timers.T200 service tei) o_was lengths.t200 late first all run w.phase in
+        let d = w.t200 run in
+        waits-led T200 (by_t200 c.n200 o_was) (t200-leads c number ranged within service tei events s.all w.on) on g l.phase l.told
+        (λ run_now. l.due u.clock.now d.0 (subst (λ n. n ≤ d.0 + late) (sym same_now) d.2) d.3 w.wait run_now) l.no_t203 l.wait
+        (λ run_was. expired-anew c number ranged within service tei events s.all T200 run_was)
+
+    -- T203 runs, and leads to an enquiry.
+    pub waits-203 : OnThen (timers.T203 service tei) → GoesThen (timers.T203 service tei) → runs T203 o_was ≡ true → ResultOf (timers.T203 service tei)
+    waits-203 on g run =
+        let at_7 = never-both o_was run in
+        let d = w.t203 run in
+        waits-led T203 (enquires o_was) (t203-leads c number ranged within service tei events s.all w.on ∙ ap (λ b. cond b (enquires o_was) o_was) run) on g
+        (record { least = omega arith; most = omega arith })
+        (ap (owed service tei) at_7.0
+        ∙ sym (ap (λ ns. ns ++ owed service tei 8) (notes-none c service tei (moment_of c events number (expiry (timers.T203 service tei))).answer (timers.T203 service tei) o_was (enquires o_was) w.phase.least (inr (at_7.0, refl)))))
+        (λ run_now. enquiry-203 c.n200 lengths.t200 late first all u.clock.now d.0 (subst (λ n. n ≤ d.0 + late) (sym same_now) d.2) d.3) refl
+        (λ up. ap (nat_le 7) at_7.0)
+        (λ run_was. absurd (true≢false (sym run_was ∙ at_7.1)))
+
+    -- T200 does not run, or T203 does not.
+    pub idle-200-is : awaits o_was ≡ false → r_of (timers.T200 service tei) ≡ o_was
+    idle-200-is none = t200-leads c number ranged within service tei events s.all w.on ∙ idle-200 c.n200 o_was none
+
+    pub idle-203-is : runs T203 o_was ≡ false → r_of (timers.T203 service tei) ≡ o_was
+    idle-203-is none = t203-leads c number ranged within service tei events s.all w.on ∙ ap (λ b. cond b (enquires o_was) o_was) none
+
+  -- Any other event of the line, of which nothing is heard.
+  module _ (whole_told : List Note) (events : List Event) (t u : TimedCard) (told : List Note) (w : Waits whole_told events t told) (s : Stand events u) (what : line_event.Event)
+      (on_then : is_on tei (view_behind c service tei number events what).teis ≡ true)
+      (g : Goes c lengths late number ranged within service tei (events ++ at number what ∷ []) (with_event (at number what) u))
+      (still : is_stirred c service tei what ≡ false) (other : is_its_expiry service tei what ≡ false) where
+    abbrev o_is : Observed
+    o_is = o_of events
+
+    abbrev r_is : Observed
+    r_is = (view_behind c service tei number events what).link
+
+    abbrev a_is : Answer
+    a_is = (moment_of c events number what).answer
+
+    by-event : r_is ≡ by_event c service tei what a_is o_is
+    by-event = stays-on c events number ranged s.all within service tei what w.on on_then
+
+    alike : IsLike o_is r_is
+    alike = subst (IsLike o_is) (sym by-event) (calm c service tei a_is o_is what still other)
+
+    keeps-by : (x : line_event.Event) → x ≡ what → awaits o_is ≡ true → awaits r_is ≡ true
+    keeps-by next is waits =
+        ap awaits (sym (is-q events u s what))
+        ∙ subst (λ x. awaits (o_of (events ++ at number x ∷ [])) ≡ true) is
+        (sends-on c events number ranged s.all (subst (λ x. AreAtLines (cards.fresh c) (events ++ at number x ∷ [])) (sym is) g.stands.all) within service tei w.on
+        (subst (λ x. is_on tei (view_of c service tei number (events ++ at number x ∷ [])).teis ≡ true) (sym is) (on-after whole_told events t u told w s what on_then g)) waits)
+    keeps-by (hears e) is waits = ap awaits by-event ∙ same-awaits c service tei a_is o_is what still other (λ n. cc (is ∙ n)) ∙ waits
+    keeps-by (request e) is waits = ap awaits by-event ∙ same-awaits c service tei a_is o_is what still other (λ n. cc (is ∙ n)) ∙ waits
+    keeps-by (expiry e) is waits = ap awaits by-event ∙ same-awaits c service tei a_is o_is what still other (λ n. cc (is ∙ n)) ∙ waits
+
+    pub waits-still : Has T200 events u.clock (D200 o_is) → Has T203 events u.clock D203
+        → Waits whole_told (events ++ at number what ∷ []) (with_event (at number what) u) (told ++ news_in of_frames service tei number (Some (at number what)) u.card)
+    waits-still h200 h203 =
+        waits-calm whole_told events t u told w s what on_then g alike (λ timer. none-renews c service tei a_is o_is timer what still other r_is alike)
+        (λ at_7 waits. keeps-by what refl waits) (no-news c service tei a_is o_is what still other w.phase.least r_is alike) h200 h203

@@ -1,0 +1,19 @@
+-- A timed card of frames, in the words of these proofs.
+use Rattle.lapd_clock.specs.Timers.{Expiry}
+use Rattle.model_card.specs.Event.{Event}
+use Rattle.model_timed.specs.Frames.{TimedCard, frames}
+use Rattle.model_timed.specs.Timed as timed
+use Rattle.model_timed.specs.Timed.{Step}
+use Rattle.std.specs.Prelude.{ℕ}
+
+abbrev pub with_event : Event → TimedCard → TimedCard
+with_event e t = timed.with_event frames e t
+
+abbrev pub expiry_of : Expiry → Event
+expiry_of x = timed.expiry_at frames x
+
+abbrev pub with_expiry : TimedCard → Expiry → TimedCard
+with_expiry t x = timed.with_expiry frames t x
+
+abbrev pub IsPrompt : ℕ → Step Event → TimedCard → Type 0
+IsPrompt late s t = timed.IsPrompt frames late s t

@@ -1,0 +1,126 @@
+-- A timed card as it goes on: when the timers of a link fall due.
+use Rattle.std.proofs.Common.{arith, ◌≡◌, ℕ, ◌+◌, ◌<◌, ◌≤◌, ◌&&◌, ◌||◌, not, Bool, true, false, cond, List, [], ◌∷◌, ◌++◌, Option, Some, None, refl, sym, ap, ◌∙◌, subst}
+use Rattle.std.proofs.lemmas.Bool.{true≢false}
+use Rattle.std.proofs.lemmas.List.Elements.{All-append, All-cons, All-nil}
+use Rattle.lapd_clock.specs.Timer.{Lengths, duration}
+use Rattle.lapd_clock.specs.Timers.{Expiry}
+use Rattle.lapd_clock.specs.Moments.{moment_of}
+use Rattle.lapd_frame.specs.declared.services.Service.{Service}
+use Rattle.lapd_frame.specs.declared.timers.Timer.{Timer}
+use Rattle.model_line.specs.Event as line_event
+use Rattle.model_line.specs.Event.{expiry}
+use Rattle.model_line.specs.Laws.{orders_in}
+use Rattle.model_line.specs.Sound.{IsInRange}
+use Rattle.model_line.specs.declared.config.Config.{Config}
+use Rattle.model_link.specs.declared.timers.LinkTimer.{LinkTimer}
+use Rattle.model_card.specs.Card.{fresh}
+use Rattle.model_card.specs.Event.{Event, at}
+use Rattle.model_card.specs.Machine.{after, answer}
+use Rattle.model_card.specs.Run.{AreAtLines, IsAtLine}
+unfoldable use Rattle.model_card.specs.Run.{after_all}
+use Rattle.model_card.proofs.Runs.{after_all-append}
+use Rattle.laws_line.specs.Steady.{timer_of}
+use Rattle.laws_trace.specs.Observer.{Observed, View, view_of, view_behind}
+use Rattle.laws_trace.specs.TimersAreTimely.{runs, is_anew}
+use Rattle.model_timed.specs.Clock.{Clock, obeyed}
+use Rattle.model_timed.specs.Frames.{TimedCard}
+use Rattle.laws_time.proofs.TimedFrames.{with_event}
+use Rattle.laws_time.proofs.Links.{view-then}
+use Rattle.laws_time.proofs.Moments.{now-stays, lengths-stay}
+use Rattle.laws_time.proofs.Ordered.{left, moment-left}
+
+module _ (c : Config) (lengths : Lengths) (late number : ℕ) (ranged : IsInRange c) (within : number < c.lines) (service : Service) (tei : ℕ) where
+  abbrev pub its : LinkTimer → Timer
+  its timer = timer_of service tei timer
+
+  abbrev pub IsOn : Expiry → Type 0
+  IsOn e = e.line < c.lines
+
+  -- It is a card that began, after these events.
+  pub record Stands (events : List Event) (t : TimedCard) : Type 0 where
+    pub card : t.card ≡ after_all (fresh c) events
+    pub all : AreAtLines (fresh c) events
+    pub lengths_are : t.clock.lengths ≡ lengths
+
+  abbrev pub seen : List Event → Observed
+  seen events = (view_of c service tei number events).link
+
+  -- A timer that runs falls due at a moment of which this holds, and is overdue by no more.
+  abbrev pub IsDue : LinkTimer → Clock → (ℕ → Type 0) → Type 0
+  IsDue timer clock P = (m : ℕ) × (moment_of number (its timer) clock.running ≡ Some m) × (clock.now ≤ m + late) × P m
+
+  abbrev pub Holds : LinkTimer → List Event → Clock → (ℕ → Type 0) → Type 0
+  Holds timer events clock P = runs timer (seen events) ≡ true → IsDue timer clock P
+
+  all-then : (events : List Event) (e : Event) → AreAtLines (fresh c) events → e.line < c.lines → AreAtLines (fresh c) (events ++ e ∷ [])
+  all-then events e all here = All-append (IsAtLine (fresh c)) events (e ∷ []) all (All-cons (IsAtLine (fresh c)) e [] here (All-nil (IsAtLine (fresh c))))
+
+  pub stands-then : (events : List Event) (t : TimedCard) (e : Event) → Stands events t → e.line < c.lines → Stands (events ++ e ∷ []) (with_event e t)
+  unfolding after_all
+  stands-then events t e s here = record {
+    card = ap (after e) s.card ∙ sym (after_all-append (fresh c) events (e ∷ []));
+    all = all-then events e s.all here;
+    lengths_are = lengths-stay e.line t.clock (orders_in (answer e t.card)) ∙ s.lengths_are;
+  }
+
+  -- An event of the line.
+  module _ (events : List Event) (t : TimedCard) (s : Stands events t) (what : line_event.Event) (timer : LinkTimer) where
+    abbrev o : Observed
+    o = seen events
+
+    abbrev q : Observed
+    q = (view_behind c service tei number events what).link
+
+    abbrev then_clock : Clock
+    then_clock = (with_event (at number what) t).clock
+
+    pub q-is : seen (events ++ at number what ∷ []) ≡ q
+    q-is = ap (λ (v : View). v.link) (view-then c service tei number events (at number what))
+
+    moment-then : moment_of number (its timer) then_clock.running ≡ left c service tei timer o q what (t.clock.now + duration lengths (its timer)) (moment_of number (its timer) t.clock.running)
+    moment-then =
+        ap (λ card. moment_of number (its timer) (obeyed number (orders_in (answer (at number what) card)) t.clock).running) s.card
+        ∙ moment-left c events number ranged s.all within service tei what t.clock timer
+        ∙ ap (λ l. left c service tei timer o q what (t.clock.now + duration l (its timer)) (moment_of number (its timer) t.clock.running)) s.lengths_are
+
+    now-then : then_clock.now ≡ t.clock.now
+    now-then = now-stays number t.clock (orders_in (answer (at number what) t.card))
+
+    abbrev begins : Bool
+    begins = not (runs timer o) || is_anew c service tei timer o q what
+
+    by-begins : (P Q : ℕ → Type 0) → (runs timer o ≡ true → is_anew c service tei timer o q what ≡ false → IsDue timer t.clock P)
+        → (runs timer q ≡ true → (m : ℕ) → t.clock.now ≤ m + late → P m → Q m) → (begins ≡ true → runs timer q ≡ true → Q (t.clock.now + duration lengths (its timer)))
+        → runs timer q ≡ true → (b : Bool) → begins ≡ b → IsDue timer then_clock Q
+    by-begins P Q kept more anew run true is =
+        let then_due = t.clock.now + duration lengths (its timer) in
+        let m = moment_of number (its timer) t.clock.running in (
+          then_due,
+          moment-then ∙ ap (λ r. cond (r && begins) (Some then_due) (cond (runs timer o && not (runs timer q)) None m)) run ∙ ap (λ b. cond b (Some then_due) (cond (runs timer o && not (runs timer q)) None m)) is,
+          omega (arith, now-then),
+          anew is run,
+        )
+    by-begins P Q kept more anew run false is = go (runs timer o) refl (is_anew c service tei timer o q what) refl
+      where
+        then_due : ℕ
+        then_due = t.clock.now + duration lengths (its timer)
+
+        mo : Option ℕ
+        mo = moment_of number (its timer) t.clock.running
+
+        go : (r : Bool) → runs timer o ≡ r → (a : Bool) → is_anew c service tei timer o q what ≡ a → IsDue timer then_clock Q
+        go false er a ea = absurd (true≢false (sym (ap (λ b. not b || is_anew c service tei timer o q what) er) ∙ is))
+        go true er true ea = absurd (true≢false (sym (ap (λ b. not b || is_anew c service tei timer o q what) er ∙ ea) ∙ is))
+        go true er false ea =
+            let h = kept er ea in (
+              h.0,
+              moment-then ∙ ap (λ b. cond (runs timer q && b) (Some then_due) (cond (runs timer o && not (runs timer q)) None mo)) is
+                  ∙ ap (λ r. cond (r && false) (Some then_due) (cond (runs timer o && not r) None mo)) run ∙ ap (λ r. cond (r && false) None mo) er ∙ h.1,
+              subst (λ n. n ≤ h.0 + late) (sym now-then) h.2,
+              more run h.0 h.2 h.3,
+            )
+
+    pub step : (P Q : ℕ → Type 0) → (runs timer o ≡ true → is_anew c service tei timer o q what ≡ false → IsDue timer t.clock P)
+        → (runs timer q ≡ true → (m : ℕ) → t.clock.now ≤ m + late → P m → Q m) → (begins ≡ true → runs timer q ≡ true → Q (t.clock.now + duration lengths (its timer)))
+        → Holds timer (events ++ at number what ∷ []) then_clock Q
+    step P Q kept more anew run = by-begins P Q kept more anew (ap (runs timer) (sym q-is) ∙ run) begins refl

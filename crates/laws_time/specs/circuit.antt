@@ -1,0 +1,3 @@
+-- Two cards of octets on one circuit, with their clocks.
+pub mod Clocked
+pub mod Worked

@@ -6,9 +6,7 @@ ghost use Rattle.std.specs.Prelude.{◌-◌, ◌≤◌, ◌<◌, ◌^◌, IfSome
 ghost use Rattle.lapd_bits.specs.FlagEnd.{IsFlagEnd};
 
 use crate::stuffer::five_ones;
-
-/// A flag, its first bit lowest.
-const FLAG: u8 = 0b0111_1110;
+use crate::waiting::FLAG;
 
 /// The contiguous 1s in a flag.
 const FLAG_ONES: u8 = 6;

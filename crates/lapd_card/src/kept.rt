@@ -9,10 +9,11 @@ use crate::replies::Reply;
 use crate::sink::{Sink, SinkFailed};
 use arrayvec::ArrayVec;
 use lapd_line::Report;
+use model_line::MOST_N201;
 use std::alloc::{AllocError, Global};
 
-/// The longest contents that a frame delivers: N201 is at most 260.
-const LONGEST: usize = 260;
+/// The longest contents that a frame delivers.
+const LONGEST: usize = MOST_N201 as usize;
 
 /// A reply that was kept.
 #[derive(Debug, Drop)]

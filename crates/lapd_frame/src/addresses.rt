@@ -3,6 +3,15 @@
 ghost use Rattle.std.specs.Prelude.{◌≡◌, ◌<◌, true};
 ghost use Rattle.lapd_frame.specs.{cr_bit, address_field, other_side, address_of};
 
+/// The SAPI of layer 2 management (Q.921 clause 3.3.3).
+pub const MANAGEMENT: u8 = 63;
+
+/// The greatest TEI of a terminal (Q.921 clause 3.3.4).
+pub const LAST_TEI: u8 = 126;
+
+/// The TEI of the group, which is all terminals of a line (Q.921 clause 3.3.4).
+pub const GROUP: u8 = 127;
+
 /// A side of a line, which is who sent a frame.
 #[derive(Clone, Copy, PartialEq, Eq, Debug)]
 pub enum Side {

@@ -8,8 +8,8 @@ use crate::controls::Control;
 use crate::faults::ReadFault;
 use lapd_seq::Seq;
 
-// Whether the octets end before the control field does.
-pub(crate) fn is_short(octets: &[u8]) -> bool
+/// Whether the octets of a frame, without its check, end before its control field does (Q.921 clause 2.9).
+pub fn is_short(octets: &[u8]) -> bool
     ensures { result ≡ is_short octets.now }
 {
     match octets {

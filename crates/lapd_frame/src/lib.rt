@@ -3,10 +3,10 @@
 //!
 //! The octets here are those between two flags, without bit stuffing and frame check.
 //!
-//! - `addresses`: `Side`, who sent a frame, and its `Address`.
+//! - `addresses`: `Side`, who sent a frame, and its `Address`; the SAPI `MANAGEMENT`, the TEIs `LAST_TEI` and `GROUP`.
 //! - `controls`: `Control`, what kind of frame it is, a variant for each row of table 5.
 //! - `frames`: `Frame`, the whole of it, with its information lent.
-//! - `faults`, `headers`, `reading`: `read`, from octets to a frame, or to the first `ReadFault`; `octet_at`.
+//! - `faults`, `headers`, `reading`: `read`, from octets to a frame or the first `ReadFault`; `is_short`; `octet_at`.
 //! - `overlong`: `read_long`, what the first four octets tell of a frame that is too long to keep.
 //! - `writing`: `write`, from a frame to octets.
 //! - `laws`: `one_spelling`, what holds of the grammar itself.
@@ -35,10 +35,11 @@ mod short_lists;
 mod timers;
 mod writing;
 
-pub use addresses::{Address, Side};
+pub use addresses::{Address, GROUP, LAST_TEI, MANAGEMENT, Side};
 pub use controls::Control;
 pub use faults::ReadFault;
 pub use frames::Frame;
+pub use headers::is_short;
 pub use laws::one_spelling;
 pub use notes::{ErrorCode, Note};
 pub use overlong::{Long, read_long};

@@ -1,5 +1,5 @@
 -- What a call on one link does to all of them: it is taken out of the list, and put back.
-use Rattle.lapd_line.proofs.Vocabulary.{◌≡◌, ℕ, ◌<◌, ◌≤◌, List, length, get_or, set, option_map, Result, OnOk, refl, sym, ap, subst, ◌∙◌, arith, Option, Bool, length-map, length-set, get_or_default, map-set_same, slice_get-map, slice_get-get_or, same_Some, Owned, Store, SameLimits, FocusPair, focus_pair, Link, Offer, BareReport, terms_of, told_with, Terms, offer, Service, Config, terms, window, LinkFits, LinksStand, HasTerms, machine_at, link_pairs, terms_in, IsGiven, Offers, Refuses, Refusal, GoesOn}
+use Rattle.lapd_line.proofs.Vocabulary.{◌≡◌, ℕ, ◌<◌, ◌≤◌, List, length, get_or, set, option_map, Result, OnOk, None, refl, sym, ap, subst, ◌∙◌, arith, Option, Bool, length-map, length-set, get_or_default, map-set_same, slice_get-map, slice_get-get_or, same_Some, Owned, Store, SameLimits, FocusPair, focus_pair, Link, Offer, BareReport, terms_of, told_with, Terms, offer, Service, Config, terms, window, LinkFits, LinksStand, HasTerms, machine_at, link_pairs, terms_in, IsGiven, Offers, Refuses, Refusal, GoesOn}
 use Rattle.lapd_link.specs.Stands.{LinkStands}
 use Rattle.model_link.specs.Events.{Event, Request}
 use Rattle.model_link.specs.Requests.{refusal}
@@ -87,13 +87,16 @@ module _ {items links : List Link} {number : ℕ} {x : Link} (view : items ≡ l
   pub serves : {y : Link} {s t : Store} {e : Event} {info : List ℕ} {answer : BareReport}
       → ((others : List Owned) (m : machine.Link) → LinkStands x s others m → LinkStands y t others (after (terms_of x) e m))
       → ((others : List Owned) (m : machine.Link) → LinkStands x s others m → told_with info answer ≡ told (terms_of x) e m)
+      → ((others : List Owned) (m : machine.Link) → LinkStands x s others m → answer.cause ≡ None)
+      → (c : Config) × (others : List Owned) × (ms : List machine.Link) × LinksStand c links s others ms
       → terms_of y ≡ terms_of x → SameLimits s t → Serves number e info links s (set items number y) t answer
-  serves {y} {s} {t} {e} {info} {answer} stands is_told same limits =
+  serves {y} {s} {t} {e} {info} {answer} stands is_told cause standing same limits =
       subst (λ l. Serves number e info links s (set l number y) t answer) (sym view) (record {
         terms = terms_stay links number x y is same;
         limits = limits;
         goes_on = goes_on e stands same limits;
         told = of_part (λ u m. told_with info answer ≡ told u e m) is_told;
+        cause = let (others, m, st) = part_stands standing in cause others m st;
       })
 
   -- what it has to give
@@ -121,5 +124,5 @@ opened_terms old c service tei k n200 is_k is_n200 queue control = grind arith
 pub on_ok : {A E P Q : Type 0} (r : Result A E) → (P → Q) → OnOk r P → OnOk r Q
 on_ok r f h = grind arith
 
-pub both_ok : {A E P Q R : Type 0} (r : Result A E) → (P → Q → R) → OnOk r P → OnOk r Q → OnOk r R
-both_ok r f p q = grind arith
+pub all_ok : {A E P Q R S : Type 0} (r : Result A E) → (P → Q → R → S) → OnOk r P → OnOk r Q → OnOk r R → OnOk r S
+all_ok r f p q s = grind arith

@@ -23,6 +23,6 @@ pub clear_tells_nothing : {r : BareReport} (octets : List ℕ) → IsClear r →
 clear_tells_nothing {r} octets clear = cause_alone octets r.cause clear ∙ ap (λ c. record nothing { cause = c }) clear.cause
 
 -- or what a link told
-pub link_told : (octets info : List ℕ) (r : BareReport) (start : ℕ) → info ≡ drop start octets
-    → told_in octets (record r { start = start; cause = None }) ≡ told_of_link (told_with info r)
-link_told octets info r start is = grind (arith, none_else)
+pub link_told : (octets info : List ℕ) (r : BareReport) (start : ℕ) → r.cause ≡ None → info ≡ drop start octets
+    → told_in octets (record r { start = start }) ≡ told_of_link (told_with info r)
+link_told octets info r start none is = grind (arith, none_else)

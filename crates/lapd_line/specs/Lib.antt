@@ -46,7 +46,7 @@ pub use Rattle.model_card.specs.ports.HeadHeard.{head_heard}
 pub use Rattle.model_card.specs.ports.Line.{OctetLine, after, fresh_octet_line}
 pub use Rattle.model_card.specs.ports.Port.{fresh_port, gained, is_due}
 pub use Rattle.model_card.specs.ports.Stored.{held_at}
-pub use Rattle.model_line.specs.Came.{came, cause_of, is_too_short}
+pub use Rattle.model_line.specs.Came.{came, cause_of}
 pub use Rattle.model_line.specs.Counts.{may_send}
 pub use Rattle.model_line.specs.Effect.{at_link, at_management, at_no_link, at_units, told_of_link, told_of_management, with_cleared, without_units}
 pub use Rattle.model_line.specs.Event.{Answer, dropped, hears, nothing, told}

@@ -1,5 +1,5 @@
 -- The links of a line, and what they stand for.
-use Rattle.std.specs.Prelude.{◌≡◌, ℕ, ◌≤◌, ◌++◌, Bool, List, length, map, get_or, set, slice_get, Option, Some, IfSome}
+use Rattle.std.specs.Prelude.{◌≡◌, ℕ, ◌≤◌, ◌++◌, Bool, List, length, map, get_or, set, slice_get, Option, Some, None, IfSome}
 use Rattle.std.specs.List.{All, flat_map, zip}
 use Rattle.lapd_frame.specs.Grammar.{IsFrame}
 use Rattle.lapd_store.specs.Ownership.{Owned, Holds, pairs_of}
@@ -58,7 +58,7 @@ GoesOn number e old s new t =
     (c : Config) (terms : Terms) (others : List Owned) (ms : List machine.Link) → HasTerms old number terms → LinksStand c old s others ms
     → LinksStand c new t others (set ms number (after terms e (machine_at ms number)))
 
--- And it is answered with what that machine tells.
+-- And it is answered with what that machine tells; why octets were dropped no link tells.
 abbrev pub IsAnswered : ℕ → Event → List ℕ → List Link → Store → BareReport → Type 0
 IsAnswered number e info old s report =
     (c : Config) (terms : Terms) (others : List Owned) (ms : List machine.Link) → HasTerms old number terms → LinksStand c old s others ms
@@ -69,6 +69,7 @@ pub record Serves (number : ℕ) (e : Event) (info : List ℕ) (old : List Link)
   pub limits : SameLimits s t
   pub goes_on : GoesOn number e old s new t
   pub told : IsAnswered number e info old s report
+  pub cause : report.cause ≡ None
 
 -- A request of the link at a place is refused for this reason, or not.
 abbrev pub Refuses : ℕ → Bool → Request → List Link → Store → Option Refusal → Type 0

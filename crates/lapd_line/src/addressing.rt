@@ -7,17 +7,12 @@ ghost use Rattle.model_link.specs.Events as link;
 use crate::link_layer::LinkLayer;
 use crate::reports::tell_drop;
 use lapd_frame::{
-    Address, Control, Frame, Long, Note, ReadFault, Service, ShortList, Side, read, read_long,
+    Address, Control, Frame, GROUP, Long, MANAGEMENT, Note, ReadFault, Service, ShortList, Side,
+    read, read_long,
 };
 use lapd_link::{BareReport, Received};
 use lapd_store::Shelf;
 use model_bits::{Cause, Heard};
-
-/// The SAPI of layer 2 management (Q.921 clause 3.3.3).
-const MANAGEMENT: u8 = 63;
-
-/// The TEI of the group (Q.921 clause 3.3.4), for which the frames of management are.
-pub(crate) const GROUP: u8 = 127;
 
 /// For whom a frame is, by its address.
 #[derive(Clone, Copy)]

@@ -3,6 +3,7 @@
 ghost use Rattle.std.specs.Prelude.{◌≡◌, Some};
 ghost use Rattle.lapd_line.specs.{heard_of, came, cause_of, octets_of};
 
+use lapd_frame::is_short;
 use model_bits::{Cause, Heard};
 use model_line::Fault;
 
@@ -10,8 +11,7 @@ use model_line::Fault;
 pub(crate) fn came(octets: &[u8], n201: u16) -> Heard<'_>
     ensures { heard_of result ≡ Some (came n201 octets.now) }
 {
-    // Clause 2.9: it has no control field, or half of one.
-    if octets.len() < 3 || (octets.len() == 3 && octets[2] % 4 != 3) {
+    if is_short(octets) {
         return Heard::Dropped(Cause::Short);
     }
     if octets.len() > usize::from(n201) + 4 {

@@ -44,7 +44,6 @@ impl LinkLayer {
         };
         let number = link_number(place, service);
         self.links.expire(number, timer, report, shelf);
-        report.cause = None;
         self.has_frame.set(number, self.links.has_frame(number));
     }
 }

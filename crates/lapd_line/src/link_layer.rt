@@ -61,7 +61,6 @@ impl LinkLayer {
         let number = link_number(place, service);
         self.links.receive(number, received, report, shelf);
         report.start = start;
-        report.cause = None;
         self.has_frame.set(number, self.links.has_frame(number));
     }
 }

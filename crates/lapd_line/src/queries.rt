@@ -7,9 +7,8 @@ ghost use Rattle.model_line.specs.Room.{room_in};
 
 use crate::frame_line::FrameLine;
 use crate::link_layer::link_number;
-use crate::requests::LAST_TEI;
 use lapd_count::Counters;
-use lapd_frame::{Refusal, Service};
+use lapd_frame::{LAST_TEI, Refusal, Service};
 use lapd_link::Room;
 use lapd_store::Shelf;
 

@@ -7,17 +7,14 @@ ghost use Rattle.lapd_tei.specs.Laws.{IsInRange};
 ghost use Rattle.model_line.specs.Line as machine;
 ghost use Rattle.model_line.specs.Request as asked;
 
-use crate::addressing::{GROUP, has_management};
+use crate::addressing::has_management;
 use crate::link_layer::{LinkLayer, link_number};
 use crate::units::QueuedUnit;
-use lapd_frame::{Refusal, Service, Side};
+use lapd_frame::{GROUP, LAST_TEI, Refusal, Service, Side};
 use lapd_link::{BareReport, LinkRequest};
 use lapd_store::Shelf;
 use lapd_tei::{TeiOutcome, Teis};
 use model_line::Request;
-
-/// The greatest TEI of a terminal (Q.921 clause 3.3.4).
-pub(crate) const LAST_TEI: u8 = 126;
 
 /// What is asked of TEI management about a TEI.
 #[derive(Clone, Copy)]
@@ -147,7 +144,6 @@ impl LinkLayer {
         let number = link_number(place, service);
         match self.links.request(number, request, report, shelf, slots) {
             Ok(()) => {
-                report.cause = None;
                 self.has_frame.set(number, self.links.has_frame(number));
                 Ok(())
             }
@@ -182,7 +178,6 @@ impl LinkLayer {
         };
         let number = link_number(place, service);
         self.links.clear(number, report, shelf);
-        report.cause = None;
         self.has_frame.set(number, self.links.has_frame(number));
         Ok(())
     }

@@ -25,6 +25,7 @@ transferred {m = m} octets s place nothing =
                 ap (λ (n : ℕ). drop n (machine.queue_of m ++ octets ∷ [])) nothing.released
                 ∙ sym (drop-append-le m.a m.contents (octets ∷ []) (omega (arith, s.fits.sound.ordered, s.fits.sound.accepted)));
             few = omega (arith, length-append (machine.queue_of m) (octets ∷ []), s.kept.lengths, place, s.fits.capacity, s.fits.range.queue_high);
+            cause = nothing.cause;
           };
       is = ap (λ (c : Course). data_in_7_8 octets c) (begun-resting [] s.fits.rests nothing);
     }

@@ -4,7 +4,7 @@
 -- row frees nothing on the shelf: it counts the contents that are to go, and `settle` then releases so many, the
 -- oldest first, and puts the report together (`Reaches`). That the machine's link stays sound is the law
 -- `stays_sound`, and needs no code.
-use Rattle.std.specs.Prelude.{◌≡◌, ℕ, ◌<◌, ◌≤◌, Bool, false, List, length}
+use Rattle.std.specs.Prelude.{◌≡◌, ℕ, ◌<◌, ◌≤◌, Bool, false, List, length, None}
 use Rattle.lapd_store.specs.Store.{Store, used_slots}
 use Rattle.lapd_store.specs.Ownership.{Owned, Keeps}
 use Rattle.model_link.specs.declared.terms.Terms.{Terms}
@@ -41,11 +41,12 @@ pub record LinkStands (link : Link) (store : Store) (others : List Owned) (m : m
   pub wide : (terms_of link).n201 ≤ store.width
   pub kept : Keeps store (slots_of link) (machine.queue_of m) others
 
--- A link and its report stand for the end of an event, whatever the event was.
+-- A link and its report stand for the end of an event, whatever the event was. No link tells why octets were dropped.
 pub record Reaches (info : List ℕ) (before : machine.Link) (c : Course) (link : Link) (store : Store) (others : List Owned) (report : BareReport) : Type 0 where
   pub rests : Rests (terms_of link) link.entity c.link
   pub kept : Keeps store (slots_of link) (machine.queue_of c.link) others
   pub told : told_with info report ≡ answers.told_of (terms_of link) before c
+  pub cause : report.cause ≡ None
 
 -- What stays through every event: the terms, and the capacity of the queue.
 pub record Stays (old new : Link) : Type 0 where

@@ -1,6 +1,6 @@
 //! Frames, timers, and the end of the TEI.
 
-ghost use Rattle.std.specs.Prelude.{◌≡◌, ℕ, ◌≤◌, true, List, []};
+ghost use Rattle.std.specs.Prelude.{◌≡◌, ℕ, ◌≤◌, true, List, [], None};
 ghost use Rattle.lapd_link.specs.{SameLimits, Owned, Keeps, listed, Course, after, told, received_step, starts, RisesByEvent, Agrees, Does, HasRoom, IsClear, info_of, received_of, Stays, Reaches, terms_of, told_with, told_of};
 ghost use Rattle.model_link.specs.Link as machine;
 ghost use Rattle.model_link.specs.Events as event;
@@ -56,6 +56,7 @@ impl Link {
             LinkStands self.new (S.store shelf.new) others (after (terms_of self.old) (event.received (received_of received.entry)) m) }
         ensures told { (others : List Owned) (m : machine.Link) → LinkStands self.old (S.store shelf.old) others m →
             told_with (info_of received.entry) report.new ≡ told (terms_of self.old) (event.received (received_of received.entry)) m }
+        ensures cause { (others : List Owned) (m : machine.Link) → LinkStands self.old (S.store shelf.old) others m → report.new.cause ≡ None }
         ensures frames { (others : List Owned) (m : machine.Link) → LinkStands self.old (S.store shelf.old) others m →
             RisesByEvent (terms_of self.old) (event.received (received_of received.entry)) m }
         // What the state does not serve changes nothing.
@@ -77,6 +78,7 @@ impl Link {
             LinkStands self.new (S.store shelf.new) others (after (terms_of self.old) (event.expired timer) m) }
         ensures told { (others : List Owned) (m : machine.Link) → LinkStands self.old (S.store shelf.old) others m →
             told_with [] report.new ≡ told (terms_of self.old) (event.expired timer) m }
+        ensures cause { (others : List Owned) (m : machine.Link) → LinkStands self.old (S.store shelf.old) others m → report.new.cause ≡ None }
         ensures frames { (others : List Owned) (m : machine.Link) → LinkStands self.old (S.store shelf.old) others m →
             RisesByEvent (terms_of self.old) (event.expired timer) m }
         // At most one timer is started.
@@ -98,6 +100,7 @@ impl Link {
             LinkStands self.new (S.store shelf.new) others (after (terms_of self.old) event.cleared m) }
         ensures told { (others : List Owned) (m : machine.Link) → LinkStands self.old (S.store shelf.old) others m →
             told_with [] report.new ≡ told (terms_of self.old) event.cleared m }
+        ensures cause { (others : List Owned) (m : machine.Link) → LinkStands self.old (S.store shelf.old) others m → report.new.cause ≡ None }
         // It may send no more than before.
         ensures frames { (others : List Owned) (m : machine.Link) → LinkStands self.old (S.store shelf.old) others m →
             RisesByEvent (terms_of self.old) event.cleared m }

@@ -60,6 +60,7 @@ impl Link {
             LinkStands self.new (S.store shelf.new) others (after (terms_of self.old) (event.requested (request_of request.entry) (nat_le slots (used_slots (S.store shelf.old)))) m)) }
         ensures told { OnOk result ((others : List Owned) (m : machine.Link) → LinkStands self.old (S.store shelf.old) others m →
             told_with [] report.new ≡ told (terms_of self.old) (event.requested (request_of request.entry) (nat_le slots (used_slots (S.store shelf.old)))) m) }
+        ensures cause { OnOk result ((others : List Owned) (m : machine.Link) → LinkStands self.old (S.store shelf.old) others m → report.new.cause ≡ None) }
         ensures frames { (others : List Owned) (m : machine.Link) → LinkStands self.old (S.store shelf.old) others m →
             RisesByEvent (terms_of self.old) (event.requested (request_of request.entry) (nat_le slots (used_slots (S.store shelf.old)))) m }
         ensures terms { terms_of self.new ≡ terms_of self.old }

@@ -10,6 +10,7 @@ fits-resting {m = m} rests few nothing =
       ring = rests.ring;
       queue = ap (λ n. drop n (queue_of m)) nothing.released;
       few = few;
+      cause = nothing.cause;
     }
 
 -- and its course is the one that begins

@@ -66,10 +66,11 @@ course_of info e t p = record {
 
 -- The past is one of this entity in the course of an event, at whose beginning these messages were queued: the window
 -- and V(R) are the remainders of its numbers, and the messages without those that are to be released are the contents
--- from the first that is not acknowledged on.
+-- from the first that is not acknowledged on. A link tells of no octets why they were dropped: that is its line's to say.
 pub record Fits (terms : Terms) (messages : List (List ℕ)) (e : Entity) (t : BareReport) (p : Past) : Type 0 where
   pub window : window.WindowStands e.window p.a p.s
   pub received : e.vr ≡ seq p.r
   pub ring : e.waiting.capacity ≡ terms.control
   pub queue : drop t.released messages ≡ drop p.a p.contents
   pub few : length messages ≤ 127
+  pub cause : t.cause ≡ None

@@ -3,11 +3,7 @@
 ghost use Rattle.std.specs.Prelude.{◌≡◌, ◌<◌};
 ghost use Rattle.lapd_tei.specs.Messages.{action_of, information_of, frame_of, type_of};
 
-use crate::table::GROUP;
-use lapd_frame::{Address, Control, Frame, Side, write};
-
-/// The SAPI of layer 2 management (Q.921 clause 3.3.3).
-const MANAGEMENT: u8 = 63;
+use lapd_frame::{Address, Control, Frame, GROUP, MANAGEMENT, Side, write};
 
 /// The entity identifier of TEI management, and the Ai that names no TEI: any will do, or there is none to be had
 /// (Q.921 clause 5.3.1).

@@ -4,14 +4,13 @@ ghost use Rattle.std.specs.Prelude.{◌≡◌, ◌<◌, ◌≤◌, Some, None, l
 ghost use Rattle.lapd_tei.specs.{Places, is_on, place_of, free_place, free_tei, freed};
 
 use arrayvec::ArrayVec;
+use lapd_frame::GROUP;
 use std::marker::Model;
 
 const MOST: usize = 8;
 
-/// The lowest TEI that the network assigns, and that of the group, below which they end (Q.921 clause 3.3.4).
+/// The lowest TEI that the network assigns; they end before that of the group (Q.921 clause 3.3.4).
 const LOWEST: u8 = 64;
-
-pub(crate) const GROUP: u8 = 127;
 
 /// The TEI at each place, `None` where it is free.
 #[derive(Drop, Debug)]

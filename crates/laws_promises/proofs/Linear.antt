@@ -1,5 +1,6 @@
 -- The frames sent are linear in the octets of the frames that came.
-use Rattle.laws_promises.proofs.Vocabulary.{◌≡◌, ℕ, ◌+◌, ◌*◌, ◌≤◌, Bool, false, List, [], ◌∷◌, length, map, take, sym, subst, cond, arith, count_by, All, ltb-false, leb-true, All-nil, All-cons, All-head, All-tail, All-weaker, sum_by-cons, mul-le-mul_left, Short, came, is_too_short, hears_frame, hears_long_frame, is_frame, is_long_frame, Card, may_send, window, sent, heard, long_heard, accepted, expired, rejected, after, answer, Moment, after_all, IsSound, frames_amortised, rejects_are_long}
+use Rattle.laws_promises.proofs.Vocabulary.{◌≡◌, ℕ, ◌+◌, ◌*◌, ◌≤◌, Bool, false, List, [], ◌∷◌, length, map, take, sym, subst, cond, arith, count_by, All, ltb-false, leb-true, All-nil, All-cons, All-head, All-tail, All-weaker, sum_by-cons, mul-le-mul_left, Short, came, hears_frame, hears_long_frame, is_frame, is_long_frame, Card, may_send, window, sent, heard, long_heard, accepted, expired, rejected, after, answer, Moment, after_all, IsSound, frames_amortised, rejects_are_long}
+use Rattle.lapd_frame.specs.Faults.{is_short}
 use Rattle.model_bits.specs.Stream as stream
 use Rattle.model_line.specs.Event as line
 use Rattle.model_card.specs.Event.{Event}
@@ -15,8 +16,8 @@ pub record TakesItsOctets (n201 : ℕ) (e : Event) : Type 0 where
   pub six : 6 * cond (hears_frame e.what) 1 0 ≤ octets_of n201 e
   pub seven : 7 * cond (hears_long_frame e.what) 1 0 ≤ octets_of n201 e
 
-three : (octets : List ℕ) → is_too_short octets ≡ false → 3 ≤ length octets
-three octets = grind (arith, ltb-false)
+three : (octets : List ℕ) → is_short octets ≡ false → 3 ≤ length octets
+three octets = grind arith
 
 abbrev heard_as : ℕ → List ℕ → Bool → Bool → stream.Event
 heard_as n201 octets short long = cond short (stream.dropped Short) (cond long (stream.overlong (take 4 octets)) (stream.frame octets))

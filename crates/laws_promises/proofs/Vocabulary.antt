@@ -23,7 +23,7 @@ pub use Rattle.model_card.specs.Sound.{IsSound}
 pub use Rattle.model_card.specs.ports.Card.{OctetCard}
 pub use Rattle.model_card.specs.ports.Port.{Port, left_of, pulled}
 pub use Rattle.model_card.specs.ports.Run.{meant_all}
-pub use Rattle.model_line.specs.Came.{came, is_too_short}
+pub use Rattle.model_line.specs.Came.{came}
 pub use Rattle.model_line.specs.Counts.{hears_frame, hears_long_frame, is_frame, is_long_frame}
 pub use Rattle.std.proofs.lemmas.List.{length-map, take_all}
 pub use Rattle.std.proofs.lemmas.Option.{slice_get-get_or}

@@ -1,13 +1,14 @@
 -- A frame that a sound link gives comes as it is, and is read again.
-use Rattle.laws_wire.proofs.Vocabulary.{◌≡◌, ℕ, ◌+◌, ◌≤◌, ◌⊎◌, false, not, ◌&&◌, ◌||◌, nat_eq, nat_lt, List, length, slice_index, Ok, refl, arith, le-ltb, ne_eqb, Side, Parts, IsFrame, spelling, other_side, reading, reading-again, came, IsNotShort, not-short}
+use Rattle.laws_wire.proofs.Vocabulary.{◌≡◌, ℕ, ◌+◌, ◌≤◌, false, nat_lt, List, length, Ok, refl, arith, le-ltb, Side, Parts, IsFrame, spelling, other_side, reading, reading-again, came, IsNotShort, not-short}
+use Rattle.lapd_frame.specs.Faults.{is_short}
 use Rattle.model_bits.specs.Stream.{frame}
 
 -- A frame that is neither too short nor too long comes as it is.
-by-length : (n rest : ℕ) → (4 ≤ n) ⊎ ((n ≡ 3) × (rest ≡ 3)) → (nat_lt n 3 || (nat_eq n 3 && not (nat_eq rest 3))) ≡ false
-by-length n rest o = grind (arith, nat_eq, le-ltb, ne_eqb, nat_lt)
+whole-field : (octets : List ℕ) → IsNotShort octets → is_short octets ≡ false
+whole-field octets o = grind arith
 
 pub came-whole : (n201 : ℕ) (octets : List ℕ) → IsNotShort octets → length octets ≤ n201 + 4 → came n201 octets ≡ frame octets
-came-whole n201 octets not-short few = grind (arith, nat_lt, by-length, slice_index, le-ltb)
+came-whole n201 octets not-short few = grind (arith, nat_lt, whole-field, le-ltb)
 
 -- A frame of this side that comes to the other as it is, and that the other reads as what it is.
 pub record Carries (side : Side) (n201 : ℕ) (f : Parts) (octets : List ℕ) : Type 0 where

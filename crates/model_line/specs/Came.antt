@@ -1,23 +1,18 @@
 -- A frame that a controller of a line's flags, stuffed 0s and checks brings, and a fault that it tells in place of one: what
 -- they are heard as (Q.921 clauses 2.7, 2.9 and 2.10).
-use Rattle.std.specs.Prelude.{ℕ, ◌+◌, ◌%◌, Bool, not, ◌&&◌, ◌||◌, nat_eq, nat_lt, List, length, take, slice_index, if◌then◌else◌}
+use Rattle.std.specs.Prelude.{ℕ, ◌+◌, nat_lt, List, length, take, if◌then◌else◌}
+use Rattle.lapd_frame.specs.Faults.{is_short}
 use Rattle.model_bits.specs.Stream.{Event, frame, overlong, dropped}
 use Rattle.model_bits.specs.declared.heard.Cause.{Cause}
 use Rattle.model_bits.specs.declared.heard.Cause.TheVariants as cause
 use Rattle.model_line.specs.declared.faults.Fault.{Fault}
 use Rattle.model_line.specs.declared.faults.Fault.TheVariants.{Fcs, Abort, Ragged, Short}
 
--- Without its check, a frame is too short where it has fewer than 3 octets; or 3, where the third is the control octet
--- of a format that has two (clause 2.9).
-abbrev pub is_too_short : List ℕ → Bool
-is_too_short octets =
-    nat_lt (length octets) 3 || (nat_eq (length octets) 3 && not (nat_eq (slice_index octets 2 % 4) 3))
-
 -- What it is heard as, where information fields have at most `n201` octets: an address has two octets, and a control
 -- field two at most.
 abbrev pub came : ℕ → List ℕ → Event
 came n201 octets =
-    if is_too_short octets then dropped cause.Short
+    if is_short octets then dropped cause.Short
     else if nat_lt (n201 + 4) (length octets) then overlong (take 4 octets)
     else frame octets
 

@@ -6,6 +6,12 @@ ghost use Rattle.model_line.specs.Config.{first_fault, field_name, is_within};
 use lapd_frame::Side;
 use std::fmt;
 
+/// The greatest number of octets that an information field may be allowed (N201, Q.921 clause 5.9.3).
+pub const MOST_N201: u16 = 260;
+
+/// The greatest window, modulo 128, and so the most contents that a link keeps (Q.921 clause 5.9.5; profile).
+const MOST_K: u16 = 127;
+
 /// How large a card is, and the limits of its lines and links. All memory is taken at the start by these
 /// sizes. The ranges are the profile's.
 #[derive(Clone, Copy, PartialEq, Eq, Debug)]
@@ -71,13 +77,13 @@ impl Config {
         if !is_in(self.terminals, 1, 8) {
             return Some(Field::Terminals);
         }
-        if !is_in(self.k, 1, 127) {
+        if !is_in(self.k, 1, MOST_K) {
             return Some(Field::K);
         }
-        if !is_in(self.k16, 1, 127) {
+        if !is_in(self.k16, 1, MOST_K) {
             return Some(Field::K16);
         }
-        if !is_in(self.queue, self.k.max(self.k16), 127) {
+        if !is_in(self.queue, self.k.max(self.k16), MOST_K) {
             return Some(Field::Queue);
         }
         if !is_in(self.unit_queue, 1, 16) {
@@ -89,7 +95,7 @@ impl Config {
         if !is_in(self.slots, 1, 8192) {
             return Some(Field::Slots);
         }
-        if !is_in(self.n201, 8, 260) {
+        if !is_in(self.n201, 8, MOST_N201) {
             return Some(Field::N201);
         }
         if !is_in(self.n200, 0, 10) {

@@ -27,7 +27,7 @@ returns-in-Ok-clause-granted g c = λ others m st.
 pub returns-in-Ok-clause-served : goal.returns-in-Ok-clause-served
 returns-in-Ok-clause-served g c =
     asked_serves c.args.self.now (g.S.Shelf.store c.args.shelf.now) (g.S.Shelf.store c.request.new.shelf) c.request.new.self c.set.new.self c.args.service c.args.tei c.in-Some.place c.link_number-number.result (nat_le c.args.slots (used_slots (g.S.Shelf.store c.args.shelf.now))) (link.request_of c.args.request) c.request.new.report _
-    c.requires.stands (sym c.in-Some.ensures.place) c.link_number-number.ensures c.has_frame.ensures c.set.ensures c.in-Ok.ensures.granted c.in-Ok.ensures.served (link_told [] [] c.request.new.report c.request.new.report.start (nothing_after [] c.request.new.report.start (omega arith)))
+    c.requires.stands (sym c.in-Some.ensures.place) c.link_number-number.ensures c.has_frame.ensures c.set.ensures c.in-Ok.ensures.granted c.in-Ok.ensures.served (link_told [] [] c.request.new.report c.request.new.report.start c.in-Ok.ensures.served.cause (nothing_after [] c.request.new.report.start (omega arith)))
 
 pub returns-in-Err-clause-refused : goal.returns-in-Err-clause-refused
 returns-in-Err-clause-refused g c = λ others m st.

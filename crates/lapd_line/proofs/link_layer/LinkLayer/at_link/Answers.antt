@@ -29,4 +29,4 @@ pub returns : goal.returns
 returns g c =
     let at = (place_of-is c.args.self.now.teis.places c.args.tei c.in-Some.place (sym c.in-Some.ensures.place)).1 in
     serves_as (λ others m st. ap (at_timer c.args.service c.args.tei c.args.timer) (ap (λ t. place_of c.args.tei t.places) st.management ∙ sym c.in-Some.ensures.place))
-    (at_link_serves c.requires.stands at c.link_number-number.ensures c.has_frame.ensures c.set.ensures c.expire.ensures (link_told [] [] c.expire.new.report c.expire.new.report.start (nothing_after [] c.expire.new.report.start (omega arith))))
+    (at_link_serves c.requires.stands at c.link_number-number.ensures c.has_frame.ensures c.set.ensures c.expire.ensures (link_told [] [] c.expire.new.report c.expire.new.report.start c.expire.ensures.cause (nothing_after [] c.expire.new.report.start (omega arith))))

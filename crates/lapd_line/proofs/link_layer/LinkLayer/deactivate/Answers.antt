@@ -33,4 +33,4 @@ pub returns-clause-served : goal.returns-clause-served
 returns-clause-served g c =
     let at = (place_of-is c.args.self.now.teis.places c.args.tei c.in-Some.place (sym c.in-Some.ensures.place)).1 in
     serves_as (λ others m st. ap (at_deactivated c.args.service c.args.tei) (ap (λ t. place_of c.args.tei t.places) st.management ∙ sym c.in-Some.ensures.place))
-    (at_link_serves c.requires.stands at c.link_number-number.ensures c.has_frame.ensures c.set.ensures c.clear.ensures (link_told [] [] c.clear.new.report c.clear.new.report.start (nothing_after [] c.clear.new.report.start (omega arith))))
+    (at_link_serves c.requires.stands at c.link_number-number.ensures c.has_frame.ensures c.set.ensures c.clear.ensures (link_told [] [] c.clear.new.report c.clear.new.report.start c.clear.ensures.cause (nothing_after [] c.clear.new.report.start (omega arith))))

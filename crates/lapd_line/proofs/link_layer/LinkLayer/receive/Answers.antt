@@ -13,4 +13,4 @@ pub set-requires : goal.set-requires
 set-requires g c = number_low c.args.service c.requires.stands c.requires.at c.link_number-number.ensures
 
 pub returns : goal.returns
-returns g c = λ octets is. at_link_serves c.requires.stands c.requires.at c.link_number-number.ensures c.has_frame.ensures c.set.ensures c.receive.ensures (link_told octets _ c.receive.new.report c.args.start is)
+returns g c = λ octets is. at_link_serves c.requires.stands c.requires.at c.link_number-number.ensures c.has_frame.ensures c.set.ensures c.receive.ensures (link_told octets _ c.receive.new.report c.args.start c.receive.ensures.cause is)

@@ -1,6 +1,6 @@
 -- Hand-written answers for `Links::request`.
 use Rattle.std.proofs.lemmas.Result.{IfErr-weaker}
-use Rattle.lapd_line.proofs.LinkSteps.{part_stands, serves, refuses, on_ok, both_ok}
+use Rattle.lapd_line.proofs.LinkSteps.{part_stands, serves, refuses, on_ok, all_ok}
 use Rattle.lapd_line.proofs.links.Links.request.Goals as goal
 
 pub request-requires-clause-stands : goal.request-requires-clause-stands
@@ -14,6 +14,6 @@ returns-clause-granted g c = on_ok c.request.result (refuses c.self.view_is c.re
 
 pub returns-clause-served : goal.returns-clause-served
 returns-clause-served g c =
-    both_ok c.request.result
-    (λ stands told. serves c.self.view_is c.requires.within c.index_mut.ensures.value stands told c.request.ensures.terms c.request.ensures.limits)
-    c.request.ensures.stands c.request.ensures.told
+    all_ok c.request.result
+    (λ stands told cause. serves c.self.view_is c.requires.within c.index_mut.ensures.value stands told cause c.requires.stands c.request.ensures.terms c.request.ensures.limits)
+    c.request.ensures.stands c.request.ensures.told c.request.ensures.cause

@@ -16,5 +16,10 @@ returns-clause-told g c = λ others m s.
     (c.settle.ensures.reaches [] (queue_of m) others m (course (terms_of c.args.self.now) (event.expired c.args.timer) m) s.kept (c.running-before.ensures ∙ running-at s.fits.rests)
     (reached (record { none = c.args.report.now; nothing = c.requires.clear; does = c.expire.ensures.does [] }) s))
 
+pub returns-clause-cause : goal.returns-clause-cause
+returns-clause-cause g c = λ others m s.
+    (c.settle.ensures.reaches [] (queue_of m) others m (course (terms_of c.args.self.now) (event.expired c.args.timer) m) s.kept (c.running-before.ensures ∙ running-at s.fits.rests)
+    (reached (record { none = c.args.report.now; nothing = c.requires.clear; does = c.expire.ensures.does [] }) s)).cause
+
 pub returns-clause-frames : goal.returns-clause-frames
 returns-clause-frames g c = λ others m s. event-rises (terms_of c.args.self.now) s.fits.range m s.fits.sound (event.expired c.args.timer)

@@ -16,6 +16,11 @@ returns-clause-told g c = λ others m s.
     (c.settle.ensures.reaches (info_of c.args.received) (queue_of m) others m (course (terms_of c.args.self.now) (event.received (received_of c.args.received)) m) s.kept (c.running-before.ensures ∙ running-at s.fits.rests)
     (reached (record { none = c.args.report.now; nothing = c.requires.clear; does = c.hear.ensures }) s))
 
+pub returns-clause-cause : goal.returns-clause-cause
+returns-clause-cause g c = λ others m s.
+    (c.settle.ensures.reaches (info_of c.args.received) (queue_of m) others m (course (terms_of c.args.self.now) (event.received (received_of c.args.received)) m) s.kept (c.running-before.ensures ∙ running-at s.fits.rests)
+    (reached (record { none = c.args.report.now; nothing = c.requires.clear; does = c.hear.ensures }) s)).cause
+
 pub returns-clause-frames : goal.returns-clause-frames
 returns-clause-frames g c = λ others m s. event-rises (terms_of c.args.self.now) s.fits.range m s.fits.sound (event.received (received_of c.args.received))
 

@@ -30,5 +30,8 @@ returns-in-None-clause-told g c = λ others m s.
     (c.grant.ensures.reaches others m s) in
     told-after {link = c.args.self.now} (requested (request_of c.args.request) (nat_le c.args.slots (used_slots (g.S.Shelf.store c.args.shelf.now)))) c.grant.ensures.stays reaches
 
+pub returns-in-None-clause-cause : goal.returns-in-None-clause-cause
+returns-in-None-clause-cause g c = λ others m s. (c.grant.ensures.reaches others m s).cause
+
 pub returns-in-None-clause-frames : goal.returns-in-None-clause-frames
 returns-in-None-clause-frames g c = λ others m s. event-rises (terms_of c.args.self.now) s.fits.range m s.fits.sound (requested (request_of c.args.request) (nat_le c.args.slots (used_slots (g.S.Shelf.store c.args.shelf.now))))

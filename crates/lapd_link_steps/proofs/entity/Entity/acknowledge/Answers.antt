@@ -17,6 +17,7 @@ returns-clause-does c = λ terms info.
                       ap (λ n. drop n messages) c.min-told.ensures
                       ∙ released_more messages p.contents c.args.told.now.released c.acknowledged_by-count.result p.a n fits.few (c.acknowledged_by-count.ensures.plain p.a p.s n fits.window named) fits.queue;
                   few = fits.few;
+                  cause = fits.cause;
                 };
             is = refl;
           };

@@ -16,6 +16,7 @@ returns-clause-does c = λ info.
                   ring = c.begin.ensures.ring ∙ fits.ring;
                   queue = discarded messages [] 0 fits.few;
                   few = fits.few;
+                  cause = fits.cause;
                 };
             is = ap (λ (l : Link). record (begin_anew (course_of info c.args.self.now c.tell_clearing.new.told p)) { link = l }) c.begin.ensures.link;
           };

@@ -17,6 +17,7 @@ returns-clause-does c = λ terms info.
                   ring = fits.ring;
                   queue = discarded messages p.contents p.a fits.few;
                   few = fits.few;
+                  cause = fits.cause;
                 };
             is = refl;
           };

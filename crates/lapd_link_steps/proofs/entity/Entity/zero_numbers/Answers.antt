@@ -17,6 +17,7 @@ returns-clause-does c = λ terms info.
                       ap (λ n. drop n messages) c.min-told.ensures
                       ∙ released_more messages p.contents c.args.told.now.released c.outstanding.result p.a p.s fits.few (c.outstanding.ensures.plain p.a p.s fits.window) fits.queue;
                   few = fits.few;
+                  cause = fits.cause;
                 };
             is = refl;
           };

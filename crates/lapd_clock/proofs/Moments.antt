@@ -14,11 +14,11 @@ of_same line l timer t e =
     ]) refl
 
 -- a timer is the same as itself
-of_itself : (line : ℕ) (timer : Timer) → (line == line && is_same timer timer) ≡ true
+pub of_itself : (line : ℕ) (timer : Timer) → (line == line && is_same timer timer) ≡ true
 of_itself line timer = ap (λ b. b && is_same timer timer) (nat_eq_equiv.refl line) ∙ (eq_by_cmp_equiv timer_total).refl timer
 
 -- a timer that is taken out has no moment, and the others keep theirs
-moment_of-none : (line : ℕ) (timer : Timer) (es : List Expiry) → AllByRecursion (λ e. is_of line timer e ≡ false) es → moment_of line timer es ≡ None
+pub moment_of-none : (line : ℕ) (timer : Timer) (es : List Expiry) → AllByRecursion (λ e. is_of line timer e ≡ false) es → moment_of line timer es ≡ None
 moment_of-none line timer [] none = refl
 moment_of-none line timer (e ∷ es) none = ap (λ b. cond b (Some e.moment) (moment_of line timer es)) none.0 ∙ moment_of-none line timer es none.1
 

@@ -38,14 +38,14 @@ without-no_place c line timer = grind (arith, nat_lt, without-not_held)
 
 -- ---- what holds of every clock
 
-IsOneEach-filter : (p : Expiry → Bool) (es : List Expiry) → IsOneEach es → IsOneEach (filter p es)
+pub IsOneEach-filter : (p : Expiry → Bool) (es : List Expiry) → IsOneEach es → IsOneEach (filter p es)
 IsOneEach-filter p [] h = tt
 IsOneEach-filter p (e ∷ es) h = grind (arith, All-filter, (IsOneEach-filter p es h.1))
 
 pub other_way : (a b : Expiry) → is_of a.line a.timer b ≡ false → is_of b.line b.timer a ≡ false
 other_way a b h = grind (arith, is_same_both_ways, is_same, nat_tests)
 
-IsOneEach-put_in_order : (e : Expiry) (es : List Expiry) → AllByRecursion (λ other. is_of e.line e.timer other ≡ false) es → IsOneEach es → IsOneEach (put_in_order is_before e es)
+pub IsOneEach-put_in_order : (e : Expiry) (es : List Expiry) → AllByRecursion (λ other. is_of e.line e.timer other ≡ false) es → IsOneEach es → IsOneEach (put_in_order is_before e es)
 IsOneEach-put_in_order e [] others h = (tt, tt)
 IsOneEach-put_in_order e (x ∷ xs) others h =
     by_place is_before e x xs IsOneEach

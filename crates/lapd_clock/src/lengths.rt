@@ -59,7 +59,7 @@ impl Lengths {
     }
 
     /// How long a timer runs.
-    pub(crate) fn of(self, timer: Timer) -> u64
+    pub fn of(self, timer: Timer) -> u64
         ensures is { result ≡ duration (lengths_of self) timer }
         ensures most { result ≤ 3600000 }
     {

@@ -3,8 +3,8 @@ use Rattle.laws_line.proofs.Vocabulary.{◌≡◌, ℕ, zero, suc, ◌<◌, true
 use Rattle.laws_line.proofs.Draining.{nothing-taken}
 use Rattle.laws_line.proofs.GivingUp.{deactivations_give_up}
 use Rattle.laws_line.proofs.Parts.{gives-up}
-use Rattle.laws_line.proofs.Places.{has-place}
-use Rattle.laws_line.proofs.TimersFollow.{number-is}
+use Rattle.model_line.proofs.Places.{has-place}
+use Rattle.model_line.proofs.TimersFollow.{number-is}
 
 -- What waits and is of no link, and the check.
 record IsQuiet (l : Line) : Type 0 where

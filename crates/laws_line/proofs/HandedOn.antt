@@ -3,7 +3,7 @@ use Rattle.laws_line.proofs.Vocabulary.{arith, ◌≡◌, ℕ, Bool, true, false
 use Rattle.model_link.specs.Sound as link_sound
 use Rattle.laws_line.proofs.Told.{its-own}
 use Rattle.laws_line.proofs.Hearing.{sapi-is}
-use Rattle.laws_line.proofs.Downs.{by-down}
+use Rattle.model_line.proofs.Downs.{by-down}
 
 -- Notes of data, and of unit data, are the link's own.
 own-data : (t : Terms) (n : Note) → IsOwn t n → (is_data_of t.service t.tei n ≡ is_data n) × (is_unit_of t.service t.tei n ≡ is_unit n)

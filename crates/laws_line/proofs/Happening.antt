@@ -4,7 +4,7 @@ use Rattle.lapd_tei.specs.Laws as tei_laws
 use Rattle.lapd_tei.proofs.LawLemmas as tei_lemmas
 use Rattle.laws_line.proofs.Tied.{Ties, heard-ties, expiry-ties, request-ties}
 use Rattle.laws_line.proofs.Told.{moved}
-use Rattle.laws_line.proofs.Downs.{by-down}
+use Rattle.model_line.proofs.Downs.{by-down}
 
 -- A link of a TEI on the line is deactivated.
 pub record IsGivenUp (service : Service) (number : ℕ) (e : Event) (before : Line) (answer : Answer) : Type 0 where

@@ -1,7 +1,6 @@
 -- Lemmas.
 pub mod Vocabulary
 pub mod MachineLaws
-pub mod Downs
 pub mod Asked
 pub mod Told
 pub mod Silence
@@ -9,10 +8,6 @@ pub mod Serving
 pub mod Hearing
 pub mod HandedOn
 pub mod ToldOnce
-pub mod Places
-pub mod LinkMoves
-pub mod Obeyed
-pub mod Following
 pub mod TimersFollow
 pub mod Granting
 pub mod Managing

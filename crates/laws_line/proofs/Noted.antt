@@ -3,10 +3,10 @@ use Rattle.laws_line.proofs.Vocabulary.{◌≡◌, ℕ, false, List, [], Option,
 use Rattle.lapd_tei.specs.Laws as tei_laws
 use Rattle.lapd_tei.proofs.LawLemmas as tei_lemmas
 use Rattle.laws_line.proofs.GroupAims.{heard-aims-at}
-use Rattle.laws_line.proofs.LinkMoves.{IsOne, taken-one}
+use Rattle.model_line.proofs.LinkMoves.{IsOne, taken-one}
 use Rattle.laws_line.proofs.TeiNotes.{GainedBy, LeftBy, ByChange, noted}
 use Rattle.laws_line.proofs.Tied.{Ties, heard-ties, expiry-ties, request-ties}
-use Rattle.laws_line.proofs.Downs.{by-down}
+use Rattle.model_line.proofs.Downs.{by-down}
 
 -- What a link tells as its TEI leaves the line
 ending-told : (t : Terms) (x : Link) → (link_told t link_cleared x).notes ≡ told_cleared x.state t

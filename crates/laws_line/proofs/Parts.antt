@@ -6,10 +6,10 @@ use Rattle.lapd_tei.proofs.LawLemmas as tei_lemmas
 use Rattle.laws_line.proofs.Alone.{is-alone}
 use Rattle.laws_line.proofs.Granting.{not-refused}
 use Rattle.laws_line.proofs.GroupAims.{heard-aims-at}
-use Rattle.laws_line.proofs.Places.{has-place}
+use Rattle.model_line.proofs.Places.{has-place}
 use Rattle.laws_line.proofs.Tied.{Ties, heard-ties, expiry-ties, request-ties}
 use Rattle.laws_line.proofs.Told.{moved}
-use Rattle.laws_line.proofs.Downs.{by-down}
+use Rattle.model_line.proofs.Downs.{by-down}
 
 -- An event of TEI management.
 module _ (c : Config) (l : Line) (s : IsSound c l) (me : teis.Event) (fits : tei_laws.IsInRange me) where

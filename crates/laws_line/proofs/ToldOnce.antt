@@ -3,7 +3,7 @@ use Rattle.laws_line.proofs.Vocabulary.{◌≡◌, ℕ, ◌+◌, false, cond, Li
 use Rattle.model_link.specs.Sound as link_sound
 use Rattle.laws_link.proofs.Once as link_once
 use Rattle.laws_line.proofs.TeiNotes.{ByChange, noted}
-use Rattle.laws_line.proofs.Downs.{by-down}
+use Rattle.model_line.proofs.Downs.{by-down}
 
 -- Notes of contents are those of data and those of unit data.
 one-note : (n : Note) → cond {A = ℕ} (tells_contents n) 1 0 ≡ cond {A = ℕ} (is_data n) 1 0 + cond {A = ℕ} (is_unit n) 1 0

@@ -125,7 +125,7 @@ pub use Rattle.laws_link.proofs.InOrder.{given-in-order}
 pub use Rattle.laws_link.proofs.Keeping.{event-unit}
 pub use Rattle.laws_link.proofs.KnownRows.{layer_3_knows}
 pub use Rattle.laws_link.proofs.MayGo.{goes-not, none-goes}
-pub use Rattle.laws_link.proofs.Obeying.{comes-in-step, leaves-others, stays-in-step}
+pub use Rattle.model_link.proofs.Obeying.{comes-in-step, leaves-others, stays-in-step}
 pub use Rattle.laws_link.proofs.OfTwo.Needing.{is-timed, timely-after, timely-fresh}
 pub use Rattle.laws_link.proofs.OfTwo.Waiting.{in-turn, nothing-given, nothing-to_send}
 pub use Rattle.laws_link.proofs.Offering.{carried-is, given-is-offered, offer-counts}
@@ -136,7 +136,7 @@ pub use Rattle.laws_link.specs.Known.{is_up, known, seen}
 pub use Rattle.laws_link.specs.Offered.{IsOffered}
 pub use Rattle.laws_link.specs.States.{as_heard, is_overlong}
 pub use Rattle.laws_link.specs.Telling.{told_cleared}
-pub use Rattle.laws_link.specs.Timed.{ComesInStep, IsTimed, is_same, obey, obeyed}
+pub use Rattle.model_link.specs.Timed.{ComesInStep, IsTimed, is_same, obey, obeyed}
 pub use Rattle.laws_link.specs.Waiting.{waiting_left}
 pub use Rattle.laws_link.specs.two.Needed.{HasItsTimer}
 pub use Rattle.laws_link.specs.two.Waits.{Goes, GoesWhole, HasNothingToSend}
@@ -158,7 +158,8 @@ pub use Rattle.laws_line.specs.Served.{HasNothing, IsIdle, IsItsTurn, IsOfLink, 
 pub use Rattle.laws_line.specs.Share.{is_granted}
 pub use Rattle.laws_line.specs.Short.{AnswersAreShort}
 pub use Rattle.laws_line.specs.Steady.{Brings, BringsMalformed, BringsMessage, HearsFrame, IsBy, IsDeactivated, IsOf, IsOfManagement, timer_of}
-pub use Rattle.laws_line.specs.Timers.{HaveTheirTimers, is_needed, left_by, link_needs, runs_then}
+pub use Rattle.laws_line.specs.Timers.{HaveTheirTimers, is_needed, link_needs}
+pub use Rattle.model_line.specs.Runs.{left_by, runs_then}
 pub use Rattle.laws_line.specs.Turns.{IsInTurn, LinksTakeTurns}
 pub use Rattle.laws_line.specs.WorkedPolled.{asked, before_poll, call_link, one_waits, poll_octets, sabme_octets, small}
 pub use Rattle.laws_line.specs.WorkedSabme.{before_sabme}

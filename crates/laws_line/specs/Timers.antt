@@ -1,17 +1,13 @@
--- The timers of a line: which are needed, which run at a caller's that obeys the orders in the answers, and which calls for
--- the next frame start.
-use Rattle.std.specs.Prelude.{ℕ, Bool, false, is_some, if◌then◌else◌}
+-- The timers of a line: which are needed.
+use Rattle.std.specs.Prelude.{ℕ, Bool, false, is_some}
 use Rattle.std.specs.Option.{option_map_or}
 use Rattle.lapd_frame.specs.declared.services.Service.{Service}
 use Rattle.lapd_frame.specs.declared.timers.Timer.{Timer}
 use Rattle.lapd_frame.specs.declared.timers.Timer.TheVariants.{T200, T203, T201}
 use Rattle.model_link.specs.declared.timers.LinkTimer.{LinkTimer}
 use Rattle.model_link.specs.declared.timers.LinkTimer.TheVariants as link_timer
-use Rattle.laws_link.specs.Timed.{is_same, obeyed}
 use Rattle.model_link.specs.Told.{runs}
 use Rattle.laws_link.specs.two.Needed.{needed, HasItsTimer}
-use Rattle.model_line.specs.Event.{Event, expiry, Answer}
-use Rattle.model_line.specs.Laws.{orders_in}
 use Rattle.model_line.specs.Line.{Line, place_in, link_in, link_at}
 
 -- A timer of a link is needed where the link's TEI is on the line, and its state needs it.
@@ -26,15 +22,6 @@ abbrev pub is_needed : Timer → Line → Bool
 is_needed (T200 service tei) l = needs_of link_timer.T200 service tei l
 is_needed (T203 service tei) l = needs_of link_timer.T203 service tei l
 is_needed T201 l = is_some l.management.check
-
--- At a caller's, a timer that has expired runs no more when it hands the expiry to the line;
-abbrev pub left_by : Event → Timer → Bool → Bool
-left_by (expiry expired) timer running = if is_same expired timer then false else running
-left_by other timer running = running
-
--- and then it obeys the orders of the answer, one after the other.
-abbrev pub runs_then : Timer → Bool → Event → Answer → Bool
-runs_then timer running event answer = obeyed timer (left_by event timer running) (orders_in answer)
 
 -- Each link of the line runs the timer that it needs.
 pub record HaveTheirTimers (l : Line) : Type 0 where

@@ -20,9 +20,5 @@ pub mod Placing
 pub mod Follows
 pub mod Knowing
 pub mod KnownRows
-pub mod InStep
-pub mod Obeying
-pub mod Timing
-pub mod TimedRows
 pub mod Restarts
 pub mod OfTwo

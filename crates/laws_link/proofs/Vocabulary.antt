@@ -74,7 +74,7 @@ pub use Rattle.laws_link.specs.Samples.{sabme, up, usual_terms}
 pub use Rattle.laws_link.specs.Sending.{MayGo}
 pub use Rattle.laws_link.specs.States.{as_heard, numbers_begin, state_after}
 pub use Rattle.laws_link.specs.Telling.{told_with}
-pub use Rattle.laws_link.specs.Timed.{ComesInStep, IsTimed, IsTimedIn, StaysInStep, is_same, obeyed}
+pub use Rattle.model_link.specs.Timed.{ComesInStep, IsTimed, IsTimedIn, StaysInStep, is_same, obeyed}
 pub use Rattle.laws_link.specs.Waiting.{answers, commands, put, waiting_left}
 pub use Rattle.laws_link.specs.two.Ahead.{IsAhead, KeepsLinksUp, KeepsLinkUp, IsNotRelease}
 unfoldable pub use Rattle.laws_link.specs.two.Ahead.{StayAhead}

@@ -23,6 +23,5 @@ pub mod WorkedSending
 pub mod WorkedBeginning
 pub mod WorkedExpiries
 pub mod WorkedFollowing
-pub mod Timed
 pub mod Known
 pub mod two

@@ -17,15 +17,15 @@ pub use Rattle.lapd_tei.specs.Messages.{information_of}
 pub use Rattle.laws_line.proofs.Granting.{not-refused}
 pub use Rattle.laws_line.proofs.Hearing.{same-sapi, sapi-is}
 pub use Rattle.laws_line.proofs.Knowing.{known-up}
-pub use Rattle.laws_line.proofs.Obeyed.{service-same}
+pub use Rattle.model_line.proofs.Obeyed.{service-same}
 pub use Rattle.laws_line.proofs.OfCard.Wherever.{all-left, all-right}
-pub use Rattle.laws_line.proofs.Places.{is-off}
-pub use Rattle.laws_line.proofs.TimersFollow.{nowhere}
+pub use Rattle.model_line.proofs.Places.{is-off}
+pub use Rattle.model_line.proofs.TimersFollow.{nowhere}
 pub use Rattle.laws_line.specs.Heard.{contents_in, is_data_of, notes_of}
 pub use Rattle.laws_line.specs.Knowledge.{is_up_of, up_by_note}
 pub use Rattle.laws_line.specs.Requests.{deactivates, of_link}
 pub use Rattle.laws_line.specs.Steady.{IsBy, timer_of}
-pub use Rattle.laws_link.proofs.TimedRows.{timed-after}
+pub use Rattle.model_link.proofs.TimedRows.{timed-after}
 pub use Rattle.laws_link.specs.Accepted.{accepted, contents_asked}
 pub use Rattle.laws_link.specs.Known.{is_up_in}
 pub use Rattle.laws_link.specs.States.{as_heard, by_frame, by_received, by_request, is_faulty, is_invalid, receipt_of, state_after}

@@ -7,7 +7,7 @@ use Rattle.laws_trace.proofs.ClearedTells.{none-delivered, none-lost}
 use Rattle.laws_trace.proofs.ManagedLink.{alike, Remains, managed, management-ordered}
 use Rattle.laws_trace.proofs.OfferTells.{offer-tells_nothing}
 use Rattle.laws_trace.proofs.OrdersOfLink.{its_orders, stop-orders-none, other-ordered}
-use Rattle.laws_line.proofs.Downs.{given_up}
+use Rattle.model_line.proofs.Downs.{given_up}
 
 -- Which events of a line give a frame: of a link, only an offer.
 -- The frame that an offer of a link gives; no other event gives one.

@@ -14,7 +14,7 @@ use Rattle.laws_trace.proofs.Spelled.{run-spelled}
 use Rattle.laws_trace.proofs.TeisAreManaged.{follows-now}
 use Rattle.laws_trace.proofs.TurnsKept.{keeps-there}
 use Rattle.laws_trace.proofs.TurnsWalked.{Meets, Walk, ends, take-turns, names-both, WalkOf, moment-walk}
-use Rattle.laws_line.proofs.Following.{some-same}
+use Rattle.model_line.proofs.Following.{some-same}
 
 -- While it is so before each event, as the observer has it.
 module _ (c : Config) (number : ℕ) (ranged : line.IsInRange c) (within : number < c.lines) (first second : Service) (tei its : ℕ) where

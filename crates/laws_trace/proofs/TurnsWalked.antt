@@ -8,7 +8,7 @@ use Rattle.laws_trace.proofs.Turns.{link-frame, ui-frame, name-is}
 use Rattle.laws_trace.proofs.Units.{NoneWaits, plain-order, first-of, none-told, none-requested, given-frames}
 use Rattle.laws_trace.proofs.LinkNames.{LinkName, named_in, is_of_a_link, links_begun, named as name_of, same-number}
 use Rattle.laws_trace.proofs.NamedFrames.{names}
-use Rattle.laws_line.proofs.Following.{some-same}
+use Rattle.model_line.proofs.Following.{some-same}
 
 -- A link that would begin a frame has something to send.
 pub record Speaks (c : Config) (l : Line) (number tei : ℕ) : Type 0 where

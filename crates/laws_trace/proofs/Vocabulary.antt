@@ -67,8 +67,8 @@ pub use Rattle.lapd_tei.specs.declared.outcome.Change.TheVariants.{Gained, Left}
 pub use Rattle.lapd_tei.specs.declared.remembered.Remembered.{Remembered}
 pub use Rattle.laws_line.proofs.Asked.{link-grants}
 pub use Rattle.laws_line.proofs.Bounds.{to-go-few}
-pub use Rattle.laws_line.proofs.Downs.{by-down}
-pub use Rattle.laws_line.proofs.Following.{and-false, some-same}
+pub use Rattle.model_line.proofs.Downs.{by-down}
+pub use Rattle.model_line.proofs.Following.{and-false, some-same}
 pub use Rattle.laws_line.proofs.Granting.{not-refused}
 pub use Rattle.laws_line.proofs.Grouping.{group-read}
 pub use Rattle.laws_line.proofs.HandedOn.{contents-heard, own-all}
@@ -76,18 +76,19 @@ pub use Rattle.laws_line.proofs.Happening.{by-or-down, event-happens}
 pub use Rattle.laws_line.proofs.Hearing.{addressed-is, read-aim, read-event, same-sapi, sapi-is}
 pub use Rattle.laws_line.proofs.InRounds.{comes-first}
 pub use Rattle.laws_line.proofs.Leaving.{next-moves}
-pub use Rattle.laws_line.proofs.LinkMoves.{IsOne, OfLink, of-links, taken-one}
-pub use Rattle.laws_line.proofs.Obeyed.{both-true, obeyed-append, service-same, services-equal}
+pub use Rattle.model_line.proofs.LinkMoves.{IsOne, OfLink, of-links, taken-one}
+pub use Rattle.model_line.proofs.Obeyed.{both-true, obeyed-append, service-same, services-equal}
 pub use Rattle.laws_line.proofs.OfCard.Meanwhile.{card-drains, card-idles, line-sound}
 pub use Rattle.laws_line.proofs.OfCard.Spelling.{head}
 pub use Rattle.laws_line.proofs.OfCard.TimersRun.{begins-timely-card, needed-run, needs-none, timely-after, timely-all}
 pub use Rattle.laws_line.proofs.OfCard.Wherever.{all-left, all-right, config-stays, waiting-taken}
-pub use Rattle.laws_line.proofs.Places.{has-no-place, has-place, is-off}
+pub use Rattle.model_line.proofs.Places.{has-no-place, has-place, is-off}
 pub use Rattle.laws_line.proofs.Readings.{elsewhere, emptied, emptied-read, filled-read, same-read}
 pub use Rattle.laws_line.proofs.Serving.{none-waits, served, turn-stays, units-wait}
 pub use Rattle.laws_line.proofs.TeiNotes.{ByChange, noted}
 pub use Rattle.laws_line.proofs.Tied.{Ties, expiry-ties, heard-ties, request-ties}
-pub use Rattle.laws_line.proofs.TimersFollow.{followed, nowhere, number-is, timely-line}
+pub use Rattle.laws_line.proofs.TimersFollow.{followed, timely-line}
+pub use Rattle.model_line.proofs.TimersFollow.{nowhere, number-is}
 pub use Rattle.laws_line.proofs.ToldOnce.{told-once}
 pub use Rattle.laws_line.specs.Drains.{control_text, frames_to_go, most_frames, way_round, most_frames_before}
 pub use Rattle.laws_line.specs.Frames.{lost_in}
@@ -97,7 +98,8 @@ pub use Rattle.laws_line.specs.Requests.{deactivates, is_deactivation, of_link}
 pub use Rattle.laws_line.specs.Served.{HasNothing, IsIdle, IsOfLink, IsOwed, IsSilent, IsSilentAt, contents_of_link, in_turn, units_asked, units_left}
 pub use Rattle.laws_line.specs.Share.{is_granted}
 pub use Rattle.laws_line.specs.Steady.{Brings, BringsMalformed, IsBy, IsDeactivated, IsOf, timer_of}
-pub use Rattle.laws_line.specs.Timers.{HaveTheirTimers, is_needed, left_by, runs_then}
+pub use Rattle.laws_line.specs.Timers.{HaveTheirTimers, is_needed}
+pub use Rattle.model_line.specs.Runs.{left_by, runs_then}
 pub use Rattle.model_card.specs.Takes.{AreTakesAt, takes_at, is_take, takes_of, frames_given, octets_of}
 pub use Rattle.laws_line.specs.card.Timers.{AllHaveTheirTimers, one_more, runs_at_callers}
 pub use Rattle.laws_link.proofs.Starting.{none-ordered}
@@ -116,7 +118,7 @@ pub use Rattle.laws_link.specs.InOrder.{IsInOrder}
 pub use Rattle.laws_link.specs.Offered.{Carries, IsOffered, i_frames, number_sent}
 pub use Rattle.laws_link.specs.States.{as_heard, by_frame, by_request, comes_to, is_anew, is_clearing, leads_by_agreement, leads_by_sabme, moves, numbers_begin, state_after}
 pub use Rattle.laws_link.specs.Telling.{numbered_as, told_by}
-pub use Rattle.laws_link.specs.Timed.{obey, obeyed}
+pub use Rattle.model_link.specs.Timed.{obey, obeyed}
 pub use Rattle.laws_link.specs.Waiting.{answers, answers_up, as_command, as_response, command_in, commands, is_time, put, receipt_as, room, to_sabme, waiting_left}
 pub use Rattle.laws_link.specs.two.Needed.{HasItsTimer, needed_in}
 pub use Rattle.laws_trace.specs.ControlFrames.{put_in, changed, command_of}

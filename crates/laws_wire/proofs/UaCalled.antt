@@ -5,7 +5,7 @@ use Rattle.model_link.specs.Offers
 use Rattle.model_link.specs.Sound.{IsSound, is_information}
 use Rattle.model_link.specs.Words
 use Rattle.model_link.proofs.Facing.{AreReports, IsReport, set_busy_up, clear_busy_up, reports-push}
-use Rattle.laws_link.proofs.TimedRows.{timed-after}
+use Rattle.model_link.proofs.TimedRows.{timed-after}
 use Rattle.laws_link.proofs.OfTwo.Going.{expires-goes}
 use Rattle.laws_link.proofs.OfTwo.HeedingEvents.{heeds-after}
 use Rattle.laws_link.proofs.OfTwo.Trains.{Every, every-push, Behind, calm-rise}

@@ -15,7 +15,7 @@ use Rattle.laws_wire.proofs.UaCalledAt.{none-informed}
 use Rattle.laws_wire.proofs.UaLost.{behind, Rings, Ringing, ringing-takes, near-rings, near-waits}
 use Rattle.laws_wire.proofs.UaPhases.{IsAway, IsWaiting, Comes, away-loses, away-gives, away-acts, waiting-loses, waiting-gives, waiting-acts, is-awaited, comes-acts, comes-gives, comes-loses, comes-takes, comes-awaited}
 use Rattle.laws_wire.proofs.UaRenewed.{more_told, TookSabme, sabme-renews}
-use Rattle.laws_line.proofs.Following.{and-false}
+use Rattle.model_line.proofs.Following.{and-false}
 
 module _ (service : Service) (tei : ℕ) (c d : Config) (p q : ℕ) (face : Face c d) (back : Face d c) (rt : IsInRange (terms c service tei)) (ru : IsInRange (terms d service tei)) where
   abbrev pub its_near : List LineTold

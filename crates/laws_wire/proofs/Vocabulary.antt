@@ -42,7 +42,7 @@ pub use Rattle.laws_line.proofs.Asked.{link-grants}
 pub use Rattle.laws_line.proofs.Managing.{by-two}
 pub use Rattle.laws_line.proofs.OfCard.Spelling.{IsNotShort, not-short}
 pub use Rattle.laws_line.proofs.OfCard.Wherever.{all-right}
-pub use Rattle.laws_line.proofs.Places.{has-place}
+pub use Rattle.model_line.proofs.Places.{has-place}
 pub use Rattle.laws_line.proofs.Serving.{none-waits}
 pub use Rattle.laws_line.proofs.Silence.{sends-none}
 pub use Rattle.laws_line.specs.Served.{IsSilent}
@@ -71,7 +71,7 @@ pub use Rattle.laws_link.proofs.OfTwo.Waiting.{nothing-given, nothing-to_send, s
 pub use Rattle.laws_link.specs.Flags.{awaits_answer, busy_asked, busy_by, busy_heard}
 pub use Rattle.laws_link.specs.States.{as_heard, is_clearing, is_overlong, state_after}
 pub use Rattle.laws_link.specs.Telling.{told_expired}
-pub use Rattle.laws_link.specs.Timed.{IsTimed, IsTimedIn}
+pub use Rattle.model_link.specs.Timed.{IsTimed, IsTimedIn}
 pub use Rattle.laws_link.specs.Waiting.{answers_to, as_response, command_in, is_time, room, waiting_left}
 pub use Rattle.laws_link.specs.two.Ahead.{CanRepeat, IsNotRelease}
 pub use Rattle.laws_link.specs.two.AnyOrder.{weight_at}

@@ -1,4 +1,4 @@
--- Lemmas: what stays sound, what rises and what is numbered at a line.
+-- Lemmas: what stays sound, what rises, what is numbered, and which timers run at a line.
 pub mod Vocabulary
 pub mod Ranges
 pub mod Numbers
@@ -29,3 +29,10 @@ pub mod EventsReject
 pub mod RoomForAll
 pub mod Starts
 pub mod Drops
+pub mod Places
+pub mod Downs
+pub mod LinkMoves
+pub mod Obeyed
+pub mod Following
+pub mod TimersFollow
+pub mod Placed

@@ -3,7 +3,7 @@
 -- Read in this order: Config, Event, Request; Line; Effect, whom an event concerns and what comes of it; Sides; Heard,
 -- Expiry, Refusal, Requested, Taken; Machine. Came is what a controller's frames and faults are heard as, and Room what a line
 -- answers about itself. Stored, Counts, Deliveries and Sound are the words of the laws, Laws their statements. Counted is what
--- its counters count.
+-- its counters count, and Runs which timers run at a caller's.
 pub mod Config
 pub mod Request
 pub mod Event
@@ -24,3 +24,4 @@ pub mod Sound
 pub mod Laws
 pub mod Came
 pub mod Counted
+pub mod Runs

@@ -28,3 +28,7 @@ pub mod Joined
 pub mod Lines
 pub mod Sending
 pub mod Taking
+pub mod InStep
+pub mod Obeying
+pub mod Timing
+pub mod TimedRows

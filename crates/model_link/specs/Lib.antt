@@ -4,8 +4,8 @@
 -- an N(R) in the middle of a row is read at that moment); the states, one equation a row: TeiAssigned,
 -- AwaitingEstablishment, AwaitingRelease, MultipleFrame, Established, TimerRecovery; Requests and Offers; Machine; and
 -- Room, which tells what a request for data will be refused for. A link keeps all contents since its numbers were
--- zero, and plain numbers that never wrap. Sound, Notes, Rises, Deliveries, Numbered and TwoEnds are the words of
--- the laws.
+-- zero, and plain numbers that never wrap. Sound, Notes, Rises, Deliveries, Numbered, Timed and TwoEnds are the
+-- words of the laws.
 pub mod Link
 pub mod Events
 pub mod Told
@@ -27,3 +27,4 @@ pub mod Deliveries
 pub mod Numbered
 pub mod Notes
 pub mod TwoEnds
+pub mod Timed

@@ -1,7 +1,8 @@
 -- The timers that run at a caller's that obeys the orders, over whole runs.
 use Rattle.std.specs.Prelude.{◌<◌, ℕ, ◌==◌, Bool, List, fold, if◌then◌else◌}
 use Rattle.lapd_frame.specs.declared.timers.Timer.{Timer}
-use Rattle.laws_line.specs.Timers.{runs_then, HaveTheirTimers}
+use Rattle.model_line.specs.Runs.{runs_then}
+use Rattle.laws_line.specs.Timers.{HaveTheirTimers}
 use Rattle.model_card.specs.Card.{Card, line_at}
 use Rattle.model_card.specs.Run.{Moment}
 

@@ -1,6 +1,6 @@
 -- A link runs the timer that it needs: from what each event keeps.
 use Rattle.laws_link.proofs.Vocabulary.{◌≡◌, ◌≢◌, ◌⊎◌, ℕ, ◌≤◌, ◌==◌, Bool, true, false, not, cond, ◌||◌, Option, None, Some, refl, ◌∙◌, arith, eq-eqb, State, TeiAssigned, AwaitingEstablishment, Established, LinkTimer, T200, T203, Terms, Link, fresh, Event, after, IsSound, eqb-true, IsTimedIn, IsTimed, HeedsIn, needed_in, IsCalmIn, HasItsTimer, or_parts}
-use Rattle.laws_link.proofs.TimedRows.{timed-after}
+use Rattle.model_link.proofs.TimedRows.{timed-after}
 use Rattle.laws_link.proofs.OfTwo.Awaiting.{Awaits, event-awaits}
 use Rattle.laws_link.proofs.OfTwo.HeedingEvents.{heeds-after}
 

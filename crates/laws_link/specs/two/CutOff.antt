@@ -4,7 +4,7 @@ use Rattle.model_link.specs.declared.states.State.TheVariants.{TimerRecovery}
 use Rattle.model_link.specs.declared.timers.LinkTimer.TheVariants.{T200}
 use Rattle.model_link.specs.Link.{is_multiple_frame}
 use Rattle.model_link.specs.Sound.{IsInRange, IsSound}
-use Rattle.laws_link.specs.Timed.{IsTimed}
+use Rattle.model_link.specs.Timed.{IsTimed}
 use Rattle.model_link.specs.TwoEnds.{Endpoint, Ends, expires, at_near, at_far, doing}
 use Rattle.laws_link.specs.two.Heeds.{Heeds}
 

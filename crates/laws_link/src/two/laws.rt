@@ -5,7 +5,7 @@ ghost use Rattle.model_link.specs.declared.terms.Terms.{Terms};
 ghost use Rattle.model_link.specs.Link.{Link, fresh};
 ghost use Rattle.model_link.specs.Events.{Event};
 ghost use Rattle.model_link.specs.Machine.{after, after_all};
-ghost use Rattle.laws_link.specs.Timed.{IsTimed};
+ghost use Rattle.model_link.specs.Timed.{IsTimed};
 ghost use Rattle.laws_link.specs.two.Ahead.{IsAhead, StayAhead};
 ghost use Rattle.laws_link.specs.two.CutOff.{IsCutOff, CanRecoverFrom, HasMissing, with_t200_expired};
 ghost use Rattle.laws_link.specs.two.Heeds.{Heeds};

@@ -2,7 +2,7 @@
 
 ghost use Rattle.std.specs.Prelude.{◌≡◌, ◌⊎◌, ℕ, ◌+◌, true, Some, List};
 ghost use Rattle.model_link.specs.declared.timers.LinkTimer.TheVariants.{T200};
-ghost use Rattle.laws_link.specs.Timed.{IsTimed};
+ghost use Rattle.model_link.specs.Timed.{IsTimed};
 ghost use Rattle.model_link.specs.TwoEnds.{Ends, StepAt, doing_all, Begins, StayUp};
 ghost use Rattle.laws_link.specs.two.CutOff.{IsCutOff, IsCutOffWith, CanRecoverFrom, CanRecoverFromWith, HasMissing, with_t200_expired};
 ghost use Rattle.laws_link.specs.two.OwnBusy.{IsBusyItself, IsUpAndIdle, IsDropped, GetsThrough, with_near_busy, with_far_busy};

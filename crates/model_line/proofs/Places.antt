@@ -1,5 +1,5 @@
 -- Where a TEI is: at the one place of a sound table that has it.
-use Rattle.laws_line.proofs.Vocabulary.{◌≡◌, ◌≢◌, ℕ, ◌≤◌, ◌<◌, Bool, false, not, List, [], ◌∷◌, length, get_or, set, nat_lt, Option, Some, None, refl, sym, ap, ◌∙◌, subst, arith, list_any, prefix_len, cases_eq, ltb-false, get_or-set_same, get_or-set_other, none-some, IsAt, IsSoundTable, Places, is_on, place_of, at-off, place_of-is}
+use Rattle.model_line.proofs.Vocabulary.{◌≡◌, ◌≢◌, ℕ, ◌≤◌, ◌<◌, Bool, false, not, List, [], ◌∷◌, length, get_or, set, nat_lt, Option, Some, None, refl, sym, ap, ◌∙◌, subst, arith, list_any, prefix_len, cases_eq, ltb-false, get_or-set_same, get_or-set_other, none-some, IsAt, IsSoundTable, Places, is_on, place_of, at-off, place_of-is}
 
 none_any : {X : Type 0} (p : X → Bool) (xs : List X) → length xs ≤ prefix_len (λ y. not (p y)) xs → list_any p xs ≡ false
 none_any p [] e = refl

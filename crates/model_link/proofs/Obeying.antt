@@ -1,6 +1,7 @@
 -- What obeying orders comes to.
-use Rattle.laws_link.proofs.Vocabulary.{arith, ◌≡◌, Bool, true, false, List, [], ◌∷◌, Option, eq-eqb, cond, not, ◌&&◌, inl, State, LinkTimer, T200, T203, Terms, Link, begun, depending_leads, Order, Timer, runs, timer_at, orders_for, is_same, obeyed, IsTimed, IsTimedIn, StaysInStep, ComesInStep, Event, expired, course, expired_in, told}
-use Rattle.laws_link.proofs.InStep.{comes-step}
+use Rattle.model_link.proofs.Vocabulary.{arith, ◌≡◌, Bool, true, false, List, [], ◌∷◌, Option, eq-eqb, cond, not, ◌&&◌, inl, State, LinkTimer, T200, T203, Terms, Link, begun, Order, Timer, runs, timer_at, orders_for, is_same, obeyed, IsTimed, IsTimedIn, StaysInStep, ComesInStep, Event, expired, course, expired_in, told}
+use Rattle.model_link.proofs.Leads.{depending_leads}
+use Rattle.model_link.proofs.InStep.{comes-step}
 
 -- What obeying an event's orders comes to: orders for one timer, before or after those for the other.
 module _ (own other : Timer) (r : Bool) (same : is_same own own ≡ true) (differs : is_same other own ≡ false) where

@@ -1,5 +1,6 @@
 -- What comes of it that a line is down.
-use Rattle.laws_line.proofs.Vocabulary.{◌≡◌, [], None, sym, subst, arith, All-nil, Config, nothing, Effect, at_no_link, of_aim, without_units, Line, stop_of, down_gives_up, IsSound, IsUnitData, with_units}
+use Rattle.model_line.proofs.Vocabulary.{◌≡◌, [], None, sym, subst, arith, All-nil, Config, nothing, Effect, at_no_link, of_aim, without_units, Line, stop_of, down_gives_up, IsSound, IsUnitData}
+use Rattle.model_line.proofs.SoundParts.{with_units}
 
 -- The effect: no unit data, no message and no check are left, and T201 stops.
 abbrev pub given_up : Line → Effect

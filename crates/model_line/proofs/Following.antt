@@ -1,8 +1,9 @@
 -- A caller that obeys the orders of a line's answers runs the timers that the line runs.
-use Rattle.laws_line.proofs.Vocabulary.{◌≡◌, ◌≢◌, ℕ, ◌+◌, ◌*◌, ◌<◌, ◌==◌, ◌&&◌, Bool, true, false, is_some, List, ◌++◌, length, get_or, set, Option, Some, None, refl, ap, sym, ◌∙◌, subst, arith, length-set, eq-eqb, true≢false, cases_eq, get_or-set_same, get_or-set_other, none-some, Service, Call, Packet, same_service, Order, Timer, T201, LinkTimer, Link, obeyed, runs, timer_at, Follows, Management, IsAt, IsSoundTable, place_of, at-off, at-within, place_of-is, Config, runs_at, is_running, Line, link_number, link_in, terms, with_link, place_at-number, service_at-number, number_within, eqb-true, T200, T203, fresh, IsSound, link_cleared, link_told}
+use Rattle.model_line.proofs.Vocabulary.{◌≡◌, ◌≢◌, ℕ, ◌+◌, ◌*◌, ◌<◌, ◌==◌, ◌&&◌, Bool, true, false, is_some, List, ◌++◌, length, get_or, set, Option, Some, None, refl, ap, sym, ◌∙◌, subst, arith, length-set, eq-eqb, true≢false, cases_eq, get_or-set_same, get_or-set_other, none-some, Service, Call, Packet, same_service, Order, Timer, T201, LinkTimer, Link, obeyed, runs, timer_at, Follows, Management, IsAt, IsSoundTable, place_of, at-off, at-within, place_of-is, Config, runs_at, is_running, Line, link_number, link_in, terms, with_link, eqb-true, T200, T203, fresh, IsSound, link_cleared, link_told}
+use Rattle.model_line.proofs.Numbers.{place_at-number, service_at-number, number_within}
 use Rattle.lapd_tei.specs.Laws as tei_laws
-use Rattle.laws_line.proofs.Obeyed.{Steers, as_it_was, steers-event, obeyed-append, service-same, services-equal, both-true}
-use Rattle.laws_line.proofs.Places.{has-no-place, has-place, stays-placed}
+use Rattle.model_line.proofs.Obeyed.{Steers, as_it_was, steers-event, obeyed-append, service-same, services-equal, both-true}
+use Rattle.model_line.proofs.Places.{has-no-place, has-place, stays-placed}
 
 -- A link's timer of the line, by its link_timer.
 abbrev pub timer_of : LinkTimer → Service → ℕ → Timer

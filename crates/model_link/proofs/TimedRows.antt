@@ -1,7 +1,8 @@
 -- A link that awaits something has its timer: the rows by state, and every event.
-use Rattle.laws_link.proofs.Vocabulary.{arith, ◌≡◌, ℕ, ◌+◌, Bool, true, false, cond, ◌&&◌, List, Option, Some, None, refl, Control, Ua, Dm, Refusal, State, TeiAssigned, AwaitingEstablishment, AwaitingRelease, Established, LinkTimer, T200, ControlFrame, Terms, Link, runs, Course, begun, changed, Leads, IsTimed, IsTimedIn, told_ways, Event, Request, frame, received, pending_is, start, give_information, is_established, offer_among, with_one_sent, after, course, expired_in, frame_in, frame_step}
+use Rattle.model_link.proofs.Vocabulary.{arith, ◌≡◌, ℕ, ◌+◌, Bool, true, false, cond, ◌&&◌, List, Option, Some, None, refl, Control, Ua, Dm, Refusal, State, TeiAssigned, AwaitingEstablishment, AwaitingRelease, Established, LinkTimer, T200, ControlFrame, Terms, Link, runs, Course, begun, changed, IsTimed, IsTimedIn, Event, Request, frame, received, pending_is, start, give_information, is_established, offer_among, with_one_sent, after, course, expired_in, frame_in, frame_step}
+use Rattle.model_link.proofs.Leads.{Leads, told_ways}
 use Rattle.model_link.specs.Requests
-use Rattle.laws_link.proofs.Timing.{TimedBy, At, Ends, at_ends, failed_timed, ends, rows}
+use Rattle.model_link.proofs.Timing.{TimedBy, At, Ends, at_ends, failed_timed, ends, rows}
 
 module _ (t : Terms) where
   frame_timed : (here : State) (b : Bool) (octets : List ℕ) (control : Control) → Leads (At here) (frame_in here t b octets control) Ends

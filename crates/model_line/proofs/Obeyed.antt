@@ -1,5 +1,5 @@
 -- What obeying the orders of a link, or of TEI management, comes to for each timer of a line.
-use Rattle.laws_line.proofs.Vocabulary.{arith, ◌≡◌, ℕ, ◌==◌, ◌&&◌, Bool, true, false, cond, List, ◌++◌, eq-eqb, fold-append, Service, Order, Timer, same_service, LinkTimer, Terms, Link, is_same, obey, obeyed, IsTimed, ComesInStep, runs, timer_at, stays-in-step, comes-in-step, leaves-others, link_expired, LinkEvent, link_told, link_after}
+use Rattle.model_line.proofs.Vocabulary.{arith, ◌≡◌, ℕ, ◌==◌, ◌&&◌, Bool, true, false, cond, List, ◌++◌, eq-eqb, fold-append, Service, Order, Timer, same_service, LinkTimer, Terms, Link, is_same, obey, obeyed, IsTimed, ComesInStep, runs, timer_at, stays-in-step, comes-in-step, leaves-others, link_expired, LinkEvent, link_told, link_after}
 
 pub obeyed-append : (timer : Timer) (b : Bool) (xs ys : List Order) → obeyed timer b (xs ++ ys) ≡ obeyed timer (obeyed timer b xs) ys
 obeyed-append timer b xs ys = fold-append (obey timer) b xs ys

@@ -1,5 +1,7 @@
 -- Orders keep a caller's timers in step with the link's.
-use Rattle.laws_link.proofs.Vocabulary.{◌≡◌, true, Option, None, Some, sym, ◌⊎◌, inr, true≢false, LinkTimer, Terms, Course, runs, Kept, every_event, Event, step}
+use Rattle.model_link.proofs.Vocabulary.{◌≡◌, true, Option, None, Some, sym, ◌⊎◌, inr, true≢false, LinkTimer, Terms, Course, runs, Event, step}
+use Rattle.model_link.proofs.Kept.{Kept}
+use Rattle.model_link.proofs.Rows.{every_event}
 
 -- The timer that runs ran before the event, or the event started it.
 pub record Comes (before : Option LinkTimer) (running started : Option LinkTimer) : Type 0 where

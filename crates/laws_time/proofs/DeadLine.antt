@@ -21,7 +21,7 @@ use Rattle.model_card.specs.Event.{Event, at}
 use Rattle.model_card.specs.Machine.{answer}
 use Rattle.model_card.specs.Run as runs_of
 use Rattle.model_card.specs.Run.{Moment}
-use Rattle.laws_line.proofs.Obeyed.{both-true, services-equal}
+use Rattle.model_line.proofs.Obeyed.{both-true, services-equal}
 use Rattle.laws_trace.specs.Managing.{is_on}
 use Rattle.laws_trace.specs.Observer.{Observed, View, view_of, view_behind, awaits}
 use Rattle.laws_trace.specs.TimersAreTimely.{runs, is_timer_of}

@@ -1,12 +1,13 @@
 -- A card that keeps its own timers.
 --
 -- Read in this order: Clock, Timed; Frames and Octets, which are the two kinds of cards; Sayings, what is said of timers;
--- RunTheSame, which timers run. Worked and WorkedOctets have runs that compute.
+-- TimersAreTrue and RunTheSame, what is proved. Worked and WorkedOctets have runs that compute.
 pub mod Clock
 pub mod Timed
 pub mod Frames
 pub mod Octets
 pub mod RunTheSame
 pub mod Sayings
+pub mod TimersAreTrue
 pub mod Worked
 pub mod WorkedOctets

@@ -1,10 +1,35 @@
 -- The timers that run at the clock of a timed card are those that its lines run.
-use Rattle.std.specs.Prelude.{◌≡◌, ℕ, ◌<◌}
-use Rattle.lapd_clock.specs.Timer.{Timer}
+use Rattle.std.specs.Prelude.{◌≡◌, ℕ, ◌<◌, ◌==◌, ◌&&◌, Bool, false, List, if◌then◌else◌}
+use Rattle.lapd_clock.specs.Timer.{Timer, is_same, Lengths}
 use Rattle.lapd_clock.specs.Timers.{is_held}
+use Rattle.model_line.specs.Event as line
 use Rattle.model_line.specs.Expiry.{is_running}
+use Rattle.model_line.specs.Sound.{IsInRange}
+use Rattle.model_line.specs.declared.config.Config.{Config}
 use Rattle.model_card.specs.Card.{Card, line_at}
+use Rattle.model_card.specs.Event.{Event}
 use Rattle.model_timed.specs.Clock.{Clock}
+use Rattle.model_timed.specs.Timed.{Step, ArePrompt}
+use Rattle.model_timed.specs.Frames.{TimedCard, frames, fresh, after_all}
 
-pub record RunTheSame (card : Card) (clock : Clock) : Type 0 where
-  pub each : (line : ℕ) (timer : Timer) → line < card.config.lines → is_held line timer clock.running ≡ is_running timer (line_at line card)
+-- When an event is handed to a card, the timer that it says has expired runs no more at the clock, and the others run there as
+-- they do at their lines.
+abbrev pub left_at : line.Event → ℕ → ℕ → Timer → Bool → Bool
+left_at (line.expiry expired) number other timer running = if number == other && is_same expired timer then false else running
+left_at event number other timer running = running
+
+abbrev pub left_by : Event → ℕ → Timer → Bool → Bool
+left_by e line timer running = left_at e.what e.line line timer running
+
+abbrev pub as_they_are : ℕ → Timer → Bool → Bool
+as_they_are line timer running = running
+
+-- Each timer of each line runs at the clock where it runs at the line, or is left so.
+abbrev pub RunAs : (ℕ → Timer → Bool → Bool) → Card → Clock → Type 0
+RunAs left card clock =
+    (line : ℕ) (timer : Timer) → line < card.config.lines → is_held line timer clock.running ≡ left line timer (is_running timer (line_at line card))
+
+-- After any steps of a card of frames that may happen, however late, the same timers run at the clock and at the lines.
+abbrev pub TimersRunTheSame : Type 0
+TimersRunTheSame = (c : Config) (lengths : Lengths) (late : ℕ) (steps : List (Step Event)) → IsInRange c → ArePrompt frames late steps (fresh c lengths)
+    → let t : TimedCard = after_all steps (fresh c lengths) in RunAs as_they_are t.card t.clock

@@ -32,7 +32,7 @@ said_in k (s ∷ steps) t = said k s t ++ said_in k steps (after k s t)
 
 -- When a timer of a line was started last, if it was neither stopped nor expired since.
 abbrev pub is_of : ℕ → Timer → ℕ → Timer → Bool
-is_of line timer other its = line == other && is_same its timer
+is_of line timer other its = other == line && is_same its timer
 
 abbrev pub started_by : ℕ → Timer → Option ℕ → Saying → Option ℕ
 started_by line timer before (ordered now other (Start its)) = if is_of line timer other its then Some now else before

@@ -5,4 +5,10 @@
 //! (`Timed`), both kinds (`Frames`, `Octets`), and what is proved of them.
 //!
 //! The code of a timed card stands above, in another crate.
+//!
+//! - `laws`: what holds of both kinds.
 #![tactic(auto)]
+
+mod laws;
+
+pub use laws::{timers_are_true, timers_run_the_same};

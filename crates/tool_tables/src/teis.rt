@@ -28,6 +28,8 @@ enum Event {
     Assign(bool),
     Remove(bool),
     Check(bool),
+    /// The line is down.
+    Down,
 }
 
 /// A state of TEI management, and the events that lead there from the empty table.
@@ -99,7 +101,7 @@ fn events() -> &'static [(&'static str, Event)] {
     &EVENTS
 }
 
-static EVENTS: [(&str, Event); 15] = [
+static EVENTS: [(&str, Event); 16] = [
     ("identity request, Ri 1", FIRST),
     ("identity request, Ri 2", SECOND),
     ("identity request, Ri 3", Event::Message(3, 1, 127)),
@@ -115,6 +117,7 @@ static EVENTS: [(&str, Event); 15] = [
     ("remove 64", Event::Remove(false)),
     ("check 64", CHECK),
     ("check 65", Event::Check(true)),
+    ("the line is down", Event::Down),
 ];
 
 /// Adds the table of TEI management to a page.
@@ -208,6 +211,7 @@ fn play(teis: &mut Teis, event: Event) -> Result<TeiOutcome, Refusal> {
         Event::Assign(next) => teis.assign(tei_of(next)),
         Event::Remove(next) => teis.remove(tei_of(next)),
         Event::Check(next) => teis.check(tei_of(next)),
+        Event::Down => Ok(teis.give_up()),
     }
 }
 

@@ -13,6 +13,7 @@ use crate::plain::{
     DATA, OK, PlainReport, PlainTimer, REFUSED_QUEUE_FULL, refusal_status, request_in,
 };
 use lapd_card::BareReport;
+use lapd_frame::LAST_TEI;
 
 /// A timer of a line expired. One that does not run has no effect, and nothing is told.
 #[unsafe(no_mangle)]
@@ -92,7 +93,7 @@ pub extern "C" fn lapd_request(
 fn refused_place(status: u32, request: u8, service: u8, tei: u8) -> Option<u8>
     ensures { result ≡ refused_place status request service tei }
 {
-    if status == REFUSED_QUEUE_FULL && request == DATA && tei < 127 {
+    if status == REFUSED_QUEUE_FULL && request == DATA && tei <= LAST_TEI {
         return Some(if service == 0 { 2 * tei } else { 2 * tei + 1 });
     }
     None

@@ -5,6 +5,7 @@ ghost use Rattle.lapd_script.specs.{job, seen, limits_of, job_or_none, texts};
 
 use crate::jobs::{Job, Limits};
 use crate::values::number;
+use model_line::MOST_N201;
 
 /// What these words ask for, and `None` where they ask for nothing that there is.
 pub fn job<'a>(words: &[&'a str]) -> Option<Job<'a>>
@@ -45,6 +46,6 @@ fn limits<'a>(
         terminals: number(1, 8, terminals.as_bytes()).ok()?,
         control: number(2, 16, control.as_bytes()).ok()?,
         slots: number(1, 8192, slots.as_bytes()).ok()?,
-        n201: number(8, 260, n201.as_bytes()).ok()?,
+        n201: number(8, u32::from(MOST_N201), n201.as_bytes()).ok()?,
     }))
 }

@@ -13,15 +13,12 @@ ghost use Rattle.lapd_sim.specs.machine.Steps.{reply_text};
 use crate::setup::{Obeyed, Setup};
 use lapd_card::{AnyCard, BareReport, Request};
 use lapd_clock::Clock;
-use lapd_frame::{Order, Service, Timer};
+use lapd_frame::{GROUP, Order, Service, Timer};
 use lapd_script::{FaultKind, LineFault};
 use lapd_transcript::{Page, Put, Target};
 
 /// The last moment of the clock, in milliseconds.
 const LAST_MOMENT: u64 = (1 << 63) - 1;
-
-/// How many TEIs of terminals there are (Q.921 clause 3.3.4).
-const TEIS: u8 = 127;
 
 impl Setup {
     ghost use Rattle.lapd_sim.specs.{Answers, SetupSays, after_rx, at, at_expiry, downs, expiry, octet_in, pull, pulls, reply, request_of, teis_on, until, with_event, with_events};
@@ -120,7 +117,7 @@ impl Setup {
     {
         let mut count = 0;
         let frames = self.board.frames();
-        for tei in 0..TEIS {
+        for tei in 0..GROUP {
             if frames.state(line, Service::Call, tei).is_some() {
                 room[count] = tei;
                 count += 1;

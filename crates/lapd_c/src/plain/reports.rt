@@ -9,9 +9,10 @@ use crate::plain::notes::{PlainNote, cause_number};
 use crate::plain::timers::PlainOrder;
 use lapd_card::BareReport;
 use lapd_frame::{Note, Order, ShortList};
+use model_line::MOST_N201;
 
 /// The most octets of contents that a configuration allows.
-const MOST_OCTETS: usize = 260;
+const MOST_OCTETS: usize = MOST_N201 as usize;
 
 /// What an event led to. Behind the numbers of notes and orders, and behind `length`, the arrays may hold anything.
 #[repr(C)]

@@ -4,10 +4,7 @@ ghost use Rattle.std.specs.Prelude.{◌≡◌};
 ghost use Rattle.lapd_c.specs.Timers.{plain_timer, plain_order, timer_in, order_in, link_in};
 
 use crate::plain::statuses::{WRONG_ORDER, WRONG_TEI, WRONG_TIMER, service_in};
-use lapd_frame::{Order, Service, Timer};
-
-/// The greatest TEI of a terminal (Q.921 clause 3.3.4).
-const LAST_TEI: u8 = 126;
+use lapd_frame::{LAST_TEI, Order, Service, Timer};
 
 /// A timer of a line. That of a link names its service by its SAPI, and its TEI; T201 has 0 in both.
 #[repr(C)]

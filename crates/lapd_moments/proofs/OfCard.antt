@@ -1,0 +1,264 @@
+-- Each timer of a link is at its place alone.
+use Rattle.lapd_clock.proofs.Vocabulary.{◌≡◌, ◌≢◌, ℕ, zero, suc, ◌+◌, ◌<◌, ◌≤◌, Bool, true, false, cond, ◌&&◌, ◌==◌, List, [], ◌∷◌, length, filter, Some, refl, sym, ap, ◌∙◌, subst, arith, nat_tests, inl, inr, cases_lt, cases_eq, AllByRecursion, false≢true, Timer, is_same, Expiry, is_before, is_of, never, nat_eq_equiv, eq_by_cmp_equiv, in_order, set}
+use Rattle.lapd_clock.proofs.Ordered.{All-put_in_order}
+use Rattle.lapd_clock.proofs.TimerOrder.{same_timer, timer_total}
+use Rattle.lapd_clock.specs.Timer.{T201}
+use Rattle.lapd_frame.specs.declared.services.Service.{Service}
+use Rattle.model_link.specs.declared.timers.LinkTimer.{LinkTimer}
+use Rattle.model_link.specs.declared.timers.LinkTimer.TheVariants.{T200, T203}
+use Rattle.model_line.specs.Line.{service_at, place_at, link_number}
+use Rattle.lapd_moments.specs.Places.{is_running, at, with_timer, without_timer, IsItsPlace, RunsAt}
+use Rattle.lapd_moments.specs.OfCard.{timer_of, OfLink, OfLine, IsLayout, HoldsOwn, HoldsT201, Holds, AreApart}
+use Rattle.lapd_moments.proofs.Standing.{runs, rests, All-in_order}
+
+abbrev Each : (Expiry → Type 0) → List Expiry → Type 0
+Each P es = (j : ℕ) → j < length es → (at j es).moment < never → P (at j es)
+
+each-running : (P : Expiry → Type 0) (es : List Expiry) → Each P es → AllByRecursion P (filter is_running es)
+each-running P [] h = tt
+each-running P (x ∷ xs) h =
+    let later : AllByRecursion P (filter is_running xs) = each-running P xs (λ j within. h (suc j) (omega (arith, within))) in
+    elim (cases_lt x.moment never) [
+      | inl soon ↦ subst (λ b. AllByRecursion P (cond b (x ∷ filter is_running xs) (filter is_running xs))) (sym (runs x soon)) (h 0 (omega arith) soon, later)
+      | inr late ↦ subst (λ b. AllByRecursion P (cond b (x ∷ filter is_running xs) (filter is_running xs))) (sym (rests x late)) later
+    ]
+
+but_one : (P : Expiry → Type 0) (es : List Expiry) (i : ℕ) (z : Expiry) → never ≤ z.moment
+    → ((j : ℕ) → j < length es → j ≢ i → (at j es).moment < never → P (at j es)) → AllByRecursion P (filter is_running (set es i z))
+but_one P [] i z rest h = tt
+but_one P (x ∷ xs) zero z rest h =
+    subst (λ b. AllByRecursion P (cond b (z ∷ filter is_running xs) (filter is_running xs))) (sym (rests z rest))
+    (each-running P xs (λ j within. h (suc j) (omega (arith, within)) (λ e. absurd (omega (arith, e)))))
+but_one P (x ∷ xs) (suc i) z rest h =
+    let later : AllByRecursion P (filter is_running (set xs i z)) = but_one P xs i z rest (λ j within ne. h (suc j) (omega (arith, within)) (λ e. ne (omega (arith, e)))) in
+    elim (cases_lt x.moment never) [
+      | inl soon ↦ subst (λ b. AllByRecursion P (cond b (x ∷ filter is_running (set xs i z)) (filter is_running (set xs i z)))) (sym (runs x soon)) (h 0 (omega arith) (λ e. absurd (omega (arith, e))) soon, later)
+      | inr late ↦ subst (λ b. AllByRecursion P (cond b (x ∷ filter is_running (set xs i z)) (filter is_running (set xs i z)))) (sym (rests x late)) later
+    ]
+
+-- ---- timers and numbers
+
+both : (a b : Bool) → (a && b) ≡ true → (a ≡ true) × (b ≡ true)
+both a b e = grind arith
+
+same_number : (k l : ℕ) → (k == l) ≡ true → k ≡ l
+same_number k l e = grind (arith, nat_tests)
+
+equal : (a b : Timer) → is_same a b ≡ true → a ≡ b
+equal a b e = grind (arith, same_timer)
+
+pub itself : (e : Expiry) (line : ℕ) (timer : Timer) → e.line ≡ line → e.timer ≡ timer → is_of line timer e ≡ true
+itself e line timer l t =
+    ap (λ b. b && is_same e.timer timer) (ap (λ k. k == line) l ∙ nat_eq_equiv.refl line)
+    ∙ ap (λ x. is_same x timer) t ∙ (eq_by_cmp_equiv timer_total).refl timer
+
+-- which of a link's timers it is
+pub record Parts (k m : LinkTimer) (s r : Service) (t u : ℕ) : Type 0 where
+  pub timer : k ≡ m
+  pub service : s ≡ r
+  pub tei : t ≡ u
+
+parts : (k m : LinkTimer) (s r : Service) (t u : ℕ) → timer_of k s t ≡ timer_of m r u → Parts k m s r t u
+parts k m s r t u e = grind arith
+
+number_is : (number : ℕ) → link_number (place_at number) (service_at number) ≡ number
+number_is number = grind (arith, nat_tests)
+
+module _ (lines links : ℕ) (slot : ℕ → ℕ → LinkTimer → ℕ) (t201 : ℕ → ℕ) (IsOn : ℕ → ℕ → ℕ → Type 0) (es : List Expiry) (h : Holds lines links slot t201 IsOn es) (on : AreApart lines IsOn) where
+  no_t201 : (m : LinkTimer) (s : Service) (t : ℕ) → T201 ≡ timer_of m s t → ⊥
+  no_t201 m s t e = grind arith
+
+  -- a link's timer, of a TEI that is at its place
+  module _ (line number tei : ℕ) (k : LinkTimer) (line_there : line < lines) (number_there : number < links) (on_line : IsOn line (place_at number) tei) where
+    abbrev i : ℕ
+    i = slot line number k
+
+    abbrev timer : Timer
+    timer = timer_of k (service_at number) tei
+
+    own : HoldsOwn IsOn line number k (at i es)
+    own = h.at_links line number k line_there number_there
+
+    -- one of another place is another timer
+    other-link : (j : ℕ) → OfLink lines links slot j → j ≢ i → (at j es).moment < never → is_of line timer (at j es) ≡ true → ⊥
+    other-link j of apart soon is =
+        let split = both ((at j es).line == line) (is_same (at j es).timer timer) is in
+        let there = subst (λ n. HoldsOwn IsOn of.line of.number of.timer (at n es)) (sym of.is) (h.at_links of.line of.number of.timer of.line_there of.number_there) in
+        let same_line : of.line ≡ line = sym there.line_is ∙ same_number (at j es).line line split.0 in
+        let who = there.its soon in
+        let p = parts of.timer k (service_at of.number) (service_at number) who.0 tei (sym who.1.1 ∙ equal (at j es).timer timer split.1) in
+        let at_j : IsOn line (place_at of.number) tei = subst (IsOn line (place_at of.number)) p.tei (subst (λ n. IsOn n (place_at of.number) who.0) same_line who.1.0) in
+        let place : place_at of.number ≡ place_at number = on.once line (place_at of.number) (place_at number) tei line_there at_j on_line in
+        let numbers : of.number ≡ number = sym (number_is of.number) ∙ ap (λ n. link_number n (service_at of.number)) place ∙ ap (link_number (place_at number)) p.service ∙ number_is number in
+        apart (of.is ∙ ap (λ n. slot n of.number of.timer) same_line ∙ ap (λ n. slot line n of.timer) numbers ∙ ap (slot line number) p.timer)
+
+    other-line : (j : ℕ) → OfLine lines t201 j → (at j es).moment < never → is_of line timer (at j es) ≡ true → ⊥
+    other-line j of soon is =
+        let there = subst (λ n. HoldsT201 of.line (at n es)) (sym of.is) (h.at_lines of.line of.line_there) in
+        let split = both ((at j es).line == line) (is_same (at j es).timer timer) is in
+        no_t201 k (service_at number) tei (sym (there.its soon) ∙ equal (at j es).timer timer split.1)
+
+    other : (j : ℕ) → j < length es → j ≢ i → (at j es).moment < never → is_of line timer (at j es) ≡ false
+    other j within apart soon =
+        (elim (is_of line timer (at j es)) as (λ b. is_of line timer (at j es) ≡ b → b ≡ false) [
+          | true ↦ λ is. absurd (elim (h.layout.each j within) [ inl of ↦ other-link j of apart soon is | inr of ↦ other-line j of soon is ])
+          | false ↦ λ _. refl
+        ]) refl
+
+    pub its_place : IsItsPlace i line timer es
+    its_place = record {
+      within = h.layout.slot_there line number k line_there number_there;
+      line_is = own.line_is;
+      only = All-in_order (λ e. is_of line timer e ≡ false) (filter is_running (without_timer i es))
+          (but_one (λ e. is_of line timer e ≡ false) es i (record (at i es) { moment = never }) (omega arith) other);
+      its = λ soon. let who = own.its soon in
+          itself (at i es) line timer own.line_is
+          (who.1.1 ∙ ap (timer_of k (service_at number)) (on.alone line (place_at number) who.0 tei line_there who.1.0 on_line));
+    }
+
+  -- and a line's T201
+  module _ (line : ℕ) (line_there : line < lines) where
+    beside-link : (j : ℕ) → OfLink lines links slot j → (at j es).moment < never → is_of line T201 (at j es) ≡ true → ⊥
+    beside-link j of soon is =
+        let split = both ((at j es).line == line) (is_same (at j es).timer T201) is in
+        let there = subst (λ n. HoldsOwn IsOn of.line of.number of.timer (at n es)) (sym of.is) (h.at_links of.line of.number of.timer of.line_there of.number_there) in
+        let who = there.its soon in
+        no_t201 of.timer (service_at of.number) who.0 (sym (equal (at j es).timer T201 split.1) ∙ who.1.1)
+
+    beside-line : (j : ℕ) → OfLine lines t201 j → j ≢ t201 line → is_of line T201 (at j es) ≡ true → ⊥
+    beside-line j of apart is =
+        let there = subst (λ n. HoldsT201 of.line (at n es)) (sym of.is) (h.at_lines of.line of.line_there) in
+        let split = both ((at j es).line == line) (is_same (at j es).timer T201) is in
+        apart (of.is ∙ ap t201 (sym there.line_is ∙ same_number (at j es).line line split.0))
+
+    beside-all : (j : ℕ) → j < length es → j ≢ t201 line → (at j es).moment < never → is_of line T201 (at j es) ≡ false
+    beside-all j within apart soon =
+        (elim (is_of line T201 (at j es)) as (λ b. is_of line T201 (at j es) ≡ b → b ≡ false) [
+          | true ↦ λ is. absurd (elim (h.layout.each j within) [ inl of ↦ beside-link j of soon is | inr of ↦ beside-line j of apart is ])
+          | false ↦ λ _. refl
+        ]) refl
+
+    pub t201_place : IsItsPlace (t201 line) line T201 es
+    t201_place = record {
+      within = h.layout.t201_there line line_there;
+      line_is = (h.at_lines line line_there).line_is;
+      only = All-in_order (λ e. is_of line T201 e ≡ false) (filter is_running (without_timer (t201 line) es))
+          (but_one (λ e. is_of line T201 e ≡ false) es (t201 line) (record (at (t201 line) es) { moment = never }) (omega arith) beside-all);
+      its = λ soon. itself (at (t201 line) es) line T201 (h.at_lines line line_there).line_is ((h.at_lines line line_there).its soon);
+    }
+
+-- ---- a stop, and a line that changes
+
+at_other : (es : List Expiry) (i j : ℕ) (z : Expiry) → j ≢ i → at j (set es i z) ≡ at j es
+at_other [] i j z apart = refl
+at_other (x ∷ xs) zero zero z apart = absurd (apart refl)
+at_other (x ∷ xs) zero (suc j) z apart = refl
+at_other (x ∷ xs) (suc i) zero z apart = refl
+at_other (x ∷ xs) (suc i) (suc j) z apart = at_other xs i j z (λ e. apart (ap suc e))
+
+at_own : (es : List Expiry) (i : ℕ) (z : Expiry) → i < length es → at i (set es i z) ≡ z
+at_own [] i z within = absurd (omega (arith, within))
+at_own (x ∷ xs) zero z within = refl
+at_own (x ∷ xs) (suc i) z within = at_own xs i z (omega (arith, within))
+
+length_set : (es : List Expiry) (i : ℕ) (z : Expiry) → length (set es i z) ≡ length es
+length_set [] i z = refl
+length_set (x ∷ xs) zero z = refl
+length_set (x ∷ xs) (suc i) z = ap suc (length_set xs i z)
+
+-- one place has its line, and what runs there is what is wanted, or it is as before
+replaced : (P : Expiry → Type 0) (es : List Expiry) (i j : ℕ) (z : Expiry) → i < length es → (j ≡ i → P (at j es) → P z) → P (at j es) → P (at j (set es i z))
+replaced P es i j z within own was =
+    elim (cases_eq j i) [
+      | inl same ↦ subst P (sym (ap (λ n. at n (set es i z)) same ∙ at_own es i z within)) (own same was)
+      | inr apart ↦ subst P (sym (at_other es i j z apart)) was
+    ]
+
+module _ (lines links : ℕ) (slot : ℕ → ℕ → LinkTimer → ℕ) (t201 : ℕ → ℕ) (IsOn : ℕ → ℕ → ℕ → Type 0) (es : List Expiry) (h : Holds lines links slot t201 IsOn es) where
+  never_runs : never < never → ⊥
+  never_runs e = omega (arith, e)
+
+  pub holds_stopped : (i : ℕ) → i < length es → Holds lines links slot t201 IsOn (without_timer i es)
+  holds_stopped i within = record {
+    layout = subst (λ n. IsLayout lines links n slot t201) (sym (length_set es i _)) h.layout;
+    at_links = λ line number k there within_links. replaced (HoldsOwn IsOn line number k) es i (slot line number k) _ within
+        (λ same was. record { line_is = ap (λ n. (at n es).line) (sym same) ∙ was.line_is; its = λ soon. absurd (never_runs soon) }) (h.at_links line number k there within_links);
+    at_lines = λ line there. replaced (HoldsT201 line) es i (t201 line) _ within
+        (λ same was. record { line_is = ap (λ n. (at n es).line) (sym same) ∙ was.line_is; its = λ soon. absurd (never_runs soon) }) (h.at_lines line there);
+  }
+
+  -- Where the TEIs of what runs are at their places elsewhere, too, what runs is held there.
+  pub holds_moved : (New : ℕ → ℕ → ℕ → Type 0) → ((line number tei : ℕ) (k : LinkTimer) → line < lines → number < links → (at (slot line number k) es).moment < never
+      → (at (slot line number k) es).line ≡ line → (at (slot line number k) es).timer ≡ timer_of k (service_at number) tei
+      → IsOn line (place_at number) tei → New line (place_at number) tei) → Holds lines links slot t201 New es
+  holds_moved New stay = record {
+    layout = h.layout;
+    at_links = λ line number k there within. let was = h.at_links line number k there within in
+        record { line_is = was.line_is; its = λ soon. let who = was.its soon in (who.0, (stay line number who.0 k there within soon was.line_is who.1.1 who.1.0, who.1.1)) };
+    at_lines = h.at_lines;
+  }
+
+  -- A timer is started that is of the TEI at its link's place.
+  pub holds_started : (line number tei moment : ℕ) (k : LinkTimer) → line < lines → number < links → IsOn line (place_at number) tei
+      → Holds lines links slot t201 IsOn (with_timer (slot line number k) (timer_of k (service_at number) tei) moment es)
+  holds_started line number tei moment k there within on_line =
+      let i = slot line number k in
+      let i_there = h.layout.slot_there line number k there within in
+      record {
+        layout = subst (λ n. IsLayout lines links n slot t201) (sym (length_set es i _)) h.layout;
+        at_links = λ line' number' k' there' within'. replaced (HoldsOwn IsOn line' number' k') es i (slot line' number' k') _ i_there
+            (λ same was.
+            let is = h.layout.apart line number line' number' k k' within within' (sym same) in
+            record {
+              line_is = ap (λ n. (at n es).line) (sym same) ∙ was.line_is;
+              its = λ soon. (
+                tei,
+                (
+                  subst (λ n. IsOn n (place_at number') tei) is.line_is (subst (λ n. IsOn line (place_at n) tei) is.number_is on_line),
+                  ap (λ m. timer_of m (service_at number) tei) is.timer_is ∙ ap (λ n. timer_of k' (service_at n) tei) is.number_is,
+                ),
+              );
+            })
+            (h.at_links line' number' k' there' within');
+        at_lines = λ line' there'. replaced (HoldsT201 line') es i (t201 line') _ i_there
+            (λ same was. absurd (h.layout.beside line number line' k within same)) (h.at_lines line' there');
+      }
+
+  -- Or a line's T201 is.
+  pub holds_t201 : (line moment : ℕ) → line < lines → Holds lines links slot t201 IsOn (with_timer (t201 line) T201 moment es)
+  holds_t201 line moment there =
+      let i_there = h.layout.t201_there line there in
+      record {
+        layout = subst (λ n. IsLayout lines links n slot t201) (sym (length_set es (t201 line) _)) h.layout;
+        at_links = λ line' number' k' there' within'. replaced (HoldsOwn IsOn line' number' k') es (t201 line) (slot line' number' k') _ i_there
+            (λ same was. absurd (h.layout.beside line' number' line k' within' (sym same))) (h.at_links line' number' k' there' within');
+        at_lines = λ line' there'. replaced (HoldsT201 line') es (t201 line) (t201 line') _ i_there
+            (λ same was. record { line_is = ap (λ n. (at n es).line) (sym same) ∙ was.line_is; its = λ soon. refl }) (h.at_lines line' there');
+      }
+
+-- What is found anywhere runs at its own place.
+module _ (lines links : ℕ) (slot : ℕ → ℕ → LinkTimer → ℕ) (t201 : ℕ → ℕ) (IsOn : ℕ → ℕ → ℕ → Type 0) (es : List Expiry) (h : Holds lines links slot t201 IsOn es) (on : AreApart lines IsOn) where
+  found_link : (i line : ℕ) (timer : Timer) → RunsAt i line timer es → OfLink lines links slot i → IsItsPlace i line timer es
+  found_link i line timer found of =
+      let there = subst (λ n. HoldsOwn IsOn of.line of.number of.timer (at n es)) (sym of.is) (h.at_links of.line of.number of.timer of.line_there of.number_there) in
+      let split = both ((at i es).line == line) (is_same (at i es).timer timer) found.its in
+      let who = there.its found.runs in
+      let its : IsItsPlace (slot of.line of.number of.timer) of.line (timer_of of.timer (service_at of.number) who.0) es =
+      its_place lines links slot t201 IsOn es h on of.line of.number who.0 of.timer of.line_there of.number_there who.1.0 in
+      subst (λ n. IsItsPlace i n timer es) (sym there.line_is ∙ same_number (at i es).line line split.0)
+      (subst (λ x. IsItsPlace i of.line x es) (sym who.1.1 ∙ equal (at i es).timer timer split.1)
+      (subst (λ n. IsItsPlace n of.line (timer_of of.timer (service_at of.number) who.0) es) (sym of.is) its))
+
+  found_line : (i line : ℕ) (timer : Timer) → RunsAt i line timer es → OfLine lines t201 i → IsItsPlace i line timer es
+  found_line i line timer found of =
+      let there = subst (λ n. HoldsT201 of.line (at n es)) (sym of.is) (h.at_lines of.line of.line_there) in
+      let split = both ((at i es).line == line) (is_same (at i es).timer timer) found.its in
+      subst (λ n. IsItsPlace i n timer es) (sym there.line_is ∙ same_number (at i es).line line split.0)
+      (subst (λ x. IsItsPlace i of.line x es) (sym (there.its found.runs) ∙ equal (at i es).timer timer split.1)
+      (subst (λ n. IsItsPlace n of.line T201 es) (sym of.is) (t201_place lines links slot t201 IsOn es h on of.line of.line_there)))
+
+  pub found_place : (i line : ℕ) (timer : Timer) → RunsAt i line timer es → IsItsPlace i line timer es
+  found_place i line timer found = elim (h.layout.each i found.within) [
+    | inl of ↦ found_link i line timer found of
+    | inr of ↦ found_line i line timer found of
+  ]

@@ -1,0 +1,3 @@
+-- The moments of timers, each in its place. Read Places, then OfCard.
+pub mod Places
+pub mod OfCard

@@ -1,0 +1,91 @@
+-- What the places stand for: the set of the timers that run.
+use Rattle.std.specs.Prelude.{◌≡◌, ℕ, ◌*◌, ◌/◌, ◌<◌, ◌≤◌, Bool, true, false, ◌&&◌, nat_lt, List, ◌∷◌, map, filter, length, get_or, set}
+use Rattle.std.specs.List.{AllByRecursion}
+use Rattle.lapd_clock.specs.Firsts.{never}
+use Rattle.lapd_clock.specs.Timer.{Timer, T201}
+use Rattle.lapd_clock.specs.Timers.{Expiry, is_before, is_held, is_of}
+use Rattle.lapd_clock.specs.Places.{in_order}
+use Rattle.lapd_moments.specs.declared.place.Place.{Place}
+
+-- What a place holds, as in the set of lapd_clock.
+abbrev pub expiry_of : Place → Expiry
+expiry_of p = record { moment = p.moment; line = p.line; timer = p.timer }
+
+abbrev pub expiries_of : List Place → List Expiry
+expiries_of ps = map expiry_of ps
+
+abbrev pub place_before : Place → Place → Bool
+place_before a b = is_before (expiry_of a) (expiry_of b)
+
+-- A timer runs that falls due some time.
+abbrev pub is_running : Expiry → Bool
+is_running e = nat_lt e.moment never
+
+-- The set that the places stand for.
+abbrev pub timers_in : List Expiry → List Expiry
+timers_in es = in_order (filter is_running es)
+
+-- No timer falls due before a moment.
+abbrev pub AreNotBefore : ℕ → List Expiry → Type 0
+AreNotBefore moment es = AllByRecursion (λ e. moment ≤ e.moment) es
+
+-- What stands at a place.
+abbrev pub nothing : Expiry
+nothing = record { moment = never; line = 0; timer = T201 }
+
+abbrev pub at : ℕ → List Expiry → Expiry
+at place es = get_or es place nothing
+
+-- A timer is started, or stopped, in its place.
+abbrev pub with_timer : ℕ → Timer → ℕ → List Expiry → List Expiry
+with_timer place timer moment es = set es place (record (at place es) { moment = moment; timer = timer })
+
+abbrev pub without_timer : ℕ → List Expiry → List Expiry
+without_timer place es = set es place (record (at place es) { moment = never })
+
+-- A timer of a line runs at a place, or at none.
+abbrev pub runs_as : ℕ → Timer → Expiry → Bool
+runs_as line timer e = is_running e && is_of line timer e
+
+abbrev pub place_runs : ℕ → Timer → Place → Bool
+place_runs line timer p = runs_as line timer (expiry_of p)
+
+pub record RunsAt (place line : ℕ) (timer : Timer) (es : List Expiry) : Type 0 where
+  pub within : place < length es
+  pub runs : (at place es).moment < never
+  pub its : is_of line timer (at place es) ≡ true
+
+abbrev pub is_nowhere : ℕ → Timer → List Expiry → Type 0
+is_nowhere line timer es = is_held line timer (timers_in es) ≡ false
+
+-- A place falls due first, of those whose timers run: it is first in the set.
+pub record IsFirst (place : ℕ) (es : List Expiry) : Type 0 where
+  pub within : place < length es
+  pub runs : (at place es).moment < never
+  pub leads : timers_in es ≡ at place es ∷ timers_in (without_timer place es)
+
+-- What is taken out where it is due: the place that falls due first.
+pub record IsTaken (now : ℕ) (old new : List Expiry) : Type 0 where
+  pub place : ℕ
+  pub first : IsFirst place old
+  pub due : (at place old).moment ≤ now
+  pub is : new ≡ without_timer place old
+
+-- No other place runs this timer of this line, and what runs here is it.
+pub record IsItsPlace (place line : ℕ) (timer : Timer) (es : List Expiry) : Type 0 where
+  pub within : place < length es
+  pub line_is : (at place es).line ≡ line
+  pub only : AllByRecursion (λ e. is_of line timer e ≡ false) (timers_in (without_timer place es))
+  pub its : (at place es).moment < never → is_of line timer (at place es) ≡ true
+
+-- No timer runs at any place, and each line has so many.
+pub record AreIdle (lines each : ℕ) (es : List Expiry) : Type 0 where
+  pub count : length es ≡ lines * each
+  pub rest : AllByRecursion (λ e. e.moment ≡ never) es
+  pub of_line : (i : ℕ) → i < length es → (at i es).line ≡ i / each
+
+abbrev pub AreIdleSoFar : List Place → Type 0
+AreIdleSoFar ps = AllByRecursion (λ p. p.moment ≡ never) ps
+
+abbrev pub AreOfLines : ℕ → List Place → Type 0
+AreOfLines each ps = (i : ℕ) → i < length ps → (at i (expiries_of ps)).line ≡ i / each

@@ -1,0 +1,14 @@
+//! The moments at which the timers of a card fall due, each in a place of its own.
+//!
+//! A clock (`lapd_clock`) finds a timer by looking at those of its line. Whoever knows the place of each timer starts and stops
+//! it there, and looks at no other.
+//!
+//! - `moments`: `Moments`, a place for each timer of each link of each line, and for each line's T201.
+//! - `place`: one place. `timers`: which timer goes first at one moment.
+#![tactic(auto)]
+
+mod moments;
+mod place;
+mod timers;
+
+pub use moments::Moments;

@@ -1,0 +1,157 @@
+//! The moments of all timers of a card.
+
+ghost use Rattle.std.specs.Prelude.{◌≡◌, ◌+◌, ◌*◌, ◌<◌, ◌≤◌, [], length, IfSome, IfNone, IfOk};
+ghost use Rattle.lapd_clock.specs.Timers.{first_due, first_moment};
+ghost use Rattle.lapd_clock.specs.Firsts.{never};
+ghost use Rattle.lapd_moments.specs.Places.{timers_in, with_timer, without_timer, IsFirst, IsTaken, RunsAt, is_nowhere};
+
+use crate::place::{NEVER, Place, first_place, running_place};
+use lapd_frame::Timer;
+use std::alloc::{AllocError, Global};
+use std::marker::Model;
+
+/// A place for each timer that a card may run at a time, with the moment at which it falls due.
+///
+/// A timer is started and stopped in its place, without a look at any other. No timer falls due before a moment that is kept
+/// beside them, so that mostly nothing has to be looked for.
+#[derive(Debug, Drop)]
+pub struct Moments {
+    /// No timer falls due before it.
+    not_before: u64,
+    places: Vec<Place>,
+}
+
+impl Model for Moments {
+    ghost use Rattle.std.specs.Prelude.{List};
+    ghost use Rattle.lapd_clock.specs.Timers.{Expiry};
+    ghost use Rattle.lapd_moments.specs.Places.{expiries_of, AreNotBefore};
+
+    ghost Value = { List Expiry };
+
+    ghost view = { λ m. expiries_of m.places.items };
+
+    ghost invariant = { λ m. AreNotBefore m.not_before (expiries_of m.places.items) };
+}
+
+impl Moments {
+    ghost use Rattle.lapd_moments.specs.Places.{AreIdle};
+
+    /// The places of so many lines of so many terminals, at which no timer runs: of each line one for T200 and
+    /// one for T203 of each link, and one for T201.
+    ///
+    /// # Errors
+    ///
+    /// `AllocError` where there is no memory for them.
+    pub fn idle(alloc: Global, lines: usize, terminals: usize) -> Result<Moments, AllocError>
+        requires lines { lines ≤ 64 }
+        requires terminals { terminals ≤ 8 }
+        ensures { IfOk result (λ moments. AreIdle lines (4 * terminals + 1) moments) }
+    {
+        let each = 4 * terminals + 1;
+        let mut places = Vec::with_capacity(alloc, lines * each)?;
+        for line in 0..lines {
+            for _ in 0..each {
+                places.push(Place {
+                    moment: NEVER,
+                    line,
+                    timer: Timer::T201,
+                })?;
+            }
+        }
+        Ok(Moments {
+            not_before: NEVER,
+            places,
+        })
+    }
+
+    /// Starts the timer of a place, anew where one runs there.
+    #[inline(always)]
+    pub fn start(&mut self, place: usize, timer: Timer, moment: u64)
+        requires place { place < length self.old }
+        ensures after { self.new ≡ with_timer place timer moment self.old }
+    {
+        let its = &mut self.places[place];
+        its.moment = moment;
+        its.timer = timer;
+        if moment < self.not_before {
+            self.not_before = moment;
+        }
+    }
+
+    /// Stops the timer of a place, where one runs there.
+    #[inline(always)]
+    pub fn stop(&mut self, place: usize)
+        requires place { place < length self.old }
+        ensures after { self.new ≡ without_timer place self.old }
+    {
+        self.places[place].moment = NEVER;
+    }
+
+    /// The place at which a timer of a line runs, if it runs at any: it looks through all places.
+    #[cold]
+    pub fn find(&self, line: usize, timer: Timer) -> Option<usize>
+        ensures found { IfSome result (λ place. RunsAt place line timer self.now) }
+        ensures none { IfNone result (is_nowhere line timer self.now) }
+    {
+        running_place(&self.places, line, timer)
+    }
+
+    /// Takes out the timer that falls due first, and answers it with its line, if its moment is not later than `now`.
+    #[inline(always)]
+    pub fn due(&mut self, now: u64) -> Option<(usize, Timer)>
+        requires now { now < never }
+        ensures due { result ≡ first_due (timers_in self.old) now }
+        ensures taken { IfSome result (λ _. IsTaken now self.old self.new) }
+        ensures unchanged { IfNone result (self.new ≡ self.old) }
+    {
+        if now < self.not_before {
+            return None;
+        }
+        self.look(now)
+    }
+
+    /// The same where one may be due.
+    #[cold]
+    fn look(&mut self, now: u64) -> Option<(usize, Timer)>
+        requires now { now < never }
+        ensures due { result ≡ first_due (timers_in self.old) now }
+        ensures taken { IfSome result (λ _. IsTaken now self.old self.new) }
+        ensures unchanged { IfNone result (self.new ≡ self.old) }
+    {
+        let place = self.first()?;
+        let first = self.places[place];
+        if now < first.moment {
+            return None;
+        }
+        self.places[place].moment = NEVER;
+        Some((first.line, first.timer))
+    }
+
+    /// The moment of the timer that falls due first, due or not, and `None` where no timer runs.
+    pub fn next(&mut self) -> Option<u64>
+        ensures next { result ≡ first_moment (timers_in self.old) }
+        ensures unchanged { self.new ≡ self.old }
+    {
+        let place = self.first()?;
+        Some(self.places[place].moment)
+    }
+
+    /// Which place falls due first, of those whose timers run: it looks through all places, and no timer falls due before
+    /// what is kept then.
+    fn first(&mut self) -> Option<usize>
+        ensures unchanged { self.new ≡ self.old }
+        ensures none { IfNone result (timers_in self.old ≡ []) }
+        ensures first { IfSome result (λ place. IsFirst place self.old) }
+    {
+        if self.places.is_empty() {
+            return None;
+        }
+        let place = first_place(&self.places);
+        let moment = self.places[place].moment;
+        self.not_before = moment;
+        if moment == NEVER {
+            return None;
+        }
+        Some(place)
+    }
+}

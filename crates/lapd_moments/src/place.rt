@@ -1,0 +1,79 @@
+//! The place of a timer.
+
+ghost use Rattle.std.specs.Prelude.{◌≡◌, ◌≤◌, ◌<◌, true, false, length, All, HoldsAt, IfSome, IfNone};
+ghost use Rattle.std.specs.List.{IsFirstBest};
+ghost use Rattle.lapd_clock.specs.Timer.{is_same};
+ghost use Rattle.lapd_moments.specs.Places.{place_before, place_runs};
+
+use crate::timers::goes_before;
+use lapd_frame::Timer;
+
+/// The moment of a place whose timer does not run.
+pub(crate) const NEVER: u64 = u64::MAX;
+
+/// A place of a timer of a line, and the moment at which it falls due, if it runs.
+#[derive(Clone, Copy, Debug)]
+pub(crate) struct Place {
+    /// In milliseconds; [`NEVER`] where it does not run.
+    pub moment: u64,
+    /// Of which line it is.
+    pub line: usize,
+    /// Which timer it is.
+    pub timer: Timer,
+}
+
+impl Place {
+    /// Whether this timer falls due before another.
+    fn is_before(&self, other: &Place) -> bool
+        ensures { result ≡ place_before self.now other.now }
+    {
+        if self.moment != other.moment {
+            return self.moment < other.moment;
+        }
+        if self.line != other.line {
+            return self.line < other.line;
+        }
+        goes_before(self.timer, other.timer)
+    }
+
+    /// Whether this timer of this line runs here.
+    fn runs(&self, line: usize, timer: Timer) -> bool
+        ensures { result ≡ place_runs line timer self.now }
+    {
+        self.moment < NEVER && self.line == line && self.is(timer)
+    }
+
+    fn is(&self, timer: Timer) -> bool
+        ensures { result ≡ is_same self.now.timer timer }
+    {
+        self.timer == timer
+    }
+}
+
+/// Which of the places falls due first.
+pub(crate) fn first_place(places: &[Place]) -> usize
+    requires { 1 ≤ length places.now }
+    ensures { IsFirstBest place_before places.now (length places.now) result }
+{
+    let mut first = 0;
+    for place in 1..places.len() {
+        if places[place].is_before(&places[first]) {
+            first = place;
+        }
+    }
+    first
+}
+
+/// Where a timer of a line runs.
+pub(crate) fn running_place(places: &[Place], line: usize, timer: Timer) -> Option<usize>
+    ensures within { IfSome result (λ place. place < length places.now) }
+    ensures there { IfSome result (λ place. HoldsAt (λ p. place_runs line timer p ≡ true) places.now place) }
+    ensures none { IfNone result (All (λ p. place_runs line timer p ≡ false) places.now) }
+{
+    for (place, its) in places.iter().enumerate() {
+        if its.runs(line, timer) {
+            return Some(place);
+        }
+    }
+    None
+}

@@ -8,8 +8,6 @@ use Rattle.model_card.specs.Machine as machine
 use Rattle.model_card.specs.Run as runs
 use Rattle.model_card.specs.declared.ports.events.Event as rust
 use Rattle.model_card.specs.ports.Card.{fresh}
-use Rattle.model_card.specs.ports.Codec.{Refines}
-use Rattle.model_card.specs.ports.Drops.{AreDropsWithoutCost, AreDropsWithoutEffect}
 use Rattle.model_card.specs.ports.Event.{Event, event_of}
 use Rattle.model_card.specs.ports.Port as port
 use Rattle.model_card.specs.ports.Port.{answer_of}
@@ -19,6 +17,7 @@ unfoldable use Rattle.model_card.specs.ports.Run.{after_all, meant_all}
 use Rattle.model_card.specs.ports.Sound.{IsSoundOctetCard}
 use Rattle.model_card.proofs.OfPorts.Codec.{refines, run_goes_on}
 use Rattle.model_card.proofs.OfPorts.Drops.{drops_are_without_effect}
+use Rattle.model_card.proofs.OfPorts.Fold.{run_is_moments}
 use Rattle.model_card.proofs.OfPorts.Isolated.{lines_isolated}
 use Rattle.model_card.proofs.OfPorts.Linear.{frames_linear}
 use Rattle.model_card.proofs.OfPorts.Reaching.{reached_sound}
@@ -26,8 +25,9 @@ use Rattle.model_card.proofs.OfPorts.Sound.{always_sound, port_sound}
 use Rattle.model_card.proofs.OfPorts.Steps.{config_stays}
 use Rattle.model_card.proofs.OfPorts.Stored.{stored_within_limit}
 use Rattle.lapd_card.specs.Card.{Held, line_count}
-use Rattle.lapd_card.specs.Drive.{line_of, events_of, RefusedByTheTable, IsTextual}
+use Rattle.lapd_card.specs.Drive.{line_of, events_of, RefusedByTheTable, IsTextual, KeepsLaws}
 use Rattle.lapd_card.specs.Stands.{OctetCardStands}
+use Rattle.lapd_card.proofs.Counting.{numbers_in_runs}
 use Rattle.lapd_card.proofs.OneOctet.{request_passes, passed_answer, passed_after}
 
 -- the events are at lines of the machine
@@ -58,25 +58,11 @@ textual m events s within number few = record {
 }
 
 -- The laws hold of the events of a list, of each front of it, and of each front of that of a card as it begins.
-pub record Laws {S : Type 0} (store : S → Store) (card : Held S) (list : List Event) : Type 0 where
-  pub by_event : (m : OctetCard) → OctetCardStands store card m → ArePriced m.card (meant_all m list)
-  pub drops : (m : OctetCard) → OctetCardStands store card m → AreDropsWithoutCost m list
-  pub without_effect : (m : OctetCard) → OctetCardStands store card m → AreDropsWithoutEffect m list
-  pub within_limit : (m : OctetCard) (count : ℕ) → OctetCardStands store card m → IsWithinLimit m (take count list)
-  pub amortised : (m : OctetCard) (count : ℕ) → OctetCardStands store card m → IsAmortised m.card (meant_all m (take count list))
-  pub amortised_from_zero : (count : ℕ) → OctetCardStands store card (fresh card.frames.config) → IsAmortisedFromZero card.frames.config (meant_all (fresh card.frames.config) (take count list))
-  pub six_octets_a_frame : (count : ℕ) → OctetCardStands store card (fresh card.frames.config) → HasSixOctetsAFrame card.frames.config (take count list)
-  pub seven_octets_a_reject : (count : ℕ) → OctetCardStands store card (fresh card.frames.config) → HasSevenOctetsAReject card.frames.config (take count list)
-  pub linear : (count : ℕ) → OctetCardStands store card (fresh card.frames.config) → IsLinear card.frames.config (take count list)
-  pub isolated : (count : ℕ) → OctetCardStands store card (fresh card.frames.config) → IsIsolated card.frames.config (take count list)
-  pub never_full : (count : ℕ) → OctetCardStands store card (fresh card.frames.config) → IsNeverFull card.frames.config (meant_all (fresh card.frames.config) (take count list))
-  pub numbered : (m : OctetCard) (count : ℕ) → OctetCardStands store card m → IsNumbered m.card (meant_all m (take count list))
-  pub from_zero : (count : ℕ) → OctetCardStands store card (fresh card.frames.config) → IsNumberedFromZero card.frames.config (meant_all (fresh card.frames.config) (take count list))
-  pub codec : (m : OctetCard) (count : ℕ) → OctetCardStands store card m → Refines m (take count list)
-  pub textual : (m : OctetCard) (count : ℕ) → OctetCardStands store card m → IsTextual m (take count list)
-
-pub laws : {S : Type 0} (store : S → Store) (card : Held S) (list : List Event) → ((m : OctetCard) → OctetCardStands store card m → AreAtLines m list) → Laws store card list
+pub laws : {S : Type 0} (store : S → Store) (card : Held S) (list : List Event) → ((m : OctetCard) → OctetCardStands store card m → AreAtLines m list) → KeepsLaws store card list
 laws store card list within = record {
+  moments = run_is_moments;
+  refused = refused_by_table;
+  counters_add_up = numbers_in_runs;
   by_event = λ m s. meaning ArePriced frames_by_event.in_runs m list (reached_sound m s.reached) (within m s);
   drops = λ m s. drops_are_without_effect.cost m list (reached_sound m s.reached) (within m s);
   without_effect = λ m s. drops_are_without_effect.effect m list;

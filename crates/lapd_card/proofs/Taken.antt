@@ -1,6 +1,9 @@
 -- A list of events, one by one, and what a sink has taken of it.
 use Rattle.lapd_card.proofs.Vocabulary.{◌≡◌, ℕ, ◌+◌, zero, suc, List, [], ◌∷◌, ◌++◌, map, take, refl, sym, ap, subst, ◌∙◌, Some, slice_get, arith, none-some, same_Some, is_err, OnOk, fold-append, Card, Event, one_more, run, moments, moment_of, moment_counted, all_counted, run_is_moments, after_all, Counters, Taken}
-use Rattle.std.specs.Prelude.{Result, OnErr, true, false}
+use Rattle.std.specs.Prelude.{Result, Err, OnErr, ◌<◌, length, true, false}
+use Rattle.lapd_card.specs.Runs.{Runs}
+use Rattle.lapd_card.specs.Sink.{MissesNext, one_failure_more}
+use Rattle.lapd_card.specs.declared.sink.SinkFault.{SinkFault}
 use Rattle.lapd_card.proofs.Counting.{moments-more}
 
 -- one reply more
@@ -38,3 +41,23 @@ at_ok r P is p = grind arith
 
 pub at_err : {T E : Type 0} (r : Result T E) (P : Type 0) → is_err r ≡ true → OnErr r P → P
 at_err r P is p = grind arith
+
+-- a run that ends with a reply that was missed
+pub missed_one : {M E R K : Type 0} {takes misses : K → ℕ → R → K → Type 0} {failures : K → ℕ} {stood stands : M → Type 0} {led : M → List E → M} {replies : M → List E → List (ℕ × R)} {counted : M → List E → Type 0}
+    {events : List E} {old new : K} (fault : SinkFault) → fault.at < length events → failures new ≡ one_failure_more (failures old)
+    → ((m : M) → stood m → stands (led m (take (fault.at + 1) events)))
+    → ((m : M) → stood m → MissesNext takes misses (replies m (take fault.at events)) (replies m (take (fault.at + 1) events)) old new)
+    → ((m : M) → stood m → counted m (take (fault.at + 1) events))
+    → Runs takes misses failures stood stands led replies counted events old new (Err fault)
+missed_one fault before failed stopped missed counted = record {
+  ok = _;
+  at = before;
+  failed = failed;
+  not_failed = _;
+  ran = _;
+  taken = _;
+  counters = _;
+  stopped = stopped;
+  taken_before = missed;
+  counters_before = counted;
+}

@@ -2,8 +2,8 @@
 --
 -- Read after those of `model_card`, in this order: Waiting, which lines have a frame to give; Start; and for a
 -- card in the middle of its life FrameCard, Counted, Lines and FrameStands. Of a card of octets, after those of
--- `model_card::ports`, Card, Ports and Stands say the same; Reply, Sink, Drive and Kept (the sink of this crate), what a sink
--- has taken. Kinds is of a card of either kind.
+-- `model_card::ports`, Card, Ports and Stands say the same; Reply, Sink, Runs, Drive and Kept (the sink of this crate), what a
+-- sink has taken. Kinds is of a card of either kind.
 pub mod Waiting
 pub mod WorkedWaiting
 pub mod Sink
@@ -17,6 +17,7 @@ pub mod Ports
 pub mod Card
 pub mod Stands
 pub mod Start
+pub mod Runs
 pub mod Drive
 pub mod Kinds
 -- the words of the contracts, from where they are defined

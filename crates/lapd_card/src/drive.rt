@@ -1,24 +1,13 @@
 //! A whole list of events at a card of octets, with the replies handed to a sink.
 
-ghost use Rattle.std.specs.Prelude.{◌≡◌, ◌<◌, ◌+◌, ℕ, length, take, All, IfOk, IfErr, OnOk, OnErr};
-ghost use Rattle.model_card.specs.ByEvent.{ArePriced};
-ghost use Rattle.model_card.specs.Counted.{all_counted, CountersAreNumbers};
-ghost use Rattle.model_card.specs.Promises.{IsAmortised, IsAmortisedFromZero, IsNeverFull, IsNumbered, IsNumberedFromZero};
-ghost use Rattle.model_card.specs.Run.{moments};
+ghost use Rattle.std.specs.Prelude.{◌≡◌, ◌<◌, All};
 ghost use Rattle.model_line.specs.Request.{request_of};
-ghost use Rattle.model_card.specs.ports.Card as machine;
 ghost use Rattle.model_card.specs.ports.Card.{answer};
-ghost use Rattle.model_card.specs.ports.Codec.{Refines};
-ghost use Rattle.model_card.specs.ports.Drops.{AreDropsWithoutCost, AreDropsWithoutEffect};
 ghost use Rattle.model_card.specs.ports.Event.{at, event_of};
-ghost use Rattle.model_card.specs.ports.Laws.{RunIsMoments};
 ghost use Rattle.model_card.specs.ports.Port as port;
-ghost use Rattle.model_card.specs.ports.Promises.{IsWithinLimit, HasSixOctetsAFrame, HasSevenOctetsAReject, IsLinear, IsIsolated};
-ghost use Rattle.model_card.specs.ports.Run.{run, meant_all};
 ghost use Rattle.lapd_card.specs.Card.{line_count};
-ghost use Rattle.lapd_card.specs.Counted.{counters_in};
-ghost use Rattle.lapd_card.specs.Drive.{line_of, events_of, RefusedByTheTable, IsTextual};
-ghost use Rattle.lapd_card.specs.Sink.{Hands, MissesNext, Taken, one_failure_more};
+ghost use Rattle.lapd_card.specs.Drive.{line_of, events_of, HasRun, KeepsLaws};
+ghost use Rattle.lapd_card.specs.Sink.{Hands};
 ghost use Rattle.lapd_card.specs.Stands.{OctetCardStands, Leads};
 
 use crate::card::Card;
@@ -32,7 +21,8 @@ impl<S: Shelf> Card<S> {
     /// Runs a list of events, and hands each reply to the sink, in order. Answers how many events there were. A sink that
     /// keeps them is [`crate::Kept`]: each reply that it takes is appended once, and one that it misses not at all.
     ///
-    /// Its clauses, which hold for every card and every list of events:
+    /// Its clauses hold for every card and every list of events. Those of `run` stand in the record `Runs`, as `HasRun` has
+    /// it of a card of octets, and those of `laws` in `KeepsLaws`:
     ///
     /// - `ok`, `ran`, `taken`: every event has happened, the card is where the machine is after them, and the sink has
     ///   taken the machine's reply to each, once and in order.
@@ -88,66 +78,9 @@ impl<S: Shelf> Card<S> {
     /// have not happened.
     pub fn drive<K: Sink>(&mut self, events: &[Event<'_>], sink: &mut K) -> Result<usize, SinkFault>
         requires { All (λ event. line_of event < line_count self.old) events.now }
-        ensures ok { IfOk result (λ n. n ≡ length events.now) }
-        ensures at { IfErr result (λ fault. fault.at < length events.now) }
-        ensures failed { OnErr result (K.failures sink.new ≡ one_failure_more (K.failures sink.old)) }
-        ensures not_failed { OnOk result (K.failures sink.new ≡ K.failures sink.old) }
         ensures config { self.new.frames.config ≡ self.old.frames.config }
-
-        // All of them, where the sink took every reply.
-        ensures ran { OnOk result ((m : machine.OctetCard) → OctetCardStands S.store self.old m
-            → OctetCardStands S.store self.new (run m (events_of events.now)).card) }
-        ensures taken { OnOk result ((m : machine.OctetCard) → OctetCardStands S.store self.old m
-            → Taken K.takes sink.old (run m (events_of events.now)).replies sink.new) }
-        ensures counters { OnOk result ((m : machine.OctetCard) → OctetCardStands S.store self.old m
-            → counters_in self.new.frames.lines ≡ all_counted (counters_in self.old.frames.lines) (moments m.card (meant_all m (events_of events.now)))) }
-
-        // Those up to the one whose reply it did not take.
-        ensures stopped { IfErr result (λ fault. (m : machine.OctetCard) → OctetCardStands S.store self.old m
-            → OctetCardStands S.store self.new (run m (take (fault.at + 1) (events_of events.now))).card) }
-        ensures taken_before { IfErr result (λ fault. (m : machine.OctetCard) → OctetCardStands S.store self.old m
-            → MissesNext K.takes K.misses (run m (take fault.at (events_of events.now))).replies
-            (run m (take (fault.at + 1) (events_of events.now))).replies sink.old sink.new) }
-        ensures counters_before { IfErr result (λ fault. (m : machine.OctetCard) → OctetCardStands S.store self.old m
-            → counters_in self.new.frames.lines ≡ all_counted (counters_in self.old.frames.lines) (moments m.card (meant_all m (take (fault.at + 1) (events_of events.now))))) }
-
-        // The replies of `run` are the answers of `moments`, and its card is that of `after_all`: all below speaks of
-        // those.
-        ensures moments { RunIsMoments }
-        ensures refused { RefusedByTheTable }
-        ensures counters_add_up { CountersAreNumbers }
-
-        // In every moment of the run of all events.
-        ensures by_event { (m : machine.OctetCard) → OctetCardStands S.store self.old m → ArePriced m.card (meant_all m (events_of events.now)) }
-        ensures drops { (m : machine.OctetCard) → OctetCardStands S.store self.old m → AreDropsWithoutCost m (events_of events.now) }
-        ensures without_effect { (m : machine.OctetCard) → OctetCardStands S.store self.old m
-            → AreDropsWithoutEffect m (events_of events.now) }
-
-        // After every front of the list, from every card or, where it says `fresh`, from one that has just begun.
-        ensures within_limit { (m : machine.OctetCard) (count : ℕ) → OctetCardStands S.store self.old m
-            → IsWithinLimit m (take count (events_of events.now)) }
-        ensures amortised { (m : machine.OctetCard) (count : ℕ) → OctetCardStands S.store self.old m
-            → IsAmortised m.card (meant_all m (take count (events_of events.now))) }
-        ensures amortised_from_zero { (count : ℕ) → OctetCardStands S.store self.old (machine.fresh self.old.frames.config)
-            → IsAmortisedFromZero self.old.frames.config (meant_all (machine.fresh self.old.frames.config) (take count (events_of events.now))) }
-        ensures six_octets_a_frame { (count : ℕ) → OctetCardStands S.store self.old (machine.fresh self.old.frames.config)
-            → HasSixOctetsAFrame self.old.frames.config (take count (events_of events.now)) }
-        ensures seven_octets_a_reject { (count : ℕ) → OctetCardStands S.store self.old (machine.fresh self.old.frames.config)
-            → HasSevenOctetsAReject self.old.frames.config (take count (events_of events.now)) }
-        ensures linear { (count : ℕ) → OctetCardStands S.store self.old (machine.fresh self.old.frames.config)
-            → IsLinear self.old.frames.config (take count (events_of events.now)) }
-        ensures isolated { (count : ℕ) → OctetCardStands S.store self.old (machine.fresh self.old.frames.config)
-            → IsIsolated self.old.frames.config (take count (events_of events.now)) }
-        ensures never_full { (count : ℕ) → OctetCardStands S.store self.old (machine.fresh self.old.frames.config)
-            → IsNeverFull self.old.frames.config (meant_all (machine.fresh self.old.frames.config) (take count (events_of events.now))) }
-        ensures numbered { (m : machine.OctetCard) (count : ℕ) → OctetCardStands S.store self.old m
-            → IsNumbered m.card (meant_all m (take count (events_of events.now))) }
-        ensures from_zero { (count : ℕ) → OctetCardStands S.store self.old (machine.fresh self.old.frames.config)
-            → IsNumberedFromZero self.old.frames.config (meant_all (machine.fresh self.old.frames.config) (take count (events_of events.now))) }
-        ensures codec { (m : machine.OctetCard) (count : ℕ) → OctetCardStands S.store self.old m
-            → Refines m (take count (events_of events.now)) }
-        ensures textual { (m : machine.OctetCard) (count : ℕ) → OctetCardStands S.store self.old m
-            → IsTextual m (take count (events_of events.now)) }
+        ensures run { HasRun S.store K.takes K.misses K.failures self.old self.new (events_of events.now) sink.old sink.new result }
+        ensures laws { KeepsLaws S.store self.old (events_of events.now) }
     {
         for (at, event) in events.iter().enumerate() {
             if self.answer(*event, sink).is_err() {

@@ -1,5 +1,5 @@
 -- The laws of the machine hold of the events of a card's list, and of every front of it.
-use Rattle.laws_promises.proofs.Vocabulary.{arith, ◌≡◌, ℕ, ◌<◌, List, take, sym, subst, All, All-map, All-take, All-weaker, Card, Config, IsAtLine, IsSound, FrameStands, reached-sound, frames_amortised, rejects_are_long}
+use Rattle.laws_promises.proofs.Vocabulary.{arith, ◌≡◌, ℕ, ◌<◌, List, take, sym, subst, All, All-map, All-take, All-weaker, Card, Config, IsAtLine, IsSound, FrameStands, reached-sound, frames_amortised, rejects_are_long, run_is_moments, refused_by_the_table}
 use Rattle.model_line.specs.Sound.{IsInRange}
 use Rattle.model_card.specs.ByEvent.{ArePriced}
 use Rattle.model_card.specs.Card.{fresh}
@@ -16,9 +16,9 @@ use Rattle.model_card.proofs.Numbering.{deliveries_numbered}
 use Rattle.model_card.proofs.Stored.{stored_within_limit}
 use Rattle.lapd_store.specs.Store.{Store}
 use Rattle.lapd_card.specs.FrameCard.{Held, line_count}
-use Rattle.laws_promises.specs.FrameDrive.{event_of, line_of, events_of}
+use Rattle.lapd_card.proofs.Counting.{numbers_in_runs}
+use Rattle.laws_promises.specs.FrameDrive.{event_of, line_of, events_of, KeepsLaws}
 use Rattle.laws_promises.specs.Linear.{IsLinear}
-use Rattle.laws_promises.specs.Promises.{Promises}
 use Rattle.laws_promises.specs.declared.frame_events.FrameEvent as rust
 use Rattle.laws_promises.proofs.Kept.{promises-kept}
 use Rattle.laws_promises.proofs.Linear.{TakesItsOctets, all_take, is_linear}
@@ -35,24 +35,12 @@ events_at_lines store card n201 events within m s =
     (λ e below. subst (λ n. n < m.config.lines) (sym (line_is n201 e)) (subst (λ c. line_of e < c.lines) (sym s.config) below)) events within)
 
 -- The laws hold of the events of a list, of each front of it, and of each front of that of a card as it begins.
-pub record Laws {S : Type 0} (store : S → Store) (card : Held S) (list : List Event) : Type 0 where
-  pub by_event : (m : Card) → FrameStands store card m → ArePriced m list
-  pub drops : (m : Card) → FrameStands store card m → AreDropsWithoutCost m list
-  pub without_effect : (m : Card) → FrameStands store card m → AreDropsWithoutEffect m list
-  pub within_limit : (m : Card) (count : ℕ) → FrameStands store card m → IsWithinLimit m (take count list)
-  pub amortised : (m : Card) (count : ℕ) → FrameStands store card m → IsAmortised m (take count list)
-  pub amortised_from_zero : (count : ℕ) → FrameStands store card (fresh card.config) → IsAmortisedFromZero card.config (take count list)
-  pub rejects_are_long : (m : Card) (count : ℕ) → FrameStands store card m → AreRejectsLong m (take count list)
-  pub isolated : (count : ℕ) → FrameStands store card (fresh card.config) → IsIsolated card.config (take count list)
-  pub never_full : (count : ℕ) → FrameStands store card (fresh card.config) → IsNeverFull card.config (take count list)
-  pub numbered : (m : Card) (count : ℕ) → FrameStands store card m → IsNumbered m (take count list)
-  pub from_zero : (count : ℕ) → FrameStands store card (fresh card.config) → IsNumberedFromZero card.config (take count list)
-  pub linear : (m : Card) (count : ℕ) → FrameStands store card m → IsLinear m (take count list)
-  pub promises : (m : Card) → FrameStands store card m → Promises m list
-
 laws : {S : Type 0} (store : S → Store) (card : Held S) (list : List Event) → ((m : Card) → FrameStands store card m → AreAtLines m list) → All (TakesItsOctets card.config.n201) list
-    → Laws store card list
+    → KeepsLaws store card list
 laws store card list within octets = record {
+  moments = run_is_moments;
+  refused = refused_by_the_table;
+  counters_add_up = numbers_in_runs;
   by_event = whole ArePriced frames_by_event.in_runs;
   drops = whole AreDropsWithoutCost drops_cost_nothing;
   without_effect = whole AreDropsWithoutEffect (λ m es s within. drops_change_nothing m es);
@@ -81,5 +69,5 @@ laws store card list within octets = record {
 
 -- so of the events with which a card is driven
 pub laws_of : {S : Type 0} (store : S → Store) (card : Held S) (events : List rust.FrameEvent) → All (λ e. line_of e < line_count card) events
-    → Laws store card (events_of card.config.n201 events)
+    → KeepsLaws store card (events_of card.config.n201 events)
 laws_of store card events within = laws store card (events_of card.config.n201 events) (events_at_lines store card card.config.n201 events within) (all_take card.config.n201 events)

@@ -6,6 +6,9 @@ use Rattle.model_line.specs.Event as line_event
 use Rattle.model_line.specs.Line as machine
 use Rattle.model_line.specs.Machine as lines
 use Rattle.model_card.specs.Machine.{answer}
+use Rattle.model_card.proofs.Reaching.{reached-sound}
+use Rattle.model_card.proofs.Steps.{has_lines, line_sound}
+use Rattle.model_line.proofs.Placed.{place-few}
 use Rattle.lapd_card.proofs.OneLine.{Called, one_holds, one_says, one_leads}
 use Rattle.lapd_line.specs.declared.marks.Marks.{Marks}
 use Rattle.lapd_card.proofs.Waiting.{Looked}
@@ -106,6 +109,21 @@ module _ {S : Type 0} (store : S → Store) where
     state_is service tei r is m s =
         one_says store call (λ c l. machine.state_of service tei l) r is m s
         ∙ ap (λ b. if b then machine.state_of service tei (line_at i m) else None) (sym (lt-ltb i m.config.lines (subst (λ c. i < c.lines) (sym s.config) call.within)))
+
+    -- where a TEI is on a line is where it is on the machine's; and no place is past those of a line
+    pub place_is : (tei : ℕ) (r : Option ℕ) → ((others : List Owned) (l : machine.Line) → line.LineStands x (store card.shelf) others l → r ≡ machine.place_in l tei)
+        → (m : Card) → FrameStands store self m → r ≡ machine.place_in (line_at i m) tei
+    place_is tei r is m s = one_says store call (λ c l. machine.place_in l tei) r is m s
+
+    pub place_few : (tei : ℕ) (r : Option ℕ) → ((others : List Owned) (l : machine.Line) → line.LineStands x (store card.shelf) others l → r ≡ machine.place_in l tei)
+        → IfSome r (λ place. place < self.config.terminals)
+    place_few tei None is = tt
+    place_few tei (Some place) is =
+        let m = call.past.0 in
+        let s = subst (λ c. FrameStands store c m) call.same call.past.1 in
+        let sound = line_sound m i (has_lines m (reached-sound m s.reached)) (subst (λ c. i < c.lines) (sym s.config) call.within) in
+        let within = place-few m.config (line_at i m) tei place sound (sym (place_is tei (Some place) is m s)) in
+        omega (arith, within, ap (λ c. c.terminals) s.config)
 
 -- so it refuses by its room
 pub refuses_so : (number : ℕ) (service : Service) (tei : ℕ) (m : Card) (r : Result Room Refusal) → r ≡ room number service tei m

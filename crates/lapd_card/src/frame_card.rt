@@ -11,6 +11,7 @@ ghost use Rattle.model_card.specs.Stored.{stored};
 ghost use Rattle.model_card.specs.Stored as frame_limits;
 ghost use Rattle.model_line.specs.Event as line_event;
 ghost use Rattle.model_line.specs.Event.{told, hears, expiry, next};
+ghost use Rattle.model_line.specs.Line.{place_in};
 
 use crate::stored::frame_limit;
 use lapd_count::Counters;
@@ -303,6 +304,17 @@ impl<S: Shelf> FrameCard<S> {
         } else {
             None
         }
+    }
+
+    /// The place of a TEI on a line, in the table of the line's TEIs: fewer than its terminals. None where the TEI is not on the
+    /// line.
+    #[inline(always)]
+    pub fn place(&self, line: usize, tei: u8) -> Option<usize>
+        requires { line < line_count self.now }
+        ensures is { (m : machine.Card) → FrameStands S.store self.now m → result ≡ place_in (machine.line_at line m) tei }
+        ensures few { IfSome result (λ place. place < self.now.config.terminals) }
+    {
+        self.lines[line].place(tei)
     }
 
     /// How much room the link of a service with this TEI has for contents: the places of its queue that are left, and the

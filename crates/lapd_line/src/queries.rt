@@ -40,6 +40,15 @@ impl FrameLine {
         self.layer.links.state(link_number(place, service))
     }
 
+    /// The place of a TEI on the line, in the table of its TEIs. None where the TEI is not on the line.
+    #[inline(always)]
+    pub fn place(&self, tei: u8) -> Option<usize>
+        ensures { (store : Store) (others : List Owned) (m : machine.Line) → LineStands self.now store others m
+            → result ≡ machine.place_in m tei }
+    {
+        self.layer.teis.place(tei)
+    }
+
     /// How much room the link of a service with this TEI has for contents, and its V(A). The whole card may hold `slots`.
     ///
     /// # Errors

@@ -10,10 +10,10 @@ use Rattle.lapd_moments.specs.Places.{AreIdle, at}
 use Rattle.std.proofs.lemmas.Nat.{div-mul-add}
 
 -- a line before the last has its places before the end
-before_end : (line lines d w : ℕ) → line < lines → w < d → line * d + w < lines * d
+pub before_end : (line lines d w : ℕ) → line < lines → w < d → line * d + w < lines * d
 before_end line lines d w there within = let whole : suc line * d ≤ lines * d = mul-le-mul_right d there in let one_more : suc line * d ≡ line * d + d = suc-mul line d in omega (arith, whole, one_more, within)
 
-in_lines : (i lines d : ℕ) → 0 < d → i < lines * d → i / d < lines
+pub in_lines : (i lines d : ℕ) → 0 < d → i < lines * d → i / d < lines
 in_lines i lines d some within = grind (arith, div-lt_iff_lt-mul)
 
 in_line : (i d : ℕ) → 0 < d → i % d < d

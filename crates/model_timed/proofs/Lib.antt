@@ -1,5 +1,7 @@
--- Lemmas: what orders make of a clock (Orders), that timers are true (True), and which run (Running, RunTheSame).
+-- Lemmas: what orders make of a clock (Orders), that timers are true (True), what
+-- an event of octets means to them (OctetsRun), and which run (Running, RunTheSame).
 pub mod Orders
 pub mod True
 pub mod Running
+pub mod OctetsRun
 pub mod RunTheSame

@@ -1,4 +1,4 @@
--- The same timers run at the clock of a card of frames and at its lines, after any steps.
+-- The same timers run at the clock of a card and at its lines, after any steps.
 use Rattle.std.proofs.Common.{arith, ◌≡◌, ℕ, ◌<◌, ◌==◌, ◌&&◌, Bool, true, false, cond, List, [], ◌∷◌, drop, Option, Some, None, refl, sym, ap, ◌∙◌, subst, nat_le}
 use Rattle.std.proofs.lemmas.Option.{none-some}
 use Rattle.std.specs.List.{AllByRecursion}
@@ -10,28 +10,36 @@ use Rattle.model_line.specs.Event as line_event
 use Rattle.model_line.specs.Expiry.{is_running}
 use Rattle.model_line.specs.Sound.{IsInRange}
 use Rattle.model_line.specs.declared.config.Config.{Config}
+use Rattle.model_card.specs.Card as cards
 use Rattle.model_card.specs.Card.{Card, line_at}
 use Rattle.model_card.specs.Event.{Event, at}
-use Rattle.model_card.specs.Machine.{after, answer}
+use Rattle.model_card.specs.Machine.{after}
 use Rattle.model_card.specs.Sound.{IsSound}
 use Rattle.model_card.proofs.CardSound.{after_is_sound, fresh_is_sound}
-use Rattle.model_timed.specs.Clock.{Clock, due, first_due, without_first}
+use Rattle.model_card.specs.ports.Card as ports
+use Rattle.model_card.specs.ports.Card.{OctetCard}
+use Rattle.model_card.specs.ports.Event.{Event as OctetEvent, at as octet_at}
+use Rattle.model_card.specs.ports.Port as port
+use Rattle.model_timed.specs.Clock.{Clock, stopped, obeyed, due, first_due, without_first, at_moment}
 use Rattle.model_timed.specs.Timed as timed
-use Rattle.model_timed.specs.Timed.{Step, happens, time, falls_due, with_event, with_expiry, IsPrompt, ArePrompt}
-use Rattle.model_timed.specs.Frames.{TimedCard, frames, fresh, orders_at, IsNoExpiry, MayHappen}
-use Rattle.model_timed.specs.RunTheSame.{left_at, left_by, as_they_are, RunAs, TimersRunTheSame}
+use Rattle.model_timed.specs.Timed.{Step, happens, time, falls_due, with_expiry, IsPrompt, ArePrompt}
+use Rattle.model_timed.specs.Frames.{TimedCard, frames, fresh, orders_at, IsNoExpiry}
+use Rattle.model_timed.specs.Octets.{TimedOctetCard, octets, fresh as octets_fresh, orders_at as octet_orders_at, IsNoExpiry as OctetIsNoExpiry}
+use Rattle.model_timed.specs.RunTheSame.{left_at, left_by, as_they_are, RunAs, TimersRunTheSame, OctetTimersRunTheSame}
+use Rattle.model_timed.proofs.OctetsRun.{OctetsMean, octets-mean}
 use Rattle.model_timed.proofs.Orders.{one-each, all-run}
 use Rattle.model_timed.proofs.Running.{AreTimed, timed-then, timed-fresh, run-on, run-fresh, taken-left}
 
-record Stands (t : TimedCard) : Type 0 where
-  sound : IsSound t.card
-  are_timed : AreTimed t.card
-  one_each : IsOneEach t.clock.running
-  on_lines : AllByRecursion (λ (x : Expiry). x.line < t.card.config.lines) t.clock.running
-  run : RunAs as_they_are t.card t.clock
+-- What holds of a card of frames, alone or inside one of octets, and of a clock beside it.
+record Stands (card : Card) (clock : Clock) : Type 0 where
+  sound : IsSound card
+  are_timed : AreTimed card
+  one_each : IsOneEach clock.running
+  on_lines : AllByRecursion (λ (x : Expiry). x.line < card.config.lines) clock.running
+  run : RunAs as_they_are card clock
 
 happened : (e : Event) (card : Card) (clock : Clock) → IsSound card → AreTimed card → IsOneEach clock.running → AllByRecursion (λ (x : Expiry). x.line < card.config.lines) clock.running
-    → e.line < card.config.lines → RunAs (left_by e) card clock → Stands (with_event frames e (record { card = card; clock = clock }))
+    → e.line < card.config.lines → RunAs (left_by e) card clock → Stands (after e card) (obeyed e.line (orders_at e card) clock)
 happened e card clock sound are_timed one lines here run = record {
   sound = after_is_sound card e sound here;
   are_timed = timed-then card e sound here are_timed;
@@ -50,6 +58,10 @@ none-expires line_event.next may number line timer b = refl
 left : (e : Event) (card : Card) (clock : Clock) → IsNoExpiry e.what → RunAs as_they_are card clock → RunAs (left_by e) card clock
 left e card clock may run line timer within = run line timer within ∙ sym (none-expires e.what may e.line line timer (is_running timer (line_at line card)))
 
+may-happen : (e : Event) (card : Card) (clock : Clock) → Stands card clock → e.line < card.config.lines → IsNoExpiry e.what → Stands (after e card) (obeyed e.line (orders_at e card) clock)
+may-happen e card clock h here may = happened e card clock h.sound h.are_timed h.one_each h.on_lines here (left e card clock may h.run)
+
+-- and what is due falls due
 first-is : (x : Expiry) (running : List Expiry) (now : ℕ) → first_due running now ≡ Some x → (rest : List Expiry) × (running ≡ x ∷ rest)
 first-is x [] now is = absurd (none-some x is)
 first-is x (e ∷ es) now is = (es, ap (λ (y : Expiry). y ∷ es) (the-same e x (nat_le e.moment now) is))
@@ -57,28 +69,21 @@ first-is x (e ∷ es) now is = (es, ap (λ (y : Expiry). y ∷ es) (the-same e x
     the-same : (e x : Expiry) (b : Bool) → cond b (Some e) None ≡ Some x → e ≡ x
     the-same e x b is = grind arith
 
-fell : (t : TimedCard) → Stands t → (o : Option Expiry) → due t.clock ≡ o → Stands (option_map_or (with_expiry frames t) o t)
-fell t h None is = h
-fell t h (Some x) is =
-    let first = first-is x t.clock.running t.clock.now is in
+falls : (x : Expiry) (card : Card) (clock : Clock) → Stands card clock → due clock ≡ Some x
+    → let e = at x.line (line_event.expiry x.timer) in Stands (after e card) (obeyed x.line (orders_at e card) (without_first clock))
+falls x card clock h is =
+    let first = first-is x clock.running clock.now is in
     let one = subst IsOneEach first.1 h.one_each in
-    let lines = subst (λ es. AllByRecursion (λ (y : Expiry). y.line < t.card.config.lines) es) first.1 h.on_lines in
-    happened (at x.line (line_event.expiry x.timer)) t.card (without_first t.clock) h.sound h.are_timed
+    let lines = subst (λ es. AllByRecursion (λ (y : Expiry). y.line < card.config.lines) es) first.1 h.on_lines in
+    happened (at x.line (line_event.expiry x.timer)) card (without_first clock) h.sound h.are_timed
     (subst (λ es. IsOneEach (drop 1 es)) (sym first.1) one.1)
-    (subst (λ es. AllByRecursion (λ (y : Expiry). y.line < t.card.config.lines) (drop 1 es)) (sym first.1) lines.1)
-    lines.0 (taken-left t.card t.clock x first.0 first.1 one.0 h.run)
+    (subst (λ es. AllByRecursion (λ (y : Expiry). y.line < card.config.lines) (drop 1 es)) (sym first.1) lines.1)
+    lines.0 (taken-left card clock x first.0 first.1 one.0 h.run)
 
-stepped : (late : ℕ) (s : Step Event) (t : TimedCard) → Stands t → IsPrompt frames late s t → Stands (timed.after frames s t)
-stepped late (happens e) t h prompt = happened e t.card t.clock h.sound h.are_timed h.one_each h.on_lines prompt.0 (left e t.card t.clock prompt.1 h.run)
-stepped late (time moment) t h prompt = record { sound = h.sound; are_timed = h.are_timed; one_each = h.one_each; on_lines = h.on_lines; run = h.run }
-stepped late falls_due t h prompt = fell t h (due t.clock) refl
+at-moment : (moment : ℕ) (card : Card) (clock : Clock) → Stands card clock → Stands card (at_moment moment clock)
+at-moment moment card clock h = record { sound = h.sound; are_timed = h.are_timed; one_each = h.one_each; on_lines = h.on_lines; run = h.run }
 
-all-stand : (late : ℕ) (steps : List (Step Event)) (t : TimedCard) → Stands t → ArePrompt frames late steps t → Stands (timed.after_all frames steps t)
-unfolding timed.after_all ArePrompt
-all-stand late [] t h prompt = h
-all-stand late (s ∷ steps) t h prompt = all-stand late steps (timed.after frames s t) (stepped late s t h prompt.0) prompt.1
-
-begins : (c : Config) (lengths : Lengths) → IsInRange c → Stands (fresh c lengths)
+begins : (c : Config) (lengths : Lengths) → IsInRange c → Stands (cards.fresh c) (stopped lengths)
 begins c lengths ranged = record {
   sound = fresh_is_sound c ranged;
   are_timed = timed-fresh c;
@@ -87,5 +92,71 @@ begins c lengths ranged = record {
   run = run-fresh c lengths;
 }
 
+-- A card of frames, step by step.
+fell : (t : TimedCard) → Stands t.card t.clock → (o : Option Expiry) → due t.clock ≡ o → let u = option_map_or (with_expiry frames t) o t in Stands u.card u.clock
+fell t h None is = h
+fell t h (Some x) is = falls x t.card t.clock h is
+
+stepped : (late : ℕ) (s : Step Event) (t : TimedCard) → Stands t.card t.clock → IsPrompt frames late s t → let u = timed.after frames s t in Stands u.card u.clock
+stepped late (happens e) t h prompt = may-happen e t.card t.clock h prompt.0 prompt.1
+stepped late (time moment) t h prompt = at-moment moment t.card t.clock h
+stepped late falls_due t h prompt = fell t h (due t.clock) refl
+
+all-stand : (late : ℕ) (steps : List (Step Event)) (t : TimedCard) → Stands t.card t.clock → ArePrompt frames late steps t
+    → let u = timed.after_all frames steps t in Stands u.card u.clock
+unfolding timed.after_all ArePrompt
+all-stand late [] t h prompt = h
+all-stand late (s ∷ steps) t h prompt = all-stand late steps (timed.after frames s t) (stepped late s t h prompt.0) prompt.1
+
 pub timers_run_the_same : TimersRunTheSame
 timers_run_the_same c lengths late steps ranged prompt = (all-stand late steps (fresh c lengths) (begins c lengths ranged) prompt).run
+
+-- A card of octets: what its events mean to the card of frames inside.
+meant-happens : (e : OctetEvent) (m : OctetCard) (clock : Clock) (o : Option Event) → OctetsMean e m o → Stands m.card clock
+    → ((f : Event) → o ≡ Some f → f.line ≡ e.line → (OctetIsNoExpiry e.what → IsNoExpiry f.what) → Stands (after f m.card) (obeyed f.line (orders_at f m.card) clock))
+    → Stands (ports.after e m).card (obeyed e.line (octet_orders_at e m) clock)
+meant-happens e m clock None means h step =
+    subst (λ os. Stands (ports.after e m).card (obeyed e.line os clock)) (sym means.0) (subst (λ (card : Card). Stands card clock) (sym means.1) h)
+meant-happens e m clock (Some f) means h step =
+    subst (λ os. Stands (ports.after e m).card (obeyed e.line os clock)) (sym means.1)
+    (subst (λ (card : Card). Stands card (obeyed e.line (orders_at f m.card) clock)) (sym means.2)
+    (subst (λ n. Stands (after f m.card) (obeyed n (orders_at f m.card) clock)) means.0 (step f refl means.0 means.3)))
+
+octet-happens : (e : OctetEvent) (m : OctetCard) (clock : Clock) → Stands m.card clock → e.line < m.card.config.lines → OctetIsNoExpiry e.what
+    → Stands (ports.after e m).card (obeyed e.line (octet_orders_at e m) clock)
+octet-happens e m clock h here may =
+    meant-happens e m clock (ports.meant e m) (octets-mean e m) h
+    (λ f is line_is meaning. may-happen f m.card clock h (subst (λ n. n < m.card.config.lines) (sym line_is) here) (meaning may))
+
+-- an expiry means itself
+expiry-means : (x : Expiry) (m : OctetCard) → ports.meant (octet_at x.line (port.expiry x.timer)) m ≡ Some (at x.line (line_event.expiry x.timer))
+unfolding ports.meant
+expiry-means x m = refl
+
+octet-falls : (x : Expiry) (m : OctetCard) (clock : Clock) → Stands m.card clock → due clock ≡ Some x
+    → let e = octet_at x.line (port.expiry x.timer) in Stands (ports.after e m).card (obeyed x.line (octet_orders_at e m) (without_first clock))
+octet-falls x m clock h is =
+    let e = octet_at x.line (port.expiry x.timer) in
+    let f = at x.line (line_event.expiry x.timer) in
+    let means : OctetsMean e m (Some f) = subst (OctetsMean e m) (expiry-means x m) (octets-mean e m) in
+    subst (λ os. Stands (ports.after e m).card (obeyed x.line os (without_first clock))) (sym means.1)
+    (subst (λ (card : Card). Stands card (obeyed x.line (orders_at f m.card) (without_first clock))) (sym means.2) (falls x m.card clock h is))
+
+octet-fell : (t : TimedOctetCard) → Stands t.card.card t.clock → (o : Option Expiry) → due t.clock ≡ o → let u = option_map_or (with_expiry octets t) o t in Stands u.card.card u.clock
+octet-fell t h None is = h
+octet-fell t h (Some x) is = octet-falls x t.card t.clock h is
+
+octet-stepped : (late : ℕ) (s : Step OctetEvent) (t : TimedOctetCard) → Stands t.card.card t.clock → IsPrompt octets late s t
+    → let u = timed.after octets s t in Stands u.card.card u.clock
+octet-stepped late (happens e) t h prompt = octet-happens e t.card t.clock h prompt.0 prompt.1
+octet-stepped late (time moment) t h prompt = at-moment moment t.card.card t.clock h
+octet-stepped late falls_due t h prompt = octet-fell t h (due t.clock) refl
+
+octets-stand : (late : ℕ) (steps : List (Step OctetEvent)) (t : TimedOctetCard) → Stands t.card.card t.clock → ArePrompt octets late steps t
+    → let u = timed.after_all octets steps t in Stands u.card.card u.clock
+unfolding timed.after_all ArePrompt
+octets-stand late [] t h prompt = h
+octets-stand late (s ∷ steps) t h prompt = octets-stand late steps (timed.after octets s t) (octet-stepped late s t h prompt.0) prompt.1
+
+pub octet_timers_run_the_same : OctetTimersRunTheSame
+octet_timers_run_the_same c lengths late steps ranged prompt = (octets-stand late steps (octets_fresh c lengths) (begins c lengths ranged) prompt).run

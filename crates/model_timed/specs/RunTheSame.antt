@@ -10,7 +10,9 @@ use Rattle.model_card.specs.Card.{Card, line_at}
 use Rattle.model_card.specs.Event.{Event}
 use Rattle.model_timed.specs.Clock.{Clock}
 use Rattle.model_timed.specs.Timed.{Step, ArePrompt}
+use Rattle.model_card.specs.ports.Event.{Event as OctetEvent}
 use Rattle.model_timed.specs.Frames.{TimedCard, frames, fresh, after_all}
+use Rattle.model_timed.specs.Octets.{TimedOctetCard, octets, fresh as octets_fresh, after_all as octets_after_all}
 
 -- When an event is handed to a card, the timer that it says has expired runs no more at the clock, and the others run there as
 -- they do at their lines.
@@ -33,3 +35,8 @@ RunAs left card clock =
 abbrev pub TimersRunTheSame : Type 0
 TimersRunTheSame = (c : Config) (lengths : Lengths) (late : ℕ) (steps : List (Step Event)) → IsInRange c → ArePrompt frames late steps (fresh c lengths)
     → let t : TimedCard = after_all steps (fresh c lengths) in RunAs as_they_are t.card t.clock
+
+-- And of one of octets.
+abbrev pub OctetTimersRunTheSame : Type 0
+OctetTimersRunTheSame = (c : Config) (lengths : Lengths) (late : ℕ) (steps : List (Step OctetEvent)) → IsInRange c → ArePrompt octets late steps (octets_fresh c lengths)
+    → let t : TimedOctetCard = octets_after_all steps (octets_fresh c lengths) in RunAs as_they_are t.card.card t.clock

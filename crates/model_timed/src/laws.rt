@@ -2,7 +2,7 @@
 
 ghost use Rattle.model_timed.specs.Frames.{frames};
 ghost use Rattle.model_timed.specs.Octets.{octets};
-ghost use Rattle.model_timed.specs.RunTheSame.{TimersRunTheSame};
+ghost use Rattle.model_timed.specs.RunTheSame.{OctetTimersRunTheSame, TimersRunTheSame};
 ghost use Rattle.model_timed.specs.TimersAreTrue.{TimersAreTrue};
 
 /// After any steps of a card of either kind that are prompt to so many milliseconds, each timer that is due was started, and neither
@@ -14,9 +14,10 @@ pub fn timers_are_true()
     ensures octets { TimersAreTrue octets }
 {}
 
-/// The timers that run at the clock of a card of frames are those that its lines run, after any steps that may happen. So each
-/// expiry is one of a timer that its line waits for.
-#[tactic(auto, using(crate::proofs::RunTheSame::timers_run_the_same))]
+/// The timers that run at the clock of a card are those that its lines run, after any steps that may happen. So each expiry is one
+/// of a timer that its line waits for.
+#[tactic(auto, using(crate::proofs::RunTheSame::timers_run_the_same, crate::proofs::RunTheSame::octet_timers_run_the_same))]
 pub fn timers_run_the_same()
-    ensures { TimersRunTheSame }
+    ensures frames { TimersRunTheSame }
+    ensures octets { OctetTimersRunTheSame }
 {}

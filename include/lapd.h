@@ -166,7 +166,7 @@ enum {
     LAPD_BAD_SLOTS = 40,
     LAPD_BAD_N201 = 41,
     LAPD_BAD_N200 = 42,
-    LAPD_BAD_SIDE = 43
+    LAPD_BAD_SIDE = 43 /* of lapd_frame_text, too */
 };
 
 /* ---- The configuration of a card -------------------------------------------------------------------------------- */
@@ -204,7 +204,8 @@ enum {
     LAPD_MOST_ORDERS = 4,   /* nor gives more orders */
     LAPD_MOST_OCTETS = 260, /* no configuration allows longer contents */
     LAPD_MOST_FRAME = 264,  /* no frame to send has more octets: the greatest n201 and four */
-    LAPD_MOST_LINES = 64    /* no card has more lines */
+    LAPD_MOST_LINES = 64,   /* no card has more lines */
+    LAPD_MOST_TEXT = 592    /* no text of a frame of at most LAPD_MOST_FRAME octets has more, with the 0 at its end */
 };
 
 /* What a note says. Those of a link name its service and TEI. A SABME while the link is up (states 7 and 8) tells
@@ -547,6 +548,22 @@ LAPD_STATUS lapd_limit(lapd_card *card, uint32_t *octets);
 
 /* How many lines the card has. */
 LAPD_STATUS lapd_lines(lapd_card *card, uint32_t *lines);
+
+/* ---- A frame in words ------------------------------------------------------------------------------------------- */
+
+/*
+ * What octets say, without a check, as a side sent them (LAPD_NETWORK or LAPD_USER), for a log: in front of `text`, which ends
+ * with a 0, the first line that `lapdsim frame` prints of them. What is no frame has the line that tells why.
+ *
+ *     sapi 0 tei 64 command i ns 1 nr 2 p 0 info 0801          an I-frame of the user's side
+ *     sapi 0 tei 64 response ua f 1 info -                     UA of the network's side
+ *     frame: bad extension                                     and so: short, undefined, wrong size
+ *
+ * LAPD_WRONG_LENGTH: `length` is over 1,028, or `room` is too small; 64 and twice the length are enough, so LAPD_MOST_TEXT
+ * for each frame that a card takes or gives. LAPD_BAD_SIDE: it is neither side. Nothing is written then. It is of no card, takes
+ * no memory, and may be called at any time; of lapd.c it takes 24 KB of stack.
+ */
+LAPD_STATUS lapd_frame_text(const uint8_t *octets, size_t length, uint16_t side, char *text, size_t room);
 
 /* ---- A clock ---------------------------------------------------------------------------------------------------- */
 

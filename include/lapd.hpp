@@ -50,6 +50,12 @@ private:
 
 using octets = span<const uint8_t>;
 
+/// Where a span's octets lie; not null where it has none, as lapd.h asks.
+template <class T> T *at(span<T> of) {
+    static T none = 0;
+    return of.empty() ? &none : of.data();
+}
+
 /// Structs of C that are read as values of this header.
 template <class Raw, class Value> class list {
 public:
@@ -170,6 +176,12 @@ enum class state : uint8_t {
 
 inline const char *text(status of) { return lapd_status_text(static_cast<uint32_t>(of)); }
 inline const char *text(cause of) { return lapd_cause_text(static_cast<uint8_t>(of)); }
+
+/// What octets say, without a check, as a side sent them (LAPD_NETWORK or LAPD_USER): the first line that `lapdsim frame` prints
+/// of them, in front of the room, with a 0 at its end. LAPD_MOST_TEXT is room for each frame of a card.
+inline status frame_text(octets of, uint16_t side, span<char> to) {
+    return static_cast<status>(lapd_frame_text(at(of), of.size(), side, at(to), to.size()));
+}
 
 /// Whether a request was refused.
 constexpr bool is_refusal(status of) {
@@ -324,12 +336,6 @@ protected:
     ~any_card() { (void)lapd_card_free(&card_); }
     static constexpr status of(uint32_t number) { return static_cast<status>(number); }
     static constexpr uint8_t number(service by) { return static_cast<uint8_t>(by); }
-    /// Where a span's octets lie; not null where it has none, as lapd.h asks.
-    template <class T> static T *at(span<T> of) {
-        static T none = 0;
-        return of.empty() ? &none : of.data();
-    }
-
     lapd_card card_ = LAPD_CARD_NONE;
 };
 

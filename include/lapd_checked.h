@@ -56,7 +56,7 @@ LAPD_INLINE_STATUS lapd_checked_exchange(lapd_card *card, uint32_t line, const u
 
 LAPD_INLINE_STATUS lapd_checked_frame(lapd_card *card, uint32_t line, const uint8_t *octets, size_t length,
                                       lapd_report *report) {
-    static const uint8_t no_octet = 0;
+    static uint8_t no_octet = 0;
     if (card == LAPD_NULL || (octets == LAPD_NULL && length != 0) || report == LAPD_NULL)
         return LAPD_WRONG_POINTER;
     return lapd_frame(card, line, octets == LAPD_NULL ? &no_octet : octets, length, report);
@@ -95,7 +95,7 @@ LAPD_INLINE_STATUS lapd_checked_expire(lapd_card *card, uint32_t line, const lap
 
 LAPD_INLINE_STATUS lapd_checked_request(lapd_card *card, uint32_t line, uint8_t request, uint8_t service, uint8_t tei,
                                         const uint8_t *contents, size_t length, lapd_report *report) {
-    static const uint8_t no_octet = 0;
+    static uint8_t no_octet = 0;
     if (card == LAPD_NULL || (contents == LAPD_NULL && length != 0) || report == LAPD_NULL)
         return LAPD_WRONG_POINTER;
     return lapd_request(card, line, request, service, tei, contents == LAPD_NULL ? &no_octet : contents, length,
@@ -166,6 +166,17 @@ LAPD_INLINE_STATUS lapd_checked_lines(lapd_card *card, uint32_t *lines) {
     return lapd_lines(card, lines);
 }
 #define lapd_lines lapd_checked_lines
+
+LAPD_INLINE_STATUS lapd_checked_frame_text(const uint8_t *octets, size_t length, uint16_t side, char *text,
+                                           size_t room) {
+    static uint8_t no_octet = 0;
+    static char no_text = 0;
+    if ((octets == LAPD_NULL && length != 0) || (text == LAPD_NULL && room != 0))
+        return LAPD_WRONG_POINTER;
+    return lapd_frame_text(octets == LAPD_NULL ? &no_octet : octets, length, side, text == LAPD_NULL ? &no_text : text,
+                           room);
+}
+#define lapd_frame_text lapd_checked_frame_text
 
 LAPD_INLINE_STATUS lapd_checked_clock_start(lapd_clock *clock, const lapd_config *config) {
     if (clock == LAPD_NULL || config == LAPD_NULL)

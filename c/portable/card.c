@@ -144,3 +144,29 @@ uint32_t lapd_exchange(lapd_card *card, uint32_t line, const uint8_t *in, size_t
             return LAPD_OK;
     }
 }
+
+/* What octets say is said by a machine of its own on the stack, as no card is needed. */
+uint32_t lapd_frame_text(const uint8_t *octets, size_t length, uint16_t side, char *text, size_t room) {
+    enum { MOST_OCTETS = 1029, MOST_TEXT = 2176, OCTETS = OTHER, TEXT = OCTETS + 1040, END = TEXT + MOST_TEXT };
+    union {
+        machine own;
+        u8 room[sizeof(machine) + END + BEHIND];
+    } of;
+    machine *instance = &of.own;
+    if (octets == NULL && length == 0)
+        octets = &no_octet;
+    if (octets == NULL || (text == NULL && room != 0))
+        return LAPD_WRONG_POINTER;
+    memset(instance->data, 0, END);
+    instance->octets = END;
+    init_globals(instance);
+    init_memories(instance);
+    memcpy(instance->data + OCTETS, octets, at_most(length, MOST_OCTETS));
+    u32 status = w2c_lapd_frame_text(instance, OCTETS, at_most(length, MOST_OCTETS), side, TEXT, at_most(room, MOST_TEXT));
+    for (size_t i = 0; status == LAPD_OK && i < at_most(room, MOST_TEXT); i++) {
+        text[i] = (char)instance->data[TEXT + i];
+        if (text[i] == 0)
+            break;
+    }
+    return status;
+}

@@ -33,6 +33,8 @@ static uint32_t finish(gateway *own, uint64_t now, uint32_t line, uint32_t statu
     if (status != LAPD_OK)
         return status;
     status = lapd_clock_apply_report(&own->timers, line, report, now);
+    if (own->log != NULL)
+        trace_report(own->log, now, line, &own->card, report);
     if (has_news(report))
         own->on_report(own, line, report);
     return status;
@@ -43,6 +45,8 @@ uint32_t gateway_frame(gateway *own, uint64_t now, uint32_t line, const uint8_t 
     if (!is_moment(now))
         return LAPD_WRONG_TIME;
     uint32_t status = lapd_frame(&own->card, line, frame, length, &report);
+    if (own->log != NULL && status == LAPD_OK)
+        trace_frame(own->log, now, line, false, frame, length, length);
     return finish(own, now, line, status, &report);
 }
 
@@ -105,6 +109,8 @@ uint32_t gateway_take(gateway *own, uint64_t now, uint32_t line, uint8_t *frame,
     uint32_t status = lapd_next_frame(&own->card, line, frame, room, length, &report);
     if (status == LAPD_OK)
         *more = report.more != 0;
+    if (own->log != NULL && status == LAPD_OK)
+        trace_frame(own->log, now, line, true, frame, *length, *length);
     return finish(own, now, line, status, &report);
 }
 

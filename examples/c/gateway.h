@@ -32,6 +32,7 @@
 #include <stdint.h>
 
 #include "lapd.h"
+#include "trace.h"
 
 typedef struct gateway gateway;
 
@@ -41,9 +42,10 @@ struct gateway {
     void (*on_report)(gateway *own, uint32_t line, const lapd_report *report);
     lapd_card card;
     lapd_clock timers;
+    trace *log; /* where all that happens is told in words, or NULL; its side is that of the configuration */
 };
 
-#define GATEWAY_NONE { NULL, LAPD_CARD_NONE, LAPD_CLOCK_NONE }
+#define GATEWAY_NONE { NULL, LAPD_CARD_NONE, LAPD_CLOCK_NONE, NULL }
 
 /* Starts the card and the clock. LAPD_SECOND_START, the first bad field of the configuration (LAPD_BAD_LINES to
  * LAPD_BAD_SIDE) or LAPD_NO_MEMORY: none that was not there before is there. */

@@ -4,8 +4,9 @@
  * device with one frame a read and a write. Timers are the library's clock, by the system's monotonic time
  * (linecard.c). Layer 3 answers every call (q931.h).
  *
- *     hardware [--check] [RECORD [CAPTURE]] <> LINE
+ *     hardware [--trace] [--check] [RECORD [CAPTURE]] <> LINE
  *
+ * With --trace standard error has a log of each frame, note, order and state as well (trace.c).
  * With --check two octets stand behind each frame, in place of its check, as DAHDI's D-channels have them; without it
  * the frame is all, as in Linux's LAPD devices. Standard error tells what layer 3 is told. With RECORD, all that
  * happens is written there as a script of docs/FORMAT.md: `lapdsim run < RECORD` then shows the same. With CAPTURE, the
@@ -26,12 +27,13 @@
 
 enum { LONGEST_DATAGRAM = 2048 };
 
-static const char usage[] = "usage: hardware [--check] [RECORD [CAPTURE]] <> LINE\n";
+static const char usage[] = "usage: hardware [--trace] [--check] [RECORD [CAPTURE]] <> LINE\n";
 static const char help[] =
     "\n"
     "A line card with one D-channel, whose line gives and takes one frame a read and a write. It answers every call.\n"
     "Standard error tells what layer 3 is told.\n"
     "\n"
+    "  --trace  a log of each frame, note, order and state on standard error\n"
     "  --check  two octets stand behind each frame, in place of its check\n"
     "  RECORD   a file for all that happens, as a script: lapdsim run < RECORD shows the same\n"
     "  CAPTURE  a file for the frames of both ways, for Wireshark\n";
@@ -59,6 +61,8 @@ static bool take(const uint8_t *datagram, size_t length) {
     }
     if (capture != NULL)
         pcap_frame(capture, own.now, false, LAPD_NETWORK, datagram, length, length);
+    if (own.log != NULL)
+        trace_frame(own.log, own.now, 0, false, datagram, length, length);
     uint32_t status = lapd_frame(&own.card, 0, datagram, length, &report);
     return linecard_is_ok(&own, status, "frame") && linecard_tell(&own, &report);
 }
@@ -75,6 +79,8 @@ static bool give(bool *is_full) {
             return true;
         size_t length;
         uint32_t status = lapd_next_frame(&own.card, line, datagram, LAPD_MOST_FRAME, &length, &report);
+        if (own.log != NULL && status == LAPD_OK)
+            trace_frame(own.log, own.now, 0, true, datagram, length, length);
         if (!linecard_is_ok(&own, status, "next frame") || !linecard_tell(&own, &report))
             return false;
         if (own.record != NULL)
@@ -126,6 +132,7 @@ int main(int words, char **word) {
         printf("%s%s", usage, help);
         return 0;
     }
+    linecard_traces(&own, &words, &word);
     if (words > 1 && strcmp(word[1], "--check") == 0) {
         check_octets = 2;
         words--;

@@ -51,7 +51,20 @@ bool linecard_send(linecard *own, const lapd_note *note, const uint8_t *octets, 
     return linecard_is_ok(own, status, "data") && linecard_tell(own, &report);
 }
 
+bool linecard_traces(linecard *own, int *words, char ***word) {
+    static trace log;
+    if (*words < 2 || strcmp((*word)[1], "--trace") != 0)
+        return false;
+    log.to = stderr;
+    own->log = &log;
+    --*words;
+    ++*word;
+    return true;
+}
+
 bool linecard_tell(linecard *own, const lapd_report *report) {
+    if (own->log != NULL)
+        trace_report(own->log, own->now, 0, &own->card, report);
     if (!linecard_is_ok(own, lapd_clock_apply_report(&own->timers, 0, report, own->now), "orders"))
         return false;
     const lapd_note *data = NULL;

@@ -11,6 +11,7 @@
 #include <stdio.h>
 
 #include "lapd.h"
+#include "trace.h"
 
 typedef struct linecard linecard;
 
@@ -18,6 +19,7 @@ struct linecard {
     const char *program; /* its name, for what it says of faults */
     bool (*message_came)(linecard *own, const lapd_note *note, const uint8_t *contents, size_t length);
     FILE *record; /* where all that happens is written as a script of docs/FORMAT.md, or NULL */
+    trace *log;   /* or NULL */
     lapd_card card;
     lapd_clock timers;
     uint64_t start, now; /* milliseconds of the system's monotonic time, and since the start */
@@ -29,6 +31,9 @@ extern const lapd_config linecard_config;
 
 /* A call that can only fail by a fault of the program; says which, where it fails. */
 bool linecard_is_ok(const linecard *own, uint32_t status, const char *call);
+
+/* Whether the first word is --trace: then a log of all goes to standard error, and the word is taken off. */
+bool linecard_traces(linecard *own, int *words, char ***word);
 
 /* Hands the orders of a report to the clock, and its notes to layer 3. */
 bool linecard_tell(linecard *own, const lapd_report *report);

@@ -1,6 +1,7 @@
-// asked.cpp: what lapd.hpp can be asked for and no script asks: states, links, rooms, a line that goes down,
+// asked.cpp: what lapd.hpp can be asked for and no script asks: states, links, rooms, a line that goes down, frames in words,
 // begun frames, ends and second starts; and that one that fails leaves its answer as it was. Status 0 where all is as it should be. For tests alone.
 #include <cstdio>
+#include <cstring>
 #include <vector>
 
 #include "lapd.hpp"
@@ -51,6 +52,13 @@ void asks(lapd::any_card &card) {
     wants(card.end() == status::ok && card.end() == status::no_card && card.lines(lines) == status::no_card, "an end");
 }
 
+void asks_words() {
+    char text[LAPD_MOST_TEXT] = "";
+    wants(lapd::frame_text(sabme, LAPD_USER, text) == status::ok && std::strcmp(text, "sapi 0 tei 64 command sabme p 1 info -") == 0, "a frame in words");
+    wants(lapd::frame_text(sabme, LAPD_USER, lapd::span<char>(text, 10)) == status::wrong_length && text[0] == 's', "words in little room");
+    wants(lapd::frame_text({}, LAPD_NETWORK, text) == status::ok && std::strcmp(text, "frame: short") == 0, "no frame in words");
+}
+
 void asks_octets(lapd::card &card, lapd::report &report) {
     lapd_head head = {1, {0}};
     wants(card.begun(1, head) == status::ok && head.length == 0, "no begun frame");
@@ -89,6 +97,7 @@ int main() {
     wants(octets.start(config) == status::ok && octets.start(config) == status::second_start, "a start");
     wants(frames.start(config) == status::ok && frames.start(config) == status::second_start, "a start for frames");
     wants(octets.assign(1, 64, report) == status::ok && frames.assign(1, 64, report) == status::ok, "a TEI");
+    asks_words();
     asks_frames(frames, report);
     asks_octets(octets, report);
     for (lapd::any_card *card : {static_cast<lapd::any_card *>(&octets), static_cast<lapd::any_card *>(&frames)}) {

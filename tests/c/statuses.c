@@ -163,7 +163,10 @@ static void questions(void) {
     lapd_head head;
     struct lapd_room room;
     struct lapd_counters counters;
-    switch (below(9)) {
+    char text[LAPD_MOST_TEXT];
+    static const uint8_t octets[1029] = {0};
+    switch (below(10)) {
+    case 9: CALL(lapd_frame_text, octets, below(3) ? 3 : below(1030), (uint16_t)below(3), text, below(2) ? sizeof text : 10); break;
     case 0: CALL(lapd_state, &card, line(), service(), tei(), &state); break;
     case 1: CALL(lapd_next_link, &card, line(), &place, &link); break;
     case 2: CALL(lapd_room, &card, line(), service(), tei(), &room); break;

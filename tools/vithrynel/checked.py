@@ -72,12 +72,17 @@ def wrapped(start: str, parts: List[str], end: str, between: str = ", ", width: 
     return "\n".join([*rows, row])
 
 
+def nothing(it: Parameter) -> str:
+    """What a null pointer to no octets is taken for; it is not written."""
+    return "no_octet" if it.kind == "uint8_t" else "no_text"
+
+
 def one(of: Function) -> str:
     name = of.name.replace("lapd_", "lapd_checked_", 1)
-    words = [f"{it.name} == LAPD_NULL ? &no_octet : {it.name}" if it in buffers(of) else it.name for it in of.parameters]
-    constant = "const " * all(it.is_const for it in buffers(of))
+    words = [f"{it.name} == LAPD_NULL ? &{nothing(it)} : {it.name}" if it in buffers(of) else it.name for it in of.parameters]
+    empty = {nothing(it): f"    static {it.kind} {nothing(it)} = 0;" for it in buffers(of)}
     rows = [wrapped(f"LAPD_INLINE_STATUS {name}(", [declared(it) for it in of.parameters], ") {"),
-            *(f"    static {constant}{it.kind} no_octet = 0;" for it in buffers(of)[:1]),
+            *empty.values(),
             wrapped("    if (", tests(of, "LAPD_NULL"), ")", " || "), "        return LAPD_WRONG_POINTER;",
             wrapped(f"    return {of.name}(", words, ");"), "}"]
     return "\n".join(rows) + "\n" + alias(of, name)

@@ -5,7 +5,7 @@ use Rattle.lapd_frame.specs.declared.addresses.Side.{Side}
 use Rattle.lapd_frame.specs.declared.addresses.Side.TheVariants.{User, Network}
 use Rattle.model_line.specs.declared.config.Config.{Config}
 use Rattle.model_line.specs.Config.{first_fault}
-use Rattle.lapd_c.specs.Statuses.{field_status}
+use Rattle.lapd_c.specs.Statuses.{bad_side, field_status}
 use Rattle.lapd_c.specs.declared.plain.config.PlainConfig.{PlainConfig}
 
 -- The side: 0 the network's, else the user's.
@@ -29,7 +29,7 @@ config_in p = record {
 
 -- The status of a start where a field is out of range: that of the first; the side, which is 0 or 1, comes last.
 abbrev pub side_fault : PlainConfig → Option ℕ
-side_fault p = if nat_lt 1 p.side then Some 43 else None
+side_fault p = if nat_lt 1 p.side then Some bad_side else None
 
 abbrev pub config_fault : PlainConfig → Option ℕ
 config_fault p = option_or (option_map field_status (first_fault (config_in p))) (side_fault p)

@@ -41,6 +41,7 @@ pub use Rattle.lapd_clock.specs.Timers.{after_due, due_at, idle, next_moment, wi
 pub use Rattle.lapd_count.specs.Counters.{none_counted}
 pub use Rattle.lapd_frame.specs.ShortLists.{listed}
 pub use Rattle.lapd_line.specs.Reports.{told_beside}
+pub use Rattle.lapd_text.specs.Told.{IsPutIn, told_text}
 pub use Rattle.model_card.specs.Counted.{all_counted, moment_counted, moment_of}
 pub use Rattle.model_card.specs.Run.{moments}
 pub use Rattle.model_card.specs.ports.Begun.{head_begun_at}

@@ -62,6 +62,9 @@ wrong_cause = 27
 abbrev pub no_frame : ℕ
 no_frame = 28
 
+abbrev pub bad_side : ℕ
+bad_side = 43
+
 -- Why a request was refused.
 abbrev pub refusal_status : Refusal → ℕ
 refusal_status BadTei = 1

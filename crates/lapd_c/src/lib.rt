@@ -13,6 +13,7 @@
 //! - `clock`: a clock in C, and its exports; `clock_reports`, the orders of a report; `clock_slot`, where it lies.
 //! - `laws`: what holds of the machine's answers, so that a report has room for each.
 //! - `plain`: the structs and numbers of C, and what they mean.
+//! - `text`: what octets say in words.
 //! - `loose`: a box as the address of its block; `version`: which version this is.
 //!
 //! # Only tested
@@ -46,4 +47,5 @@ mod octets;
 mod plain;
 mod questions;
 mod refused;
+mod text;
 mod version;

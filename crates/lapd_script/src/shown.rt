@@ -8,6 +8,7 @@ ghost use Rattle.lapd_script.specs.declared.shown.FrameFault.TheVariants as fram
 
 use crate::values::octets;
 use lapd_frame::{ReadFault, Side, read};
+use lapd_text::fault_line;
 use lapd_transcript::{
     LONGEST_FRAME, Target, Terminal, WriteFailed, write_line_octets, write_shown,
 };
@@ -36,10 +37,7 @@ impl FrameFault {
         match self {
             FrameFault::BadOctets => b"bad octets\n",
             FrameFault::TooLong => b"frame: too long\n",
-            FrameFault::NoFrame(ReadFault::BadExtension) => b"frame: bad extension\n",
-            FrameFault::NoFrame(ReadFault::Undefined(_)) => b"frame: undefined\n",
-            FrameFault::NoFrame(ReadFault::WrongSize(_)) => b"frame: wrong size\n",
-            FrameFault::NoFrame(ReadFault::Short) => b"frame: short\n",
+            FrameFault::NoFrame(fault) => fault_line(fault),
             FrameFault::Write => b"write failed\n",
             FrameFault::OutOfMemory => b"out of memory\n",
         }

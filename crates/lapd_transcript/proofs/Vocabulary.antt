@@ -24,10 +24,11 @@ pub use Rattle.lapd_transcript.specs.Counted.{counter_text, group_name, is_zero,
 pub use Rattle.lapd_transcript.specs.Listened.{Hears, found, frame_in}
 pub use Rattle.lapd_transcript.specs.Pages.{on}
 pub use Rattle.lapd_transcript.specs.Put.{HasPut}
-pub use Rattle.lapd_transcript.specs.Shown.{fields, number_text, shown_text}
-pub use Rattle.lapd_transcript.specs.Streams.{IsBroken, IsPut, IsStuck, IsWritten, Output, Puts, Taken, Writes, joined, one_failure_more}
+pub use Rattle.lapd_text.proofs.OctetDigits.{encoded_singly}
+pub use Rattle.lapd_text.specs.Shown.{head_text, joined, octets_text, shown_text}
+pub use Rattle.lapd_transcript.specs.Streams.{IsBroken, IsPut, IsStuck, IsWritten, Output, Puts, Taken, Writes, one_failure_more}
 pub use Rattle.lapd_transcript.specs.Terminal.{Sends, sending, with_frame}
-pub use Rattle.lapd_transcript.specs.Text.{dropped_text, frame_text, lost_text, note_text, nothing_text, octets_text}
+pub use Rattle.lapd_transcript.specs.Text.{dropped_text, frame_text, lost_text, note_text, nothing_text}
 pub use Rattle.lapd_transcript.specs.declared.streams.WriteFailed.{WriteFailed}
 pub use Rattle.model_bits.proofs.BitLemmas.{bits-append, length-bits, length-low_bits, number_of-low_bits}
 pub use Rattle.model_bits.proofs.Division.Unique.{length-check}

@@ -20,6 +20,7 @@ pub use Rattle.lapd_transcript.specs.Counted.{counters_text, is_zero, names_of}
 pub use Rattle.lapd_transcript.specs.CounterNames.{row, row_text, value_text, with_name}
 pub use Rattle.lapd_transcript.specs.Listened.{Hears, found, pulled_text}
 pub use Rattle.lapd_transcript.specs.Pages.{on}
-pub use Rattle.lapd_transcript.specs.Shown.{fields, number_text, on_line_text, shown_text}
-pub use Rattle.lapd_transcript.specs.Streams.{IsSent, Output, Puts, Writes, joined}
-pub use Rattle.lapd_transcript.specs.Text.{cause_name, dropped_text, faulty_text, frame_text, line_text, link_words, lost_text, note_text, nothing_text, octets_text, refusal_name, refused_text, report_text, sent_text, stored_text, suffix, tei_words}
+pub use Rattle.lapd_text.specs.Shown.{joined, octets_text, shown_text}
+pub use Rattle.lapd_transcript.specs.Shown.{on_line_text}
+pub use Rattle.lapd_transcript.specs.Streams.{IsSent, Output, Puts, Writes}
+pub use Rattle.lapd_transcript.specs.Text.{cause_name, dropped_text, faulty_text, frame_text, line_text, link_words, lost_text, note_text, nothing_text, refusal_name, refused_text, report_text, sent_text, stored_text, suffix, tei_words}

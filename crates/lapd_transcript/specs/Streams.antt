@@ -1,6 +1,6 @@
 -- What a write to a target leaves.
-use Rattle.std.specs.Prelude.{◌≡◌, ℕ, ◌+◌, ◌-◌, ◌^◌, ◌<◌, ◌++◌, Bool, true, min, List, take, length, flat_map, [], OnOk, Option, Result, Ok, Err}
-use Rattle.std.specs.Borrow.{Bor}
+use Rattle.std.specs.Prelude.{◌≡◌, ℕ, ◌+◌, ◌-◌, ◌^◌, ◌<◌, ◌++◌, Bool, true, min, List, take, length, [], OnOk, Option, Result, Ok, Err}
+pub use Rattle.lapd_text.specs.Shown.{joined}
 use Rattle.lapd_transcript.specs.declared.streams.WriteFailed.{WriteFailed}
 use Rattle.std.specs.Io.KnownBytes.{Appends}
 
@@ -57,7 +57,3 @@ pub record IsSent {A E : Type 0} (r : Result A E) (old new : Output) : Type 0 wh
   pub same : new.name ≡ old.name
   pub written : Writes r old.taken new.taken old.page
   pub cleared : OnOk r (new.page ≡ [])
-
--- pieces of text, joined
-abbrev pub joined : List (Bor (List ℕ)) → List ℕ
-joined pieces = flat_map (λ (piece : Bor (List ℕ)). piece.now) pieces

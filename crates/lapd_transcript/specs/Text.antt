@@ -1,6 +1,5 @@
 -- The lines of a transcript (profile): each begins with the number of the card's line that it is about.
 use Rattle.std.specs.Prelude.{ℕ, ◌==◌, if◌then◌else◌, List, [], ◌∷◌, ◌++◌, flat_map, codes, decimal, Option, Some, None, unwrap_or}
-use Rattle.hex.specs.Hex.{encode_upper}
 use Rattle.model_bits.specs.declared.heard.Cause.{Cause}
 use Rattle.model_bits.specs.declared.heard.Cause.TheVariants.{Abort, Ragged, Short, Fcs, Extension, Sapi, Tei, Unserved}
 use Rattle.lapd_frame.specs.declared.notes.Note.{Note}
@@ -10,11 +9,7 @@ use Rattle.lapd_frame.specs.declared.refusals.Refusal.{Refusal}
 use Rattle.lapd_frame.specs.declared.refusals.Refusal.TheVariants.{BadTei, NoLink, WrongState, TooLong, QueueFull, PoolFull, TeiTaken, TableFull, CheckRunning, ControlFull, WrongSide}
 use Rattle.lapd_frame.specs.declared.services.Service.{Service}
 use Rattle.lapd_frame.specs.declared.services.Service.TheVariants.{Call, Packet}
-
--- octets as upper-case digits, and no octets as `-`
-abbrev pub octets_text : List ℕ → List ℕ
-octets_text [] = codes "-"
-octets_text (octet ∷ more) = encode_upper (octet ∷ more)
+pub use Rattle.lapd_text.specs.Shown.{octets_text}
 
 -- the line's number, a name, and a line feed
 abbrev pub line_text : ℕ → List ℕ → List ℕ

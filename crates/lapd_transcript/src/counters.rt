@@ -4,7 +4,7 @@ ghost use Rattle.std.specs.Prelude.{◌≡◌, flat_map, map};
 ghost use Rattle.std.specs.List.{list_all};
 ghost use Rattle.lapd_transcript.specs.{Puts, on, is_zero, names_of, counters_text, row, row_text, value_text, with_name};
 
-use crate::output::{Page, decimal};
+use crate::output::Page;
 use crate::streams::{Put, Target};
 use lapd_count::Counter::Messages;
 use lapd_count::MessageType::{
@@ -14,6 +14,7 @@ use lapd_count::MessageType::{
 use lapd_count::Way::{Begun, Heard};
 use lapd_count::{Counter, Counters, Kind};
 use lapd_frame::ErrorCode;
+use lapd_text::decimal;
 use model_bits::Cause;
 
 /// Which counters of a line are shown.

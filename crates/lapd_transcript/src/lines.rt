@@ -3,9 +3,10 @@
 ghost use Rattle.std.specs.Prelude.{◌≡◌, ◌++◌};
 ghost use Rattle.lapd_transcript.specs.{Puts, Writes, on, line_text, octets_text, refusal_name, refused_text, sent_text, frame_text, nothing_text, faulty_text, stored_text};
 
-use crate::output::{Page, decimal};
+use crate::output::Page;
 use crate::streams::{Put, Target};
 use lapd_frame::Refusal;
+use lapd_text::decimal;
 
 impl<T: Target> Page<'_, T> {
     /// Why a request on a line was refused.

@@ -3,9 +3,10 @@
 ghost use Rattle.std.specs.Prelude.{◌++◌, [], ◌∷◌, codes, flat_map, option_copied, ◌≡◌};
 ghost use Rattle.lapd_transcript.specs.{cause_name, letter_of, suffix, Puts, on, octets_text, line_text, link_words, tei_words, note_text, report_text, dropped_text, lost_text};
 
-use crate::output::{Page, decimal};
+use crate::output::Page;
 use crate::streams::{Put, Target};
 use lapd_frame::{ErrorCode, Note, Service};
+use lapd_text::decimal;
 use model_bits::Cause;
 
 impl<T: Target> Page<'_, T> {

@@ -1,10 +1,11 @@
 //! Puts pieces of text onto a page, which goes to a target once it is full.
 
-ghost use Rattle.std.specs.Prelude.{◌≡◌, [], ◌∷◌, ◌++◌, List, ℕ, codes, decimal};
+ghost use Rattle.std.specs.Prelude.{◌≡◌, [], ◌++◌, List, ℕ, codes};
 ghost use Rattle.lapd_transcript.specs.{encode_upper, on, IsSent, Output, Puts, Writes, joined, line_text, octets_text};
 
 use crate::streams::{Put, Target, WriteFailed};
 use arrayvec::ArrayVec;
+use lapd_text::{decimal, octet_digits};
 
 /// As many octets as go to a target at once.
 const ROOM: usize = 4096;
@@ -14,24 +15,6 @@ const ROOM: usize = 4096;
 pub struct Page<'a, T> {
     target: &'a mut T,
     text: ArrayVec<u8, ROOM>,
-}
-
-/// The digits of a number of 64 bits.
-pub(crate) type Digits = ArrayVec<u8, 20>;
-
-/// The digits of a number.
-// `write!` would give them too, but does not tell that it succeeds where there is room.
-pub(crate) fn decimal(number: u64) -> Digits
-    ensures { result.items ≡ decimal number }
-{
-    if number < 10 {
-        let mut digits = ArrayVec::new();
-        digits.push(b'0' + number as u8);
-        return digits;
-    }
-    let mut digits = decimal(number / 10);
-    digits.push(b'0' + (number % 10) as u8);
-    digits
 }
 
 impl<'a, T: Target> Page<'a, T> {
@@ -105,7 +88,7 @@ impl<'a, T: Target> Page<'a, T> {
         ensures { Puts result (on T.taken self.old) (on T.taken self.new) (encode_upper octets.now) }
     {
         for octet in octets {
-            self.put(&digits_of(*octet))?;
+            self.put(&octet_digits(*octet))?;
         }
         Ok(())
     }
@@ -132,16 +115,4 @@ impl<'a, T: Target> Page<'a, T> {
         }
         target.write(text.as_slice())
     }
-}
-
-/// The two upper-case digits of an octet, the high four bits first.
-fn digits_of(octet: u8) -> [u8; 2]
-    ensures { result ≡ encode_upper (octet ∷ []) }
-{
-    let mut digits = [0; 2];
-    let _ = hex::encode_to_slice([octet], &mut digits);
-    [
-        digits[0].to_ascii_uppercase(),
-        digits[1].to_ascii_uppercase(),
-    ]
 }

@@ -3,7 +3,7 @@
 ghost use Rattle.std.specs.Prelude.{◌≡◌, ◌<◌, None, Ok, Err, IfSome, IfOk, IfErr};
 ghost use Rattle.lapd_c.specs.{first_fault, config_in, side_in, config_fault};
 
-use crate::plain::statuses::field_status;
+use crate::plain::statuses::{BAD_SIDE, field_status};
 use lapd_frame::Side;
 use model_line::Config;
 
@@ -35,11 +35,8 @@ pub struct PlainConfig {
     pub side: u16,
 }
 
-/// The status of a start whose configuration names no side, and has all else in range.
-const BAD_SIDE: u32 = 43;
-
 /// The side of a number: 0 the network's, else the user's.
-fn side_in(side: u16) -> Side
+pub fn side_in(side: u16) -> Side
     ensures { result ≡ side_in side }
 {
     if side == 0 { Side::Network } else { Side::User }

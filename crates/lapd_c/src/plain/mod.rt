@@ -25,7 +25,7 @@ mod rooms;
 mod statuses;
 mod timers;
 
-pub(crate) use config::PlainConfig;
+pub(crate) use config::{PlainConfig, side_in};
 pub(crate) use counters::PlainCounters;
 pub(crate) use faults::fault_in;
 pub(crate) use heads::PlainHead;
@@ -34,7 +34,7 @@ pub(crate) use reports::PlainReport;
 pub(crate) use requests::{DATA, request_in};
 pub(crate) use rooms::PlainRoom;
 pub(crate) use statuses::{
-    NO_CARD, NO_CLOCK, NO_FRAME, NO_MEMORY, NO_MORE_LINKS, NO_PLACE, NO_TIMER, OK,
+    BAD_SIDE, NO_CARD, NO_CLOCK, NO_FRAME, NO_MEMORY, NO_MORE_LINKS, NO_PLACE, NO_TIMER, OK,
     REFUSED_QUEUE_FULL, SECOND_START, WRONG_CARD, WRONG_LENGTH, WRONG_LINE, WRONG_ORDER,
     WRONG_TIME, refusal_status,
 };

@@ -47,6 +47,9 @@ pub const WRONG_CAUSE: u32 = 27;
 /// No frame of the line waits to be sent.
 pub const NO_FRAME: u32 = 28;
 
+/// A side that is neither 0 nor 1: of a start whose configuration has all else in range, and of a frame's text.
+pub const BAD_SIDE: u32 = 43;
+
 /// The status of a request that was refused: 1 to 10, or 29.
 pub fn refusal_status(why: Refusal) -> u32
     ensures { result ≡ refusal_status why }

@@ -1,7 +1,7 @@
 -- Hand-written answers for `+decimal`.
-use Rattle.lapd_transcript.proofs.Vocabulary.{◌∙◌, arith, ap, ◌∷◌, [], ◌++◌, ◌+◌, lit<, List, ℕ}
-use Rattle.lapd_transcript.proofs.Numerals.{one_digit, last_digit, few_digits}
-use Rattle.lapd_transcript.proofs.output.+decimal.Goals as goal
+use Rattle.lapd_text.proofs.Vocabulary.{◌∙◌, arith, ap, ◌∷◌, [], ◌++◌, ◌+◌, lit<, List, ℕ}
+use Rattle.lapd_text.proofs.Numerals.{one_digit, last_digit, few_digits}
+use Rattle.lapd_text.proofs.digits.+decimal.Goals as goal
 
 pub returns-then-number-lt10 : goal.returns-then-number-lt10
 returns-then-number-lt10 t c =

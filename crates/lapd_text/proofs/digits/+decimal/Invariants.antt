@@ -1,5 +1,5 @@
 -- The invariants of the loops of `+decimal`.
-use Rattle.lapd_transcript.proofs.output.+decimal.Given as goal
+use Rattle.lapd_text.proofs.digits.+decimal.Given as goal
 
 abbrev pub decreases-decimal : goal.decreases-decimal
 decreases-decimal l = l.number

@@ -1,5 +1,5 @@
 -- Decimal digits, one after the other.
-use Rattle.lapd_transcript.proofs.Vocabulary.{◌≡◌, ℕ, ◌+◌, ◌<◌, ◌≤◌, ◌^◌, ◌/◌, ◌%◌, List, [], ◌∷◌, ◌++◌, length, sym, ap, ◌∙◌, subst, arith, decimal, decimal_digit, decimal_step, length-decimal-le}
+use Rattle.lapd_text.proofs.Vocabulary.{◌≡◌, ℕ, ◌+◌, ◌<◌, ◌≤◌, ◌^◌, ◌/◌, ◌%◌, List, [], ◌∷◌, ◌++◌, length, sym, ap, ◌∙◌, subst, arith, decimal, decimal_digit, decimal_step, length-decimal-le}
 
 pub one_digit : (n : ℕ) → n < 10 → (48 + n) ∷ [] ≡ decimal n
 one_digit n h = sym (decimal_digit n h)

@@ -1,8 +1,7 @@
--- Hand-written answers for `digits_of`.
-use Rattle.lapd_transcript.proofs.Vocabulary.{refl, ap, ◌∙◌, List, ℕ, [], ◌∷◌, arith, slice_index, to_ascii_uppercase}
-use Rattle.lapd_transcript.proofs.Known.{ok_gives}
-use Rattle.lapd_transcript.proofs.Digits.{upper_pair}
-use Rattle.lapd_transcript.proofs.output.digits_of.Goals as goal
+-- Hand-written answers for `octet_digits`.
+use Rattle.lapd_text.proofs.Vocabulary.{refl, ap, ◌∙◌, List, ℕ, [], ◌∷◌, arith, slice_index, to_ascii_uppercase}
+use Rattle.lapd_text.proofs.OctetDigits.{ok_gives, upper_pair}
+use Rattle.lapd_text.proofs.digits.octet_digits.Goals as goal
 
 pub returns : goal.returns
 returns c =

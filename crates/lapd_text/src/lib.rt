@@ -1,0 +1,15 @@
+//! What octets say in words: the line that `lapdsim frame` prints of a frame, and that a program in C logs. No call takes
+//! memory.
+//!
+//! - `digits`: a number in decimal digits, and octets as hexadecimal ones.
+//! - `shown`: the head of a frame's line, [`head_of`], to which its information is joined.
+//! - `text`: all of it in room of the caller's, [`write_text`], or why octets are no frame.
+#![tactic(auto)]
+
+mod digits;
+mod shown;
+mod text;
+
+pub use digits::{Digits, decimal, octet_digits};
+pub use shown::{Head, MOST_HEAD, head_of};
+pub use text::{fault_line, write_text};

@@ -1,0 +1,84 @@
+/* trace.c: a log of what happens at a card, in words. See trace.h. */
+#include "trace.h"
+
+static void begin(const trace *log, uint64_t milliseconds, uint32_t line, const char *mark) {
+    fprintf(log->to, "%llu.%03u %u %s ", (unsigned long long)(milliseconds / 1000), (unsigned)(milliseconds % 1000),
+            (unsigned)line, mark);
+}
+
+void trace_frame(trace *log, uint64_t milliseconds, uint32_t line, bool is_sent, const uint8_t *octets, size_t known,
+                 size_t length) {
+    char text[LAPD_MOST_TEXT];
+    uint16_t other = log->side == LAPD_NETWORK ? LAPD_USER : LAPD_NETWORK;
+    begin(log, milliseconds, line, is_sent ? ">" : "<");
+    if (lapd_frame_text(octets, known, is_sent ? log->side : other, text, sizeof text) != LAPD_OK)
+        fprintf(log->to, "%zu octets\n", length);
+    else if (known == length)
+        fprintf(log->to, "%s\n", text);
+    else
+        fprintf(log->to, "%s of %zu octets\n", text, length);
+}
+
+static void trace_note(const trace *log, const lapd_note *note, const lapd_report *report) {
+    fprintf(log->to, "%s %u", lapd_note_text(note), note->tei);
+    if (note->error != 0)
+        fprintf(log->to, " %c", note->error);
+    if (note->note == LAPD_DATA_INDICATION || note->note == LAPD_UNIT_INDICATION)
+        fprintf(log->to, ", %u octets", report->length);
+    fputc('\n', log->to);
+}
+
+static void trace_order(const trace *log, const lapd_order *order) {
+    static const char *const timers[] = {"", "t200", "t203", "t201"};
+    const lapd_timer *timer = &order->timer;
+    fprintf(log->to, "%s %s", order->order == LAPD_START ? "start" : "stop", timers[timer->timer & 3]);
+    if (timer->timer != LAPD_T201)
+        fprintf(log->to, "%s %u", timer->service == LAPD_PACKET ? "-16" : "", timer->tei);
+    fputc('\n', log->to);
+}
+
+/* The states of Q.921, by their numbers. */
+static const char *state_text(uint8_t state) {
+    static const char *const names[] = {"no TEI", "", "", "", "TEI assigned", "awaiting establishment",
+                                        "awaiting release", "multiple frame established", "timer recovery"};
+    return state < sizeof names / sizeof *names ? names[state] : "";
+}
+
+/* A link that is in another state than before. */
+static void trace_state(trace *log, uint64_t milliseconds, uint32_t line, unsigned place, uint8_t state) {
+    uint8_t before = log->states[line][place];
+    if (before == state)
+        return;
+    begin(log, milliseconds, line, " ");
+    fprintf(log->to, "state%s %u: %u (%s) to %u (%s)\n", place % 2 == 0 ? "" : "-16", place / 2, before,
+            state_text(before), state, state_text(state));
+    log->states[line][place] = state;
+}
+
+static void trace_states(trace *log, uint64_t milliseconds, uint32_t line, lapd_card *card) {
+    uint8_t states[TRACE_PLACES] = {0}, place = 0;
+    for (lapd_link link; lapd_next_link(card, line, &place, &link) == LAPD_OK;)
+        states[place - 1] = link.state;
+    for (unsigned i = 0; i < TRACE_PLACES; i++)
+        trace_state(log, milliseconds, line, i, states[i]);
+}
+
+void trace_report(trace *log, uint64_t milliseconds, uint32_t line, lapd_card *card, const lapd_report *report) {
+    for (unsigned i = 0; i < report->note_count; i++) {
+        begin(log, milliseconds, line, " ");
+        trace_note(log, &report->notes[i], report);
+    }
+    if (report->cause != 0) {
+        begin(log, milliseconds, line, " ");
+        fprintf(log->to, "dropped %s\n", lapd_cause_text(report->cause));
+    }
+    if (report->lost != 0) {
+        begin(log, milliseconds, line, " ");
+        fprintf(log->to, "lost %u\n", report->lost);
+    }
+    for (unsigned i = 0; i < report->order_count; i++) {
+        begin(log, milliseconds, line, " ");
+        trace_order(log, &report->orders[i]);
+    }
+    trace_states(log, milliseconds, line, card);
+}

@@ -20,9 +20,9 @@ ghost use Rattle.lapd_sim.specs.{LimitsAreOfCards, RunsOnBoards, ScriptsAreRuns,
 /// card of its kind (`of_kind`): of octets, or of frames. So by [`runs_on_boards`] the script is a run of that card, and
 /// by [`transcripts_are_replies`] its moments are those of the script's lines.
 ///
-/// The laws of runs of a card ask for nothing else of a configuration and of events, with two exceptions. That the pool
-/// is never full asks for slots enough, which a card line may give or not. And `octets` of `frames_are_read` asks that
-/// what comes and what is granted are octets. So each other law of a card that has just begun holds of each script.
+/// The laws of runs of a card that has just begun ask for nothing else of a configuration and of events, except what each
+/// names as its own premise: that there are slots enough, that what comes and what is granted are octets, or that the
+/// next frame of a line is called for often enough. So each of them holds of each script.
 /// [`scripts_stay_within`] says so of what is stored.
 pub fn scripts_are_runs()
     ensures { ScriptsAreRuns }

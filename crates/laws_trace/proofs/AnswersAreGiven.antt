@@ -1,5 +1,5 @@
 -- What answers a poll, SABME or DISC is given within a number of calls: the law.
-use Rattle.laws_trace.proofs.Vocabulary.{◌≡◌, ℕ, ◌+◌, ◌-◌, ◌<◌, ◌==◌, ◌&&◌, Bool, true, false, cond, All, List, [], ◌∷◌, ◌++◌, map, length, take, drop, filter, Some, refl, sym, ap, ◌∙◌, subst, arith, append_assoc, option_map_or, All-head, All-cons, All-nil, Service, ControlFrame, Config, Line, IsInRange, control_text, deactivates, place_in, tei_at, link_at, link_in, link_number, link_count, place_of-is, place_at-number, service_at-number, number_within, at-within, unit_frame, line_at, at, moments, fresh, fresh_link, fresh_is_sound, always_sound, config-stays, all-left, all-right, CardEvent as Event, after, Card, after_all, IsAtLine, AreAtLines, after_all-append, Always, not, and_parts, eq-eqb, Answer, managed_after, managing_is_on as is_on, has_tei, View, Outgoing, outgoing_of, trace_of, lost_in, take-length, length-map, is_take, takes_of, frames_given, waiting-taken, most_frames_before, changed, command_of, put_in, is_frame_of, Observed, by_event, enters, in_state, moment_of, view_of, views, outgoing_waits as waits, trace_frame_in as frame_in, Moment, units_of, text}
+use Rattle.laws_trace.proofs.Vocabulary.{◌≡◌, ℕ, ◌+◌, ◌-◌, ◌<◌, ◌==◌, ◌&&◌, Bool, true, false, cond, All, List, [], ◌∷◌, ◌++◌, map, length, take, drop, filter, Some, refl, sym, ap, ◌∙◌, subst, arith, append_assoc, option_map_or, All-head, All-cons, All-nil, Service, ControlFrame, Config, Line, IsInRange, control_text, deactivates, place_in, tei_at, link_at, link_in, link_number, link_count, place_of-is, place_at-number, service_at-number, number_within, at-within, unit_frame, line_at, at, moments, fresh, fresh_link, fresh_is_sound, always_sound, config-stays, all-left, all-right, CardEvent as Event, after, Card, after_all, IsAtLine, AreAtLines, after_all-append, Always, not, and_parts, eq-eqb, Answer, managed_after, managing_is_on as is_on, has_tei, View, Outgoing, outgoing_of, lost_in, take-length, length-map, is_take, takes_of, frames_given, waiting-taken, most_frames_before, changed, command_of, put_in, is_frame_of, Observed, by_event, enters, in_state, moment_of, view_of, views, outgoing_waits as waits, trace_frame_in as frame_in, Moment, units_of, text}
 use Rattle.model_line.specs.Event as line_event
 use Rattle.laws_line.specs.card.Among.{AreAmong}
 unfoldable use Rattle.laws_line.specs.card.PromisesOfTakes.{StaysAt, come_first_at}
@@ -10,13 +10,11 @@ unfoldable use Rattle.laws_trace.specs.AnswersAreGiven.{Stays, priority_added}
 use Rattle.laws_line.specs.Among as at_line
 use Rattle.laws_trace.proofs.Addressed.{at-some-place}
 use Rattle.laws_trace.proofs.LineAtEnd.{line-at-end}
-use Rattle.laws_trace.proofs.OfOctets.Seen.{begun_given}
 use Rattle.laws_trace.proofs.Outgoing.{then-is, view-is}
 use Rattle.laws_trace.proofs.Plain.{all-wait}
 use Rattle.laws_trace.proofs.TeisAreManaged.{follows-now}
 use Rattle.laws_trace.proofs.TurnsKept.{keeps-there}
-use Rattle.laws_trace.proofs.Units.{left-is-waiting}
-use Rattle.laws_trace.proofs.UnitsGoOut.{goes}
+use Rattle.laws_trace.proofs.UnitsGoOut.{waiting-is}
 use Rattle.laws_trace.proofs.WaitingNow.{waiting-now}
 
 -- An observer's words, and those of the card.
@@ -31,8 +29,7 @@ module _ (c : Config) (number : ℕ) (ranged : IsInRange c) (within : number < c
   first-are : (events : List Event) → AreAtLines (fresh c) events → priority_waiting c number events ≡ at_line.go_first (end events)
   first-are events all =
       let owed = ap (λ w. length w.owed) (follows-now c events number ranged all within).is in
-      let units = ap length (left-is-waiting c (trace_of c events number) [] (map (unit_frame c) (end events).units) (goes c events number ranged all within))
-      ∙ length-map (end events).units (unit_frame c) in
+      let units = ap length (waiting-is c events number ranged all within) ∙ length-map (end events).units (unit_frame c) in
       ap (λ n. n + length (units_of c events number)) owed ∙ ap (λ n. length (end events).management.waiting + n) units
 
   card-then : (before : List Event) (e : Event) → card (before ++ e ∷ []) ≡ after e (card before)
@@ -157,8 +154,7 @@ module _ (c : Config) (number : ℕ) (ranged : IsInRange c) (within : number < c
       unfolding AreTaken
       given-in-order enough =
           let so : AreTaken c = subst AreTaken (config-stays (fresh c) before) taken in
-          subst (AreAmong (texts c service tei (outgoing_of c service tei number before).waiting)) (sym (begun_given number (card before) behind))
-          (subst (λ xs. AreAmong xs given) texts-are (so within link-few (omega (arith, enough, come-so before behind all))))
+          subst (λ xs. AreAmong xs given) texts-are (so within link-few (omega (arith, enough, come-so before behind all)))
 
 pub waiting-is-given : Always QueueIsSent
 waiting-is-given c events number ranged all within before behind service tei split stays enough =

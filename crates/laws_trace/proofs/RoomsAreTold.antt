@@ -1,5 +1,5 @@
 -- What is told of the room of a link: the law.
-use Rattle.laws_trace.proofs.Vocabulary.{◌≡◌, ℕ, ◌≤◌, Bool, true, false, not, cond, length, Some, None, Ok, refl, sym, ap, ◌∙◌, subst, arith, nat_lt, le-ltb, BadTei, NoLink, place_of-is, is_on-at, Room, queue_of, is_multiple_frame, room_of, Config, Line, link_of, place_in, terms, has_tei, unless, Card, line_at, free, refuses_by, Data, fresh, after_all, managing_is_on as is_on, View, view_of, Outgoing, outgoing_of, card_answer as answer, at, Always, is_up, always_sound, fresh_is_sound, used, refused_by_the_table, request, refused, WrongState, ◌↔◌}
+use Rattle.laws_trace.proofs.Vocabulary.{◌≡◌, ℕ, ◌≤◌, Bool, true, false, not, cond, length, Some, None, Ok, refl, sym, ap, ◌∙◌, arith, nat_lt, le-ltb, BadTei, NoLink, place_of-is, is_on-at, Room, queue_of, is_multiple_frame, room_of, Config, Line, link_of, place_in, terms, has_tei, unless, Card, line_at, free, fresh, after_all, managing_is_on as is_on, View, view_of, Outgoing, outgoing_of, Always, is_up, always_sound, fresh_is_sound, used}
 use Rattle.model_card.specs.Room.{room}
 use Rattle.laws_trace.specs.RoomsAreTold.{IsRoom, RoomsAreTold}
 use Rattle.laws_trace.proofs.LineAtEnd.{line-at-end, link-at-end}
@@ -55,9 +55,4 @@ rooms-are-told c events number ranged all within service tei is_on_line = told p
           queue = omega (arith, few, places, kept);
           pool = omega (arith, taken-is c events ranged all, slots, ap (λ (d : Config). d.slots) same);
           va = λ up. sym (ap (λ (v : View). v.link.acknowledged) view ∙ seen.acknowledged_is (sym state ∙ up));
-          refuses = λ up contents why short.
-              let table = refused_by_the_table.refused_exactly card number (Data service tei contents) why in
-              subst (λ o. (answer (at number (request (Data service tei contents))) card ≡ refused why) ↔ (o ≡ Some why))
-              (refuses_by card number service tei left is contents (sym state ∙ up) (subst (λ (d : Config). length contents ≤ d.n201) (sym same) short)) table;
-          down = λ is_down contents. (refused_by_the_table.refused_exactly card number (Data service tei contents) WrongState).1 (grind (arith, le-ltb, is_on-at));
         }

@@ -4,6 +4,7 @@ use Rattle.model_link.specs.Sound as link_sound
 use Rattle.model_card.specs.Sound as card_sound
 use Rattle.laws_trace.proofs.Runs.{run-shows}
 use Rattle.laws_trace.proofs.Units.{given-frames, none-told, none-requested}
+use Rattle.laws_trace.proofs.OfOctets.Seen.{begun_given}
 
 -- messages of TEI management, and unit data
 message-spelled : (c : Config) (m : Message) → IsSpelled c (message_frame c.side m)
@@ -78,4 +79,5 @@ pub run-spelled : (card : Card) (events : List CardEvent) (number : ℕ) → car
 run-spelled card events number s all = (run-shows Anything AreSpelled rests joins steps card events number s all tt).0
 
 pub frames-are-read : Always FramesAreRead
-frames-are-read c events number ranged all within = run-spelled (fresh c) events number (fresh_is_sound c ranged) all
+frames-are-read c events number ranged all within =
+    subst (All (IsSpelled c)) (begun_given number (fresh c) events) (run-spelled (fresh c) events number (fresh_is_sound c ranged) all)

@@ -9,6 +9,7 @@ use Rattle.laws_trace.proofs.Addressed.{at-some-place}
 use Rattle.laws_trace.proofs.LineAtEnd.{line-at-end}
 use Rattle.laws_trace.proofs.LinkLed.{own-is}
 use Rattle.laws_trace.proofs.NamedFrames.{names, names-append, its-name, among-frames}
+use Rattle.laws_trace.proofs.OfOctets.Seen.{begun_given}
 use Rattle.laws_trace.proofs.OffersOfLink.{nothing-offered}
 use Rattle.laws_trace.proofs.Spelled.{run-spelled}
 use Rattle.laws_trace.proofs.TeisAreManaged.{follows-now}
@@ -184,6 +185,9 @@ links-take-turns-meanwhile c events number ranged all within before (x ∷ xs) f
     frames : List (List ℕ)
     frames = frames_begun (trace number (moments card (x ∷ xs)))
 
+    is : frames ≡ front ++ a ∷ (between ++ b ∷ behind)
+    is = begun_given number card (x ∷ xs) ∙ e
+
     walk : Walk c one tei other its (line_at number card) (names c frames)
     walk =
         subst (λ (d : Config). Walk d one tei other its (line_at number card) (names d frames)) kept
@@ -191,7 +195,7 @@ links-take-turns-meanwhile c events number ranged all within before (x ∷ xs) f
 
     spelled : All (IsSpelled c) (front ++ a ∷ (between ++ b ∷ behind))
     spelled =
-        subst (All (IsSpelled c)) e
+        subst (All (IsSpelled c)) is
         (subst (λ (d : Config). All (IsSpelled d) frames) kept
         (run-spelled card (x ∷ xs) number (always_sound (fresh c) before begins front-lines)
         (subst (λ (d : Config). All (λ (e : Event). e.line < d.lines) (x ∷ xs)) (sym kept) (all-right (IsAtLine (fresh c)) before (x ∷ xs) these))))
@@ -207,7 +211,7 @@ links-take-turns-meanwhile c events number ranged all within before (x ∷ xs) f
 
     named : names c frames ≡ names c front ++ name_of one tei ∷ (names c between ++ name_of one tei ∷ names c behind)
     named =
-        ap (names c) e ∙ names-append c front (a ∷ (between ++ b ∷ behind))
+        ap (names c) is ∙ names-append c front (a ∷ (between ++ b ∷ behind))
         ∙ ap (λ ns. names c front ++ ns) (its-name c first tei a (between ++ b ∷ behind) (All-head (IsSpelled c) a (between ++ b ∷ behind) from-a) own-a)
         ∙ ap (λ ns. names c front ++ record { sapi = sapi_of first; tei = tei } ∷ ns) (names-append c between (b ∷ behind)
         ∙ ap (λ ns. names c between ++ ns)

@@ -1,5 +1,5 @@
 -- Unit data goes out in the order in which it was granted, over runs.
-use Rattle.laws_trace.proofs.Vocabulary.{arith, ◌≡◌, ℕ, ◌<◌, ◌≤◌, ◌==◌, ◌&&◌, Bool, true, false, cond, List, [], ◌∷◌, ◌++◌, drop, map, slice_get, Option, Some, None, option_map, refl, sym, ap, ◌∙◌, subst, inl, inr, append-nil, All, not, filter, get_or-replicate, map-append, All-nil, All-head, Ui, sapi_of, IsInOrder, Link, ControlFrame, Config, hears, expiry, request, next, NextFrame, Answer, gave, Line, UnitData, link_count, link_at, service_at, terms, fresh_line, management_sapi, Taken, taken, unit_frame, next_of, IsInRange, IsUnitData, IsOfLink, IsOwed, IsIdle, contents_of_link, units_asked, event-follows, event-happens, served, units-wait, fold, information_of, fresh_link as fresh, Event, line_after as after, answer, Request, IsSound, trace_frame_in as frame_in, Seen, seen_told, seen_granted, seen, frames_begun, IsFront, units_left, is_ui, is_down, is_unit, waits, trace_begun as begun, granted}
+use Rattle.laws_trace.proofs.Vocabulary.{arith, ◌≡◌, ℕ, ◌<◌, ◌≤◌, ◌==◌, ◌&&◌, Bool, true, false, cond, List, [], ◌∷◌, ◌++◌, drop, map, slice_get, Option, Some, None, option_map, refl, sym, ap, ◌∙◌, subst, inl, inr, append-nil, All, not, filter, get_or-replicate, map-append, All-nil, All-head, Ui, sapi_of, IsInOrder, Link, ControlFrame, Config, hears, expiry, request, next, NextFrame, Answer, gave, Line, UnitData, link_count, link_at, service_at, terms, fresh_line, management_sapi, Taken, taken, unit_frame, next_of, IsInRange, IsUnitData, IsOfLink, IsOwed, IsIdle, contents_of_link, units_asked, event-follows, event-happens, served, units-wait, fold, information_of, fresh_link as fresh, Event, line_after as after, answer, Request, IsSound, trace_frame_in as frame_in, Seen, seen_told, seen_granted, seen, frames_begun, IsFront, units_left, is_ui, is_down, is_unit, waits, trace_begun as begun, granted, fold-append, trace, seen_in, Moment}
 use Rattle.laws_trace.proofs.NoUi.{IsPlain, all-left}
 use Rattle.laws_trace.proofs.Reading.{other-frame, unit-is}
 use Rattle.laws_trace.specs.Units as units
@@ -134,12 +134,39 @@ pub steps : (c : Config) → IsInRange c → (e : Event) (l : Line) → IsSound 
     → Passes c l (seen e (answer c e l)) (after c e l) × NoneWaits c (after c e l)
 steps c ranged e l s h = (event-passes c e l s h, event-none c e l s h)
 
--- So those that wait are as the observer has them;
-pub left-is-waiting : (c : Config) (t : List Seen) (waiting left : List (List ℕ)) → Goes c waiting t left → fold (waits c) waiting t ≡ left
+-- So those that wait are as the observer has them, by what is seen;
+abbrev pub traced : Config → List (List ℕ) → Seen → List (List ℕ)
+traced c units (granted r) = left_by c r units
+traced c units (begun octets) = cond (is_unit c.side octets) (drop 1 units) units
+traced c units other = units
+
+pub left-is-waiting : (c : Config) (t : List Seen) (waiting left : List (List ℕ)) → Goes c waiting t left → fold (traced c) waiting t ≡ left
 unfolding Goes
 left-is-waiting c [] waiting left same = sym same
 left-is-waiting c (s ∷ t) waiting left (kept, step, more) =
-    ap (λ ws. fold (waits c) ws t) (grind (arith, append-nil)) ∙ left-is-waiting c t kept left more
+    ap (λ ws. fold (traced c) ws t) (grind (arith, append-nil)) ∙ left-is-waiting c t kept left more
+
+-- and so in each moment by its event and answer;
+by-request : (c : Config) (r : Request) (a : Answer) (units : List (List ℕ)) → waits c (request r) a units ≡ fold (traced c) units (seen (request r) a)
+by-request c r a units = grind (arith, append-nil)
+
+by-event : (c : Config) (e : Event) (a : Answer) (units : List (List ℕ)) → waits c e a units ≡ fold (traced c) units (seen e a)
+by-event c (request r) a units = by-request c r a units
+by-event c e a units = grind arith
+
+at-line : (c : Config) (e : Event) (a : Answer) (b : Bool) (units : List (List ℕ)) → cond b (waits c e a units) units ≡ fold (traced c) units (cond b (seen e a) [])
+at-line c e a true units = by-event c e a units
+at-line c e a false units = refl
+
+abbrev unit_step : Config → ℕ → List (List ℕ) → Moment → List (List ℕ)
+unit_step c number units m = cond (m.event.line == number) (waits c m.event.what m.answer units) units
+
+pub same-units : (c : Config) (number : ℕ) (ms : List Moment) (units : List (List ℕ)) → fold (unit_step c number) units ms ≡ fold (traced c) units (trace number ms)
+same-units c number [] units = refl
+same-units c number (m ∷ ms) units =
+    same-units c number ms (unit_step c number units m)
+    ∙ ap (λ us. fold (traced c) us (trace number ms)) (at-line c m.event.what m.answer (m.event.line == number) units)
+    ∙ sym (fold-append (traced c) units (seen_in number m) (trace number ms))
 
 -- and of what begins the unit data is the first of them.
 pub begun-first : (c : Config) (fs : List (List ℕ)) (waiting left : List (List ℕ)) → Goes c waiting (map begun fs) left → IsFront (filter (is_unit c.side) fs) waiting

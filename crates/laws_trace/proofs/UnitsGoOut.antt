@@ -1,12 +1,12 @@
 -- Unit data goes out: the laws.
-use Rattle.laws_trace.proofs.Vocabulary.{◌≡◌, ℕ, ◌<◌, ◌≤◌, List, [], ◌++◌, map, sym, ap, ◌∙◌, subst, get_or-replicate, Config, Line, fresh_line, unit_frame, most_frames, line_at, fresh_is_sound, AreTakesAt, takes_at, refl, arith, true, false, ◌||◌, Option, Some, None, option_map, list_any, inl, inr, sapi_of, next, next_of, gave, Taken, taken, IsIdle, IsOwed, contents_of_link, served, at, config-stays, Bool, filter, Parts, fresh, CardEvent as Event, after_all, AreAtLines, trace_frame_in as frame_in, trace_of, IsFront, Always, reads, is_ui, is_unit, units_of, UnitsGoOut, AllUnitsGoOut, information_of, IsInRange, IsSound, card_answer as answer, sapi-small}
+use Rattle.laws_trace.proofs.Vocabulary.{◌≡◌, ℕ, ◌<◌, ◌≤◌, List, [], ◌++◌, map, sym, ap, ◌∙◌, subst, get_or-replicate, Config, Line, fresh_line, unit_frame, most_frames, line_at, fresh_is_sound, AreTakesAt, takes_at, refl, arith, true, false, ◌||◌, Option, Some, None, option_map, list_any, inl, inr, sapi_of, next, next_of, gave, Taken, taken, IsIdle, IsOwed, contents_of_link, served, at, config-stays, Bool, filter, Parts, fresh, CardEvent as Event, after_all, AreAtLines, trace_frame_in as frame_in, trace_of, IsFront, Always, reads, is_ui, is_unit, units_of, UnitsGoOut, AllUnitsGoOut, information_of, IsInRange, IsSound, card_answer as answer, sapi-small, moments}
 use Rattle.laws_trace.proofs.Runs.{run-shows}
 use Rattle.laws_trace.proofs.LineAtEnd.{line-at-end}
 use Rattle.laws_trace.proofs.Turns.{ui-frame}
 use Rattle.laws_trace.proofs.LinkNames.{is_of_a_link}
 use Rattle.model_line.specs.Machine as lines
 use Rattle.laws_trace.proofs.Drained.{drained}
-use Rattle.laws_trace.proofs.Units.{NoneWaits, first-of, fresh-none, Goes, Passes, rests, joins, steps, next-passes-on, left-is-waiting, begun-first}
+use Rattle.laws_trace.proofs.Units.{NoneWaits, first-of, fresh-none, Goes, Passes, rests, joins, steps, next-passes-on, left-is-waiting, same-units, begun-first}
 
 -- What waits at the end.
 abbrev pub left-waiting : Config → List Event → ℕ → List (List ℕ)
@@ -52,7 +52,7 @@ module _ (c : Config) (events : List Event) (number : ℕ) (ranged : IsInRange c
   goes = subst (λ (l : Line). Goes c (map (unit_frame c) l.units) (trace_of c events number) (map (unit_frame c) end.units)) start passed.0
 
   pub waiting-is : units_of c events number ≡ map (unit_frame c) end.units
-  waiting-is = left-is-waiting c (trace_of c events number) [] (map (unit_frame c) end.units) goes
+  waiting-is = same-units c number (moments (fresh c) events) [] ∙ left-is-waiting c (trace_of c events number) [] (map (unit_frame c) end.units) goes
 
   pub front : UnitsGoOut c events number
   unfolding lines.takes_slot

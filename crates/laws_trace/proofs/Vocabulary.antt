@@ -11,10 +11,9 @@ pub use Rattle.std.proofs.lemmas.Map.Views.{any-filter_same}
 pub use Rattle.std.proofs.lemmas.Option.{none-some}
 pub use Rattle.std.specs.List.{find, list_any, prefix_len, range_with_len}
 pub use Rattle.std.specs.Option.{option_and_then, option_map_or, option_or, unwrap_or}
-pub use Rattle.std.specs.Prelude.{IfOk, count_by, flat_map, fold, if◌then◌else◌, nat_lt, option_to_list, sum_by, ◌↔◌}
+pub use Rattle.std.specs.Prelude.{IfOk, count_by, flat_map, fold, if◌then◌else◌, nat_lt, option_to_list, sum_by}
 pub use Rattle.std.specs.Result.{result_err, result_ok}
 pub use Rattle.lapd_count.specs.Counters.{More}
-pub use Rattle.lapd_count.specs.Shown.{heard_shown, note_shown}
 pub use Rattle.lapd_frame.proofs.AddressField.{address-again}
 pub use Rattle.lapd_frame.proofs.ControlField.{control-again}
 pub use Rattle.lapd_frame.proofs.Spelling.{reading-again, reading-found}
@@ -150,7 +149,6 @@ pub use Rattle.model_card.proofs.OfPorts.Pulls.{pulls_are_takes}
 pub use Rattle.model_card.proofs.OfPorts.Sound.{fresh_octets_sound}
 pub use Rattle.model_card.proofs.OfPorts.Steps.{config_stays, moments-append}
 pub use Rattle.model_card.proofs.Refusals.{answer_is, refused_by_the_table}
-pub use Rattle.model_card.proofs.Rooms.{refuses_by}
 pub use Rattle.model_card.proofs.Runs.{after_all-append}
 pub use Rattle.model_card.proofs.Steps.{by_room, has_lines, line_sound}
 pub use Rattle.model_card.specs.Card.{Card, fresh, is_full, line_at, used}

@@ -11,13 +11,12 @@ use Rattle.laws_line.specs.card.Among.{AreAmong}
 use Rattle.model_card.specs.Card.{fresh}
 use Rattle.model_card.specs.Event.{Event, at}
 use Rattle.model_card.specs.Run.{moments, after_all}
-use Rattle.model_card.specs.Takes.{is_take, takes_of}
+use Rattle.model_card.specs.Takes.{is_take, takes_of, frames_given}
 use Rattle.laws_trace.specs.FramesAreDue.{text}
 use Rattle.laws_trace.specs.Managing.{is_on, managed_after}
 use Rattle.laws_trace.specs.NoLossInVain.{puts_by}
 use Rattle.laws_trace.specs.Observer.{moment_of}
 use Rattle.laws_trace.specs.Outgoing.{outgoing_of}
-use Rattle.laws_trace.specs.Trace.{trace, frames_begun}
 use Rattle.laws_trace.specs.UnitsGoOut.{units_of}
 
 -- Frames with priority over links (profile): messages of TEI management that are owed, and unit data that waits.
@@ -46,9 +45,9 @@ abbrev pub texts : Config → Service → ℕ → List ControlFrame → List (Li
 texts c service tei fs = map (λ (f : ControlFrame). text c service tei f.command f.control []) fs
 
 abbrev pub sent_during : Config → ℕ → List Event → List Event → List (List ℕ)
-sent_during c line past later = frames_begun (trace line (moments (after_all (fresh c) past) later))
+sent_during c line past later = frames_given line (moments (after_all (fresh c) past) later)
 
--- (1) What an event makes due joins the end of the queue, if its answer tells no frame as lost.
+-- What an event makes due joins the end of the queue, if its answer tells no frame as lost, whatever the card.
 pub record JoinsQueue (c : Config) (line : ℕ) (service : Service) (tei : ℕ) (past : List Event) (event : line_event.Event) : Type 0 where
   pub earlier : List ControlFrame
   pub queue_is : queue c line service tei (past ++ at line event ∷ []) ≡ earlier ++ puts_by c line past event service tei
@@ -60,7 +59,7 @@ AnswersAreSent c events line =
     lost_in (moment_of c past line event).answer ≡ 0 →
     JoinsQueue c line service tei past event
 
--- (2) All that is in the queue is sent, in order, each frame by a call of its own, once there were enough calls: more than
+-- All that is in the queue is sent, in order, each frame by a call of its own, once there were enough calls: more than
 -- the frames that may go before a control frame. The TEI stays on the line, and the link is not deactivated.
 abbrev pub QueueIsSent : Config → List Event → ℕ → Type 0
 QueueIsSent c events line =

@@ -10,13 +10,10 @@ use Rattle.model_line.specs.declared.config.Config.{Config}
 use Rattle.model_line.specs.Event as line_event
 use Rattle.model_line.specs.Event.{Answer}
 use Rattle.laws_line.specs.Heard.{notes_of, contents_in, is_data_of, is_unit_of, tells_contents}
-use Rattle.model_card.specs.Card.{fresh}
 use Rattle.model_card.specs.Event.{Event, at}
-use Rattle.model_card.specs.Machine.{answer}
-use Rattle.model_card.specs.Run.{after_all}
 use Rattle.laws_trace.specs.LinkFrames.{brought}
 use Rattle.laws_trace.specs.Managing.{Managed, is_on, manages}
-use Rattle.laws_trace.specs.Observer.{Observed, View, takes_next, view_of}
+use Rattle.laws_trace.specs.Observer.{Observed, View, takes_next, view_of, moment_of}
 use Rattle.laws_trace.specs.Trace.{is_up}
 use Rattle.laws_trace.specs.Units.{is_ui}
 
@@ -45,26 +42,17 @@ tells_data service tei a = list_any (is_data_of service tei) (notes_of a)
 abbrev pub tells_unit_data : Service → ℕ → Answer → Bool
 tells_unit_data service tei a = list_any (is_unit_of service tei) (notes_of a)
 
--- What is due by the frame that came for this link, if one came: data by an I-frame that the link takes, unit data by a UI.
-abbrev pub data_due : Config → View → Option Parts → Bool
-data_due c was frame = option_map_or (is_taken c was.link) frame false
-
-abbrev pub unit_data_due : Config → ℕ → View → Option Parts → Bool
-unit_data_due c tei was frame = option_map_or (is_unit_taken c tei was.teis) frame false
-
--- Exactly what is due is told. What is told are the contents of that frame, and they are told once.
+-- By the frame that came for this link, if one came, exactly what is due is told: data by an I-frame that the link takes, unit
+-- data by a UI. What is told are the contents of that frame, and they are told once.
 pub record TellsWhatIsDue (c : Config) (service : Service) (tei : ℕ) (was : View) (frame : Option Parts) (a : Answer) : Type 0 where
-  pub data_told : tells_data service tei a ≡ data_due c was frame
-  pub unit_told : tells_unit_data service tei a ≡ unit_data_due c tei was frame
+  pub data_told : tells_data service tei a ≡ option_map_or (is_taken c was.link) frame false
+  pub unit_told : tells_unit_data service tei a ≡ option_map_or (is_unit_taken c tei was.teis) frame false
   pub contents : (tells_data service tei a || tells_unit_data service tei a) ≡ true → contents_in a ≡ option_map (λ (f : Parts). f.info) frame
   pub once : count_by tells_contents (notes_of a) ≡ length (option_to_list (contents_in a))
 
--- At every event of the line, for every link. `was` is what an observer knew before.
+-- At every event of the line, for every link, by what an observer knew before.
 abbrev pub WhatIsToldWasHeard : Config → List Event → ℕ → Type 0
 WhatIsToldWasHeard c events line =
     (service : Service) (tei : ℕ) (past : List Event) (event : line_event.Event) (later : List Event) →
     events ≡ past ++ at line event ∷ later →
-    let was = view_of c service tei line past in
-    let frame = brought c service tei event in
-    let a = answer (at line event) (after_all (fresh c) past) in
-    TellsWhatIsDue c service tei was frame a
+    TellsWhatIsDue c service tei (view_of c service tei line past) (brought c service tei event) (moment_of c past line event).answer

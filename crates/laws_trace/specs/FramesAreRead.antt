@@ -7,7 +7,10 @@ use Rattle.lapd_frame.specs.Services.{service_of}
 use Rattle.model_line.specs.declared.config.Config.{Config}
 use Rattle.model_line.specs.Request as asked
 use Rattle.model_line.specs.Request.{Request}
+use Rattle.model_card.specs.Card.{fresh}
 use Rattle.model_card.specs.Event.{Event}
+use Rattle.model_card.specs.Run.{moments}
+use Rattle.model_card.specs.Takes.{frames_given}
 use Rattle.laws_trace.specs.Trace.{Seen, heard, granted, trace_of, frames_begun}
 
 -- Each is one that the grammar has, as that of the card's side, of a service or of TEI management (Q.921 clauses 2, 3
@@ -19,7 +22,7 @@ abbrev pub IsSpelled : Config → List ℕ → Type 0
 IsSpelled c octets = (parts : Parts) × Spells c.side parts octets × (is_of_use parts.address.sapi ≡ true)
 
 abbrev pub FramesAreRead : Config → List Event → ℕ → Type 0
-FramesAreRead c events number = All (IsSpelled c) (frames_begun (trace_of c events number))
+FramesAreRead c events number = All (IsSpelled c) (frames_given number (moments (fresh c) events))
 
 -- The contents that are granted, and the frames that are heard, are octets, each 0 to 255.
 abbrev pub contents_given : Request → List ℕ

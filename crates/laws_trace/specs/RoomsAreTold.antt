@@ -1,16 +1,10 @@
 -- What `FrameCard::room` tells of a link.
-use Rattle.std.specs.Prelude.{◌≡◌, ◌↔◌, ◌≤◌, ℕ, ◌+◌, true, false, List, length, Some, Ok}
-use Rattle.lapd_frame.specs.declared.refusals.Refusal.{Refusal}
-use Rattle.lapd_frame.specs.declared.refusals.Refusal.TheVariants.{WrongState}
+use Rattle.std.specs.Prelude.{◌≡◌, ℕ, ◌+◌, true, List, length, Ok}
 use Rattle.lapd_frame.specs.declared.services.Service.{Service}
 use Rattle.model_link.specs.declared.rooms.Room.{Room}
-use Rattle.model_link.specs.Room.{refusal_for}
 use Rattle.model_line.specs.declared.config.Config.{Config}
-use Rattle.model_line.specs.Event.{refused, request}
-use Rattle.model_line.specs.Request.{Data}
 use Rattle.model_card.specs.Card.{fresh}
-use Rattle.model_card.specs.Event.{Event, at}
-use Rattle.model_card.specs.Machine.{answer}
+use Rattle.model_card.specs.Event.{Event}
 use Rattle.model_card.specs.Room.{room}
 use Rattle.model_card.specs.Run.{after_all}
 use Rattle.laws_trace.specs.Managing.{is_on}
@@ -20,18 +14,13 @@ use Rattle.laws_trace.specs.Trace.{is_up}
 
 -- Of a link of a TEI on the line there is a room. The places of its queue are those that are left and those of the contents
 -- that it keeps, and the slots of the pool those that are left and those that all lines take (profile). In states 7 and 8 V(A)
--- is the N(R) that was heard last (Q.921 clause 3.5.2.3), and the next request for data is refused by what is left, of its queue
--- and of the pool; in the others it is refused for the state, so nothing is kept that was granted there (profile).
+-- is the N(R) that was heard last (Q.921 clause 3.5.2.3).
 pub record IsRoom (c : Config) (events : List Event) (number : ℕ) (service : Service) (tei : ℕ) (o : Outgoing) : Type 0 where
   pub left : Room
   pub is : room number service tei (after_all (fresh c) events) ≡ Ok left
   pub queue : left.queue + length o.kept ≡ c.queue
   pub pool : left.pool + slots_taken c events ≡ c.slots
   pub va : is_up o.view.link.state ≡ true → left.va ≡ o.view.link.acknowledged
-  pub refuses : is_up o.view.link.state ≡ true → (contents : List ℕ) (why : Refusal) → length contents ≤ c.n201
-      → (answer (at number (request (Data service tei contents))) (after_all (fresh c) events) ≡ refused why) ↔ (refusal_for left ≡ Some why)
-  pub down : is_up o.view.link.state ≡ false → (contents : List ℕ)
-      → answer (at number (request (Data service tei contents))) (after_all (fresh c) events) ≡ refused WrongState
 
 abbrev pub RoomsAreTold : Config → List Event → ℕ → Type 0
 RoomsAreTold c events number =

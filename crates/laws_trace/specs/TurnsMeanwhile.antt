@@ -6,11 +6,12 @@ use Rattle.model_line.specs.declared.config.Config.{Config}
 use Rattle.model_card.specs.Card.{fresh}
 use Rattle.model_card.specs.Event.{Event}
 use Rattle.model_card.specs.Run.{moments, after_all}
+use Rattle.model_card.specs.Takes.{frames_given}
 use Rattle.laws_trace.specs.FramesAreDue.{offers}
 use Rattle.laws_trace.specs.LinkFrames.{is_frame_of}
 use Rattle.laws_trace.specs.Managing.{is_on, managed_after}
 use Rattle.laws_trace.specs.Outgoing.{outgoing_of}
-use Rattle.laws_trace.specs.Trace.{is_own, trace, frames_begun}
+use Rattle.laws_trace.specs.Trace.{is_own}
 
 -- The TEIs of both links are on the line, and the other link offers a frame, as whoever watches the line has this.
 pub record IsKeptWaiting (c : Config) (number tei : ℕ) (other : Service) (its : ℕ) (events : List Event) : Type 0 where
@@ -25,5 +26,5 @@ LinksTakeTurnsMeanwhile c events number =
     (before meanwhile : List Event) (one other : Service) (tei its : ℕ) → events ≡ before ++ meanwhile → is_own one tei other its ≡ false →
     ((so_far : List Event) (e : Event) (behind : List Event) → meanwhile ≡ so_far ++ e ∷ behind → IsKeptWaiting c number tei other its (before ++ so_far)) →
     (front between behind : List (List ℕ)) (a b : List ℕ) → is_frame_of c one tei a ≡ true → is_frame_of c one tei b ≡ true →
-    frames_begun (trace number (moments (after_all (fresh c) before) meanwhile)) ≡ front ++ a ∷ (between ++ b ∷ behind) →
+    frames_given number (moments (after_all (fresh c) before) meanwhile) ≡ front ++ a ∷ (between ++ b ∷ behind) →
     list_any (is_frame_of c other its) between ≡ true

@@ -1,5 +1,5 @@
 -- Worked values: each cause as it is due and told, and answers that break the law.
-use Rattle.std.specs.Prelude.{◌≡◌, ℕ, List, [], ◌∷◌, ◌++◌, not, filter, Option, Some, None, IfSome, refl}
+use Rattle.std.specs.Prelude.{◌≡◌, ℕ, List, [], ◌∷◌, ◌++◌, Bool, true, false, filter, Option, Some, None, IfSome, refl}
 use Rattle.std.proofs.Common.{ap}
 use Rattle.model_bits.specs.Stream as stream
 use Rattle.model_bits.specs.declared.heard.Cause.{Cause}
@@ -23,7 +23,6 @@ use Rattle.model_card.specs.Event.{Event, at}
 use Rattle.model_card.specs.Run.{moments, after_all}
 use Rattle.laws_line.specs.card.Worked.{usual, on_0}
 use Rattle.laws_trace.specs.CausesAreTold.{cause_due}
-use Rattle.laws_trace.specs.CountersCount.{is_seen}
 use Rattle.laws_trace.specs.Managing.{managed_after}
 use Rattle.laws_trace.specs.Observer.{view_of, moment_of}
 
@@ -119,7 +118,11 @@ beside : Names (Some Fcs) (told (record (line_event.dropped Fcs) { lost = 1 })) 
 beside names = let same : 1 ≡ 0 = ap loses names.1 in cc same
 
 -- RR to the link that is down is shown to the counters as one drop that is not served.
-one_drop : filter (λ more. not (is_seen more)) (all_shown 0 (moments (fresh usual) (on ++ at 0 (frame (0x00 ∷ 0x81 ∷ 0x01 ∷ 0x00 ∷ [])) ∷ []))) ≡ (Dropped Unserved, 1) ∷ []
+abbrev is_drop : More → Bool
+is_drop (Dropped cause, amount) = true
+is_drop other = false
+
+one_drop : filter is_drop (all_shown 0 (moments (fresh usual) (on ++ at 0 (frame (0x00 ∷ 0x81 ∷ 0x01 ∷ 0x00 ∷ [])) ∷ []))) ≡ (Dropped Unserved, 1) ∷ []
 unfolding moments lines.after lines.answer lines.takes_slot teis.course teis.refusal reading header_of control_of unnumbered_of supervisory_of seq
 one_drop = refl
 

@@ -12,15 +12,17 @@ use Rattle.lapd_frame.specs.Grammar.{Parts, spelling}
 use Rattle.lapd_frame.specs.Reading.{reading, header_of, control_of, unnumbered_of}
 use Rattle.lapd_tei.specs.Events as teis
 use Rattle.model_line.specs.Machine as lines
+use Rattle.model_card.specs.Card.{fresh}
 use Rattle.model_card.specs.Event.{Event}
 use Rattle.model_card.specs.Run.{moments}
+use Rattle.model_card.specs.Takes.{frames_given}
 use Rattle.laws_line.specs.card.Worked.{usual, on_0}
 use Rattle.laws_trace.specs.FramesAreRead.{GivesOctets, IsSpelled}
 use Rattle.laws_trace.specs.Trace.{Seen, heard, begun, noted, granted, lost, trace_of, frames_begun}
 use Rattle.laws_trace.specs.WorkedUnits.{unit, calls, frame_comes, spelled}
 
 -- Two UI frames begin.
-two_begun : frames_begun (trace_of usual (on_0 (unit 1) ∷ on_0 (unit 2) ∷ calls 2) 0) ≡ spelled 1 ∷ spelled 2 ∷ []
+two_begun : frames_given 0 (moments (fresh usual) (on_0 (unit 1) ∷ on_0 (unit 2) ∷ calls 2)) ≡ spelled 1 ∷ spelled 2 ∷ []
 unfolding moments lines.after lines.answer lines.takes_slot
 two_begun = refl
 

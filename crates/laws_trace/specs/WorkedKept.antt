@@ -1,5 +1,5 @@
 -- Worked values: data that is granted takes a place, until it is acknowledged, or layer 3 learns that it is lost.
-use Rattle.std.specs.Prelude.{◌≡◌, ◌+◌, true, false, List, [], ◌∷◌, ◌++◌, length, Ok, refl}
+use Rattle.std.specs.Prelude.{◌≡◌, true, false, List, [], ◌∷◌, ◌++◌, length, Ok, refl}
 use Rattle.lapd_frame.specs.declared.notes.ErrorCode.TheVariants.{F}
 use Rattle.lapd_frame.specs.declared.notes.Note.TheVariants.{Error, ReleaseIndication}
 use Rattle.lapd_frame.specs.declared.services.Service.TheVariants.{Call, Packet}

@@ -1,22 +1,24 @@
 -- Worked values: what follows where layer 3 asks something of a link, by its state, and which requests are refused.
 use Rattle.std.specs.Prelude.{◌≡◌, true, false, List, [], ◌∷◌, ◌++◌, Result, Ok, Err, refl}
-use Rattle.lapd_frame.specs.declared.controls.Control.TheVariants.{ReceiveNotReady, Sabme, Ua}
+use Rattle.lapd_frame.specs.declared.controls.Control.TheVariants.{ReceiveReady, ReceiveNotReady, Sabme, Disc, Ua}
 use Rattle.lapd_frame.specs.declared.notes.Note.TheVariants.{ReleaseIndication, ReleaseConfirm}
 use Rattle.lapd_frame.specs.declared.refusals.Refusal.{Refusal}
-use Rattle.lapd_frame.specs.declared.refusals.Refusal.TheVariants.{NoLink, WrongState, TooLong, QueueFull}
+use Rattle.lapd_frame.specs.declared.refusals.Refusal.TheVariants.{NoLink, WrongState, TooLong, QueueFull, PoolFull}
 use Rattle.lapd_frame.specs.declared.services.Service.TheVariants.{Call}
+use Rattle.lapd_frame.specs.declared.timers.Timer.TheVariants.{T203}
 use Rattle.lapd_frame.specs.Reading.{reading, header_of, control_of, unnumbered_of, supervisory_of}
 use Rattle.lapd_seq.specs.Numbers.{seq}
 use Rattle.lapd_tei.specs.Events as teis
 use Rattle.model_link.specs.Events as link
 use Rattle.model_line.specs.declared.config.Config.{Config}
-use Rattle.model_line.specs.Event.{Answer, refused, request}
+use Rattle.model_line.specs.Event.{Answer, refused, request, expiry}
 use Rattle.model_line.specs.Machine as lines
 use Rattle.model_line.specs.Request.{Request, Assign, Establish, Release, Data, SetBusy}
-use Rattle.model_card.specs.Event.{Event}
+use Rattle.model_card.specs.Event.{Event, at}
 use Rattle.model_card.specs.Run.{moments, after_all}
 use Rattle.laws_link.specs.Waiting.{as_response, as_command}
 use Rattle.laws_line.specs.card.Worked.{usual, on_0, up}
+use Rattle.laws_trace.specs.NoSlotIsLost.{slots_taken}
 use Rattle.laws_trace.specs.Observer.{in_state, moment_of}
 use Rattle.laws_trace.specs.Outgoing.{outgoing_of}
 use Rattle.laws_trace.specs.RequestsTakeEffect.{Effect, effect, deactivated, of_tei}
@@ -108,6 +110,36 @@ no_place = refl
 too_long : due (record usual { n201 = 1 }) up (link.Data (8 ∷ 9 ∷ [])) ≡ Err TooLong
 unfolding moments lines.after lines.answer lines.takes_slot teis.course teis.refusal seq reading header_of control_of unnumbered_of supervisory_of
 too_long = refl
+
+-- So they do in state 8, where an enquiry waits; and DISC waits behind that as the link is released.
+abbrev enquiring : List Event
+enquiring = one_kept ++ at 0 (expiry (T203 Call 64)) ∷ []
+
+kept_too : due usual enquiring (link.Data (8 ∷ []))
+    ≡ Ok (record { link = in_state 8; waiting = as_response (Ua true) ++ as_command (ReceiveReady (seq 0) true); kept = (7 ∷ []) ∷ (8 ∷ []) ∷ []; told = [] })
+unfolding moments lines.after lines.answer lines.takes_slot teis.course teis.refusal seq reading header_of control_of unnumbered_of supervisory_of
+kept_too = refl
+
+released_too : due usual enquiring link.Release
+    ≡ Ok (record { link = in_state 6; waiting = as_response (Ua true) ++ as_command (ReceiveReady (seq 0) true) ++ as_command (Disc true); kept = []; told = [] })
+unfolding moments lines.after lines.answer lines.takes_slot teis.course teis.refusal seq reading header_of control_of unnumbered_of supervisory_of
+released_too = refl
+
+-- Where the card has one slot, its contents have it, and the pool is full, by the table and by the card.
+abbrev one_slot : Config
+one_slot = record usual { slots = 1 }
+
+all_taken : slots_taken one_slot one_kept ≡ 1
+unfolding moments lines.after lines.answer lines.takes_slot teis.course teis.refusal seq reading header_of control_of unnumbered_of supervisory_of
+all_taken = refl
+
+no_slot : effect one_slot true Call 64 (outgoing_of one_slot Call 64 0 one_kept) (link.Data (8 ∷ [])) ≡ Err PoolFull
+unfolding moments lines.after lines.answer lines.takes_slot teis.course teis.refusal seq reading header_of control_of unnumbered_of supervisory_of
+no_slot = refl
+
+refused_data : (moment_of one_slot one_kept 0 (request (Data Call 64 (8 ∷ [])))).answer ≡ refused PoolFull
+unfolding after_all lines.after lines.answer lines.takes_slot teis.course teis.refusal seq reading header_of control_of unnumbered_of supervisory_of
+refused_data = refl
 
 -- A link that is deactivated gives its contents up, which is told: by an indication in state 7, and by a confirm in state 6.
 given_up : deactivated Call 64 (outgoing_of usual Call 64 0 one_kept).view.link ≡ record { link = in_state 4; waiting = []; kept = []; told = ReleaseIndication Call 64 ∷ [] }

@@ -14,9 +14,9 @@ use Rattle.model_line.specs.Request.{Assign, Establish}
 use Rattle.model_card.specs.Card.{fresh}
 use Rattle.model_card.specs.Event.{Event, at}
 use Rattle.model_card.specs.Run.{moments, after_all}
+use Rattle.model_card.specs.Takes.{frames_given}
 use Rattle.laws_line.specs.card.Worked.{usual, on_0}
 use Rattle.laws_trace.specs.LinkFrames.{is_frame_of}
-use Rattle.laws_trace.specs.Trace.{trace, frames_begun}
 use Rattle.laws_trace.specs.TurnsMeanwhile.{IsKeptWaiting}
 use Rattle.laws_trace.specs.WorkedUnits.{calls}
 
@@ -30,12 +30,12 @@ call = 0x02 ∷ 0x81 ∷ 0x7F ∷ []
 abbrev packet : List ℕ
 packet = 0x42 ∷ 0x81 ∷ 0x7F ∷ []
 
-turns_taken : frames_begun (trace 0 (moments (after_all (fresh usual) both_up) (calls 3))) ≡ call ∷ packet ∷ call ∷ []
+turns_taken : frames_given 0 (moments (after_all (fresh usual) both_up) (calls 3)) ≡ call ∷ packet ∷ call ∷ []
 unfolding moments after_all lines.after lines.answer lines.takes_slot teis.course teis.refusal
 turns_taken = refl
 
 -- What is dropped meanwhile changes none of it.
-turns_taken_meanwhile : frames_begun (trace 0 (moments (after_all (fresh usual) both_up) (calls 1 ++ (at 0 (hears (stream.dropped Fcs)) ∷ calls 2)))) ≡ call ∷ packet ∷ call ∷ []
+turns_taken_meanwhile : frames_given 0 (moments (after_all (fresh usual) both_up) (calls 1 ++ (at 0 (hears (stream.dropped Fcs)) ∷ calls 2))) ≡ call ∷ packet ∷ call ∷ []
 unfolding moments after_all lines.after lines.answer lines.takes_slot teis.course teis.refusal
 turns_taken_meanwhile = refl
 
@@ -81,6 +81,6 @@ waits_always (x ∷ []) e behind is = let same : calls 1 ≡ x ∷ [] = cc is in
 waits_always (x ∷ y ∷ []) e behind is = let same : calls 2 ≡ x ∷ y ∷ [] = cc is in subst IsWaiting same third_waits
 waits_always (x ∷ y ∷ z ∷ more) e behind is = absurd (none_there e more behind (cc is))
 
-its_turn : frames_begun (trace 0 (moments (after_all (fresh usual) both_again) (calls 3))) ≡ [] ++ call ∷ ((packet ∷ []) ++ call ∷ [])
+its_turn : frames_given 0 (moments (after_all (fresh usual) both_again) (calls 3)) ≡ [] ++ call ∷ ((packet ∷ []) ++ call ∷ [])
 unfolding moments after_all lines.after lines.answer lines.takes_slot teis.course teis.refusal
 its_turn = refl

@@ -1,10 +1,11 @@
 -- Worked values: a trace, unit data that goes out, and a trace that breaks the law.
-use Rattle.std.specs.Prelude.{◌≡◌, ℕ, List, [], ◌∷◌, ◌++◌, fold, None, replicate, refl}
+use Rattle.std.specs.Prelude.{◌≡◌, ℕ, List, [], ◌∷◌, ◌++◌, fold, None, Some, replicate, refl}
 use Rattle.model_bits.specs.Stream as stream
 use Rattle.lapd_frame.specs.declared.services.Service.TheVariants.{Call}
 use Rattle.lapd_frame.specs.Reading.{reading, header_of, control_of, unnumbered_of}
 use Rattle.lapd_tei.specs.Events as teis
-use Rattle.model_line.specs.Event.{hears, next}
+use Rattle.model_line.specs.Event as line_event
+use Rattle.model_line.specs.Event.{hears, request, next, Answer, told, gave, nothing}
 use Rattle.model_line.specs.Machine as lines
 use Rattle.model_line.specs.Request.{Request, Assign, Check, Unit, Down}
 use Rattle.model_card.specs.Event.{Event, at}
@@ -57,9 +58,19 @@ third_alone : units_of usual down_between 0 ≡ spelled 3 ∷ []
 unfolding moments lines.after lines.answer lines.takes_slot teis.course teis.refusal reading header_of control_of unnumbered_of
 third_alone = refl
 
+-- What waits once these events are answered so: a request that is granted, and a call that begins a frame.
+abbrev waiting : List (line_event.Event × Answer) → List (List ℕ)
+waiting es = fold (λ units (x : line_event.Event × Answer). waits usual x.0 x.1 units) [] es
+
+abbrev grants : Request → line_event.Event × Answer
+grants r = (request r, told nothing)
+
+abbrev begins : List ℕ → line_event.Event × Answer
+begins octets = (next, gave (Some (record { octets = octets; orders = [] })))
+
 -- Where the second is destroyed, and the third begins, the law is broken,
 abbrev two_wait : List (List ℕ)
-two_wait = fold (waits usual) [] (granted (unit 1) ∷ granted (unit 2) ∷ granted (unit 3) ∷ begun (spelled 1) ∷ [])
+two_wait = waiting (grants (unit 1) ∷ grants (unit 2) ∷ grants (unit 3) ∷ begins (spelled 1) ∷ [])
 
 is_no_front : IsFront (spelled 3 ∷ []) two_wait → ⊥
 unfolding reading header_of control_of unnumbered_of
@@ -71,9 +82,9 @@ unfolding reading header_of control_of unnumbered_of
 once_more front = cc front.whole_is
 
 -- and where one is kept for when the line is up again.
-is_kept : IsFront (spelled 1 ∷ []) (fold (waits usual) [] (granted (unit 1) ∷ granted Down ∷ [])) → ⊥
+is_kept : IsFront (spelled 1 ∷ []) (waiting (grants (unit 1) ∷ grants Down ∷ [])) → ⊥
 is_kept front = cc front.whole_is
 
 -- Where one is granted, and never begins, that all of it goes out is broken.
-never_begun : fold (waits usual) [] (granted (unit 1) ∷ []) ≡ [] → ⊥
+never_begun : waiting (grants (unit 1) ∷ []) ≡ [] → ⊥
 never_begun all = cc all

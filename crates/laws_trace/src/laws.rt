@@ -4,7 +4,7 @@ ghost use Rattle.laws_trace.specs.Trace.{Always};
 ghost use Rattle.laws_trace.specs.AnswersAreGiven.{AnswersAreSent, QueueIsSent};
 ghost use Rattle.laws_trace.specs.Configurations.{RangesAreServed};
 ghost use Rattle.laws_trace.specs.CausesAreTold.{CausesAreTold};
-ghost use Rattle.laws_trace.specs.CountersCount.{CountersCount, DropsAreCounted};
+ghost use Rattle.laws_trace.specs.CountersCount.{CountersCount};
 ghost use Rattle.laws_trace.specs.OtherSide.{TheOtherSideIsHeard};
 ghost use Rattle.laws_trace.specs.FramesAreRead.{FramesAreRead, FramesAreOctets};
 ghost use Rattle.laws_trace.specs.FramesAreDue.{GivenIsDue, DueIsGiven};
@@ -49,11 +49,17 @@ pub fn units_go_out()
 {}
 
 /// What begins on a line are frames. Each is one that the grammar has, as that of the card's side, with the SAPI of a
-/// service or of TEI management (`grammar`), and, where the contents that were granted and the frames that were heard
-/// are octets, each 0 to 255, it consists of octets (`octets`; Q.921 clauses 2 and 3).
+/// service or of TEI management (Q.921 clauses 2 and 3). So it is a frame of a link, as [`what_is_given_is_due`] has these,
+/// unit data, as [`units_go_out`] has it, or a message of TEI management, as [`teis_are_managed`] has these; and nothing
+/// else begins.
 pub fn frames_are_read()
-    ensures grammar { Always FramesAreRead }
-    ensures octets { Always FramesAreOctets }
+    ensures { Always FramesAreRead }
+{}
+
+/// What begins on a line are octets. If the contents that were granted and the frames that were heard are octets, each 0 to
+/// 255, each frame that begins consists of octets (Q.921 clauses 2 and 3).
+pub fn frames_are_octets()
+    ensures { Always FramesAreOctets }
 {}
 
 /// Links take turns, whatever else happens at the line meanwhile. Between two frames that begin for one link, whose TEI
@@ -107,20 +113,25 @@ pub fn what_is_given_is_due()
     ensures none { Always DueIsGiven }
 {}
 
-/// What answers a poll, SABME or DISC is given within a number of calls for the next frame. Something happens at a line, and
-/// the answer to it tells no frame as lost. Then each control frame of a link that is due by it, as
-/// [`what_is_given_is_due`] has these, joins the end of the link's queue (`answers`). And all that is in the queue of a
-/// link is given, in order, by the calls for the next frame of the line among the events that follow. Each frame, of two
-/// alike, too, has a call of its own (`waiting`). This holds whatever else happens and whatever was lost, as long as the TEI
-/// stays on the line, to an observer, and the link is not deactivated, once there are enough calls. These are more than the
+/// What answers a poll, SABME or DISC is given within a number of calls for the next frame. It waits in the queue of its
+/// link, as [`what_is_given_is_due`] has it, unless it is told as lost. And all that is in the queue of a link is given, in
+/// order, by the calls for the next frame of the line among the events that follow. Each frame, of two alike, too, has a
+/// call of its own. This holds whatever else happens and whatever was lost, as long as the TEI stays on the line, to an
+/// observer, and the link is not deactivated, once there are enough calls. These are more than the
 /// frames that the configuration lets go before: four messages of TEI management (on the user's side there is none), all
 /// unit data that may wait, one frame of every link for each other control frame that the link has room for, and one of
 /// each other link, with each message of TEI management and each unit data that comes meanwhile. So 72 calls are enough
 /// with eight terminals, 4 unit data and 4 control frames if none of these comes (Q.921 clauses 5.5.1.2, 5.5.3.2, 5.6.2
 /// to 5.6.7, 5.7 and 5.8.1, and profile).
 pub fn answers_are_given()
-    ensures answers { Always AnswersAreSent }
-    ensures waiting { Always QueueIsSent }
+    ensures { Always QueueIsSent }
+{}
+
+/// What is due joins the queue. Something happens at a line, and the answer to it tells no frame as lost. Then each control
+/// frame of a link that is due by it, as [`what_is_given_is_due`] has these, joins the end of the link's queue. This is of the
+/// observer's words alone, and so of every card.
+pub fn what_is_due_joins_the_queue()
+    ensures { Always AnswersAreSent }
 {}
 
 /// Nothing is lost in vain. Of the control frames of a link that become due by an event, as [`what_is_given_is_due`] has
@@ -212,7 +223,8 @@ pub fn news_is_told()
 /// comes behind what the link keeps. RNR or RR waits where layer 3 comes to be busy, or is so no more. A link that is
 /// deactivated is in state 4, has nothing to send, and its end is told in the answer. What waits, and what is kept,
 /// goes as [`what_is_given_is_due`] has it. A frame comes behind those that wait, and is lost where these are as many
-/// as may wait. So it is of the other requests by [`teis_are_managed`] and [`units_go_out`] (Q.921 clauses 5.5.1.1,
+/// as may wait. Which of the other requests are granted, and what they come to, [`teis_are_managed`] and [`units_go_out`]
+/// say; for which reason they are refused, the table of refusals alone (`refused` of `Card::drive`; Q.921 clauses 5.5.1.1,
 /// 5.5.3.1, 5.5.3.2, 5.6.1 and 5.6.6, annex B and profile).
 pub fn granted_requests_take_effect()
     ensures { Always RequestsTakeEffect }
@@ -223,9 +235,9 @@ pub fn granted_requests_take_effect()
 /// so contents take a place until they are acknowledged, or layer 3 learns that they are lost, and none is lost
 /// silently. The slots of the pool are those that it tells as left and those that are taken, as [`no_slot_is_lost`] has
 /// them. Of a link in state 7 or 8 V(A) is told, which is the N(R) that was heard of it last, 0 where none was since
-/// its numbers began; and what is left, of the queue and of the pool, is what the next request for at most N201 octets
-/// of data would be refused for. In the other states that is refused for the state, so no data is granted there that
-/// nothing keeps (Q.921 clauses 3.5.2.3, 5.5.1.1, 5.5.1.2, 5.5.3.1, 5.5.3.2 and 5.7, and profile).
+/// its numbers began. By what is left, of the queue and of the pool, the next request for data is refused, as
+/// [`granted_requests_take_effect`] has it; in the other states for the state, so no data is granted there that nothing
+/// keeps (Q.921 clauses 3.5.2.3, 5.5.1.1, 5.5.1.2, 5.5.3.1, 5.5.3.2 and 5.7, and profile).
 pub fn rooms_are_told()
     ensures { Always RoomsAreTold }
 {}
@@ -256,13 +268,11 @@ pub fn causes_are_told()
     ensures { Always CausesAreTold }
 {}
 
-/// Counters count what is seen, and what is dropped. What the moments of a run at a line show to its counters, except for why
-/// something is dropped, is what the trace of the line has, name by name, whatever happened before (`seen`): of a frame that
-/// is heard or begins its kind, its octets, whether it is a poll, and the message of TEI management in it, of notes each, and
-/// the frames that were lost. And of drops they show, for each answer there that names a cause, one drop of that cause
-/// (`dropped`), as [`causes_are_told`] has these. So by `counters` and `counters_add_up` of `Card::drive` the counters of a
-/// line are numbers of these (profile).
+/// Counters count what is seen, and what is dropped. The moments of a run at a line show to its counters what is seen there,
+/// name by name, whatever happened before: of a frame that is heard or begins its kind, its octets, whether it is a poll, and
+/// the message of TEI management in it; of notes each; for each answer that names a cause one drop of that cause, as
+/// [`causes_are_told`] has these; and the frames that were lost. They show nothing else. So by `counters` and
+/// `counters_add_up` of `Card::drive` the counters of a line are numbers of these (profile).
 pub fn counters_count()
-    ensures seen { CountersCount }
-    ensures dropped { DropsAreCounted }
+    ensures { CountersCount }
 {}

@@ -6,7 +6,7 @@
 -- are the words of the laws of octets, Promises and Laws their statements. HeardOctets says that what is heard are octets,
 -- GoingOut what a receiver hears of a line, Pulls how many pulls bring a frame, AtOnce when a pull takes one. Begun and HeadHeard
 -- are what a card answers about itself. Whole is what a controller's frames and faults would be in octets, WholeLaws what these
--- are heard as, and that a card hears what stands in its octets. Worked has worked values.
+-- are heard as, and that a card hears what stands in its octets. Worked and WorkedText have worked values.
 pub mod Port
 pub mod Line
 pub mod Event
@@ -30,3 +30,4 @@ pub mod Laws
 pub mod Whole
 pub mod WholeLaws
 pub mod Worked
+pub mod WorkedText

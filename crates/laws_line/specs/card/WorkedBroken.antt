@@ -23,7 +23,7 @@ both_change x = go x.one x.others
 untold : TellsCause (record { card = fresh usual; event = at 0 (hears (stream.dropped Fcs)); answer = told nothing }) → ⊥
 untold x = let same = ap cause_in (x.no_frame Fcs refl) in cc same
 
--- `timers_follow` and `notes_tell`: a timer that is needed, and was never started; a link that is up, of which no note told.
+-- `timers_run` of `laws_trace`: a timer that is needed, and was never started.
 not_started : runs_at_callers 0 (T200 Call 64) false [] ≡ true → ⊥
 not_started e = cc e
 

@@ -1,6 +1,8 @@
 -- What a receiver hears of a line are frames, and in the end all of them: the laws.
 use Rattle.laws_trace.proofs.Vocabulary.{arith, ◌≡◌, ℕ, ◌<◌, List, [], ◌∷◌, map, subst, All, All-nil, All-cons, All-head, All-tail, Config, IsInRange, all-left, as_octets, octets_given, frames_to_hear, OfEachLine, meant_all, refines, given_frames_are_heard, heard_frames_are_octets, IsSpelled, Seen, trace_of, frames_begun, ports_fresh as fresh, PortsEvent as Event, PortsAreAtLines as AreAtLines, stream_heard_in, stream_frame, CardEvent}
+use Rattle.model_card.proofs.OfPorts.AsOctets.{all_exact}
 use Rattle.model_card.specs.Card as cards
+use Rattle.model_card.specs.ports.GoingOut.{GoOut}
 use Rattle.model_card.specs.Run as runs
 use Rattle.laws_trace.proofs.OctetsBegin.{frames-are-octets}
 use Rattle.laws_trace.proofs.Spelled.{frames-are-read}
@@ -29,7 +31,7 @@ module _ (c : Config) (events : List Event) (number : ℕ) (ranged : IsInRange c
   begun = begun_given number (cards.fresh c) meaning
 
   pub spelled : All (IsSpelled c) (frames_to_hear c events number)
-  spelled = subst (All (IsSpelled c)) begun (frames-are-read c meaning number ranged lines within)
+  spelled = frames-are-read c meaning number ranged lines within
 
   pub readable : OnlyFramesAreHeard c events number
   readable =
@@ -48,7 +50,8 @@ given-are-octets c events number ranged all within granted = are_octets c events
 
 pub go-out-as-they-are : OfEachLine GoOutAsTheyAre
 go-out-as-they-are c events number ranged all within granted =
-    given_frames_are_heard.as_they_are c events number ranged all within (are_octets c events number ranged all within granted)
+    subst (GoOut c.n201 (octets_given c events number)) (all_exact (frames_to_hear c events number) (are_octets c events number ranged all within granted))
+    (given_frames_are_heard.so_far c events number ranged all within)
 
 pub all-frames-go-out : OfEachLine AllFramesGoOut
 all-frames-go-out c events number ranged all within h =

@@ -1,5 +1,5 @@
 -- What is heard in the octets that a frame or a fault means.
-use Rattle.model_card.proofs.OfPorts.Vocabulary.{◌≡◌, ℕ, zero, suc, ◌+◌, ◌*◌, ◌/◌, ◌≤◌, Bool, true, List, [], ◌∷◌, ◌++◌, length, replicate, reverse, refl, ap, sym, ◌∙◌, arith, length-append, length-replicate, bits, flag, low_bits, check, frame_text, heard_until, heard_in, room_for, AreOctets, bits-append, low_bits-number_of_n, NoSix-stuffed, after_flag, heard_until-onto, hears_text, after_text, reverse_aux-append, Fault, IsIdle, filling, filled, line_octets, came, fault_octets, cause_of, AreHeardAs, FramesAreHeard, hears, hears-append, reverse_aux, some_text, append_assoc, ◌<◌, get_or-replicate, Config, Port, after_all, fresh, fresh_port, meant_all, octets_come, port_at, Event as CardEvent}
+use Rattle.model_card.proofs.OfPorts.Vocabulary.{◌≡◌, ℕ, zero, suc, ◌+◌, ◌-◌, ◌*◌, ◌/◌, ◌%◌, ◌≤◌, Bool, true, List, [], ◌∷◌, ◌++◌, length, replicate, reverse, refl, ap, sym, ◌∙◌, arith, length-append, length-replicate, bits, flag, low_bits, check, frame_text, heard_until, heard_in, room_for, AreOctets, bits-append, low_bits-number_of_n, NoSix-stuffed, after_flag, heard_until-onto, hears_text, after_text, reverse_aux-append, Fault, IsIdle, line_octets, came, fault_octets, cause_of, AreHeardAs, FramesAreHeard, hears, hears-append, reverse_aux, some_text, append_assoc, ◌<◌, get_or-replicate, Config, Port, after_all, fresh, fresh_port, meant_all, octets_come, port_at, Event as CardEvent}
 use Rattle.model_bits.specs.Bits.{octets_of}
 use Rattle.model_bits.specs.Stream.{Event, dropped}
 use Rattle.model_line.specs.declared.faults.Fault.TheVariants.{Fcs, Abort, Ragged, Short}
@@ -25,7 +25,13 @@ bits-octets_of (suc k) short e = absurd (omega (arith, e))
 abbrev framed : List ℕ → List Bool
 framed octets = flag ++ (frame_text octets ++ flag)
 
--- the 1s fill the last octet, and are seven at least
+-- the 1s of an idle line after it fill the last octet, and are seven at least
+abbrev filling : ℕ → ℕ
+filling n = 14 - (n + 6) % 8
+
+abbrev filled : List Bool → List Bool
+filled text = text ++ replicate (filling (length text)) true
+
 filling-fills : (n : ℕ) → n + filling n ≡ 8 * ((n + filling n) / 8)
 filling-fills n = omega arith
 

@@ -1,7 +1,7 @@
 -- What a receiver hears in the octets that a line's pulls give: the law.
 use Rattle.model_card.proofs.OfPorts.Vocabulary.{◌≡◌, ℕ, ◌<◌, List, [], ◌∷◌, ◌++◌, length, map, refl, sym, ap, ◌∙◌, subst, arith, get_or-replicate, length-replicate, map-append, Item, idle, Config, Event, IsInRange, IsSoundPort, AreAtLines, OctetCard, Port, after_all, fresh, fresh_port, frames_among, left_of, port_at, AllGivenAreHeard, AreHeardWhole, GivenFramesAreHeard, GivenGoOut, GoOut, IsReached, as_octets, frames_to_hear, heard_in, octets_given}
 use Rattle.model_bits.specs.Stream as stream
-use Rattle.model_card.proofs.OfPorts.AsOctets.{sent, same_text, frames_sent, cut_sent, heard_whole, all_exact}
+use Rattle.model_card.proofs.OfPorts.AsOctets.{sent, same_text, frames_sent, cut_sent, heard_whole}
 use Rattle.model_card.proofs.OfPorts.CallsPut.{run_puts}
 use Rattle.model_card.proofs.OfPorts.Codec.{run_goes_on}
 use Rattle.model_card.proofs.OfPorts.LastItem.{IsOnItsWay, stays_on_its_way, begins_on_its_way}
@@ -86,7 +86,5 @@ module _ (c : Config) (events : List Event) (number : ℕ) (ranged : IsInRange c
 pub given_frames_are_heard : GivenFramesAreHeard
 given_frames_are_heard = record {
   so_far = out;
-  as_they_are = λ c events number ranged all within octets.
-      subst (GoOut c.n201 (octets_given c events number)) (all_exact (frames_to_hear c events number) octets) (out c events number ranged all within);
   all = all_heard;
 }

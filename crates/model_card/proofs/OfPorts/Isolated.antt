@@ -9,7 +9,7 @@ use Rattle.model_card.specs.Machine as machine
 use Rattle.model_card.proofs.Isolated as cards
 use Rattle.model_card.proofs.Isolated.{Alone, with_lines}
 use Rattle.model_card.proofs.Steps.{HasLines, after_lines, fresh_lines}
-use Rattle.model_card.specs.ports.Isolation.{is_pool_full, is_served_at, event_in, answer_in, events_at, answers_at}
+use Rattle.model_card.specs.ports.Isolation.{is_pool_full, is_served_at, events_at, answers_at}
 use Rattle.model_card.specs.ports.Port as port
 use Rattle.model_card.proofs.OfPorts.Codec.{asked_at}
 use Rattle.model_card.proofs.OfPorts.Sound.{at_lines_after}
@@ -167,6 +167,12 @@ moment_goes : (number : ℕ) (m : OctetCard) (e : Event) (ls : List Line) (ps : 
 moment_goes number m e ls ps h within few a = grind (arith, elsewhere_goes, eqb-true, own_goes)
 
 -- ---- lists of events
+
+abbrev event_in : Moment → Event
+event_in m = m.event
+
+abbrev answer_in : Moment → Answer
+answer_in m = m.answer
 
 lines_step : (card : Card) (n : ℕ) (o : Option line.Event) → HasLines card → n < card.config.lines → HasLines (next_card card n o)
 lines_step card n None h within = h

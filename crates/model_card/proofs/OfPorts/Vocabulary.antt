@@ -53,7 +53,7 @@ pub use Rattle.model_card.specs.ports.Run.{AreAtLines, IsAtLine, Moment, Run}
 unfoldable pub use Rattle.model_card.specs.ports.Run.{after_all, meant_all, moments}
 pub use Rattle.model_card.specs.ports.Sound.{IsSoundOctetCard, IsSoundPort}
 pub use Rattle.model_card.specs.ports.Stored.{held_at, held_received, held_sent, limit, limit_of_port, stored}
-pub use Rattle.model_card.specs.ports.Whole.{IsIdle, fault_octets, filled, filling, line_octets}
+pub use Rattle.model_card.specs.ports.Whole.{IsIdle, fault_octets, line_octets}
 pub use Rattle.model_card.specs.ports.WholeLaws.{AreHeardAs, FramesAreHeard}
 pub use Rattle.model_card.specs.Counts.{accepted, expired, heard, may_send, rejected, sent, window}
 pub use Rattle.model_card.specs.ports.GoingOut.{AllGivenAreHeard, GivenFramesAreHeard, GivenGoOut, GoOut, OfEachLine, answer_of_call, as_octets, call_answered, calls_answered, frames_to_hear, octets_given}

@@ -26,16 +26,14 @@ meant_in moment = option_to_list (option_map (frame_moment moment.card) (meant m
 
 -- The expiries and requests among events of octets, each at its line; and those among events of frames.
 abbrev pub asked_of : port.Event → List line.Event
-asked_of (port.octet value) = []
 asked_of (port.expiry timer) = line.expiry timer ∷ []
 asked_of (port.request r) = line.request r ∷ []
-asked_of port.pull = []
+asked_of other = []
 
 abbrev pub asked_in : line.Event → List line.Event
-asked_in (line.hears e) = []
 asked_in (line.expiry timer) = line.expiry timer ∷ []
 asked_in (line.request r) = line.request r ∷ []
-asked_in line.next = []
+asked_in other = []
 
 abbrev pub asked_with : Event → List frames.Event
 asked_with e = map (frames.at e.line) (asked_of e.what)
@@ -53,20 +51,16 @@ Says a (line.gave (Some next)) = (value : ℕ) × (a ≡ port.pulled value true 
 -- An octet that ends nothing tells nothing, nor does a pull with which no frame is called for.
 abbrev pub SaysNothing : port.Event → Answer → Type 0
 SaysNothing (port.octet value) a = a ≡ port.told nothing
-SaysNothing (port.expiry timer) a = ⊥
-SaysNothing (port.request r) a = ⊥
 SaysNothing port.pull a = (value : ℕ) × (a ≡ port.pulled value false [])
+SaysNothing other a = ⊥
 
 abbrev pub SaysSo : port.Event → Answer → Option line.Answer → Type 0
 SaysSo what a None = SaysNothing what a
 SaysSo what a (Some said) = Says a said
 
 -- To what an event means, the card of frames says what its machine answers.
-abbrev pub answer_in : OctetCard → frames.Event → line.Answer
-answer_in m f = machine.answer f m.card
-
 abbrev pub IsAnswered : Moment → Type 0
-IsAnswered moment = SaysSo moment.event.what moment.answer (option_map (answer_in moment.card) (meant moment.event moment.card))
+IsAnswered moment = SaysSo moment.event.what moment.answer (option_map (λ f. machine.answer f moment.card.card) (meant moment.event moment.card))
 
 pub record Refines (m : OctetCard) (events : List Event) : Type 0 where
   pub asked : flat_map asked_among (meant_all m events) ≡ flat_map asked_with events

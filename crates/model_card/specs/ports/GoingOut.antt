@@ -1,7 +1,6 @@
 -- What a receiver hears in the octets that a line's pulls give (Q.921 clauses 2.2 to 2.7 and 2.9).
-use Rattle.std.specs.Prelude.{◌≡◌, ◌==◌, ◌≤◌, ◌<◌, ◌%◌, ℕ, List, [], ◌∷◌, ◌++◌, length, map, flat_map, All, Option, None, if◌then◌else◌}
+use Rattle.std.specs.Prelude.{◌≡◌, ◌==◌, ◌≤◌, ◌<◌, ◌%◌, ℕ, List, [], ◌∷◌, ◌++◌, length, map, flat_map, Option, None, if◌then◌else◌}
 use Rattle.model_bits.specs.Stream as stream
-use Rattle.model_bits.specs.StuffingLaws.{AreOctets}
 use Rattle.model_line.specs.declared.config.Config.{Config}
 use Rattle.model_line.specs.Event as line
 use Rattle.model_line.specs.Event.{NextFrame}
@@ -34,16 +33,10 @@ frames_to_hear c events number = frames_given number (moments_meant c events)
 abbrev pub GivenGoOut : Config → List Event → ℕ → Type 0
 GivenGoOut c events number = GoOut c.n201 (octets_given c events number) (map as_octets (frames_to_hear c events number))
 
--- Where they are octets, as they are.
-abbrev pub GivenGoOutAsTheyAre : Config → List Event → ℕ → Type 0
-GivenGoOutAsTheyAre c events number =
-    All AreOctets (frames_to_hear c events number) → GoOut c.n201 (octets_given c events number) (frames_to_hear c events number)
-
 -- What the calls for the next frame of a line are answered with, in order.
 abbrev pub answer_of_call : line.Answer → List (Option NextFrame)
-answer_of_call (line.told t) = []
-answer_of_call (line.refused why) = []
 answer_of_call (line.gave next) = next ∷ []
+answer_of_call other = []
 
 abbrev pub call_answered : ℕ → runs.Moment → List (Option NextFrame)
 call_answered number m = if m.event.line == number then answer_of_call m.answer else []
@@ -63,5 +56,4 @@ OfEachLine P = (c : Config) (events : List Event) (number : ℕ) → IsInRange c
 
 pub record GivenFramesAreHeard : Type 0 where
   pub so_far : OfEachLine GivenGoOut
-  pub as_they_are : OfEachLine GivenGoOutAsTheyAre
   pub all : OfEachLine AllGivenAreHeard

@@ -2,28 +2,21 @@
 use Rattle.std.specs.Prelude.{ℕ, ◌==◌, Bool, false, ◌&&◌, not, List, map, filter}
 use Rattle.model_line.specs.Counts.{is_pool}
 use Rattle.model_card.specs.ports.Event.{Event}
-use Rattle.model_card.specs.ports.Port.{Answer, told, refused, pulled}
+use Rattle.model_card.specs.ports.Port.{Answer, refused}
 use Rattle.model_card.specs.ports.Run.{Moment}
 
 -- A request that finds the card's pool full.
 abbrev pub is_pool_full : Answer → Bool
-is_pool_full (told t) = false
 is_pool_full (refused why) = is_pool why
-is_pool_full (pulled value begun orders) = false
+is_pool_full other = false
 
 -- The moments at a line in which no request found the card's pool full.
 abbrev pub is_served_at : ℕ → Moment → Bool
 is_served_at number m = (m.event.line == number) && not (is_pool_full m.answer)
 
-abbrev pub event_in : Moment → Event
-event_in m = m.event
-
-abbrev pub answer_in : Moment → Answer
-answer_in m = m.answer
-
 -- Their events, and their answers, octets pulled among them.
 abbrev pub events_at : ℕ → List Moment → List Event
-events_at number ms = map event_in (filter (is_served_at number) ms)
+events_at number ms = map (λ (m : Moment). m.event) (filter (is_served_at number) ms)
 
 abbrev pub answers_at : ℕ → List Moment → List Answer
-answers_at number ms = map answer_in (filter (is_served_at number) ms)
+answers_at number ms = map (λ (m : Moment). m.answer) (filter (is_served_at number) ms)

@@ -7,8 +7,8 @@ use Rattle.model_card.specs.Run as runs
 use Rattle.model_card.specs.ports.Card.{OctetCard, fresh}
 use Rattle.model_card.specs.ports.Counts.{octets_received}
 use Rattle.model_card.specs.ports.Event.{Event}
-use Rattle.model_card.specs.ports.Isolation.{events_at, answers_at, answer_in}
-use Rattle.model_card.specs.ports.Run.{moments, after_all, meant_all}
+use Rattle.model_card.specs.ports.Isolation.{events_at, answers_at}
+use Rattle.model_card.specs.ports.Run.{Moment, moments, after_all, meant_all}
 use Rattle.model_card.specs.ports.Stored.{stored, limit}
 
 -- The octets stored at the end are within the limit.
@@ -44,4 +44,4 @@ abbrev pub IsIsolated : Config → List Event → Type 0
 IsIsolated c events =
     (number : ℕ) → number < c.lines →
     let ms = moments (fresh c) events in
-    answers_at number ms ≡ map answer_in (moments (fresh c) (events_at number ms))
+    answers_at number ms ≡ map (λ (m : Moment). m.answer) (moments (fresh c) (events_at number ms))

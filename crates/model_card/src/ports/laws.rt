@@ -68,8 +68,8 @@ pub fn frames_are_heard()
 
 /// What is heard are octets. Whatever a card of octets has received, and whatever comes, each frame that its card of frames
 /// hears consists of octets, each 0 to 255: those of which a sender makes the text between two flags, less the check (Q.921
-/// clauses 2.6 to 2.9). So `HasOctets` holds of all that is heard in `meant_all`, as the clause `octets` of `frames_are_read`
-/// of `laws_trace` asks, and there only the contents that layer 3 gives are left to be octets.
+/// clauses 2.6 to 2.9). So `HasOctets` holds of all that is heard in `meant_all`, as `frames_are_octets` of `laws_trace` asks,
+/// and there only the contents that layer 3 gives are left to be octets.
 #[tactic(auto, using(crate::proofs::OfPorts::HeardOctets::heard_frames_are_octets))]
 pub fn heard_frames_are_octets()
     ensures { HeardFramesAreOctets }

@@ -108,7 +108,8 @@ module _ (service : Service) (tei : ℕ) (c d : Config) (p q : ℕ) (face : Face
     half-made s x = grind arith
 
     half-made_or : (s : Endpoint) → Acted service tei q (indicated service tei ∷ []) d s (end t caller []) h.first [] ⊎ Erred s → Leads (made w s)
-    half-made_or s o = grind (arith, half-made)
+    half-made_or s (inl x) = half-made s x
+    half-made_or s (inr erred) = inr (inr erred)
 
     half-loses : (way : List Parts) → h.m.way ≡ way → Leads (turned (acting loses (turned w)))
     half-loses [] e = no-loss_far service tei c d p q w (empty service tei d q _ w.far h.m h.far.held e) (inl (inr (inl h)))

@@ -17,6 +17,7 @@
 #ifndef MOST
 #define MOST 2048
 #define MOST_OF_START 4096
+#define MOST_OF_TEXT MOST
 #endif
 
 enum { PAINT = 0xA5, STACK = 65536 };
@@ -39,6 +40,7 @@ static lapd_link link;
 static struct lapd_room room;
 static lapd_head head;
 static struct lapd_counters counters;
+static char text[LAPD_MOST_TEXT];
 static uint32_t status, waiting;
 
 static void run(void) {
@@ -83,6 +85,7 @@ static void ask_room(void) { status = lapd_room(&card, 0, LAPD_CALL, 64, &room);
 static void ask_begun(void) { status = lapd_begun(&card, 0, &head); }
 static void ask_heard(void) { status = lapd_heard(&card, 0, &head); }
 static void ask_counters(void) { status = lapd_counters(&card, 0, &counters); }
+static void ask_text(void) { status = lapd_frame_text(frame, sizeof frame, LAPD_USER, text, sizeof text); }
 static void exchange(void) { status = lapd_exchange(&card, 0, octets, sizeof octets, given, sizeof given, &steps, &report); }
 
 static size_t base;
@@ -166,6 +169,8 @@ int main(void) {
     show("lapd_begun", most(0, ask_begun));
     show("lapd_heard", most(0, ask_heard));
     show("lapd_counters", most(0, ask_counters));
+    frame[1] = 0x81; /* an I-frame */
+    show("lapd_frame_text", within(MOST_OF_TEXT, ask_text));
     show("lapd_card_free", most(0, card_free));
     show("lapd_clock_free", most(0, clock_free));
     frames((const uint8_t *const[]){request, sabme, data}, (const size_t[]){sizeof request, sizeof sabme, sizeof data}, 3);

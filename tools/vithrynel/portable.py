@@ -93,7 +93,7 @@ def marshalling() -> str:
     """What the calls use of it, each once."""
     wanted: Dict[Tuple[str, bool], None] = {("lapd_config", True): None, ("size_t", True): None, ("size_t", False): None}
     for it in functions():
-        for one in it.parameters[1:]:
+        for one in it.parameters[1:] if it.name != "lapd_frame_text" else ():
             if one.is_pointer and (one.kind in structs() or not one.is_const):
                 for kind in below(one.kind) if one.kind in structs() else [one.kind]:
                     wanted[kind, one.is_const] = None

@@ -3,9 +3,10 @@
  * goes. Timers are the library's clock, by the system's monotonic time (linecard.c). Layer 3 answers each message of a
  * terminal with the same message.
  *
- *     exchange [RECORD [CAPTURE]] < OCTETS > OCTETS
+ *     exchange [--trace] [RECORD [CAPTURE]] < OCTETS > OCTETS
  *
- * Standard error tells what layer 3 is told. With RECORD, all that happens is written there as a script of
+ * Standard error tells what layer 3 is told. With --trace it has a log of how each frame begins, and of each note, order and
+ * state as well (trace.c). With RECORD, all that happens is written there as a script of
  * docs/FORMAT.md: `lapdsim run < RECORD` then shows the same. With CAPTURE, how the frames of both ways begin is
  * written there for Wireshark (pcap.c).
  */
@@ -19,19 +20,20 @@
 #include "linecard.h"
 #include "pcap.h"
 
-enum { MOST_AT_A_TIME = 64, MOST_OF_A_CAPTURE = 4 };
+enum { MOST_AT_A_TIME = 64, MOST_OF_HEADS = 4 };
 
-static const char usage[] = "usage: exchange [RECORD [CAPTURE]] < OCTETS > OCTETS\n";
+static const char usage[] = "usage: exchange [--trace] [RECORD [CAPTURE]] < OCTETS > OCTETS\n";
 static const char help[] =
     "\n"
     "A line card with one D-channel: for each octet that comes, one goes. Each message of a terminal goes back to it.\n"
     "Standard error tells what layer 3 is told.\n"
     "\n"
+    "  --trace  a log of how frames begin, and of notes, orders and states, on standard error\n"
     "  RECORD   a file for all that happens, as a script: lapdsim run < RECORD shows the same\n"
     "  CAPTURE  a file for how the frames of both ways begin, for Wireshark\n";
 
 static FILE *capture; /* or NULL */
-static uint64_t heard;
+static uint64_t heard, logged; /* frames that were, to the capture and to the log */
 
 /* A message came on a link: the same message goes back. */
 static bool message_came(linecard *own, const lapd_note *note, const uint8_t *contents, size_t length) {
@@ -56,6 +58,17 @@ static bool write_all(const uint8_t *octets, size_t length) {
     return true;
 }
 
+/* The frame that was heard since the call before, if one was, and the one that has begun. */
+static void log_heads(const lapd_report *report) {
+    lapd_head head;
+    uint64_t before = logged;
+    bool is_there = pcap_begin_heads(&own.card, 0, &logged);
+    if (is_there && logged != before && lapd_heard(&own.card, 0, &head) == LAPD_OK)
+        trace_head(own.log, own.now, 0, false, &head);
+    if (is_there && report->begun && lapd_begun(&own.card, 0, &head) == LAPD_OK)
+        trace_head(own.log, own.now, 0, true, &head);
+}
+
 /* So many octets came; as many go. */
 static bool exchange(const uint8_t *in, uint8_t *out, size_t length) {
     static lapd_report report;
@@ -69,6 +82,8 @@ static bool exchange(const uint8_t *in, uint8_t *out, size_t length) {
             fprintf(stderr, "exchange: the capture is not whole: a frame was left out\n");
             return false;
         }
+        if (own.log != NULL)
+            log_heads(&report);
         if (!linecard_tell(&own, &report))
             return false;
     }
@@ -84,7 +99,7 @@ static bool serve(void) {
             return false;
         if (line.revents == 0)
             continue;
-        ssize_t length = read(STDIN_FILENO, in, capture != NULL ? MOST_OF_A_CAPTURE : sizeof in);
+        ssize_t length = read(STDIN_FILENO, in, capture != NULL || own.log != NULL ? MOST_OF_HEADS : sizeof in);
         if (length <= 0)
             return true;
         if (!exchange(in, out, (size_t)length))
@@ -111,6 +126,7 @@ int main(int words, char **word) {
         printf("%s%s", usage, help);
         return 0;
     }
+    linecard_traces(&own, &words, &word);
     if (words > 3 || (words > 1 && strncmp(word[1], "--", 2) == 0)) {
         fputs(usage, stderr);
         return 2;

@@ -19,6 +19,11 @@ void trace_frame(trace *log, uint64_t milliseconds, uint32_t line, bool is_sent,
         fprintf(log->to, "%s of %zu octets\n", text, length);
 }
 
+void trace_head(trace *log, uint64_t milliseconds, uint32_t line, bool is_sent, const lapd_head *head) {
+    size_t known = head->length < sizeof head->octets ? head->length : sizeof head->octets;
+    trace_frame(log, milliseconds, line, is_sent, head->octets, known, head->length);
+}
+
 static void trace_note(const trace *log, const lapd_note *note, const lapd_report *report) {
     fprintf(log->to, "%s %u", lapd_note_text(note), note->tei);
     if (note->error != 0)

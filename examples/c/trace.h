@@ -34,6 +34,9 @@ typedef struct {
 void trace_frame(trace *log, uint64_t milliseconds, uint32_t line, bool is_sent, const uint8_t *octets, size_t known,
                  size_t length);
 
+/* The same of how a frame begins, as lapd_heard and lapd_begun tell it. */
+void trace_head(trace *log, uint64_t milliseconds, uint32_t line, bool is_sent, const lapd_head *head);
+
 /* What a report of a line tells, and which links of the line are in another state than before. */
 void trace_report(trace *log, uint64_t milliseconds, uint32_t line, lapd_card *card, const lapd_report *report);
 

@@ -1,0 +1,74 @@
+-- What carrying out an order comes to, of every event that led the card to where it is.
+use Rattle.std.proofs.Common.{arith, ◌≡◌, ℕ, ◌+◌, ◌^◌, ◌<◌, ◌≤◌, List, length, get_or, Option, Some, None, refl, sym, ap, ◌∙◌, subst}
+use Rattle.std.specs.List.{AllByRecursion}
+use Rattle.lapd_card.specs.FrameCard.{Held}
+use Rattle.lapd_card.specs.FrameStands.{FrameStands}
+use Rattle.lapd_clock.specs.Firsts.{never}
+use Rattle.lapd_clock.specs.Timer.{Timer, Order, Start, Stop, duration}
+use Rattle.lapd_clock.specs.Timers.{Expiry}
+use Rattle.lapd_moments.specs.Places.{with_timer, without_timer}
+use Rattle.lapd_store.specs.Store.{Store}
+use Rattle.model_card.specs.Card.{Card, line_at}
+use Rattle.model_card.specs.Event.{Event}
+use Rattle.model_card.specs.Machine.{after}
+use Rattle.model_card.specs.Reached.{IsReached}
+use Rattle.model_card.proofs.Reaching.{reached-sound}
+use Rattle.model_line.specs.Runs.{IsPlaced}
+use Rattle.model_timed.specs.Clock.{Clock, obey, obeyed}
+use Rattle.model_timed.specs.Frames.{orders_at}
+use Rattle.model_timed.specs.RunTheSame.{left_by, as_they_are}
+use Rattle.model_timed.proofs.Running.{are-placed}
+use Rattle.lapd_timed.specs.Places.{own_place, IsOwnOrFound}
+use Rattle.lapd_timed.specs.Stands.{IsOnAmid, HeldTimers, AreAt, AreKept, HasLedTo}
+use Rattle.lapd_timed.proofs.Carrying.{has-place, carried-start, carried-stop, carried-nowhere}
+use Rattle.lapd_timed.proofs.Finishing.{begins, finished}
+use Rattle.lapd_timed.proofs.Calls.{all-at}
+
+module _ {S : Type 0} (store : S → Store) (card : Held S) (h : HeldTimers) (line : ℕ) (within : line < h.lines) where
+  at-line : (e : Event) (m : Card) → HasLedTo store card line e m → e.line < m.config.lines
+  at-line e m led = subst (λ n. n < m.config.lines) (sym led.line_is) led.line_there
+
+  -- what holds of each machine for which the card stands, and that has as many terminals
+  abbrev pub OfMachine : (Card → Type 0) → Type 0
+  OfMachine P = (m : Card) → FrameStands store card m → m.config.terminals ≡ h.terminals → P m
+
+  abbrev pub IsDone : Order → HeldTimers → Type 0
+  IsDone order new = (e : Event) (m : Card) (c : Clock) → IsReached m → HasLedTo store card line e m → IsPlaced (line_at line (after e m)) order
+      → AreAt (IsOnAmid e m) h m c → AreAt (IsOnAmid e m) new m (obey line c order)
+
+  pub start-done : (timer : Timer) (i d : ℕ) (es : List Expiry) → OfMachine (λ m. Some i ≡ own_place h.terminals line timer (line_at line m)) → d ≡ duration h.lengths timer
+      → h.now < 2 ^ 63 → d ≤ 3600000 → es ≡ with_timer i timer (h.now + d) h.moments → IsDone (Start timer) (record h { moments = es })
+  start-done timer i d es is d_is now most new = λ e m c reached led placed amid.
+      carried-start m e reached (at-line e m led) h c amid line within timer i (h.now + d) es (sym (is (after e m) led.stands amid.terminals)) (ap (λ n. h.now + n) d_is)
+      (omega (arith, now, most)) new
+
+  pub start-nowhere : (timer : Timer) → OfMachine (λ m. None ≡ own_place h.terminals line timer (line_at line m)) → IsDone (Start timer) h
+  start-nowhere timer is = λ e m c reached led placed amid.
+      absurd (has-place m e reached (at-line e m led) h c amid line timer placed (sym (is (after e m) led.stands amid.terminals)))
+
+  pub stop-done : (timer : Timer) (i : ℕ) (es : List Expiry) → OfMachine (λ m. IsOwnOrFound (Some i) (own_place h.terminals line timer (line_at line m)) line timer h.moments)
+      → es ≡ without_timer i h.moments → IsDone (Stop timer) (record h { moments = es })
+  stop-done timer i es is new = λ e m c reached led placed amid.
+      carried-stop m e reached (at-line e m led) h c amid line within timer i es (is (after e m) led.stands amid.terminals) new
+
+  pub stop-nowhere : (timer : Timer) → OfMachine (λ m. IsOwnOrFound None (own_place h.terminals line timer (line_at line m)) line timer h.moments) → IsDone (Stop timer) h
+  stop-nowhere timer is = λ e m c reached led placed amid.
+      carried-nowhere m e reached (at-line e m led) h c amid line timer (is (after e m) led.stands amid.terminals)
+
+  -- The orders of an event, from the first to the last.
+  pub before-all : (e : Event) (m : Card) (c : Clock) → HasLedTo store card line e m → AreKept (left_by e) h m c → AreAt (IsOnAmid e m) h m c
+  before-all e m c led kept = begins m e (at-line e m led) h c kept
+
+  pub order-placed : (e : Event) (m : Card) (c : Clock) (orders : List Order) (i : ℕ) (d o : Order) → HasLedTo store card line e m → orders ≡ orders_at e m → AreKept (left_by e) h m c
+      → i < length orders → get_or orders i d ≡ o → IsPlaced (line_at line (after e m)) o
+  order-placed e m c orders i d o led is kept there at_it =
+      all-at (IsPlaced (line_at line (after e m))) orders i d o
+      (subst (λ os. AllByRecursion (IsPlaced (line_at line (after e m))) os) (sym is)
+      (subst (λ n. AllByRecursion (IsPlaced (line_at n (after e m))) (orders_at e m)) led.line_is (are-placed m e (reached-sound m kept.reached) (at-line e m led)))) there at_it
+
+  pub after-all : (e : Event) (m : Card) (c : Clock) (orders : List Order) (new : HeldTimers) → HasLedTo store card line e m → orders ≡ orders_at e m → AreKept (left_by e) h m c
+      → AreAt (IsOnAmid e m) new m (obeyed line orders c) → AreKept as_they_are new (after e m) (obeyed line orders c)
+  after-all e m c orders new led is kept amid =
+      let same : obeyed line orders c ≡ obeyed e.line (orders_at e m) c = ap (λ n. obeyed n orders c) (sym led.line_is) ∙ ap (λ os. obeyed e.line os c) is in
+      subst (AreKept as_they_are new (after e m)) (sym same)
+      (finished m e (at-line e m led) h c kept new (subst (AreAt (IsOnAmid e m) new m) same amid))

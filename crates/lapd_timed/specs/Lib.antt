@@ -1,0 +1,5 @@
+-- A card that keeps its own timers.
+--
+-- Read after those of `model_timed` and `lapd_moments`: Places, Stands.
+pub mod Places
+pub mod Stands

@@ -1,0 +1,29 @@
+//! The timers of a card that keeps its own: what the card orders is carried out in places of their own, at the moment that it is
+//! told, and it is told what falls due.
+//!
+//! [`CardTimers`] stands beside a card of either kind, and uses its card of frames. Its owner tells it the moment, hands what is due
+//! to the card, and after each event has it obey what the answer orders:
+//!
+//! ```text
+//! let mut timers = CardTimers::start(alloc, card.lines(), terminals, Lengths::standard())?;
+//! loop {
+//!     timers.go_to(now);
+//!     while let Some((line, timer)) = timers.due() {
+//!         card.expire(line, timer, &mut report);
+//!         timers.obey(&card, line, report.orders());
+//!     }
+//!     card.frame(line, frame_that_came, &mut report);
+//!     timers.obey(&card, line, report.orders());
+//! }
+//! ```
+//!
+//! Each timer that may run at a time has a place, which its line and the place of its TEI on the line tell, so none is ever missing.
+//! `model_timed` has the machine of such a card. That its timers are true, and are those that the lines run, are laws there, and
+//! the contracts of each call say that the timers stand for its clock (`specs/Stands`).
+//!
+//! - `card_timers`: `CardTimers`.
+#![tactic(auto)]
+
+mod card_timers;
+
+pub use card_timers::CardTimers;

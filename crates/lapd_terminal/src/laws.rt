@@ -1,0 +1,53 @@
+//! What holds of the table of TEI management of a terminal itself.
+
+ghost use Rattle.lapd_terminal.specs.Laws.{IsSoundThroughout, RoomIsEnough, ChangesAreTold, NoneIsTaken, T202Follows, ExpiredT202Follows, NumbersGoOn, UnservedChangesNothing, DownGivesUp};
+ghost use Rattle.lapd_terminal.specs.Numbers.{NoneComesAgain, AllComeAgain};
+
+/// From a fresh line of at most eight places on, after any events and pulls whose requests put on the line TEIs of at
+/// most 126: no TEI stands twice, each is at most 126, a TEI that is verified is on the line, and each message that
+/// waits is the request that is outstanding, the verify of the TEI that is verified, or a response for a TEI on the
+/// line, none twice. So a place more than the line may have TEIs is enough for them, and none is ever lost. A law about
+/// the definitions in `specs/`; the call does nothing.
+pub fn no_message_is_lost()
+    ensures sound { IsSoundThroughout }
+    ensures room { RoomIsEnough }
+{}
+
+/// The change that is told of an event is the change of the table. And no TEI is taken by itself: one comes to the line
+/// by a request, or by an assignment with the reference number that is outstanding. A law about the definitions in
+/// `specs/`; the call does nothing.
+pub fn no_tei_is_taken()
+    ensures told { ChangesAreTold }
+    ensures given { NoneIsTaken }
+{}
+
+/// T202 runs while a procedure does, and a caller that obeys the orders runs it then, and only then. A law about the
+/// definitions in `specs/`; the call does nothing.
+#[tactic(auto, using(crate::proofs::Told::t202_follows, crate::proofs::Told::expired_t202_follows))]
+pub fn orders_follow_the_procedure()
+    ensures each { T202Follows }
+    ensures expired { ExpiredT202Follows }
+{}
+
+/// The reference number of a line goes on along one sequence from its seed, once for each message that is made with
+/// one, and that message has it. In the sequence none comes again before all 65,536 have come. A law about the
+/// definitions in `specs/`; the call does nothing.
+pub fn no_number_comes_again()
+    ensures along { NumbersGoOn }
+    ensures none { NoneComesAgain }
+    ensures all { AllComeAgain }
+{}
+
+/// A message that is not served changes nothing, and nothing else is told of it. A law about the definitions in
+/// `specs/`; the call does nothing.
+#[tactic(auto, using(crate::proofs::Told::unserved_changes_nothing))]
+pub fn unserved_changes_nothing()
+    ensures { UnservedChangesNothing }
+{}
+
+/// If the line is down (Q.921 annex B, persistent deactivation), no message waits and no procedure runs; the TEIs stay,
+/// and all that is told is that T202 stops, if it ran. A law about the definitions in `specs/`; the call does nothing.
+#[tactic(auto, using(crate::proofs::GivenUp::given_up))]
+pub fn down_gives_up()
+    ensures { DownGivesUp }
+{}

@@ -1,5 +1,5 @@
 -- What the answers to a check tell, however many there are.
-use Rattle.lapd_terminal.proofs.Vocabulary.{◌≡◌, ℕ, suc, Bool, true, false, cond, is_some, List, [], ◌∷◌, AllByRecursion, All, recursion_from_All, Option, Some, None, refl, sym, subst, ap, ◌∙◌, false≢true, fold, is_on, Places, Terminal, IsSound, is_verified, list_any, is_response_of, next_number}
+use Rattle.lapd_terminal.proofs.Vocabulary.{◌≡◌, ℕ, true, false, cond, is_some, List, [], ◌∷◌, AllByRecursion, All, recursion_from_All, None, refl, sym, subst, fold, is_on, Terminal, IsSound, is_verified}
 use Rattle.lapd_terminal.proofs.SoundWords.{sound_ended, sound_responded}
 use Rattle.lapd_terminal.specs.Words.{Course, begun, end_procedure, end_verifying_of, is_answered, nothing_happens, respond, send_response}
 use Rattle.lapd_terminal.specs.Rows.{answer, answered}

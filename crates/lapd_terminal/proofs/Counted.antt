@@ -1,5 +1,5 @@
 -- How many elements of a list pass a test.
-use Rattle.lapd_terminal.proofs.Vocabulary.{◌≡◌, ℕ, zero, suc, ◌+◌, ◌<◌, ◌≤◌, Bool, true, false, cond, List, [], ◌∷◌, length, get_or, ap, refl, arith, AllByRecursion, count_by, filter, list_any, list_any_at, cases_eq, false≢true, sym, ◌∙◌, sum_by-cons, get_or-le-sum_by, All, ◌⊎◌, recursion_from_All, None, Option, position, position_or_len, fails_before_first, common_steps}
+use Rattle.lapd_terminal.proofs.Vocabulary.{◌≡◌, ℕ, zero, suc, ◌+◌, ◌<◌, ◌≤◌, Bool, true, false, cond, List, [], ◌∷◌, length, get_or, ap, refl, arith, AllByRecursion, count_by, filter, list_any, list_any_at, false≢true, sym, ◌∙◌, sum_by-cons, get_or-le-sum_by, All, recursion_from_All, None, position, position_or_len, fails_before_first, common_steps}
 
 module _ {X : Type 0} (p : X → Bool) where
   pub count-cons : (x : X) (xs : List X) → count_by p (x ∷ xs) ≡ cond {A = ℕ} (p x) 1 0 + count_by p xs

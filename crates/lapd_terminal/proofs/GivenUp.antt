@@ -3,8 +3,7 @@ use Rattle.lapd_terminal.proofs.Vocabulary.{arith, ◌≡◌, Option, [], None, 
 use Rattle.lapd_terminal.specs.Machine.{nothing}
 use Rattle.lapd_terminal.specs.Words.{Course, begun, ◌then◌, stop_of}
 use Rattle.lapd_terminal.specs.Rows.{end_if_any, withdraw_all}
-use Rattle.lapd_terminal.specs.Events.{down}
-use Rattle.lapd_terminal.specs.Laws.{DownGivesUp, IsGivenUp}
+use Rattle.lapd_terminal.specs.Laws.{IsGivenUp}
 unfoldable use Rattle.lapd_terminal.specs.Events.{course}
 
 abbrev Leaves : Terminal → Option Procedure → Course → Type 0

@@ -1,10 +1,10 @@
 -- The laws of the table, from what each of its rows keeps.
-use Rattle.lapd_terminal.proofs.Vocabulary.{◌≡◌, ℕ, ◌+◌, ◌<◌, ◌≤◌, List, [], ◌∷◌, length, length-set, Option, Some, None, refl, sym, ◌∙◌, ap, subst, arith, Places, Terminal, fresh, IsSound}
+use Rattle.lapd_terminal.proofs.Vocabulary.{◌≡◌, List, [], ◌∷◌, length, length-set, Option, Some, None, refl, ◌∙◌, ap, arith, Places, Terminal, fresh, IsSound}
 use Rattle.lapd_tei.specs.Laws.{Moves}
 use Rattle.lapd_tei.specs.declared.outcome.Change.{Change}
 use Rattle.lapd_tei.specs.declared.outcome.Change.TheVariants.{Gained, Left}
-use Rattle.lapd_terminal.specs.Events.{Event, after, after_offer, told}
-use Rattle.lapd_terminal.specs.Laws.{IsInRange, Act, event, pull, AreInRange, after_acts, IsSoundThroughout, RoomIsEnough, ChangesAreTold}
+use Rattle.lapd_terminal.specs.Events.{after, after_offer, told}
+use Rattle.lapd_terminal.specs.Laws.{Act, event, pull, AreInRange, after_acts, IsSoundThroughout, RoomIsEnough, ChangesAreTold}
 use Rattle.lapd_terminal.proofs.SoundWords.{sound_fresh, sound_rest, room, empty_length}
 use Rattle.lapd_terminal.proofs.Served.{leads}
 

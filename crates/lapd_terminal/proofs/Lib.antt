@@ -9,5 +9,6 @@ pub mod Told
 pub mod Numbered
 pub mod Served
 pub mod LawLemmas
+pub mod Given
 pub mod GivenUp
 pub mod Period

@@ -1,7 +1,7 @@
 -- The reference numbers come again after 65,536 of them, and not before: the period of such a sequence is doubled with
 -- each power of two, and nothing is computed.
-use Rattle.std.proofs.Common.{◌≡◌, ℕ, zero, suc, ◌+◌, ◌-◌, ◌*◌, ◌/◌, ◌%◌, ◌^◌, ◌<◌, refl, sym, ap, subst, ◌∙◌, arith}
-use Rattle.std.proofs.Math.Nat.{mul_assoc, mul-add, pow-suc, mod-eq_of_lt, mod-lt, add-mul-mod_self_left}
+use Rattle.std.proofs.Common.{◌≡◌, ℕ, zero, suc, ◌+◌, ◌-◌, ◌*◌, ◌/◌, ◌%◌, ◌^◌, ◌<◌, refl, sym, ap, ◌∙◌, arith}
+use Rattle.std.proofs.Math.Nat.{mul_assoc, pow-suc, mod-eq_of_lt, mod-lt, add-mul-mod_self_left}
 use Rattle.lapd_terminal.specs.Numbers.{next_number, NoneComesAgain, AllComeAgain}
 unfoldable use Rattle.lapd_terminal.specs.Numbers.{number_after}
 

@@ -1,11 +1,9 @@
 -- What each row of the table keeps.
-use Rattle.lapd_terminal.proofs.Vocabulary.{◌≡◌, ℕ, ◌+◌, ◌≤◌, Bool, true, false, cond, List, [], Option, Some, None, refl, sym, subst, ◌∙◌, arith, option_map, Places, is_on, place_of, free_place, set, freed, left, IsSoundTable, fold, Terminal, Procedure, Asking, Verifying, IsSound, is_verified, may_verify}
+use Rattle.lapd_terminal.proofs.Vocabulary.{◌≡◌, ℕ, ◌+◌, ◌≤◌, true, false, cond, [], Option, Some, None, refl, sym, subst, arith, option_map, Places, is_on, place_of, free_place, set, freed, left, fold, Terminal, Procedure, IsSound, is_verified}
 use Rattle.lapd_tei.proofs.Tables.{free_place-is, place_of-is}
 use Rattle.lapd_tei.specs.Laws.{Moves}
-use Rattle.lapd_tei.specs.declared.outcome.Change.{Change}
 use Rattle.lapd_tei.specs.declared.outcome.Change.TheVariants.{Gained}
-use Rattle.lapd_terminal.specs.Words.{Course, begun, ◌then◌, end_procedure, nothing_happens, leave, note}
-use Rattle.lapd_terminal.specs.Machine.{Removed}
+use Rattle.lapd_terminal.specs.Words.{Course, begun, ◌then◌, end_procedure, nothing_happens, leave}
 use Rattle.lapd_terminal.specs.Rows.{answered, end_if_any, withdraw_all, removed, take_off}
 use Rattle.lapd_terminal.specs.Events.{Event}
 use Rattle.lapd_terminal.specs.Laws.{IsInRange}

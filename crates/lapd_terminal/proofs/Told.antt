@@ -1,10 +1,9 @@
 -- What each row of the table tells: orders follow the procedure, and no TEI comes by itself.
-use Rattle.lapd_terminal.proofs.Vocabulary.{◌≡◌, ℕ, Bool, true, false, cond, is_some, List, Option, Some, None, refl, sym, subst, ap, ◌∙◌, arith, false≢true, fold, inl, inr, option_map, place_of, left, Terminal, Procedure, Asking, Verifying, is_verified, nat_lt, ◌+◌}
+use Rattle.lapd_terminal.proofs.Vocabulary.{◌≡◌, ℕ, true, false, cond, is_some, List, Option, Some, None, refl, sym, subst, ap, ◌∙◌, false≢true, fold, inl, inr, option_map, place_of, left, Terminal, Procedure, Asking, Verifying, is_verified, nat_lt, ◌+◌}
 use Rattle.lapd_terminal.proofs.SoundWords.{same_itself}
-use Rattle.lapd_tei.specs.declared.outcome.Change.{Change}
 use Rattle.lapd_terminal.specs.Words.{Course, begun, ◌then◌, end_procedure, nothing_happens, unserved, leave, note, ask, verify}
 use Rattle.lapd_terminal.specs.Rows.{answered, end_if_any, expire_procedure, give_up_asking, withdraw_all, removed, take_off}
-use Rattle.lapd_terminal.specs.Events.{Event, expiry}
+use Rattle.lapd_terminal.specs.Events.{Event}
 use Rattle.lapd_terminal.specs.Machine.{Removed}
 use Rattle.lapd_terminal.specs.Laws.{Follows, IsGiven, T202Follows, ExpiredT202Follows, UnservedChangesNothing, NoneIsTaken}
 use Rattle.lapd_terminal.proofs.Walk.{OfEvents, of_event}

@@ -1,5 +1,5 @@
 -- Every event ends in one of a few ways: the rows of the table are walked once, for any claim.
-use Rattle.lapd_terminal.proofs.Vocabulary.{◌≡◌, ℕ, ◌+◌, ◌<◌, ◌≤◌, ◌==◌, ◌&&◌, nat_le, nat_lt, Bool, true, false, not, cond, is_some, List, [], ◌∷◌, length, All, Option, Some, None, refl, sym, subst, ap, ◌∙◌, arith, nat_tests, none-some, false≢true, same_number, fold, is_on, free_place, Terminal, Procedure, Asking, Verifying, may_ask, may_verify, is_verified, named}
+use Rattle.lapd_terminal.proofs.Vocabulary.{◌≡◌, ℕ, ◌+◌, ◌≤◌, ◌==◌, ◌&&◌, nat_le, nat_lt, Bool, true, false, not, cond, is_some, List, [], ◌∷◌, length, All, Option, Some, None, refl, sym, subst, ap, arith, nat_tests, none-some, false≢true, same_number, fold, is_on, free_place, Terminal, Procedure, Asking, Verifying, may_ask, may_verify, named}
 use Rattle.lapd_terminal.proofs.SoundWords.{named_on, named_few}
 use Rattle.lapd_frame.specs.declared.refusals.Refusal.{Refusal}
 use Rattle.lapd_frame.specs.declared.refusals.Refusal.TheVariants.{NoLink, TeiTaken, TableFull, CheckRunning}

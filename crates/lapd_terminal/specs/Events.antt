@@ -1,5 +1,5 @@
 -- The events of TEI management of a terminal, which requests are refused, and what each event leaves and tells.
-use Rattle.std.specs.Prelude.{ℕ, Bool, not, List, drop, slice_get, Option, Some, None, is_some, option_map}
+use Rattle.std.specs.Prelude.{ℕ, not, List, drop, slice_get, Option, Some, None, is_some, option_map}
 use Rattle.lapd_frame.specs.declared.refusals.Refusal.{Refusal}
 use Rattle.lapd_frame.specs.declared.refusals.Refusal.TheVariants.{NoLink, TeiTaken, TableFull, CheckRunning}
 use Rattle.lapd_tei.specs.Events.{refusal_if}

@@ -6,8 +6,9 @@ use Rattle.lapd_tei.specs.declared.outcome.Change.{Change}
 use Rattle.lapd_tei.specs.declared.outcome.Change.TheVariants.{Gained, Left}
 use Rattle.lapd_terminal.specs.Messages.{Message, IdentityRequest, IdentityCheckResponse, IdentityVerify, IdentityAssigned, heard_in}
 use Rattle.lapd_terminal.specs.Numbers.{number_after}
-use Rattle.lapd_terminal.specs.Machine.{Terminal, Procedure, Asking, T202Order, Start, Stop, fresh, nothing}
+use Rattle.lapd_terminal.specs.Machine.{Terminal, Asking, T202Order, Start, Stop, fresh, nothing}
 use Rattle.lapd_terminal.specs.Events.{Event, message, expiry, ask, verify, assign, remove, down, after, told, after_offer}
+use Rattle.lapd_tei.specs.Sound.{IsAt}
 use Rattle.lapd_terminal.specs.Sound.{IsSound}
 use Rattle.lapd_terminal.specs.Words.{stop_of}
 
@@ -66,6 +67,19 @@ IsGiven e m (Some (Gained tei place)) =
 
 abbrev pub NoneIsTaken : Type 0
 NoneIsTaken = (e : Event) (m : Terminal) → IsGiven e m (told e m).change
+
+-- So each TEI at a place of a line was given in the run that led there, from a fresh line on.
+abbrev pub Gives : Act → Terminal → ℕ → ℕ → Type 0
+Gives (event e) m tei place = IsGiven e m (Some (Gained tei place))
+Gives pull m tei place = ⊥
+
+abbrev pub WasGiven : List Act → Terminal → ℕ → ℕ → Type 0
+WasGiven [] m tei place = ⊥
+WasGiven (act ∷ acts) m tei place = Gives act m tei place ⊎ WasGiven acts (after_act act m) tei place
+
+abbrev pub EachWasGiven : Type 0
+EachWasGiven = (terminals seed : ℕ) (acts : List Act) (tei place : ℕ) → terminals ≤ 8 → seed < 65536 → AreInRange acts
+    → IsAt (after_acts acts (fresh terminals seed)).places place tei → WasGiven acts (fresh terminals seed) tei place
 
 -- T202 runs while a procedure does, and orders say so to a caller: after a Start one runs, after a Stop none does, and
 -- without an order one runs if it ran before.

@@ -1,5 +1,5 @@
 -- TEI management of one line of a terminal: its state, and what is told of an event (Q.921 clause 5.3).
-use Rattle.std.specs.Prelude.{ℕ, ◌+◌, ◌*◌, Bool, false, List, [], length, replicate, Option, None}
+use Rattle.std.specs.Prelude.{ℕ, ◌*◌, Bool, false, List, [], length, replicate, Option, None}
 use Rattle.lapd_tei.specs.declared.outcome.Change.{Change}
 use Rattle.lapd_tei.specs.Table.{Places, place_of}
 use Rattle.lapd_terminal.specs.Messages.{Message}
@@ -22,8 +22,8 @@ pub record Terminal : Type 0 where
 abbrev pub fresh : ℕ → ℕ → Terminal
 fresh terminals seed = record { places = replicate terminals None; number = seed; procedure = None; waiting = [] }
 
--- How often a TEI is asked for (N202, clause 5.9.5; the number is profile), and how often a verify is sent (clause
--- 5.3.5).
+-- How often a TEI is asked for (N202, clause 5.9.4; that it is constant is profile), and how often a verify is sent
+-- (clause 5.3.5).
 abbrev pub most_requests : ℕ
 most_requests = 3
 

@@ -1,9 +1,9 @@
 -- The table of TEI management of a terminal (Q.921 clause 5.3): one equation for each row.
-use Rattle.std.specs.Prelude.{ℕ, ◌+◌, Bool, false, not, ◌&&◌, ◌==◌, nat_le, nat_lt, List, [], ◌∷◌, Option, Some, None, is_some, if◌then◌else◌}
+use Rattle.std.specs.Prelude.{ℕ, ◌+◌, Bool, not, ◌&&◌, ◌==◌, nat_le, nat_lt, List, [], ◌∷◌, Option, Some, None, if◌then◌else◌}
 use Rattle.std.specs.List.{filter_map, fold}
 use Rattle.lapd_tei.specs.Table.{Places, is_on, free_place}
 use Rattle.lapd_terminal.specs.Messages.{Heard, IdentityAssigned, IdentityDenied, IdentityCheckRequest, IdentityRemove}
-use Rattle.lapd_terminal.specs.Machine.{Terminal, most_requests, most_verifies, Procedure, Asking, Verifying, Assigned, Removed, Denied, Unassigned, RemoveAll}
+use Rattle.lapd_terminal.specs.Machine.{most_requests, most_verifies, Procedure, Asking, Verifying, Assigned, Removed, Denied, Unassigned, RemoveAll}
 use Rattle.lapd_terminal.specs.Words.{Course, Step, ◌then◌, nothing_happens, note, unserved, ask, verify, end_procedure, end_verifying_of, respond, join, leave}
 
 -- A TEI is assigned to the terminal, which has asked for one by this reference number (clause 5.3.2): one that the

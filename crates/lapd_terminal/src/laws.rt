@@ -1,6 +1,6 @@
 //! What holds of the table of TEI management of a terminal itself.
 
-ghost use Rattle.lapd_terminal.specs.Laws.{IsSoundThroughout, RoomIsEnough, ChangesAreTold, NoneIsTaken, T202Follows, ExpiredT202Follows, NumbersGoOn, UnservedChangesNothing, DownGivesUp};
+ghost use Rattle.lapd_terminal.specs.Laws.{IsSoundThroughout, RoomIsEnough, ChangesAreTold, NoneIsTaken, EachWasGiven, T202Follows, ExpiredT202Follows, NumbersGoOn, UnservedChangesNothing, DownGivesUp};
 ghost use Rattle.lapd_terminal.specs.Numbers.{NoneComesAgain, AllComeAgain};
 
 /// From a fresh line of at most eight places on, after any events and pulls whose requests put on the line TEIs of at
@@ -14,11 +14,12 @@ pub fn no_message_is_lost()
 {}
 
 /// The change that is told of an event is the change of the table. And no TEI is taken by itself: one comes to the line
-/// by a request, or by an assignment with the reference number that is outstanding. A law about the definitions in
-/// `specs/`; the call does nothing.
+/// by a request, or by an assignment with the reference number that is outstanding. So each TEI of a line was given in
+/// the run that led there. A law about the definitions in `specs/`; the call does nothing.
 pub fn no_tei_is_taken()
     ensures told { ChangesAreTold }
     ensures given { NoneIsTaken }
+    ensures each { EachWasGiven }
 {}
 
 /// T202 runs while a procedure does, and a caller that obeys the orders runs it then, and only then. A law about the

@@ -19,7 +19,7 @@ pub enum News {
     RemoveAll,
 }
 
-/// What is to be done with T202 (clauses 5.9.4 and 5.9.7).
+/// What is to be done with T202 (clause 5.9.7).
 #[derive(Clone, Copy, PartialEq, Eq, Debug)]
 pub enum T202Order {
     /// Start it; if it runs, start it anew.

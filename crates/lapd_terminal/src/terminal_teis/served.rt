@@ -19,7 +19,7 @@ const LOWEST: u8 = 64;
 
 const HIGHEST: u8 = 126;
 
-// How often a TEI is asked for (N202), and how often a verify is sent (clause 5.3.5).
+// How often a TEI is asked for (N202, clause 5.9.4), and how often a verify is sent (clause 5.3.5).
 const MOST_REQUESTS: u8 = 3;
 
 const MOST_VERIFIES: u8 = 2;

@@ -1,5 +1,5 @@
 -- Hand-written answers for `TerminalTeis::start`.
-use Rattle.lapd_terminal.proofs.Vocabulary.{◌≡◌, List, [], Places, Message, Terminal, None, IsSound, replicate, sym, subst}
+use Rattle.lapd_terminal.proofs.Vocabulary.{List, [], Places, Message, None, IsSound, sym, subst}
 use Rattle.lapd_terminal.proofs.SoundWords.{sound_fresh}
 use Rattle.lapd_terminal.proofs.terminal_teis.TerminalTeis.start.Goals as goal
 

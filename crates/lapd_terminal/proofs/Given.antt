@@ -1,10 +1,10 @@
 -- Each TEI at a place of a line was given in the run that led there.
-use Rattle.lapd_terminal.proofs.Vocabulary.{◌≡◌, ℕ, ◌+◌, ◌<◌, ◌≤◌, ◌==◌, ◌⊎◌, inl, inr, Bool, true, false, List, [], ◌∷◌, length, get_or, set, Option, Some, None, refl, sym, subst, ap, ◌∙◌, arith, nat_tests, none-some, same_Some, same_number, get_or-set_same, get_or-set_other, replicate, zero, suc, Places, Terminal, IsAt, IsSound, fresh}
+use Rattle.lapd_terminal.proofs.Vocabulary.{◌≡◌, ℕ, ◌<◌, ◌==◌, ◌⊎◌, inl, inr, true, false, List, [], ◌∷◌, length, set, Option, Some, None, refl, sym, subst, ◌∙◌, arith, nat_tests, none-some, same_Some, same_number, get_or-set_same, get_or-set_other, replicate, zero, suc, Places, Terminal, IsAt, IsSound, fresh}
 use Rattle.lapd_tei.specs.Laws.{Moves}
 use Rattle.lapd_tei.specs.declared.outcome.Change.{Change}
 use Rattle.lapd_tei.specs.declared.outcome.Change.TheVariants.{Gained, Left}
 use Rattle.lapd_terminal.specs.Events.{Event, after, after_offer, told}
-use Rattle.lapd_terminal.specs.Laws.{IsInRange, IsGiven, Act, event, pull, AreInRange, after_acts, WasGiven, EachWasGiven}
+use Rattle.lapd_terminal.specs.Laws.{IsGiven, Act, event, pull, AreInRange, after_acts, WasGiven, EachWasGiven}
 use Rattle.lapd_terminal.proofs.SoundWords.{sound_fresh, sound_rest}
 use Rattle.lapd_terminal.proofs.Served.{leads}
 use Rattle.lapd_terminal.proofs.Told.{none_is_taken}

@@ -224,20 +224,12 @@ impl CardTimers {
     {
         match timer {
             Timer::T200(service, tei) => {
-                Some(slot(
-                    self.terminals,
-                    line,
-                    self.link(card, line, service, tei)?,
-                    0,
-                ))
+                let number = self.link(card, line, service, tei)?;
+                Some(slot(self.terminals, line, number, 0))
             }
             Timer::T203(service, tei) => {
-                Some(slot(
-                    self.terminals,
-                    line,
-                    self.link(card, line, service, tei)?,
-                    1,
-                ))
+                let number = self.link(card, line, service, tei)?;
+                Some(slot(self.terminals, line, number, 1))
             }
             Timer::T201 => Some(slot(self.terminals, line, 2 * self.terminals, 0)),
         }

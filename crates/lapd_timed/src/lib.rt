@@ -1,8 +1,8 @@
 //! The timers of a card that keeps its own: what the card orders is carried out in places of their own, at the moment that it is
 //! told, and it is told what falls due.
 //!
-//! [`CardTimers`] stands beside a card of either kind, and uses its card of frames. Its owner tells it the moment, hands what is due
-//! to the card, and after each event has it obey what the answer orders:
+//! [`CardTimers`] stands beside a card of either kind, and uses its card of frames. Its owner tells it the moment, and hands
+//! what is due to the card. After each event it obeys what the answer orders:
 //!
 //! ```text
 //! let mut timers = CardTimers::start(alloc, card.lines(), terminals, Lengths::standard())?;
@@ -17,9 +17,9 @@
 //! }
 //! ```
 //!
-//! Each timer that may run at a time has a place, which its line and the place of its TEI on the line tell, so none is ever missing.
-//! `model_timed` has the machine of such a card. That its timers are true, and are those that the lines run, are laws there, and
-//! the contracts of each call say that the timers stand for its clock (`specs/Stands`).
+//! Each timer that may run at a time has a place, which its line and the place of its TEI on the line tell, so none is ever
+//! missing. `model_timed` has the machine of such a card. That its timers are true, and are those that the lines run, are laws
+//! there. The contracts of each call say that the timers stand for its clock (`specs/Stands`).
 //!
 //! - `card_timers`: `CardTimers`.
 #![tactic(auto)]

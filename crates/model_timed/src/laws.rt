@@ -5,17 +5,18 @@ ghost use Rattle.model_timed.specs.Octets.{octets};
 ghost use Rattle.model_timed.specs.RunTheSame.{OctetTimersRunTheSame, TimersRunTheSame};
 ghost use Rattle.model_timed.specs.TimersAreTrue.{TimersAreTrue};
 
-/// After any steps of a card of either kind that are prompt to so many milliseconds, each timer that is due was started, and neither
-/// stopped nor expired since, and its length has passed since then, and no more than so many milliseconds besides; so if they are
-/// prompt to the millisecond, each expiry comes exactly its length after the last start. And none is passed over.
+/// Timers are true. After any steps of a card of either kind that are prompt to so many milliseconds, each timer that is due was
+/// started, and neither stopped nor expired since; its length has passed since then, and at most so many milliseconds more. So
+/// if the steps are prompt to the millisecond, each expiry comes exactly its length after the last start. And none is passed
+/// over.
 #[tactic(auto, using(crate::proofs::True::timers_are_true))]
 pub fn timers_are_true()
     ensures frames { TimersAreTrue frames }
     ensures octets { TimersAreTrue octets }
 {}
 
-/// The timers that run at the clock of a card are those that its lines run, after any steps that may happen. So each expiry is one
-/// of a timer that its line waits for.
+/// The timers that run at the clock of a card are those that its lines run, after any steps that may happen. So each expiry is
+/// one of a timer that its line waits for.
 #[tactic(auto, using(crate::proofs::RunTheSame::timers_run_the_same, crate::proofs::RunTheSame::octet_timers_run_the_same))]
 pub fn timers_run_the_same()
     ensures frames { TimersRunTheSame }

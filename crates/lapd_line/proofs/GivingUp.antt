@@ -1,6 +1,5 @@
 -- What waits and is of no link is given up: unit data, and what TEI management has going.
-use Rattle.lapd_line.proofs.Vocabulary.{◌≡◌, ℕ, ◌≤◌, List, [], length, drop, slice_get, None, ap, subst, ◌∙◌, arith, drop_all, none-some, Owned, Store, SameLimits, Line, UnitData, at_management, at_no_link, of_management, without_units, LinkLayer, BareReport, LayerStands, Serves, always}
-use Rattle.lapd_tei.specs.Events.{down}
+use Rattle.lapd_line.proofs.Vocabulary.{◌≡◌, ℕ, ◌≤◌, List, [], length, drop, slice_get, None, ap, subst, ◌∙◌, arith, drop_all, none-some, Owned, Store, SameLimits, Line, UnitData, at_management, at_no_link, of_management, without_units, LinkLayer, BareReport, LayerStands, Serves, always, down}
 use Rattle.lapd_line.proofs.PullTakesUnits.{none_for}
 use Rattle.lapd_line.proofs.UnitSteps.{waiting}
 

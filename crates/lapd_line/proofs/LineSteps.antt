@@ -1,11 +1,9 @@
 -- What a call on the entities of a line does to the line.
-use Rattle.lapd_line.proofs.Vocabulary.{◌≡◌, fold-append, List, [], ◌++◌, Option, Some, None, refl, sym, ap, ◌∙◌, subst, false≢true, Cause, Timer, Owned, Store, SameLimits, Config, Event, told, dropped, hears, expiry, aim_of_expiry, after, answer, IsSome, Counters, More, with_all, heard_shown, shown, answer_shown, told_shown, FrameLine, LinkLayer, BareReport, Serves, aim_of_event, told_beside, told_in, Leads, LeadsIfHeard, answer_if_heard, config_of, with_counted, bare_shown}
+use Rattle.lapd_line.proofs.Vocabulary.{◌≡◌, fold-append, List, [], ◌++◌, Option, Some, None, refl, sym, ap, ◌∙◌, subst, false≢true, Cause, Timer, Owned, Store, SameLimits, Config, Event, told, dropped, hears, expiry, aim_of_expiry, after, answer, IsSome, Counters, More, with_all, heard_shown, shown, answer_shown, told_shown, FrameLine, LinkLayer, BareReport, Serves, aim_of_event, told_beside}
+use Rattle.lapd_line.proofs.Vocabulary.{told_in, Leads, LeadsIfHeard, answer_if_heard, config_of, with_counted, bare_shown, with_more, LayerStands, LineStands}
 use Rattle.model_bits.specs.Stream as stream
-use Rattle.lapd_count.specs.Counters.{with_more}
 use Rattle.model_line.specs.Line as machine
-use Rattle.lapd_line.specs.LinkLayer.{LayerStands}
 use Rattle.lapd_line.specs.Reports.{octets_of}
-use Rattle.lapd_line.specs.Stands.{LineStands}
 use Rattle.lapd_line.proofs.Silent.{expiry_silent, silent_told}
 
 -- what was counted is no matter for what a line stands for

@@ -1,6 +1,6 @@
 -- What a call on one link does to all of them: it is taken out of the list, and put back.
-use Rattle.lapd_line.proofs.Vocabulary.{◌≡◌, ℕ, ◌<◌, ◌≤◌, List, length, get_or, set, option_map, Result, OnOk, None, refl, sym, ap, subst, ◌∙◌, arith, Option, Bool, length-map, length-set, get_or_default, map-set_same, slice_get-map, slice_get-get_or, same_Some, Owned, Store, SameLimits, FocusPair, focus_pair, Link, Offer, BareReport, terms_of, told_with, Terms, offer, Service, Config, terms, window, LinkFits, LinksStand, HasTerms, machine_at, link_pairs, terms_in, IsGiven, Offers, Refuses, Refusal, GoesOn}
-use Rattle.lapd_link.specs.Stands.{LinkStands}
+use Rattle.lapd_line.proofs.Vocabulary.{◌≡◌, ℕ, ◌<◌, ◌≤◌, List, length, get_or, set, option_map, Result, OnOk, None, refl, sym, ap, subst, ◌∙◌, arith, Option, Bool, length-map, length-set, get_or_default, map-set_same, slice_get-map, slice_get-get_or, same_Some, Owned, Store, SameLimits, FocusPair, focus_pair, Link, Offer, BareReport, terms_of, told_with, Terms, offer, Service, Config, terms}
+use Rattle.lapd_line.proofs.Vocabulary.{window, LinkFits, LinksStand, HasTerms, machine_at, link_pairs, terms_in, IsGiven, Offers, Refuses, Refusal, GoesOn, LinkStands}
 use Rattle.model_link.specs.Events.{Event, Request}
 use Rattle.model_link.specs.Requests.{refusal}
 use Rattle.model_link.specs.Link as machine

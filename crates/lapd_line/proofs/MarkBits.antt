@@ -1,8 +1,5 @@
 -- The bits of marks.
-use Rattle.lapd_line.proofs.Vocabulary.{◌≡◌, ◌≢◌, ℕ, ◌+◌, ◌-◌, ◌/◌, ◌^◌, ◌≤◌, ◌<◌, ap, ◌∙◌, arith, shr-shr, div-le_self, bit_at-zero, bit_at-trailing_zeros, bit_at, trailing_zeros, NoneFrom, IsLowestFrom, digit, true, false, eqb-true, not, ◌==◌, refl, inl, inr, bit_at_above, Marks, Option, Some}
-use Rattle.std.specs.Prelude.{MatchOption}
-use Rattle.std.proofs.lemmas.Bool.{cases_lt}
-use Rattle.lapd_line.specs.Rounds.{IsFirstAround}
+use Rattle.lapd_line.proofs.Vocabulary.{◌≡◌, ◌≢◌, ℕ, ◌+◌, ◌-◌, ◌/◌, ◌^◌, ◌≤◌, ◌<◌, ap, ◌∙◌, arith, shr-shr, div-le_self, bit_at-zero, bit_at-trailing_zeros, bit_at, trailing_zeros, NoneFrom, IsLowestFrom, digit, true, false, eqb-true, not, ◌==◌, refl, inl, inr, bit_at_above, Marks, Option, Some, MatchOption, cases_lt, IsFirstAround}
 use Rattle.std.specs.Int.{w64}
 
 -- a bit is 1 exactly where it is a mark

@@ -1,16 +1,8 @@
 -- Which message of TEI management a frame has that is taken.
-use Rattle.lapd_line.proofs.Vocabulary.{◌≡◌, ℕ, Bool, true, false, List, [], ◌∷◌, ◌++◌, get_or, Option, Some, None, option_map, option_map_or, option_or, slice_get, refl, sym, ap, ◌∙◌, subst, cond, head_of, head_shown, begun_shown, message_shown, type_shown, has_message, type_of, Side, Network, User, Service, Call, Packet, Control, Ui, unwrap_or, spelling, sapi_of, Config, Taken, taken}
-use Rattle.std.proofs.lemmas.Option.{none-some, same_Some}
-use Rattle.lapd_count.specs.Counters.{More}
-use Rattle.lapd_count.specs.declared.counter.Way.TheVariants.{Begun}
-use Rattle.model_bits.specs.declared.heads.Head.{Head}
+use Rattle.lapd_line.proofs.Vocabulary.{◌≡◌, ℕ, Bool, true, false, List, [], ◌∷◌, ◌++◌, get_or, Option, Some, None, option_map, option_map_or, option_or, slice_get, refl, sym, ap, ◌∙◌, subst, cond, head_of, head_shown, begun_shown, message_shown, type_shown, has_message, type_of, Side, Network, User, Service, Call, Packet, Control, Ui, unwrap_or, spelling, sapi_of, Config, Taken, taken, none-some}
+use Rattle.lapd_line.proofs.Vocabulary.{same_Some, More, Begun, Head, Message, IdentityAssigned, IdentityDenied, IdentityCheckRequest, IdentityRemove, Line, UnitData, terms_at, link_at, unit_taken, link_taken, first_taken, with_message, with_unit, with_given_frame, round, Given}
 use Rattle.lapd_tei.specs.Messages.{frame_of}
-use Rattle.lapd_tei.specs.declared.messages.Message.{Message}
-use Rattle.lapd_tei.specs.declared.messages.Message.TheVariants.{IdentityAssigned, IdentityDenied, IdentityCheckRequest, IdentityRemove}
-use Rattle.model_line.specs.Line.{Line, UnitData, terms_at, link_at}
-use Rattle.model_line.specs.Taken.{unit_taken, link_taken, first_taken, with_message, with_unit, with_given_frame, round}
 use Rattle.model_link.specs.Machine as links
-use Rattle.model_link.specs.Told.{Given}
 
 -- What a message shows, if there is one.
 abbrev pub type_counted : Option ℕ → List More

@@ -1,9 +1,6 @@
 -- Whether a frame waits.
-use Rattle.lapd_line.proofs.Vocabulary.{◌≡◌, ℕ, zero, suc, ◌+◌, ◌-◌, ◌<◌, ◌≤◌, Bool, true, false, ◌||◌, List, [], ◌∷◌, slice_get, Option, Some, None, is_some, option_map, option_or, option_map_or, refl, sym, ap, ◌∙◌, arith, false≢true, inl, inr, cases_eq, same_Some, length-map, Side, Owned, Store, Terms, Given, given, terms_of, Config, Line, UnitData, link_at, link_count, terms_at, Taken, link_taken, first_taken, round, with_given_frame, LinkLayer, IsMark, AreMarked, gives, gives_at, machine_at, terms_in, LayerStands, AreFor, QueuedUnit}
-use Rattle.std.proofs.lemmas.Bool.{cases_lt}
-use Rattle.std.proofs.lemmas.Option.{slice_get_within}
-use Rattle.lapd_tei.specs.Events.{offered}
-use Rattle.lapd_line.specs.Waiting.{has_next}
+use Rattle.lapd_line.proofs.Vocabulary.{◌≡◌, ℕ, zero, suc, ◌+◌, ◌-◌, ◌<◌, ◌≤◌, Bool, true, false, ◌||◌, List, [], ◌∷◌, slice_get, Option, Some, None, is_some, option_map, option_or, option_map_or, refl, sym, ap, ◌∙◌, arith, false≢true, inl, inr, cases_eq, same_Some, length-map, Side, Owned, Store, Terms, Given, given, terms_of, Config, Line, UnitData, link_at, link_count, terms_at, Taken}
+use Rattle.lapd_line.proofs.Vocabulary.{link_taken, first_taken, round, with_given_frame, LinkLayer, IsMark, AreMarked, gives, gives_at, machine_at, terms_in, LayerStands, AreFor, QueuedUnit, cases_lt, slice_get_within, offered, has_next}
 use Rattle.lapd_line.proofs.AwakeSteps.{awake_gives, marked}
 use Rattle.lapd_line.proofs.PullTakesLinks.{Known, known, low_link, among, none_of, asleep_gives_nothing, round_is}
 

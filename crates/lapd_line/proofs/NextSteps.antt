@@ -1,14 +1,10 @@
 -- What a call for the next frame does to a line.
-use Rattle.lapd_line.proofs.Vocabulary.{◌≡◌, ℕ, ◌+◌, ◌≤◌, false, List, [], ◌++◌, length, take, drop, take-append_seam, Option, Some, None, IfSome, is_some, option_map, refl, sym, ap, ◌∙◌, subst, arith, option_map_or, Counters, More, with_all, begun_shown, message_shown, type_of, slice_get, listed, ShortList, Order, Owned, Store, Config, next, gave, after, answer, Taken, taken, next_of, line_of, TakesSoundly, taken_sound, answer_shown, FrameLine, LinkLayer, IsNext, Loading, in_octets, Took, Takes, TakesNext, Leads, config_of, gave_in}
-use Rattle.std.proofs.Common.{length-append}
-use Rattle.std.proofs.lemmas.Slice.{drop-append-drop}
+use Rattle.lapd_line.proofs.Vocabulary.{◌≡◌, ℕ, ◌+◌, ◌≤◌, false, List, [], ◌++◌, length, take, drop, take-append_seam, Option, Some, None, IfSome, is_some, option_map, refl, sym, ap, ◌∙◌, subst, arith, option_map_or, Counters, More, with_all, begun_shown, message_shown, type_of, slice_get, listed, ShortList, Order, Owned, Store, Config, next, gave, after, answer, Taken, taken, next_of, line_of}
+use Rattle.lapd_line.proofs.Vocabulary.{TakesSoundly, taken_sound, answer_shown, FrameLine, LinkLayer, IsNext, Loading, in_octets, Took, Takes, TakesNext, Leads, config_of, gave_in, length-append, drop-append-drop, has_next, LineStands, Begun}
 use Rattle.model_line.specs.Event as line_event
 use Rattle.model_line.specs.Line as machine
-use Rattle.lapd_line.specs.Waiting.{has_next}
-use Rattle.lapd_line.specs.Stands.{LineStands}
 use Rattle.lapd_line.proofs.LineSteps.{recounted}
 use Rattle.lapd_line.proofs.MessageSteps.{message_is, type_counted}
-use Rattle.lapd_count.specs.declared.counter.Way.TheVariants.{Begun}
 
 -- the entities have taken it
 pub next_taken : {old : FrameLine} {s : Store} {e : LinkLayer} {t : Store} {f g : Loading} {orders : Option (List Order)}

@@ -1,17 +1,13 @@
 -- What an event does to a line and its port.
-use Rattle.lapd_line.proofs.Vocabulary.{arith, ◌≡◌, ℕ, ◌<◌, Bool, true, false, List, [], ◌∷◌, ◌++◌, length, Option, Some, None, is_some, option_map, refl, sym, ap, ◌∙◌, subst, cond, lt-ltb, option_map_or, IsSome, Owned, Store, SameLimits, ShortList, Order, Timer, Config, Counters, hears, next, expiry, LineTold, counted, taken, drop_costs_nothing, may_send, FrameLine, Leads, LeadsIfHeard, config_of, orders_taken, IsLoaded, IsSaid, PortStands, Pulls, with_frame, OctetsLead, OctetsStand, octets_config}
+use Rattle.lapd_line.proofs.Vocabulary.{arith, ◌≡◌, ℕ, ◌<◌, Bool, true, false, List, [], ◌∷◌, ◌++◌, length, Option, Some, None, is_some, option_map, refl, sym, ap, ◌∙◌, subst, cond, lt-ltb, option_map_or, IsSome, Owned, Store, SameLimits, ShortList, Order, Timer, Config, Counters, hears, next, expiry, LineTold, counted, taken, drop_costs_nothing, may_send, FrameLine, Leads, LeadsIfHeard}
+use Rattle.lapd_line.proofs.Vocabulary.{config_of, orders_taken, IsLoaded, IsSaid, PortStands, Pulls, with_frame, OctetsLead, OctetsStand, octets_config, gained, is_due, frame_begun, pull, pulled_of, LineStands, Port, Pulled}
 use Rattle.model_bits.specs.Stream as stream
 use Rattle.model_line.specs.Event as line
 use Rattle.model_line.specs.Line as lines
 unfoldable use Rattle.model_line.specs.Machine.{after as line_after, answer as line_answer}
 use Rattle.model_card.specs.ports.Line.{OctetLine, said, after, answer}
 use Rattle.model_card.specs.ports.Port as port
-use Rattle.model_card.specs.ports.Port.{gained, is_due, frame_begun, pull}
-use Rattle.lapd_line.specs.Reports.{pulled_of}
-use Rattle.lapd_line.specs.Stands.{LineStands}
 use Rattle.lapd_line.specs.declared.line.Line.{Line}
-use Rattle.lapd_line.specs.declared.port.Port.{Port}
-use Rattle.lapd_line.specs.declared.pulled.Pulled.{Pulled}
 use Rattle.lapd_line.proofs.NextSteps.{none_next, none_given}
 use Rattle.lapd_line.proofs.PortSteps.{due_is, port_text}
 

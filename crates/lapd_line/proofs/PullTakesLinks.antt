@@ -1,6 +1,7 @@
 -- What a pull takes of the links.
-use Rattle.lapd_line.proofs.Vocabulary.{◌≡◌, ◌⊎◌, inl, inr, Bool, true, false, ℕ, zero, suc, ◌+◌, ◌-◌, ◌≤◌, ◌<◌, List, [], ◌∷◌, ◌++◌, length, take, drop, get_or, slice_get, Option, Some, None, option_map, IfSome, refl, ap, sym, ◌∙◌, subst, arith, none-some, slice_get_cases, slice_get-map, range_with_len, option_or, unwrap_or, Order, IsFrame, spelling, listed, Owned, Store, IsUsed, Link, Offer, contents_in, HasMessage, terms_of, Terms, frame_of, given, Given, Config, Line, link_at, link_count, place_at, service_at, tei_at, terms, terms_at, Taken, with_given_frame, link_taken, first_taken, round, IsSoundAt, fresh_gives_nothing, TakesSoundly, link_sound, ranges_of, is_some, false≢true, ShortList, orders_taken, IsMark, Sets, TellsOf, given_by, LinkLayer, LayerStands, Standing, HasTerms, IsGiven, Offers, terms_in, Loading, Loads, room_in, reference_in, IsFree, HasTaken, Took, Takes}
-use Rattle.lapd_store.specs.Store.{contents_of}
+use Rattle.lapd_line.proofs.Vocabulary.{◌≡◌, ◌⊎◌, inl, inr, Bool, true, false, ℕ, zero, suc, ◌+◌, ◌-◌, ◌≤◌, ◌<◌, List, [], ◌∷◌, ◌++◌, length, take, drop, get_or, slice_get, Option, Some, None, option_map, IfSome, refl, ap, sym, ◌∙◌, subst, arith, none-some, slice_get_cases, slice_get-map, range_with_len, option_or, unwrap_or, Order, IsFrame, spelling, listed, Owned, Store, IsUsed, Link, Offer}
+use Rattle.lapd_line.proofs.Vocabulary.{contents_in, HasMessage, terms_of, Terms, frame_of, given, Given, Config, Line, link_at, link_count, place_at, service_at, tei_at, terms, terms_at, Taken, with_given_frame, link_taken, first_taken, round, IsSoundAt, fresh_gives_nothing, TakesSoundly, link_sound, ranges_of, is_some, false≢true, ShortList, orders_taken, IsMark, Sets, TellsOf, given_by}
+use Rattle.lapd_line.proofs.Vocabulary.{LinkLayer, LayerStands, Standing, HasTerms, IsGiven, Offers, terms_in, Loading, Loads, room_in, reference_in, IsFree, HasTaken, Took, Takes, contents_of}
 use Rattle.model_link.specs.Machine.{after}
 use Rattle.lapd_line.proofs.AwakeSteps.{awake_set, awake_gives}
 use Rattle.lapd_line.proofs.LayerSteps.{beside_links, links_part, links_turned}

@@ -1,6 +1,5 @@
 -- What a take takes of the links: going round from the turn.
-use Rattle.lapd_line.proofs.Vocabulary.{◌≡◌, ℕ, ◌<◌, IfSome, IsMark, same_Some, ranges_of, true, Option, Some, None, is_some, length, refl, subst, sym, arith, false≢true, first_taken, round, link_taken, link_count, Order, ShortList, listed, Store, LinkLayer, Standing, Loading, Takes, orders_taken}
-use Rattle.lapd_line.specs.Rounds.{IsFirstAround}
+use Rattle.lapd_line.proofs.Vocabulary.{◌≡◌, ℕ, ◌<◌, IfSome, IsMark, same_Some, ranges_of, true, Option, Some, None, is_some, length, refl, subst, sym, arith, false≢true, first_taken, round, link_taken, link_count, Order, ShortList, listed, Store, LinkLayer, Standing, Loading, Takes, orders_taken, IsFirstAround}
 use Rattle.lapd_line.proofs.NextLooks.{there}
 use Rattle.lapd_line.proofs.PullTakesLinks.{passed, found_first, turn_within, round_found, round_ends}
 

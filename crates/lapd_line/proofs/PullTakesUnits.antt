@@ -1,7 +1,7 @@
 -- What a pull takes of the unit data that waits.
-use Rattle.lapd_line.proofs.Vocabulary.{◌≡◌, ℕ, ◌≤◌, ◌<◌, List, [], ◌∷◌, ◌++◌, length, drop, slice_get, Some, None, option_map, true, false, refl, ap, sym, ◌∙◌, subst, arith, length-drop, All-head, All-drop, none-some, same_Some, Ui, Service, IsFrame, spelling, sapi_of, Owned, Holds, Keeps, Store, SameLimits, IsUsed, without, Part, second_part, Keeps-used, Keeps-at, Keeps-release, Config, Line, UnitData, with_unit, unit_taken, IsUnitData, LinkLayer, QueuedUnit, LayerStands, links_pairs, AreFor, messages_of, unit_pairs, without_oldest, Loading, Loads, room_in, reference_in, HasTaken, Took, Takes}
+use Rattle.lapd_line.proofs.Vocabulary.{◌≡◌, ℕ, ◌≤◌, ◌<◌, List, [], ◌∷◌, ◌++◌, length, drop, slice_get, Some, None, option_map, true, false, refl, ap, sym, ◌∙◌, subst, arith, length-drop, All-head, All-drop, none-some, same_Some, Ui, Service, IsFrame, spelling, sapi_of, Owned, Holds, Keeps, Store, SameLimits, IsUsed, without, Part, second_part, Keeps-used, Keeps-at, Keeps-release, Config, Line}
+use Rattle.lapd_line.proofs.Vocabulary.{UnitData, with_unit, unit_taken, IsUnitData, LinkLayer, QueuedUnit, LayerStands, links_pairs, AreFor, messages_of, unit_pairs, without_oldest, Loading, Loads, room_in, reference_in, HasTaken, Took, Takes, contents_of}
 use Rattle.std.specs.Prelude.{All}
-use Rattle.lapd_store.specs.Store.{contents_of}
 use Rattle.lapd_line.specs.Units.{slots_of}
 use Rattle.lapd_line.proofs.LayerSteps.{stands_as}
 

@@ -1,10 +1,6 @@
 -- A report that tells nothing but orders.
-use Rattle.lapd_line.proofs.Vocabulary.{◌≡◌, ℕ, [], List, drop, listed, nothing, told_in, bare_shown, BareReport}
-use Rattle.std.specs.Option.{option_or}
+use Rattle.lapd_line.proofs.Vocabulary.{◌≡◌, ℕ, [], List, drop, listed, nothing, told_in, bare_shown, BareReport, option_or, told_shown, IsQuiet, unserved_cause}
 use Rattle.std.specs.Prelude.{None, Some, if◌then◌else◌}
-use Rattle.lapd_count.specs.Shown.{told_shown}
-use Rattle.lapd_link_steps.specs.Quiet.{IsQuiet}
-use Rattle.model_line.specs.Effect.{unserved_cause}
 
 -- nothing of it is counted
 pub quiet_shown : (r : BareReport) → IsQuiet r → bare_shown r ≡ []

@@ -1,9 +1,5 @@
 -- What is written into a report in which nothing is told yet.
-use Rattle.lapd_line.proofs.Vocabulary.{arith, ◌≡◌, ℕ, List, Option, Some, None, drop, ap, ◌∙◌, Cause, told_with, nothing, told_of_link, BareReport, told_in}
-use Rattle.std.specs.Option.{option_or}
-use Rattle.std.specs.Prelude.{if◌then◌else◌}
-use Rattle.model_line.specs.Effect.{unserved_cause}
-use Rattle.lapd_line.specs.Reports.{IsClear}
+use Rattle.lapd_line.proofs.Vocabulary.{arith, ◌≡◌, ℕ, List, Option, Some, None, drop, ap, ◌∙◌, Cause, told_with, nothing, told_of_link, BareReport, told_in, option_or, if◌then◌else◌, unserved_cause, IsClear}
 
 none_else : (o : Option Cause) → option_or o None ≡ o
 none_else o = grind arith

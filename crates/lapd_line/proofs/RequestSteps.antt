@@ -1,14 +1,13 @@
 -- A request of a line: what its arms say as one refusal, and what the line makes of it.
-use Rattle.lapd_line.proofs.Vocabulary.{◌≡◌, ℕ, Bool, true, false, List, [], ◌∷◌, ◌++◌, Option, Some, None, Result, IfErr, OnOk, refl, sym, ap, subst, ◌∙◌, cond, Refusal, Service, Owned, Store, Config, told, after, answer, unless_refused, unless_refused_told, Aim, of_aim, Row, first_that_holds, bad_tei, bad_tei_or_group, no_link, no_link_nor_group, wrong_state, too_long, queue_full, unit_queue_full, pool_full, refusal, Request, request_of, Establish, Release, Data, Unit, Assign, Remove, Check, SetBusy, ClearBusy, Deactivate, Down, aim_of_request, at_requested, LinkRequest, link_refusal, FrameLine, LinkLayer, BareReport, Serves, bare_shown, told_beside, answer_shown, told_shown, Leads, config_of}
+use Rattle.lapd_line.proofs.Vocabulary.{◌≡◌, ℕ, Bool, true, false, List, [], ◌∷◌, ◌++◌, Option, Some, None, Result, IfErr, OnOk, refl, sym, ap, subst, ◌∙◌, cond, Refusal, Service, Owned, Store, Config, told, after, answer, unless_refused, unless_refused_told, Aim, of_aim, Row, first_that_holds, bad_tei, bad_tei_or_group, no_link, no_link_nor_group, wrong_state, too_long, queue_full}
+use Rattle.lapd_line.proofs.Vocabulary.{unit_queue_full, pool_full, refusal, Request, request_of, Establish, Release, Data, Unit, Assign, Remove, Check, SetBusy, ClearBusy, Deactivate, Down, aim_of_request, at_requested, LinkRequest, link_refusal, FrameLine, LinkLayer, BareReport, Serves, bare_shown, told_beside, answer_shown, told_shown, Leads, config_of, LayerStands, IfErr-weaker}
 use Rattle.model_line.specs.Event as line_event
 use Rattle.model_line.specs.Line as machine
 use Rattle.model_line.specs.declared.requests.Request as asking
 use Rattle.model_link.specs.Events as link
 use Rattle.lapd_link.specs.declared.requests.LinkRequest as links
 use Rattle.lapd_link.specs.Events.{request_of as link_request_of}
-use Rattle.lapd_line.specs.LinkLayer.{LayerStands}
 use Rattle.lapd_line.proofs.LayerRequests.{establish_rows, release_rows, data_rows, set_busy_rows, clear_busy_rows}
-use Rattle.std.proofs.lemmas.Result.{IfErr-weaker}
 use Rattle.lapd_line.proofs.LinkSteps.{on_ok}
 use Rattle.lapd_line.proofs.LineSteps.{gone_on, leads_on}
 use Rattle.lapd_line.proofs.Silent.{request_silent, silent_told}

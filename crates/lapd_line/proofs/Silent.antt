@@ -1,13 +1,10 @@
 -- An expiry and a request deliver nothing.
-use Rattle.lapd_line.proofs.Vocabulary.{arith, ◌≡◌, ℕ, false, List, [], Option, Some, None, refl, ap, ◌∙◌, sym, option_or, Service, Timer, Config, Line, LineTold, of_aim, of_change, Aim, at_link, at_management, at_timer, aim_of_expiry, at_requested, at_deactivated, aim_of_request, Request, Terms, Course, link_in, terms, BareReport, told_in, told_beside}
+use Rattle.lapd_line.proofs.Vocabulary.{arith, ◌≡◌, ℕ, false, List, [], Option, Some, None, refl, ap, ◌∙◌, sym, option_or, Service, Timer, Config, Line, LineTold, of_aim, of_change, Aim, at_link, at_management, at_timer, aim_of_expiry, at_requested, at_deactivated, aim_of_request, Request, Terms, Course, link_in, terms, BareReport, told_in, told_beside, Change, LinkTimer, event_row}
 use Rattle.lapd_tei.specs.Events as teis
-use Rattle.lapd_tei.specs.declared.outcome.Change.{Change}
 use Rattle.model_link.specs.Events as link
-use Rattle.model_link.specs.declared.timers.LinkTimer.{LinkTimer}
 use Rattle.model_link.specs.Steps.{begun}
 use Rattle.model_link.specs.Words
 use Rattle.model_link.proofs.Kept.{Kept, FitsEvent, Purse}
-use Rattle.model_link.proofs.Rows.{event_row}
 
 -- nothing is delivered so far: of the words of the tables, only those of I-frames and of unit data deliver
 abbrev IsSilent : Course → Type 0

@@ -1,11 +1,10 @@
 -- What a line owns on the shelf: that it is held there, that the line may stand on another shelf that holds it, and how
 -- many slots and octets it is.
-use Rattle.lapd_line.proofs.Vocabulary.{◌≡◌, ℕ, ◌+◌, ◌≤◌, zero, suc, List, ◌++◌, length, take, get_or, refl, sym, ap, ◌∙◌, arith, length-append, length-map, take_all, fold-map, sum_by_more, sum_by, range_with_len, Owned, Holds, owned_octets, Store, slots-machines, octets-machines, owned_octets-append, length-pairs_of, owned_octets-pairs_of, Link, queue_of, Config, UnitData, slots_of, octets_of, sum_of_links, slots_by_link, octets_by_link, total_length, unit_contents, unit_length, LinkLayer, QueuedUnit, FrameLine, LinkFits, link_pairs, links_pairs, config_of, line_pairs, AreFor, unit_pairs, messages_of}
+use Rattle.lapd_line.proofs.Vocabulary.{◌≡◌, ℕ, ◌+◌, ◌≤◌, zero, suc, List, ◌++◌, length, take, get_or, refl, sym, ap, ◌∙◌, arith, length-append, length-map, take_all, fold-map, sum_by_more, sum_by, range_with_len, Owned, Holds, owned_octets, Store, slots-machines, octets-machines, owned_octets-append, length-pairs_of, owned_octets-pairs_of, Link, queue_of, Config, UnitData, slots_of, octets_of}
+use Rattle.lapd_line.proofs.Vocabulary.{sum_of_links, slots_by_link, octets_by_link, total_length, unit_contents, unit_length, LinkLayer, QueuedUnit, FrameLine, LinkFits, link_pairs, links_pairs, config_of, line_pairs, AreFor, unit_pairs, messages_of, LayerStands, LineStands}
 use Rattle.lapd_link.specs.Stands as link
 use Rattle.model_link.specs.Link as machine
 use Rattle.model_line.specs.Line as machine_line
-use Rattle.lapd_line.specs.LinkLayer.{LayerStands}
-use Rattle.lapd_line.specs.Stands.{LineStands}
 use Rattle.lapd_line.specs.Units as units
 use Rattle.lapd_line.proofs.HeldSteps.{sum_next}
 use Rattle.lapd_line.proofs.LayerSteps.{stands_as}

@@ -1,10 +1,11 @@
 -- Changes of the table, and the links that follow them.
-use Rattle.lapd_line.proofs.Vocabulary.{◌≡◌, ◌≢◌, ℕ, ◌<◌, ◌≤◌, List, [], ◌++◌, length, get_or, set, slice_get, Some, None, refl, sym, ap, subst, ◌∙◌, arith, append_assoc, ⊎_elim, cases_eq, length-map, length-set, get_or-set_same, get_or-set_other, none-some, same_Some, slice_get-set_same, slice_get-set_other, Owned, Holds, Store, Service, Call, Packet, Link, BareReport, told_with, terms_of, Gained, Left, TeiOutcome, HasJoined, HasLeft, Management, told_of, changes_are_told, Line, link_number, link_count, service_at, place_at, tei_at, terms, link_at, at_management, of_change, of_management, told_of_link, told_of_management, with_cleared, with_opened, IsSound, IsSoundAt, IsInRange, management_event_sound, place_at-number, service_at-number, number_within, ranges_of, other_place, LinkLayer, told_in, unit_pairs, Marks, Sets, AreAwake, false, LinksStand, HasTerms, links_pairs, terms_in, machine_at, LayerStands, Serves, always, IsAnswerTo, with_management, Config, Terms, listed, cleared-tells, cleared-orders, LinkTold, Changing}
+use Rattle.lapd_line.proofs.Vocabulary.{◌≡◌, ◌≢◌, ℕ, ◌<◌, ◌≤◌, List, [], ◌++◌, length, get_or, set, slice_get, Some, None, refl, sym, ap, subst, ◌∙◌, arith, append_assoc, ⊎_elim, cases_eq, length-map, length-set, get_or-set_same, get_or-set_other, none-some, same_Some, slice_get-set_same, slice_get-set_other, Owned, Holds, Store, Service, Call, Packet, Link, BareReport, told_with, terms_of}
+use Rattle.lapd_line.proofs.Vocabulary.{Gained, Left, TeiOutcome, HasJoined, HasLeft, Management, told_of, changes_are_told, Line, link_number, link_count, service_at, place_at, tei_at, terms, link_at, at_management, of_change, of_management, told_of_link, told_of_management, with_cleared, with_opened, IsSound, IsSoundAt, IsInRange, management_event_sound, place_at-number, service_at-number}
+use Rattle.lapd_line.proofs.Vocabulary.{number_within, ranges_of, other_place, LinkLayer, told_in, unit_pairs, Marks, Sets, AreAwake, false, LinksStand, HasTerms, links_pairs, terms_in, machine_at, LayerStands, Serves, always, IsAnswerTo, with_management, Config, Terms, listed, cleared-tells, cleared-orders, LinkTold, Changing, Moves}
 use Rattle.model_link.specs.Events as event
 use Rattle.model_link.specs.Link as machine
 use Rattle.model_link.specs.Machine as answers
 use Rattle.lapd_tei.specs.Events as teis
-use Rattle.lapd_tei.specs.Laws.{Moves}
 use Rattle.model_line.proofs.Numbers.{at_place}
 use Rattle.lapd_line.specs.Links as links
 use Rattle.lapd_line.proofs.AwakeSteps.{awake_begun, awake_cleared}

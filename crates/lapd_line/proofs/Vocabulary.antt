@@ -1,28 +1,29 @@
 -- The words with which the proofs of this crate speak, from where they are defined.
-pub use Rattle.std.proofs.Common.{Bool, Err, IfErr, IfSome, IsSome, List, None, Ok, OnOk, Option, Result, Some, [], ap, append_assoc, arith, cond, drop, drop-drop, eqb-true, false, get_or, inl, inr, is_some, length, length-append, length-drop, nat_le, nat_lt, not, option_map, option_to_list, refl, replicate, reverse, set, slice_get, subst, suc, sym, take, true, vec_len, w64, zero, ℕ, ⊎_elim, ◌&&◌, ◌*◌, ◌++◌, ◌+◌, ◌-◌, ◌/◌, ◌<◌, ◌==◌, ◌^◌, ◌||◌, ◌∙◌, ◌∷◌, ◌≡◌, ◌≢◌, ◌≤◌, ◌⊎◌, fold}
+pub use Rattle.std.proofs.Common.{Bool, Err, IfErr, IfSome, IsSome, List, None, Ok, OnOk, Option, Result, Some, [], ap, append_assoc, arith, cond, drop, drop-drop, eqb-true, false, get_or, inl, inr, is_some, length, length-append, length-drop, nat_le, nat_lt, not, option_map, option_to_list, refl, replicate, reverse, set, slice_get, subst, suc, sym, take, true, vec_len, w64, zero, ℕ, ⊎_elim, ◌&&◌}
+pub use Rattle.std.proofs.Common.{◌*◌, ◌++◌, ◌+◌, ◌-◌, ◌/◌, ◌<◌, ◌==◌, ◌^◌, ◌||◌, ◌∙◌, ◌∷◌, ◌≡◌, ◌≢◌, ◌≤◌, ◌⊎◌, fold}
 pub use Rattle.std.proofs.Math.ListN.{drop_of_length-le}
 pub use Rattle.std.proofs.Math.Nat.{div-le_self}
 pub use Rattle.std.proofs.Math.Seq.{map-set_same, take-append_seam}
-pub use Rattle.std.proofs.lemmas.Bool.{cases_eq, false≢true, le-ltb, leb-false, lt-ltb, ltb-false, ne_eqb}
+pub use Rattle.std.proofs.lemmas.Bool.{cases_eq, cases_lt, false≢true, le-ltb, leb-false, lt-ltb, ltb-false, ne_eqb}
 pub use Rattle.std.proofs.lemmas.List.{drop_all, get_or-replicate, get_or-set_other, get_or-set_same, get_or_default, length-map, length-set, map-append, map-set, take_all}
 pub use Rattle.std.proofs.lemmas.List.Elements.{All-append, All-cons, All-drop, All-head, All-nil, All-tail}
 pub use Rattle.std.proofs.lemmas.List.Folds.{fold-map}
 pub use Rattle.std.proofs.lemmas.List.Sums.{fold-append, sum_by-cons, sum_by_more}
 pub use Rattle.std.proofs.lemmas.Nat.{shr-shr}
 pub use Rattle.std.proofs.lemmas.Nat.Bits.{bit_at-trailing_zeros, bit_at-zero, bit_at_above, bit_at_clear_other, bit_at_clear_same, bit_at_set_other, bit_at_set_same}
-pub use Rattle.std.proofs.lemmas.Option.{none-some, same_Some, slice_get-get_or, slice_get-map, slice_get_cases}
+pub use Rattle.std.proofs.lemmas.Option.{none-some, same_Some, slice_get-get_or, slice_get-map, slice_get_cases, slice_get_within}
 pub use Rattle.std.specs.Int.{bit_at, trailing_zeros}
 pub use Rattle.std.specs.List.{All, list_any, prefix_len, range_with_len, sum_by, zip}
 pub use Rattle.std.specs.Option.{ok_or, option_map_or, option_or, unwrap_or}
-pub use Rattle.std.specs.Prelude.{vec_capacity}
+pub use Rattle.std.specs.Prelude.{MatchOption, if◌then◌else◌, vec_capacity}
 pub use Rattle.circular_buffer.proofs.Places.{slice_get-set_other, slice_get-set_same}
 pub use Rattle.lapd_bits.specs.Ended.{without_octets}
-pub use Rattle.lapd_count.specs.Counters.{More, with_all}
+pub use Rattle.lapd_count.specs.Counters.{More, with_all, with_more}
 pub use Rattle.lapd_count.specs.Messages.{has_message}
 pub use Rattle.lapd_count.specs.Shown.{begun_shown, head_shown, heard_shown, message_shown, told_shown, type_shown}
 pub use Rattle.lapd_count.specs.declared.counters.Counters.{Counters}
 pub use Rattle.lapd_frame.specs.Grammar.{IsFrame, Parts, parts_of, spelling}
-pub use Rattle.lapd_frame.specs.Reading.{long_reading}
+pub use Rattle.lapd_frame.specs.Reading.{long_reading, reading}
 pub use Rattle.lapd_frame.specs.Services.{sapi_of, service_of}
 pub use Rattle.lapd_frame.specs.ShortLists.{listed}
 pub use Rattle.lapd_frame.specs.declared.addresses.Address.{Address}
@@ -49,9 +50,9 @@ pub use Rattle.lapd_line.specs.Marks.{AreMarked, IsLowestFrom, IsMark, NoneFrom,
 pub use Rattle.lapd_line.specs.Octets.{OctetsLead, OctetsStand, octets_config}
 pub use Rattle.lapd_line.specs.Ports.{IsLoaded, IsSaid, PortStands, Pulls, latest_frame, or_latest, with_frame}
 pub use Rattle.lapd_line.specs.Pulls.{HasTaken, Takes, TakesNext, Took, orders_taken}
-pub use Rattle.lapd_line.specs.Reports.{gave_in, report_told, told_beside, told_in}
+pub use Rattle.lapd_line.specs.Reports.{IsClear, gave_in, pulled_of, report_told, told_beside, told_in}
 pub use Rattle.lapd_line.specs.Requests.{event_of, link_refusal, management_refusal}
-pub use Rattle.lapd_line.specs.Stands.{Leads, LeadsIfHeard, answer_if_heard, config_of, pairs_of as line_pairs}
+pub use Rattle.lapd_line.specs.Stands.{Leads, LeadsIfHeard, LineStands, answer_if_heard, config_of, pairs_of as line_pairs}
 pub use Rattle.lapd_line.specs.Starts.{AreBegun, IsBegun}
 pub use Rattle.lapd_line.specs.TeiChanges.{Changing, IsAnswerTo, with_management}
 pub use Rattle.lapd_line.specs.Units.{AreFor, UnitRing, empty_ring, messages_of, slot_of, unit_pairs, with_newest, without_oldest}
@@ -63,7 +64,7 @@ pub use Rattle.lapd_link_steps.specs.declared.report.BareReport.{BareReport}
 pub use Rattle.lapd_line.specs.declared.units.QueuedUnit.{QueuedUnit}
 pub use Rattle.lapd_link.specs.Events.{received_of}
 pub use Rattle.lapd_link.specs.Outcome.{HasMessage, contents_in, given_by, told_with}
-pub use Rattle.lapd_link.specs.Stands.{Fits, terms_of}
+pub use Rattle.lapd_link.specs.Stands.{Fits, LinkStands, terms_of}
 pub use Rattle.lapd_link.specs.declared.link.Link.{Link}
 pub use Rattle.lapd_link.specs.declared.offers.Offer.{Offer}
 pub use Rattle.lapd_link.specs.declared.requests.LinkRequest.{LinkRequest}
@@ -71,10 +72,10 @@ pub use Rattle.lapd_store.proofs.Focus.{FocusPair, Part, focus_pair, octets-mach
 pub use Rattle.lapd_store.proofs.Ownership.{Holds-empty, owned_octets-append}
 pub use Rattle.lapd_store.proofs.Queues.{Keeps-at, Keeps-put, Keeps-release, Keeps-used, length-pairs_of, owned_octets-pairs_of}
 pub use Rattle.lapd_store.specs.Ownership.{Holds, Keeps, Owned, owned_octets, pairs_of}
-pub use Rattle.lapd_store.specs.Store.{IsUsed, SameLimits, Store, empty_store, used_slots, with_contents, without}
+pub use Rattle.lapd_store.specs.Store.{IsUsed, SameLimits, Store, contents_of, empty_store, used_slots, with_contents, without}
 pub use Rattle.lapd_tei.proofs.LawLemmas.{changes_are_told}
 pub use Rattle.lapd_tei.proofs.Tables.{at-within, is_on-at, place_of-is}
-pub use Rattle.lapd_tei.specs.Laws.{HasJoined, HasLeft}
+pub use Rattle.lapd_tei.specs.Laws.{HasJoined, HasLeft, Moves}
 pub use Rattle.lapd_tei.specs.Machine.{Management, empty}
 pub use Rattle.lapd_tei.specs.Messages.{type_of}
 pub use Rattle.lapd_tei.specs.Outcome.{told_of}
@@ -104,15 +105,15 @@ pub use Rattle.model_line.proofs.Sides.{unit_tei}
 pub use Rattle.model_line.proofs.Starts.{expiry_starts}
 pub use Rattle.model_line.specs.Counted.{answer_shown, counted, shown}
 pub use Rattle.model_line.specs.Counts.{may_send}
-pub use Rattle.model_line.specs.Effect.{Aim, at_link, at_management, at_no_link, at_none, at_units, of_aim, of_change, of_management, told_of_link, told_of_management, with_cleared, with_opened, without_units}
-pub use Rattle.model_line.specs.Event.{Event, LineTold, dropped, expiry, nothing, hears, next, gave, told}
+pub use Rattle.model_line.specs.Effect.{Aim, at_link, at_management, at_no_link, at_none, at_units, of_aim, of_change, of_management, told_of_link, told_of_management, unserved_cause, with_cleared, with_opened, without_units}
+pub use Rattle.model_line.specs.Event.{Answer, Event, LineTold, NextFrame, dropped, expiry, gave, given_in, hears, next, nothing, told}
 pub use Rattle.model_line.specs.Expiry.{aim_of_expiry, at_timer}
 pub use Rattle.model_line.specs.Laws.{orders_in}
 pub use Rattle.model_line.specs.Line.{Line, UnitData, fresh_line, has_tei, link_at, link_count, link_in, link_number, link_of, place_at, place_in, service_at, state_in, state_of, tei_at, terms, terms_at, window, with_link}
 pub use Rattle.model_line.specs.Machine.{unless_refused, unless_refused_told}
 unfoldable pub use Rattle.model_line.specs.Machine.{after, answer}
-pub use Rattle.model_line.specs.Heard.{addressed, aim_of_long, aim_of_reading, at_place, drop_for, group_tei, message_of, to_service, unless_at_link}
-pub use Rattle.model_line.specs.Taken.{Taken, first_taken, line_of, link_taken, message_taken, next_of, round, taken, unit_taken, with_given_frame, with_unit}
+pub use Rattle.model_line.specs.Heard.{addressed, aim_of_long, aim_of_reading, at_place, drop_for, group_tei, heard_side, message_of, to_service, unless_at_link}
+pub use Rattle.model_line.specs.Taken.{Taken, first_taken, line_of, link_taken, message_taken, next_of, round, taken, unit_taken, with_given_frame, with_message, with_unit}
 pub use Rattle.model_line.specs.Refusal.{Row, bad_tei, bad_tei_or_group, first_that_holds, no_link, no_link_nor_group, pool_full, queue_full, refusal, too_long, unit_queue_full, wrong_state}
 pub use Rattle.model_line.specs.Request.{Assign, Check, ClearBusy, Data, Deactivate, Down, Establish, Release, Remove, Request, SetBusy, Unit, request_of}
 pub use Rattle.model_line.specs.Requested.{aim_of_request, at_deactivated, at_requested}
@@ -123,7 +124,7 @@ pub use Rattle.model_line.specs.Stored.{unit_contents, held_by_link, octets_by_l
 pub use Rattle.model_line.specs.declared.config.Config.{Config}
 pub use Rattle.model_card.proofs.OfPorts.TextGoesOn.{left_is, one_item, text_of}
 pub use Rattle.model_card.specs.ports.HeadHeard.{or_heard}
-pub use Rattle.model_card.specs.ports.Port.{fresh_port}
+pub use Rattle.model_card.specs.ports.Port.{frame_begun, fresh_port, gained, is_due, pull}
 pub use Rattle.model_link.proofs.TellRows.{cleared-orders, cleared-tells}
 pub use Rattle.model_link.specs.Events.{offer}
 pub use Rattle.model_link.specs.Link.{frame_of, fresh, queue_of, state_number}
@@ -136,3 +137,25 @@ pub use Rattle.model_link.specs.Steps.{Course}
 pub use Rattle.model_link.specs.Told.{Given, LinkTold, starts}
 pub use Rattle.model_link.specs.declared.rooms.Room.{Room}
 pub use Rattle.model_link.specs.declared.terms.Terms.{Terms}
+pub use Rattle.lapd_bits.specs.Deframer.{latest_of}
+pub use Rattle.lapd_bits.specs.declared.ended.Ended.{Ended}
+pub use Rattle.lapd_count.specs.declared.counter.Way.TheVariants.{Begun}
+pub use Rattle.lapd_line.specs.Rounds.{IsFirstAround}
+pub use Rattle.lapd_line.specs.Waiting.{has_next}
+pub use Rattle.lapd_line.specs.declared.port.Port.{Port}
+pub use Rattle.lapd_line.specs.declared.pulled.Pulled.{Pulled}
+pub use Rattle.lapd_link_steps.specs.Quiet.{IsQuiet}
+pub use Rattle.lapd_tei.specs.Events.{down, offered}
+pub use Rattle.lapd_tei.specs.declared.messages.Message.{Message}
+pub use Rattle.lapd_tei.specs.declared.messages.Message.TheVariants.{IdentityAssigned, IdentityCheckRequest, IdentityDenied, IdentityRemove}
+pub use Rattle.lapd_tei.specs.declared.outcome.Change.{Change}
+pub use Rattle.model_bits.specs.Heard.{heard_of}
+pub use Rattle.model_bits.specs.declared.heard.Heard.{Heard}
+pub use Rattle.model_bits.specs.declared.heard.Heard.TheVariants.{Frame}
+pub use Rattle.model_card.specs.ports.Codec.{IsTextOf}
+pub use Rattle.model_line.specs.Came.{cause_of}
+pub use Rattle.model_link.proofs.Rows.{event_row}
+pub use Rattle.model_link.specs.declared.timers.LinkTimer.{LinkTimer}
+pub use Rattle.std.proofs.lemmas.Result.{IfErr-weaker}
+pub use Rattle.std.proofs.lemmas.Slice.{drop-append-drop}
+pub use Rattle.std.specs.Borrow.{Bor}

@@ -1,8 +1,7 @@
 -- What happens on a card of either kind.
-use Rattle.lapd_sim.proofs.Vocabulary.{◌≡◌, ◌+◌, ◌<◌, ◌≤◌, ℕ, Some, refl, sym, ap, ◌∙◌, subst, arith, Store, Config, ranges_of, Reply, Event, What, at, of_octets, of_frames, reply, after, card_after, meant_by, reply_in, reply_of_octets, reply_of_frames, told, Setup, Scene, happened, ordered, fold, orders_in, reply_text, with_event, Output, IsPut, IsStuck, Puts, Octets, Frames, shelf_of, kind_of, config_of, counters_of, OnBoard, Leads, [], scene, Tells, SetupStands, Each, Sends, Hears, AnyCard, AnyLeads, AnyStands, CardStands, FrameCardStands, Machine, alone, with_ports, card_in, frames_of, expiry, request, List, Result, Ok, Err}
-use Rattle.std.specs.Option.{option_map_or}
+use Rattle.lapd_sim.proofs.Vocabulary.{◌≡◌, ◌+◌, ◌<◌, ◌≤◌, ℕ, Some, refl, sym, ap, ◌∙◌, subst, arith, Store, Config, ranges_of, Reply, Event, What, at, of_octets, of_frames, reply, after, card_after, meant_by, reply_in, reply_of_octets, reply_of_frames, told, Setup, Scene, happened, ordered, fold, orders_in, reply_text, with_event, Output, IsPut, IsStuck, Puts, Octets, Frames, shelf_of, kind_of}
+use Rattle.lapd_sim.proofs.Vocabulary.{config_of, counters_of, OnBoard, Leads, [], scene, Tells, SetupStands, Each, Sends, Hears, AnyCard, AnyLeads, AnyStands, CardStands, FrameCardStands, Machine, alone, with_ports, card_in, frames_of, expiry, request, List, Result, Ok, Err, Card, Request, Counters, frame_moment, option_map_or, option_map, option_to_list}
 use Rattle.lapd_sim.specs.declared.setup.Setup as rust
-use Rattle.model_card.specs.Card.{Card}
 use Rattle.lapd_card.specs.Card as octets_card
 use Rattle.lapd_card.specs.Stands as octets
 use Rattle.lapd_card.specs.FrameCard as frames_card
@@ -10,17 +9,13 @@ use Rattle.lapd_card.specs.FrameStands as frames
 use Rattle.lapd_card.specs.Kinds as kinds
 use Rattle.lapd_card.specs.declared.kinds.CardKind.TheVariants as variants
 use Rattle.lapd_card.proofs.OneOctet.{IsPassedOn, expiry_passes, request_passes, meant_is, passed_after, passed_answer}
-use Rattle.lapd_count.specs.declared.counters.Counters.{Counters}
 use Rattle.lapd_frame.specs.declared.timers.Timer.{Timer}
 use Rattle.lapd_script.specs.declared.command.CardKind.TheVariants as kind
-use Rattle.std.specs.Prelude.{option_map, option_to_list}
 use Rattle.model_card.specs.Counted as counts
 use Rattle.model_card.specs.Event as frame_event
 use Rattle.model_card.specs.Machine as frame_machine
 use Rattle.model_line.specs.Event as line_event
-use Rattle.model_line.specs.Request.{Request}
 use Rattle.model_card.specs.ports.Card as ports
-use Rattle.model_card.specs.ports.Codec.{frame_moment}
 use Rattle.model_card.specs.ports.Event as octet_event
 use Rattle.model_card.specs.ports.Port as port
 use Rattle.lapd_sim.specs.machine.Board as machine

@@ -1,5 +1,6 @@
 -- When the page goes out: before more is read, and at the end of a script.
-use Rattle.lapd_sim.proofs.Vocabulary.{◌≡◌, ℕ, ◌++◌, List, [], Bool, true, false, Option, Result, Ok, Err, refl, sym, subst, arith, true≢false, IfOk, IfErr, IsTrue, Taken, IsWritten, IsBroken, Writes, Output, IsPut, IsSent, IsStuck, one_failure_more, WriteFailed, appends_nothing, writes_then, broken_more, puts_nothing, puts_written, puts_unwritten, transcript, PlayFault, Read, Write, Script, OutOfMemory, ScriptLines, reads_failed, writes_failed, writes_failed_by, PutsSome, PutsNone, Reaches, is_cut, Plays, PlaysOn, Advances}
+use Rattle.lapd_sim.proofs.Vocabulary.{◌≡◌, ℕ, ◌++◌, List, [], Bool, true, false, Option, Result, Ok, Err, refl, sym, subst, arith, true≢false, IfOk, IfErr, IsTrue, Taken, IsWritten, IsBroken, Writes, Output, IsPut, IsSent, IsStuck, one_failure_more, WriteFailed, appends_nothing, writes_then, broken_more, puts_nothing, puts_written, puts_unwritten, transcript, PlayFault, Read, Write, Script}
+use Rattle.lapd_sim.proofs.Vocabulary.{OutOfMemory, ScriptLines, reads_failed, writes_failed, writes_failed_by, PutsSome, PutsNone, Reaches, is_cut, Plays, PlaysOn, Advances}
 use Rattle.std.specs.Prelude.{◌<◌}
 
 -- ---- the end

@@ -1,5 +1,6 @@
 -- An event of a link of a line is one of this link alone.
-use Rattle.laws_line.proofs.Vocabulary.{arith, ◌≡◌, ◌≢◌, ℕ, true, false, Some, None, sym, ap, subst, ⊎_elim, Service, Parts, LinkTimer, Config, hears, request, next, at_link, Line, place_in, Request, Deactivate, at_deactivated, aim_of_request, Event, expiry, after, answer, refusal, IsTo, IsOneHeard, IsAlone, requests_of_link as of_link, is_granted, Brings, BringsMalformed, timer_of, IsOf, link_undefined, link_overlong, link_offer, LinkReceived, link_received, link_expired, link_frame, link_requested, link_wrong_size, link_cleared, LinkEvent, stream_overlong, stream_frame, StreamEvent}
+use Rattle.laws_line.proofs.Vocabulary.{arith, ◌≡◌, ◌≢◌, ℕ, true, false, Some, None, sym, ap, subst, ⊎_elim, Service, Parts, LinkTimer, Config, hears, request, next, at_link, Line, place_in, Request, Deactivate, at_deactivated, aim_of_request, Event, expiry, after, answer, refusal, IsTo, IsOneHeard, IsAlone, requests_of_link as of_link, is_granted, Brings, BringsMalformed, timer_of, IsOf}
+use Rattle.laws_line.proofs.Vocabulary.{link_undefined, link_overlong, link_offer, LinkReceived, link_received, link_expired, link_frame, link_requested, link_wrong_size, link_cleared, LinkEvent, stream_overlong, stream_frame, StreamEvent}
 use Rattle.laws_line.proofs.Granting.{not-refused}
 use Rattle.laws_line.proofs.Hearing.{sapi-is, read-event, malformed-event, overlong-event}
 

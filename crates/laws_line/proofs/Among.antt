@@ -1,5 +1,6 @@
 -- A control frame that waits is taken by one of so many calls also where other events of its line are between them.
-use Rattle.laws_line.proofs.Vocabulary.{◌≡◌, ℕ, ◌+◌, ◌-◌, ◌<◌, ◌≤◌, Bool, false, cond, List, [], ◌∷◌, ◌++◌, Option, Some, sym, ap, ◌∙◌, ◌⊎◌, inl, inr, arith, append_assoc, append-nil, length-append, eq-eqb, Service, Parts, ControlFrame, State, Terms, Link, event-follows, as_heard, is_overlong, waiting_left, Change, one_more_waits, Config, LineTold, Answer, Aim, of_change, of_aim, Line, link_count, service_at, place_at, tei_at, terms, link_at, IsInRange, Event, after, answer, IsSound, deactivates, IsBy, frames_before, is_take, go_first, link_overlong, link_offer, link_received, link_frame, link_cleared, LinkEvent, link_after}
+use Rattle.laws_line.proofs.Vocabulary.{◌≡◌, ℕ, ◌+◌, ◌-◌, ◌<◌, ◌≤◌, Bool, false, cond, List, [], ◌∷◌, ◌++◌, Option, Some, sym, ap, ◌∙◌, ◌⊎◌, inl, inr, arith, append_assoc, append-nil, length-append, eq-eqb, Service, Parts, ControlFrame, State, Terms, Link, event-follows, as_heard, is_overlong, waiting_left, Change, one_more_waits, Config, LineTold, Answer, Aim, of_change, of_aim, Line, link_count}
+use Rattle.laws_line.proofs.Vocabulary.{service_at, place_at, tei_at, terms, link_at, IsInRange, Event, after, answer, IsSound, deactivates, IsBy, frames_before, is_take, go_first, link_overlong, link_offer, link_received, link_frame, link_cleared, LinkEvent, link_after}
 use Rattle.laws_line.proofs.Happening.{Happens, event-happens}
 use Rattle.model_line.proofs.Downs.{by-down}
 

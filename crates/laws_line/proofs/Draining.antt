@@ -1,5 +1,6 @@
 -- With calls for the next frame alone the frames to go become fewer, until nothing waits.
-use Rattle.laws_line.proofs.Vocabulary.{◌≡◌, ℕ, zero, suc, ◌+◌, ◌≤◌, ◌<◌, List, [], ◌∷◌, slice_get, Option, Some, None, is_some, refl, ap, ◌∙◌, ◌⊎◌, ⊎_elim, arith, IfSome, option_map_or, option_or, All-head, All-tail, nothing-to_send, Config, next, may_send, is_given, Line, link_count, Taken, link_taken, first_taken, taken, next_of, line_of, IsInRange, after_sound, next_falls, fresh_gives_nothing, round_below, option_map, All, one, after, answer, IsSound, HasNothing, after_takes, frames_to_go, IsIdling}
+use Rattle.laws_line.proofs.Vocabulary.{◌≡◌, ℕ, zero, suc, ◌+◌, ◌≤◌, ◌<◌, List, [], ◌∷◌, slice_get, Option, Some, None, is_some, refl, ap, ◌∙◌, ◌⊎◌, ⊎_elim, arith, IfSome, option_map_or, option_or, All-head, All-tail, nothing-to_send, Config, next, may_send, is_given, Line, link_count, Taken, link_taken, first_taken, taken, next_of, line_of, IsInRange, after_sound, next_falls, fresh_gives_nothing}
+use Rattle.laws_line.proofs.Vocabulary.{round_below, option_map, All, one, after, answer, IsSound, HasNothing, after_takes, frames_to_go, IsIdling}
 use Rattle.laws_line.proofs.Serving.{none-waits}
 use Rattle.laws_line.proofs.Silence.{sends-none}
 use Rattle.laws_line.proofs.Going.{TakesOne, taken-falls}

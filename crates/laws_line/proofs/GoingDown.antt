@@ -1,5 +1,6 @@
 -- A line that is taken down is down.
-use Rattle.laws_line.proofs.Vocabulary.{◌≡◌, ℕ, zero, suc, ◌<◌, true, false, List, [], ◌∷◌, get_or, set, Option, Some, None, refl, sym, ap, subst, ◌∙◌, ⊎_elim, arith, option_map_or, All-head, All-tail, Refusal, Service, Timer, LinkTimer, Terms, is_on-at, Config, request, gave, Line, link_number, link_count, service_at, place_at, tei_at, place_in, link_at, of_aim, Request, Deactivate, Down, at_deactivated, IsInRange, IsSoundAt, after_sound, next, cases_lt, get_or_past, All, Contains, map, place_of, fresh, after, answer, unless_refused, refusal, IsSound, after_events, takes_down, TakeDown, IsDown, LinesGoDown, IsSilent, link_needs, is_needed}
+use Rattle.laws_line.proofs.Vocabulary.{◌≡◌, ℕ, zero, suc, ◌<◌, true, false, List, [], ◌∷◌, get_or, set, Option, Some, None, refl, sym, ap, subst, ◌∙◌, ⊎_elim, arith, option_map_or, All-head, All-tail, Refusal, Service, Timer, LinkTimer, Terms, is_on-at, Config, request, gave, Line, link_number, link_count, service_at, place_at, tei_at, place_in, link_at, of_aim, Request, Deactivate, Down}
+use Rattle.laws_line.proofs.Vocabulary.{at_deactivated, IsInRange, IsSoundAt, after_sound, next, cases_lt, get_or_past, All, Contains, map, place_of, fresh, after, answer, unless_refused, refusal, IsSound, after_events, takes_down, TakeDown, IsDown, LinesGoDown, IsSilent, link_needs, is_needed}
 use Rattle.laws_line.proofs.Draining.{nothing-taken}
 use Rattle.laws_line.proofs.GivingUp.{deactivations_give_up}
 use Rattle.laws_line.proofs.Parts.{gives-up}

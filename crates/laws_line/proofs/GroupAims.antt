@@ -1,5 +1,6 @@
 -- What is heard is to TEI management: nothing, or what a UI to the group brings.
-use Rattle.laws_line.proofs.Vocabulary.{arith, ◌≡◌, ℕ, Bool, List, Option, Result, Ok, refl, Cause, Address, Network, Control, ReadFault, Long, Service, Parts, reading, Config, Aim, at_none, at_link, at_management, Line, drop_for, to_service, addressed, message_of, aim_of_reading, unless_at_link, aim_of_long, heard_side, aim_of_heard, group_told, IsToGroup, WhereServed, side_where, eqb-true, link_received, LinkReceived, stream_frame, StreamEvent, message}
+use Rattle.laws_line.proofs.Vocabulary.{arith, ◌≡◌, ℕ, Bool, List, Option, Result, Ok, refl, Cause, Address, Network, Control, ReadFault, Long, Service, Parts, reading, Config, Aim, at_none, at_link, at_management, Line, drop_for, to_service, addressed, message_of, aim_of_reading, unless_at_link, aim_of_long, heard_side, aim_of_heard, group_told, IsToGroup, WhereServed, side_where, eqb-true}
+use Rattle.laws_line.proofs.Vocabulary.{link_received, LinkReceived, stream_frame, StreamEvent, message}
 
 -- A UI to the group with SAPI 63 is heard.
 pub record IsUi (c : Config) (e : StreamEvent) (parts : Parts) : Type 0 where

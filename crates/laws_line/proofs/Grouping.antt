@@ -1,5 +1,6 @@
 -- What the user's side hears of the network for the group: unit data, and messages of TEI management.
-use Rattle.laws_line.proofs.Vocabulary.{◌≡◌, ℕ, ◌==◌, cond, List, Option, Some, None, Ok, refl, ap, ◌∙◌, arith, le-leb, Tei, Unserved, Address, Control, Service, Parts, reading, service_of, sapi_of, place_of-is, Config, hears, Aim, at_none, Line, place_in, drop_for, management_sapi, to_service, addressed, message_of, aim_of_reading, heard_side, group_told, told_at, at_side, IsToGroup, dropped, after, answer, at_place, line_group_tei as group_tei, IsSound, OnlyTells, IsToManagement, link_frame, LinkReceived, stream_frame}
+use Rattle.laws_line.proofs.Vocabulary.{◌≡◌, ℕ, ◌==◌, cond, List, Option, Some, None, Ok, refl, ap, ◌∙◌, arith, le-leb, Tei, Unserved, Address, Control, Service, Parts, reading, service_of, sapi_of, place_of-is, Config, hears, Aim, at_none, Line, place_in, drop_for, management_sapi, to_service, addressed, message_of, aim_of_reading, heard_side, group_told, told_at, at_side, IsToGroup, dropped}
+use Rattle.laws_line.proofs.Vocabulary.{after, answer, at_place, line_group_tei as group_tei, IsSound, OnlyTells, IsToManagement, link_frame, LinkReceived, stream_frame}
 use Rattle.laws_line.proofs.Causing.{to-group}
 use Rattle.laws_line.proofs.Hearing.{sapi-is, by-none}
 

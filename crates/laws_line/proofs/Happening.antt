@@ -1,5 +1,7 @@
 -- What an event of a line is to one of its links.
-use Rattle.laws_line.proofs.Vocabulary.{◌≡◌, ℕ, ◌<◌, Bool, false, ◌==◌, length, set, Option, Some, None, refl, subst, arith, eq-eqb, IfSome, inl, ◌⊎◌, get_or-set_same, get_or-set_other, Refusal, Service, Call, Packet, Link, IsAt, Change, Gained, Left, Config, hears, request, next, Answer, told, is_change_at, Aim, at_link, at_management, told_of_management, of_change, of_aim, aim_of_expiry, Line, link_number, service_at, place_at, tei_at, link_at, terms, link_count, unless_refused_told, aim_of_heard, Taken, taken, aim_of_request, IsProper, place_at-number, service_at-number, heard_proper, expiry_proper, request_proper, taken_walk, next_walk, at_no_link, eqb-true, option_map, fresh, Event, expiry, after, answer, unless_refused, refusal, IsSound, IsMoved, IsBy, IsDeactivated, IsOf, link_cleared, link_offer, LinkEvent, link_after, tei_after, tei_told, TeiEvent, begin_here, begin_away}
+use Rattle.laws_line.proofs.Vocabulary.{◌≡◌, ℕ, ◌<◌, Bool, false, ◌==◌, length, set, Option, Some, None, refl, subst, arith, eq-eqb, IfSome, inl, ◌⊎◌, get_or-set_same, get_or-set_other, Refusal, Service, Call, Packet, Link, IsAt, Change, Gained, Left, Config, hears, request, next, Answer, told, is_change_at, Aim, at_link, at_management, told_of_management, of_change, of_aim, aim_of_expiry, Line}
+use Rattle.laws_line.proofs.Vocabulary.{link_number, service_at, place_at, tei_at, link_at, terms, link_count, unless_refused_told, aim_of_heard, Taken, taken, aim_of_request, IsProper, place_at-number, service_at-number, heard_proper, expiry_proper, request_proper, taken_walk, next_walk, at_no_link, eqb-true, option_map, fresh, Event, expiry, after, answer, unless_refused, refusal, IsSound}
+use Rattle.laws_line.proofs.Vocabulary.{IsMoved, IsBy, IsDeactivated, IsOf, link_cleared, link_offer, LinkEvent, link_after, tei_after, tei_told, TeiEvent, begin_here, begin_away}
 use Rattle.lapd_tei.specs.Laws as tei_laws
 use Rattle.lapd_tei.proofs.LawLemmas as tei_lemmas
 use Rattle.laws_line.proofs.Tied.{Ties, heard-ties, expiry-ties, request-ties}

@@ -1,5 +1,6 @@
 -- What is heard brings to a link.
-use Rattle.laws_line.proofs.Vocabulary.{arith, ◌≡◌, ℕ, ◌==◌, List, Some, Ok, refl, ◌∙◌, none-some, Cause, Unserved, Address, Service, Parts, reading, long_reading, service_of, sapi_of, same_service, Config, LineTold, hears, Aim, at_none, at_link, Line, place_in, drop_for, addressed, aim_of_reading, aim_of_long, heard_side, aim_of_heard, eqb-true, dropped, after, answer, IsTo, IsMalformed, IsTooLong, IsOneHeard as IsOneEvent, OnlyTells, link_received, link_frame, LinkReceived, stream_overlong, bits_dropped, stream_frame, StreamEvent}
+use Rattle.laws_line.proofs.Vocabulary.{arith, ◌≡◌, ℕ, ◌==◌, List, Some, Ok, refl, ◌∙◌, none-some, Cause, Unserved, Address, Service, Parts, reading, long_reading, service_of, sapi_of, same_service, Config, LineTold, hears, Aim, at_none, at_link, Line, place_in, drop_for, addressed, aim_of_reading, aim_of_long, heard_side, aim_of_heard, eqb-true, dropped, after, answer, IsTo, IsMalformed}
+use Rattle.laws_line.proofs.Vocabulary.{IsTooLong, IsOneHeard as IsOneEvent, OnlyTells, link_received, link_frame, LinkReceived, stream_overlong, bits_dropped, stream_frame, StreamEvent}
 
 -- The SAPI of a service.
 pub same-sapi : (a b : Service) → (sapi_of a == sapi_of b) ≡ same_service a b

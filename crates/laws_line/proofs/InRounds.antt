@@ -1,5 +1,6 @@
 -- Where a link stands in the round: each frame that is taken brings its turn nearer.
-use Rattle.laws_line.proofs.Vocabulary.{◌≡◌, ℕ, ◌+◌, ◌-◌, ◌<◌, ◌≤◌, List, ◌∷◌, ◌++◌, length, drop, get_or, ap, ◌∙◌, ◌⊎◌, inl, inr, ⊎_elim, arith, length-append, nat_le, range_with_len, leb-true, leb-false, cases_lt, get_or_append_left, get_or-drop, get_or-take, length-take-le, get_or-range_with_len, length-range_with_len, get_or-append_seam, get_or-append_right, round_from, All, length-drop, way_round}
+use Rattle.laws_line.proofs.Vocabulary.{◌≡◌, ℕ, ◌+◌, ◌-◌, ◌<◌, ◌≤◌, List, ◌∷◌, ◌++◌, length, drop, get_or, ap, ◌∙◌, ◌⊎◌, inl, inr, ⊎_elim, arith, length-append, nat_le, range_with_len, leb-true, leb-false, cases_lt, get_or_append_left, get_or-drop, get_or-take, length-take-le, get_or-range_with_len, length-range_with_len, get_or-append_seam, get_or-append_right, round_from, All, length-drop}
+use Rattle.laws_line.proofs.Vocabulary.{way_round}
 
 -- the numbers of a round that begins at turn
 abbrev IsAtPlace : ℕ → ℕ → ℕ → ℕ → Type 0

@@ -1,6 +1,7 @@
 -- What is read of the links of a line, by service and TEI, and else where the TEI is not on it: through an event of one
 -- link, and where a TEI comes or leaves.
-use Rattle.laws_line.proofs.Vocabulary.{◌≡◌, ◌≢◌, ℕ, ◌+◌, ◌*◌, ◌<◌, ◌==◌, ◌&&◌, false, List, length, get_or, set, Option, Some, None, refl, ap, ◌∙◌, subst, arith, length-set, eq-eqb, true≢false, option_map_or, cases_eq, get_or-set_same, get_or-set_other, none-some, Service, Call, Packet, same_service, Link, Management, IsAt, IsSoundTable, place_of, at-within, place_of-is, Config, Line, link_number, link_in, place_in, with_link, number_within, fresh, IsSound}
+use Rattle.laws_line.proofs.Vocabulary.{◌≡◌, ◌≢◌, ℕ, ◌+◌, ◌*◌, ◌<◌, ◌==◌, ◌&&◌, false, List, length, get_or, set, Option, Some, None, refl, ap, ◌∙◌, subst, arith, length-set, eq-eqb, true≢false, option_map_or, cases_eq, get_or-set_same, get_or-set_other, none-some, Service, Call, Packet, same_service, Link, Management, IsAt, IsSoundTable, place_of, at-within, place_of-is, Config, Line}
+use Rattle.laws_line.proofs.Vocabulary.{link_number, link_in, place_in, with_link, number_within, fresh, IsSound}
 use Rattle.model_line.proofs.Following.{same-number, some-same}
 use Rattle.model_line.proofs.Obeyed.{service-same}
 use Rattle.model_line.proofs.Places.{has-no-place, has-place, stays-placed}

@@ -1,5 +1,7 @@
 -- What is taken.
-use Rattle.laws_line.proofs.Vocabulary.{cond, ◌≡◌, ℕ, ◌+◌, ◌<◌, false, List, [], ◌∷◌, ◌++◌, drop, take, slice_get, get_or, set, Option, Some, None, refl, sym, ap, ◌∙◌, subst, arith, zero-add, append-nil, IfSome, range_with_len, option_or, option_map_or, get_or-set_same, take-append-drop, All-head, All-tail, All-nil, All-cons, All-get_or, All-append, get_or-range_with_len, length-range_with_len, none-some, Service, Timer, LinkTimer, Link, is_information, Given, IsInOrder, IsOffered, given-in-order, given-is-offered, carried-is, offer-counts, nothing-given, Config, hears, Aim, at_units, at_timer, aim_of_expiry, aim_of_heard, Request, at_requested, aim_of_request, heard_aims, Line, UnitData, link_count, service_at, place_at, tei_at, terms, link_at, with_link, Taken, with_given_frame, link_taken, first_taken, round, taken, IsSoundAt, round_below, at_no_link, option_map, All, fresh, Event, after, answer, IsSound, IsSilentAt, IsItsTurn, IsOfLink, IsOwed, HasNothing, contents_of_link, IsServed, unit_asked, units_behind, UnitsWait, TurnStays, LinkRequest, link_offer, link_given, link_after, StreamEvent}
+use Rattle.laws_line.proofs.Vocabulary.{cond, ◌≡◌, ℕ, ◌+◌, ◌<◌, false, List, [], ◌∷◌, ◌++◌, drop, take, slice_get, get_or, set, Option, Some, None, refl, sym, ap, ◌∙◌, subst, arith, zero-add, append-nil, IfSome, range_with_len, option_or, option_map_or, get_or-set_same, take-append-drop, All-head, All-tail, All-nil, All-cons, All-get_or, All-append, get_or-range_with_len, length-range_with_len}
+use Rattle.laws_line.proofs.Vocabulary.{none-some, Service, Timer, LinkTimer, Link, is_information, Given, IsInOrder, IsOffered, given-in-order, given-is-offered, carried-is, offer-counts, nothing-given, Config, hears, Aim, at_units, at_timer, aim_of_expiry, aim_of_heard, Request, at_requested, aim_of_request, heard_aims, Line, UnitData, link_count, service_at, place_at, tei_at, terms, link_at}
+use Rattle.laws_line.proofs.Vocabulary.{with_link, Taken, with_given_frame, link_taken, first_taken, round, taken, IsSoundAt, round_below, at_no_link, option_map, All, fresh, Event, after, answer, IsSound, IsSilentAt, IsItsTurn, IsOfLink, IsOwed, HasNothing, contents_of_link, IsServed, unit_asked, units_behind, UnitsWait, TurnStays, LinkRequest, link_offer, link_given, link_after, StreamEvent}
 use Rattle.model_link.specs.Sound as link_sound
 use Rattle.laws_line.proofs.Silence.{silent}
 use Rattle.model_line.proofs.Downs.{by-down}

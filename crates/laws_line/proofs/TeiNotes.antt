@@ -1,5 +1,7 @@
 -- Which event of TEI management changes the table, and what is noted of it: each row.
-use Rattle.laws_line.proofs.Vocabulary.{arith, ◌≡◌, ℕ, ◌==◌, nat_le, Bool, true, false, cond, List, [], ◌∷◌, Option, Some, None, IfSome, refl, sym, ap, ◌∙◌, true≢false, Note, Assigned, Removed, Doubled, Refusal, Period, First, Second, IdentityRemove, Change, Gained, Left, heard_in, heard_of_type, Places, is_on, place_of, Management, Step, no_room, send, lose_one, unserved, leave, left, check_is, begin_check, end_check, remembered_in, assign_new, assign, may_be_checked, responses, doubled, count, respond, serve, removed, is_unanswered, expire_period, expire_check, nothing_happens, join_at, message, remove, course, IsSoundCheck, option_map, eqb-true, TeiCheck as Check, Course, tei_begun as begun, tei_counted as counted, TeiEvent as Event, tei_expiry as expiry, assigning, tei_refusal as refusal, tei_unless_refused as unless_refused, down_gives_up, TeiIsSound as IsSound}
+use Rattle.laws_line.proofs.Vocabulary.{arith, ◌≡◌, ℕ, ◌==◌, nat_le, Bool, true, false, cond, List, [], ◌∷◌, Option, Some, None, IfSome, refl, sym, ap, ◌∙◌, true≢false, Note, Assigned, Removed, Doubled, Refusal, Period, First, Second, IdentityRemove, Change, Gained, Left, heard_in, heard_of_type, Places, is_on, place_of, Management, Step, no_room, send, lose_one, unserved, leave, left, check_is}
+use Rattle.laws_line.proofs.Vocabulary.{begin_check, end_check, remembered_in, assign_new, assign, may_be_checked, responses, doubled, count, respond, serve, removed, is_unanswered, expire_period, expire_check, nothing_happens, join_at, message, remove, course, IsSoundCheck, option_map, eqb-true, TeiCheck as Check, Course, tei_begun as begun, tei_counted as counted, TeiEvent as Event}
+use Rattle.laws_line.proofs.Vocabulary.{tei_expiry as expiry, assigning, tei_refusal as refusal, tei_unless_refused as unless_refused, down_gives_up, TeiIsSound as IsSound}
 use Rattle.model_line.proofs.Places.{is-off}
 
 -- A change of the table has its event, and its note.

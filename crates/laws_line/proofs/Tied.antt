@@ -1,5 +1,6 @@
 -- How what an event aims at is tied to the event.
-use Rattle.laws_line.proofs.Vocabulary.{arith, ◌≡◌, ℕ, true, List, Option, Some, Result, Ok, refl, inr, Address, ReadFault, Service, Timer, Parts, reading, service_of, Config, hears, request, Answer, Aim, at_link, aim_of_expiry, Line, addressed, aim_of_reading, heard_side, aim_of_heard, side_aims, Request, aim_of_request, Event, expiry, at_place, is_granted, IsTooLong, BringsMalformed, IsBy, IsOf, LinkReceived, link_received, stream_overlong, bits_dropped, stream_frame, StreamEvent}
+use Rattle.laws_line.proofs.Vocabulary.{arith, ◌≡◌, ℕ, true, List, Option, Some, Result, Ok, refl, inr, Address, ReadFault, Service, Timer, Parts, reading, service_of, Config, hears, request, Answer, Aim, at_link, aim_of_expiry, Line, addressed, aim_of_reading, heard_side, aim_of_heard, side_aims, Request, aim_of_request, Event, expiry, at_place, is_granted, IsTooLong, BringsMalformed, IsBy, IsOf}
+use Rattle.laws_line.proofs.Vocabulary.{LinkReceived, link_received, stream_overlong, bits_dropped, stream_frame, StreamEvent}
 
 abbrev pub Ties : Config → Event → Answer → Aim → Type 0
 Ties c e answer (at_link service tei place event) = IsOf c e answer service tei event

@@ -1,5 +1,6 @@
 -- The words of std and of the crates below with which the proofs of this crate speak, from where they are defined.
-pub use Rattle.std.proofs.Common.{Bool, Err, IfSome, List, None, Ok, Option, Result, Some, [], ap, append-nil, append_assoc, arith, cond, drop, eq-eqb, eqb-true, false, get_or, inl, inr, is_some, length, length-append, length-set, nat_le, nat_lt, not, option_map, option_to_list, refl, replicate, set, slice_get, subst, suc, sym, take, true, true≢false, zero, zero-add, ℕ, ⊎_elim, ◌&&◌, ◌*◌, ◌++◌, ◌+◌, ◌-◌, ◌<◌, ◌==◌, ◌↔◌, ◌∙◌, ◌∷◌, ◌≡◌, ◌≢◌, ◌≤◌, ◌⊎◌}
+pub use Rattle.std.proofs.Common.{Bool, Err, IfSome, List, None, Ok, Option, Result, Some, [], ap, append-nil, append_assoc, arith, cond, drop, eq-eqb, eqb-true, false, get_or, inl, inr, is_some, length, length-append, length-set, nat_le, nat_lt, not, option_map, option_to_list, refl, replicate, set, slice_get, subst, suc, sym, take, true, true≢false, zero, zero-add, ℕ, ⊎_elim, ◌&&◌, ◌*◌, ◌++◌}
+pub use Rattle.std.proofs.Common.{◌+◌, ◌-◌, ◌<◌, ◌==◌, ◌↔◌, ◌∙◌, ◌∷◌, ◌≡◌, ◌≢◌, ◌≤◌, ◌⊎◌}
 pub use Rattle.std.proofs.Math.Nat.{mul-le-mul_right}
 pub use Rattle.std.proofs.Math.Seq.{get_or-append_right, get_or-append_seam}
 pub use Rattle.std.proofs.lemmas.Bool.{and_parts, cases_eq, cases_lt, eqb-false, le-leb, le-ltb, leb-false, leb-true, ltb-false, ltb-true}
@@ -42,7 +43,8 @@ pub use Rattle.lapd_seq.specs.declared.numbers.Seq.{Seq}
 pub use Rattle.model_link.proofs.OwnNotes.{notes-own}
 pub use Rattle.model_link.proofs.SoundEvents.{sound-after}
 pub use Rattle.model_link.proofs.TellRows.{cleared-orders, cleared-tells, event-tells, two-orders}
-pub use Rattle.model_link.specs.Events.{ClearBusy as LinkClearBusy, Data as LinkData, Establish as LinkEstablish, Event as LinkEvent, Received as LinkReceived, Release as LinkRelease, Request as LinkRequest, SetBusy as LinkSetBusy, cleared as link_cleared, expired as link_expired, frame as link_frame, offer as link_offer, overlong as link_overlong, received as link_received, requested as link_requested, undefined as link_undefined, wrong_size as link_wrong_size}
+pub use Rattle.model_link.specs.Events.{ClearBusy as LinkClearBusy, Data as LinkData, Establish as LinkEstablish, Event as LinkEvent, Received as LinkReceived, Release as LinkRelease, Request as LinkRequest, SetBusy as LinkSetBusy, cleared as link_cleared, expired as link_expired, frame as link_frame, offer as link_offer, overlong as link_overlong, received as link_received}
+pub use Rattle.model_link.specs.Events.{requested as link_requested, undefined as link_undefined, wrong_size as link_wrong_size}
 pub use Rattle.model_link.specs.Link.{Link, frame_of as link_frame_of, fresh}
 pub use Rattle.model_link.specs.Machine.{after as link_after, given as link_given, told as link_told}
 pub use Rattle.model_link.specs.Notes.{IsOwn, is_data, is_unit}

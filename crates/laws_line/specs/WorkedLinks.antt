@@ -1,6 +1,7 @@
 -- Worked values: what frames, requests and calls for the next frame make of a link of a line.
 use Rattle.std.specs.Prelude.{◌≡◌, true, false, [], ◌∷◌, Some, refl}
-use Rattle.laws_line.specs.WorkedWords.{ReceiveReady, ReceiveNotReady, Sabme, Ua, Call, reading, header_of, control_of, unnumbered_of, supervisory_of, state_after, waiting_left, TeiAssigned, AwaitingEstablishment, Established, LinkT200 as T200, received, undefined, link_overlong as overlong, command, response, distance_of, named, seq, link_fresh as fresh, Line, fresh_line, has_tei, link_at, terms, after, Establish, Data, Assign, SetBusy, Deactivate}
+use Rattle.laws_line.specs.WorkedWords.{ReceiveReady, ReceiveNotReady, Sabme, Ua, Call, reading, header_of, control_of, unnumbered_of, supervisory_of, state_after, waiting_left, TeiAssigned, AwaitingEstablishment, Established, LinkT200 as T200, received, undefined, link_overlong as overlong, command, response, distance_of, named, seq, link_fresh as fresh, Line, fresh_line, has_tei, link_at, terms}
+use Rattle.laws_line.specs.WorkedWords.{after, Establish, Data, Assign, SetBusy, Deactivate}
 use Rattle.lapd_tei.specs.Events as teis
 use Rattle.laws_line.specs.Worked.{usual, both_up, heard}
 use Rattle.laws_line.specs.WorkedServed.{asked, taken_from}

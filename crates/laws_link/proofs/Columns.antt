@@ -1,5 +1,6 @@
 -- What an event leaves of a link, row by row of the tables.
-use Rattle.laws_link.proofs.Vocabulary.{◌≡◌, ℕ, ◌+◌, Bool, cond, ◌||◌, List, [], ◌∷◌, ◌++◌, length, drop, Option, nat_lt, Control, Note, Parts, State, LinkTimer, ControlFrame, Terms, Link, Course, as_heard, state_after, numbers_begin, answers, commands, peer_busy_left, own_busy_left, flag_left, rejecting_heard, takes_contents, unless_put, owed_in, owed_behind, asked_left, repeats_left, told_with, Event, cleared, frame, offer, received, course}
+use Rattle.laws_link.proofs.Vocabulary.{◌≡◌, ℕ, ◌+◌, Bool, cond, ◌||◌, List, [], ◌∷◌, ◌++◌, length, drop, Option, nat_lt, Control, Note, Parts, State, LinkTimer, ControlFrame, Terms, Link, Course, as_heard, state_after, numbers_begin, answers, commands, peer_busy_left, own_busy_left, flag_left, rejecting_heard, takes_contents, unless_put, owed_in, owed_behind, asked_left, repeats_left, told_with}
+use Rattle.laws_link.proofs.Vocabulary.{Event, cleared, frame, offer, received, course}
 
 -- What a course leaves: fields of its link, how many frames were lost, and whether the numbers begin.
 pub record Left : Type 0 where

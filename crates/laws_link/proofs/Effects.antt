@@ -1,5 +1,6 @@
 -- What comes of a request that is granted.
-use Rattle.laws_link.proofs.Vocabulary.{◌≡◌, ℕ, ◌+◌, ◌≤◌, Bool, true, false, cond, List, [], ◌∷◌, ◌++◌, length, take, drop, length-take-le, Option, None, Some, arith, ◌⊎◌, nat_lt, cases_lt, lt-ltb, le-ltb, drop_all, drop-append-le, Refusal, WrongState, State, ControlFrame, Terms, Link, IsSound, Course, begun, ◌then◌, IsReleasedIn, TakesEffect, ClearBusy, Release, Request, requested, course, own_busy_is, report_receiver_status}
+use Rattle.laws_link.proofs.Vocabulary.{◌≡◌, ℕ, ◌+◌, ◌≤◌, Bool, true, false, cond, List, [], ◌∷◌, ◌++◌, length, take, drop, length-take-le, Option, None, Some, arith, ◌⊎◌, nat_lt, cases_lt, lt-ltb, le-ltb, drop_all, drop-append-le, Refusal, WrongState, State, ControlFrame, Terms, Link, IsSound, Course, begun, ◌then◌, IsReleasedIn, TakesEffect, ClearBusy, Release, Request, requested, course}
+use Rattle.laws_link.proofs.Vocabulary.{own_busy_is, report_receiver_status}
 use Rattle.model_link.specs.Requests
 
 -- A frame that is put behind those that wait.

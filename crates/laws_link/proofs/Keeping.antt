@@ -1,5 +1,7 @@
 -- What each event makes of the contents of a link, of V(A) and of V(S).
-use Rattle.laws_link.proofs.Vocabulary.{◌≡◌, ℕ, ◌+◌, ◌≤◌, Bool, true, false, cond, List, [], ◌∷◌, ◌++◌, length, take, drop, Option, Some, None, is_some, refl, ◌⊎◌, inl, inr, sym, subst, true≢false, arith, length-take-le, append-nil, drop-drop, add-zero, ⊎_elim, All, nat_lt, nat_le, option_map_or, drop_all, drop-append-le, All-head, Control, Ui, ErrorCode, Refusal, WrongState, State, TeiAssigned, AwaitingEstablishment, AwaitingRelease, Established, TimerRecovery, LinkTimer, T200, ControlFrame, Terms, Link, is_multiple_frame, IsSettledIn, IsSound, IsWaitingFrame, Course, begun, Step, ◌then◌, nothing, changed, Leads, nothing_leads, number_of, acknowledged_by, contents_asked, is_release, tells_loss, Share, share, left_by, with_share, unit_due, is_i_frame, i_frames, begin_anew, deliver_unit, leave_unserved, pending_is, start, unit_data, give_information, give_waiting, is_awaiting_acknowledgement, may_send_information, offer_among, send_acknowledgement, with_one_sent, course, expired_in, expired_step, frame_in, frame_step, given_of, is_running, malformed_in, told_of_clearing, both_ways}
+use Rattle.laws_link.proofs.Vocabulary.{◌≡◌, ℕ, ◌+◌, ◌≤◌, Bool, true, false, cond, List, [], ◌∷◌, ◌++◌, length, take, drop, Option, Some, None, is_some, refl, ◌⊎◌, inl, inr, sym, subst, true≢false, arith, length-take-le, append-nil, drop-drop, add-zero, ⊎_elim, All, nat_lt, nat_le, option_map_or, drop_all, drop-append-le, All-head, Control, Ui, ErrorCode, Refusal, WrongState, State, TeiAssigned}
+use Rattle.laws_link.proofs.Vocabulary.{AwaitingEstablishment, AwaitingRelease, Established, TimerRecovery, LinkTimer, T200, ControlFrame, Terms, Link, is_multiple_frame, IsSettledIn, IsSound, IsWaitingFrame, Course, begun, Step, ◌then◌, nothing, changed, Leads, nothing_leads, number_of, acknowledged_by, contents_asked, is_release, tells_loss, Share, share, left_by, with_share, unit_due}
+use Rattle.laws_link.proofs.Vocabulary.{is_i_frame, i_frames, begin_anew, deliver_unit, leave_unserved, pending_is, start, unit_data, give_information, give_waiting, is_awaiting_acknowledgement, may_send_information, offer_among, send_acknowledgement, with_one_sent, course, expired_in, expired_step, frame_in, frame_step, given_of, is_running, malformed_in, told_of_clearing, both_ways}
 use Rattle.model_link.specs.Events
 use Rattle.model_link.specs.Requests
 use Rattle.laws_link.proofs.Queueing.{On, words}

@@ -1,5 +1,6 @@
 -- What layer 3 is told is what becomes of the link: every row keeps that.
-use Rattle.laws_link.proofs.Vocabulary.{arith, ◌≡◌, ℕ, Bool, true, false, List, [], ◌∷◌, refl, ◌∙◌, ap, not, ◌++◌, Note, ErrorCode, State, TeiAssigned, AwaitingEstablishment, Established, T203, Terms, Link, is_asked, has_outstanding, Course, Step, ◌then◌, nothing, depending_on, Leads, keeping_then, nothing_leads, depending_leads, bit_leads, tested_leads, to_less, seen, known, is_up_in, leaves, number_leads, asked_is, deliver, deliver_unit, discard, enter, establish_confirm, establish_indication, no_timer, note, release_confirm, release_indication, start, zero_numbers, failed}
+use Rattle.laws_link.proofs.Vocabulary.{arith, ◌≡◌, ℕ, Bool, true, false, List, [], ◌∷◌, refl, ◌∙◌, ap, not, ◌++◌, Note, ErrorCode, State, TeiAssigned, AwaitingEstablishment, Established, T203, Terms, Link, is_asked, has_outstanding, Course, Step, ◌then◌, nothing, depending_on, Leads, keeping_then, nothing_leads, depending_leads, bit_leads, tested_leads, to_less, seen, known, is_up_in, leaves}
+use Rattle.laws_link.proofs.Vocabulary.{number_leads, asked_is, deliver, deliver_unit, discard, enter, establish_confirm, establish_indication, no_timer, note, release_confirm, release_indication, start, zero_numbers, failed}
 
 -- the same as `is_up_in`, of what it speaks of
 abbrev pub up_by : State → Bool → Bool

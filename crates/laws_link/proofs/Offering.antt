@@ -1,5 +1,6 @@
 -- What an offer gives.
-use Rattle.laws_link.proofs.Vocabulary.{arith, ◌≡◌, ℕ, ◌+◌, ◌<◌, Bool, true, false, cond, List, [], ◌∷◌, length, slice_get, Option, None, refl, sym, ap, ◌∙◌, add-zero, All, IfSome, nat_lt, option_map_or, ltb-true, and_parts, slice_get-get_or, get_or, All-head, seq, Control, ControlFrame, Terms, Link, course, after, given, given_of, IsSound, IsWaitingFrame, is_information, Course, Sent, begun, IsOffered, is_i_frame, both_ways, offer, first_unsent, may_send_information, next_information, offer_among}
+use Rattle.laws_link.proofs.Vocabulary.{arith, ◌≡◌, ℕ, ◌+◌, ◌<◌, Bool, true, false, cond, List, [], ◌∷◌, length, slice_get, Option, None, refl, sym, ap, ◌∙◌, add-zero, All, IfSome, nat_lt, option_map_or, ltb-true, and_parts, slice_get-get_or, get_or, All-head, seq, Control, ControlFrame, Terms, Link, course, after, given, given_of, IsSound, IsWaitingFrame, is_information, Course, Sent, begun}
+use Rattle.laws_link.proofs.Vocabulary.{IsOffered, is_i_frame, both_ways, offer, first_unsent, may_send_information, next_information, offer_among}
 
 -- a frame without contents that is no I-frame
 alone : (all : List (List ℕ)) (j : ℕ) (command : Bool) (control : Control) → is_information control ≡ false → IsOffered all j (record { command = command; control = control }) None

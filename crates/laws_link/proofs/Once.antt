@@ -1,5 +1,6 @@
 -- What is due is delivered, and is noted once.
-use Rattle.laws_link.proofs.Vocabulary.{◌≡◌, ℕ, ◌≤◌, Bool, true, false, cond, ◌||◌, List, [], ◌∷◌, length, Option, Some, None, is_some, option_to_list, refl, sym, ap, ◌∙◌, arith, count_by, nat_lt, list_any, or_parts, sum_by-cons, sum_by_push, none-some, Seq, Control, Information, Ui, Note, State, Terms, information_of, MayEstablish, restarts, Link, is_data, is_unit, IsSound, Course, begun, Step, event-delivers, event-tells, contents_heard, unit_heard, within, data_due, IsNotedOnce, acknowledged_by_information_in_7, Event, course, frame_in, told, by_number, both_ways}
+use Rattle.laws_link.proofs.Vocabulary.{◌≡◌, ℕ, ◌≤◌, Bool, true, false, cond, ◌||◌, List, [], ◌∷◌, length, Option, Some, None, is_some, option_to_list, refl, sym, ap, ◌∙◌, arith, count_by, nat_lt, list_any, or_parts, sum_by-cons, sum_by_push, none-some, Seq, Control, Information, Ui, Note, State, Terms, information_of, MayEstablish, restarts, Link, is_data, is_unit, IsSound, Course, begun, Step}
+use Rattle.laws_link.proofs.Vocabulary.{event-delivers, event-tells, contents_heard, unit_heard, within, data_due, IsNotedOnce, acknowledged_by_information_in_7, Event, course, frame_in, told, by_number, both_ways}
 use Rattle.model_link.specs.MultipleFrame
 use Rattle.laws_link.proofs.Restarts.{establishes}
 use Rattle.laws_link.proofs.Delivered.{delivered-was-heard}

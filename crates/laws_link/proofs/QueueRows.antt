@@ -1,5 +1,7 @@
 -- What each row of the tables makes of the contents of a link, of V(A) and of V(S).
-use Rattle.laws_link.proofs.Vocabulary.{◌≡◌, ℕ, ◌-◌, ◌≤◌, Bool, true, false, cond, List, [], length, take, drop, length-take-le, Option, Some, None, IsTrue, true≢false, refl, ◌⊎◌, inl, inr, sym, arith, nat_lt, option_map_or, ltb-false, drop_all, take_all, Seq, named, Control, Information, ReceiveReady, ReceiveNotReady, Reject, Sabme, Disc, Ui, Ua, Dm, Frmr, Xid, ErrorCode, Established, LinkTimer, T203, Terms, Link, has_outstanding, is_peer_busy, begun, Step, ◌then◌, by_bit, frame_in_4, release_in_4, establish_in_4, Leads, keeping_then, depending_leads, bit_leads, tested_leads, from_more, eqb-true, beyond, number_of, acknowledge, by_number, clear_flags, discard, enter, error, establish_indication, response, send, start, zero_numbers, clear_busy_in_7_8, contents_in_7_8, failed, set_busy_in_7_8, both_ways}
+use Rattle.laws_link.proofs.Vocabulary.{◌≡◌, ℕ, ◌-◌, ◌≤◌, Bool, true, false, cond, List, [], length, take, drop, length-take-le, Option, Some, None, IsTrue, true≢false, refl, ◌⊎◌, inl, inr, sym, arith, nat_lt, option_map_or, ltb-false, drop_all, take_all, Seq, named, Control, Information, ReceiveReady, ReceiveNotReady, Reject, Sabme, Disc, Ui, Ua, Dm, Frmr, Xid, ErrorCode, Established, LinkTimer}
+use Rattle.laws_link.proofs.Vocabulary.{T203, Terms, Link, has_outstanding, is_peer_busy, begun, Step, ◌then◌, by_bit, frame_in_4, release_in_4, establish_in_4, Leads, keeping_then, depending_leads, bit_leads, tested_leads, from_more, eqb-true, beyond, number_of, acknowledge, by_number, clear_flags, discard, enter, error, establish_indication, response, send, start, zero_numbers}
+use Rattle.laws_link.proofs.Vocabulary.{clear_busy_in_7_8, contents_in_7_8, failed, set_busy_in_7_8, both_ways}
 use Rattle.model_link.specs.AwaitingEstablishment
 use Rattle.model_link.specs.AwaitingRelease
 use Rattle.model_link.specs.Established

@@ -1,6 +1,7 @@
 -- Worked values: what an event leaves of a link.
 use Rattle.std.specs.Prelude.{◌≡◌, true, false, List, [], ◌∷◌, refl}
-use Rattle.laws_link.specs.WorkedWords.{seq, distance_of, named, supervisory_of, unnumbered_of, control_of, header_of, reading, ReceiveReady, ReceiveNotReady, Reject, Sabme, Call, State, AwaitingEstablishment, Established, TimerRecovery, T203, ControlFrame, Link, fresh, Event, SetBusy, expired, after, after_all, usual_terms, frame_comes, ask, sabme, up, as_heard, state_after, numbers_begin, put, peer_busy_left, pending_left, told_by}
+use Rattle.laws_link.specs.WorkedWords.{seq, distance_of, named, supervisory_of, unnumbered_of, control_of, header_of, reading, ReceiveReady, ReceiveNotReady, Reject, Sabme, Call, State, AwaitingEstablishment, Established, TimerRecovery, T203, ControlFrame, Link, fresh, Event, SetBusy, expired, after, after_all, usual_terms, frame_comes, ask, sabme, up, as_heard, state_after, numbers_begin, put}
+use Rattle.laws_link.specs.WorkedWords.{peer_busy_left, pending_left, told_by}
 use Rattle.lapd_frame.specs.declared.notes.ErrorCode.TheVariants as code
 use Rattle.lapd_frame.specs.declared.notes.Note.TheVariants as notes
 

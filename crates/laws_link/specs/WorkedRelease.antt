@@ -1,6 +1,7 @@
 -- Worked values: links are established and released.
 use Rattle.std.specs.Prelude.{◌≡◌, true, false, [], ◌∷◌, None, Some, refl}
-use Rattle.laws_link.specs.WorkedWords.{seq, distance_of, named, Call, Packet, Start, Stop, WrongState, supervisory_of, unnumbered_of, control_of, header_of, reading, TeiAssigned, AwaitingEstablishment, Established, T200, T203, fresh, Establish, Release, expired, offer, cleared, refusal, after, after_all, told, price_of_all, usual_terms, with_n200, packet, frame_comes, ask, out, notes, lost, told_after, sabme, up}
+use Rattle.laws_link.specs.WorkedWords.{seq, distance_of, named, Call, Packet, Start, Stop, WrongState, supervisory_of, unnumbered_of, control_of, header_of, reading, TeiAssigned, AwaitingEstablishment, Established, T200, T203, fresh, Establish, Release, expired, offer, cleared, refusal, after, after_all, told, price_of_all, usual_terms, with_n200, packet, frame_comes, ask, out, notes, lost}
+use Rattle.laws_link.specs.WorkedWords.{told_after, sabme, up}
 use Rattle.lapd_frame.specs.declared.notes.Note.TheVariants as tell
 use Rattle.lapd_frame.specs.declared.notes.ErrorCode.TheVariants as code
 use Rattle.lapd_frame.specs.declared.timers.Timer.TheVariants as timer

@@ -1,6 +1,7 @@
 -- Worked values: I-frames come and go.
 use Rattle.std.specs.Prelude.{◌≡◌, ◌+◌, true, false, [], ◌∷◌, length, replicate, None, Some, sum_by, refl}
-use Rattle.laws_link.specs.WorkedWords.{seq, distance_of, named, Call, Start, Stop, WrongState, TooLong, QueueFull, PoolFull, supervisory_of, unnumbered_of, control_of, header_of, reading, AwaitingEstablishment, T200, T203, Link, fresh, queue_of, received, overlong, Release, Data, SetBusy, ClearBusy, expired, offer, refusal, after, after_all, told, held, price_of_all, usual_terms, with_k_and_queue, frame_comes, ask, out, notes, lost, sabme, up}
+use Rattle.laws_link.specs.WorkedWords.{seq, distance_of, named, Call, Start, Stop, WrongState, TooLong, QueueFull, PoolFull, supervisory_of, unnumbered_of, control_of, header_of, reading, AwaitingEstablishment, T200, T203, Link, fresh, queue_of, received, overlong, Release, Data, SetBusy, ClearBusy, expired, offer, refusal, after, after_all, told, held, price_of_all, usual_terms}
+use Rattle.laws_link.specs.WorkedWords.{with_k_and_queue, frame_comes, ask, out, notes, lost, sabme, up}
 use Rattle.lapd_frame.specs.declared.notes.Note.TheVariants as tell
 use Rattle.lapd_frame.specs.declared.notes.ErrorCode.TheVariants as code
 use Rattle.lapd_frame.specs.declared.timers.Timer.TheVariants as timer

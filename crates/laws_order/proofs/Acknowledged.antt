@@ -1,7 +1,7 @@
 -- How many contents an observer has counted as acknowledged is V(A) of the link, while that is in state 7 or 8.
-use Rattle.laws_order.proofs.Vocabulary.{◌≡◌, ℕ, ◌+◌, ◌%◌, ◌<◌, ◌≤◌, ◌==◌, ◌&&◌, ◌||◌, not, Bool, true, false, cond, List, [], ◌∷◌, ◌++◌, get_or, Option, Some, None, refl, sym, ap, ◌∙◌, subst, arith, eq-eqb, eqb-true, and_parts, append-nil, append_assoc, true≢false, all-left, nowhere, get_or-replicate, ◌⊎◌, inl, inr, fold, list_any, get_or-set_same, fold-append, Service, place_of-is, State, Terms, Link, is_multiple_frame, Config, IsInRange, Answer, refused, PoolFull, Line, fresh_line, link_of, place_in, terms_in_range, line_at, has_lines, by_room, event-follows, after, Goes, event-goes, off-fresh, fresh, at, Tally, no_tally, tallies, tally_of, LinkEvent, its, comes, here-at, IsSeenAs, seen-before, number-up, config-now, sound-now, moments-both, after_all-append, View, steps, views, view_of}
-use Rattle.model_link.specs.Deliveries.{restarts}
-use Rattle.model_link.specs.Sound.{IsSound}
+use Rattle.laws_order.proofs.Vocabulary.{◌≡◌, ℕ, ◌+◌, ◌%◌, ◌<◌, ◌≤◌, ◌==◌, ◌&&◌, ◌||◌, not, Bool, true, false, cond, List, [], ◌∷◌, ◌++◌, get_or, Option, Some, None, refl, sym, ap, ◌∙◌, subst, arith, eq-eqb, eqb-true, and_parts, append-nil, append_assoc, true≢false, all-left, nowhere, get_or-replicate, ◌⊎◌, inl, inr, fold, list_any, get_or-set_same, fold-append, Service, place_of-is, State, Terms}
+use Rattle.laws_order.proofs.Vocabulary.{Link, is_multiple_frame, Config, IsInRange, Answer, refused, PoolFull, Line, fresh_line, link_of, place_in, terms_in_range, line_at, has_lines, by_room, event-follows, after, Goes, event-goes, off-fresh, fresh, at, Tally, no_tally, tallies, tally_of, LinkEvent, its, comes, here-at, IsSeenAs, seen-before, number-up, config-now, sound-now, moments-both}
+use Rattle.laws_order.proofs.Vocabulary.{after_all-append, View, steps, views, view_of, restarts, IsSound, event-done, acknowledged, empties, share, with_share, acknowledged-went, link-at-end, sabme_of, one-begins, none-begins, brings-is, apart, nothing-seen, is_up}
 use Rattle.model_line.specs.Event as line_event
 use Rattle.model_line.specs.Machine as lines
 use Rattle.model_line.specs.Sound as line_sound
@@ -12,18 +12,8 @@ use Rattle.model_card.specs.Event.{Event}
 use Rattle.model_card.specs.Machine as machine
 use Rattle.model_card.specs.Run.{Moment, moments, after_all, IsAtLine, AreAtLines}
 use Rattle.model_card.specs.Sound as card_sound
-use Rattle.laws_link.proofs.Keeping.{event-done}
 use Rattle.laws_link.proofs.Restarts.{establishes}
-use Rattle.laws_link.specs.Accepted.{acknowledged, empties}
-use Rattle.laws_link.specs.History.{share, with_share}
-use Rattle.laws_trace.proofs.DataOfLink.{acknowledged-went}
-use Rattle.laws_trace.proofs.LineAtEnd.{link-at-end}
-use Rattle.laws_trace.proofs.NewsRows.{sabme_of}
-use Rattle.laws_trace.proofs.NewsSeen.{one-begins, none-begins}
-use Rattle.laws_trace.proofs.ObservedFacts.{brings-is}
-use Rattle.laws_trace.proofs.Runs.{apart, nothing-seen}
 use Rattle.laws_trace.specs.News.{brings, is_sabme}
-use Rattle.laws_trace.specs.Trace.{is_up}
 use Rattle.laws_order.proofs.Down.{stays-down}
 
 abbrev up_in : State → Bool

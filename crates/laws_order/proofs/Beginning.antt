@@ -1,18 +1,12 @@
 -- Two ends that are in step to whoever watches them face each other as links do.
-use Rattle.laws_order.proofs.Vocabulary.{is_some, has_tei, on-line, LineTold, ◌≡◌, ℕ, zero, suc, ◌+◌, ◌-◌, ◌<◌, ◌≤◌, true, false, IsTrue, List, [], ◌∷◌, ◌++◌, map, length, take, drop, slice_get, Option, Some, None, refl, sym, ap, ◌∙◌, subst, arith, length-drop, true≢false, All-append, All-cons, All-nil, option_map, option_map_or, unwrap_or, Service, Parts, ControlFrame, TeiAssigned, AwaitingRelease, Terms, T200, Link, is_multiple_frame, frame_of, Direction, frames_of, Carried, Rising, Config, IsInRange, Line, link_in, link_of, place_in, line_at, fresh_is_sound, frames_always_sound, Endpoint, Wire, EndStep, requests, turned, happens, StepAt, endpoint, assigned, calling, came, hears, request, Assign, Event, at, state_here, of_link_on, Past, Known, known, AreOfStep, IsInStep, FaceInStep, kept_by, FramesEvent, its, here-at, view-is, kept-now, seen-before, number-up, timely-now, after_all-append, length-take, state_in, window, Establish}
-use Rattle.std.specs.Prelude.{min}
-use Rattle.std.proofs.lemmas.List.{drop-drop}
+use Rattle.laws_order.proofs.Vocabulary.{is_some, has_tei, on-line, LineTold, ◌≡◌, ℕ, zero, suc, ◌+◌, ◌-◌, ◌<◌, ◌≤◌, true, false, IsTrue, List, [], ◌∷◌, ◌++◌, map, length, take, drop, slice_get, Option, Some, None, refl, sym, ap, ◌∙◌, subst, arith, length-drop, true≢false, All-append, All-cons, All-nil, option_map, option_map_or, unwrap_or, Service, Parts, ControlFrame, TeiAssigned}
+use Rattle.laws_order.proofs.Vocabulary.{AwaitingRelease, Terms, T200, Link, is_multiple_frame, frame_of, Direction, frames_of, Carried, Rising, Config, IsInRange, Line, link_in, link_of, place_in, line_at, fresh_is_sound, frames_always_sound, Endpoint, Wire, EndStep, requests, turned, happens, StepAt, endpoint, assigned, calling, came, hears, request, Assign, Event, at, state_here, of_link_on}
+use Rattle.laws_order.proofs.Vocabulary.{Past, Known, known, AreOfStep, IsInStep, FaceInStep, kept_by, FramesEvent, its, here-at, view-is, kept-now, seen-before, number-up, timely-now, after_all-append, length-take, state_in, window, Establish, min, drop-drop, HaveTheirTimers, run-stands, agrees-now, all-wait, waiting-now, is_up}
 use Rattle.model_link.specs.Link.{fresh as fresh_link}
 use Rattle.model_card.specs.Card.{fresh}
 use Rattle.model_card.specs.Machine as machine
 use Rattle.model_card.specs.Run.{after_all, IsAtLine}
 use Rattle.model_card.specs.Sound as card_sound
-use Rattle.laws_line.specs.Timers.{HaveTheirTimers}
-use Rattle.laws_trace.proofs.DeliveriesKept.{run-stands}
-use Rattle.laws_trace.proofs.ObservedAcknowledged.{agrees-now}
-use Rattle.laws_trace.proofs.Plain.{all-wait}
-use Rattle.laws_trace.proofs.WaitingNow.{waiting-now}
-use Rattle.laws_trace.specs.Trace.{is_up}
 use Rattle.laws_wire.specs.Wire.{acting, at_near, at_far, doing, doing_all, with_first_of}
 use Rattle.laws_order.proofs.Acknowledged.{place-of, acknowledged-now}
 use Rattle.laws_order.proofs.Pairs.{link_here, facing, Pair, IsWell, proper}

@@ -1,5 +1,8 @@
 -- What an event of a line is to the link of a service with a TEI that is in state 7 or 8.
-use Rattle.laws_order.proofs.Vocabulary.{arith, ◌≡◌, ℕ, ◌==◌, ◌&&◌, ◌||◌, not, Bool, true, false, cond, IsTrue, List, [], ◌∷◌, ◌++◌, Ok, refl, sym, ap, ◌∙◌, subst, eq-eqb, true≢false, ◌⊎◌, inl, inr, All, fold, option_to_list, unwrap_or, list_any, All-head, All-tail, Ui, Note, Service, Parts, reading, sapi_of, information_of, State, Terms, Link, is_multiple_frame, address_at, Config, hears, expiry, request, next, Answer, heard_side, Line, link_of, terms, aim_of, accepted, is_up_in, notes_of, contents_in, up_by_note, is_up_of, of_link, is_granted, IsBy, timer_of, link-grants, not-refused, same-sapi, sapi-is, known-up, frame_in, is_own, seen, is_ui, unless, granted-data, data-noted, no-data, frames_given, is_at_link, HasOne, IsForeign, HasNone, event-goes, read-again, frames_by, fresh, Event, is_of_link, of_link_in, data_noted, data_granted, ends_by_note, ends_by, of_link_on, stream_frame, link_frame, LinkEvent, Release, cleared, requested, overlong, undefined, wrong_size, offer, expired, received, NoteEstablishIndication, NoteData, NoteReleaseIndication, NoteRemoved, NoteEstablishConfirm, NoteError, NoteXid, NoteAssigned, NoteReleaseConfirm, NoteDoubled, NoteUnit, or-true, event-follows}
+use Rattle.laws_order.proofs.Vocabulary.{arith, ◌≡◌, ℕ, ◌==◌, ◌&&◌, ◌||◌, not, Bool, true, false, cond, IsTrue, List, [], ◌∷◌, ◌++◌, Ok, refl, sym, ap, ◌∙◌, subst, eq-eqb, true≢false, ◌⊎◌, inl, inr, All, fold, option_to_list, unwrap_or, list_any, All-head, All-tail, Ui, Note, Service, Parts, reading, sapi_of, information_of, State, Terms, Link, is_multiple_frame, address_at, Config, hears, expiry}
+use Rattle.laws_order.proofs.Vocabulary.{request, next, Answer, heard_side, Line, link_of, terms, aim_of, accepted, is_up_in, notes_of, contents_in, up_by_note, is_up_of, of_link, is_granted, IsBy, timer_of, link-grants, not-refused, same-sapi, sapi-is, known-up, frame_in, is_own, seen, is_ui, unless, granted-data, data-noted, no-data, frames_given, is_at_link, HasOne, IsForeign, HasNone}
+use Rattle.laws_order.proofs.Vocabulary.{event-goes, read-again, frames_by, fresh, Event, is_of_link, of_link_in, data_noted, data_granted, ends_by_note, ends_by, of_link_on, stream_frame, link_frame, LinkEvent, Release, cleared, requested, overlong, undefined, wrong_size, offer, expired, received, NoteEstablishIndication, NoteData, NoteReleaseIndication, NoteRemoved, NoteEstablishConfirm}
+use Rattle.laws_order.proofs.Vocabulary.{NoteError, NoteXid, NoteAssigned, NoteReleaseConfirm, NoteDoubled, NoteUnit, or-true, event-follows}
 use Rattle.laws_trace.proofs.DataAsked.{elsewhere}
 use Rattle.model_link.specs.Machine as links
 use Rattle.model_line.specs.Machine as lines

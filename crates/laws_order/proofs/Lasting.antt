@@ -1,8 +1,7 @@
 -- Two cards of which one end, the far one, lasts in its establishment, whatever has become of the near one's: what goes to it.
-use Rattle.laws_order.proofs.Vocabulary.{◌≡◌, ℕ, suc, ◌+◌, ◌<◌, ◌≤◌, false, List, [], ◌∷◌, ◌++◌, length, take, Option, Some, refl, arith, append-nil, inl, inr, slice_get, option_to_list, slice_get_within, Control, Information, ReceiveReady, ReceiveNotReady, Reject, Sabme, Disc, Parts, carries-next, Carries, Carried, Rising, Advance, HasNumber, is_ui}
+use Rattle.laws_order.proofs.Vocabulary.{◌≡◌, ℕ, suc, ◌+◌, ◌<◌, ◌≤◌, false, List, [], ◌∷◌, ◌++◌, length, take, Option, Some, refl, arith, append-nil, inl, inr, slice_get, option_to_list, slice_get_within, Control, Information, ReceiveReady, ReceiveNotReady, Reject, Sabme, Disc, Parts, carries-next, Carries, Carried, Rising, Advance, HasNumber, is_ui, take-next}
 use Rattle.laws_order.proofs.Down.{Speaks, Unheeded}
 use Rattle.laws_order.proofs.Putting.{Each, Answered, Reporting}
-use Rattle.model_link.proofs.Hearing.{take-next}
 
 -- What an end says that does not speak any more: SABME and DISC, behind reports.
 abbrev pub Calls : Control → Type 0

@@ -1,5 +1,6 @@
 -- An event of a link in state 7 or 8 leaves it there, or a note ends the establishment or renews it.
-use Rattle.laws_order.proofs.Vocabulary.{arith, ◌≡◌, ℕ, ◌==◌, ◌&&◌, ◌||◌, Bool, true, false, cond, IsTrue, List, [], ◌∷◌, ◌++◌, None, refl, sym, ap, ◌∙◌, subst, eq-eqb, ◌⊎◌, nat_lt, list_any, list_any-append, Control, Information, Sabme, Disc, ErrorCode, Note, Parts, Seq, State, AwaitingEstablishment, TimerRecovery, Terms, Link, is_multiple_frame, Received, received, undefined, wrong_size, overlong, requested, Release, Course, as_heard, is_invalid, receipt_of, is_faulty, by_frame, by_received, state_after, is_anew, error, told_by, told_by_frame, told_malformed, told_cleared, event-follows, service-same, is_own, is_ui, after, told, ends_by_note, NoteError, or-true}
+use Rattle.laws_order.proofs.Vocabulary.{arith, ◌≡◌, ℕ, ◌==◌, ◌&&◌, ◌||◌, Bool, true, false, cond, IsTrue, List, [], ◌∷◌, ◌++◌, None, refl, sym, ap, ◌∙◌, subst, eq-eqb, ◌⊎◌, nat_lt, list_any, list_any-append, Control, Information, Sabme, Disc, ErrorCode, Note, Parts, Seq, State, AwaitingEstablishment, TimerRecovery, Terms, Link, is_multiple_frame, Received, received, undefined, wrong_size}
+use Rattle.laws_order.proofs.Vocabulary.{overlong, requested, Release, Course, as_heard, is_invalid, receipt_of, is_faulty, by_frame, by_received, state_after, is_anew, error, told_by, told_by_frame, told_malformed, told_cleared, event-follows, service-same, is_own, is_ui, after, told, ends_by_note, NoteError, or-true}
 use Rattle.lapd_frame.specs.declared.notes.ErrorCode.TheVariants as code
 use Rattle.model_link.specs.Events.{Event, frame}
 use Rattle.model_link.specs.Machine

@@ -1,10 +1,10 @@
 -- The premises of the law are met by the worked run.
-use Rattle.laws_order.proofs.Vocabulary.{◌≡◌, ℕ, ◌<◌, true, List, [], ◌∷◌, ◌++◌, refl, sym, ap, ◌∙◌, arith, All, list_any, leb-true, All-nil, All-cons, User, Network, Service, Call, Packet, other_side, reading, header_of, control_of, unnumbered_of, supervisory_of, distance_of, named, seq, Assign, request, IsFront, calling, Wire, requests, at, step, IsElsewhere, AnyStepAt, by_near, by_far, IsPossible, happening_all, seen_near, seen_far, t200s, IsToldAtLast, IsNotDeactivated, data_noted, data_granted, ends_by, known, IsInStep, FaceInStep, kept_by, StaysEstablished, IsToldOfRelease, news, tei_refusal, tei_course}
+use Rattle.laws_order.proofs.Vocabulary.{◌≡◌, ℕ, ◌<◌, true, List, [], ◌∷◌, ◌++◌, refl, sym, ap, ◌∙◌, arith, All, list_any, leb-true, All-nil, All-cons, User, Network, Service, Call, Packet, other_side, reading, header_of, control_of, unnumbered_of, supervisory_of, distance_of, named, seq, Assign, request, IsFront, calling, Wire, requests, at, step, IsElsewhere, AnyStepAt, by_near, by_far}
+use Rattle.laws_order.proofs.Vocabulary.{IsPossible, happening_all, seen_near, seen_far, t200s, IsToldAtLast, IsNotDeactivated, data_noted, data_granted, ends_by, known, IsInStep, FaceInStep, kept_by, StaysEstablished, IsToldOfRelease, news, tei_refusal, tei_course, releases, released, takes_two, far_lasts, awaits, both_release, both_begin_nothing}
 use Rattle.laws_wire.specs.Wire.{acting, at_far, doing, doing_all}
 use Rattle.model_line.specs.Machine as lines
 use Rattle.model_line.specs.Request.{SetBusy}
 use Rattle.laws_order.specs.Worked.{network, user, faces, calls_both, others_speak, both_send, is_busy, goes_again, busy_run, call_far as far_stays, owes, sends_one, sends_more, more_far_stays, busy_waits, clears, cleared_stays, enquires, asks_state, recovers, recovered_stays, early, loses_first, early_stays}
-use Rattle.laws_order.specs.WorkedRelease.{releases, released, takes_two, far_lasts, awaits, both_release, both_begin_nothing}
 use Rattle.laws_order.specs.WorkedInTheEnd.{repeats_three, gives_up, four_expire, gives_up_quietly, goes_on_to_the_end, comes_quietly, comes_there, comes_confirmed}
 use Rattle.laws_order.proofs.InTheEnd.{releases-are-told, both-are-told}
 use Rattle.laws_order.proofs.Ordered.{delivered-in-order}

@@ -1,10 +1,10 @@
 -- What an event of a link puts behind the control frames that wait, and what an offer gives: of each frame a predicate holds that holds of
 -- supervisory frames, of the answers to what is heard, and of the command that the state awaits the answer to.
-use Rattle.laws_order.proofs.Vocabulary.{arith, ◌≡◌, ℕ, suc, Bool, true, false, cond, IsTrue, List, [], ◌∷◌, ◌++◌, take, refl, ap, ◌∙◌, append-nil, append_assoc, slice_get, unwrap_or, Seq, seq, Control, Information, ReceiveReady, ReceiveNotReady, Reject, Sabme, Disc, Ua, Dm, Parts, State, AwaitingEstablishment, AwaitingRelease, ControlFrame, Terms, received, undefined, wrong_size, overlong, expired, requested, offer, cleared, Link, is_multiple_frame, frame_of, course, given_of, Course, frame_given, frames_of, as_heard, receipt_as, answers, commands, put, room, event-follows, after, begun}
+use Rattle.laws_order.proofs.Vocabulary.{arith, ◌≡◌, ℕ, suc, Bool, true, false, cond, IsTrue, List, [], ◌∷◌, ◌++◌, take, refl, ap, ◌∙◌, append-nil, append_assoc, slice_get, unwrap_or, Seq, seq, Control, Information, ReceiveReady, ReceiveNotReady, Reject, Sabme, Disc, Ua, Dm, Parts, State, AwaitingEstablishment, AwaitingRelease, ControlFrame, Terms, received, undefined, wrong_size, overlong}
+use Rattle.laws_order.proofs.Vocabulary.{expired, requested, offer, cleared, Link, is_multiple_frame, frame_of, course, given_of, Course, frame_given, frames_of, as_heard, receipt_as, answers, commands, put, room, event-follows, after, begun, at-end}
 use Rattle.model_link.specs.Events.{Event, frame}
 use Rattle.model_link.specs.Offers
 use Rattle.model_link.specs.Words
-use Rattle.laws_wire.proofs.Replying.{at-end}
 
 -- Each of some frames, and each of some that wait.
 abbrev pub Each : (Control → Type 0) → List Parts → Type 0

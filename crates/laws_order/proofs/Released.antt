@@ -1,5 +1,6 @@
 -- What an end is told of its link in state 6, and in state 4, whatever happens at it and at the other end.
-use Rattle.laws_order.proofs.Vocabulary.{arith, ◌≡◌, ℕ, List, [], ◌∷◌, ◌++◌, refl, sym, ap, ◌∙◌, subst, append-nil, ◌⊎◌, inl, inr, All, list_any, All-head, All-tail, list_any-append, Note, Service, TeiAssigned, AwaitingRelease, Link, came, hears, expiry, request, next, after_is_sound, Seen, seen, Endpoint, Wire, requests, expires, sends, receives, loses, answered, happens, turned, flat_map-append, Event, line_of, AnyStep, step, disturbed, elsewhere, befalling, AnyStepAt, by_near, by_far, IsPossible, happening, IsPossibleAt, events_here, seen_by, seen_at_near, seen_near, data_noted, news, begins_by, BeginsNothing, IsToldOfRelease, ReleasesEnd, ReleasedIsOver, or_parts, at}
+use Rattle.laws_order.proofs.Vocabulary.{arith, ◌≡◌, ℕ, List, [], ◌∷◌, ◌++◌, refl, sym, ap, ◌∙◌, subst, append-nil, ◌⊎◌, inl, inr, All, list_any, All-head, All-tail, list_any-append, Note, Service, TeiAssigned, AwaitingRelease, Link, came, hears, expiry, request, next, after_is_sound, Seen, seen, Endpoint, Wire, requests, expires, sends, receives, loses, answered, happens, turned, flat_map-append}
+use Rattle.laws_order.proofs.Vocabulary.{Event, line_of, AnyStep, step, disturbed, elsewhere, befalling, AnyStepAt, by_near, by_far, IsPossible, happening, IsPossibleAt, events_here, seen_by, seen_at_near, seen_near, data_noted, news, begins_by, BeginsNothing, IsToldOfRelease, ReleasesEnd, ReleasedIsOver, or_parts, at}
 use Rattle.laws_order.proofs.Beginning.{past-well, six-here, four-here}
 use Rattle.laws_order.proofs.Leading.{other-line}
 use Rattle.laws_order.proofs.Ordered.{noted-append, near-place, far-place, all-possible}

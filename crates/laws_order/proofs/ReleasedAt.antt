@@ -1,6 +1,7 @@
 -- What one event at an end tells of its link in state 6, and in state 4.
-use Rattle.laws_order.proofs.Vocabulary.{◌≡◌, ℕ, Bool, true, false, cond, List, [], ◌∷◌, get_or, set, Option, Some, None, refl, sym, ap, ◌∙◌, subst, arith, append-nil, true≢false, ◌⊎◌, inl, inr, filter, option_to_list, list_any, get_or-set_same, Control, H, Note, Refusal, PoolFull, Service, TeiAssigned, AwaitingRelease, Terms, Link, state_number, Config, Answer, refused, Line, fresh_line, has_tei, link_of, place_in, terms, line_at, has_lines, by_room, notes_of, contents_in, deactivates, IsBy, is-off, seen, is_ui, unless, no-data, on-line, own-is, leaving-due, none-filtered, others-silent, due, HasOne, HasNone, IsGivenUp, event-goes, off-fresh, Endpoint, answered, happens, fresh, at, line_of, data_noted, is_news, news, begins_by_note, begins_by, BeginsNothing, link_frame, received, LinkEvent, cleared, after, told, NoteError, NoteReleaseConfirm, or-true}
-use Rattle.model_line.specs.Event.{Event}
+use Rattle.laws_order.proofs.Vocabulary.{◌≡◌, ℕ, Bool, true, false, cond, List, [], ◌∷◌, get_or, set, Option, Some, None, refl, sym, ap, ◌∙◌, subst, arith, append-nil, true≢false, ◌⊎◌, inl, inr, filter, option_to_list, list_any, get_or-set_same, Control, H, Note, Refusal, PoolFull, Service, TeiAssigned, AwaitingRelease, Terms, Link, state_number, Config, Answer, refused, Line, fresh_line, has_tei}
+use Rattle.laws_order.proofs.Vocabulary.{link_of, place_in, terms, line_at, has_lines, by_room, notes_of, contents_in, deactivates, IsBy, is-off, seen, is_ui, unless, no-data, on-line, own-is, leaving-due, none-filtered, others-silent, due, HasOne, HasNone, IsGivenUp, event-goes, off-fresh, Endpoint, answered, happens, fresh, at, line_of, data_noted, is_news, news, begins_by_note, begins_by}
+use Rattle.laws_order.proofs.Vocabulary.{BeginsNothing, link_frame, received, LinkEvent, cleared, after, told, NoteError, NoteReleaseConfirm, or-true, Event}
 use Rattle.model_line.specs.Machine as lines
 use Rattle.model_line.specs.Sound as line_sound
 use Rattle.model_card.proofs.Steps.{line_sound as sound_line}

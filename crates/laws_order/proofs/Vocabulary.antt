@@ -1,12 +1,15 @@
 -- The words of std, of the crates below and of the statements of this crate with which its proofs speak: those of `laws_wire` from its own
 -- vocabulary, the others from where they are defined.
-pub use Rattle.laws_wire.proofs.Vocabulary.{All-append, All-cons, All-head, All-nil, All-tail, Assign, AwaitingEstablishment, AwaitingRelease, Call, Card, Config, Control, ControlFrame, Course, Data, LinkEndpoint, ErrorCode, Establish, Given, Joined, LinkTimer, Note, Packet, Parts, PoolFull, Refusal, Request, Seq, Service, State, T200, TeiAssigned, Terms, TimerRecovery, and_parts, at-first, begun, came, done-at, event-delivers, event-follows, flat_map-append, frame_given, given_is_frame, heard_side, is_granted, joined-turned, le-ltb, leb-true, line_at, link-grants, list_any, list_any-append, ltb-false, ltb-true, network, next_of, offer-gave, option_map_or, or_parts, other_side, place_of-is, reading-again, sapi_of, sound_in, taken, terms_in_range, user, with_link, with_sent}
+pub use Rattle.laws_wire.proofs.Vocabulary.{All-append, All-cons, All-head, All-nil, All-tail, Assign, AwaitingEstablishment, AwaitingRelease, Call, Card, Config, Control, ControlFrame, Course, Data, LinkEndpoint, ErrorCode, Establish, Given, Joined, LinkTimer, Note, Packet, Parts, PoolFull, Refusal, Request, Seq, Service, State, T200, TeiAssigned, Terms, TimerRecovery, and_parts, at-first, begun}
+pub use Rattle.laws_wire.proofs.Vocabulary.{came, done-at, event-delivers, event-follows, flat_map-append, frame_given, given_is_frame, heard_side, is_granted, joined-turned, le-ltb, leb-true, line_at, link-grants, list_any, list_any-append, ltb-false, ltb-true, network, next_of, offer-gave, option_map_or, or_parts, other_side, place_of-is, reading-again, sapi_of, sound_in, taken, terms_in_range}
+pub use Rattle.laws_wire.proofs.Vocabulary.{user, with_link, with_sent}
 unfoldable pub use Rattle.laws_wire.proofs.Vocabulary.{control_of, distance_of, header_of, named, reading, seq, supervisory_of, tei_course, tei_refusal, unnumbered_of}
-pub use Rattle.std.proofs.Common.{Bool, Err, IfSome, IsTrue, List, None, Ok, Option, Result, Some, [], ap, append-nil, append_assoc, arith, cond, drop, eq-eqb, eqb-true, false, get_or, inl, inr, is_some, length, length-append, length-drop, map, nat_lt, not, option_and_then, option_map, option_to_list, refl, reverse, set, subst, suc, sym, take, true, true≢false, zero, ℕ, ◌%◌, ◌&&◌, ◌*◌, ◌++◌, ◌+◌, ◌-◌, ◌<◌, ◌==◌, ◌||◌, ◌∙◌, ◌∷◌, ◌≡◌, ◌≤◌, ◌⊎◌}
-pub use Rattle.std.proofs.lemmas.List.{append_cancel_left, get_or-replicate, get_or-set_other, get_or-set_same, length-map, length-take-le, map-append, length-take}
+pub use Rattle.std.proofs.Common.{Bool, Err, IfSome, IsTrue, List, None, Ok, Option, Result, Some, [], ap, append-nil, append_assoc, arith, cond, drop, eq-eqb, eqb-true, false, get_or, inl, inr, is_some, length, length-append, length-drop, map, nat_lt, not, option_and_then, option_map, option_to_list, refl, reverse, set, subst, suc, sym, take, true, true≢false, zero, ℕ, ◌%◌, ◌&&◌, ◌*◌, ◌++◌, ◌+◌}
+pub use Rattle.std.proofs.Common.{◌-◌, ◌<◌, ◌==◌, ◌||◌, ◌∙◌, ◌∷◌, ◌≡◌, ◌≤◌, ◌⊎◌}
+pub use Rattle.std.proofs.lemmas.List.{append_cancel_left, drop-drop, get_or-replicate, get_or-set_other, get_or-set_same, length-map, length-take, length-take-le, map-append}
 pub use Rattle.std.proofs.lemmas.List.Sums.{fold-append}
 pub use Rattle.std.proofs.lemmas.Option.{slice_get_within}
-pub use Rattle.std.specs.Prelude.{All, filter, flat_map, fold, if◌then◌else◌, slice_get, unwrap_or}
+pub use Rattle.std.specs.Prelude.{All, filter, flat_map, fold, if◌then◌else◌, min, slice_get, unwrap_or}
 pub use Rattle.lapd_frame.specs.declared.addresses.Side.TheVariants.{Network, User}
 pub use Rattle.lapd_frame.specs.declared.controls.Control.TheVariants.{Disc, Dm, Information, ReceiveNotReady, ReceiveReady, Reject, Sabme, Ua, Ui}
 pub use Rattle.lapd_frame.specs.declared.faults.ReadFault.{ReadFault}
@@ -26,7 +29,7 @@ pub use Rattle.laws_line.specs.Knowledge.{is_up_of, up_by_note}
 pub use Rattle.laws_line.specs.Requests.{deactivates, of_link}
 pub use Rattle.laws_line.specs.Steady.{IsBy, timer_of}
 pub use Rattle.model_link.proofs.TimedRows.{timed-after}
-pub use Rattle.laws_link.specs.Accepted.{accepted, contents_asked}
+pub use Rattle.laws_link.specs.Accepted.{accepted, acknowledged, contents_asked, empties}
 pub use Rattle.laws_link.specs.Known.{is_up_in}
 pub use Rattle.laws_link.specs.States.{as_heard, by_frame, by_received, by_request, is_faulty, is_invalid, receipt_of, state_after}
 pub use Rattle.laws_link.specs.Steady.{is_anew}
@@ -54,18 +57,18 @@ pub use Rattle.laws_trace.proofs.Drained.{moments-both}
 pub use Rattle.laws_trace.specs.FramesAreRead.{GivesOctets, contents_given}
 pub use Rattle.laws_trace.specs.LinkFrames.{is_for}
 pub use Rattle.laws_trace.specs.Observer.{View, steps, view_of, views}
-pub use Rattle.laws_trace.specs.Trace.{IsFront, Seen, data_asked, frame_in, frames_begun, is_own, seen, trace, trace_of}
+pub use Rattle.laws_trace.specs.Trace.{IsFront, Seen, data_asked, frame_in, frames_begun, is_own, is_up, seen, trace, trace_of}
 pub use Rattle.laws_trace.specs.Units.{is_ui}
 pub use Rattle.laws_wire.proofs.Fair.{or-true}
 pub use Rattle.laws_wire.proofs.Answered.{asks-way, gives-taken, takes-way}
-pub use Rattle.laws_wire.proofs.Delivering.{calls-face}
+pub use Rattle.laws_wire.proofs.Delivering.{calls-face, is-established, is-quiet, is-sound}
 pub use Rattle.laws_wire.proofs.RestedRounds.{doing-append}
 pub use Rattle.laws_wire.proofs.Run.{calls-come-through, or-both}
-pub use Rattle.laws_wire.proofs.Spelled.{twice-other}
+pub use Rattle.laws_wire.proofs.Spelled.{came-whole, twice-other}
 pub use Rattle.laws_wire.specs.Call.{CanCall, IsCall, assigned, calling, confirmed, data_told, endpoint, told_first, ComesThrough as CallComesThrough}
 unfoldable pub use Rattle.laws_wire.specs.Call.{both_call as call_both_call}
 pub use Rattle.laws_wire.specs.Facing.{Face, Speaks, line_of}
-pub use Rattle.laws_wire.specs.Wire.{Step as EndStep, StepAt, IsStill, Endpoint, Wire, answered, frames_by, sends, happens, is_any, loses, requests, receives, expires, turned, without_first, at_far as wire_at_far, at_near as wire_at_near, doing as wire_doing, is_turn as wire_is_turn}
+pub use Rattle.laws_wire.specs.Wire.{Endpoint, IsStill, Step as EndStep, StepAt, Wire, answered, at_far as wire_at_far, at_near as wire_at_near, doing as wire_doing, expires, frame_comes, frames_by, happens, is_any, is_turn as wire_is_turn, loses, receives, requests, sends, turned, without_first}
 unfoldable pub use Rattle.laws_wire.specs.Wire.{doing_all as wire_doing_all, turns as wire_turns}
 pub use Rattle.model_bits.specs.Bits.{bits}
 unfoldable pub use Rattle.model_bits.specs.Bits.{low_bits}
@@ -84,19 +87,19 @@ pub use Rattle.model_card.proofs.OfPorts.LineHeard.{all_out, go_out}
 pub use Rattle.model_card.proofs.OfPorts.PortGoesOn.{ready_where}
 pub use Rattle.model_card.proofs.OfPorts.Pulls.{pulls_are_takes}
 pub use Rattle.model_card.proofs.OfPorts.Sound.{port_sound}
-pub use Rattle.model_card.proofs.OfPorts.Steps.{config_stays, moments-append}
+pub use Rattle.model_card.proofs.OfPorts.Steps.{by_port, config_after, config_stays, moments-append, ports_after}
 pub use Rattle.model_card.proofs.OfPorts.TextGoesOn.{left_with_octet}
 pub use Rattle.model_card.proofs.Runs.{after_all-append}
 pub use Rattle.model_card.proofs.Steps.{by_room, has_lines}
 pub use Rattle.model_card.specs.Machine.{wants_room, answer as card_answer}
 pub use Rattle.model_card.specs.ports.Card.{OctetCard, answer_to, card_after, port_at, said}
-pub use Rattle.model_card.specs.ports.Codec.{frames_among, octet_pulled}
+pub use Rattle.model_card.specs.ports.Codec.{frames_among, heard_by, octet_come, octet_pulled}
 pub use Rattle.model_card.specs.ports.GoingOut.{GoOut}
 pub use Rattle.model_bits.specs.StreamLaws.{HasOctets}
 pub use Rattle.model_card.specs.ports.Port.{Port, answer_of, fresh_port, gained, is_due, item_of, left_of, next_octet, with_item, with_octet, Event as PortEvent, after as port_after, meant as port_meant, octet as port_octet, pull as port_pull, request as port_request, told as port_told}
 pub use Rattle.model_card.specs.ports.Pulls.{longest_text}
 pub use Rattle.model_card.specs.ports.Run.{AreAtLines, IsAtLine}
-pub use Rattle.model_card.specs.ports.Sound.{IsSoundPort}
+pub use Rattle.model_card.specs.ports.Sound.{IsSoundOctetCard, IsSoundPort}
 pub use Rattle.model_line.specs.Event.{Answer, Event, LineTold, NextFrame, expiry, gave, hears, next, refused, request, given_in}
 pub use Rattle.model_line.specs.Line.{Line, fresh_line, has_tei, link_in, link_of, place_in, terms, state_in, window}
 pub use Rattle.model_line.specs.Machine.{aim_of}
@@ -118,9 +121,34 @@ unfoldable pub use Rattle.laws_order.specs.circuit.Beats.{beats}
 pub use Rattle.laws_order.specs.circuit.Circuit.{Circuit, Step as OctetStep, StepAt as OctetStepAt, Endpoint as OctetEndpoint, requests as octet_requests, at_far, at_near, port_of, doing}
 unfoldable pub use Rattle.laws_order.specs.circuit.Circuit.{doing_all}
 pub use Rattle.laws_order.specs.circuit.Mixed.{DeliveredBetweenKinds, Mixed}
-pub use Rattle.laws_order.specs.circuit.Resting.{AreSilent, CallsComeToRest, FaceAtRest}
-pub use Rattle.laws_order.specs.circuit.Through.{HasAllGone, IsTalk, IsTalkOf}
+pub use Rattle.laws_order.specs.circuit.Resting.{AreSilent, CallsComeToRest, FaceAtRest, as_noisy_endpoint}
+pub use Rattle.laws_order.specs.circuit.Through.{HasAllGone, IsTalk, IsTalkOf, calls_back}
 unfoldable pub use Rattle.laws_order.specs.circuit.Through.{both_call}
 pub use Rattle.laws_order.specs.circuit.WorkedCall.{begins, establishes, goes_on, sends_octets}
 pub use Rattle.model_card.specs.Event.{at, Event as FramesEvent}
 pub use Rattle.model_line.specs.Sound.{IsInRange}
+pub use Rattle.laws_line.specs.Timers.{HaveTheirTimers}
+pub use Rattle.laws_link.proofs.Keeping.{event-done}
+pub use Rattle.laws_link.specs.History.{share, with_share}
+pub use Rattle.laws_order.specs.WorkedRelease.{awaits, both_begin_nothing, both_release, far_lasts, released, releases, takes_two}
+pub use Rattle.laws_order.specs.circuit.Damaged.{HasReceived}
+pub use Rattle.laws_order.specs.circuit.MixedCall.{IsThrough}
+pub use Rattle.laws_order.specs.circuit.WorkedMixed.{are_talk, call_begins, talks}
+pub use Rattle.laws_trace.proofs.DataOfLink.{acknowledged-went}
+pub use Rattle.laws_trace.proofs.DeliveriesKept.{run-stands}
+pub use Rattle.laws_trace.proofs.LineAtEnd.{link-at-end}
+pub use Rattle.laws_trace.proofs.NewsRows.{sabme_of}
+pub use Rattle.laws_trace.proofs.NewsSeen.{none-begins, one-begins}
+pub use Rattle.laws_trace.proofs.ObservedAcknowledged.{agrees-now}
+pub use Rattle.laws_trace.proofs.ObservedFacts.{brings-is}
+pub use Rattle.laws_trace.proofs.Plain.{all-wait}
+pub use Rattle.laws_trace.proofs.Runs.{apart, nothing-seen}
+pub use Rattle.laws_trace.proofs.WaitingNow.{waiting-now}
+pub use Rattle.laws_wire.proofs.Joint.{timer-delivers}
+pub use Rattle.laws_wire.proofs.Replying.{at-end}
+pub use Rattle.model_card.specs.ports.HeardOctets.{HearsOctets}
+pub use Rattle.model_card.specs.ports.Reached.{IsReached}
+pub use Rattle.model_link.proofs.Hearing.{take-next}
+pub use Rattle.model_link.specs.Deliveries.{restarts}
+pub use Rattle.model_link.specs.Sound.{IsSound}
+pub use Rattle.std.proofs.lemmas.Bool.{ne_eqb}

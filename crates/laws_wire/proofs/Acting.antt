@@ -1,5 +1,6 @@
 -- What happens at one end of a wire whose link is up, where frames are lost and timers expire.
-use Rattle.laws_wire.proofs.Vocabulary.{arith, ◌≡◌, ℕ, IsTrue, List, [], ◌∷◌, ◌++◌, drop, refl, sym, ap, subst, ◌∙◌, ◌⊎◌, inl, inr, append-nil, Service, Timer, Parts, spelling, ControlFrame, LinkTimer, is_multiple_frame, course, IsInRange, LinkEndpoint, with_link, with_sent, frames_of, Config, LineTold, expiry, request, next, at_timer, aim_of_expiry, Line, place_in, event-follows, IsSound, Course, line_of, Data, Endpoint, happens, without_first, frame_comes, two_ends_without_first}
+use Rattle.laws_wire.proofs.Vocabulary.{arith, ◌≡◌, ℕ, IsTrue, List, [], ◌∷◌, ◌++◌, drop, refl, sym, ap, subst, ◌∙◌, ◌⊎◌, inl, inr, append-nil, Service, Timer, Parts, spelling, ControlFrame, LinkTimer, is_multiple_frame, course, IsInRange, LinkEndpoint, with_link, with_sent, frames_of, Config, LineTold, expiry, request, next, at_timer, aim_of_expiry, Line, place_in, event-follows, IsSound, Course}
+use Rattle.laws_wire.proofs.Vocabulary.{line_of, Data, Endpoint, happens, without_first, frame_comes, two_ends_without_first}
 use Rattle.model_link.specs.Events as link
 use Rattle.laws_wire.proofs.Asking.{with_more}
 use Rattle.laws_wire.proofs.Fair.{Fine, frame-fair, timer-fair}

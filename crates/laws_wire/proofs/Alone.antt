@@ -1,9 +1,7 @@
 -- Where all frames that are left at a station are those of one link, nothing else waits there.
-use Rattle.laws_wire.proofs.Vocabulary.{◌≡◌, ◌≢◌, ℕ, zero, suc, ◌+◌, ◌<◌, ◌≤◌, [], length, Some, None, ap, arith, ⊎_elim, cases_eq, option_map_or, place_of-is, Service, fresh, given, none-waits, number_within, service_at-number, next, gave, Line, link_number, link_count, link_at, link_in, place_in, terms_at, nothing-to_send, Endpoint, answered, own_link}
-use Rattle.std.proofs.lemmas.List.Sums.{sum_by-cons}
+use Rattle.laws_wire.proofs.Vocabulary.{◌≡◌, ◌≢◌, ℕ, zero, suc, ◌+◌, ◌<◌, ◌≤◌, [], length, Some, None, ap, arith, ⊎_elim, cases_eq, option_map_or, place_of-is, Service, fresh, given, none-waits, number_within, service_at-number, next, gave, Line, link_number, link_count, link_at, link_in, place_in, terms_at, nothing-to_send, Endpoint, answered, own_link, sum_by-cons, to_go_at_link}
 use Rattle.std.specs.List.{range_with_len, sum_by}
 use Rattle.laws_line.proofs.Exact.{exactly-none, to-nothing, empty}
-use Rattle.laws_line.specs.Drains.{to_go_at_link}
 use Rattle.laws_wire.proofs.Answered.{gives-taken}
 use Rattle.laws_wire.specs.Facing.{line_of, frames_at, own_frames_at}
 use Rattle.model_line.specs.Sound.{IsSound}

@@ -1,5 +1,6 @@
 -- The premises of the law on a call with losses are met by the worked call.
-use Rattle.laws_wire.proofs.Vocabulary.{◌≡◌, Bool, true, false, List, [], ◌∷◌, ◌++◌, refl, sym, subst, ◌∙◌, true≢false, All, Call, reading, header_of, control_of, unnumbered_of, supervisory_of, distance_of, named, seq, Data, SetBusy, ClearBusy, Wire, IsStill, requests, expires, sends, receives, loses, StepAt, at_near, at_far, doing, doing_all, turns, confirmed, indicated, data_told, heard_in, round, awaits_reply, MayRepeat, user, network, begins, line_answer, line_takes_slot, line_after, tei_refusal, tei_course, IsFullTalk, StayPatient, uncalled, error_f, seen, ToldSo}
+use Rattle.laws_wire.proofs.Vocabulary.{◌≡◌, Bool, true, false, List, [], ◌∷◌, ◌++◌, refl, sym, subst, ◌∙◌, true≢false, All, Call, reading, header_of, control_of, unnumbered_of, supervisory_of, distance_of, named, seq, Data, SetBusy, ClearBusy, Wire, IsStill, requests, expires, sends, receives, loses, StepAt, at_near, at_far, doing, doing_all, turns, confirmed, indicated, data_told, heard_in}
+use Rattle.laws_wire.proofs.Vocabulary.{round, awaits_reply, MayRepeat, user, network, begins, line_answer, line_takes_slot, line_after, tei_refusal, tei_course, IsFullTalk, StayPatient, uncalled, error_f, seen, ToldSo}
 use Rattle.lapd_frame.specs.declared.timers.Timer.TheVariants.{T200, T203}
 use Rattle.laws_wire.specs.WorkedAnswering.{loses_ua, is_busy, repeated, repeated_seen, repeated_still, repeated_rests, asks_early, rings_again, kept, kept_seen, kept_still, kept_rests, grants_early, dropped, dropped_seen, dropped_still, dropped_rests}
 use Rattle.laws_wire.proofs.PremisesMet.{can, all-of}

@@ -1,5 +1,6 @@
 -- The premises of the law on what arrives under traffic are met by the worked call.
-use Rattle.laws_wire.proofs.Vocabulary.{◌≡◌, ℕ, List, [], ◌∷◌, ◌++◌, refl, sym, ◌∙◌, inl, true≢false, All, leb-true, Call, reading, header_of, control_of, unnumbered_of, supervisory_of, distance_of, named, seq, Data, Wire, requests, expires, sends, receives, loses, at_near, at_far, doing_all, turns, confirmed, indicated, all_told, heard_in, IsRoughTalk, round, StayTimely, LosesNothing, GoesOn, SendsOrReceives, HasCome, user, network, begins, MayRepeat, awaits_reply, false, ◌≤◌, ◌*◌, inr, arith, IsStill, granted_of, rounds, expiries, most_frames, most_left, line_answer, line_takes_slot, line_after, tei_refusal, tei_course}
+use Rattle.laws_wire.proofs.Vocabulary.{◌≡◌, ℕ, List, [], ◌∷◌, ◌++◌, refl, sym, ◌∙◌, inl, true≢false, All, leb-true, Call, reading, header_of, control_of, unnumbered_of, supervisory_of, distance_of, named, seq, Data, Wire, requests, expires, sends, receives, loses, at_near, at_far, doing_all, turns, confirmed, indicated, all_told, heard_in, IsRoughTalk, round, StayTimely, LosesNothing, GoesOn}
+use Rattle.laws_wire.proofs.Vocabulary.{SendsOrReceives, HasCome, user, network, begins, MayRepeat, awaits_reply, false, ◌≤◌, ◌*◌, inr, arith, IsStill, granted_of, rounds, expiries, most_frames, most_left, line_answer, line_takes_slot, line_after, tei_refusal, tei_course}
 use Rattle.lapd_frame.specs.declared.timers.Timer.TheVariants.{T200}
 use Rattle.laws_wire.specs.WorkedArriving.{loses_two, goes_on, lossy, over, lossy_near, near_asked, over_still, waits, quiet, quiet_still, quiet_runs, asks, asked, asked_near, in_bulk, bulk_still}
 use Rattle.laws_wire.proofs.PremisesMet.{can, all-of}

@@ -1,5 +1,7 @@
 -- Two cards that have just begun: each has the TEI assigned, and one is asked to establish.
-use Rattle.laws_wire.proofs.Vocabulary.{◌≡◌, ℕ, zero, suc, ◌<◌, ◌≤◌, true, false, not, List, [], ◌∷◌, length, get_or, set, replicate, Some, None, is_some, refl, sym, ap, subst, ◌∙◌, append-nil, arith, nat_lt, option_map_or, le-ltb, lt-ltb, get_or-set_same, length-replicate, All-nil, TeiTaken, TableFull, Service, Call, Packet, empty, Places, is_on, free_place, join_at, put_on, join, is_on-at, place_of-is, table-put, table-empty, Link, fresh, LinkEndpoint, with_link, Config, Effect, of_change, told_of_management, request, Line, fresh_line, link_number, terms, terms_at, link_at, link_of, link_in, link_count, has_tei, Assign, fresh_gives_nothing, ranges_of, Card, line_at, wants_room, after_is_sound, fresh_is_sound, by-two, has-place, Event, nothing, told, Establish, Endpoint, answered, happens, told_by, endpoint, assigned, requested, LinkEstablish, line_answer, line_takes_slot, line_after, tei_unless_refused, tei_assign, tei_refusal, tei_course, given}
+use Rattle.laws_wire.proofs.Vocabulary.{◌≡◌, ℕ, zero, suc, ◌<◌, ◌≤◌, true, false, not, List, [], ◌∷◌, length, get_or, set, replicate, Some, None, is_some, refl, sym, ap, subst, ◌∙◌, append-nil, arith, nat_lt, option_map_or, le-ltb, lt-ltb, get_or-set_same, length-replicate, All-nil, TeiTaken, TableFull, Service, Call, Packet, empty, Places, is_on, free_place, join_at, put_on, join, is_on-at}
+use Rattle.laws_wire.proofs.Vocabulary.{place_of-is, table-put, table-empty, Link, fresh, LinkEndpoint, with_link, Config, Effect, of_change, told_of_management, request, Line, fresh_line, link_number, terms, terms_at, link_at, link_of, link_in, link_count, has_tei, Assign, fresh_gives_nothing, ranges_of, Card, line_at, wants_room, after_is_sound, fresh_is_sound, by-two, has-place, Event, nothing}
+use Rattle.laws_wire.proofs.Vocabulary.{told, Establish, Endpoint, answered, happens, told_by, endpoint, assigned, requested, LinkEstablish, line_answer, line_takes_slot, line_after, tei_unless_refused, tei_assign, tei_refusal, tei_course, given}
 use Rattle.lapd_tei.specs.Words.{Course, begun as tei_begun}
 use Rattle.model_line.specs.Refusal.{refusal}
 use Rattle.model_line.specs.Sound as line_sound

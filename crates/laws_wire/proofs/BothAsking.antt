@@ -1,6 +1,7 @@
 -- What is done in a call. Layer 3 asks for the establishment of the link: in state 4 it is granted, and in any other state it is
 -- refused, which changes nothing.
-use Rattle.laws_wire.proofs.Vocabulary.{arith, ◌≡◌, ℕ, ◌≤◌, true, false, [], Option, None, refl, sym, ap, subst, ◌∙◌, ◌⊎◌, append-nil, nat_lt, option_map_or, le-ltb, Refusal, Service, is_on-at, place_of-is, Terms, fresh, is_down, LinkEndpoint, with_link, Config, request, Line, link_in, link_of, has_tei, terms, unless_refused_told, of_request, line_at, wants_room, is_granted, Event, Establish, Endpoint, happens, answered, requests, StepAt, at_near, at_far, IsTalk, IsCall, requested, LinkEstablish, line_answer, line_takes_slot}
+use Rattle.laws_wire.proofs.Vocabulary.{arith, ◌≡◌, ℕ, ◌≤◌, true, false, [], Option, None, refl, sym, ap, subst, ◌∙◌, ◌⊎◌, append-nil, nat_lt, option_map_or, le-ltb, Refusal, Service, is_on-at, place_of-is, Terms, fresh, is_down, LinkEndpoint, with_link, Config, request, Line, link_in, link_of, has_tei, terms, unless_refused_told, of_request, line_at, wants_room, is_granted, Event, Establish}
+use Rattle.laws_wire.proofs.Vocabulary.{Endpoint, happens, answered, requests, StepAt, at_near, at_far, IsTalk, IsCall, requested, LinkEstablish, line_answer, line_takes_slot}
 use Rattle.model_line.specs.Refusal.{refusal}
 use Rattle.model_card.specs.Event.{at as event_at}
 use Rattle.laws_wire.proofs.Calling.{asked, asks-establish, end}

@@ -1,5 +1,6 @@
 -- Both ends call, and SABMEs cross: how far each call has come, and what each step does.
-use Rattle.laws_wire.proofs.Vocabulary.{◌≡◌, ℕ, ◌+◌, ◌*◌, ◌<◌, ◌≤◌, false, List, [], ◌∷◌, ◌++◌, length, None, refl, sym, ap, subst, ◌∙◌, ◌⊎◌, inl, inr, append-nil, arith, if◌then◌else◌, lt-ltb, Service, Parts, spelling, ControlFrame, Terms, received, course, given, IsInRange, LinkEndpoint, with_link, with_sent, Config, terms, Request, next, Pair, frame, after, refusal, Endpoint, Wire, frames_by, with_first_of, without_first, EndStep, requests, sends, receives, acting, turned, is_turn_of, answered, frame_comes, IsTalkOf, confirmed, LinkData, two_ends_without_first}
+use Rattle.laws_wire.proofs.Vocabulary.{◌≡◌, ℕ, ◌+◌, ◌*◌, ◌<◌, ◌≤◌, false, List, [], ◌∷◌, ◌++◌, length, None, refl, sym, ap, subst, ◌∙◌, ◌⊎◌, inl, inr, append-nil, arith, if◌then◌else◌, lt-ltb, Service, Parts, spelling, ControlFrame, Terms, received, course, given, IsInRange, LinkEndpoint, with_link, with_sent, Config, terms, Request, next, Pair, frame, after, refusal, Endpoint, Wire, frames_by}
+use Rattle.laws_wire.proofs.Vocabulary.{with_first_of, without_first, EndStep, requests, sends, receives, acting, turned, is_turn_of, answered, frame_comes, IsTalkOf, confirmed, LinkData, two_ends_without_first}
 use Rattle.laws_wire.proofs.Answered.{takes-granted, gives-granted}
 use Rattle.laws_wire.proofs.BothHalf as half
 use Rattle.laws_wire.proofs.BothHalf.{lower}

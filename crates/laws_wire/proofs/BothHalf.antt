@@ -1,5 +1,6 @@
 -- A call of which one end is up, and its UA waits or is on its way; and then both are up.
-use Rattle.laws_wire.proofs.Vocabulary.{◌≡◌, ℕ, ◌+◌, ◌*◌, ◌≤◌, false, List, [], ◌++◌, length, None, refl, sym, ap, subst, ◌∙◌, ◌⊎◌, inl, inr, arith, if◌then◌else◌, Service, spelling, Terms, course, is_down, IsInRange, LinkEndpoint, with_sent, Config, terms, LineTold, request, next, weight_at, Pair, refusal, Data, Endpoint, Wire, happens, frames_by, with_first_of, EndStep, requests, sends, receives, StepAt, at_near, at_far, acting, turned, doing, is_turn_of, is_turn, answered, frame_comes, IsTalkOf, IsTalk, confirmed, received, LinkData, frame}
+use Rattle.laws_wire.proofs.Vocabulary.{◌≡◌, ℕ, ◌+◌, ◌*◌, ◌≤◌, false, List, [], ◌++◌, length, None, refl, sym, ap, subst, ◌∙◌, ◌⊎◌, inl, inr, arith, if◌then◌else◌, Service, spelling, Terms, course, is_down, IsInRange, LinkEndpoint, with_sent, Config, terms, LineTold, request, next, weight_at, Pair, refusal, Data, Endpoint, Wire, happens, frames_by, with_first_of, EndStep, requests, sends}
+use Rattle.laws_wire.proofs.Vocabulary.{receives, StepAt, at_near, at_far, acting, turned, doing, is_turn_of, is_turn, answered, frame_comes, IsTalkOf, IsTalk, confirmed, received, LinkData, frame}
 use Rattle.laws_wire.proofs.Answered.{gives-granted, takes-granted}
 use Rattle.laws_wire.proofs.Asking.{with_more}
 use Rattle.laws_wire.proofs.BothAsking.{Refuses, refuses}

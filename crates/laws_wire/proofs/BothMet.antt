@@ -1,6 +1,5 @@
 -- The premises of the law are met by the worked call in which SABMEs cross: so each was told all, and the two face each other.
-use Rattle.laws_wire.proofs.Vocabulary.{arith, refl, All, Call, reading, header_of, control_of, unnumbered_of, supervisory_of, distance_of, named, seq, doing_all, turns, IsStill, IsCall, both_call, ComesThrough, Face, user, network, begins, line_answer, line_takes_slot, line_after, tei_refusal, tei_course}
-use Rattle.laws_wire.specs.BothWorked.{both_send}
+use Rattle.laws_wire.proofs.Vocabulary.{arith, refl, All, Call, reading, header_of, control_of, unnumbered_of, supervisory_of, distance_of, named, seq, doing_all, turns, IsStill, IsCall, both_call, ComesThrough, Face, user, network, begins, line_answer, line_takes_slot, line_after, tei_refusal, tei_course, both_send}
 use Rattle.laws_wire.proofs.Delivering.{calls-face}
 use Rattle.laws_wire.proofs.PremisesMet.{can, all-of}
 use Rattle.laws_wire.proofs.Run.{calls-come-through}

@@ -1,5 +1,6 @@
 -- A call from its beginning: the near end calls, and the far one may call back before SABME comes; each step of it.
-use Rattle.laws_wire.proofs.Vocabulary.{◌≡◌, ℕ, ◌+◌, ◌*◌, ◌≤◌, Bool, true, false, cond, ◌||◌, [], ◌∷◌, length, refl, sym, ap, subst, ◌∙◌, ◌⊎◌, inl, inr, arith, if◌then◌else◌, Service, spelling, Terms, fresh, IsInRange, with_link, Config, terms, next, Establish, Endpoint, Wire, frames_by, with_first_of, EndStep, requests, sends, receives, StepAt, at_near, at_far, acting, turned, doing, is_turn_of, is_turn, answered, frame_comes, IsTalkOf, IsTalk, IsCall, calls_back, confirmed, indicated, told_first, received, frame}
+use Rattle.laws_wire.proofs.Vocabulary.{◌≡◌, ℕ, ◌+◌, ◌*◌, ◌≤◌, Bool, true, false, cond, ◌||◌, [], ◌∷◌, length, refl, sym, ap, subst, ◌∙◌, ◌⊎◌, inl, inr, arith, if◌then◌else◌, Service, spelling, Terms, fresh, IsInRange, with_link, Config, terms, next, Establish, Endpoint, Wire, frames_by, with_first_of, EndStep, requests, sends, receives, StepAt, at_near, at_far, acting, turned, doing, is_turn_of}
+use Rattle.laws_wire.proofs.Vocabulary.{is_turn, answered, frame_comes, IsTalkOf, IsTalk, IsCall, calls_back, confirmed, indicated, told_first, received, frame}
 use Rattle.laws_wire.proofs.Answered.{takes-granted, gives-granted}
 use Rattle.laws_wire.proofs.BothAsking.{Kind, talks, near_calls, far_calls, kind, Refuses, refuses, calls}
 use Rattle.laws_wire.proofs.BothHalf as half

@@ -1,6 +1,6 @@
 -- The premises of the law on counted expiries are met, by the worked calls that recover from their losses.
-use Rattle.laws_wire.proofs.Vocabulary.{◌≡◌, refl, arith, All, Call, reading, header_of, control_of, unnumbered_of, supervisory_of, distance_of, named, seq, sends, loses, at_near, doing, doing_all, turns, confirmed, heard_in, StayTimely, IsFullTalk, StayPatient, Counts, counting, uncounted, IsBelow, StayCounted, StaySpared, user, network, begins, loses_three, lost, ℕ, ◌<◌, line_answer, line_takes_slot, line_after, tei_refusal, tei_course}
-use Rattle.laws_wire.specs.WorkedCounted.{ua_is_lost}
+use Rattle.laws_wire.proofs.Vocabulary.{◌≡◌, refl, arith, All, Call, reading, header_of, control_of, unnumbered_of, supervisory_of, distance_of, named, seq, sends, loses, at_near, doing, doing_all, turns, confirmed, heard_in, StayTimely, IsFullTalk, StayPatient, Counts, counting, uncounted, IsBelow, StayCounted, StaySpared, user, network, begins, loses_three, lost, ℕ, ◌<◌, line_answer}
+use Rattle.laws_wire.proofs.Vocabulary.{line_takes_slot, line_after, tei_refusal, tei_course, ua_is_lost}
 unfoldable use Rattle.laws_wire.proofs.AnsweringMet.{ua-lost}
 use Rattle.laws_wire.proofs.AnsweringMet.{lost-idle}
 use Rattle.laws_wire.proofs.Counting.{expiries-are-counted, lossy-expiries-are-counted}

@@ -1,5 +1,6 @@
 -- The premises of the law on a call that ends are met by the worked call.
-use Rattle.laws_wire.proofs.Vocabulary.{◌≡◌, [], ◌∷◌, ◌++◌, refl, inl, All, Call, reading, header_of, control_of, unnumbered_of, supervisory_of, distance_of, named, seq, Wire, expires, sends, loses, at_near, doing_all, turns, heard_in, MayRepeat, IsFullTalk, StayPatient, IsLeaving, StayTimelyThere, release_confirmed, EndsSo, user, network, begins, establishes, IsStill, line_answer, line_takes_slot, line_after, tei_refusal, tei_course}
+use Rattle.laws_wire.proofs.Vocabulary.{◌≡◌, [], ◌∷◌, ◌++◌, refl, inl, All, Call, reading, header_of, control_of, unnumbered_of, supervisory_of, distance_of, named, seq, Wire, expires, sends, loses, at_near, doing_all, turns, heard_in, MayRepeat, IsFullTalk, StayPatient, IsLeaving, StayTimelyThere, release_confirmed, EndsSo, user, network, begins, establishes, IsStill, line_answer}
+use Rattle.laws_wire.proofs.Vocabulary.{line_takes_slot, line_after, tei_refusal, tei_course}
 use Rattle.lapd_frame.specs.declared.timers.Timer.TheVariants.{T200}
 use Rattle.laws_wire.specs.WorkedEnding.{established, rests, still, released, loses_disc, loses_both, ended, ended_still, ended_rests}
 use Rattle.laws_wire.proofs.EndedRun.{calls-end}

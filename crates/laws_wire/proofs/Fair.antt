@@ -1,5 +1,6 @@
 -- An event of a link in states 7 and 8 tells an error; or it leaves the link there, tells what it delivers, and nothing else.
-use Rattle.laws_wire.proofs.Vocabulary.{arith, ◌≡◌, ℕ, Bool, true, false, ◌||◌, IsTrue, List, [], ◌∷◌, ◌++◌, map, Option, None, refl, sym, ap, ◌∙◌, ◌⊎◌, inl, inr, true≢false, option_to_list, list_any, list_any-append, Seq, Control, Information, Sabme, ErrorCode, Note, Parts, State, Established, TimerRecovery, LinkTimer, Terms, Link, is_multiple_frame, received, expired, begun, Step, Leads, keeping_then, nothing_leads, depending_leads, bit_leads, Means, frame, Course, is_error, NoteData, NoteError}
+use Rattle.laws_wire.proofs.Vocabulary.{arith, ◌≡◌, ℕ, Bool, true, false, ◌||◌, IsTrue, List, [], ◌∷◌, ◌++◌, map, Option, None, refl, sym, ap, ◌∙◌, ◌⊎◌, inl, inr, true≢false, option_to_list, list_any, list_any-append, Seq, Control, Information, Sabme, ErrorCode, Note, Parts, State, Established, TimerRecovery, LinkTimer, Terms, Link, is_multiple_frame, received, expired, begun, Step, Leads}
+use Rattle.laws_wire.proofs.Vocabulary.{keeping_then, nothing_leads, depending_leads, bit_leads, Means, frame, Course, is_error, NoteData, NoteError}
 use Rattle.model_link.specs.Words
 use Rattle.model_link.specs.MultipleFrame
 use Rattle.model_link.specs.Established

@@ -1,12 +1,12 @@
 -- Two ends that are up, and whose T200 is timely: they stay so, and no frame that one takes makes it tell an error.
-use Rattle.laws_wire.proofs.Vocabulary.{arith, ◌≡◌, ℕ, Bool, true, false, cond, IsTrue, List, [], ◌∷◌, ◌++◌, refl, sym, ap, subst, ◌∙◌, ◌⊎◌, true≢false, list_any, Parts, State, TeiAssigned, LinkTimer, Terms, Link, is_multiple_frame, received, expired, requested, offer, course, LinkEndpoint, Ends, link_requests, link_expires, link_sends, link_receives, with_link, with_sent, IsUp, frames_of, Joined, joined-turned, done-at, Rising, frame-taken, busy_asked, as_heard, is_overlong, state_after, told_expired, event-follows, CanRepeat, IsTimelyStep, is_recovering, Flow, no-answer, line, NoAlien, is-no-alien, Sane, sane-doing, Flows, acted-flows, done-up, same-after, Kind, answer, alien, kind_of, after, is_error}
+use Rattle.laws_wire.proofs.Vocabulary.{arith, ◌≡◌, ℕ, Bool, true, false, cond, IsTrue, List, [], ◌∷◌, ◌++◌, refl, sym, ap, subst, ◌∙◌, ◌⊎◌, true≢false, list_any, Parts, State, TeiAssigned, LinkTimer, Terms, Link, is_multiple_frame, received, expired, requested, offer, course, LinkEndpoint, Ends, link_requests, link_expires, link_sends, link_receives, with_link, with_sent, IsUp, frames_of, Joined}
+use Rattle.laws_wire.proofs.Vocabulary.{joined-turned, done-at, Rising, frame-taken, busy_asked, as_heard, is_overlong, state_after, told_expired, event-follows, CanRepeat, IsTimelyStep, is_recovering, Flow, no-answer, line, NoAlien, is-no-alien, Sane, sane-doing, Flows, acted-flows, done-up, same-after, Kind, answer, alien, kind_of, after, is_error, flows-low}
 use Rattle.model_link.specs.TwoEnds.{Step as EndStep, loses, at_near, with_first_of, without_first, acting}
 use Rattle.laws_link.specs.Telling.{told_by}
 use Rattle.laws_link.specs.two.Timely.{IsTimely}
 use Rattle.model_link.specs.Events.{Event, frame, overlong, Data}
 use Rattle.laws_wire.proofs.Fair.{HasError, Fine, frame-fair}
 use Rattle.laws_wire.proofs.Tame.{Tame, tame-asks, tame-expires, tame-sends, tame-loses, tame-takes, off}
-use Rattle.laws_link.proofs.OfTwo.TimelyRuns.{flows-low}
 
 -- ---- what is told of a frame
 

@@ -1,5 +1,6 @@
 -- What is left to do on a wire, as its stations are; and what is done at an end makes it less, whatever its phase.
-use Rattle.laws_wire.proofs.Vocabulary.{◌≡◌, ℕ, ◌+◌, ◌*◌, ◌≤◌, Bool, false, cond, List, [], length, refl, sym, subst, inl, inr, append-nil, arith, Service, Timer, Parts, LinkTimer, T200, T203, Terms, Link, Course, course, begun, LinkEndpoint, with_link, Config, LineTold, request, Line, place_in, Request, SetBusy, ClearBusy, at_requested, aim_of_request, contents_requested, Endpoint, Wire, happens, EndStep, requests, expires, receives, acting, turned, granted_of, link_of, flat_map, is_granted, answered, IsAsked, IsOfLink, IsFullTalkOf, IsTimelyOf, is_move_of, expiries_of, requested, LinkClearBusy, LinkRequest, LinkSetBusy, timer_T200, timer_T203, reports_of}
+use Rattle.laws_wire.proofs.Vocabulary.{◌≡◌, ℕ, ◌+◌, ◌*◌, ◌≤◌, Bool, false, cond, List, [], length, refl, sym, subst, inl, inr, append-nil, arith, Service, Timer, Parts, LinkTimer, T200, T203, Terms, Link, Course, course, begun, LinkEndpoint, with_link, Config, LineTold, request, Line, place_in, Request, SetBusy, ClearBusy, at_requested, aim_of_request, contents_requested, Endpoint, Wire, happens}
+use Rattle.laws_wire.proofs.Vocabulary.{EndStep, requests, expires, receives, acting, turned, granted_of, link_of, flat_map, is_granted, answered, IsAsked, IsOfLink, IsFullTalkOf, IsTimelyOf, is_move_of, expiries_of, requested, LinkClearBusy, LinkRequest, LinkSetBusy, timer_T200, timer_T203, reports_of}
 use Rattle.laws_wire.specs.Facing.{line_of, read_as}
 use Rattle.laws_wire.proofs.Awaited.{link-is, way-is, may-there}
 use Rattle.laws_wire.proofs.Held.{Held}

@@ -1,6 +1,7 @@
 -- A station in a call in which frames are lost and timers expire: what its layer 3 was granted is what its link accepted, and
 -- layer 3 heard what its link delivered.
-use Rattle.laws_wire.proofs.Vocabulary.{◌≡◌, ℕ, Bool, true, false, ◌==◌, suc, List, [], ◌∷◌, ◌++◌, length, map, None, is_some, refl, sym, ap, subst, ◌∙◌, ◌⊎◌, inl, inr, append-nil, append_assoc, eqb-true, arith, option_to_list, flat_map, list_any, and_parts, false≢true, map-append, list_any-append, list_any_none, Note, Service, Timer, Parts, spelling, LinkTimer, LinkEndpoint, with_link, with_sent, Config, LineTold, expiry, request, next, at_timer, aim_of_expiry, Line, place_in, flat_map-append, Course, Data, Endpoint, happens, without_first, frame_comes, data_told, for_layer_3, heard_in, is_error, HasNoError, two_ends_without_first, course, NoteData, refusal}
+use Rattle.laws_wire.proofs.Vocabulary.{◌≡◌, ℕ, Bool, true, false, ◌==◌, suc, List, [], ◌∷◌, ◌++◌, length, map, None, is_some, refl, sym, ap, subst, ◌∙◌, ◌⊎◌, inl, inr, append-nil, append_assoc, eqb-true, arith, option_to_list, flat_map, list_any, and_parts, false≢true, map-append, list_any-append, list_any_none, Note, Service, Timer, Parts, spelling, LinkTimer, LinkEndpoint, with_link, with_sent}
+use Rattle.laws_wire.proofs.Vocabulary.{Config, LineTold, expiry, request, next, at_timer, aim_of_expiry, Line, place_in, flat_map-append, Course, Data, Endpoint, happens, without_first, frame_comes, data_told, for_layer_3, heard_in, is_error, HasNoError, two_ends_without_first, course, NoteData, refusal}
 use Rattle.model_link.specs.Events as link
 use Rattle.laws_wire.proofs.Answered.{gives-told, same-granted, takes-granted}
 use Rattle.laws_wire.proofs.Asking.{with_more}

@@ -1,5 +1,6 @@
 -- Two ends whose links are up, by what is on the line from each to the other: first what is on its way, and then what waits.
-use Rattle.laws_wire.proofs.Vocabulary.{◌≡◌, ℕ, Bool, cond, IsTrue, List, [], ◌∷◌, ◌++◌, length, drop, None, refl, sym, ap, ◌∙◌, append_assoc, append-nil, arith, option_to_list, front_rest, Parts, State, Established, LinkTimer, ControlFrame, Terms, received, expired, offer, Link, is_multiple_frame, course, IsInRange, begun, LinkEndpoint, with_link, with_sent, event-delivers, frames_of, frames-append, sender-goes, receiver-goes, sender-loses, receiver-loses, Reports, Up, no-reports, any_number, still, timer_7_up, t200_8_up, at-first, sender-hears, receiver-hears, Means, Rising, Gave, offer-gave, frame-taken, none-delivered, frame, after, IsSound, Course}
+use Rattle.laws_wire.proofs.Vocabulary.{◌≡◌, ℕ, Bool, cond, IsTrue, List, [], ◌∷◌, ◌++◌, length, drop, None, refl, sym, ap, ◌∙◌, append_assoc, append-nil, arith, option_to_list, front_rest, Parts, State, Established, LinkTimer, ControlFrame, Terms, received, expired, offer, Link, is_multiple_frame, course, IsInRange, begun, LinkEndpoint, with_link, with_sent, event-delivers, frames_of}
+use Rattle.laws_wire.proofs.Vocabulary.{frames-append, sender-goes, receiver-goes, sender-loses, receiver-loses, Reports, Up, no-reports, any_number, still, timer_7_up, t200_8_up, at-first, sender-hears, receiver-hears, Means, Rising, Gave, offer-gave, frame-taken, none-delivered, frame, after, IsSound, Course}
 use Rattle.model_link.specs.Machine
 use Rattle.model_link.proofs.Direction.{Direction, line_of}
 

@@ -1,5 +1,6 @@
 -- How many turns and losses there are at most where both ends are up, by what waits, what is on its way, and what is still to be told.
-use Rattle.laws_wire.proofs.Vocabulary.{◌≡◌, ℕ, suc, ◌+◌, ◌-◌, ◌*◌, ◌≤◌, Bool, IsTrue, List, [], ◌∷◌, ◌++◌, length, map, take, sym, ap, subst, ◌∙◌, arith, length-map, length-take-le, Service, Parts, Control, Information, ControlFrame, Link, is_multiple_frame, LinkEndpoint, Config, LineTold, carried-high, Endpoint, Wire, confirmed, indicated, data_told, all_told, heard_in, most_frames, frames_left, notes_left, most_left}
+use Rattle.laws_wire.proofs.Vocabulary.{◌≡◌, ℕ, suc, ◌+◌, ◌-◌, ◌*◌, ◌≤◌, Bool, IsTrue, List, [], ◌∷◌, ◌++◌, length, map, take, sym, ap, subst, ◌∙◌, arith, length-map, length-take-le, Service, Parts, Control, Information, ControlFrame, Link, is_multiple_frame, LinkEndpoint, Config, LineTold, carried-high, Endpoint, Wire, confirmed, indicated, data_told, all_told, heard_in, most_frames, frames_left}
+use Rattle.laws_wire.proofs.Vocabulary.{notes_left, most_left}
 use Rattle.laws_wire.proofs.Acting.{sound}
 use Rattle.laws_wire.proofs.Awaited.{link-is}
 use Rattle.laws_wire.proofs.Held.{Held}

@@ -1,5 +1,7 @@
 -- A line on which one link alone has anything to say.
-use Rattle.laws_wire.proofs.Vocabulary.{◌≡◌, ◌≢◌, ℕ, false, ◌<◌, List, [], ◌∷◌, slice_get, Option, Some, None, option_map, Ok, refl, ap, subst, ◌∙◌, ◌⊎◌, inl, arith, ⊎_elim, All, option_or, cases_eq, get_or-set_same, get_or-set_other, All-head, All-tail, Service, Timer, Parts, reading, sapi_of, IsAt, place_of-is, Terms, LinkTimer, Link, Config, Aim, at_link, told_of_link, of_aim, hears, expiry, request, next, at_timer, aim_of_expiry, Line, link_number, service_at, tei_at, terms, terms_at, link_at, link_in, link_count, place_in, unless_refused, of_heard, addressed, message_of, aim_of_heard, aim_of_reading, heard_side, at_side, Taken, with_given_frame, link_taken, first_taken, taken, Request, at_requested, aim_of_request, IsSoundAt, came, place_at-number, service_at-number, number_within, round_below, IsSilent, none-waits, sends-none, nothing-given, nothing-to_send, silent-stays, told, line_answer, line_after, after, link_told, given}
+use Rattle.laws_wire.proofs.Vocabulary.{◌≡◌, ◌≢◌, ℕ, false, ◌<◌, List, [], ◌∷◌, slice_get, Option, Some, None, option_map, Ok, refl, ap, subst, ◌∙◌, ◌⊎◌, inl, arith, ⊎_elim, All, option_or, cases_eq, get_or-set_same, get_or-set_other, All-head, All-tail, Service, Timer, Parts, reading, sapi_of, IsAt, place_of-is, Terms, LinkTimer, Link, Config, Aim, at_link, told_of_link, of_aim, hears, expiry}
+use Rattle.laws_wire.proofs.Vocabulary.{request, next, at_timer, aim_of_expiry, Line, link_number, service_at, tei_at, terms, terms_at, link_at, link_in, link_count, place_in, unless_refused, of_heard, addressed, message_of, aim_of_heard, aim_of_reading, heard_side, at_side, Taken, with_given_frame, link_taken, first_taken, taken, Request, at_requested, aim_of_request, IsSoundAt, came}
+use Rattle.laws_wire.proofs.Vocabulary.{place_at-number, service_at-number, number_within, round_below, IsSilent, none-waits, sends-none, nothing-given, nothing-to_send, silent-stays, told, line_answer, line_after, after, link_told, given}
 use Rattle.model_bits.specs.Stream as stream
 use Rattle.model_link.specs.Events as link
 use Rattle.model_link.specs.Sound as link_sound

@@ -1,6 +1,7 @@
 -- A frame that is heard in states 7 and 8 brings no more to send than it weighs, and than the contents that it delivers
 -- allow.
-use Rattle.laws_wire.proofs.Vocabulary.{◌≡◌, ℕ, ◌+◌, ◌*◌, ◌≤◌, Bool, true, false, cond, ◌&&◌, IsTrue, List, length, Option, Some, None, refl, sym, subst, ◌⊎◌, inl, inr, true≢false, arith, nat_lt, Seq, named, Control, ReceiveReady, ReceiveNotReady, Reject, Parts, State, Established, TimerRecovery, LinkTimer, T203, Terms, Link, is_multiple_frame, received, course, begun, Step, ◌then◌, by_bit, Means, named-within, T200, frame, IsSound, code_J, code_O}
+use Rattle.laws_wire.proofs.Vocabulary.{◌≡◌, ℕ, ◌+◌, ◌*◌, ◌≤◌, Bool, true, false, cond, ◌&&◌, IsTrue, List, length, Option, Some, None, refl, sym, subst, ◌⊎◌, inl, inr, true≢false, arith, nat_lt, Seq, named, Control, ReceiveReady, ReceiveNotReady, Reject, Parts, State, Established, TimerRecovery, LinkTimer, T203, Terms, Link, is_multiple_frame, received, course, begun, Step, ◌then◌, by_bit, Means}
+use Rattle.laws_wire.proofs.Vocabulary.{named-within, T200, frame, IsSound, code_J, code_O}
 use Rattle.model_link.specs.Machine
 use Rattle.model_link.specs.Steps.{Course, nothing}
 use Rattle.model_link.specs.Words

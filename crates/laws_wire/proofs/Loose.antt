@@ -1,9 +1,8 @@
 -- Two ends that are up, either of which may be busy, and whose T200 is timely: they stay up, and no frame that one takes makes it tell an
 -- error.
-use Rattle.laws_wire.proofs.Vocabulary.{◌≡◌, false, length, true≢false, arith, nat_lt, lt-ltb, ltb-false, take_all, Established, runs, LinkEndpoint, Ends, Joined, joined-turned, done-at, rising-low, IsTimelyStep, HasNothingToSend, Sane, sane-doing, Flows, acted-flows, same-after, T200, line_of}
+use Rattle.laws_wire.proofs.Vocabulary.{◌≡◌, false, length, true≢false, arith, nat_lt, lt-ltb, ltb-false, take_all, Established, runs, LinkEndpoint, Ends, Joined, joined-turned, done-at, rising-low, IsTimelyStep, HasNothingToSend, Sane, sane-doing, Flows, acted-flows, same-after, T200, line_of, flows-low}
 use Rattle.model_link.specs.TwoEnds.{Step as EndStep, at_near, acting}
 use Rattle.laws_wire.proofs.Firm.{Firm, up-after}
-use Rattle.laws_link.proofs.OfTwo.TimelyRuns.{flows-low}
 
 pub record Loose (n m : LinkEndpoint) : Type 0 where
   pub joined : Joined n m

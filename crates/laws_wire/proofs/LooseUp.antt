@@ -1,5 +1,7 @@
 -- Two stations that are up, either of which may be busy, where each timer is timely: both stay up, whatever is lost.
-use Rattle.laws_wire.proofs.Vocabulary.{arith, ◌≡◌, ℕ, false, List, [], ◌∷◌, ◌++◌, length, drop, map, None, refl, sym, ap, subst, ◌∙◌, ◌⊎◌, inl, inr, append-nil, Service, Timer, TimerRecovery, Terms, LinkTimer, T203, Link, course, LinkEndpoint, with_link, with_sent, offer-gave, Config, LineTold, request, Line, place_in, Request, at_requested, aim_of_request, awaits_answer, IsNotRelease, CanRepeat, HasNothingToSend, nothing-given, runs, T200, Course, Data, SetBusy, ClearBusy, Endpoint, Wire, happens, EndStep, requests, expires, sends, receives, loses, acting, turned, IsStill, contents_requested, data_told, heard_in, IsTimelyOf, runs_t200, IsAsked, IsFullTalkOf, Rests, requested, expired, LinkSetBusy, LinkClearBusy, LinkData, LinkRequest, timer_T200, timer_T203}
+use Rattle.laws_wire.proofs.Vocabulary.{arith, ◌≡◌, ℕ, false, List, [], ◌∷◌, ◌++◌, length, drop, map, None, refl, sym, ap, subst, ◌∙◌, ◌⊎◌, inl, inr, append-nil, Service, Timer, TimerRecovery, Terms, LinkTimer, T203, Link, course, LinkEndpoint, with_link, with_sent, offer-gave, Config, LineTold, request, Line, place_in, Request, at_requested, aim_of_request, awaits_answer, IsNotRelease, CanRepeat}
+use Rattle.laws_wire.proofs.Vocabulary.{HasNothingToSend, nothing-given, runs, T200, Course, Data, SetBusy, ClearBusy, Endpoint, Wire, happens, EndStep, requests, expires, sends, receives, loses, acting, turned, IsStill, contents_requested, data_told, heard_in, IsTimelyOf, runs_t200, IsAsked, IsFullTalkOf, Rests, requested, expired, LinkSetBusy, LinkClearBusy, LinkData, LinkRequest, timer_T200}
+use Rattle.laws_wire.proofs.Vocabulary.{timer_T203}
 use Rattle.model_link.specs.TwoEnds as two_ends
 use Rattle.laws_link.specs.two.Timely as two_links_timely
 use Rattle.laws_wire.proofs.Asking.{with_more, asked-form}

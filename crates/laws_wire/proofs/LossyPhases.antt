@@ -1,6 +1,7 @@
 -- A call in which frames are lost and timers expire: SABME goes as often as T200 expires; then the other end is up, and UA may be on
 -- its way, or lost; and then both are up, and SABME may still be on its way. Or an error was told.
-use Rattle.laws_wire.proofs.Vocabulary.{arith, ◌≡◌, ℕ, List, [], ◌∷◌, map, refl, sym, ap, subst, ◌∙◌, ◌⊎◌, inl, inr, All, All-head, Service, Timer, Parts, spelling, ControlFrame, Terms, LinkTimer, fresh, LinkEndpoint, Config, LineTold, at_timer, aim_of_expiry, Line, place_in, terms, Request, Data, Endpoint, Wire, requests, receives, loses, acting, turned, confirmed, indicated, IsOfLink, IsRoughTalkOf, timer_T201, timer_T200, timer_T203}
+use Rattle.laws_wire.proofs.Vocabulary.{arith, ◌≡◌, ℕ, List, [], ◌∷◌, map, refl, sym, ap, subst, ◌∙◌, ◌⊎◌, inl, inr, All, All-head, Service, Timer, Parts, spelling, ControlFrame, Terms, LinkTimer, fresh, LinkEndpoint, Config, LineTold, at_timer, aim_of_expiry, Line, place_in, terms, Request, Data, Endpoint, Wire, requests, receives, loses, acting, turned, confirmed, indicated, IsOfLink}
+use Rattle.laws_wire.proofs.Vocabulary.{IsRoughTalkOf, timer_T201, timer_T200, timer_T203}
 use Rattle.model_link.specs.declared.timers.LinkTimer.TheVariants as link_timer
 use Rattle.laws_wire.proofs.Acting.{UpAt}
 use Rattle.laws_wire.proofs.Calling.{ua, end, caller}

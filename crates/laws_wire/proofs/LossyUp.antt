@@ -1,5 +1,6 @@
 -- The third phase of such a call: both ends are up.
-use Rattle.laws_wire.proofs.Vocabulary.{arith, ◌≡◌, ℕ, true, List, [], ◌∷◌, ◌++◌, drop, refl, sym, ap, subst, ◌∙◌, ◌⊎◌, inl, inr, All, All-nil, All-head, All-tail, Service, Parts, spelling, Terms, course, IsInRange, LinkEndpoint, frames_of, Config, terms, Endpoint, Wire, with_first_of, without_first, EndStep, requests, expires, sends, receives, loses, acting, turned, frame_comes, confirmed, indicated, IsRoughTalkOf, received, frame, two_ends_without_first}
+use Rattle.laws_wire.proofs.Vocabulary.{arith, ◌≡◌, ℕ, true, List, [], ◌∷◌, ◌++◌, drop, refl, sym, ap, subst, ◌∙◌, ◌⊎◌, inl, inr, All, All-nil, All-head, All-tail, Service, Parts, spelling, Terms, course, IsInRange, LinkEndpoint, frames_of, Config, terms, Endpoint, Wire, with_first_of, without_first, EndStep, requests, expires, sends, receives, loses, acting, turned, frame_comes, confirmed}
+use Rattle.laws_wire.proofs.Vocabulary.{indicated, IsRoughTalkOf, received, frame, two_ends_without_first}
 use Rattle.laws_wire.proofs.Acting.{which, UpAt, Acted, ranges, up-asks, up-expires, up-gives, up-loses, up-hears}
 use Rattle.laws_wire.proofs.Calling.{sabme}
 use Rattle.laws_wire.proofs.Fair.{HasError, sabme-error}

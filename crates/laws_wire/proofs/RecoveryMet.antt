@@ -1,5 +1,7 @@
 -- The premises of the law on what is lost are met: by the worked call in which SABME is lost, and then an I-frame of each end.
-use Rattle.laws_wire.proofs.Vocabulary.{◌≡◌, ◌≢◌, ℕ, ◌+◌, ◌≤◌, List, [], ◌∷◌, length, map, refl, sym, ap, subst, ◌∙◌, arith, All, All-nil, All-cons, Call, reading, header_of, control_of, unnumbered_of, supervisory_of, distance_of, named, seq, LineTold, Wire, expires, sends, loses, at_near, acting, doing_all, turns, IsStill, confirmed, indicated, data_told, heard_in, IsRoughTalk, is_poll, is_final, IsNoneOpen, MayRepeat, StayTimely, with_t200_expired, HasNoErrors, BothMayRepeat, HasMissing, HasArrived, StayStill, user, network, begins, loses_three, lost, recovered, Bool, Control, NoneGoes, Endpoint, flat_map, giving, happens, next, suc, zero, Option, None, gave, option_map, next_of, Taken, answered, set-get_or, append-nil, line_answer, line_takes_slot, line_after, tei_refusal, tei_course}
+use Rattle.laws_wire.proofs.Vocabulary.{◌≡◌, ◌≢◌, ℕ, ◌+◌, ◌≤◌, List, [], ◌∷◌, length, map, refl, sym, ap, subst, ◌∙◌, arith, All, All-nil, All-cons, Call, reading, header_of, control_of, unnumbered_of, supervisory_of, distance_of, named, seq, LineTold, Wire, expires, sends, loses, at_near, acting, doing_all, turns, IsStill, confirmed, indicated, data_told, heard_in, IsRoughTalk, is_poll, is_final}
+use Rattle.laws_wire.proofs.Vocabulary.{IsNoneOpen, MayRepeat, StayTimely, with_t200_expired, HasNoErrors, BothMayRepeat, HasMissing, HasArrived, StayStill, user, network, begins, loses_three, lost, recovered, Bool, Control, NoneGoes, Endpoint, flat_map, giving, happens, next, suc, zero, Option, None, gave, option_map, next_of, Taken, answered, set-get_or, append-nil, line_answer, line_takes_slot}
+use Rattle.laws_wire.proofs.Vocabulary.{line_after, tei_refusal, tei_course}
 use Rattle.lapd_frame.specs.declared.timers.Timer.TheVariants.{T200}
 use Rattle.laws_wire.proofs.PremisesMet.{can, IsFair, all-of}
 use Rattle.laws_wire.proofs.StillIsTimely.{still-is-enough}

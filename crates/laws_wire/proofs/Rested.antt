@@ -1,5 +1,6 @@
 -- What is done at one end of a call in which frames are lost and timers expire makes what is still to do less, or tells an error.
-use Rattle.laws_wire.proofs.Vocabulary.{◌≡◌, ℕ, ◌+◌, ◌*◌, ◌≤◌, cond, List, [], ◌∷◌, ◌++◌, length, map, drop, refl, sym, ap, subst, ◌∙◌, ◌⊎◌, inl, inr, length-append, arith, Service, Timer, Parts, spelling, LinkTimer, Link, course, given, LinkEndpoint, with_link, with_sent, frame_given, Config, LineTold, expiry, request, after, Course, Data, Endpoint, Wire, happens, with_first_of, without_first, EndStep, requests, expires, sends, receives, loses, acting, is_any, frame_comes, granted_of, next, IsRoughTalkOf, is_move_of, expiries_of, two_ends_without_first}
+use Rattle.laws_wire.proofs.Vocabulary.{◌≡◌, ℕ, ◌+◌, ◌*◌, ◌≤◌, cond, List, [], ◌∷◌, ◌++◌, length, map, drop, refl, sym, ap, subst, ◌∙◌, ◌⊎◌, inl, inr, length-append, arith, Service, Timer, Parts, spelling, LinkTimer, Link, course, given, LinkEndpoint, with_link, with_sent, frame_given, Config, LineTold, expiry, request, after, Course, Data, Endpoint, Wire, happens, with_first_of, without_first}
+use Rattle.laws_wire.proofs.Vocabulary.{EndStep, requests, expires, sends, receives, loses, acting, is_any, frame_comes, granted_of, next, IsRoughTalkOf, is_move_of, expiries_of, two_ends_without_first}
 use Rattle.model_link.specs.Events as link
 use Rattle.laws_wire.proofs.Answered.{gives-granted, takes-granted, same-granted}
 use Rattle.laws_wire.proofs.Asking.{with_more}

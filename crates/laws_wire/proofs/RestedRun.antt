@@ -1,5 +1,6 @@
 -- A whole call in which frames are lost and timers expire: its moves are at most what there was to do, and what was asked for since.
-use Rattle.laws_wire.proofs.Vocabulary.{◌≡◌, ℕ, ◌+◌, ◌*◌, ◌≤◌, true, cond, List, [], ◌∷◌, ◌++◌, length, refl, sym, ap, subst, ◌∙◌, ◌⊎◌, inl, inr, arith, All, All-head, All-tail, Service, Parts, ControlFrame, Terms, fresh, course, IsInRange, LinkEndpoint, frames_of, Config, LineTold, terms, after, Endpoint, Wire, StepAt, at_near, at_far, turned, doing, doing_all, calling, confirmed, indicated, granted_of, HasNoError, IsRoughTalk, is_move, moves, expiries_in, expiries, MovesComeToAnEnd}
+use Rattle.laws_wire.proofs.Vocabulary.{◌≡◌, ℕ, ◌+◌, ◌*◌, ◌≤◌, true, cond, List, [], ◌∷◌, ◌++◌, length, refl, sym, ap, subst, ◌∙◌, ◌⊎◌, inl, inr, arith, All, All-head, All-tail, Service, Parts, ControlFrame, Terms, fresh, course, IsInRange, LinkEndpoint, frames_of, Config, LineTold, terms, after, Endpoint, Wire, StepAt, at_near, at_far, turned, doing, doing_all, calling, confirmed, indicated}
+use Rattle.laws_wire.proofs.Vocabulary.{granted_of, HasNoError, IsRoughTalk, is_move, moves, expiries_in, expiries, MovesComeToAnEnd}
 use Rattle.model_link.specs.Events as link
 use Rattle.laws_wire.proofs.Acting.{which, UpAt, ranges, sound}
 use Rattle.laws_wire.proofs.Calling.{asked, sabme, ua, end, caller, takes-sabme}

@@ -1,6 +1,6 @@
 -- The premises of the laws on how turns come to an end are met, by worked calls.
-use Rattle.laws_wire.proofs.Vocabulary.{◌≡◌, ◌≤◌, ℕ, ◌*◌, List, [], ◌∷◌, ◌++◌, refl, sym, subst, arith, All, All-nil, All-cons, Call, reading, header_of, control_of, unnumbered_of, supervisory_of, distance_of, named, seq, Data, requests, StepAt, at_near, doing_all, IsStill, confirmed, indicated, data_told, granted_of, HasNoError, IsRoughTalk, rounds, moves, expiries, most_frames, StayTimely, user, network, begins, establishes, line_answer, line_takes_slot, line_after, tei_refusal, tei_course}
-use Rattle.laws_wire.specs.WorkedResting.{rejects_one, two_accepted}
+use Rattle.laws_wire.proofs.Vocabulary.{◌≡◌, ◌≤◌, ℕ, ◌*◌, List, [], ◌∷◌, ◌++◌, refl, sym, subst, arith, All, All-nil, All-cons, Call, reading, header_of, control_of, unnumbered_of, supervisory_of, distance_of, named, seq, Data, requests, StepAt, at_near, doing_all, IsStill, confirmed, indicated, data_told, granted_of, HasNoError, IsRoughTalk, rounds, moves, expiries, most_frames, StayTimely, user}
+use Rattle.laws_wire.proofs.Vocabulary.{network, begins, establishes, line_answer, line_takes_slot, line_after, tei_refusal, tei_course, rejects_one, two_accepted}
 use Rattle.laws_wire.proofs.PremisesMet.{can, IsFair, all-of}
 use Rattle.laws_wire.proofs.RestedRun.{moves-come-to-an-end}
 use Rattle.laws_wire.proofs.RestedTimely.{timely-rounds-come-to-rest}

@@ -1,8 +1,7 @@
 -- The premises of the law that a call with losses comes to rest are met by the worked calls.
-use Rattle.laws_wire.proofs.Vocabulary.{◌≡◌, ℕ, ◌≤◌, [], ◌∷◌, refl, sym, subst, arith, All, Call, reading, header_of, control_of, unnumbered_of, supervisory_of, distance_of, named, seq, Data, SetBusy, ClearBusy, requests, expires, at_near, at_far, doing_all, IsStill, confirmed, heard_in, IsFullTalk, StayPatient, MayRepeat, BothMayRepeat, rounds, with_t200_expired, moves, begins, user, network, line_answer, line_takes_slot, line_after, tei_refusal, tei_course, IsAtRest, uncalled, seen, most_moves, none_busy, busy, near_expires, HasLeft, HasTold}
+use Rattle.laws_wire.proofs.Vocabulary.{◌≡◌, ℕ, ◌≤◌, [], ◌∷◌, refl, sym, subst, arith, All, Call, reading, header_of, control_of, unnumbered_of, supervisory_of, distance_of, named, seq, Data, SetBusy, ClearBusy, requests, expires, at_near, at_far, doing_all, IsStill, confirmed, heard_in, IsFullTalk, StayPatient, MayRepeat, BothMayRepeat, rounds, with_t200_expired, moves, begins, user, network}
+use Rattle.laws_wire.proofs.Vocabulary.{line_answer, line_takes_slot, line_after, tei_refusal, tei_course, IsAtRest, uncalled, seen, most_moves, none_busy, busy, near_expires, HasLeft, HasTold, loses_ua, is_ready, ready, ready_seen, ready_free, ready_still, ready_near, ready_left, ua_lost, lost_near, lost_still}
 use Rattle.lapd_frame.specs.declared.timers.Timer.TheVariants.{T200}
-use Rattle.laws_wire.specs.WorkedAnswering.{loses_ua}
-use Rattle.laws_wire.specs.WorkedSettling.{is_ready, ready, ready_seen, ready_free, ready_still, ready_near, ready_left, ua_lost, lost_near, lost_still}
 use Rattle.laws_wire.proofs.AnsweringMet.{only-turns, patient-first}
 use Rattle.laws_wire.proofs.PremisesMet.{can, all-of}
 use Rattle.laws_wire.proofs.RecoveryMet.{none-told, heard-it}

@@ -1,5 +1,6 @@
 -- What layer 3 is told by an event of a link.
-use Rattle.laws_wire.proofs.Vocabulary.{◌≡◌, ℕ, ◌+◌, ◌≤◌, List, [], ◌∷◌, length, map, Some, sym, subst, eq-eqb, arith, All, slice_get, option_to_list, if◌then◌else◌, option_or, le-ltb, seq, named, Parts, Terms, Link, received, course, LinkEndpoint, unserved_cause, LineTold, named-number, fits-at, Informs, Lane, lane-low, lane-order, Steady, is-steady, unwrap_or, frame, Course, Direction, tells_nothing, data_told}
+use Rattle.laws_wire.proofs.Vocabulary.{◌≡◌, ℕ, ◌+◌, ◌≤◌, List, [], ◌∷◌, length, map, Some, sym, subst, eq-eqb, arith, All, slice_get, option_to_list, if◌then◌else◌, option_or, le-ltb, seq, named, Parts, Terms, Link, received, course, LinkEndpoint, unserved_cause, LineTold, named-number, fits-at, Informs, Lane, lane-low, lane-order, Steady, is-steady, unwrap_or, frame, Course, Direction}
+use Rattle.laws_wire.proofs.Vocabulary.{tells_nothing, data_told}
 
 -- what a course tells, but orders
 abbrev pub heard_by : Course → LineTold

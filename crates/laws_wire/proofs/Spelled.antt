@@ -1,6 +1,5 @@
 -- A frame that a sound link gives comes as it is, and is read again.
-use Rattle.laws_wire.proofs.Vocabulary.{◌≡◌, ℕ, ◌+◌, ◌≤◌, false, nat_lt, List, length, Ok, refl, arith, le-ltb, Side, Parts, IsFrame, spelling, other_side, reading, reading-again, came, IsNotShort, not-short}
-use Rattle.lapd_frame.specs.Faults.{is_short}
+use Rattle.laws_wire.proofs.Vocabulary.{◌≡◌, ℕ, ◌+◌, ◌≤◌, false, nat_lt, List, length, Ok, refl, arith, le-ltb, Side, Parts, IsFrame, spelling, other_side, reading, reading-again, came, IsNotShort, not-short, is_short}
 use Rattle.model_bits.specs.Stream.{frame}
 
 -- A frame that is neither too short nor too long comes as it is.

@@ -1,5 +1,7 @@
 -- A station at whose line one link alone speaks stands for an end of two links that face each other.
-use Rattle.laws_wire.proofs.Vocabulary.{arith, ◌≡◌, ℕ, ◌+◌, ◌<◌, ◌≤◌, Bool, true, false, cond, List, [], ◌++◌, length, map, set, Option, Some, None, IfSome, option_map, Ok, refl, sym, ap, subst, ◌∙◌, ◌⊎◌, inl, inr, append-nil, All, get_or-set_same, set-get_or, map-append, All-nil, All-cons, All-append, Refusal, PoolFull, Service, Timer, Parts, spelling, reading, sapi_of, Terms, LinkTimer, frame_of, Given, LinkEndpoint, with_link, with_sent, frame_given, given_is_frame, Config, came, hears, expiry, request, next, Answer, refused, gave, at_timer, aim_of_expiry, Line, fresh_line, place_in, link_number, terms, unless_refused, unless_refused_told, of_request, heard_side, with_given_frame, next_of, Request, at_requested, aim_of_request, sound_in, given_short, terms_in_range, Card, line_at, wants_room, after_is_sound, has_lines, line_sound, Event, Endpoint, answered, happens, frame_comes, told_by, frames_by, contents_requested, line_answer, line_takes_slot, line_after}
+use Rattle.laws_wire.proofs.Vocabulary.{arith, ◌≡◌, ℕ, ◌+◌, ◌<◌, ◌≤◌, Bool, true, false, cond, List, [], ◌++◌, length, map, set, Option, Some, None, IfSome, option_map, Ok, refl, sym, ap, subst, ◌∙◌, ◌⊎◌, inl, inr, append-nil, All, get_or-set_same, set-get_or, map-append, All-nil, All-cons, All-append, Refusal, PoolFull, Service, Timer, Parts, spelling, reading, sapi_of, Terms, LinkTimer}
+use Rattle.laws_wire.proofs.Vocabulary.{frame_of, Given, LinkEndpoint, with_link, with_sent, frame_given, given_is_frame, Config, came, hears, expiry, request, next, Answer, refused, gave, at_timer, aim_of_expiry, Line, fresh_line, place_in, link_number, terms, unless_refused, unless_refused_told, of_request, heard_side, with_given_frame, next_of, Request, at_requested, aim_of_request, sound_in}
+use Rattle.laws_wire.proofs.Vocabulary.{given_short, terms_in_range, Card, line_at, wants_room, after_is_sound, has_lines, line_sound, Event, Endpoint, answered, happens, frame_comes, told_by, frames_by, contents_requested, line_answer, line_takes_slot, line_after, is_granted}
 use Rattle.std.specs.Option.{unwrap_or}
 use Rattle.model_bits.specs.Stream.{frame}
 use Rattle.model_link.specs.Events as link
@@ -10,7 +12,6 @@ use Rattle.model_line.specs.Sound as line_sound
 use Rattle.model_card.specs.Event.{at as event_at}
 use Rattle.model_card.specs.Machine.{after}
 use Rattle.model_card.specs.Sound as card_sound
-use Rattle.laws_line.specs.Share.{is_granted}
 use Rattle.laws_wire.specs.Wire as wire
 use Rattle.laws_wire.proofs.Answered.{gives-taken, takes-way, expires-way, asks-way}
 use Rattle.laws_wire.proofs.LineSpeaks.{Speaks, at, takes-own, goes-on, comes-told, comes-on, asks-on, asks-told, expires-on, expires-told}

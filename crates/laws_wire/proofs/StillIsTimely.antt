@@ -1,5 +1,6 @@
 -- Where T200 expires only as no turn is left it is long enough: the law with this premise follows.
-use Rattle.laws_wire.proofs.Vocabulary.{arith, ◌≡◌, ℕ, false, List, [], ◌∷◌, inl, inr, All, list_any, All-head, All-tail, Service, fresh, IsInRange, LinkEndpoint, Config, LineTold, expiry, terms, Endpoint, Wire, happens, EndStep, StepAt, at_near, at_far, turned, doing, doing_all, IsStill, calling, is_error, HasNoError, answered, told_by, IsRoughTalkOf, IsRoughTalk, IsNoneOpen, MayRepeat, IsTimelyOf, IsTimely, StayTimely, IsStillOf, IsStillStepAt, StayStill, WhatIsLostArrivesFromRest, all-right}
+use Rattle.laws_wire.proofs.Vocabulary.{arith, ◌≡◌, ℕ, false, List, [], ◌∷◌, inl, inr, All, list_any, All-head, All-tail, Service, fresh, IsInRange, LinkEndpoint, Config, LineTold, expiry, terms, Endpoint, Wire, happens, EndStep, StepAt, at_near, at_far, turned, doing, doing_all, IsStill, calling, is_error, HasNoError, answered, told_by, IsRoughTalkOf, IsRoughTalk, IsNoneOpen, MayRepeat}
+use Rattle.laws_wire.proofs.Vocabulary.{IsTimelyOf, IsTimely, StayTimely, IsStillOf, IsStillStepAt, StayStill, WhatIsLostArrivesFromRest, all-right}
 use Rattle.lapd_frame.specs.declared.timers.Timer.TheVariants.{T200}
 use Rattle.laws_wire.proofs.Awaited.{open-here}
 use Rattle.laws_wire.proofs.Calling.{end}

@@ -1,13 +1,13 @@
 -- What an end sends arrives for sure once it has asked, where nothing more is lost: it awaits the answer, or nothing that it sent is
 -- missing. What it does itself leaves that so.
-use Rattle.laws_wire.proofs.Vocabulary.{◌≡◌, ℕ, ◌+◌, ◌≤◌, true, false, IsTrue, List, [], ◌∷◌, ◌++◌, refl, sym, ap, subst, ◌∙◌, ◌⊎◌, inl, inr, arith, Parts, Seq, seq, Established, TimerRecovery, LinkTimer, received, expired, Link, is_multiple_frame, is_running, LinkEndpoint, with_link, with_sent, has_room, frames_of, named-means, Means, Rising, rising-low, named-within, frame-taken, named-is_seq, is_recovering, Heard, Flow, most, answer-says, no-answer, offer-goes, named-number, heard, line, Longer, line-longer, NoAlien, is-no-alien, Kind, numbered, enquiry, answer, report, rejection, alien, kind_of, kinds_of, kinds-append, tally, tally-push, one_enquiry, one_answer, Calm, T200, frame, after, line_of}
+use Rattle.laws_wire.proofs.Vocabulary.{◌≡◌, ℕ, ◌+◌, ◌≤◌, true, false, IsTrue, List, [], ◌∷◌, ◌++◌, refl, sym, ap, subst, ◌∙◌, ◌⊎◌, inl, inr, arith, Parts, Seq, seq, Established, TimerRecovery, LinkTimer, received, expired, Link, is_multiple_frame, is_running, LinkEndpoint, with_link, with_sent, has_room, frames_of, named-means, Means, Rising, rising-low, named-within, frame-taken, named-is_seq}
+use Rattle.laws_wire.proofs.Vocabulary.{is_recovering, Heard, Flow, most, answer-says, no-answer, offer-goes, named-number, heard, line, Longer, line-longer, NoAlien, is-no-alien, Kind, numbered, enquiry, answer, report, rejection, alien, kind_of, kinds_of, kinds-append, tally, tally-push, one_enquiry, one_answer, Calm, T200, frame, after, line_of, flows-low}
 use Rattle.laws_link.specs.two.Timely.{IsTimely}
 use Rattle.laws_wire.proofs.Dense.{Dense, dense-push, dense-next, calm-dense, dense-beyond, Reaches, reaches-low, reaches-flat, Owed}
 use Rattle.laws_wire.proofs.Firm.{Firm}
 use Rattle.laws_wire.proofs.Replying.{Enquired, line-push, expires-so, asks-so}
 use Rattle.laws_wire.proofs.Roomy.{kinds, roomy, none-asked}
 use Rattle.laws_link.proofs.OfTwo.Flowing.{one-at-most}
-use Rattle.laws_link.proofs.OfTwo.TimelyRuns.{flows-low}
 
 -- It awaits the answer to an enquiry, and one of both is on its way.
 pub record Asking (n m : LinkEndpoint) : Type 0 where

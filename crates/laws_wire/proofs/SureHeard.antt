@@ -1,5 +1,6 @@
 -- What the other end does leaves what an end sends as sure as it was, where nothing more is lost.
-use Rattle.laws_wire.proofs.Vocabulary.{◌≡◌, ℕ, ◌+◌, ◌≤◌, Bool, true, IsTrue, List, [], ◌∷◌, refl, sym, ap, subst, ◌∙◌, inl, inr, eq-eqb, arith, Control, Parts, LinkTimer, Terms, received, expired, Link, is_multiple_frame, frame_of, frame_step, begun, LinkEndpoint, with_link, has_room, rr_or_rnr, response, frames_of, Rising, is_recovering, Heard, most, heard, line, line-longer, NoAlien, Kind, numbered, enquiry, alien, kind_of, kinds_of, kinds-append, tally, tally-push, one_enquiry, one_answer, frame, after, line_of}
+use Rattle.laws_wire.proofs.Vocabulary.{◌≡◌, ℕ, ◌+◌, ◌≤◌, Bool, true, IsTrue, List, [], ◌∷◌, refl, sym, ap, subst, ◌∙◌, inl, inr, eq-eqb, arith, Control, Parts, LinkTimer, Terms, received, expired, Link, is_multiple_frame, frame_of, frame_step, begun, LinkEndpoint, with_link, has_room, rr_or_rnr, response, frames_of, Rising, is_recovering, Heard, most, heard, line, line-longer, NoAlien, Kind}
+use Rattle.laws_wire.proofs.Vocabulary.{numbered, enquiry, alien, kind_of, kinds_of, kinds-append, tally, tally-push, one_enquiry, one_answer, frame, after, line_of}
 use Rattle.laws_link.specs.two.Timely.{IsTimely}
 use Rattle.laws_wire.proofs.Dense.{Replies, reaches-push}
 use Rattle.laws_wire.proofs.Firm.{Firm}

@@ -1,5 +1,6 @@
 -- A station in a call: what its layer 3 was granted is what its link accepted, and it was told what its link delivered.
-use Rattle.laws_wire.proofs.Vocabulary.{arith, ◌≡◌, ℕ, ◌≤◌, Bool, false, cond, List, [], ◌∷◌, ◌++◌, length, map, drop, Option, Some, None, Ok, refl, sym, ap, subst, ◌∙◌, ◌⊎◌, append-nil, append_assoc, All, option_to_list, nat_lt, ltb-false, All-tail, Refusal, TooLong, Service, Parts, spelling, other_side, Terms, Link, LinkEndpoint, with_link, with_sent, Config, came, LineTold, request, next, heard_side, link-grants, Data, Endpoint, happens, without_first, frame_comes, data_told, map-append, two_ends_without_first, course, refusal}
+use Rattle.laws_wire.proofs.Vocabulary.{arith, ◌≡◌, ℕ, ◌≤◌, Bool, false, cond, List, [], ◌∷◌, ◌++◌, length, map, drop, Option, Some, None, Ok, refl, sym, ap, subst, ◌∙◌, ◌⊎◌, append-nil, append_assoc, All, option_to_list, nat_lt, ltb-false, All-tail, Refusal, TooLong, Service, Parts, spelling, other_side, Terms, Link, LinkEndpoint, with_link, with_sent, Config, came, LineTold, request, next}
+use Rattle.laws_wire.proofs.Vocabulary.{heard_side, link-grants, Data, Endpoint, happens, without_first, frame_comes, data_told, map-append, two_ends_without_first, course, refusal}
 use Rattle.model_bits.specs.Stream.{frame}
 use Rattle.model_link.specs.Events as link
 use Rattle.laws_wire.proofs.Answered.{gives-told, gives-granted, takes-granted}

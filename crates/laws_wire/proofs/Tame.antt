@@ -1,10 +1,10 @@
 -- Two ends of which neither was ever busy: no RNR is on their ways, and what waits at either is enquiries, answers and REJ.
-use Rattle.laws_wire.proofs.Vocabulary.{arith, ◌≡◌, ℕ, ◌+◌, Bool, true, false, cond, not, ◌&&◌, ◌||◌, IsTrue, List, [], ◌∷◌, ◌++◌, take, refl, sym, subst, All, All-nil, All-cons, All-head, All-append, All-take, All-drop, seq, Control, Information, Reject, Parts, State, LinkTimer, ControlFrame, Terms, Link, is_multiple_frame, undefined, wrong_size, received, expired, requested, offer, cleared, given_of, begun, LinkEndpoint, with_link, with_sent, frame_given, busy_by, busy_heard, as_heard, is_overlong, as_response, answers_to, command_in, is_time, room, waiting_left, event-follows, NoAlien, Kind, kind_of, one_enquiry, one_answer, one_rejection, after, Course}
+use Rattle.laws_wire.proofs.Vocabulary.{arith, ◌≡◌, ℕ, ◌+◌, Bool, true, false, cond, not, ◌&&◌, ◌||◌, IsTrue, List, [], ◌∷◌, ◌++◌, take, refl, sym, subst, All, All-nil, All-cons, All-head, All-append, All-take, All-drop, seq, Control, Information, Reject, Parts, State, LinkTimer, ControlFrame, Terms, Link, is_multiple_frame, undefined, wrong_size, received, expired, requested, offer, cleared}
+use Rattle.laws_wire.proofs.Vocabulary.{given_of, begun, LinkEndpoint, with_link, with_sent, frame_given, busy_by, busy_heard, as_heard, is_overlong, as_response, answers_to, command_in, is_time, room, waiting_left, event-follows, NoAlien, Kind, kind_of, one_enquiry, one_answer, one_rejection, after, Course, has_next_number}
 use Rattle.model_link.specs.TwoEnds.{with_first_of, without_first}
 use Rattle.laws_link.specs.States.{moves}
 use Rattle.model_link.specs.Events.{Event, frame, overlong, Data}
 use Rattle.model_link.specs.Offers
-use Rattle.laws_link.specs.Waiting.{has_next_number}
 
 abbrev pub IsFree : Control → Type 0
 IsFree control = busy_by control false ≡ false

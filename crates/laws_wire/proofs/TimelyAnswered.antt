@@ -1,5 +1,6 @@
 -- The next phases of such a call: the other end is up, and its UA waits, or is on its way before all else.
-use Rattle.laws_wire.proofs.Vocabulary.{arith, ◌≡◌, ℕ, false, List, [], ◌∷◌, None, refl, sym, ap, subst, ◌∙◌, ◌⊎◌, inl, inr, All-tail, Service, Timer, Parts, spelling, Terms, TimerRecovery, LinkTimer, T203, course, given, IsInRange, LinkEndpoint, with_link, with_sent, offer-gave, Config, expiry, request, next, terms, awaits_answer, CanRepeat, T200, refusal, Data, Endpoint, Wire, happens, with_first_of, EndStep, requests, expires, sends, receives, loses, acting, turned, IsStill, frame_comes, confirmed, indicated, IsRoughTalkOf, is_final, IsLongEnough, IsTimelyOf, IsSpared, gives_one, is_ua, true, received, LinkData, frame, expired, timer_T200, timer_T203}
+use Rattle.laws_wire.proofs.Vocabulary.{arith, ◌≡◌, ℕ, false, List, [], ◌∷◌, None, refl, sym, ap, subst, ◌∙◌, ◌⊎◌, inl, inr, All-tail, Service, Timer, Parts, spelling, Terms, TimerRecovery, LinkTimer, T203, course, given, IsInRange, LinkEndpoint, with_link, with_sent, offer-gave, Config, expiry, request, next, terms, awaits_answer, CanRepeat, T200, refusal, Data, Endpoint, Wire, happens}
+use Rattle.laws_wire.proofs.Vocabulary.{with_first_of, EndStep, requests, expires, sends, receives, loses, acting, turned, IsStill, frame_comes, confirmed, indicated, IsRoughTalkOf, is_final, IsLongEnough, IsTimelyOf, IsSpared, gives_one, is_ua, true, received, LinkData, frame, expired, timer_T200, timer_T203}
 use Rattle.laws_link.specs.two.Timely as two_links_timely
 use Rattle.laws_wire.proofs.Answered.{takes-granted}
 use Rattle.laws_wire.proofs.Awaited.{closed, may-there, long-there, gives-first, waits-first, goes-first}

@@ -1,5 +1,6 @@
 -- The ends as an establishment leaves them, and what changes nothing at a station or on a wire.
-use Rattle.laws_wire.proofs.Vocabulary.{◌≡◌, ℕ, ◌≤◌, false, not, List, [], ◌∷◌, length, None, refl, sym, ap, subst, ◌∙◌, inl, inr, true≢false, arith, option_map_or, All-nil, Service, Terms, Link, fresh, given, serves, IsInRange, LinkEndpoint, joined-first, Config, LineTold, request, next, Line, link_in, link_of, place_in, bad_tei, no_link, wrong_state, first_that_holds, Request, aim_of_request, at_requested, line_at, passed, IsReady, IsTaken, refusal, Data, SetBusy, ClearBusy, Endpoint, Wire, happens, loses, acting, LinkClearBusy, LinkData, LinkRequest, LinkSetBusy}
+use Rattle.laws_wire.proofs.Vocabulary.{◌≡◌, ℕ, ◌≤◌, false, not, List, [], ◌∷◌, length, None, refl, sym, ap, subst, ◌∙◌, inl, inr, true≢false, arith, option_map_or, All-nil, Service, Terms, Link, fresh, given, serves, IsInRange, LinkEndpoint, joined-first, Config, LineTold, request, next, Line, link_in, link_of, place_in, bad_tei, no_link, wrong_state, first_that_holds, Request, aim_of_request}
+use Rattle.laws_wire.proofs.Vocabulary.{at_requested, line_at, passed, IsReady, IsTaken, refusal, Data, SetBusy, ClearBusy, Endpoint, Wire, happens, loses, acting, LinkClearBusy, LinkData, LinkRequest, LinkSetBusy}
 use Rattle.model_line.specs.Refusal.{refusal as refusal_on}
 use Rattle.laws_wire.proofs.Calling.{end, called, sound-called}
 use Rattle.laws_wire.proofs.Tame.{WaitsSo, IsFreeFrame}

@@ -1,5 +1,6 @@
 -- The first phases of such a call: one end rings, and the other is down.
-use Rattle.laws_wire.proofs.Vocabulary.{◌≡◌, ℕ, ◌+◌, ◌<◌, true, List, [], ◌∷◌, map, None, refl, sym, ap, subst, ◌∙◌, inl, inr, arith, nat_lt, option_to_list, lt-ltb, Service, Timer, Parts, spelling, ControlFrame, Terms, LinkTimer, fresh, course, given, IsInRange, LinkEndpoint, with_link, Config, expiry, terms, T200, Course, Data, Wire, happens, EndStep, requests, expires, sends, receives, loses, acting, turned, IsStill, frame_comes, indicated, IsRoughTalkOf, is_poll, MayRepeat, IsTimelyOf, received, frame, expired, timer_T200, timer_T203, NoteData}
+use Rattle.laws_wire.proofs.Vocabulary.{◌≡◌, ℕ, ◌+◌, ◌<◌, true, List, [], ◌∷◌, map, None, refl, sym, ap, subst, ◌∙◌, inl, inr, arith, nat_lt, option_to_list, lt-ltb, Service, Timer, Parts, spelling, ControlFrame, Terms, LinkTimer, fresh, course, given, IsInRange, LinkEndpoint, with_link, Config, expiry, terms, T200, Course, Data, Wire, happens, EndStep, requests, expires, sends, receives, loses}
+use Rattle.laws_wire.proofs.Vocabulary.{acting, turned, IsStill, frame_comes, indicated, IsRoughTalkOf, is_poll, MayRepeat, IsTimelyOf, received, frame, expired, timer_T200, timer_T203, NoteData}
 use Rattle.laws_wire.proofs.Answered.{takes-granted}
 use Rattle.laws_wire.proofs.Awaited.{may-there, waits-first, goes-first}
 use Rattle.laws_wire.proofs.Calling.{sabme, end, answering, called, takes-sabme, told-of-sabme}

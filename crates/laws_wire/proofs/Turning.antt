@@ -1,6 +1,6 @@
 -- Turns alone, in any order.
-use Rattle.laws_wire.proofs.Vocabulary.{◌≡◌, ℕ, ◌+◌, ◌*◌, ◌≤◌, List, [], ◌∷◌, ◌++◌, refl, sym, ap, subst, ◌∙◌, arith, if◌then◌else◌, All, All-head, All-tail, All-weaker, All-append, Service, Config, terms, Wire, StepAt, doing, doing_all, is_turn, turns, calling, CanCall, SendsOrReceives, granted_of, IsRoughTalk, HasNoErrors, moves, expiries, expiries_in, most_frames, IsTimely, StayTimely, LosesNothing}
-use Rattle.laws_wire.specs.Resting.{is_move}
+use Rattle.laws_wire.proofs.Vocabulary.{◌≡◌, ℕ, ◌+◌, ◌*◌, ◌≤◌, List, [], ◌∷◌, ◌++◌, refl, sym, ap, subst, ◌∙◌, arith, if◌then◌else◌, All, All-head, All-tail, All-weaker, All-append, Service, Config, terms, Wire, StepAt, doing, doing_all, is_turn, turns, calling, CanCall, SendsOrReceives, granted_of, IsRoughTalk, HasNoErrors, moves, expiries, expiries_in, most_frames, IsTimely, StayTimely}
+use Rattle.laws_wire.proofs.Vocabulary.{LosesNothing, is_move}
 use Rattle.laws_wire.proofs.RestedRounds.{doing-append, moves-append, expiries-append, near-gives, near-takes, far-gives, far-takes}
 use Rattle.laws_wire.proofs.RestedRun.{moves-come-to-an-end}
 use Rattle.laws_wire.proofs.TimelyRun.{what-is-lost-arrives}

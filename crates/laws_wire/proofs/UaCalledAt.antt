@@ -1,5 +1,7 @@
 -- The station of the end that is called, whose link is up: what requests, timers and calls for the next frame do there.
-use Rattle.laws_wire.proofs.Vocabulary.{◌≡◌, ℕ, ◌==◌, Bool, true, false, not, ◌||◌, IsTrue, List, [], ◌∷◌, ◌++◌, None, refl, sym, ap, subst, ◌∙◌, ◌⊎◌, inl, inr, arith, Service, Timer, TimerRecovery, LinkTimer, T203, Terms, Link, after, is_multiple_frame, has_outstanding, given, is_running, awaits_answer, no-reports, LinkEndpoint, with_link, frame_given, Config, LineTold, expiry, request, Line, place_in, Request, at_requested, aim_of_request, IsNotRelease, CanRepeat, HasNo, Sane, T200, Data, SetBusy, ClearBusy, Endpoint, Wire, happens, expires, contents_requested, IsOfLink, is_poll, IsTimelyOf, requested, LinkEvent, offer, LinkSetBusy, expired, LinkClearBusy, LinkData, LinkRequest, timer_T200, timer_T203, course, IsAsked, gives_information, timer-stays, request-stays, is_recovering}
+use Rattle.laws_wire.proofs.Vocabulary.{◌≡◌, ℕ, ◌==◌, Bool, true, false, not, ◌||◌, IsTrue, List, [], ◌∷◌, ◌++◌, None, refl, sym, ap, subst, ◌∙◌, ◌⊎◌, inl, inr, arith, Service, Timer, TimerRecovery, LinkTimer, T203, Terms, Link, after, is_multiple_frame, has_outstanding, given, is_running, awaits_answer, no-reports, LinkEndpoint, with_link, frame_given, Config, LineTold, expiry, request, Line}
+use Rattle.laws_wire.proofs.Vocabulary.{place_in, Request, at_requested, aim_of_request, IsNotRelease, CanRepeat, HasNo, Sane, T200, Data, SetBusy, ClearBusy, Endpoint, Wire, happens, expires, contents_requested, IsOfLink, is_poll, IsTimelyOf, requested, LinkEvent, offer, LinkSetBusy, expired, LinkClearBusy, LinkData, LinkRequest, timer_T200, timer_T203, course, IsAsked, gives_information}
+use Rattle.laws_wire.proofs.Vocabulary.{timer-stays, request-stays, is_recovering, Grown, asks-went}
 use Rattle.laws_wire.proofs.Acting.{ranges, sound}
 use Rattle.laws_wire.proofs.Asking.{asked-form}
 use Rattle.laws_wire.proofs.Awaited.{awaits-is, may-there, none-there, gives-reads}
@@ -9,8 +11,6 @@ use Rattle.laws_wire.proofs.LooseUp.{Mute, busy-mute, ready-mute, for-asked, hel
 use Rattle.laws_wire.proofs.LossyPhases.{Aims}
 use Rattle.laws_wire.proofs.TimelyUp.{each-timer, timer-held, never}
 use Rattle.laws_wire.proofs.UaCalled.{sane-after, Stirs, busy-goes, ready-goes, timer-stirs, informs, flagged}
-use Rattle.laws_link.proofs.OfTwo.Effects.{Grown}
-use Rattle.laws_link.proofs.OfTwo.Going.{asks-went}
 
 pub same-flag : (b : Bool) (l l' : Link) → l'.s ≡ l.s → l'.a ≡ l.a → b ≡ has_outstanding l → b ≡ has_outstanding l'
 same-flag b l l' s a e = e ∙ (λ i. not (sym s i == sym a i))

@@ -1,8 +1,7 @@
 -- What is known of the links of a call in which UA may be lost: each runs the timer that it needs, and is busy only as it was asked.
-use Rattle.laws_wire.proofs.Vocabulary.{arith, ◌≡◌, ℕ, ◌*◌, ◌≤◌, Bool, true, false, not, ◌&&◌, ◌||◌, IsTrue, List, [], ◌∷◌, ◌++◌, map, refl, sym, ap, subst, ◌∙◌, ◌⊎◌, inl, inr, true≢false, All, All-head, All-tail, Service, Timer, Parts, spelling, LinkTimer, is_multiple_frame, after, IsInRange, LinkEndpoint, with_link, Config, expiry, request, terms, next, Line, place_in, Request, Data, SetBusy, ClearBusy, at_requested, aim_of_request, sound-after, Endpoint, Wire, happens, frame_comes, with_first_of, EndStep, requests, expires, sends, receives, loses, acting, turned, StepAt, at_near, at_far, doing, doing_all, link_of, is_granted, answered, IsAsked, IsFullTalkOf, IsFullTalk, StayPatient, or_parts, frame, requested, LinkEvent, offer, expired, LinkSetBusy, received, LinkClearBusy, LinkData, LinkRequest, Called, seeing, HasItsTimer, timely-after}
-use Rattle.laws_link.specs.Flags.{busy_asked}
-use Rattle.laws_link.specs.States.{as_heard}
-use Rattle.laws_link.proofs.EachRow.{each-row}
+use Rattle.laws_wire.proofs.Vocabulary.{arith, ◌≡◌, ℕ, ◌*◌, ◌≤◌, Bool, true, false, not, ◌&&◌, ◌||◌, IsTrue, List, [], ◌∷◌, ◌++◌, map, refl, sym, ap, subst, ◌∙◌, ◌⊎◌, inl, inr, true≢false, All, All-head, All-tail, Service, Timer, Parts, spelling, LinkTimer, is_multiple_frame, after, IsInRange, LinkEndpoint, with_link, Config, expiry, request, terms, next, Line, place_in, Request, Data, SetBusy}
+use Rattle.laws_wire.proofs.Vocabulary.{ClearBusy, at_requested, aim_of_request, sound-after, Endpoint, Wire, happens, frame_comes, with_first_of, EndStep, requests, expires, sends, receives, loses, acting, turned, StepAt, at_near, at_far, doing, doing_all, link_of, is_granted, answered, IsAsked, IsFullTalkOf, IsFullTalk, StayPatient, or_parts, frame, requested, LinkEvent, offer, expired}
+use Rattle.laws_wire.proofs.Vocabulary.{LinkSetBusy, received, LinkClearBusy, LinkData, LinkRequest, Called, seeing, HasItsTimer, timely-after, busy_asked, as_heard, each-row}
 use Rattle.laws_wire.specs.Facing.{line_of}
 use Rattle.laws_wire.specs.Settling.{Busy, busy_by, busy_behind, busy}
 use Rattle.laws_wire.proofs.Awaited.{link-is}

@@ -1,5 +1,6 @@
 -- A whole call in which UA may be lost: what is told, and that all has come where no turn is left and T200 runs at neither end.
-use Rattle.laws_wire.proofs.Vocabulary.{◌≡◌, ℕ, ◌==◌, Bool, true, false, cond, ◌&&◌, ◌||◌, List, [], ◌∷◌, ◌++◌, length, map, refl, sym, ap, subst, ◌∙◌, ◌⊎◌, inl, inr, append-nil, append_assoc, arith, All, All-head, All-tail, Service, Parts, ControlFrame, spelling, fresh, IsInRange, LinkEndpoint, frames_of, Config, LineTold, T203, expiry, request, terms, T200, Endpoint, Wire, happens, EndStep, requests, expires, sends, receives, loses, acting, turned, StepAt, at_near, at_far, doing, doing_all, is_any, confirmed, indicated, heard_in, is_final, IsTimelyOf, eqb-true, timer_T200, timer_T203, IsFullTalkOf, IsFullTalk, IsPatient, StayPatient, Called, error_f, renewed, told_of_sabme, with_sabme, takes_sabme, gives_information, seeing, seen}
+use Rattle.laws_wire.proofs.Vocabulary.{◌≡◌, ℕ, ◌==◌, Bool, true, false, cond, ◌&&◌, ◌||◌, List, [], ◌∷◌, ◌++◌, length, map, refl, sym, ap, subst, ◌∙◌, ◌⊎◌, inl, inr, append-nil, append_assoc, arith, All, All-head, All-tail, Service, Parts, ControlFrame, spelling, fresh, IsInRange, LinkEndpoint, frames_of, Config, LineTold, T203, expiry, request, terms, T200, Endpoint, Wire, happens, EndStep}
+use Rattle.laws_wire.proofs.Vocabulary.{requests, expires, sends, receives, loses, acting, turned, StepAt, at_near, at_far, doing, doing_all, is_any, confirmed, indicated, heard_in, is_final, IsTimelyOf, eqb-true, timer_T200, timer_T203, IsFullTalkOf, IsFullTalk, IsPatient, StayPatient, Called, error_f, renewed, told_of_sabme, with_sabme, takes_sabme, gives_information, seeing, seen, and-false}
 use Rattle.laws_wire.proofs.Awaited.{awaits-is, none-there}
 use Rattle.laws_wire.proofs.Calling.{end, answering, sabme, ua}
 use Rattle.laws_wire.proofs.Held.{Held, held-lost, held-expired}
@@ -15,7 +16,6 @@ use Rattle.laws_wire.proofs.UaCalledAt.{none-informed}
 use Rattle.laws_wire.proofs.UaLost.{behind, Rings, Ringing, ringing-takes, near-rings, near-waits}
 use Rattle.laws_wire.proofs.UaPhases.{IsAway, IsWaiting, Comes, away-loses, away-gives, away-acts, waiting-loses, waiting-gives, waiting-acts, is-awaited, comes-acts, comes-gives, comes-loses, comes-takes, comes-awaited}
 use Rattle.laws_wire.proofs.UaRenewed.{more_told, TookSabme, sabme-renews}
-use Rattle.model_line.proofs.Following.{and-false}
 
 module _ (service : Service) (tei : ℕ) (c d : Config) (p q : ℕ) (face : Face c d) (back : Face d c) (rt : IsInRange (terms c service tei)) (ru : IsInRange (terms d service tei)) where
   abbrev pub its_near : List LineTold

@@ -1,5 +1,6 @@
 -- A whole call in which UA may be lost and an end may be busy: its moves are bounded, and rounds lead to where no turn is left.
-use Rattle.laws_wire.proofs.Vocabulary.{◌≡◌, ℕ, zero, suc, ◌+◌, ◌*◌, ◌≤◌, List, [], ◌∷◌, ◌++◌, length, refl, sym, ap, subst, ◌∙◌, arith, length-append, All, All-nil, All-append, All-head, All-tail, Service, fresh, IsInRange, Config, terms, cond, Wire, EndStep, sends, receives, StepAt, at_near, at_far, turned, doing, doing_all, IsStill, calling, CanCall, granted_of, IsFullTalk, StayPatient, rounds, is_move_of, moves, expiries_of, expiries, most_frames, IsPatient, Called, uncalled, seeing, seen, reports_of, reports, most_moves, LossyMovesComeToAnEnd, LossyRoundsComeToRest, append_assoc}
+use Rattle.laws_wire.proofs.Vocabulary.{◌≡◌, ℕ, zero, suc, ◌+◌, ◌*◌, ◌≤◌, List, [], ◌∷◌, ◌++◌, length, refl, sym, ap, subst, ◌∙◌, arith, length-append, All, All-nil, All-append, All-head, All-tail, Service, fresh, IsInRange, Config, terms, cond, Wire, EndStep, sends, receives, StepAt, at_near, at_far, turned, doing, doing_all, IsStill, calling, CanCall, granted_of, IsFullTalk, StayPatient, rounds}
+use Rattle.laws_wire.proofs.Vocabulary.{is_move_of, moves, expiries_of, expiries, most_frames, IsPatient, Called, uncalled, seeing, seen, reports_of, reports, most_moves, LossyMovesComeToAnEnd, LossyRoundsComeToRest, append_assoc}
 use Rattle.laws_wire.proofs.Calling.{asked, end}
 use Rattle.laws_wire.proofs.Heft.{heft, heft-is, Pays}
 use Rattle.laws_wire.proofs.LossyRun.{setting}

@@ -1,5 +1,6 @@
 -- SABME comes again to the end that is called, whose UA was lost: UA waits again, where there is room, and what it had sent is given up.
-use Rattle.laws_wire.proofs.Vocabulary.{◌≡◌, ℕ, Bool, true, false, cond, List, [], ◌∷◌, ◌++◌, map, refl, sym, ap, subst, ◌∙◌, ◌⊎◌, inl, inr, append-nil, arith, flat_map, Service, spelling, Terms, has_outstanding, has_room, frames_of, course, IsInRange, LinkEndpoint, with_link, Config, LineTold, terms, Rising, Sane, flat_map-append, Course, line_of, Endpoint, Wire, frame_comes, with_first_of, without_first, receives, acting, turned, data_told, for_layer_3, heard_in, received, LinkEvent, frame, error_f, renewed}
+use Rattle.laws_wire.proofs.Vocabulary.{◌≡◌, ℕ, Bool, true, false, cond, List, [], ◌∷◌, ◌++◌, map, refl, sym, ap, subst, ◌∙◌, ◌⊎◌, inl, inr, append-nil, arith, flat_map, Service, spelling, Terms, has_outstanding, has_room, frames_of, course, IsInRange, LinkEndpoint, with_link, Config, LineTold, terms, Rising, Sane, flat_map-append, Course, line_of, Endpoint, Wire, frame_comes, with_first_of}
+use Rattle.laws_wire.proofs.Vocabulary.{without_first, receives, acting, turned, data_told, for_layer_3, heard_in, received, LinkEvent, frame, error_f, renewed}
 use Rattle.laws_wire.proofs.Answered.{takes-granted}
 use Rattle.laws_wire.proofs.Calling.{its_ua, sabme, end}
 use Rattle.laws_wire.proofs.Held.{Held, held-lost, taken-told, taken-stands}

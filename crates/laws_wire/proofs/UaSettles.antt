@@ -1,5 +1,6 @@
 -- A call in which UA may be lost and an end may be busy comes to where no turn is left and T200 runs at neither end.
-use Rattle.laws_wire.proofs.Vocabulary.{◌≡◌, ◌≢◌, ℕ, ◌+◌, ◌≤◌, ◌*◌, Bool, false, List, [], ◌∷◌, ◌++◌, length, map, refl, sym, ap, subst, ◌∙◌, inl, inr, arith, All, All-nil, All-append, Service, Parts, ControlFrame, fresh, IsInRange, LinkEndpoint, Config, LineTold, terms, Endpoint, Wire, expires, at_near, at_far, acting, StepAt, doing, doing_all, IsStill, link_of, calling, CanCall, confirmed, data_told, heard_in, IsFullTalk, StayPatient, MayRepeat, BothMayRepeat, both_expire, with_t200_expired, rounds, timer_T200, IsAtRest, Called, uncalled, seen, all_kept, none_busy, busy, HasLeft, HasTold, Settles, near_expires, LossyCallsAreAnswered, LossyCallsSettle, HasItsTimer, timely-fresh, append_assoc}
+use Rattle.laws_wire.proofs.Vocabulary.{◌≡◌, ◌≢◌, ℕ, ◌+◌, ◌≤◌, ◌*◌, Bool, false, List, [], ◌∷◌, ◌++◌, length, map, refl, sym, ap, subst, ◌∙◌, inl, inr, arith, All, All-nil, All-append, Service, Parts, ControlFrame, fresh, IsInRange, LinkEndpoint, Config, LineTold, terms, Endpoint, Wire, expires, at_near, at_far, acting, StepAt, doing, doing_all, IsStill, link_of, calling, CanCall, confirmed}
+use Rattle.laws_wire.proofs.Vocabulary.{data_told, heard_in, IsFullTalk, StayPatient, MayRepeat, BothMayRepeat, both_expire, with_t200_expired, rounds, timer_T200, IsAtRest, Called, uncalled, seen, all_kept, none_busy, busy, HasLeft, HasTold, Settles, near_expires, LossyCallsAreAnswered, LossyCallsSettle, HasItsTimer, timely-fresh, append_assoc}
 use Rattle.laws_wire.specs.Facing.{line_of}
 use Rattle.laws_wire.proofs.Acting.{ranges}
 use Rattle.laws_wire.proofs.Awaited.{open-here, link-is}

@@ -1,5 +1,6 @@
 -- What is told in a call in which UA may be lost, from its phases.
-use Rattle.laws_wire.proofs.Vocabulary.{arith, ◌≡◌, ℕ, Bool, false, List, [], ◌∷◌, ◌++◌, length, map, take, drop, refl, sym, ap, append-nil, append_assoc, map-append, take-append-drop, subst, ◌∙◌, inl, inr, true≢false, All, front_rest, Service, Parts, ControlFrame, IsInRange, LinkEndpoint, Config, LineTold, terms, Endpoint, Wire, turned, StepAt, doing_all, IsStill, CanCall, calling, data_told, IsBeginningOf, heard_in, runs_t200, IsFullTalk, StayPatient, Called, uncalled, seen, all_kept, ToldSo, LossyCallsComeThrough}
+use Rattle.laws_wire.proofs.Vocabulary.{arith, ◌≡◌, ℕ, Bool, false, List, [], ◌∷◌, ◌++◌, length, map, take, drop, refl, sym, ap, append-nil, append_assoc, map-append, take-append-drop, subst, ◌∙◌, inl, inr, true≢false, All, front_rest, Service, Parts, ControlFrame, IsInRange, LinkEndpoint, Config, LineTold, terms, Endpoint, Wire, turned, StepAt, doing_all, IsStill, CanCall, calling, data_told}
+use Rattle.laws_wire.proofs.Vocabulary.{IsBeginningOf, heard_in, runs_t200, IsFullTalk, StayPatient, Called, uncalled, seen, all_kept, ToldSo, LossyCallsComeThrough}
 use Rattle.laws_wire.proofs.Awaited.{runs-is}
 use Rattle.laws_wire.proofs.Calling.{end, sabme}
 use Rattle.laws_wire.proofs.Held.{Held}

@@ -1,5 +1,7 @@
 -- Two stations that are up, nothing is lost, and T200 expires at either: what is then sure to arrive, and that it has, where no turn is left.
-use Rattle.laws_wire.proofs.Vocabulary.{◌≡◌, ℕ, ◌≤◌, true, false, ◌&&◌, IsTrue, List, [], ◌∷◌, ◌++◌, map, drop, refl, sym, ap, subst, ◌∙◌, ◌⊎◌, inl, inr, true≢false, arith, All, take_all, All-head, All-tail, Service, Timer, Parts, TimerRecovery, LinkTimer, T203, is_multiple_frame, LinkEndpoint, with_link, with_sent, frames_of, Config, LineTold, request, awaits_answer, CanRepeat, HasNothingToSend, line, one_enquiry, one_answer, nothing-given, T200, line_of, Data, Endpoint, Wire, happens, EndStep, requests, expires, sends, receives, loses, acting, turned, StepAt, at_near, at_far, doing, doing_all, IsStill, confirmed, indicated, data_told, heard_in, IsRoughTalkOf, IsRoughTalk, IsTimelyOf, IsTimely, StayTimely, LosesNothing, runs_t200, is_t200, near_asks, far_asks, ever, lt-ltb, ltb-false, nat_lt, offer-goes, expired, timer_T200, timer_T203, two_ends_with_first_of, two_ends_without_first}
+use Rattle.laws_wire.proofs.Vocabulary.{◌≡◌, ℕ, ◌≤◌, true, false, ◌&&◌, IsTrue, List, [], ◌∷◌, ◌++◌, map, drop, refl, sym, ap, subst, ◌∙◌, ◌⊎◌, inl, inr, true≢false, arith, All, take_all, All-head, All-tail, Service, Timer, Parts, TimerRecovery, LinkTimer, T203, is_multiple_frame, LinkEndpoint, with_link, with_sent, frames_of, Config, LineTold, request, awaits_answer, CanRepeat, HasNothingToSend}
+use Rattle.laws_wire.proofs.Vocabulary.{line, one_enquiry, one_answer, nothing-given, T200, line_of, Data, Endpoint, Wire, happens, EndStep, requests, expires, sends, receives, loses, acting, turned, StepAt, at_near, at_far, doing, doing_all, IsStill, confirmed, indicated, data_told, heard_in, IsRoughTalkOf, IsRoughTalk, IsTimelyOf, IsTimely, StayTimely, LosesNothing, runs_t200, is_t200}
+use Rattle.laws_wire.proofs.Vocabulary.{near_asks, far_asks, ever, lt-ltb, ltb-false, nat_lt, offer-goes, expired, timer_T200, timer_T203, two_ends_with_first_of, two_ends_without_first}
 use Rattle.laws_link.specs.two.Timely as two_links
 use Rattle.laws_wire.proofs.Asking.{with_more, asked-form}
 use Rattle.laws_wire.proofs.Awaited.{closed, may-there, long-there, runs-up}

@@ -1,5 +1,6 @@
 -- Turns, in any order or in rounds, lead to where all has arrived whose T200 has expired.
-use Rattle.laws_wire.proofs.Vocabulary.{◌≡◌, ℕ, zero, suc, ◌+◌, ◌*◌, ◌<◌, ◌≤◌, Bool, true, false, ◌||◌, List, [], ◌∷◌, ◌++◌, refl, sym, ap, subst, ◌∙◌, inl, inr, arith, nat_lt, ltb-true, ltb-false, true≢false, flat_map, All, All-nil, All-cons, All-append, Service, Config, LineTold, terms, flat_map-append, Endpoint, Wire, sends, receives, StepAt, at_near, at_far, acting, turned, doing, doing_all, IsStill, calling, CanCall, granted_of, for_layer_3, heard_in, IsRoughTalk, rounds, HasNoErrors, moves, expiries, most_frames, StayTimely, LosesNothing, ever, HasCome, GoesOn, SendsOrReceives, most_left, ArrivesInRounds, ArrivesInTurns, append-nil}
+use Rattle.laws_wire.proofs.Vocabulary.{◌≡◌, ℕ, zero, suc, ◌+◌, ◌*◌, ◌<◌, ◌≤◌, Bool, true, false, ◌||◌, List, [], ◌∷◌, ◌++◌, refl, sym, ap, subst, ◌∙◌, inl, inr, arith, nat_lt, ltb-true, ltb-false, true≢false, flat_map, All, All-nil, All-cons, All-append, Service, Config, LineTold, terms, flat_map-append, Endpoint, Wire, sends, receives, StepAt, at_near, at_far, acting, turned, doing, doing_all}
+use Rattle.laws_wire.proofs.Vocabulary.{IsStill, calling, CanCall, granted_of, for_layer_3, heard_in, IsRoughTalk, rounds, HasNoErrors, moves, expiries, most_frames, StayTimely, LosesNothing, ever, HasCome, GoesOn, SendsOrReceives, most_left, ArrivesInRounds, ArrivesInTurns, append-nil}
 use Rattle.laws_wire.proofs.LeftToDo.{weighs-left}
 use Rattle.laws_wire.proofs.LossyPhases.{IsUp, Goes as Phases}
 use Rattle.laws_wire.proofs.LossyRun.{More, near-more, Setting, setting, fair-goes}

@@ -1,5 +1,7 @@
 -- Two stations whose links are up: each turn lowers their weight, and each request that is granted raises it by four.
-use Rattle.laws_wire.proofs.Vocabulary.{◌≡◌, ℕ, ◌+◌, ◌*◌, ◌≤◌, false, List, [], ◌∷◌, ◌++◌, length, map, drop, Option, Some, None, refl, sym, ap, subst, ◌∙◌, ◌⊎◌, inl, inr, append-nil, length-append, arith, All, if◌then◌else◌, All-head, All-tail, Service, Parts, spelling, Terms, Link, given, Given, LinkEndpoint, Ends, with_link, with_sent, frame_given, Config, Request, request, next, weight_at, HasNothingToSend, takes-first, Pair, nothing-given, nothing-to_send, silent-stays, refusal, Data, Endpoint, Wire, happens, frames_by, with_first_of, EndStep, requests, sends, receives, StepAt, at_near, at_far, acting, turned, doing, doing_all, is_any, is_turn_of, is_turn, turns, answered, frame_comes, IsTalkOf, IsTalk, received, LinkData, frame, two_ends_with_first_of, two_ends_without_first}
+use Rattle.laws_wire.proofs.Vocabulary.{◌≡◌, ℕ, ◌+◌, ◌*◌, ◌≤◌, false, List, [], ◌∷◌, ◌++◌, length, map, drop, Option, Some, None, refl, sym, ap, subst, ◌∙◌, ◌⊎◌, inl, inr, append-nil, length-append, arith, All, if◌then◌else◌, All-head, All-tail, Service, Parts, spelling, Terms, Link, given, Given, LinkEndpoint, Ends, with_link, with_sent, frame_given, Config, Request, request, next, weight_at}
+use Rattle.laws_wire.proofs.Vocabulary.{HasNothingToSend, takes-first, Pair, nothing-given, nothing-to_send, silent-stays, refusal, Data, Endpoint, Wire, happens, frames_by, with_first_of, EndStep, requests, sends, receives, StepAt, at_near, at_far, acting, turned, doing, doing_all, is_any, is_turn_of, is_turn, turns, answered, frame_comes, IsTalkOf, IsTalk, received, LinkData, frame}
+use Rattle.laws_wire.proofs.Vocabulary.{two_ends_with_first_of, two_ends_without_first}
 use Rattle.laws_link.proofs.OfTwo.AnyOrder as any_order
 use Rattle.laws_wire.proofs.Answered.{gives-granted, takes-granted}
 use Rattle.laws_wire.proofs.Asking.{with_more, asked-form, asks-more, Asked}

@@ -1,5 +1,6 @@
 -- The words of std, of the crates below and of the statements of this crate with which its proofs speak, from where they are defined.
-pub use Rattle.std.proofs.Common.{Bool, IfSome, IsTrue, List, None, Ok, Option, Some, [], ap, append-nil, append_assoc, arith, cond, drop, eq-eqb, eqb-true, false, flat_map, get_or, if◌then◌else◌, inl, inr, is_some, length, length-append, map, nat_eq, nat_lt, not, option_map, refl, replicate, set, slice_get, slice_index, subst, suc, sym, take, true, true≢false, zero, ℕ, ⊎_elim, ◌%◌, ◌&&◌, ◌*◌, ◌++◌, ◌+◌, ◌-◌, ◌<◌, ◌==◌, ◌||◌, ◌∙◌, ◌∷◌, ◌≡◌, ◌≢◌, ◌≤◌, ◌⊎◌}
+pub use Rattle.std.proofs.Common.{Bool, IfSome, IsTrue, List, None, Ok, Option, Some, [], ap, append-nil, append_assoc, arith, cond, drop, eq-eqb, eqb-true, false, flat_map, get_or, if◌then◌else◌, inl, inr, is_some, length, length-append, map, nat_eq, nat_lt, not, option_map, refl, replicate, set, slice_get, slice_index, subst, suc, sym, take, true, true≢false, zero, ℕ, ⊎_elim, ◌%◌, ◌&&◌, ◌*◌}
+pub use Rattle.std.proofs.Common.{◌++◌, ◌+◌, ◌-◌, ◌<◌, ◌==◌, ◌||◌, ◌∙◌, ◌∷◌, ◌≡◌, ◌≢◌, ◌≤◌, ◌⊎◌}
 pub use Rattle.std.proofs.lemmas.Bool.{and_parts, cases_eq, false≢true, le-ltb, leb-true, lt-ltb, ltb-false, ltb-true, ne_eqb, or_parts}
 pub use Rattle.std.proofs.lemmas.List.{get_or-set_other, get_or-set_same, length-map, length-replicate, length-take-le, map-append, set-get_or, take-append-drop, take_all, append_cancel_left, length-drop}
 pub use Rattle.std.proofs.lemmas.List.Elements.{All-append, All-cons, All-drop, All-head, All-nil, All-tail, All-take, All-weaker}
@@ -50,29 +51,29 @@ pub use Rattle.laws_line.specs.Share.{is_granted}
 pub use Rattle.laws_link.proofs.Follows.{event-follows}
 pub use Rattle.laws_link.proofs.OfTwo.AnyOrder.{Direction, Informs, Lane, Steady, is-steady, lane-low, lane-order, takes-first}
 pub use Rattle.laws_link.proofs.OfTwo.AnyOrderRuns.{Pair, all-there, all-turns}
-pub use Rattle.laws_link.proofs.OfTwo.Arriving.{all-arrived}
-pub use Rattle.laws_link.proofs.OfTwo.Effects.{Heard, c-7, c-8, is_recovering}
+pub use Rattle.laws_link.proofs.OfTwo.Arriving.{AreFree, all-arrived}
+pub use Rattle.laws_link.proofs.OfTwo.Effects.{Grown, Heard, c-7, c-8, is_recovering}
 pub use Rattle.laws_link.proofs.OfTwo.Expiring.{expires-one}
 pub use Rattle.laws_link.proofs.OfTwo.Flow.{Flow, most}
 pub use Rattle.laws_link.proofs.OfTwo.Flowing.{answer-says, no-answer}
-pub use Rattle.laws_link.proofs.OfTwo.Going.{offer-goes}
+pub use Rattle.laws_link.proofs.OfTwo.Going.{asks-went, expires-goes, offer-goes}
 pub use Rattle.laws_link.proofs.OfTwo.Halves.{fits-at, named-number}
 pub use Rattle.laws_link.proofs.OfTwo.HeardRows.{heard}
 pub use Rattle.laws_link.proofs.OfTwo.Meeting.{Longer, NoAlien, is-no-alien, line, line-longer}
 pub use Rattle.laws_link.proofs.OfTwo.Needing.{timely-after, timely-fresh}
 pub use Rattle.laws_link.proofs.OfTwo.Reached.{Sane, sane-doing}
-pub use Rattle.laws_link.proofs.OfTwo.Recovery.{all-recovered}
+pub use Rattle.laws_link.proofs.OfTwo.Recovery.{all-recovered, free-recovered}
 pub use Rattle.laws_link.proofs.OfTwo.Shapes.{enquiry_with}
 pub use Rattle.laws_link.proofs.OfTwo.Staying.{offer-stays, request-stays, timer-stays}
-pub use Rattle.laws_link.proofs.OfTwo.StayingUp.{Flows, acted-flows}
+pub use Rattle.laws_link.proofs.OfTwo.StayingUp.{Flows, acted-flows, not-enquiry}
 pub use Rattle.laws_link.proofs.OfTwo.Together.{done-up, same-after}
-pub use Rattle.laws_link.proofs.OfTwo.Trains.{Beyond, Calm, Every, Kind, alien, answer, enquiry, kind_of, kinds-append, kinds_of, numbered, one_answer, one_enquiry, one_rejection, rejection, report, tally, tally-push}
+pub use Rattle.laws_link.proofs.OfTwo.Trains.{Behind, Beyond, Calm, Every, Kind, alien, answer, calm-rise, enquiry, every-push, kind_of, kinds-append, kinds_of, numbered, one_answer, one_enquiry, one_rejection, rejection, report, tally, tally-push}
 pub use Rattle.laws_link.proofs.OfTwo.Waiting.{nothing-given, nothing-to_send, silent-stays}
 pub use Rattle.laws_link.specs.Flags.{awaits_answer, busy_asked, busy_by, busy_heard}
 pub use Rattle.laws_link.specs.States.{as_heard, is_clearing, is_overlong, state_after}
 pub use Rattle.laws_link.specs.Telling.{told_expired}
 pub use Rattle.model_link.specs.Timed.{IsTimed, IsTimedIn}
-pub use Rattle.laws_link.specs.Waiting.{answers_to, as_response, command_in, is_time, room, waiting_left}
+pub use Rattle.laws_link.specs.Waiting.{answers_to, as_response, command_in, has_next_number, is_time, room, waiting_left}
 pub use Rattle.laws_link.specs.two.Ahead.{CanRepeat, IsNotRelease}
 pub use Rattle.laws_link.specs.two.AnyOrder.{weight_at}
 unfoldable pub use Rattle.laws_link.specs.two.AnyOrder.{AreTurns}
@@ -124,9 +125,9 @@ pub use Rattle.model_link.specs.Events.{cleared, expired, frame, offer, received
 pub use Rattle.model_link.specs.Link.{Link, frame_of, fresh, has_outstanding, is_multiple_frame, queue_of, state_number, unsent}
 pub use Rattle.model_link.specs.Machine.{after, course, frame_step, given, given_of, is_running, told as link_told}
 pub use Rattle.model_link.specs.Requests.{granted, is_down, refusal, serves}
-pub use Rattle.model_link.specs.Sound.{IsInRange, IsSound, IsWaitingFrame}
+pub use Rattle.model_link.specs.Sound.{IsInRange, IsSound, IsWaitingFrame, is_information}
 pub use Rattle.model_link.specs.Steps.{Course, Step, begun, by_bit, ◌then◌}
-pub use Rattle.model_link.specs.Told.{Given, runs}
+pub use Rattle.model_link.specs.Told.{Given, orders_for, runs}
 pub use Rattle.model_link.specs.TwoEnds.{Endpoint as LinkEndpoint, Ends, IsUp, requests as link_requests, expires as link_expires, frame_given, receives as link_receives, sends as link_sends, with_link, with_sent, Step as TwoEndsStep, acting as two_ends_acting, at_near as two_ends_at_near, doing as two_ends_doing, without_first as two_ends_without_first, with_first_of as two_ends_with_first_of}
 unfoldable pub use Rattle.model_link.specs.TwoEnds.{doing_all as two_ends_doing_all}
 pub use Rattle.model_link.specs.Words.{command, has_room, rr_or_rnr, response}
@@ -163,3 +164,20 @@ unfoldable pub use Rattle.laws_wire.specs.Wire.{doing_all, turns}
 pub use Rattle.laws_wire.specs.Worked.{begins, establishes, network, talks, user}
 pub use Rattle.laws_wire.specs.WorkedRecovering.{loses_three, lost, recovered}
 pub use Rattle.std.proofs.lemmas.List.Concat.{flat_map-append}
+pub use Rattle.lapd_frame.specs.Faults.{is_short}
+pub use Rattle.laws_line.specs.Drains.{to_go_at_link}
+pub use Rattle.laws_link.proofs.EachRow.{each-row}
+pub use Rattle.laws_link.proofs.OfTwo.HeedingEvents.{heeds-after}
+pub use Rattle.laws_link.proofs.OfTwo.TimelyRuns.{flows-low}
+pub use Rattle.laws_wire.specs.BothWorked.{both_send}
+pub use Rattle.laws_wire.specs.WorkedAnswering.{loses_ua}
+pub use Rattle.laws_wire.specs.WorkedCounted.{ua_is_lost}
+pub use Rattle.laws_wire.specs.WorkedResting.{rejects_one, two_accepted}
+pub use Rattle.laws_wire.specs.WorkedSettling.{is_ready, lost_near, lost_still, ready, ready_free, ready_left, ready_near, ready_seen, ready_still, ua_lost}
+pub use Rattle.model_card.specs.Room.{free}
+pub use Rattle.model_line.proofs.Following.{and-false}
+pub use Rattle.model_line.specs.Laws.{orders_in}
+pub use Rattle.model_line.specs.Room.{unless}
+pub use Rattle.model_link.proofs.TimedRows.{timed-after}
+pub use Rattle.model_link.specs.Room.{room_of}
+pub use Rattle.std.proofs.lemmas.List.Sums.{sum_by-cons}

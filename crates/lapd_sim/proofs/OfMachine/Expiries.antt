@@ -1,5 +1,6 @@
 -- To wait ends: with each expiry, the time that is left until the end falls, and it is tried often enough.
-use Rattle.lapd_sim.proofs.OfMachine.Vocabulary.{◌≡◌, ℕ, zero, suc, ◌+◌, ◌-◌, ◌<◌, ◌≤◌, Bool, true, false, cond, nat_le, List, [], ◌∷◌, ◌++◌, Option, Some, None, refl, sym, ap, ◌∙◌, subst, arith, append_assoc, append-nil, nat_tests, Event, at, reply, expiry, time_until-due, time_until-stop, time_until-start, put_in_order, Lengths, AreInRange, T200, T203, T201, Order, Start, Stop, duration, Expiry, Timers, is_before, without, finds_place, with_order, first_due, due_at, after_due, next_moment, time_until, orders_in, starts, Setup, ordered, happened, Scene, reply_text, at_expiry, expired, expiries, until, moment_of}
+use Rattle.lapd_sim.proofs.OfMachine.Vocabulary.{◌≡◌, ℕ, zero, suc, ◌+◌, ◌-◌, ◌<◌, ◌≤◌, Bool, true, false, cond, nat_le, List, [], ◌∷◌, ◌++◌, Option, Some, None, refl, sym, ap, ◌∙◌, subst, arith, append_assoc, append-nil, nat_tests, Event, at, reply, expiry, time_until-due, time_until-stop, time_until-start, put_in_order, Lengths, AreInRange, T200, T203, T201, Order, Start, Stop, duration, Expiry}
+use Rattle.lapd_sim.proofs.OfMachine.Vocabulary.{Timers, is_before, without, finds_place, with_order, first_due, due_at, after_due, next_moment, time_until, orders_in, starts, Setup, ordered, happened, Scene, reply_text, at_expiry, expired, expiries, until, moment_of}
 use Rattle.std.proofs.Common.{fold}
 use Rattle.lapd_clock.specs.Timer.{Timer}
 use Rattle.lapd_sim.proofs.OfMachine.Orders.{expiry_starts}

@@ -1,5 +1,6 @@
 -- What a terminal sends is heard, and what is found in pulls is what is heard in all of them.
-use Rattle.lapd_sim.proofs.OfMachine.Vocabulary.{◌≡◌, ℕ, zero, suc, ◌+◌, ◌-◌, ◌*◌, ◌%◌, ◌==◌, ◌<◌, Bool, true, false, if◌then◌else◌, List, [], ◌∷◌, ◌++◌, length, take, drop, map, filter_map, Option, option_to_list, refl, sym, ap, ◌∙◌, arith, append_assoc, append-nil, length-append, All, drop-append_seam, take-append_seam, eqb-true, true≢false, eq-eqb, drop_at, All-head, All-tail, filter_map-append, bits, flag, octets_of, Item, idle, item_text, line_text, heard_in, IsHeardWhole, AreHeardWhole, frames_of, bits-append, length-bits, low_bits-number_of_n, line_text-push, one_event_an_octet, frames_round_trip_lem, Terminal, with_frame, sending, octets_sent, after_sending, frame_in, found, all_sent, FramesAreHeard}
+use Rattle.lapd_sim.proofs.OfMachine.Vocabulary.{◌≡◌, ℕ, zero, suc, ◌+◌, ◌-◌, ◌*◌, ◌%◌, ◌==◌, ◌<◌, Bool, true, false, if◌then◌else◌, List, [], ◌∷◌, ◌++◌, length, take, drop, map, filter_map, Option, option_to_list, refl, sym, ap, ◌∙◌, arith, append_assoc, append-nil, length-append, All, drop-append_seam, take-append_seam, eqb-true, true≢false, eq-eqb, drop_at, All-head, All-tail}
+use Rattle.lapd_sim.proofs.OfMachine.Vocabulary.{filter_map-append, bits, flag, octets_of, Item, idle, item_text, line_text, heard_in, IsHeardWhole, AreHeardWhole, frames_of, bits-append, length-bits, low_bits-number_of_n, line_text-push, one_event_an_octet, frames_round_trip_lem, Terminal, with_frame, sending, octets_sent, after_sending, frame_in, found, all_sent, FramesAreHeard}
 use Rattle.model_bits.specs.Sent.{frame}
 use Rattle.model_bits.specs.Stream as stream
 use Rattle.model_bits.specs.Stream.{Event}

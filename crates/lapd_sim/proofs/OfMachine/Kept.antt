@@ -1,7 +1,7 @@
 -- What each line of a script keeps: the timers that run are in order, of lines of the card, and later than the moment.
-use Rattle.lapd_sim.proofs.OfMachine.Vocabulary.{◌≡◌, ℕ, zero, suc, ◌+◌, ◌<◌, Bool, true, false, cond, nat_le, List, [], ◌∷◌, replicate, Option, Some, None, refl, sym, ◌∙◌, subst, arith, fold, All, AllByRecursion, leb-false, none-some, All-nil, All-cons, All-head, All-tail, All-map, All-replicate, put_in_order, IsInOrder, Lengths, AreInRange, Order, Start, Stop, duration, Expiry, Timers, is_before, without, finds_place, with_order, first_due, after_first_due, due_at, all_later, All-put_in_order, All-filter, IsInOrder-put_in_order, IsInOrder-filter, before_order, octet, pull, expiry, request, orders_in, Board, Event, at, reply, IsAtLine, AreAtLines, Setup, ordered, happened, Scene, with_event, with_events, octets_at, downs, Pulls, one_pull, pulls, at_expiry, expired, expiries, expiry_events}
-use Rattle.lapd_frame.specs.declared.services.Service.TheVariants.{Call, Packet}
-use Rattle.model_line.specs.Request.{Deactivate, Down}
+use Rattle.lapd_sim.proofs.OfMachine.Vocabulary.{◌≡◌, ℕ, zero, suc, ◌+◌, ◌<◌, Bool, true, false, cond, nat_le, List, [], ◌∷◌, replicate, Option, Some, None, refl, sym, ◌∙◌, subst, arith, fold, All, AllByRecursion, leb-false, none-some, All-nil, All-cons, All-head, All-tail, All-map, All-replicate, put_in_order, IsInOrder, Lengths, AreInRange, Order, Start, Stop, duration, Expiry, Timers}
+use Rattle.lapd_sim.proofs.OfMachine.Vocabulary.{is_before, without, finds_place, with_order, first_due, after_first_due, due_at, all_later, All-put_in_order, All-filter, IsInOrder-put_in_order, IsInOrder-filter, before_order, octet, pull, expiry, request, orders_in, Board, Event, at, reply, IsAtLine, AreAtLines, Setup, ordered, happened, Scene, with_event, with_events, octets_at, downs, Pulls}
+use Rattle.lapd_sim.proofs.OfMachine.Vocabulary.{one_pull, pulls, at_expiry, expired, expiries, expiry_events, Call, Packet, Deactivate, Down}
 use Rattle.lapd_clock.specs.Timer.{Timer}
 use Rattle.lapd_sim.proofs.OfMachine.Expiries.{runs_long, order_lengths, happens_in_range}
 

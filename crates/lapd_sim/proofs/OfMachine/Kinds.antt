@@ -1,16 +1,12 @@
 -- The events that each line of a script brings are of the kind of its card.
-use Rattle.lapd_sim.proofs.OfMachine.Vocabulary.{◌≡◌, ℕ, List, [], ◌∷◌, replicate, refl, sym, ap, ◌∙◌, subst, All, All-nil, All-cons, All-head, All-tail, All-replicate, CardKind, Octets, Frames, Event, at, octet, pull, expiry, request, hears, next, Scene, octets_at, downs, expiries, expiry_events}
+use Rattle.lapd_sim.proofs.OfMachine.Vocabulary.{◌≡◌, ℕ, List, [], ◌∷◌, replicate, refl, sym, ap, ◌∙◌, subst, All, All-nil, All-cons, All-head, All-tail, All-replicate, CardKind, Octets, Frames, Event, at, octet, pull, expiry, request, hears, next, Scene, octets_at, downs, expiries, expiry_events, Call, Packet, Request, Deactivate, Down, octet_event, frame_event, AreEventsOf}
 use Rattle.std.specs.Prelude.{map}
-use Rattle.lapd_frame.specs.declared.services.Service.TheVariants.{Call, Packet}
 use Rattle.lapd_frame.specs.declared.timers.Timer.{Timer}
 use Rattle.model_bits.specs.Stream as stream
 use Rattle.model_line.specs.Event as line
-use Rattle.model_line.specs.Request.{Request, Deactivate, Down}
 use Rattle.model_card.specs.Event as frames
 use Rattle.model_card.specs.ports.Event as octets
 use Rattle.model_card.specs.ports.Port as port
-use Rattle.lapd_sim.specs.machine.Board.{octet_event, frame_event}
-use Rattle.lapd_sim.specs.machine.Events.{AreEventsOf}
 use Rattle.lapd_sim.proofs.OfMachine.Kept.{by_expiry}
 
 -- It is an event of the card of its kind.

@@ -1,16 +1,13 @@
 -- A board leads where the card of its kind leads, and answers as it does.
-use Rattle.lapd_sim.proofs.OfMachine.Vocabulary.{arith, ◌≡◌, ℕ, List, [], ◌∷◌, map, refl, ap, ◌∙◌, Octets, Frames, Config, after, after_all, moments, reply, RunsOnBoards}
+use Rattle.lapd_sim.proofs.OfMachine.Vocabulary.{arith, ◌≡◌, ℕ, List, [], ◌∷◌, map, refl, ap, ◌∙◌, Octets, Frames, Config, after, after_all, moments, reply, RunsOnBoards, OctetCard, Moment, octet_event, frame_event, reply_of_octets, reply_of_frames, board_of_octets, board_of_frames, moment_of_octets, moment_of_frames}
 use Rattle.model_card.specs.Event as frames
 use Rattle.model_card.specs.Machine as machine
 use Rattle.model_card.specs.Run as runs
 use Rattle.model_line.specs.Event as line
 use Rattle.model_card.specs.ports.Card as ports
-use Rattle.model_card.specs.ports.Card.{OctetCard}
 use Rattle.model_card.specs.ports.Event as octets
 use Rattle.model_card.specs.ports.Port as port
 use Rattle.model_card.specs.ports.Run as octet_runs
-use Rattle.lapd_sim.specs.machine.Board.{Moment, octet_event, frame_event, reply_of_octets, reply_of_frames}
-use Rattle.lapd_sim.specs.machine.Events.{board_of_octets, board_of_frames, moment_of_octets, moment_of_frames}
 
 on_octets : (c : Config) (m : OctetCard) (number : ℕ) (e : port.Event)
     → after (octet_event (octets.at number e)) (record { kind = Octets; config = c; card = m }) ≡ record { kind = Octets; config = c; card = ports.after (octets.at number e) m }

@@ -1,15 +1,13 @@
 -- An expiry at a board starts at most one timer.
-use Rattle.lapd_sim.proofs.OfMachine.Vocabulary.{ℕ, ◌≤◌, Octets, Frames, CardKind, Config, arith, Board, at, expiry, orders_in, reply, starts}
+use Rattle.lapd_sim.proofs.OfMachine.Vocabulary.{ℕ, ◌≤◌, Octets, Frames, CardKind, Config, arith, Board, at, expiry, orders_in, reply, starts, OctetCard, reply_of_octets, reply_of_frames}
 use Rattle.model_card.proofs.Starts as cards
 use Rattle.model_card.specs.Event as frames
 use Rattle.model_card.specs.Machine as machine
 use Rattle.model_line.specs.Event as line
 use Rattle.model_line.specs.Laws as lines
 use Rattle.model_card.specs.ports.Card as ports
-use Rattle.model_card.specs.ports.Card.{OctetCard}
 use Rattle.model_card.specs.ports.Port as port
 use Rattle.lapd_clock.specs.Timer.{Timer}
-use Rattle.lapd_sim.specs.machine.Board.{reply_of_octets, reply_of_frames}
 
 answered : (a : line.Answer) → starts (lines.orders_in a) ≤ 1 → starts (orders_in (reply_of_octets (port.answer_of a))) ≤ 1
 unfolding starts

@@ -40,7 +40,7 @@ pub use Rattle.model_bits.proofs.RoundTripFrame.{frames_round_trip_lem}
 pub use Rattle.model_bits.specs.Bits.{bits, flag, octets_of}
 pub use Rattle.model_bits.specs.RoundTrip.{AreHeardWhole, IsHeardWhole, frames_of}
 pub use Rattle.model_bits.specs.Sent.{Item, idle, item_text, line_text}
-pub use Rattle.model_bits.specs.Stream.{heard_in}
+pub use Rattle.model_bits.specs.Stream.{dropped, heard_in}
 pub use Rattle.model_line.proofs.Ranges.{Within, ranges_of}
 pub use Rattle.model_line.specs.Config.{is_within}
 pub use Rattle.model_line.specs.Sound.{IsInRange}
@@ -49,13 +49,22 @@ pub use Rattle.model_line.specs.declared.config.Field.{Field}
 pub use Rattle.model_line.specs.declared.config.Field.TheVariants.{Control, Lines, N201, Slots, Terminals}
 unfoldable pub use Rattle.model_link.specs.Told.{starts}
 pub use Rattle.lapd_sim.specs.machine.Asked.{LimitsAreOfCards, limits_of_card, limits_words}
-pub use Rattle.lapd_sim.specs.machine.Board.{after, AreAtLines, Board, Event, IsAtLine, at, expiry, fresh, hears, next, octet, orders_in, pull, request}
+pub use Rattle.lapd_sim.specs.machine.Board.{AreAtLines, Board, Event, IsAtLine, Moment, What, after, at, expiry, frame_event, frames_after, fresh, hears, next, octet, octet_event, octets_after, of_frames, of_octets, orders_in, pull, reply_of_frames, reply_of_octets, request}
 unfoldable pub use Rattle.lapd_sim.specs.machine.Board.{after_all, moments, reply}
-pub use Rattle.lapd_sim.specs.machine.Events.{HasRun, RunsOnBoards, ScriptsAreRuns, board_meant, coming_events, events_from, events_until, expiry_events, first_board, line_events, meant_events, read_events, script_events, unless_fault}
+pub use Rattle.lapd_sim.specs.machine.Events.{AreEventsOf, HasRun, RunsOnBoards, ScriptsAreRuns, board_meant, board_of_frames, board_of_octets, coming_events, events_from, events_until, expiry_events, first_board, line_events, meant_events, moment_of_frames, moment_of_octets, read_events, script_events, unless_fault}
 pub use Rattle.lapd_sim.specs.machine.Heard.{FramesAreHeard, all_sent}
-pub use Rattle.lapd_sim.specs.machine.Replies.{TranscriptsAreReplies, line_moments, meant_moments, moments_from, octet_given, read_moments, read_text, replies_text, text_from}
+pub use Rattle.lapd_sim.specs.machine.Replies.{TranscriptsAreReplies, line_moments, meant_moments, moments_from, octet_given, read_moments, read_text, replies_text, said, text_from}
 pub use Rattle.lapd_sim.specs.machine.Script.{Fault, Played, after_bench, after_reading, after_scene, faulty, is_too_long, not_begun, one_more, played, unless_faulty}
 pub use Rattle.lapd_sim.specs.machine.Setup.{Setup, begun, happened, ordered, taken_at, terminal_at, with_terminal}
 pub use Rattle.lapd_sim.specs.machine.Steps.{Pulls, Scene, after_coming, after_in, after_pull, after_rx, after_timers, after_wait, at_expiry, at_line, can_come, downs, expired, expiries, for_frames, for_octets, held, last_moment, moment_of, octet_in, octets_at, is_heard_as, one_pull, pulls, reply_text, request_for, teis_on, until, with_card, with_event, with_events, with_timers, without_card}
 pub use Rattle.lapd_sim.specs.machine.Waits.{AllLater, WaitsLeaveNothingDue}
 pub use Rattle.lapd_sim.specs.machine.Within.{ScriptsStayWithin, bound_of}
+pub use Rattle.lapd_frame.specs.declared.services.Service.TheVariants.{Call, Packet}
+pub use Rattle.model_card.proofs.CardSound.{after_is_sound}
+pub use Rattle.model_card.proofs.OfPorts.Steps.{config_after}
+pub use Rattle.model_card.specs.Card.{Card}
+pub use Rattle.model_card.specs.ports.Card.{OctetCard}
+pub use Rattle.model_card.specs.ports.Sound.{IsSoundOctetCard}
+pub use Rattle.model_line.specs.Came.{came, cause_of}
+pub use Rattle.model_line.specs.Request.{Deactivate, Down, Request}
+pub use Rattle.std.specs.Option.{option_map_or}

@@ -1,9 +1,7 @@
 -- What a script's card stores is within its bound, as it is after every list of events.
-use Rattle.lapd_sim.proofs.OfMachine.Vocabulary.{◌≡◌, ℕ, ◌+◌, ◌*◌, ◌≤◌, ◌<◌, List, [], ◌∷◌, take, Option, Some, None, refl, sym, ap, ◌∙◌, subst, arith, All-nil, All-cons, All-head, All-tail, All-take, Config, IsInRange, CardKind, Octets, Frames, Setup, Board, Event, after, fresh, after_all, IsAtLine, AreAtLines, held, script_events, HasRun, bound_of, ScriptsStayWithin}
-use Rattle.std.specs.Option.{option_map_or}
-use Rattle.model_card.proofs.CardSound.{after_is_sound}
+use Rattle.lapd_sim.proofs.OfMachine.Vocabulary.{◌≡◌, ℕ, ◌+◌, ◌*◌, ◌≤◌, ◌<◌, List, [], ◌∷◌, take, Option, Some, None, refl, sym, ap, ◌∙◌, subst, arith, All-nil, All-cons, All-head, All-tail, All-take, Config, IsInRange, CardKind, Octets, Frames, Setup, Board, Event, after, fresh, after_all, IsAtLine, AreAtLines, held, script_events, HasRun, bound_of, ScriptsStayWithin, option_map_or}
+use Rattle.lapd_sim.proofs.OfMachine.Vocabulary.{after_is_sound, Card, config_after, OctetCard, IsSoundOctetCard, What, of_octets, of_frames, octets_after, frames_after}
 use Rattle.model_card.proofs.Stored as cards_stored
-use Rattle.model_card.specs.Card.{Card}
 use Rattle.model_card.specs.Event as frames
 use Rattle.model_card.specs.Run as runs
 use Rattle.model_card.specs.Sound as cards
@@ -11,15 +9,11 @@ use Rattle.model_card.specs.Stored as card_stored
 use Rattle.model_line.specs.Event as line
 use Rattle.model_card.proofs.OfPorts.Sound as ports_sound
 use Rattle.model_card.proofs.OfPorts.Stored as ports_stored
-use Rattle.model_card.proofs.OfPorts.Steps.{config_after}
 use Rattle.model_card.specs.ports.Card as ports
-use Rattle.model_card.specs.ports.Card.{OctetCard}
 use Rattle.model_card.specs.ports.Event as octets
 use Rattle.model_card.specs.ports.Port as port
 use Rattle.model_card.specs.ports.Run as octet_runs
-use Rattle.model_card.specs.ports.Sound.{IsSoundOctetCard}
 use Rattle.model_card.specs.ports.Stored as octet_stored
-use Rattle.lapd_sim.specs.machine.Board.{What, of_octets, of_frames, octets_after, frames_after}
 use Rattle.lapd_sim.proofs.OfMachine.Events.{scripts_are_runs}
 
 -- A board's card is sound, as one of its kind, and has the board's configuration.

@@ -1,6 +1,7 @@
 -- A control frame that waits at a line of a card is taken by one of so many calls also where other events of that line are
 -- between them.
-use Rattle.laws_line.proofs.Vocabulary.{◌≡◌, ℕ, ◌+◌, ◌-◌, ◌<◌, ◌≤◌, ◌==◌, ◌&&◌, Bool, true, false, cond, List, [], ◌∷◌, ◌++◌, length, get_or, set, Some, refl, sym, ap, subst, ◌∙◌, ◌⊎◌, inl, inr, arith, eq-eqb, eqb-false, get_or-set_same, All-head, All-tail, ControlFrame, next, Line, fresh_line, link_count, service_at, place_at, tei_at, link_at, Taken, taken, Card, line_at, at, wants_room, IsAtLine, AreAtLines, after_is_sound, eqb-true, is_take, go_first, frames_before, control_text, deactivates, CardEvent as Event, card_after as after, CardIsSound as IsSound, AreAmong, map, card_answer as answer, come_first_at, takes_of, is_deactivated_at, StaysAt, IsNotDeactivated}
+use Rattle.laws_line.proofs.Vocabulary.{◌≡◌, ℕ, ◌+◌, ◌-◌, ◌<◌, ◌≤◌, ◌==◌, ◌&&◌, Bool, true, false, cond, List, [], ◌∷◌, ◌++◌, length, get_or, set, Some, refl, sym, ap, subst, ◌∙◌, ◌⊎◌, inl, inr, arith, eq-eqb, eqb-false, get_or-set_same, All-head, All-tail, ControlFrame, next, Line, fresh_line, link_count, service_at, place_at, tei_at, link_at, Taken, taken, Card, line_at, at, wants_room}
+use Rattle.laws_line.proofs.Vocabulary.{IsAtLine, AreAtLines, after_is_sound, eqb-true, is_take, go_first, frames_before, control_text, deactivates, CardEvent as Event, card_after as after, CardIsSound as IsSound, AreAmong, map, card_answer as answer, come_first_at, takes_of, is_deactivated_at, StaysAt, IsNotDeactivated}
 use Rattle.model_line.specs.Machine as lines
 unfoldable use Rattle.model_line.specs.Machine.{answer as line_answer}
 unfoldable use Rattle.model_card.specs.Run.{moments}

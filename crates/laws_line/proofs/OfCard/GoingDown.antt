@@ -1,5 +1,6 @@
 -- A line of a card goes down.
-use Rattle.laws_line.proofs.Vocabulary.{◌≡◌, ℕ, ◌<◌, ◌==◌, Bool, true, false, cond, List, [], ◌∷◌, refl, sym, ap, ◌∙◌, subst, arith, eq-eqb, get_or-set_same, All-head, All-tail, Config, request, Line, Request, Card, line_at, at, IsAtLine, AreAtLines, after_all, after_is_sound, has_lines, line_sound, eqb-true, All, map, after_events, takes_down, IsDown, CardEvent as Event, card_after as after, CardIsSound as IsSound, happens_at, LineLinesGoDown as LinesGoDown}
+use Rattle.laws_line.proofs.Vocabulary.{◌≡◌, ℕ, ◌<◌, ◌==◌, Bool, true, false, cond, List, [], ◌∷◌, refl, sym, ap, ◌∙◌, subst, arith, eq-eqb, get_or-set_same, All-head, All-tail, Config, request, Line, Request, Card, line_at, at, IsAtLine, AreAtLines, after_all, after_is_sound, has_lines, line_sound, eqb-true, All, map, after_events, takes_down, IsDown, CardEvent as Event, card_after as after}
+use Rattle.laws_line.proofs.Vocabulary.{CardIsSound as IsSound, happens_at, LineLinesGoDown as LinesGoDown}
 use Rattle.model_line.specs.Machine as lines
 use Rattle.laws_line.proofs.GoingDown.{lines-go-down}
 use Rattle.laws_line.proofs.OfCard.Meanwhile.{at-another}

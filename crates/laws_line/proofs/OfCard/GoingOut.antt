@@ -1,5 +1,6 @@
 -- A control frame that waits at a line of octets goes out: a receiver hears it.
-use Rattle.laws_line.proofs.Vocabulary.{List, None, Option, Some, [], ap, append-nil, append_assoc, arith, eq-eqb, false, length, map, option_map, refl, subst, sym, ℕ, ◌++◌, ◌+◌, ◌<◌, ◌∙◌, ◌∷◌, ◌≡◌, ◌≤◌, ControlFrame, next, answer as line_answer, place_at, tei_at, taken, next_of, Config, Card, line_at, at, card_after, after_all as frames_after, moments as frame_moments, CardIsSound as IsSound, control_text, most_frames_before, AreAmong, link_at, link_count, option_to_list, IsNotDeactivated, is_deactivated_at, takes_of, StaysAt, come_first_at}
+use Rattle.laws_line.proofs.Vocabulary.{List, None, Option, Some, [], ap, append-nil, append_assoc, arith, eq-eqb, false, length, map, option_map, refl, subst, sym, ℕ, ◌++◌, ◌+◌, ◌<◌, ◌∙◌, ◌∷◌, ◌≡◌, ◌≤◌, ControlFrame, next, answer as line_answer, place_at, tei_at, taken, next_of, Config, Card, line_at, at, card_after, after_all as frames_after, moments as frame_moments, CardIsSound as IsSound}
+use Rattle.laws_line.proofs.Vocabulary.{control_text, most_frames_before, AreAmong, link_at, link_count, option_to_list, IsNotDeactivated, is_deactivated_at, takes_of, StaysAt, come_first_at}
 use Rattle.std.proofs.lemmas.Grind.{flat_map-append}
 use Rattle.std.specs.List.{flat_map}
 use Rattle.std.proofs.lemmas.List.{length-map, map-append}

@@ -1,5 +1,6 @@
 -- What is heard, in a moment of a run.
-use Rattle.laws_line.proofs.Vocabulary.{◌≡◌, ℕ, false, List, Ok, refl, sym, subst, arith, and_parts, get_or-set_same, Cause, Unserved, Service, Parts, reading, Config, heard_side, group_told, IsToGroup, Answer, hears, Line, Card, line_at, IsAtLine, moment_of, has_lines, by_room, line_sound, dropped, HearsFrame, OnlyTells, IsToManagement, CardEvent as Event, card_after as after, card_answer as answer, CardIsSound as IsSound, TellsCause}
+use Rattle.laws_line.proofs.Vocabulary.{◌≡◌, ℕ, false, List, Ok, refl, sym, subst, arith, and_parts, get_or-set_same, Cause, Unserved, Service, Parts, reading, Config, heard_side, group_told, IsToGroup, Answer, hears, Line, Card, line_at, IsAtLine, moment_of, has_lines, by_room, line_sound, dropped, HearsFrame, OnlyTells, IsToManagement, CardEvent as Event, card_after as after}
+use Rattle.laws_line.proofs.Vocabulary.{card_answer as answer, CardIsSound as IsSound, TellsCause}
 use Rattle.model_bits.specs.Stream as stream
 use Rattle.model_line.specs.Machine as lines
 use Rattle.model_line.specs.Sound as line

@@ -1,5 +1,6 @@
 -- In a moment of a run one part of one line has one event, and all else is as it was.
-use Rattle.laws_line.proofs.Vocabulary.{◌≡◌, ℕ, true, List, get_or, sym, ap, ◌∙◌, subst, arith, true≢false, and_parts, get_or-set_same, PoolFull, Service, Config, refused, Line, fresh_line, Card, line_at, is_full, IsAtLine, AreAtLines, moment_of, each_moment, has_lines, by_room, line_sound, Down, IsOneEvent, IsOf, CardEvent as Event, card_after as after, card_answer as answer, CardIsSound as IsSound, IsOneEventIn, HasOneEvent}
+use Rattle.laws_line.proofs.Vocabulary.{◌≡◌, ℕ, true, List, get_or, sym, ap, ◌∙◌, subst, arith, true≢false, and_parts, get_or-set_same, PoolFull, Service, Config, refused, Line, fresh_line, Card, line_at, is_full, IsAtLine, AreAtLines, moment_of, each_moment, has_lines, by_room, line_sound, Down, IsOneEvent, IsOf, CardEvent as Event, card_after as after, card_answer as answer}
+use Rattle.laws_line.proofs.Vocabulary.{CardIsSound as IsSound, IsOneEventIn, HasOneEvent}
 use Rattle.model_bits.specs.Stream as stream
 use Rattle.model_link.specs.Events as link
 use Rattle.model_line.specs.Event as line_event

@@ -1,5 +1,6 @@
 -- A caller that obeys the orders runs the timers that are needed: over runs of a card.
-use Rattle.laws_line.proofs.Vocabulary.{◌≡◌, ℕ, ◌<◌, ◌==◌, Bool, true, false, cond, List, [], ◌∷◌, get_or, set, refl, sym, ap, ◌∙◌, subst, arith, eq-eqb, true≢false, and_parts, get_or-set_same, get_or-replicate, All-head, All-tail, Timer, Config, Line, fresh_line, Card, line_at, is_full, moments, after_all, IsAtLine, AreAtLines, after_is_sound, moment_of, has_lines, by_room, line_sound, eqb-true, is_needed, runs_then, left_by, HaveTheirTimers, CardEvent as Event, card_fresh as fresh, card_after as after, card_answer as answer, CardIsSound as IsSound, RunsWhatIsNeeded, line_one_more as one_more, runs_at_callers, AllHaveTheirTimers}
+use Rattle.laws_line.proofs.Vocabulary.{◌≡◌, ℕ, ◌<◌, ◌==◌, Bool, true, false, cond, List, [], ◌∷◌, get_or, set, refl, sym, ap, ◌∙◌, subst, arith, eq-eqb, true≢false, and_parts, get_or-set_same, get_or-replicate, All-head, All-tail, Timer, Config, Line, fresh_line, Card, line_at, is_full, moments, after_all, IsAtLine, AreAtLines, after_is_sound, moment_of, has_lines, by_room, line_sound, eqb-true}
+use Rattle.laws_line.proofs.Vocabulary.{is_needed, runs_then, left_by, HaveTheirTimers, CardEvent as Event, card_fresh as fresh, card_after as after, card_answer as answer, CardIsSound as IsSound, RunsWhatIsNeeded, line_one_more as one_more, runs_at_callers, AllHaveTheirTimers}
 use Rattle.model_line.specs.Event as line_event
 use Rattle.model_line.specs.Machine as lines
 use Rattle.laws_line.proofs.TimersFollow.{timely-line, followed, begins-timely, begins-with-none}

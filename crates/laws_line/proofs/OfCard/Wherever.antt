@@ -1,5 +1,6 @@
 -- The laws of a line's takes wherever they come in a list of events.
-use Rattle.laws_line.proofs.Vocabulary.{AreAmong, ControlFrame, link_at, map, control_text, refl, ◌≡◌, ◌∙◌, ◌<◌, List, [], ◌∷◌, ◌++◌, length, sym, ap, subst, arith, All-nil, All-head, All-tail, Config, gave, next_of, Card, line_at, IsAtLine, AreAtLines, after_all, after_is_sound, always_sound, option_map, HasNothing, CardEvent as Event, card_after as after, CardIsSound as IsSound, Wherever, WaitingIsTaken, CallsComeToAnEnd, answer, line_takes_slot}
+use Rattle.laws_line.proofs.Vocabulary.{AreAmong, ControlFrame, link_at, map, control_text, refl, ◌≡◌, ◌∙◌, ◌<◌, List, [], ◌∷◌, ◌++◌, length, sym, ap, subst, arith, All-nil, All-head, All-tail, Config, gave, next_of, Card, line_at, IsAtLine, AreAtLines, after_all, after_is_sound, always_sound, option_map, HasNothing, CardEvent as Event, card_after as after, CardIsSound as IsSound, Wherever}
+use Rattle.laws_line.proofs.Vocabulary.{WaitingIsTaken, CallsComeToAnEnd, answer, line_takes_slot}
 use Rattle.model_card.specs.Run.{moments}
 use Rattle.model_card.specs.Takes.{frames_given}
 use Rattle.laws_line.proofs.Bounds.{to-go-few}

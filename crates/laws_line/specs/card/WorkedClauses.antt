@@ -1,6 +1,7 @@
 -- Worked values: cards, and moments with other answers, that would break the clauses of `Card::drive`.
 use Rattle.std.specs.Prelude.{◌≡◌, ℕ, ◌+◌, ◌*◌, ◌≤◌, List, [], ◌∷◌, map, Some, None, refl}
-use Rattle.laws_line.specs.WorkedWords.{ap, arith, frame, Fcs, Short, PoolFull, Call, reading, header_of, control_of, unnumbered_of, supervisory_of, seq, named, distance_of, hears, next, request, gave, Answer, told, refused, dropped, nothing, cause_in, Assign, Data, lost_in, Card, fresh, sent, heard, accepted, expired, rejected, window, IsPriced, IsDropWithoutCost, IsDropWithoutEffect, at, events_at, answers_at, answer_in, LinkName, IsNext, IsWithinLimit, IsNotRefusedForPool, Moment, moments, after_all}
+use Rattle.laws_line.specs.WorkedWords.{ap, arith, frame, Fcs, Short, PoolFull, Call, reading, header_of, control_of, unnumbered_of, supervisory_of, seq, named, distance_of, hears, next, request, gave, Answer, told, refused, dropped, nothing, cause_in, Assign, Data, lost_in, Card, fresh, sent, heard, accepted, expired, rejected, window, IsPriced, IsDropWithoutCost, IsDropWithoutEffect, at}
+use Rattle.laws_line.specs.WorkedWords.{events_at, answers_at, answer_in, LinkName, IsNext, IsWithinLimit, IsNotRefusedForPool, Moment, moments, after_all}
 use Rattle.model_bits.specs.Stream as stream
 use Rattle.lapd_frame.specs.declared.notes.Note.TheVariants as notes
 use Rattle.lapd_tei.specs.Events as teis

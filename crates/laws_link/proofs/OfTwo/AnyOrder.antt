@@ -1,6 +1,7 @@
 -- Two ends in state 7 with frames on both ways, none of which is lost: each turn lowers their weight, and in the end all has
 -- arrived.
-use Rattle.laws_link.proofs.Vocabulary.{◌≡◌, ℕ, suc, ◌+◌, ◌≤◌, Bool, true, false, ◌==◌, List, [], ◌∷◌, ◌++◌, length, take, drop, Some, refl, sym, ap, subst, ◌∙◌, ◌⊎◌, inl, inr, append-nil, eq-eqb, true≢false, arith, All, if◌then◌else◌, nat_lt, slice_get, unwrap_or, ltb-true, le-ltb, and_parts, seq, named, Parts, Terms, Link, frame, received, IsInRange, IsSound, Endpoint, with_link, with_sent, with_first_of, sound-after, HasNothingToSend, load_of, load, weight_at, State, may_send_information}
+use Rattle.laws_link.proofs.Vocabulary.{◌≡◌, ℕ, suc, ◌+◌, ◌≤◌, Bool, true, false, ◌==◌, List, [], ◌∷◌, ◌++◌, length, take, drop, Some, refl, sym, ap, subst, ◌∙◌, ◌⊎◌, inl, inr, append-nil, eq-eqb, true≢false, arith, All, if◌then◌else◌, nat_lt, slice_get, unwrap_or, ltb-true, le-ltb, and_parts, seq, named, Parts, Terms, Link, frame, received, IsInRange, IsSound, Endpoint, with_link, with_sent}
+use Rattle.laws_link.proofs.Vocabulary.{with_first_of, sound-after, HasNothingToSend, load_of, load, weight_at, State, may_send_information}
 use Rattle.laws_link.proofs.OfTwo.Plain.{plain, plain_end, with_information, with_acknowledgement, information_frame, acknowledgement_frame, gives-information, gives-acknowledgement}
 use Rattle.laws_link.proofs.OfTwo.Halves.{named-number, fits-at, take-one}
 use Rattle.laws_link.proofs.OfTwo.BusyMoves.{takes-one, takes-note, acked, noted}

@@ -1,5 +1,6 @@
 -- Own busy begins at one of two ends that are ready: RNR goes to the other, and then what the busy end gives arrives.
-use Rattle.laws_link.proofs.Vocabulary.{◌≡◌, ℕ, suc, ◌+◌, ◌-◌, ◌<◌, ◌≤◌, Bool, true, false, cond, List, [], ◌∷◌, ◌++◌, length, take, Option, Some, refl, sym, ap, subst, ◌∙◌, append-nil, arith, nat_lt, slice_get, unwrap_or, lt-ltb, le-ltb, ltb-true, and_parts, seq, named, LinkTimer, T200, ControlFrame, Terms, Link, frame, received, requested, SetBusy, Course, begun, Endpoint, Ends, with_link, with_first_of, without_first, sound-after, IsReady, IsTaken, HasUnsent, rounds, GetsThrough, with_near_busy, with_far_busy, ErrorCode, State, by_number, failed, acknowledged_by_information_in_7, may_send_information}
+use Rattle.laws_link.proofs.Vocabulary.{◌≡◌, ℕ, suc, ◌+◌, ◌-◌, ◌<◌, ◌≤◌, Bool, true, false, cond, List, [], ◌∷◌, ◌++◌, length, take, Option, Some, refl, sym, ap, subst, ◌∙◌, append-nil, arith, nat_lt, slice_get, unwrap_or, lt-ltb, le-ltb, ltb-true, and_parts, seq, named, LinkTimer, T200, ControlFrame, Terms, Link, frame, received, requested, SetBusy, Course, begun, Endpoint, Ends, with_link}
+use Rattle.laws_link.proofs.Vocabulary.{with_first_of, without_first, sound-after, IsReady, IsTaken, HasUnsent, rounds, GetsThrough, with_near_busy, with_far_busy, ErrorCode, State, by_number, failed, acknowledged_by_information_in_7, may_send_information}
 use Rattle.laws_link.proofs.OfTwo.Plain.{plain, plain_end, is_plain, with_information, information_frame, acknowledgement_frame, gives-information, gives-acknowledgement, gives-nothing}
 use Rattle.laws_link.proofs.OfTwo.Halves.{named-number, fits-at}
 use Rattle.laws_link.proofs.OfTwo.Arriving.{near_moves, far_moves}

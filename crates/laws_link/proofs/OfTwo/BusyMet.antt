@@ -1,6 +1,7 @@
 -- The premises of the laws on an end that is busy itself are met: by a link where own busy has begun, and by the worked run in
 -- which RNR and all frames are lost.
-use Rattle.laws_link.proofs.Vocabulary.{ℕ, true, false, List, [], ◌∷◌, length, refl, arith, ltb-true, leb-true, seq, distance_of, named, supervisory_of, unnumbered_of, control_of, header_of, reading, Information, ReceiveNotReady, Parts, frame_of, command, response, Data, SetBusy, frame, Event, received, requested, offer, after_all, Ends, requests, sends, receives, StepAt, at_near, at_far, doing_all, StayUp, sound-all, usual_terms, up, both, StayAhead, IsTaken, HasUnsent, CanRecoverFrom, CanRecoverFromWith, HasMissing, IsBusyItself, IsUpAndIdle, IsDropped, busy_losing, busy_cut_off, near_dropped, far_dropped}
+use Rattle.laws_link.proofs.Vocabulary.{ℕ, true, false, List, [], ◌∷◌, length, refl, arith, ltb-true, leb-true, seq, distance_of, named, supervisory_of, unnumbered_of, control_of, header_of, reading, Information, ReceiveNotReady, Parts, frame_of, command, response, Data, SetBusy, frame, Event, received, requested, offer, after_all, Ends, requests, sends, receives, StepAt, at_near, at_far}
+use Rattle.laws_link.proofs.Vocabulary.{doing_all, StayUp, sound-all, usual_terms, up, both, StayAhead, IsTaken, HasUnsent, CanRecoverFrom, CanRecoverFromWith, HasMissing, IsBusyItself, IsUpAndIdle, IsDropped, busy_losing, busy_cut_off, near_dropped, far_dropped}
 use Rattle.laws_link.proofs.OfTwo.Premises.{begins}
 use Rattle.laws_link.proofs.OfTwo.PremisesMet.{by-test, stay_ahead, mild, mild_act, mild_request}
 use Rattle.laws_link.proofs.OfTwo.Together.{all-stay_up}

@@ -1,5 +1,6 @@
 -- An end that is busy itself, and the other, in state 7: one gives its next frame, and the other receives it.
-use Rattle.laws_link.proofs.Vocabulary.{◌≡◌, ℕ, ◌+◌, ◌≤◌, Bool, true, false, ◌==◌, List, [], ◌∷◌, ◌++◌, length, Some, refl, ap, ◌∙◌, ◌⊎◌, append-nil, eq-eqb, arith, nat_lt, slice_get, unwrap_or, option_to_list, ltb-true, le-ltb, seq, named, Terms, Link, frame, received, Course, begun, Endpoint, with_link, with_sent, IsTaken, IsBusyItself, IsUpAndIdle, IsDropped, State, by_number, acknowledged_by_information_in_7, acknowledged_in_7, may_send_information}
+use Rattle.laws_link.proofs.Vocabulary.{◌≡◌, ℕ, ◌+◌, ◌≤◌, Bool, true, false, ◌==◌, List, [], ◌∷◌, ◌++◌, length, Some, refl, ap, ◌∙◌, ◌⊎◌, append-nil, eq-eqb, arith, nat_lt, slice_get, unwrap_or, option_to_list, ltb-true, le-ltb, seq, named, Terms, Link, frame, received, Course, begun, Endpoint, with_link, with_sent, IsTaken, IsBusyItself, IsUpAndIdle, IsDropped, State, by_number}
+use Rattle.laws_link.proofs.Vocabulary.{acknowledged_by_information_in_7, acknowledged_in_7, may_send_information}
 use Rattle.model_link.specs.MultipleFrame
 use Rattle.laws_link.proofs.OfTwo.Plain.{plain, plain_with, plain_end_with, with_information_with, with_acknowledgement_with, information_frame, acknowledgement_frame, gives-information, gives-acknowledgement, gives-nothing}
 use Rattle.laws_link.proofs.OfTwo.Halves.{named-number, fits-at, One, Nothing, giver_of, taker_of}

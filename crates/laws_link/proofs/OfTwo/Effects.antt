@@ -1,5 +1,6 @@
 -- What an event does to a link that stays in states 7 and 8: its numbers, its state, and the kind of frame that waits anew.
-use Rattle.laws_link.proofs.Vocabulary.{arith, ◌≡◌, ℕ, ◌+◌, Bool, true, false, cond, IsTrue, List, [], ◌∷◌, ◌++◌, Option, None, Some, refl, ◌∙◌, ◌⊎◌, inl, inr, eqb-false, Seq, seq, named, seq-value, is_seq, Control, Reject, State, Established, TimerRecovery, LinkTimer, ControlFrame, Terms, Link, is_multiple_frame, Course, begun, Step, ◌then◌, eqb-true, ErrorCode, by_number, error, has_room, peer_busy_is, re_establish, rr_or_rnr, response, acknowledged_by_information_in_7, acknowledged_by_rej_in_7, acknowledged_in_7, unsolicited, acknowledged_in_8, solicited}
+use Rattle.laws_link.proofs.Vocabulary.{arith, ◌≡◌, ℕ, ◌+◌, Bool, true, false, cond, IsTrue, List, [], ◌∷◌, ◌++◌, Option, None, Some, refl, ◌∙◌, ◌⊎◌, inl, inr, eqb-false, Seq, seq, named, seq-value, is_seq, Control, Reject, State, Established, TimerRecovery, LinkTimer, ControlFrame, Terms, Link, is_multiple_frame, Course, begun, Step, ◌then◌, eqb-true, ErrorCode, by_number, error, has_room}
+use Rattle.laws_link.proofs.Vocabulary.{peer_busy_is, re_establish, rr_or_rnr, response, acknowledged_by_information_in_7, acknowledged_by_rej_in_7, acknowledged_in_7, unsolicited, acknowledged_in_8, solicited}
 use Rattle.model_link.specs.MultipleFrame
 use Rattle.laws_link.proofs.OfTwo.Trains.{Kind, numbered, enquiry, answer, report, rejection, alien, kind_of}
 

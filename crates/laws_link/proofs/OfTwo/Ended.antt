@@ -1,5 +1,6 @@
 -- What comes of two ends once own busy is over at one of them.
-use Rattle.laws_link.proofs.Vocabulary.{◌≡◌, ℕ, ◌+◌, ◌≤◌, Bool, true, false, IsTrue, [], length, Some, refl, sym, subst, ◌∙◌, arith, State, T200, is_multiple_frame, requested, ClearBusy, IsInRange, IsSound, Endpoint, Ends, requests, sends, receives, loses, at_near, at_far, with_first_of, turned, doing, sound-after, IsTimedIn, rounds, IsReady, IsTaken, HasUnsent, IsCutOff, IsCutOffWith, HasMissing, with_t200_expired, IsBusyItself, IsUpAndIdle, with_near_told, with_near_untold, HasDroppedNothing, BothHaveArrived}
+use Rattle.laws_link.proofs.Vocabulary.{◌≡◌, ℕ, ◌+◌, ◌≤◌, Bool, true, false, IsTrue, [], length, Some, refl, sym, subst, ◌∙◌, arith, State, T200, is_multiple_frame, requested, ClearBusy, IsInRange, IsSound, Endpoint, Ends, requests, sends, receives, loses, at_near, at_far, with_first_of, turned, doing, sound-after, IsTimedIn, rounds, IsReady, IsTaken, HasUnsent, IsCutOff, IsCutOffWith, HasMissing}
+use Rattle.laws_link.proofs.Vocabulary.{with_t200_expired, IsBusyItself, IsUpAndIdle, with_near_told, with_near_untold, HasDroppedNothing, BothHaveArrived}
 use Rattle.laws_link.proofs.OfTwo.Halves.{named-number}
 use Rattle.laws_link.proofs.OfTwo.Arriving.{Arrived, all-arrived}
 use Rattle.laws_link.proofs.OfTwo.Recovering.{Sounds, sounds-near}

@@ -1,5 +1,6 @@
 -- Half a round: one end gives its next frame, and the other receives it.
-use Rattle.laws_link.proofs.Vocabulary.{◌≡◌, ℕ, zero, suc, ◌+◌, ◌-◌, ◌<◌, ◌≤◌, Bool, true, false, ◌==◌, List, [], ◌∷◌, ◌++◌, length, take, Some, refl, sym, ap, ◌∙◌, ◌⊎◌, inl, inr, append-nil, eq-eqb, arith, All, nat_lt, slice_get, unwrap_or, ltb-true, ltb-false, le-ltb, le-leb, and_parts, All-head, All-tail, seq, named, distance-plain, Parts, frame, received, offer, IsSound, Endpoint, with_link, with_sent, without_first, with_first_of, sound-after, IsReady, IsTaken, State, may_send_information}
+use Rattle.laws_link.proofs.Vocabulary.{◌≡◌, ℕ, zero, suc, ◌+◌, ◌-◌, ◌<◌, ◌≤◌, Bool, true, false, ◌==◌, List, [], ◌∷◌, ◌++◌, length, take, Some, refl, sym, ap, ◌∙◌, ◌⊎◌, inl, inr, append-nil, eq-eqb, arith, All, nat_lt, slice_get, unwrap_or, ltb-true, ltb-false, le-ltb, le-leb, and_parts, All-head, All-tail, seq, named, distance-plain, Parts, frame, received, offer, IsSound, Endpoint, with_link}
+use Rattle.laws_link.proofs.Vocabulary.{with_sent, without_first, with_first_of, sound-after, IsReady, IsTaken, State, may_send_information}
 use Rattle.laws_link.proofs.OfTwo.Plain.{plain, is_plain, information_frame, with_information, with_acknowledgement, with_taken, gives-information, gives-acknowledgement, gives-nothing, takes-information, takes-acknowledgement}
 
 -- an N(R) names the number that it means, if that lies between V(A) and V(S)

@@ -1,5 +1,6 @@
 -- What each frame does to a link that stays in states 7 and 8.
-use Rattle.laws_link.proofs.Vocabulary.{◌≡◌, ℕ, Bool, true, false, IsTrue, List, refl, sym, true≢false, Control, Information, ReceiveReady, ReceiveNotReady, Reject, State, Established, TimerRecovery, T200, T203, Terms, Link, is_multiple_frame, Course, begun, acknowledge, acknowledged_by_information_in_7, acknowledged_by_rnr_in_7, acknowledged_in_7, frame_in_7, acknowledged_in_8, frame_in_8, frame_in, frame_step}
+use Rattle.laws_link.proofs.Vocabulary.{◌≡◌, ℕ, Bool, true, false, IsTrue, List, refl, sym, true≢false, Control, Information, ReceiveReady, ReceiveNotReady, Reject, State, Established, TimerRecovery, T200, T203, Terms, Link, is_multiple_frame, Course, begun, acknowledge, acknowledged_by_information_in_7, acknowledged_by_rnr_in_7, acknowledged_in_7, frame_in_7, acknowledged_in_8, frame_in_8}
+use Rattle.laws_link.proofs.Vocabulary.{frame_in, frame_step}
 use Rattle.laws_link.proofs.OfTwo.Trains.{kind_of}
 use Rattle.laws_link.proofs.OfTwo.Effects.{is_recovering, Kept, Heard, acknowledged-7, information-7, c-7, c-8, enquired-7, enquired-8, kept-by, backs-7, backs-8, informs}
 

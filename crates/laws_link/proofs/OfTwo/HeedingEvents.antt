@@ -1,5 +1,6 @@
 -- T200 runs while the terminal is taken for busy: every event.
-use Rattle.laws_link.proofs.Vocabulary.{arith, ◌≡◌, ℕ, Bool, true, cond, ◌&&◌, not, List, [], ◌∷◌, Option, None, Some, refl, sym, subst, Control, ErrorCode, Refusal, State, TeiAssigned, AwaitingEstablishment, AwaitingRelease, Established, TimerRecovery, LinkTimer, ControlFrame, Terms, Link, fresh, frame, Request, Event, received, Course, begun, HeedsIn, Heeds, both_ways, granted, release_in, is_established, offer_among, after, after_all, expired_in, frame_in, frame_step, malformed_in}
+use Rattle.laws_link.proofs.Vocabulary.{arith, ◌≡◌, ℕ, Bool, true, cond, ◌&&◌, not, List, [], ◌∷◌, Option, None, Some, refl, sym, subst, Control, ErrorCode, Refusal, State, TeiAssigned, AwaitingEstablishment, AwaitingRelease, Established, TimerRecovery, LinkTimer, ControlFrame, Terms, Link, fresh, frame, Request, Event, received, Course, begun, HeedsIn, Heeds, both_ways, granted, release_in}
+use Rattle.laws_link.proofs.Vocabulary.{is_established, offer_among, after, after_all, expired_in, frame_in, frame_step, malformed_in}
 use Rattle.laws_link.proofs.OfTwo.Heeding
 
 abbrev Ends : Course → Type 0

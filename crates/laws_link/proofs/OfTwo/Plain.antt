@@ -1,5 +1,6 @@
 -- An end in state 7 with nothing waiting: what it gives, and, with neither side busy, what it makes of what it receives.
-use Rattle.laws_link.proofs.Vocabulary.{arith, ◌≡◌, ◌+◌, Bool, true, false, cond, ◌==◌, [], ◌∷◌, ◌++◌, length, Some, ap, nat_lt, slice_get, unwrap_or, option_to_list, Seq, seq, named, Information, ReceiveReady, Parts, T200, T203, Terms, Link, frame_of, address_at, runs, frame, received, Course, begun, ◌then◌, changed, given_of, Endpoint, with_link, with_sent, frame_given, IsReady, State, acknowledge, by_number, pending_is, response, start, acknowledged_by_information_in_7, acknowledged_in_7, give_information, may_send_information, send_acknowledgement, with_one_sent}
+use Rattle.laws_link.proofs.Vocabulary.{arith, ◌≡◌, ◌+◌, Bool, true, false, cond, ◌==◌, [], ◌∷◌, ◌++◌, length, Some, ap, nat_lt, slice_get, unwrap_or, option_to_list, Seq, seq, named, Information, ReceiveReady, Parts, T200, T203, Terms, Link, frame_of, address_at, runs, frame, received, Course, begun, ◌then◌, changed, given_of, Endpoint, with_link, with_sent, frame_given, IsReady, State}
+use Rattle.laws_link.proofs.Vocabulary.{acknowledge, by_number, pending_is, response, start, acknowledged_by_information_in_7, acknowledged_in_7, give_information, may_send_information, send_acknowledgement, with_one_sent}
 
 -- with own busy, and the other end taken for busy, as the bits say
 abbrev pub plain_with : Bool → Bool → Link → Link

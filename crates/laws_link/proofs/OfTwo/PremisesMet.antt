@@ -1,6 +1,7 @@
 -- The premises are met: by two links that begin, by the worked run in which every frame is lost, and by one in which a
 -- frame is lost and REJ makes it good.
-use Rattle.laws_link.proofs.Vocabulary.{◌≡◌, Bool, true, false, ◌&&◌, List, [], ◌∷◌, length, refl, inr, arith, nat_lt, nat_le, and_parts, ltb-true, leb-true, seq, distance_of, named, supervisory_of, unnumbered_of, control_of, header_of, reading, Request, Release, after_all, Endpoint, Ends, EndStep, requests, expires, StepAt, at_near, at_far, doing, doing_all, StayUp, IsTimed, both, mended, IsNotRelease, KeepsLinkUp, KeepsLinksUp, StayAhead, IsReady, IsTaken, HasUnsent, CanRecoverFrom, HasMissing, losing, cut_off}
+use Rattle.laws_link.proofs.Vocabulary.{◌≡◌, Bool, true, false, ◌&&◌, List, [], ◌∷◌, length, refl, inr, arith, nat_lt, nat_le, and_parts, ltb-true, leb-true, seq, distance_of, named, supervisory_of, unnumbered_of, control_of, header_of, reading, Request, Release, after_all, Endpoint, Ends, EndStep, requests, expires, StepAt, at_near, at_far, doing, doing_all, StayUp, IsTimed, both, mended}
+use Rattle.laws_link.proofs.Vocabulary.{IsNotRelease, KeepsLinkUp, KeepsLinksUp, StayAhead, IsReady, IsTaken, HasUnsent, CanRecoverFrom, HasMissing, losing, cut_off}
 use Rattle.laws_link.proofs.OfTwo.Premises.{begins}
 use Rattle.laws_link.proofs.OfTwo.Together.{all-stay_up}
 

@@ -1,5 +1,6 @@
 -- What holds of two links that came from an establishment, and stayed up: all that recovery asks but silence.
-use Rattle.laws_link.proofs.Vocabulary.{arith, ◌≡◌, ℕ, ◌+◌, Bool, false, List, [], ◌∷◌, Parts, Link, frame, received, Endpoint, Ends, EndStep, requests, expires, sends, receives, loses, StepAt, at_near, at_far, with_first_of, acting, turned, doing, doing_all, Begins, StayUp, Agree, Joined, joined-first, done-at, ends-agree, IsTimed, Heeds, rounds, IsCutOffWith, CanRecoverFrom, CanRecoverFromWith, HasMissing, with_t200_expired, joined-turned}
+use Rattle.laws_link.proofs.Vocabulary.{arith, ◌≡◌, ℕ, ◌+◌, Bool, false, List, [], ◌∷◌, Parts, Link, frame, received, Endpoint, Ends, EndStep, requests, expires, sends, receives, loses, StepAt, at_near, at_far, with_first_of, acting, turned, doing, doing_all, Begins, StayUp, Agree, Joined, joined-first, done-at, ends-agree, IsTimed, Heeds, rounds, IsCutOffWith, CanRecoverFrom, CanRecoverFromWith}
+use Rattle.laws_link.proofs.Vocabulary.{HasMissing, with_t200_expired, joined-turned}
 use Rattle.model_link.proofs.TimedRows.{timed-after}
 use Rattle.laws_link.proofs.OfTwo.HeedingEvents.{heeds-after}
 use Rattle.laws_link.proofs.OfTwo.Arriving.{Arrived}

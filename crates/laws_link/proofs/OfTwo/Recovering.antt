@@ -1,5 +1,6 @@
 -- Two ends of which each asks or has nothing outstanding: after a round or two both are ready, and nothing is missing.
-use Rattle.laws_link.proofs.Vocabulary.{◌≡◌, ℕ, suc, ◌+◌, ◌-◌, ◌<◌, ◌≤◌, Bool, true, false, cond, ◌==◌, List, [], ◌∷◌, ◌++◌, length, take, Option, Some, refl, sym, ap, subst, ◌∙◌, eq-eqb, arith, All, nat_lt, slice_get, unwrap_or, lt-ltb, le-ltb, ltb-true, and_parts, seq, named, Parts, LinkTimer, T203, frame, received, offer, IsInRange, IsSound, Endpoint, Ends, with_first_of, without_first, sound-after, IsReady, IsTaken, HasUnsent, may_send_information}
+use Rattle.laws_link.proofs.Vocabulary.{◌≡◌, ℕ, suc, ◌+◌, ◌-◌, ◌<◌, ◌≤◌, Bool, true, false, cond, ◌==◌, List, [], ◌∷◌, ◌++◌, length, take, Option, Some, refl, sym, ap, subst, ◌∙◌, eq-eqb, arith, All, nat_lt, slice_get, unwrap_or, lt-ltb, le-ltb, ltb-true, and_parts, seq, named, Parts, LinkTimer, T203, frame, received, offer, IsInRange, IsSound, Endpoint, Ends, with_first_of, without_first}
+use Rattle.laws_link.proofs.Vocabulary.{sound-after, IsReady, IsTaken, HasUnsent, may_send_information}
 use Rattle.laws_link.proofs.OfTwo.Plain.{plain, plain_end, with_information, with_acknowledgement, gives-information, gives-acknowledgement, gives-nothing}
 use Rattle.laws_link.proofs.OfTwo.Halves.{named-number, fits-at, take-one, moves, ready-giver, ready-taker, takes, taken}
 use Rattle.laws_link.proofs.OfTwo.Arriving.{near_moves, far_moves, no-more}

@@ -1,5 +1,6 @@
 -- An end that asks and one that answers: what each makes of the other's frames.
-use Rattle.laws_link.proofs.Vocabulary.{◌≡◌, ℕ, ◌+◌, Bool, true, false, cond, ◌==◌, List, [], ◌∷◌, ◌++◌, length, Option, None, Some, append-nil, arith, nat_lt, slice_get, unwrap_or, option_to_list, le-ltb, Seq, seq, named, ReceiveReady, ReceiveNotReady, LinkTimer, T200, T203, ControlFrame, Terms, Link, frame_of, frame, received, Course, Step, begun, ◌then◌, Endpoint, with_link, ErrorCode, State, command, error, re_establish, response}
+use Rattle.laws_link.proofs.Vocabulary.{◌≡◌, ℕ, ◌+◌, Bool, true, false, cond, ◌==◌, List, [], ◌∷◌, ◌++◌, length, Option, None, Some, append-nil, arith, nat_lt, slice_get, unwrap_or, option_to_list, le-ltb, Seq, seq, named, ReceiveReady, ReceiveNotReady, LinkTimer, T200, T203, ControlFrame, Terms, Link, frame_of, frame, received, Course, Step, begun, ◌then◌, Endpoint, with_link, ErrorCode, State}
+use Rattle.laws_link.proofs.Vocabulary.{command, error, re_establish, response}
 use Rattle.laws_link.proofs.OfTwo.Plain.{information_frame, acknowledgement_frame}
 
 -- The enquiry and the answer.

@@ -1,5 +1,6 @@
 -- Two links stay up where T200 is timely: what holds in both directions is kept by each act.
-use Rattle.laws_link.proofs.Vocabulary.{◌≡◌, ℕ, ◌+◌, ◌≤◌, Bool, true, false, IsTrue, List, [], ◌∷◌, ◌++◌, refl, sym, ap, subst, ◌∙◌, inl, inr, arith, All, drop, All-head, All-tail, Control, Parts, State, TimerRecovery, LinkTimer, ControlFrame, Terms, Link, is_multiple_frame, Request, frame, received, expired, requested, offer, Course, Endpoint, EndStep, requests, expires, sends, receives, loses, with_link, with_first_of, frame_given, acting, IsUp, rising-low, frames_of, line_of, Joined, IsNotRelease, is_enquiry, is_answer, IsNoneOpen, IsTimelyStep, after, course, given_of, is_running}
+use Rattle.laws_link.proofs.Vocabulary.{◌≡◌, ℕ, ◌+◌, ◌≤◌, Bool, true, false, IsTrue, List, [], ◌∷◌, ◌++◌, refl, sym, ap, subst, ◌∙◌, inl, inr, arith, All, drop, All-head, All-tail, Control, Parts, State, TimerRecovery, LinkTimer, ControlFrame, Terms, Link, is_multiple_frame, Request, frame, received, expired, requested, offer, Course, Endpoint, EndStep, requests, expires, sends, receives, loses}
+use Rattle.laws_link.proofs.Vocabulary.{with_link, with_first_of, frame_given, acting, IsUp, rising-low, frames_of, line_of, Joined, IsNotRelease, is_enquiry, is_answer, IsNoneOpen, IsTimelyStep, after, course, given_of, is_running}
 use Rattle.laws_link.proofs.OfTwo.Trains.{Kind, enquiry, report, kind_of, kinds_of, tally, one_enquiry, one_answer, one_rejection, every-push, behind-push}
 use Rattle.laws_link.proofs.OfTwo.Flow.{most, Flow, there-calm, there-enquiry, there-information, there-tail, few-more}
 use Rattle.laws_link.proofs.OfTwo.Effects.{is_recovering}

@@ -1,6 +1,7 @@
 -- The premises of the law on a timely T200 are met: by the worked run in which it expires twice, and by the one in which
 -- all frames are lost.
-use Rattle.laws_link.proofs.Vocabulary.{◌≡◌, Bool, true, false, not, ◌&&◌, List, [], ◌∷◌, refl, sym, true≢false, All, nat_lt, and_parts, ltb-true, All-nil, All-cons, seq, distance_of, named, Control, Parts, supervisory_of, unnumbered_of, control_of, header_of, reading, ControlFrame, after_all, Endpoint, Ends, EndStep, requests, expires, StepAt, at_near, at_far, doing, both, is_enquiry, is_answer, IsNoneOpen, IsTimelyStep, IsTimelyStepAt, StayTimely, CanRecover, answered_at_last, losing, cut_off}
+use Rattle.laws_link.proofs.Vocabulary.{◌≡◌, Bool, true, false, not, ◌&&◌, List, [], ◌∷◌, refl, sym, true≢false, All, nat_lt, and_parts, ltb-true, All-nil, All-cons, seq, distance_of, named, Control, Parts, supervisory_of, unnumbered_of, control_of, header_of, reading, ControlFrame, after_all, Endpoint, Ends, EndStep, requests, expires, StepAt, at_near, at_far, doing, both, is_enquiry, is_answer}
+use Rattle.laws_link.proofs.Vocabulary.{IsNoneOpen, IsTimelyStep, IsTimelyStepAt, StayTimely, CanRecover, answered_at_last, losing, cut_off}
 use Rattle.laws_link.proofs.OfTwo.PremisesMet.{mild_request, by-request, near-silent}
 
 -- a test of what goes on timely

@@ -1,5 +1,6 @@
 -- Where no frame comes in so many beats, no turn was left before them.
-use Rattle.laws_order.proofs.Vocabulary.{◌≡◌, ℕ, ◌+◌, ◌*◌, ◌≤◌, ◌<◌, ◌⊎◌, inl, inr, Bool, true, false, List, [], ◌∷◌, ◌++◌, length, Option, None, Some, option_map, refl, sym, ap, ◌∙◌, subst, arith, append-nil, length-append, Service, heard_in, Item, Config, NextFrame, gave, taken, next_of, line_at, left_of, longest_text, Wire, IsStill, gives-taken, longest, OctetEndpoint, port_of, Circuit, doing_all, wire_doing_all, stream_frame, length-map}
+use Rattle.laws_order.proofs.Vocabulary.{◌≡◌, ℕ, ◌+◌, ◌*◌, ◌≤◌, ◌<◌, ◌⊎◌, inl, inr, Bool, true, false, List, [], ◌∷◌, ◌++◌, length, Option, None, Some, option_map, refl, sym, ap, ◌∙◌, subst, arith, append-nil, length-append, Service, heard_in, Item, Config, NextFrame, gave, taken, next_of, line_at, left_of, longest_text, Wire, IsStill, gives-taken, longest, OctetEndpoint, port_of, Circuit}
+use Rattle.laws_order.proofs.Vocabulary.{doing_all, wire_doing_all, stream_frame, length-map}
 use Rattle.laws_order.proofs.OfCircuit.AsFrames.{as_station}
 use Rattle.laws_order.proofs.OfCircuit.Coming.{Kept, from-near, from-far, frames_of, Puts, putting, GoesOn, going, all-out, Hears, hearing, IsBehind}
 use Rattle.laws_order.proofs.OfCircuit.AtPort.{next_of_card}

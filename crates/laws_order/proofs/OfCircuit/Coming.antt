@@ -1,5 +1,6 @@
 -- A frame that an end has to give, or that is on its way, comes in so many beats, whatever else is given meanwhile.
-use Rattle.laws_order.proofs.Vocabulary.{◌≡◌, ℕ, ◌+◌, ◌*◌, ◌≤◌, ◌<◌, ◌⊎◌, inl, inr, Bool, true, false, cond, List, [], ◌∷◌, ◌++◌, length, drop, Option, None, Some, is_some, option_map, option_to_list, refl, sym, ap, ◌∙◌, subst, arith, append-nil, append_assoc, length-append, All, length-map, All-head, All-tail, Service, Item, idle, heard_in, Config, NextFrame, gave, frames_among, Port, gained, given_in, is_due, item_of, left_of, IsSoundPort, heard_with, Wire, stream_frame, StreamEvent, port_pull, port_octet, frame}
+use Rattle.laws_order.proofs.Vocabulary.{◌≡◌, ℕ, ◌+◌, ◌*◌, ◌≤◌, ◌<◌, ◌⊎◌, inl, inr, Bool, true, false, cond, List, [], ◌∷◌, ◌++◌, length, drop, Option, None, Some, is_some, option_map, option_to_list, refl, sym, ap, ◌∙◌, subst, arith, append-nil, append_assoc, length-append, All, length-map, All-head, All-tail, Service, Item, idle, heard_in, Config, NextFrame, gave, frames_among, Port, gained}
+use Rattle.laws_order.proofs.Vocabulary.{given_in, is_due, item_of, left_of, IsSoundPort, heard_with, Wire, stream_frame, StreamEvent, port_pull, port_octet, frame}
 use Rattle.laws_wire.specs.Wire as wire
 use Rattle.laws_order.specs.circuit.Circuit.{Endpoint as OctetEndpoint, port_of, happens, with_first_of, Circuit, Step as OctetStep, receives as octet_receives, StepAt as OctetStepAt, at_near, at_far, acting, turned, doing}
 unfoldable use Rattle.laws_order.specs.circuit.Circuit.{doing_all}

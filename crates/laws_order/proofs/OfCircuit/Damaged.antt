@@ -1,5 +1,6 @@
 -- What happens on a circuit on which octets are damaged is, at the cards of frames inside, what happens on a wire of frames.
-use Rattle.laws_order.proofs.Vocabulary.{arith, ◌≡◌, ℕ, List, [], ◌∷◌, ◌++◌, drop, Option, None, Some, option_map, option_to_list, refl, sym, ap, ◌∙◌, subst, append-nil, All, flat_map, option_map_or, All-nil, All-cons, Service, LineTold, Card, port_at, answer_to, card_after, gained, Seen, Endpoint, Wire, frames_by, Past, known, FaceInStep, IsToldInOrder, kept_by, stream_frame, StreamEvent, Port, port_pull, PortEvent, port_octet, port_meant}
+use Rattle.laws_order.proofs.Vocabulary.{arith, ◌≡◌, ℕ, List, [], ◌∷◌, ◌++◌, drop, Option, None, Some, option_map, option_to_list, refl, sym, ap, ◌∙◌, subst, append-nil, All, flat_map, option_map_or, All-nil, All-cons, Service, LineTold, Card, port_at, answer_to, card_after, gained, Seen, Endpoint, Wire, frames_by, Past, known, FaceInStep, IsToldInOrder, kept_by, stream_frame, StreamEvent, Port}
+use Rattle.laws_order.proofs.Vocabulary.{port_pull, PortEvent, port_octet, port_meant}
 use Rattle.model_line.specs.Event as line
 use Rattle.model_card.specs.Event as frames
 unfoldable use Rattle.model_card.specs.ports.Card.{after, meant}

@@ -1,5 +1,6 @@
 -- The premises of the law on damaged octets are met by the worked run.
-use Rattle.laws_order.proofs.Vocabulary.{arith, ◌≡◌, ℕ, ◌&&◌, ◌==◌, Bool, true, false, List, [], ◌∷◌, ◌++◌, Option, Some, eqb-true, refl, ap, and_parts, Call, Parts, reading, header_of, control_of, unnumbered_of, supervisory_of, distance_of, named, seq, low_bits, Config, heard_side, IsFront, user, network, Endpoint, of_link_at, data_noted, data_granted, None, port_of, known, kept_by, Circuit, doing_all, Mixed, establishes, stream_frame, StreamEvent, next, gave, port_octet, card_answer, tei_refusal, tei_course, FaceAtRest}
+use Rattle.laws_order.proofs.Vocabulary.{arith, ◌≡◌, ℕ, ◌&&◌, ◌==◌, Bool, true, false, List, [], ◌∷◌, ◌++◌, Option, Some, eqb-true, refl, ap, and_parts, Call, Parts, reading, header_of, control_of, unnumbered_of, supervisory_of, distance_of, named, seq, low_bits, Config, heard_side, IsFront, user, network, Endpoint, of_link_at, data_noted, data_granted, None, port_of, known, kept_by, Circuit}
+use Rattle.laws_order.proofs.Vocabulary.{doing_all, Mixed, establishes, stream_frame, StreamEvent, next, gave, port_octet, card_answer, tei_refusal, tei_course, FaceAtRest}
 use Rattle.model_line.specs.Machine as lines
 use Rattle.model_card.specs.ports.Card as ports
 use Rattle.laws_order.specs.Happenings as order

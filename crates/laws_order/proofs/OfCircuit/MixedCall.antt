@@ -1,5 +1,6 @@
 -- What is done between a card of frames and one of octets is, at the card of frames inside, done on a wire of frames.
-use Rattle.laws_order.proofs.Vocabulary.{arith, ◌≡◌, ℕ, Bool, true, false, cond, List, [], ◌∷◌, ◌++◌, drop, Option, None, Some, refl, sym, ap, ◌∙◌, subst, append-nil, All, All-nil, All-cons, All-head, All-tail, All-append, Service, Config, is_due, Endpoint, Wire, CanCall, calling, calls-come-through, twice-other, doing-append, IsCall, stream_frame, StreamEvent, option_map, port_octet, call_both_call, CallComesThrough, assigned, Establish, Assign, port_of}
+use Rattle.laws_order.proofs.Vocabulary.{arith, ◌≡◌, ℕ, Bool, true, false, cond, List, [], ◌∷◌, ◌++◌, drop, Option, None, Some, refl, sym, ap, ◌∙◌, subst, append-nil, All, All-nil, All-cons, All-head, All-tail, All-append, Service, Config, is_due, Endpoint, Wire, CanCall, calling, calls-come-through, twice-other, doing-append, IsCall, stream_frame, StreamEvent, option_map, port_octet}
+use Rattle.laws_order.proofs.Vocabulary.{call_both_call, CallComesThrough, assigned, Establish, Assign, port_of}
 use Rattle.model_line.specs.Event as line
 unfoldable use Rattle.model_card.specs.ports.Card.{meant}
 use Rattle.laws_wire.specs.Wire as frames

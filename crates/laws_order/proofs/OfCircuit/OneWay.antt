@@ -1,6 +1,6 @@
 -- One direction of a circuit: the octets that an end gave, those of them that the other has heard, and the frames on their way.
-use Rattle.laws_order.proofs.Vocabulary.{arith, ◌≡◌, ℕ, ◌+◌, ◌≤◌, List, [], ◌∷◌, ◌++◌, map, None, Some, option_to_list, refl, sym, ap, ◌∙◌, subst, append-nil, append_assoc, All, append_cancel_left, map-append, All-append, All-cons, All-head, All-nil, All-tail, item_octets, Item, idle, heard_in, AreOctets, came, frames_among, GoOut, Port, gained, left_of, IsSoundPort, sent, same_text, frames_sent, cut_sent, heard_whole, all_exact, heard_with, IsLongItem, IsOnItsWay, go_out, all_out, all-right, stream_frame, StreamEvent, frame}
-use Rattle.laws_wire.proofs.Spelled.{came-whole}
+use Rattle.laws_order.proofs.Vocabulary.{arith, ◌≡◌, ℕ, ◌+◌, ◌≤◌, List, [], ◌∷◌, ◌++◌, map, None, Some, option_to_list, refl, sym, ap, ◌∙◌, subst, append-nil, append_assoc, All, append_cancel_left, map-append, All-append, All-cons, All-head, All-nil, All-tail, item_octets, Item, idle, heard_in, AreOctets, came, frames_among, GoOut, Port, gained, left_of, IsSoundPort, sent, same_text, frames_sent}
+use Rattle.laws_order.proofs.Vocabulary.{cut_sent, heard_whole, all_exact, heard_with, IsLongItem, IsOnItsWay, go_out, all_out, all-right, stream_frame, StreamEvent, frame, came-whole}
 pub use Rattle.model_card.proofs.OfPorts.PortGoesOn.{frames_among-append}
 
 -- ---- a frame comes as it is

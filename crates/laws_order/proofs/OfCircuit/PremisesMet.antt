@@ -1,10 +1,9 @@
 -- The premises of the laws are met by the worked call: all has gone behind it, so layer 3 of each was told all.
-use Rattle.laws_order.proofs.Vocabulary.{◌≡◌, Bool, true, false, List, [], ◌∷◌, ◌++◌, ◌&&◌, ◌<◌, None, refl, ap, arith, All, and_parts, All-append, All-cons, All-nil, Call, reading, header_of, control_of, unnumbered_of, supervisory_of, distance_of, named, seq, low_bits, Item, idle, AreOctets, next, gave, CanCall, user, network, IsCall, calling, Circuit, OctetStep, octet_requests, OctetStepAt, at_near, at_far, doing_all, port_of, IsTalkOf, IsTalk, both_call, HasAllGone, IsToldAll, begins, establishes, goes_on, sends_octets, at, StepAt, wire_doing_all, card_answer, tei_refusal, tei_course, Data, frame}
+use Rattle.laws_order.proofs.Vocabulary.{◌≡◌, Bool, true, false, List, [], ◌∷◌, ◌++◌, ◌&&◌, ◌<◌, None, refl, ap, arith, All, and_parts, All-append, All-cons, All-nil, Call, reading, header_of, control_of, unnumbered_of, supervisory_of, distance_of, named, seq, low_bits, Item, idle, AreOctets, next, gave, CanCall, user, network, IsCall, calling, Circuit, OctetStep, octet_requests, OctetStepAt}
+use Rattle.laws_order.proofs.Vocabulary.{at_near, at_far, doing_all, port_of, IsTalkOf, IsTalk, both_call, HasAllGone, IsToldAll, begins, establishes, goes_on, sends_octets, at, StepAt, wire_doing_all, card_answer, tei_refusal, tei_course, Data, frame, IsThrough, call_begins, talks, are_talk}
 use Rattle.model_line.specs.Machine as lines
 use Rattle.model_card.specs.ports.Card as ports
 use Rattle.laws_order.specs.circuit.MixedCall as mixed
-use Rattle.laws_order.specs.circuit.MixedCall.{IsThrough}
-use Rattle.laws_order.specs.circuit.WorkedMixed.{call_begins, talks, are_talk}
 use Rattle.laws_order.proofs.OfCircuit.MixedCall.{calls-are-of-frames, calls-come-through-between-kinds}
 use Rattle.laws_order.proofs.OfCircuit.Through.{calls-come-through-in-octets}
 

@@ -1,6 +1,6 @@
 -- What a run keeps at one end of a circuit.
-use Rattle.laws_order.proofs.Vocabulary.{◌≡◌, ℕ, ◌<◌, ◌≤◌, cond, List, [], ◌∷◌, ◌++◌, length, append_assoc, Option, None, Some, option_map, option_to_list, refl, sym, ap, ◌∙◌, subst, arith, append-nil, eq-eqb, All, All-append, All-cons, All-head, All-nil, AreOctets, Config, NextFrame, OctetCard, port_at, gained, left_of, longest_text, IsAtLine, AreAtLines, IsSoundPort, meant_at_lines, refined_card, on_its_way, heard_frames_are_octets, IsOnItsWay, pulls_are_takes, port_sound, config_stays, moments-append, all-right, contents_given, HasOctets, GivesOctets, seen, trace, trace_of, frames_begun, frames-are-octets, IsInRange, StreamEvent, port_request, PortEvent, port_octet, port_meant, card_answer}
-use Rattle.model_card.specs.ports.Reached.{IsReached}
+use Rattle.laws_order.proofs.Vocabulary.{◌≡◌, ℕ, ◌<◌, ◌≤◌, cond, List, [], ◌∷◌, ◌++◌, length, append_assoc, Option, None, Some, option_map, option_to_list, refl, sym, ap, ◌∙◌, subst, arith, append-nil, eq-eqb, All, All-append, All-cons, All-head, All-nil, AreOctets, Config, NextFrame, OctetCard, port_at, gained, left_of, longest_text, IsAtLine, AreAtLines, IsSoundPort, meant_at_lines}
+use Rattle.laws_order.proofs.Vocabulary.{refined_card, on_its_way, heard_frames_are_octets, IsOnItsWay, pulls_are_takes, port_sound, config_stays, moments-append, all-right, contents_given, HasOctets, GivesOctets, seen, trace, trace_of, frames_begun, frames-are-octets, IsInRange, StreamEvent, port_request, PortEvent, port_octet, port_meant, card_answer, IsReached, HearsOctets, IsSoundOctetCard}
 use Rattle.model_card.proofs.OfPorts.Reaching.{reached_after_all, reached_fresh, reached_sound}
 use Rattle.std.proofs.lemmas.Grind.{flat_map-append}
 use Rattle.model_line.specs.Event as line
@@ -11,9 +11,7 @@ unfoldable use Rattle.model_card.specs.Run.{moments as frame_moments}
 use Rattle.model_card.specs.ports.Card.{fresh}
 unfoldable use Rattle.model_card.specs.ports.Card.{after, meant}
 use Rattle.model_card.specs.ports.Event.{Event, at}
-use Rattle.model_card.specs.ports.HeardOctets.{HearsOctets}
 unfoldable use Rattle.model_card.specs.ports.Run.{after_all, meant_all}
-use Rattle.model_card.specs.ports.Sound.{IsSoundOctetCard}
 use Rattle.laws_trace.specs.Trace as traces
 use Rattle.laws_order.specs.circuit.Circuit.{Endpoint as OctetEndpoint, port_of, happens}
 

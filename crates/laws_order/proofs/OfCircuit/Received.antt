@@ -1,11 +1,9 @@
 -- What the line of an end has received are the octets that came, so what its card of frames hears is what stands in them.
-use Rattle.laws_order.proofs.Vocabulary.{arith, ◌≡◌, ◌==◌, ℕ, ◌<◌, Bool, cond, List, [], ◌∷◌, ◌++◌, length, Option, None, Some, option_map, option_to_list, refl, sym, ap, ◌∙◌, subst, append-nil, append_assoc, eq-eqb, flat_map, flat_map-append, Config, Service, OctetCard, port_at, said, Answer, gained, heard_with, heard_in, Seen, seen, IsNotOf, stream_frame, StreamEvent, Port, port_pull, PortEvent, port_octet, port_after}
-use Rattle.std.proofs.lemmas.Bool.{ne_eqb}
+use Rattle.laws_order.proofs.Vocabulary.{arith, ◌≡◌, ◌==◌, ℕ, ◌<◌, Bool, cond, List, [], ◌∷◌, ◌++◌, length, Option, None, Some, option_map, option_to_list, refl, sym, ap, ◌∙◌, subst, append-nil, append_assoc, eq-eqb, flat_map, flat_map-append, Config, Service, OctetCard, port_at, said, Answer, gained, heard_with, heard_in, Seen, seen, IsNotOf, stream_frame, StreamEvent, Port, port_pull, PortEvent}
+use Rattle.laws_order.proofs.Vocabulary.{port_octet, port_after, ne_eqb, heard_by, octet_come, by_port, config_after, ports_after}
 use Rattle.model_line.specs.Event as line
 unfoldable use Rattle.model_card.specs.ports.Card.{after, meant}
-use Rattle.model_card.specs.ports.Codec.{heard_by, octet_come}
 use Rattle.model_card.specs.ports.Event.{Event, at}
-use Rattle.model_card.proofs.OfPorts.Steps.{by_port, config_after, ports_after}
 use Rattle.laws_order.specs.circuit.Damaged as damaged
 use Rattle.laws_order.specs.circuit.Damaged.{Endpoint as NoisyEndpoint, Step as NoisyStep, happens, completes, elsewhere, loses, meaning, stands_with, HasReceived, IsElsewhere, heard_among, with_event, with_deed, seen_of, seen_by}
 

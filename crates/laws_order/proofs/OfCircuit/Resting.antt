@@ -1,11 +1,9 @@
 -- Two cards that face each other as a call leaves them are at rest.
-use Rattle.laws_order.proofs.Vocabulary.{◌≡◌, ◌∙◌, ℕ, List, [], map, refl, sym, ap, subst, arith, All, Service, frame_of, is_multiple_frame, Config, terms, CanCall, Face, Speaks, Endpoint, IsStill, calls-face, Wire, length, drop, length-drop, ◌-◌, said_by, AreOfStep, IsInStep, FaceInStep, Circuit, OctetStepAt, IsTalk, HasAllGone, window, AreSilent, FaceAtRest, CallsComeToRest}
-use Rattle.laws_order.specs.circuit.Damaged.{HasReceived}
-use Rattle.laws_order.specs.circuit.Resting.{as_noisy_endpoint}
+use Rattle.laws_order.proofs.Vocabulary.{◌≡◌, ◌∙◌, ℕ, List, [], map, refl, sym, ap, subst, arith, All, Service, frame_of, is_multiple_frame, Config, terms, CanCall, Face, Speaks, Endpoint, IsStill, calls-face, Wire, length, drop, length-drop, ◌-◌, said_by, AreOfStep, IsInStep, FaceInStep, Circuit, OctetStepAt, IsTalk, HasAllGone, window, AreSilent, FaceAtRest, CallsComeToRest, HasReceived}
+use Rattle.laws_order.proofs.Vocabulary.{as_noisy_endpoint, is-established, is-sound, is-quiet}
 use Rattle.laws_order.proofs.OfCircuit.Ran.{sound}
 use Rattle.laws_order.proofs.Beginning.{within-window, Pasts, past-same, past-all, past-calling, link_known, up-here, from-links}
 use Rattle.laws_order.proofs.Pairs.{link_here}
-use Rattle.laws_wire.proofs.Delivering.{is-established, is-sound, is-quiet}
 use Rattle.laws_order.proofs.OfCircuit.Projected.{as_wire, doings_meant}
 use Rattle.laws_order.proofs.OfCircuit.Through as through
 

@@ -1,5 +1,6 @@
 -- A call by octets is a call of frames.
-use Rattle.laws_order.proofs.Vocabulary.{arith, ◌≡◌, ℕ, ◌<◌, List, [], ◌∷◌, ◌++◌, refl, sym, ap, ◌∙◌, subst, append-nil, All, append_cancel_left, All-nil, Service, Item, idle, heard_in, Config, Assign, frames_among, Port, fresh_port, IsAtLine, IsSoundPort, fresh_at, GivesOctets, CanCall, Wire, IsStill, calls-come-through, IsInRange, Bool, false, ◌||◌, cond, Option, None, Some, is_some, option_map, option_to_list, All-head, All-tail, is_due, Request, request, port_request, Establish, or-both}
+use Rattle.laws_order.proofs.Vocabulary.{arith, ◌≡◌, ℕ, ◌<◌, List, [], ◌∷◌, ◌++◌, refl, sym, ap, ◌∙◌, subst, append-nil, All, append_cancel_left, All-nil, Service, Item, idle, heard_in, Config, Assign, frames_among, Port, fresh_port, IsAtLine, IsSoundPort, fresh_at, GivesOctets, CanCall, Wire, IsStill, calls-come-through, IsInRange, Bool, false, ◌||◌, cond, Option, None, Some, is_some, option_map}
+use Rattle.laws_order.proofs.Vocabulary.{option_to_list, All-head, All-tail, is_due, Request, request, port_request, Establish, or-both, IsTalk, calls_back}
 unfoldable use Rattle.model_card.specs.Run.{moments as frame_moments}
 use Rattle.model_card.specs.ports.Card.{fresh}
 unfoldable use Rattle.model_card.specs.ports.Run.{after_all, meant_all}
@@ -14,7 +15,6 @@ use Rattle.laws_order.proofs.OfCircuit.Ran.{Ran, goes-on, within-ports, sound-po
 unfoldable use Rattle.laws_wire.specs.Call.{both_call as frames_both}
 unfoldable use Rattle.laws_wire.specs.Wire.{doing_all as frames_done}
 use Rattle.laws_order.specs.circuit.Circuit.{Endpoint as OctetEndpoint, port_of, Circuit, requests as octet_requests, sends as octet_sends, receives as octet_receives, StepAt as OctetStepAt, at_near, at_far, doing}
-use Rattle.laws_order.specs.circuit.Through.{IsTalk, calls_back}
 unfoldable use Rattle.laws_order.specs.circuit.Through.{both_call}
 use Rattle.laws_order.proofs.OfCircuit.AsFrames.{granted-as}
 use Rattle.laws_order.proofs.OfCircuit.Projected.{as_wire, hearing_means, act_meant, doing_meant, Fits, Follows, one-done}

@@ -1,8 +1,6 @@
 -- Hand-written answers for `play`.
-use Rattle.lapd_sim.proofs.Vocabulary.{ap, sym, subst, ◌∙◌, AreLeft, on}
-use Rattle.std.proofs.Common.{rules}
+use Rattle.lapd_sim.proofs.Vocabulary.{ap, sym, subst, ◌∙◌, AreLeft, on, rules, Plays}
 use Rattle.lapd_sim.proofs.Ending.{same_target}
-use Rattle.lapd_sim.specs.Plays.{Plays}
 use Rattle.lapd_sim.proofs.player.play.Goals as goal
 
 pub returns-clause-played : goal.returns-clause-played

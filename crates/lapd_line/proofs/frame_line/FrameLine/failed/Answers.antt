@@ -1,7 +1,6 @@
 -- Hand-written answers for `FrameLine::failed`.
-use Rattle.lapd_line.proofs.Vocabulary.{ap, subst, ◌∙◌, dropped, config_of, Leads, hears}
+use Rattle.lapd_line.proofs.Vocabulary.{ap, subst, ◌∙◌, dropped, config_of, Leads, hears, cause_of}
 use Rattle.model_bits.specs.Stream as stream
-use Rattle.model_line.specs.Came.{cause_of}
 use Rattle.lapd_line.proofs.LineSteps.{dropped_told}
 use Rattle.lapd_line.proofs.frame_line.FrameLine.failed.Goals as goal
 

@@ -1,6 +1,5 @@
 -- Hand-written answers for `FrameLine::heard`.
-use Rattle.lapd_line.proofs.Vocabulary.{◌≡◌, true, inl, inr, ap, ◌∙◌, is_some, config_of, bare_shown, heard_shown, with_all}
-use Rattle.model_bits.specs.Heard.{heard_of}
+use Rattle.lapd_line.proofs.Vocabulary.{◌≡◌, true, inl, inr, ap, ◌∙◌, is_some, config_of, bare_shown, heard_shown, with_all, heard_of}
 use Rattle.lapd_line.proofs.LineSteps.{counted_twice, heard_told, heard_leads}
 use Rattle.lapd_line.proofs.frame_line.FrameLine.heard.Goals as goal
 

@@ -1,6 +1,5 @@
 -- Hand-written answers for `LinkLayer::expire`.
-use Rattle.lapd_line.proofs.Vocabulary.{[], sym, subst, Serves}
-use Rattle.model_line.specs.Expiry.{aim_of_expiry}
+use Rattle.lapd_line.proofs.Vocabulary.{[], sym, subst, Serves, aim_of_expiry}
 use Rattle.lapd_tei.specs.Events as teis
 use Rattle.lapd_line.proofs.link_layer.LinkLayer.expire.Goals as goal
 

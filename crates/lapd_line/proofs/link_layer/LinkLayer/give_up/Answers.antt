@@ -1,6 +1,5 @@
 -- Hand-written answers for `LinkLayer::give_up`.
-use Rattle.lapd_line.proofs.Vocabulary.{[], without_units}
-use Rattle.lapd_tei.specs.Events.{down}
+use Rattle.lapd_line.proofs.Vocabulary.{[], without_units, down}
 use Rattle.lapd_line.proofs.GivingUp.{given_up}
 use Rattle.lapd_line.proofs.link_layer.LinkLayer.give_up.Goals as goal
 

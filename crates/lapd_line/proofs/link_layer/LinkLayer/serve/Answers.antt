@@ -1,13 +1,6 @@
 -- Hand-written answers for `LinkLayer::serve`.
-use Rattle.std.specs.Borrow.{Bor}
-use Rattle.model_bits.specs.Heard.{heard_of}
-use Rattle.model_bits.specs.declared.heard.Heard.{Heard}
-use Rattle.model_bits.specs.declared.heard.Heard.TheVariants.{Frame}
-use Rattle.lapd_frame.specs.Reading.{reading}
-use Rattle.model_line.specs.Heard.{heard_side}
-use Rattle.lapd_line.specs.LinkLayer.{aim_of_event}
 use Rattle.lapd_line.specs.Reports.{octets_of}
-use Rattle.lapd_line.proofs.Vocabulary.{◌≡◌, List, ℕ, Ok, drop, sym, ap, subst, ◌∙◌, Side, Parts, parts_of, Owned, Store, Line, Aim, aim_of_reading, message_of, at_side, LinkLayer, BareReport, LayerStands, Serves}
+use Rattle.lapd_line.proofs.Vocabulary.{◌≡◌, List, ℕ, Ok, drop, sym, ap, subst, ◌∙◌, Side, Parts, parts_of, Owned, Store, Line, Aim, aim_of_reading, message_of, at_side, LinkLayer, BareReport, LayerStands, Serves, Bor, heard_of, Heard, Frame, reading, heard_side, aim_of_event}
 use Rattle.model_link.specs.Events as link
 use Rattle.lapd_line.proofs.AddressSteps.{aimed, serves_as, serves_none, message_sided, managed_sapi}
 use Rattle.lapd_line.proofs.link_layer.LinkLayer.serve.Goals as goal

@@ -1,6 +1,5 @@
 -- Hand-written answers for `Port::octet`.
-use Rattle.lapd_line.proofs.Vocabulary.{sym, ap, ◌∙◌, or_latest}
-use Rattle.lapd_bits.specs.Deframer.{latest_of}
+use Rattle.lapd_line.proofs.Vocabulary.{sym, ap, ◌∙◌, or_latest, latest_of}
 use Rattle.lapd_line.proofs.PortSteps.{gained_is, latest_more, latest_left}
 use Rattle.lapd_line.proofs.port.Port.octet.Goals as goal
 

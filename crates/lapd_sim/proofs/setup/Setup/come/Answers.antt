@@ -1,7 +1,6 @@
 -- Hand-written answers for `Setup::come`.
-use Rattle.lapd_sim.proofs.Vocabulary.{[], ◌≡◌, ◌<◌, ◌∙◌, Some, ap, length, refl, sym, subst, arith, option_copied, Config, came, at, hears, told, told_beside, terminal_at, octets_sent, after_sending, with_terminal, after_rx, scene, shelf_of, kind_of, on, Tells, SetupStands, Sends}
+use Rattle.lapd_sim.proofs.Vocabulary.{[], ◌≡◌, ◌<◌, ◌∙◌, Some, ap, length, refl, sym, subst, arith, option_copied, Config, came, at, hears, told, told_beside, terminal_at, octets_sent, after_sending, with_terminal, after_rx, scene, shelf_of, kind_of, on, Tells, SetupStands, Sends, delivered_in, octets_of, told_in}
 use Rattle.lapd_card.specs.FrameStands as frames
-use Rattle.lapd_line.specs.Reports.{delivered_in, octets_of, told_in}
 use Rattle.lapd_script.specs.declared.command.CardKind.TheVariants as kind
 use Rattle.lapd_sim.proofs.Boards.{frames_on, frames_told, same_config, told_on}
 use Rattle.lapd_sim.proofs.Eachs.{each_at, each_set}

@@ -1,8 +1,7 @@
 -- Hand-written answers for `Setup::fail`.
-use Rattle.lapd_sim.proofs.Vocabulary.{None, ap, kind_of, refl, at, hears, told, told_beside, dropped, cause_of, SetupStands}
+use Rattle.lapd_sim.proofs.Vocabulary.{None, ap, kind_of, refl, at, hears, told, told_beside, dropped, cause_of, SetupStands, after_failed}
 use Rattle.lapd_sim.proofs.Boards.{frames_on, frames_told, told_on}
 use Rattle.lapd_sim.proofs.Scenes.{there_frames, obeyed}
-use Rattle.lapd_sim.specs.machine.Steps.{after_failed}
 use Rattle.model_line.specs.Event as line_event
 use Rattle.lapd_sim.proofs.setup.Setup.fail.Goals as goal
 

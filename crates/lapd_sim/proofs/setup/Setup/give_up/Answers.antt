@@ -1,7 +1,5 @@
 -- Hand-written answers for `Setup::give_up`.
-use Rattle.lapd_sim.proofs.Vocabulary.{[], ◌∷◌, Ok, Err, subst, take, take_all, get_or, flat_map, flat_map-append, ◌∙◌, at, request, deactivations, with_events, on, scene, SetupSays, SetupStands, WriteFailed}
-use Rattle.lapd_frame.specs.declared.services.Service.TheVariants.{Call, Packet}
-use Rattle.model_line.specs.Request.{Deactivate, Down}
+use Rattle.lapd_sim.proofs.Vocabulary.{[], ◌∷◌, Ok, Err, subst, take, take_all, get_or, flat_map, flat_map-append, ◌∙◌, at, request, deactivations, with_events, on, scene, SetupSays, SetupStands, WriteFailed, Call, Packet, Deactivate, Down}
 use Rattle.lapd_sim.proofs.OneByOne.{breaks_off, broken_after, leaves_told, tells_after, tells_more}
 use Rattle.lapd_sim.proofs.setup.Setup.give_up.Goals as goal
 

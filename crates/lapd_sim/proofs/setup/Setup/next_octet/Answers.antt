@@ -1,6 +1,5 @@
 -- Hand-written answers for `Setup::next_octet`.
-use Rattle.lapd_sim.proofs.Vocabulary.{◌∙◌, fold, refl, ap, at, pull, octet_in, ordered, Octets}
-use Rattle.lapd_line.specs.Reports.{pulled_of}
+use Rattle.lapd_sim.proofs.Vocabulary.{◌∙◌, fold, refl, ap, at, pull, octet_in, ordered, Octets, pulled_of}
 use Rattle.lapd_sim.proofs.Boards.{octets_on, octets_told, goes_on}
 use Rattle.model_card.specs.ports.Port as port
 use Rattle.lapd_sim.proofs.setup.Setup.next_octet.Goals as goal

@@ -1,7 +1,5 @@
 -- Hand-written answers for `Setup::obey`.
-use Rattle.lapd_sim.proofs.Vocabulary.{refl, ◌≡◌, sym, ap, ◌∙◌, Config, scene, SetupStands}
-use Rattle.lapd_transcript.specs.Text.{stored_text}
-use Rattle.model_card.specs.ports.Stored.{limit}
+use Rattle.lapd_sim.proofs.Vocabulary.{refl, ◌≡◌, sym, ap, ◌∙◌, Config, scene, SetupStands, stored_text, limit}
 use Rattle.lapd_sim.specs.machine.Steps.{after_stored, held}
 use Rattle.lapd_sim.proofs.Boards.{held_on}
 use Rattle.lapd_sim.proofs.Scenes.{obeyed, on_ok, tells}

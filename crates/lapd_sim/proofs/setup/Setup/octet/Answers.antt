@@ -1,9 +1,7 @@
 -- Hand-written answers for `Setup::octet`.
-use Rattle.lapd_sim.proofs.Vocabulary.{Ok, refl, sym, ap, ◌∙◌, option_copied, at, octet, told, told_beside, Octets, puts_nothing, WriteFailed}
-use Rattle.lapd_card.specs.{told_if_at}
+use Rattle.lapd_sim.proofs.Vocabulary.{Ok, refl, sym, ap, ◌∙◌, option_copied, at, octet, told, told_beside, Octets, puts_nothing, WriteFailed, told_if_at, nothing}
 use Rattle.lapd_sim.proofs.Boards.{octets_on, octets_told, told_on}
 use Rattle.model_card.specs.ports.Port as port
-use Rattle.model_line.specs.Event.{nothing}
 use Rattle.lapd_sim.proofs.setup.Setup.octet.Goals as goal
 
 pub returns-in-Some-clause-told : goal.returns-in-Some-clause-told

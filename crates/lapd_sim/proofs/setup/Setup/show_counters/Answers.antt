@@ -1,7 +1,5 @@
 -- Hand-written answers for `Setup::show_counters`.
-use Rattle.lapd_sim.proofs.Vocabulary.{◌<◌, get_or, refl, ap, subst, ◌∙◌, none_counted, counters_of, Store, counters_text, after_counters, scene, SetupStands}
-use Rattle.lapd_card.specs.Counted.{counters_in}
-use Rattle.lapd_card.specs.FrameCard.{Held}
+use Rattle.lapd_sim.proofs.Vocabulary.{◌<◌, get_or, refl, ap, subst, ◌∙◌, none_counted, counters_of, Store, counters_text, after_counters, scene, SetupStands, counters_in, Held}
 use Rattle.lapd_sim.proofs.Scenes.{there, obeyed, on_ok, tells}
 use Rattle.lapd_sim.proofs.setup.Setup.show_counters.Goals as goal
 

@@ -1,7 +1,5 @@
 -- Hand-written answers for `Setup::take`.
-use Rattle.lapd_sim.proofs.Vocabulary.{◌≡◌, ◌∙◌, fold, take, refl, ap, sym, subst, None, Some, at, next, kind_of, ordered, after_next, Puts, on, SetupStands}
-use Rattle.lapd_line.specs.Reports.{gave_in}
-use Rattle.lapd_transcript.specs.Text.{frame_text, nothing_text}
+use Rattle.lapd_sim.proofs.Vocabulary.{◌≡◌, ◌∙◌, fold, take, refl, ap, sym, subst, None, Some, at, next, kind_of, ordered, after_next, Puts, on, SetupStands, gave_in, frame_text, nothing_text}
 use Rattle.lapd_sim.proofs.Boards.{frames_on, frames_told, told_on}
 use Rattle.lapd_sim.proofs.Scenes.{there_frames, obeyed}
 use Rattle.model_card.specs.Event as frame_event

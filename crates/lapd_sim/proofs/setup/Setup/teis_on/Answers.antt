@@ -1,10 +1,7 @@
 -- Hand-written answers for `Setup::teis_on`.
-use Rattle.lapd_sim.proofs.Vocabulary.{◌≡◌, ◌+◌, length, take, filter, ap, sym, subst, ◌∙◌, arith, is_on_line, FrameCardStands, SetupStands}
+use Rattle.lapd_sim.proofs.Vocabulary.{◌≡◌, ◌+◌, length, take, filter, ap, sym, subst, ◌∙◌, arith, is_on_line, FrameCardStands, SetupStands, range_with_len, is_some, length-set}
 use Rattle.lapd_sim.specs.machine.Setup as machine
 use Rattle.lapd_sim.specs.machine.Steps.{teis_on}
-use Rattle.std.specs.List.{range_with_len}
-use Rattle.std.specs.Prelude.{is_some}
-use Rattle.std.proofs.lemmas.List.{length-set}
 use Rattle.lapd_sim.proofs.Boards.{inside}
 use Rattle.lapd_sim.proofs.GivingUp.{found, not_found}
 use Rattle.lapd_sim.proofs.setup.Setup.teis_on.Goals as goal

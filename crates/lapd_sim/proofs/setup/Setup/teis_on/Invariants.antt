@@ -1,6 +1,5 @@
 -- The invariants of the loops of `Setup::teis_on`.
-use Rattle.lapd_sim.proofs.Vocabulary.{◌≡◌, ◌≤◌, length, take, filter, is_on_line, SetupStands}
-use Rattle.std.specs.List.{range_with_len}
+use Rattle.lapd_sim.proofs.Vocabulary.{◌≡◌, ◌≤◌, length, take, filter, is_on_line, SetupStands, range_with_len}
 use Rattle.lapd_sim.specs.machine.Setup as machine
 use Rattle.lapd_sim.proofs.setup.Setup.teis_on.Given as goal
 

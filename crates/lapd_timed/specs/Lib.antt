@@ -1,5 +1,6 @@
 -- A card that keeps its own timers.
 --
--- Read after those of `model_timed` and `lapd_moments`: Places, Stands.
+-- Read after those of `model_timed` and `lapd_moments`: Places, Stands, TimedStands.
 pub mod Places
 pub mod Stands
+pub mod TimedStands

@@ -21,9 +21,11 @@
 //! missing. `model_timed` has the machine of such a card. That its timers are true, and are those that the lines run, are laws
 //! there. The contracts of each call say that the timers stand for its clock (`specs/Stands`).
 //!
-//! - `card_timers`: `CardTimers`.
+//! - `card_timers`: `CardTimers`. `timed_frame_card`: `TimedFrameCard`, a card of frames with them, call by call.
 #![tactic(auto)]
 
 mod card_timers;
+mod timed_frame_card;
 
 pub use card_timers::CardTimers;
+pub use timed_frame_card::TimedFrameCard;

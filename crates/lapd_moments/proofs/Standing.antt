@@ -1,5 +1,6 @@
 -- The set that the places stand for, when one of them changes.
-use Rattle.lapd_clock.proofs.Vocabulary.{◌≡◌, ℕ, zero, suc, ◌+◌, ◌<◌, ◌≤◌, Bool, true, false, cond, not, ◌==◌, ◌&&◌, nat_lt, nat_le, List, [], ◌∷◌, ◌++◌, length, filter, get_or, set, None, Some, refl, sym, ap, ◌∙◌, subst, arith, nat_tests, All, AllByRecursion, All-from_recursion, recursion_from_All, IsStrictWeakOrder, IsFirstBest, IsFirstBest-takes, IsFirstBest-keeps, ranks_by, cases_lt, inl, inr, ◌*◌, ◌/◌, get_or_default, get_or-map, map-set, map, length-map, Timer, Expiry, is_before, is_of, without, first_due, after_first_due, first_moment, never, put_in_order, in_order}
+use Rattle.lapd_clock.proofs.Vocabulary.{◌≡◌, ℕ, zero, suc, ◌+◌, ◌<◌, ◌≤◌, Bool, true, false, cond, not, ◌==◌, ◌&&◌, nat_lt, nat_le, List, [], ◌∷◌, ◌++◌, length, filter, get_or, set, None, Some, refl, sym, ap, ◌∙◌, subst, arith, nat_tests, All, AllByRecursion, All-from_recursion, recursion_from_All, IsStrictWeakOrder, IsFirstBest, IsFirstBest-takes, IsFirstBest-keeps, ranks_by, cases_lt, inl, inr}
+use Rattle.lapd_clock.proofs.Vocabulary.{◌*◌, ◌/◌, get_or_default, get_or-map, map-set, map, length-map, Timer, Expiry, is_before, is_of, without, first_due, after_first_due, first_moment, never, put_in_order, in_order}
 use Rattle.std.proofs.lemmas.Nat.{div-mul-add}
 use Rattle.lapd_clock.proofs.Ordered.{put_in_order-swap, put_in_order-first, All-put_in_order, All-filter}
 use Rattle.lapd_clock.proofs.TimerOrder.{expiry_total, before_order, same_expiry}

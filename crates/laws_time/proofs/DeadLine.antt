@@ -1,5 +1,6 @@
 -- A dead line is told.
-use Rattle.std.proofs.Common.{arith, ◌≡◌, ℕ, ◌+◌, ◌-◌, ◌*◌, ◌<◌, ◌≤◌, ◌==◌, ◌&&◌, Bool, true, false, cond, List, [], ◌∷◌, ◌++◌, Option, Some, None, refl, sym, ap, ◌∙◌, subst, eqb-true, is_some, ◌⊎◌, inl, inr, ⊎_elim, filter, nat_le, append-nil, append_assoc, length, length-append}
+use Rattle.laws_time.proofs.Ended.{F, A, start-200, start-203, start-wait, ended}
+use Rattle.std.proofs.Common.{arith, ◌≡◌, ℕ, ◌+◌, ◌-◌, ◌<◌, ◌≤◌, ◌==◌, ◌&&◌, Bool, true, false, cond, List, [], ◌∷◌, ◌++◌, Option, Some, None, refl, sym, ap, ◌∙◌, subst, eqb-true, is_some, ◌⊎◌, inl, inr, ⊎_elim, filter, nat_le, append-nil, append_assoc}
 use Rattle.std.specs.Option.{option_map_or}
 use Rattle.std.specs.Prelude.{option_to_list}
 use Rattle.std.proofs.lemmas.Bool.{true≢false}
@@ -10,7 +11,7 @@ use Rattle.lapd_frame.specs.declared.services.Service.{Service}
 use Rattle.lapd_frame.specs.declared.timers.Timer.{Timer}
 use Rattle.lapd_frame.specs.declared.timers.Timer.TheVariants as timers
 use Rattle.model_line.specs.Event as line_event
-use Rattle.model_line.specs.Event.{expiry, hears, request, next}
+use Rattle.model_line.specs.Event.{expiry}
 use Rattle.model_line.specs.Sound.{IsInRange}
 use Rattle.model_line.specs.declared.config.Config.{Config}
 use Rattle.model_link.specs.declared.timers.LinkTimer.{LinkTimer}
@@ -25,7 +26,7 @@ use Rattle.model_line.proofs.Obeyed.{both-true, services-equal}
 use Rattle.laws_trace.specs.Managing.{is_on}
 use Rattle.laws_trace.specs.Observer.{Observed, View, view_of, view_behind, awaits}
 use Rattle.laws_trace.specs.TimersAreTimely.{runs, is_timer_of}
-use Rattle.laws_trace.specs.Trace.{is_own, IsFront}
+use Rattle.laws_trace.specs.Trace.{is_own}
 use Rattle.laws_line.specs.Heard.{notes_of}
 use Rattle.laws_trace.specs.News.{is_news}
 use Rattle.lapd_frame.specs.Services.{same_service}
@@ -36,7 +37,7 @@ use Rattle.laws_time.proofs.TimedFrames.{with_event, expiry_of, with_expiry as t
 use Rattle.model_timed.specs.Frames.{after_all, events_of, ArePrompt}
 unfoldable use Rattle.model_timed.specs.Timed.{after_all as timed_after_all, events_of as timed_events_of, ArePrompt as TimedArePrompt}
 use Rattle.laws_time.specs.Watched.{of_frames}
-use Rattle.laws_time.specs.Silence.{IsStillAt, news_in, told_in, first_in, all_in, IsToldInTime, ADeadLineIsTold}
+use Rattle.laws_time.specs.Silence.{IsStillAt, news_in, told_in, ADeadLineIsTold}
 unfoldable use Rattle.laws_time.specs.Silence.{AreStill, news}
 use Rattle.laws_time.proofs.Links.{view-then, on-where, state-is, elsewhere}
 use Rattle.laws_time.proofs.Moments.{own, IsOf}
@@ -45,7 +46,7 @@ use Rattle.laws_time.proofs.Walk.{Stands, Holds, seen}
 use Rattle.laws_time.proofs.Falls.{in-time}
 use Rattle.laws_time.proofs.Before.{Goes, other-line, step-goes, dropped-holds, before-goes, begins}
 use Rattle.laws_time.proofs.Silent.{Waits, waits-still, waits-200, waits-203, idle, idle-200-is, idle-203-is}
-use Rattle.laws_time.proofs.Phases.{Due200, Due203, owed, limit, whole, one-more, IsPhase}
+use Rattle.laws_time.proofs.Phases.{Due200, Due203, owed, limit, IsPhase}
 use Rattle.model_link.specs.declared.states.State.{State}
 use Rattle.model_link.specs.declared.states.State.TheVariants.{TeiAssigned, AwaitingEstablishment, AwaitingRelease, Established, TimerRecovery}
 use Rattle.model_link.specs.Link.{state_number}
@@ -54,7 +55,6 @@ use Rattle.model_card.specs.Card.{line_at}
 use Rattle.std.proofs.Common.{option_map}
 use Rattle.std.specs.Prelude.{nat_lt}
 use Rattle.laws_time.proofs.Silent.{idle-7, never-both}
-use Rattle.std.proofs.lemmas.Nat.{mul-le}
 
 no-expiry : (service : Service) (tei : ℕ) (what : line_event.Event) → IsNoExpiry what → is_its_expiry service tei what ≡ false
 no-expiry service tei what none = grind arith
@@ -264,120 +264,6 @@ module _ (c : Config) (lengths : Lengths) (late number : ℕ) (ranged : IsInRang
       (append_assoc told (news_in of_frames service tei number (event_of d t) t.card) (news of_frames service tei number steps (after d t)))
       (steps-wait (events ++ option_to_list (event_of d t)) (after d t) (told ++ news_in of_frames service tei number (event_of d t) t.card) steps
       (step-waits events t told d w prompt.0 still.0 still.1) prompt.1 still.2))
-
--- At first, and in the end: over plain values.
-mono : (n e x : ℕ) → (n - e) * x ≤ n * x
-mono n e x = mul-le (n - e) x n x (omega arith) (omega arith)
-
-four : (n : ℕ) → 4 ≤ n → n ≤ 8 → (n ≡ 4) ⊎ ((n ≡ 5) ⊎ ((n ≡ 6) ⊎ ((n ≡ 7) ⊎ (n ≡ 8))))
-four n low high = grind arith
-
-module _ (c : Config) (lengths : Lengths) (late now : ℕ) where
-  abbrev F : ℕ → ℕ
-  F from = now + first_in from late c lengths
-
-  abbrev A : ℕ → ℕ
-  A from = now + all_in from late c lengths
-
-  abbrev Start : ℕ → Type 0
-  Start from = (e m : ℕ) → m ≤ now + lengths.t200 → Due200 c.n200 lengths.t200 late (F from) (A from) from e m
-
-  whole-left : (e : ℕ) → (c.n200 - e) * (lengths.t200 + late) + (lengths.t200 + late) ≤ (c.n200 + 1) * (lengths.t200 + late)
-  whole-left e = omega (arith, mono c.n200 e (lengths.t200 + late), one-more c.n200 (lengths.t200 + late))
-
-  start-7 : Start 7
-  start-7 e m h = omega (arith, h)
-
-  start-8 : Start 8
-  start-8 e m h = omega (arith, h, whole-left e)
-
-  start-5 : Start 5
-  start-5 e m h = omega (arith, h, whole-left e)
-
-  start-6 : Start 6
-  start-6 e m h = omega (arith, h, whole-left e)
-
-  pub start-200 : (from : ℕ) → 5 ≤ from → from ≤ 8 → Start from
-  start-200 from low high = go (four from (omega (arith, low)) high)
-    where
-      go : (from ≡ 4) ⊎ ((from ≡ 5) ⊎ ((from ≡ 6) ⊎ ((from ≡ 7) ⊎ (from ≡ 8)))) → Start from
-      go (inl is) = absurd (omega (arith, low, is))
-      go (inr (inl is)) = subst Start (sym is) start-5
-      go (inr (inr (inl is))) = subst Start (sym is) start-6
-      go (inr (inr (inr (inl is)))) = subst Start (sym is) start-7
-      go (inr (inr (inr (inr is)))) = subst Start (sym is) start-8
-
-  pub start-203 : (m : ℕ) → m ≤ now + lengths.t203 → Due203 c.n200 lengths.t200 late (F 7) (A 7) m
-  start-203 m h = omega (arith, h)
-
-  abbrev Up : ℕ → Type 0
-  Up from = nat_le 7 from ≡ true → F from + whole c.n200 lengths.t200 late (F from) (A from) ≤ A from
-
-  pub start-wait : (from : ℕ) → 5 ≤ from → from ≤ 8 → Up from
-  start-wait from low high = go (four from (omega (arith, low)) high)
-    where
-      up-7 : Up 7
-      up-7 up = omega arith
-
-      up-8 : Up 8
-      up-8 up = omega arith
-
-      go : (from ≡ 4) ⊎ ((from ≡ 5) ⊎ ((from ≡ 6) ⊎ ((from ≡ 7) ⊎ (from ≡ 8)))) → Up from
-      go (inl is) = absurd (omega (arith, low, is))
-      go (inr (inl is)) = subst Up (sym is) (λ up. cc up)
-      go (inr (inr (inl is))) = subst Up (sym is) (λ up. cc up)
-      go (inr (inr (inr (inl is)))) = subst Up (sym is) up-7
-      go (inr (inr (inr (inr is)))) = subst Up (sym is) up-8
-
-  -- The end: a state, what was told, and a moment that T200 or T203 is not overdue.
-  module _ (service : Service) (tei : ℕ) (from : ℕ) (low : 5 ≤ from) (high : from ≤ 8) (to then_is : ℕ) (told : List Note) (told_is : told ++ owed service tei to ≡ told_in from service tei)
-      (waits_7 : (to ≡ 7) ⊎ (to ≡ 8) → then_is ≤ F from) (waits_5 : (to ≡ 5) ⊎ (to ≡ 6) → then_is ≤ A from) where
-    counted : length told + length (owed service tei to) ≡ length (told_in from service tei)
-    counted = sym (length-append told (owed service tei to)) ∙ ap length told_is
-
-    F-below : F from ≤ A from
-    F-below = omega arith
-
-    at-least : 2 ≤ length (told_in from service tei)
-    at-least = go (four from (omega (arith, low)) high)
-      where
-        go : (from ≡ 4) ⊎ ((from ≡ 5) ⊎ ((from ≡ 6) ⊎ ((from ≡ 7) ⊎ (from ≡ 8)))) → 2 ≤ length (told_in from service tei)
-        go (inl is) = absurd (omega (arith, low, is))
-        go (inr (inl is)) = subst (λ n. 2 ≤ length (told_in n service tei)) (sym is) (omega arith)
-        go (inr (inr (inl is))) = subst (λ n. 2 ≤ length (told_in n service tei)) (sym is) (omega arith)
-        go (inr (inr (inr (inl is)))) = subst (λ n. 2 ≤ length (told_in n service tei)) (sym is) (omega arith)
-        go (inr (inr (inr (inr is)))) = subst (λ n. 2 ≤ length (told_in n service tei)) (sym is) (omega arith)
-
-    -- In states 5 and 6, two are owed: either all of it, as at first, where both times are the same, or one was told.
-    two-owed : length (owed service tei to) ≡ 2 → then_is ≤ A from → F from < then_is → 1 ≤ length told
-    two-owed two bound later = go (four from (omega (arith, low)) high)
-      where
-        same-times : (n : ℕ) → from ≡ n → A n ≡ F n → 1 ≤ length told
-        same-times n is same = absurd (omega (arith, later, bound, subst (λ n. A n ≡ F n) (sym is) same))
-
-        go : (from ≡ 4) ⊎ ((from ≡ 5) ⊎ ((from ≡ 6) ⊎ ((from ≡ 7) ⊎ (from ≡ 8)))) → 1 ≤ length told
-        go (inl is) = absurd (omega (arith, low, is))
-        go (inr (inl is)) = same-times 5 is (omega arith)
-        go (inr (inr (inl is))) = same-times 6 is (omega arith)
-        go (inr (inr (inr (inl is)))) = let three : length (told_in from service tei) ≡ 3 = ap (λ n. length (told_in n service tei)) is in omega (arith, counted, two, three)
-        go (inr (inr (inr (inr is)))) = let three : length (told_in from service tei) ≡ 3 = ap (λ n. length (told_in n service tei)) is in omega (arith, counted, two, three)
-
-    pub ended : 4 ≤ to → to ≤ 8 → IsToldInTime late from c lengths service tei now then_is told
-    ended least most = go (four to least most)
-      where
-        front : IsFront told (told_in from service tei)
-        front = record { rest = owed service tei to; whole_is = sym told_is }
-
-        go : (to ≡ 4) ⊎ ((to ≡ 5) ⊎ ((to ≡ 6) ⊎ ((to ≡ 7) ⊎ (to ≡ 8)))) → IsToldInTime late from c lengths service tei now then_is told
-        go (inl is) =
-            let done : told ≡ told_in from service tei = sym (append-nil told) ∙ ap (λ n. told ++ owed service tei n) (sym is) ∙ told_is in
-            record { front = front; first = λ later. subst (λ ns. 1 ≤ length ns) (sym done) (omega (arith, at-least)); all = λ later. done }
-        go (inr (inl is)) = record { front = front; first = two-owed (ap (λ n. length (owed service tei n)) is) (waits_5 (inl is)); all = λ later. absurd (omega (arith, later, waits_5 (inl is))) }
-        go (inr (inr (inl is))) = record { front = front; first = two-owed (ap (λ n. length (owed service tei n)) is) (waits_5 (inr is)); all = λ later. absurd (omega (arith, later, waits_5 (inr is))) }
-        go (inr (inr (inr (inl is)))) =
-            record { front = front; first = λ later. absurd (omega (arith, later, waits_7 (inl is))); all = λ later. absurd (omega (arith, later, waits_7 (inl is), F-below)) }
-        go (inr (inr (inr (inr is)))) =
-            record { front = front; first = λ later. absurd (omega (arith, later, waits_7 (inr is))); all = λ later. absurd (omega (arith, later, waits_7 (inr is), F-below)) }
 
 state-low : (s : State) → state_number s ≤ 8
 state-low TeiAssigned = omega arith

@@ -10,6 +10,8 @@ pub mod Falls
 pub mod Before
 pub mod Phases
 pub mod Silent
+pub mod Ended
 pub mod DeadLine
 pub mod OctetsMean
 pub mod DeadLineOfOctets
+pub mod OfCircuit

@@ -6,14 +6,14 @@ use Rattle.lapd_clock.specs.Timer.{Lengths}
 use Rattle.lapd_clock.specs.Timers.{Expiry}
 use Rattle.lapd_frame.specs.declared.notes.Note.{Note}
 use Rattle.model_line.specs.Event.{LineTold}
-use Rattle.model_line.specs.Request.{Request}
+use Rattle.model_line.specs.Request.{Request, Assign}
 use Rattle.model_line.specs.declared.config.Config.{Config}
 use Rattle.model_card.specs.ports.Port.{Event, octet, expiry, request, pull}
 use Rattle.model_timed.specs.Clock.{Clock, stopped, obeyed, due, without_first, at_moment}
 use Rattle.model_timed.specs.Octets.{orders_in}
 use Rattle.laws_order.specs.circuit.Circuit as circuit
 use Rattle.laws_order.specs.circuit.Circuit.{Endpoint, answered}
-use Rattle.laws_order.specs.circuit.Through.{assigned}
+use Rattle.laws_order.specs.circuit.Through.{octet_endpoint}
 
 -- An endpoint of the circuit, whose card keeps its own timers: what happens at it happens at its line, and what the answer orders is
 -- carried out at once.
@@ -91,12 +91,15 @@ after rate bs w = fold (beat rate) w bs
 abbrev pub clean : ℕ → ℕ → Clocked → Clocked
 clean rate n w = after rate (replicate n plain) w
 
--- As it begins: flags are in transit to each end, and each card has the TEI assigned.
+-- As it begins: flags are in transit to each end, no timer runs, and the TEI is assigned at each card.
 abbrev pub flags : ℕ → List ℕ
 flags way = replicate way 0x7E
 
+abbrev pub first : Config → ℕ → Lengths → ℕ → TimedEndpoint
+first c line lengths way = record { at = record (octet_endpoint c line) { way = flags way }; clock = stopped lengths }
+
 abbrev pub endpoint : Config → ℕ → Lengths → ℕ → ℕ → TimedEndpoint
-endpoint c line lengths way tei = record { at = record (assigned c line tei) { way = flags way }; clock = stopped lengths }
+endpoint c line lengths way tei = happens (request (Assign tei)) (first c line lengths way)
 
 -- What layer 3 was told at an end: notes, and the contents of data. (What is dropped is told, too.)
 abbrev pub notes_at : TimedEndpoint → List Note

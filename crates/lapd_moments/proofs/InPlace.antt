@@ -1,5 +1,5 @@
 -- A timer in its place, and in the set.
-use Rattle.lapd_clock.proofs.Vocabulary.{◌≡◌, ℕ, zero, suc, ◌+◌, ◌<◌, ◌≤◌, Bool, true, false, cond, not, ◌&&◌, ◌||◌, List, [], ◌∷◌, length, filter, set, refl, sym, ap, ◌∙◌, subst, arith, All, AllByRecursion, HoldsAt, nat_tests, Timer, Expiry, is_before, is_of, is_held, without, never, put_in_order, in_order, cases_lt, inl, inr}
+use Rattle.lapd_clock.proofs.Vocabulary.{◌≡◌, ℕ, zero, suc, ◌<◌, ◌≤◌, Bool, true, false, cond, not, ◌&&◌, ◌||◌, List, [], ◌∷◌, length, filter, set, refl, sym, ap, ◌∙◌, subst, arith, All, AllByRecursion, HoldsAt, nat_tests, Timer, Expiry, is_before, is_of, is_held, without, never, put_in_order, in_order, cases_lt, inl, inr}
 use Rattle.std.proofs.lemmas.Bool.{and_parts}
 use Rattle.std.specs.Prelude.{Option, None, Some, IfSome, IfNone}
 use Rattle.std.proofs.lemmas.List.Elements.{All-head, All-tail}

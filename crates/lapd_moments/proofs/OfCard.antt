@@ -1,11 +1,9 @@
 -- Each timer of a link is at its place alone.
-use Rattle.lapd_clock.proofs.Vocabulary.{◌≡◌, ◌≢◌, ℕ, zero, suc, ◌+◌, ◌<◌, ◌≤◌, Bool, true, false, cond, ◌&&◌, ◌==◌, List, [], ◌∷◌, length, filter, Some, refl, sym, ap, ◌∙◌, subst, arith, nat_tests, inl, inr, cases_lt, cases_eq, AllByRecursion, false≢true, Timer, is_same, Expiry, is_before, is_of, never, nat_eq_equiv, eq_by_cmp_equiv, in_order, set}
-use Rattle.lapd_clock.proofs.Ordered.{All-put_in_order}
+use Rattle.lapd_clock.proofs.Vocabulary.{◌≡◌, ◌≢◌, ℕ, zero, suc, ◌<◌, ◌≤◌, Bool, true, false, cond, ◌&&◌, ◌==◌, List, [], ◌∷◌, length, filter, refl, sym, ap, ◌∙◌, subst, arith, nat_tests, inl, inr, cases_lt, cases_eq, AllByRecursion, Timer, is_same, Expiry, is_of, never, nat_eq_equiv, eq_by_cmp_equiv, set}
 use Rattle.lapd_clock.proofs.TimerOrder.{same_timer, timer_total}
 use Rattle.lapd_clock.specs.Timer.{T201}
 use Rattle.lapd_frame.specs.declared.services.Service.{Service}
 use Rattle.model_link.specs.declared.timers.LinkTimer.{LinkTimer}
-use Rattle.model_link.specs.declared.timers.LinkTimer.TheVariants.{T200, T203}
 use Rattle.model_line.specs.Line.{service_at, place_at, link_number}
 use Rattle.lapd_moments.specs.Places.{is_running, at, with_timer, without_timer, IsItsPlace, RunsAt}
 use Rattle.lapd_moments.specs.OfCard.{timer_of, OfLink, OfLine, IsLayout, HoldsOwn, HoldsT201, Holds, AreApart}

@@ -1,11 +1,10 @@
 -- The set that the places stand for, when one of them changes.
-use Rattle.lapd_clock.proofs.Vocabulary.{◌≡◌, ℕ, zero, suc, ◌+◌, ◌<◌, ◌≤◌, Bool, true, false, cond, not, ◌==◌, ◌&&◌, nat_lt, nat_le, List, [], ◌∷◌, ◌++◌, length, filter, get_or, set, None, Some, refl, sym, ap, ◌∙◌, subst, arith, nat_tests, All, AllByRecursion, All-from_recursion, recursion_from_All, IsStrictWeakOrder, IsFirstBest, IsFirstBest-takes, IsFirstBest-keeps, ranks_by, cases_lt, inl, inr}
-use Rattle.lapd_clock.proofs.Vocabulary.{◌*◌, ◌/◌, get_or_default, get_or-map, map-set, map, length-map, Timer, Expiry, is_before, is_of, without, first_due, after_first_due, first_moment, never, put_in_order, in_order}
+use Rattle.lapd_clock.proofs.Vocabulary.{◌≡◌, ℕ, zero, suc, ◌+◌, ◌<◌, ◌≤◌, true, false, cond, nat_lt, nat_le, List, [], ◌∷◌, ◌++◌, length, filter, get_or, set, None, Some, refl, sym, ap, ◌∙◌, subst, arith, nat_tests, AllByRecursion, recursion_from_All, IsStrictWeakOrder, IsFirstBest, IsFirstBest-takes, IsFirstBest-keeps, ranks_by, cases_lt, inl, inr}
+use Rattle.lapd_clock.proofs.Vocabulary.{◌*◌, ◌/◌, get_or_default, get_or-map, map-set, Timer, Expiry, is_before, first_due, after_first_due, never, put_in_order, in_order}
 use Rattle.std.proofs.lemmas.Nat.{div-mul-add}
 use Rattle.lapd_clock.proofs.Ordered.{put_in_order-swap, put_in_order-first, All-put_in_order, All-filter}
 use Rattle.lapd_clock.proofs.TimerOrder.{expiry_total, before_order, same_expiry}
-use Rattle.lapd_clock.proofs.First.{before_itself, no_earlier}
-use Rattle.lapd_clock.proofs.Running.{none_of-without}
+use Rattle.lapd_clock.proofs.First.{no_earlier}
 use Rattle.lapd_moments.specs.Places.{expiry_of, expiries_of, place_before, is_running, timers_in, AreNotBefore, nothing, at, with_timer, without_timer, IsFirst, IsTaken, AreOfLines}
 use Rattle.lapd_moments.specs.declared.place.Place.{Place}
 

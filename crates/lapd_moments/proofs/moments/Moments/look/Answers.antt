@@ -1,6 +1,5 @@
 -- The first is due, and its place rests.
-use Rattle.std.proofs.Common.{◌≡◌, ◌∙◌, ap, sym, arith, subst}
-use Rattle.lapd_moments.specs.Places.{timers_in, without_timer}
+use Rattle.std.proofs.Common.{◌∙◌, arith}
 use Rattle.lapd_moments.proofs.Standing.{set_later, taken}
 use Rattle.lapd_moments.proofs.moments.Moments.look.Goals as goal
 

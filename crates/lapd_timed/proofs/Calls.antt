@@ -1,23 +1,22 @@
 -- What the calls of a card's timers come to.
-use Rattle.std.proofs.Common.{arith, ◌≡◌, ℕ, zero, suc, ◌+◌, ◌*◌, ◌/◌, ◌<◌, ◌≤◌, Bool, true, false, cond, List, [], ◌∷◌, length, set, take, get_or, Option, Some, None, option_map, refl, sym, ap, ◌∙◌, subst}
-use Rattle.std.proofs.lemmas.Option.{none-some, same_Some}
+use Rattle.std.proofs.Common.{arith, ◌≡◌, ℕ, zero, suc, ◌+◌, ◌*◌, ◌<◌, ◌≤◌, cond, List, [], ◌∷◌, length, set, take, get_or, Option, refl, sym, ap, ◌∙◌, subst}
 use Rattle.std.specs.List.{AllByRecursion}
 use Rattle.std.proofs.lemmas.List.Elements.{All-from_recursion, recursion_from_All}
-use Rattle.std.specs.Prelude.{IfSome, filter, fold}
+use Rattle.std.specs.Prelude.{filter}
 use Rattle.lapd_clock.specs.Firsts.{never}
 use Rattle.lapd_clock.specs.Timer.{Timer, Lengths, Order}
 use Rattle.lapd_clock.specs.Timers as clocks
 use Rattle.lapd_clock.specs.Timers.{Expiry}
 use Rattle.lapd_clock.specs.Places.{in_order}
-use Rattle.lapd_moments.specs.Places.{AreIdle, timers_in, is_running, at, with_timer, without_timer, IsTaken}
-use Rattle.lapd_moments.proofs.Laid.{idle_holds, in_lines, before_end}
+use Rattle.lapd_moments.specs.Places.{AreIdle, timers_in, is_running, at, with_timer, without_timer}
+use Rattle.lapd_moments.proofs.Laid.{idle_holds, in_lines}
 use Rattle.lapd_moments.proofs.Standing.{rests}
 use Rattle.model_card.specs.Card as cards
 use Rattle.model_card.specs.Card.{Card}
 use Rattle.model_card.proofs.Reaching.{reached-fresh}
 use Rattle.model_line.specs.Sound.{IsInRange}
 use Rattle.model_line.specs.declared.config.Config.{Config}
-use Rattle.model_timed.specs.Clock.{Clock, stopped, obey, obeyed, due, first_due, next_moment, first_moment, at_moment, with_lengths}
+use Rattle.model_timed.specs.Clock.{Clock, stopped, obey, obeyed, next_moment, first_moment, at_moment, with_lengths}
 use Rattle.model_timed.specs.RunTheSame.{as_they_are}
 use Rattle.model_timed.proofs.Running.{run-fresh}
 use Rattle.lapd_timed.specs.Places.{AreOnLines}

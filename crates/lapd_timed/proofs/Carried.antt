@@ -1,9 +1,8 @@
 -- What carrying out an order comes to, of every event that led the card to where it is.
-use Rattle.std.proofs.Common.{arith, ◌≡◌, ℕ, ◌+◌, ◌^◌, ◌<◌, ◌≤◌, List, length, get_or, Option, Some, None, refl, sym, ap, ◌∙◌, subst}
+use Rattle.std.proofs.Common.{arith, ◌≡◌, ℕ, ◌+◌, ◌^◌, ◌<◌, ◌≤◌, List, length, get_or, Some, None, sym, ap, ◌∙◌, subst}
 use Rattle.std.specs.List.{AllByRecursion}
 use Rattle.lapd_card.specs.FrameCard.{Held}
 use Rattle.lapd_card.specs.FrameStands.{FrameStands}
-use Rattle.lapd_clock.specs.Firsts.{never}
 use Rattle.lapd_clock.specs.Timer.{Timer, Order, Start, Stop, duration}
 use Rattle.lapd_clock.specs.Timers.{Expiry}
 use Rattle.lapd_moments.specs.Places.{with_timer, without_timer}

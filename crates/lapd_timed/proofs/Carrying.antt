@@ -1,14 +1,13 @@
 -- Orders that are carried out in places.
-use Rattle.std.proofs.Common.{arith, ◌≡◌, ◌⊎◌, inl, inr, ℕ, ◌+◌, ◌*◌, ◌<◌, ◌≤◌, Bool, true, false, List, [], ◌∷◌, length, Option, Some, None, IsSome, option_map, refl, sym, ap, ◌∙◌, subst}
+use Rattle.std.proofs.Common.{◌≡◌, inl, inr, ℕ, ◌+◌, ◌*◌, ◌<◌, List, Option, Some, None, IsSome, option_map, refl, sym, ap, ◌∙◌, subst}
 use Rattle.std.proofs.lemmas.Bool.{false≢true}
 use Rattle.std.proofs.lemmas.Option.{none-some, same_Some}
-use Rattle.std.specs.List.{AllByRecursion}
 use Rattle.lapd_clock.specs.Firsts.{never}
-use Rattle.lapd_clock.specs.Timer.{Timer, T200, T203, T201, Order, Start, Stop, Lengths, duration}
+use Rattle.lapd_clock.specs.Timer.{Timer, T200, T203, T201, Start, Stop, duration}
 use Rattle.lapd_clock.specs.Timers.{Expiry, with_expiry, without}
 use Rattle.lapd_frame.specs.declared.services.Service.{Service}
 use Rattle.lapd_moments.specs.OfCard.{Holds, AreApart, slot_of, t201_of, timer_of}
-use Rattle.lapd_moments.specs.Places.{timers_in, with_timer, without_timer, RunsAt, IsItsPlace, is_nowhere}
+use Rattle.lapd_moments.specs.Places.{timers_in, with_timer, without_timer, IsItsPlace}
 use Rattle.lapd_moments.proofs.InPlace.{started_in_place, stopped_in_place, stopped_nowhere}
 use Rattle.lapd_moments.proofs.OfCard.{its_place, t201_place, found_place, holds_started, holds_stopped, holds_t201}
 use Rattle.lapd_tei.proofs.Tables.{place_of-is}
@@ -19,7 +18,7 @@ use Rattle.model_card.specs.Machine.{after}
 use Rattle.model_card.specs.Reached.{IsReached}
 use Rattle.model_card.proofs.Reaching.{reached-sound, reached-after}
 use Rattle.model_card.proofs.Steps.{has_lines, line_sound}
-use Rattle.model_line.specs.Line.{Line, link_number, place_at, service_at, place_in}
+use Rattle.model_line.specs.Line.{link_number, place_at, service_at, place_in}
 use Rattle.model_line.specs.Runs.{IsPlaced}
 use Rattle.model_line.proofs.Numbers.{number_within, place_at-number, service_at-number}
 use Rattle.model_line.proofs.Placed.{place-few}
@@ -27,7 +26,7 @@ use Rattle.model_link.specs.declared.timers.LinkTimer.{LinkTimer}
 use Rattle.model_link.specs.declared.timers.LinkTimer.TheVariants as link
 use Rattle.model_timed.specs.Clock.{Clock, obey}
 use Rattle.model_timed.proofs.Running.{stays-in-place}
-use Rattle.lapd_timed.specs.Places.{own_place, link_on, number_at, slot_at, IsFound, IsOwnOrFound}
+use Rattle.lapd_timed.specs.Places.{own_place, link_on, number_at, slot_at, IsOwnOrFound}
 use Rattle.lapd_timed.specs.Stands.{IsOn, IsOnAmid, HeldTimers, AreAt}
 
 -- An event at a line of a card: before it and after it no TEI is at two places of a line, and no two are at one.

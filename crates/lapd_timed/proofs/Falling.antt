@@ -1,20 +1,20 @@
 -- What is due, and what is left when it is taken out.
-use Rattle.std.proofs.Common.{arith, ◌≡◌, ℕ, zero, suc, ◌*◌, ◌<◌, ◌≤◌, Bool, true, false, cond, List, [], ◌∷◌, length, drop, nat_le, Option, Some, None, option_map, refl, sym, ap, ◌∙◌, subst}
+use Rattle.std.proofs.Common.{arith, ◌≡◌, ℕ, ◌*◌, ◌≤◌, true, false, cond, List, [], ◌∷◌, drop, nat_le, Option, Some, None, option_map, refl, sym, ap, ◌∙◌, subst}
 use Rattle.std.proofs.lemmas.Bool.Decides.{nat_tests}
-use Rattle.std.proofs.lemmas.Option.{none-some, same_Some}
+use Rattle.std.proofs.lemmas.Option.{same_Some}
 use Rattle.std.specs.List.{AllByRecursion}
 use Rattle.std.specs.Prelude.{IfSome}
 use Rattle.lapd_clock.specs.Timer.{Timer}
 use Rattle.lapd_clock.specs.Timers as clocks
 use Rattle.lapd_clock.specs.Timers.{Expiry, is_of}
 use Rattle.lapd_moments.specs.OfCard.{Holds, AreApart, slot_of, t201_of}
-use Rattle.lapd_moments.specs.Places.{timers_in, at, IsTaken, IsFirst, IsItsPlace, RunsAt}
+use Rattle.lapd_moments.specs.Places.{timers_in, at, IsTaken, IsItsPlace}
 use Rattle.lapd_moments.proofs.OfCard.{itself, found_place, holds_stopped}
 use Rattle.model_card.specs.Card.{Card}
 use Rattle.model_card.specs.Event.{at as event_at}
 use Rattle.model_line.specs.Event.{expiry}
-use Rattle.model_timed.specs.Clock.{Clock, due, first_due, without_first, next_moment}
-use Rattle.model_timed.specs.RunTheSame.{RunAs, left_by, as_they_are}
+use Rattle.model_timed.specs.Clock.{Clock, first_due, without_first}
+use Rattle.model_timed.specs.RunTheSame.{left_by, as_they_are}
 use Rattle.model_timed.proofs.Running.{taken-left}
 use Rattle.lapd_timed.specs.Places.{named_by}
 use Rattle.lapd_timed.specs.Stands.{IsOn, HeldTimers, AreKept}

@@ -1,14 +1,13 @@
 -- An event with its orders: how they begin to be carried out, and what stands when all are.
-use Rattle.std.proofs.Common.{arith, ◌≡◌, ◌⊎◌, inl, inr, ℕ, zero, suc, ◌*◌, ◌<◌, ◌&&◌, Bool, true, false, cond, List, [], ◌∷◌, length, filter, Option, Some, None, refl, sym, ap, ◌∙◌, subst}
+use Rattle.std.proofs.Common.{arith, ◌≡◌, inl, inr, ℕ, zero, suc, ◌*◌, ◌<◌, Bool, true, false, cond, List, [], ◌∷◌, length, filter, Option, Some, None, refl, sym, ap, ◌∙◌, subst}
 use Rattle.std.proofs.lemmas.Bool.{false≢true}
 use Rattle.std.specs.List.{AllByRecursion}
 use Rattle.lapd_clock.specs.Firsts.{never}
-use Rattle.lapd_clock.specs.Timer.{Timer, Order}
+use Rattle.lapd_clock.specs.Timer.{Timer}
 use Rattle.lapd_clock.specs.Timers.{Expiry, is_held, is_of}
-use Rattle.lapd_clock.specs.Places.{in_order}
 use Rattle.lapd_clock.proofs.Once.{All-from_in_order}
 use Rattle.lapd_frame.specs.declared.services.Service.{Service}
-use Rattle.lapd_moments.specs.OfCard.{AreApart, slot_of, t201_of, timer_of}
+use Rattle.lapd_moments.specs.OfCard.{slot_of, t201_of, timer_of}
 use Rattle.lapd_moments.specs.Places.{is_running, timers_in, at, RunsAt}
 use Rattle.lapd_moments.proofs.InPlace.{none_held}
 use Rattle.lapd_moments.proofs.OfCard.{itself, holds_moved}

@@ -2,7 +2,6 @@
 use Rattle.std.proofs.Common.{◌≡◌, ℕ, ◌<◌, List, Option, Some, None, option_map, refl, sym, ap, ◌∙◌, subst}
 use Rattle.std.proofs.lemmas.Option.{none-some, same_Some}
 use Rattle.std.specs.Option.{option_map_or}
-use Rattle.std.specs.Prelude.{IfSome}
 use Rattle.lapd_card.specs.FrameCard.{Held, line_count}
 use Rattle.lapd_card.specs.FrameStands.{FrameStands, Leads}
 use Rattle.lapd_clock.specs.Timer.{Timer, Order}
@@ -14,7 +13,7 @@ use Rattle.model_card.specs.Machine.{after}
 use Rattle.model_bits.specs.Stream as stream
 use Rattle.model_line.specs.Event.{expiry, hears, next, request}
 use Rattle.model_line.specs.Request.{Request}
-use Rattle.model_timed.specs.Clock.{Clock, obeyed, due, without_first, at_moment}
+use Rattle.model_timed.specs.Clock.{Clock, obeyed, due, without_first}
 use Rattle.model_timed.specs.Timed as timed
 use Rattle.model_timed.specs.Timed.{falls_due, happens, with_event, with_expiry}
 use Rattle.model_timed.specs.Frames.{TimedCard, frames, orders_at}

@@ -1,10 +1,7 @@
 -- What an event of octets is to the timers of the card of frames inside.
-use Rattle.std.proofs.Common.{arith, ◌≡◌, ℕ, ◌<◌, Bool, true, false, cond, List, [], ◌∷◌, drop, Option, Some, None, option_map, refl, sym, ap, ◌∙◌, subst}
-use Rattle.std.specs.List.{AllByRecursion}
+use Rattle.std.proofs.Common.{◌≡◌, ℕ, Bool, true, false, cond, List, [], Option, Some, None, option_map, refl, ap, ◌∙◌}
 use Rattle.std.specs.Option.{option_map_or}
-use Rattle.lapd_clock.specs.Sound.{IsOneEach}
-use Rattle.lapd_clock.specs.Timer.{Timer, Order, Lengths}
-use Rattle.lapd_clock.specs.Timers.{Expiry}
+use Rattle.lapd_clock.specs.Timer.{Timer, Order}
 use Rattle.lapd_frame.specs.declared.refusals.Refusal.{Refusal}
 use Rattle.lapd_frame.specs.declared.refusals.Refusal.TheVariants.{PoolFull}
 use Rattle.model_bits.specs.Stream as stream
@@ -15,9 +12,8 @@ use Rattle.model_line.specs.Line.{Line}
 use Rattle.model_line.specs.Machine as lines
 use Rattle.model_line.specs.Refusal.{refusal}
 use Rattle.model_line.specs.Request.{Request}
-use Rattle.model_line.specs.Sound.{IsInRange}
 use Rattle.model_line.specs.declared.config.Config.{Config}
-use Rattle.model_card.specs.Card.{Card, line_at, is_full}
+use Rattle.model_card.specs.Card.{Card, line_at}
 use Rattle.model_card.specs.Event as frames
 use Rattle.model_card.specs.Machine as machine
 use Rattle.model_card.specs.ports.Card as ports

@@ -1,15 +1,13 @@
 -- The timers that run at the clock of a card of frames are those that its lines run.
-use Rattle.std.proofs.Common.{arith, ◌≡◌, ℕ, ◌+◌, ◌<◌, ◌==◌, ◌&&◌, ◌||◌, Bool, true, false, cond, List, [], ◌∷◌, drop, Option, Some, None, refl, sym, ap, ◌∙◌, subst, get_or, eq-eqb, eqb-true, true≢false}
+use Rattle.std.proofs.Common.{arith, ◌≡◌, ℕ, ◌<◌, ◌==◌, ◌&&◌, ◌||◌, Bool, true, false, cond, List, [], ◌∷◌, drop, Option, Some, None, refl, sym, ap, ◌∙◌, subst, eq-eqb, eqb-true, true≢false}
 use Rattle.std.proofs.lemmas.List.{get_or-replicate}
 use Rattle.std.proofs.lemmas.List.Elements.{All-head, All-tail}
 use Rattle.std.proofs.lemmas.Bool.{and_parts}
-use Rattle.std.specs.Prelude.{is_some, fold}
+use Rattle.std.specs.Prelude.{is_some}
 use Rattle.std.specs.List.{AllByRecursion}
-use Rattle.lapd_clock.specs.Timer.{Timer, T200, T203, T201, Order, Start, Stop, Lengths, is_same}
+use Rattle.lapd_clock.specs.Timer.{Timer, Order, Start, Stop, Lengths, is_same}
 use Rattle.lapd_clock.specs.Timers.{Expiry, is_held, is_of}
 use Rattle.lapd_clock.specs.Moments.{moment_of}
-use Rattle.lapd_frame.specs.Services.{same_service}
-use Rattle.lapd_frame.specs.declared.refusals.Refusal.TheVariants.{PoolFull}
 use Rattle.model_link.specs.Link as links
 use Rattle.model_link.specs.Timed as link
 use Rattle.model_link.specs.Timed.{IsTimed}
@@ -22,10 +20,9 @@ use Rattle.model_line.specs.Line.{Line, fresh_line, link_at, link_count}
 use Rattle.model_line.specs.Machine as lines
 use Rattle.model_line.specs.Runs.{runs_then, ArePlaced}
 use Rattle.model_line.specs.Runs as runs
-use Rattle.model_line.specs.Sound.{IsInRange}
 use Rattle.model_line.specs.declared.config.Config.{Config}
 use Rattle.model_line.proofs.LinkMoves.{all-after}
-use Rattle.model_line.proofs.Placed.{IsInPlace, in-place}
+use Rattle.model_line.proofs.Placed.{in-place}
 use Rattle.model_line.proofs.TimersFollow.{runs-follow, all-same, none-run}
 use Rattle.lapd_tei.specs.Sound.{IsAt}
 use Rattle.model_card.specs.Card.{Card, fresh, line_at}

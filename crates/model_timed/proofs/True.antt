@@ -1,12 +1,12 @@
 -- Timers are true.
 use Rattle.lapd_clock.proofs.Vocabulary.{◌≡◌, ℕ, ◌+◌, ◌<◌, ◌≤◌, ◌==◌, ◌&&◌, Bool, true, false, cond, List, [], ◌∷◌, ◌++◌, map, Some, None, none-some, same_Some, refl, sym, ap, ◌∙◌, subst, arith, nat_tests, nat_le, append_assoc, append-nil, All, AllByRecursion, recursion_from_All, Timer, Order, Start, Stop, Lengths, is_same, duration, Expiry, is_before, is_of, IsInOrder, IsOneEach, moment_of}
-use Rattle.std.specs.Prelude.{Option, IfSome, fold, option_map, option_to_list}
+use Rattle.std.specs.Prelude.{Option, IfSome, fold, option_map}
 use Rattle.std.specs.Option.{option_map_or}
 use Rattle.std.proofs.lemmas.List.Sums.{fold-append}
 use Rattle.lapd_clock.proofs.First.{no_earlier}
 use Rattle.lapd_clock.proofs.Moments.{moment_of-none, of_itself}
 use Rattle.model_timed.specs.Clock.{Clock, obey, obeyed, stopped, due, first_due, without_first, at_moment}
-use Rattle.model_timed.specs.Timed.{Kind, Timed, Step, happens, time, falls_due, after, after_all, with_event, with_expiry, expiry_at, IsInTime, IsPrompt, ArePrompt}
+use Rattle.model_timed.specs.Timed.{Kind, Timed, Step, happens, time, falls_due, after, after_all, with_expiry, expiry_at, IsInTime, IsPrompt, ArePrompt}
 use Rattle.model_timed.specs.Sayings.{Saying, ordered, expired, order_at, said, said_in, said_by_event, said_by_expiry, started_by, last_start}
 use Rattle.model_timed.specs.TimersAreTrue.{IsTrue, NoneIsPassed, TimersAreTrue}
 use Rattle.model_timed.proofs.Orders.{both, same-number, equal, start-moves, stop-moves, now-stays, lengths-stay, in-order, one-each, all-run}

@@ -1,8 +1,8 @@
 -- Timers are true: each expiry comes as long after the last start of its timer as the timer runs.
-use Rattle.std.specs.Prelude.{◌≡◌, ℕ, ◌+◌, ◌≤◌, ◌<◌, List, [], Option, None, Some, IfSome}
+use Rattle.std.specs.Prelude.{◌≡◌, ℕ, ◌+◌, ◌≤◌, ◌<◌, List, Option, None, Some, IfSome}
 use Rattle.lapd_clock.specs.Timer.{Timer, Lengths, duration}
 use Rattle.lapd_clock.specs.Timers.{Expiry}
-use Rattle.model_timed.specs.Clock.{Clock, stopped, due}
+use Rattle.model_timed.specs.Clock.{stopped, due}
 use Rattle.model_timed.specs.Timed.{Kind, Timed, Step, after_all, ArePrompt}
 use Rattle.model_timed.specs.Sayings.{Saying, said_in, last_start}
 

@@ -1,5 +1,6 @@
 -- Each message that is made has the next reference number, and the numbers go on once for each.
-use Rattle.lapd_terminal.proofs.Vocabulary.{◌≡◌, ℕ, zero, suc, ◌+◌, ◌<◌, ◌≤◌, inl, inr, Bool, true, false, cond, List, [], ◌∷◌, ◌++◌, length, get_or, filter, position, position-Some, fold, Option, Some, None, refl, sym, subst, ap, ◌∙◌, arith, All, All-append, All-cons, All-nil, All-set, All-filter_by, list_any, count_by, sum_by-set, sum_by_push, Terminal, Procedure, Message, IdentityRequest, IdentityCheckResponse, IdentityVerify, is_other, is_request, is_response, is_verified, is_verify, next_number, put_at, with_verify}
+use Rattle.lapd_terminal.proofs.Vocabulary.{◌≡◌, ℕ, zero, suc, ◌+◌, ◌<◌, ◌≤◌, inl, inr, Bool, true, false, cond, List, [], ◌∷◌, ◌++◌, length, get_or, filter, position, position-Some, fold, Option, Some, None, refl, sym, subst, ap, ◌∙◌, arith, All, All-append, All-cons, All-nil, All-set, All-filter_by, list_any, count_by, sum_by-set, sum_by_push, Terminal, Procedure, Message}
+use Rattle.lapd_terminal.proofs.Vocabulary.{IdentityRequest, IdentityCheckResponse, IdentityVerify, is_other, is_request, is_response, is_verified, is_verify, next_number, put_at, with_verify}
 use Rattle.lapd_terminal.proofs.Counted.{count-filter}
 use Rattle.lapd_terminal.proofs.Walk.{OfEvents, of_event}
 use Rattle.lapd_terminal.specs.Words.{Course, begun, ◌then◌, ask, end_procedure, end_verifying_of, is_answered, leave, nothing_happens, respond, send_response}

@@ -1,5 +1,7 @@
 -- The messages that wait: each is due, and no two have one slot.
-use Rattle.lapd_terminal.proofs.Vocabulary.{◌≡◌, ℕ, ◌+◌, ◌<◌, ◌≤◌, ◌==◌, ◌||◌, Bool, true, false, not, cond, List, [], ◌∷◌, ◌++◌, length, set, get_or, drop, Option, Some, None, ap, subst, refl, sym, arith, All, All-append, All-cons, All-nil, All-drop, All-filter_by, count_by, filter, list_any, position, position-Some, nat_tests, same_number, on-range, false≢true, get_or-set_same, get_or-set_other, length-filter, length-filter_both, sum_by-set, sum_by-take-drop, sum_by_push, length-set, Places, is_on, IsSoundTable, Message, IdentityRequest, IdentityVerify, IdentityCheckResponse, Procedure, Asking, Verifying, IsSoundQueue, has_slot, slot_of, is_due, may_ask, may_verify, is_verify, is_request, is_response_of, put_at, with_request, with_verify}
+use Rattle.lapd_terminal.proofs.Vocabulary.{◌≡◌, ℕ, ◌+◌, ◌<◌, ◌≤◌, ◌==◌, ◌||◌, Bool, true, false, not, cond, List, [], ◌∷◌, ◌++◌, length, set, get_or, drop, Option, Some, None, ap, subst, refl, sym, arith, All, All-append, All-cons, All-nil, All-drop, All-filter_by, count_by, filter, list_any, position, position-Some, nat_tests, same_number, on-range, false≢true}
+use Rattle.lapd_terminal.proofs.Vocabulary.{get_or-set_same, get_or-set_other, length-filter, length-filter_both, sum_by-set, sum_by-take-drop, sum_by_push, length-set, Places, is_on, IsSoundTable, Message, IdentityRequest, IdentityVerify, IdentityCheckResponse, Procedure, Asking, Verifying, IsSoundQueue, has_slot, slot_of, is_due, may_ask, may_verify, is_verify, is_request}
+use Rattle.lapd_terminal.proofs.Vocabulary.{is_response_of, put_at, with_request, with_verify}
 use Rattle.lapd_terminal.proofs.Counted.{count-filter, count-all, count-none, one_place, none-passes, nowhere}
 
 abbrev pub IsDueAt : Places → Option Procedure → Message → Type 0

@@ -1,5 +1,7 @@
 -- What the words of the table keep.
-use Rattle.lapd_terminal.proofs.Vocabulary.{◌≡◌, ℕ, zero, suc, ◌+◌, ◌*◌, ◌<◌, ◌≤◌, ◌==◌, ◌||◌, Bool, true, false, cond, List, [], ◌∷◌, ◌++◌, length, length-set, set, get_or, drop, filter, replicate, Option, Some, None, IfSome, ap, subst, refl, sym, ◌∙◌, arith, All, AllByRecursion, All-nil, All-cons, All-from_recursion, nat_tests, same_number, false≢true, list_any, Places, free_place, is_on, place_of, freed, table-empty, table-freed, table-put, on-freed, on-put, on-range, IsSoundTable, Terminal, fresh, Procedure, Asking, Verifying, Message, IdentityRequest, IdentityCheckResponse, IdentityVerify, action_of, next_number, IsSound, IsSoundProcedure, IsSoundQueue, is_due, is_other, is_response, is_response_of, is_verified, is_verify, is_request, position, put_at, may_ask, may_verify, with_request, with_verify, named, itself, teis_on, take, take_more, length-take, filter_map-append, length-append, slice_get, slice_get_within, get_or_from_slice_get}
+use Rattle.lapd_terminal.proofs.Vocabulary.{◌≡◌, ℕ, zero, suc, ◌+◌, ◌*◌, ◌<◌, ◌≤◌, ◌==◌, ◌||◌, Bool, true, false, cond, List, [], ◌∷◌, ◌++◌, length, length-set, set, get_or, drop, filter, replicate, Option, Some, None, IfSome, ap, subst, refl, sym, ◌∙◌, arith, All, AllByRecursion, All-nil, All-cons, All-from_recursion, nat_tests, same_number, false≢true, list_any, Places}
+use Rattle.lapd_terminal.proofs.Vocabulary.{free_place, is_on, place_of, freed, table-empty, table-freed, table-put, on-freed, on-put, on-range, IsSoundTable, Terminal, fresh, Procedure, Asking, Verifying, Message, IdentityRequest, IdentityCheckResponse, IdentityVerify, action_of, next_number, IsSound, IsSoundProcedure, IsSoundQueue, is_due, is_other, is_response}
+use Rattle.lapd_terminal.proofs.Vocabulary.{is_response_of, is_verified, is_verify, is_request, position, put_at, may_ask, may_verify, with_request, with_verify, named, itself, teis_on, take, take_more, length-take, filter_map-append, length-append, slice_get, slice_get_within, get_or_from_slice_get}
 use Rattle.std.proofs.Math.Nat.{mod-lt}
 use Rattle.lapd_terminal.proofs.Queues.{IsDueAt, queue-kept, queue-stays, queue-rest, queue-more, queue-asked, queue-verified, queue-length, no_response}
 

@@ -110,6 +110,7 @@ pub mod RequestsRefused
 pub mod RequestsOfLink
 pub mod RequestsTakeEffect
 pub mod AnswersAreGiven
+pub mod AnswersSuit
 pub mod CausesAreTold
 pub mod CountersCount
 pub mod SeenAs

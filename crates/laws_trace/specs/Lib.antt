@@ -13,6 +13,7 @@ pub mod Managing
 pub mod TeisAreManaged
 pub mod NoLossInVain
 pub mod AnswersAreGiven
+pub mod AnswersSuit
 pub mod TimersAreTimely
 pub mod LinksMove
 pub mod News

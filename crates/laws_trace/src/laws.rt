@@ -2,6 +2,7 @@
 
 ghost use Rattle.laws_trace.specs.Trace.{Always};
 ghost use Rattle.laws_trace.specs.AnswersAreGiven.{AnswersAreSent, QueueIsSent};
+ghost use Rattle.laws_trace.specs.AnswersSuit.{AnswersSuit};
 ghost use Rattle.laws_trace.specs.Configurations.{RangesAreServed};
 ghost use Rattle.laws_trace.specs.CausesAreTold.{CausesAreTold};
 ghost use Rattle.laws_trace.specs.CountersCount.{CountersCount};
@@ -132,6 +133,12 @@ pub fn answers_are_given()
 /// observer's words alone, and so of every card.
 pub fn what_is_due_joins_the_queue()
     ensures { Always AnswersAreSent }
+{}
+
+/// Answers suit events. A call for the next frame is answered by a frame or by none. A request is granted, so that what is
+/// told answers it, or refused. What is heard, and an expiry, are answered by what is told, and by no refusal and no frame.
+pub fn answers_suit_events()
+    ensures { Always AnswersSuit }
 {}
 
 /// Nothing is lost in vain. Of the control frames of a link that become due by an event, as [`what_is_given_is_due`] has

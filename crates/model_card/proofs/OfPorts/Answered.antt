@@ -38,11 +38,11 @@ answers_rightly : (card : Card) (number : ℕ) → AnswersRightly (λ f. machine
 unfolding line_answer takes_slot
 answers_rightly card number = grind arith
 
-says_given : (p : Port) (a : line.Answer) → IsGiving a → Says (port.answer port.pull (Some a) p) a
+says_given : (p : Port) (a : line.Answer) → IsGiving a → Says port.pull (port.answer port.pull (Some a) p) a
 says_given p (line.told t) h = absurd h
 says_given p (line.refused why) h = absurd h
-says_given p (line.gave None) h = (next_octet (with_item (Some (line.gave None)) p), refl)
-says_given p (line.gave (Some next)) h = (next_octet (with_item (Some (line.gave (Some next))) p), refl)
+says_given p (line.gave None) h = (refl, next_octet (with_item (Some (line.gave None)) p), refl)
+says_given p (line.gave (Some next)) h = (refl, next_octet (with_item (Some (line.gave (Some next))) p), refl)
 
 says_so : (n201 : ℕ) (e : port.Event) (p : Port) (ask : line.Event → line.Answer) → AnswersRightly ask
     → let s = option_map ask (port.meant n201 e p) in SaysSo e (port.answer e s p) s

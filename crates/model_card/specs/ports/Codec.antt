@@ -41,12 +41,13 @@ asked_with e = map (frames.at e.line) (asked_of e.what)
 abbrev pub asked_among : frames.Event → List frames.Event
 asked_among f = map (frames.at f.line) (asked_in f.what)
 
--- What an answer is made of: what the card of frames said to what was meant. A pull also has the octet that goes.
-abbrev pub Says : Answer → line.Answer → Type 0
-Says a (line.told t) = a ≡ port.told t
-Says a (line.refused why) = a ≡ port.refused why
-Says a (line.gave None) = (value : ℕ) × (a ≡ port.pulled value false [])
-Says a (line.gave (Some next)) = (value : ℕ) × (a ≡ port.pulled value true next.orders)
+-- What an answer is made of: what the card of frames said to what was meant. A pull, and nothing else, calls for the next frame; its
+-- answer also has the octet that goes.
+abbrev pub Says : port.Event → Answer → line.Answer → Type 0
+Says what a (line.told t) = a ≡ port.told t
+Says what a (line.refused why) = a ≡ port.refused why
+Says what a (line.gave None) = (what ≡ port.pull) × (value : ℕ) × (a ≡ port.pulled value false [])
+Says what a (line.gave (Some next)) = (what ≡ port.pull) × (value : ℕ) × (a ≡ port.pulled value true next.orders)
 
 -- An octet that ends nothing tells nothing, nor does a pull with which no frame is called for.
 abbrev pub SaysNothing : port.Event → Answer → Type 0
@@ -56,7 +57,7 @@ SaysNothing other a = ⊥
 
 abbrev pub SaysSo : port.Event → Answer → Option line.Answer → Type 0
 SaysSo what a None = SaysNothing what a
-SaysSo what a (Some said) = Says a said
+SaysSo what a (Some said) = Says what a said
 
 -- To what an event means, the card of frames says what its machine answers.
 abbrev pub IsAnswered : Moment → Type 0

@@ -11,6 +11,7 @@ pub mod Fold
 pub mod Codec
 mod FramesThere
 pub mod FramesHeard
+pub mod LatestHeard
 pub mod Sound
 pub mod Reaching
 pub mod Heard

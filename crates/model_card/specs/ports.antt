@@ -5,7 +5,7 @@
 -- Codec, the law: such a run is, at the card of frames inside, the run of what it means. Stored, Counts, Drops and Isolation
 -- are the words of the laws of octets, Promises and Laws their statements. HeardOctets says that what is heard are octets,
 -- GoingOut what a receiver hears of a line, Pulls how many pulls bring a frame, AtOnce when a pull takes one. Begun and HeadHeard
--- are what a card answers about itself. Whole is what a controller's frames and faults would be in octets, WholeLaws what these
+-- are what a card answers about itself, LatestHeard that this is of what it heard. Whole is what a controller's frames and faults would be in octets, WholeLaws what these
 -- are heard as, and that a card hears what stands in its octets. Worked and WorkedText have worked values.
 pub mod Port
 pub mod Line
@@ -29,5 +29,6 @@ pub mod AtOnce
 pub mod Laws
 pub mod Whole
 pub mod WholeLaws
+pub mod LatestHeard
 pub mod Worked
 pub mod WorkedText

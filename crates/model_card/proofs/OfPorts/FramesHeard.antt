@@ -146,7 +146,7 @@ fault_heard n201 before fault idle =
 
 -- ---- at a card
 
-card_heard : (c : Config) (events : List CardEvent) (number : ℕ) → number < c.lines → heard_at number (meant_all (fresh c) events) ≡ heard_in c.n201 (octets_come number events)
+pub card_heard : (c : Config) (events : List CardEvent) (number : ℕ) → number < c.lines → heard_at number (meant_all (fresh c) events) ≡ heard_in c.n201 (octets_come number events)
 card_heard c events number within =
     let goes = run_goes_on (fresh c) events number (omega (arith, within, length-replicate c.lines fresh_port)) in
     let fresh_is : port_at number (fresh c) ≡ fresh_port = get_or-replicate c.lines number fresh_port fresh_port within in

@@ -5,6 +5,7 @@ ghost use Rattle.model_card.specs.ports.Laws.{CardsStaySound, DropsAreWithoutEff
 ghost use Rattle.model_card.specs.ports.AtOnce.{FramesGoAtOnce};
 ghost use Rattle.model_card.specs.ports.GoingOut.{GivenFramesAreHeard};
 ghost use Rattle.model_card.specs.ports.HeardOctets.{HeardFramesAreOctets};
+ghost use Rattle.model_card.specs.ports.LatestHeard.{LatestHeardIsTold};
 ghost use Rattle.model_card.specs.ports.Pulls.{PullsAreTakes};
 ghost use Rattle.model_card.specs.ports.WholeLaws.{FramesAreHeard};
 
@@ -73,6 +74,14 @@ pub fn frames_are_heard()
 #[tactic(auto, using(crate::proofs::OfPorts::HeardOctets::heard_frames_are_octets))]
 pub fn heard_frames_are_octets()
     ensures { HeardFramesAreOctets }
+{}
+
+/// What is told of the latest frame is of the frame heard last. From a fresh card on, for each line: what `Card::latest_heard`
+/// tells is how the frame begins that the line heard last, apart from what is dropped; of one that is too long its first four
+/// octets, and the least length that is too long; and nothing if it heard none.
+#[tactic(auto, using(crate::proofs::OfPorts::LatestHeard::latest_heard_is_told))]
+pub fn latest_heard_is_told()
+    ensures { LatestHeardIsTold }
 {}
 
 /// What goes out is heard. From a fresh card on, for each line: what a receiver hears in the octets that its pulls gave are the

@@ -17,6 +17,6 @@ mod laws;
 pub use events::Event;
 pub use laws::{
     cards_stay_sound, drops_are_without_effect, frames_are_heard, frames_go_at_once, frames_linear,
-    given_frames_are_heard, heard_frames_are_octets, lines_isolated, octets_are_a_codec,
-    pulls_are_takes, run_is_moments, stored_within_limit,
+    given_frames_are_heard, heard_frames_are_octets, latest_heard_is_told, lines_isolated,
+    octets_are_a_codec, pulls_are_takes, run_is_moments, stored_within_limit,
 };

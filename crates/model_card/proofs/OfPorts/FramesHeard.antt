@@ -1,11 +1,12 @@
 -- What is heard in the octets that a frame or a fault means.
-use Rattle.model_card.proofs.OfPorts.Vocabulary.{◌≡◌, ℕ, zero, suc, ◌+◌, ◌-◌, ◌*◌, ◌/◌, ◌%◌, ◌≤◌, Bool, true, List, [], ◌∷◌, ◌++◌, length, replicate, reverse, refl, ap, sym, ◌∙◌, arith, length-append, length-replicate, bits, flag, low_bits, check, frame_text, heard_until, heard_in, room_for, AreOctets, bits-append, low_bits-number_of_n, NoSix-stuffed, after_flag, heard_until-onto, hears_text, after_text, reverse_aux-append, Fault, IsIdle, line_octets, came, fault_octets, cause_of, AreHeardAs, FramesAreHeard, hears, hears-append, reverse_aux, some_text, append_assoc, ◌<◌, get_or-replicate, Config, Port, after_all, fresh, fresh_port, meant_all, octets_come, port_at, Event as CardEvent}
+use Rattle.model_card.proofs.OfPorts.Vocabulary.{◌≡◌, ℕ, zero, suc, ◌+◌, ◌-◌, ◌*◌, ◌/◌, ◌%◌, ◌≤◌, Bool, true, List, [], ◌∷◌, ◌++◌, length, replicate, reverse, refl, ap, sym, ◌∙◌, arith, length-append, length-replicate, bits, flag, low_bits, check, frame_text, heard_until, heard_in, room_for, AreOctets, bits-append, low_bits-number_of_n, NoSix-stuffed, after_flag, heard_until-onto, hears_text, after_text, reverse_aux-append, Fault, IsIdle, line_octets, came, fault_octets, cause_of, AreHeardAs, FramesAreHeard, hears, hears-append, reverse_aux, some_text, append_assoc, ◌<◌, get_or-replicate, Config, Port, after_all, fresh, fresh_port, meant_all, octets_come, port_at, Event as CardEvent, lt-ltb, le-ltb, false}
 use Rattle.model_bits.specs.Bits.{octets_of}
-use Rattle.model_bits.specs.Stream.{Event, dropped}
+use Rattle.std.specs.Prelude.{◌||◌, cond, drop, nat_lt, option_to_list, option_map, option_and_then, Some, None}
+use Rattle.model_bits.specs.Stream.{Event, dropped, ends_flag, since_flag, has_abort, gap_event, closed_by_flag, given_up, heard_at as heard_bit}
 use Rattle.model_line.specs.declared.faults.Fault.TheVariants.{Fcs, Abort, Ragged, Short}
 use Rattle.model_card.specs.ports.Codec.{heard_at}
 use Rattle.model_card.proofs.OfPorts.Codec.{run_goes_on}
-use Rattle.model_card.specs.ports.WholeLaws.{IsHeardIn, StandsIn}
+use Rattle.model_card.specs.ports.WholeLaws.{StandsIn}
 use Rattle.model_card.proofs.OfPorts.FramesThere.{frames_there}
 use Rattle.model_card.proofs.OfPorts.FramesIdle.{IdleAt, hears_first_flag, idle_again}
 use Rattle.model_card.proofs.OfPorts.FramesJudged.{gap_event_came}
@@ -92,7 +93,39 @@ frame_heard n201 before octets idle are =
 by_bits : (n201 : ℕ) (octets : List ℕ) → heard_in n201 octets ≡ hears (room_for n201) [] (bits octets)
 by_bits n201 octets = heard_until-onto (room_for n201) (bits octets) []
 
-all_heard : (n201 : ℕ) (octets frame : List ℕ) → AreOctets frame → StandsIn (bits octets) frame → IsHeardIn n201 octets (came n201 frame)
+-- behind a flag fewer than eight bits bring nothing
+none_given : (b : Bool) (g : List Bool) → nat_lt 7 (length (b ∷ g)) ≡ false → given_up (b ∷ g) ≡ None
+none_given b g short = grind (arith, nat_lt)
+
+none_closed : (room : ℕ) (g : List Bool) → nat_lt (length g) 8 ≡ true → closed_by_flag room g ≡ None
+none_closed room g short = grind (arith, nat_lt)
+
+brings_none : (room : ℕ) (b : Bool) (past g : List Bool) → since_flag past ≡ Some g → length g + 1 ≤ 7 → heard_bit room (b ∷ past) ≡ None
+brings_none room b past g since few =
+    ap (λ o. cond (ends_flag (b ∷ past)) (option_and_then (closed_by_flag room) o) (option_and_then (λ g. given_up (b ∷ g)) o)) since
+    ∙ go (ends_flag (b ∷ past))
+  where
+    go : (ends : Bool) → cond ends (closed_by_flag room g) (given_up (b ∷ g)) ≡ None
+    go true = none_closed room g (lt-ltb (length g) 8 (omega (arith, few)))
+    go false = none_given b g (le-ltb 7 (length (b ∷ g)) (omega (arith, few)))
+
+since_then : (b : Bool) (past g : List Bool) → since_flag past ≡ Some g → (h : List Bool) × (since_flag (b ∷ past) ≡ Some h) × (length h ≤ length g + 1)
+since_then b past g since = go (ends_flag (b ∷ past)) refl
+  where
+    go : (ends : Bool) → ends_flag (b ∷ past) ≡ ends → (h : List Bool) × (since_flag (b ∷ past) ≡ Some h) × (length h ≤ length g + 1)
+    go true e = ([], ap (λ x. cond x (Some []) (option_map (λ g. b ∷ g) (since_flag past))) e, omega arith)
+    go false e =
+        (b ∷ g, ap (λ x. cond x (Some []) (option_map (λ g. b ∷ g) (since_flag past))) e ∙ ap (option_map (λ g. b ∷ g)) since, omega arith)
+
+quiet : (room : ℕ) (past g rest : List Bool) → since_flag past ≡ Some g → length g + length rest ≤ 7 → hears room past rest ≡ []
+quiet room past g [] since few = refl
+quiet room past g (b ∷ rest) since few =
+    let then = since_then b past g since in
+    ap (λ o. option_to_list o ++ hears room (b ∷ past) rest) (brings_none room b past g since (omega (arith, few)))
+    ∙ quiet room (b ∷ past) then.0 rest then.1 (omega (arith, few, then.2))
+
+all_heard : (n201 : ℕ) (octets frame : List ℕ) → AreOctets frame → StandsIn (bits octets) frame
+    → (earlier : List Event) × (heard_in n201 octets ≡ earlier ++ came n201 frame ∷ [])
 all_heard n201 octets frame are h =
     let room = room_for n201 in
     let text = frame_text frame in
@@ -103,16 +136,14 @@ all_heard n201 octets frame are h =
     hears_text room first text (some_text frame) (NoSix-stuffed (bits frame ++ check (bits frame))) ∙ ap (λ e. e ∷ []) (gap_event_came n201 frame are) in
     let rest : hears room place (text ++ (flag ++ h.after)) ≡ came n201 frame ∷ hears room end h.after =
     ap (hears room place) (sym (append_assoc text flag h.after)) ∙ hears-append room (text ++ flag) h.after place ∙ ap (λ l. l ++ hears room end h.after) one in
-    let earlier = hears room [] h.before ++ hears room first flag in
-    record {
-      earlier = earlier;
-      later = hears room end h.after;
-      is =
-          by_bits n201 octets ∙ ap (hears room []) h.is
-          ∙ hears-append room h.before (flag ++ (text ++ (flag ++ h.after))) []
-          ∙ ap (λ l. hears room [] h.before ++ l) (hears-append room flag (text ++ (flag ++ h.after)) first ∙ ap (λ l. hears room first flag ++ l) rest)
-          ∙ sym (append_assoc (hears room [] h.before) (hears room first flag) (came n201 frame ∷ hears room end h.after));
-    }
+    let none : hears room end h.after ≡ [] =
+    ap (λ p. hears room p h.after) (after_text text place) ∙ quiet room (after_flag (reverse_aux text place)) [] h.after refl (omega (arith, h.late)) in
+    (hears room [] h.before ++ hears room first flag,
+    by_bits n201 octets ∙ ap (hears room []) h.is
+    ∙ hears-append room h.before (flag ++ (text ++ (flag ++ h.after))) []
+    ∙ ap (λ l. hears room [] h.before ++ l) (hears-append room flag (text ++ (flag ++ h.after)) first ∙ ap (λ l. hears room first flag ++ l) rest)
+    ∙ sym (append_assoc (hears room [] h.before) (hears room first flag) (came n201 frame ∷ hears room end h.after))
+    ∙ ap (λ l. (hears room [] h.before ++ hears room first flag) ++ came n201 frame ∷ l) none)
 
 -- ---- a fault
 

@@ -1,15 +1,15 @@
 -- A frame that is heard stands in the octets, with its check, between two flags.
-use Rattle.model_card.proofs.OfPorts.Vocabulary.{◌≡◌, ℕ, suc, ◌-◌, ◌≤◌, Bool, true, false, nat_lt, not, cond, List, [], ◌∷◌, ◌++◌, length, take, drop, reverse, Option, None, Some, option_map, option_and_then, option_to_list, refl, sym, ap, ◌∙◌, subst, arith, append_assoc, length-drop, take-append-drop, ltb-false, ltb-true, All, All-nil, All-cons, All-append, bits, bits-append, flag, stuffed, octets_sent, check, is_good, frame_text, judged, text_event, gap_event, closed_by_flag, ends_flag, given_up, heard_at, heard_in, heard_until, room_for, since_flag, octets_are_those_sent}
+use Rattle.model_card.proofs.OfPorts.Vocabulary.{◌≡◌, ℕ, suc, ◌-◌, ◌≤◌, Bool, true, false, nat_lt, not, cond, List, [], ◌∷◌, ◌++◌, length, take, drop, reverse, Option, None, Some, option_map, option_and_then, option_to_list, refl, sym, ap, ◌∙◌, subst, arith, append_assoc, length-drop, take-append-drop, ltb-false, ltb-true, All, All-nil, All-cons, All-append, bits, bits-append, flag, stuffed, octets_sent, check, is_good, frame_text, judged, text_event, gap_event, closed_by_flag, ends_flag, given_up, heard_at, heard_in, heard_until, room_for, since_flag, octets_are_those_sent, ◌<◌, All-head, All-tail, hears, heard_until-onto, reverse_aux-append, gained, length-bits}
 use Rattle.std.specs.Prelude.{IsTrue, ◌||◌}
 use Rattle.std.proofs.lemmas.Bool.{or_parts}
-use Rattle.std.proofs.lemmas.List.{reverse-append, reverse-reverse}
-use Rattle.std.proofs.lemmas.List.Elements.{All-weaker}
+use Rattle.std.proofs.lemmas.List.{reverse-append, reverse-reverse, append_cancel_left}
+use Rattle.model_card.proofs.OfPorts.Gains.{heard_with}
 use Rattle.std.proofs.lemmas.Option.{same_Some}
 use Rattle.model_bits.proofs.BitLemmas.{length-bits}
 use Rattle.model_bits.proofs.Division.Unique.{only_check_lem}
 use Rattle.model_bits.specs.Stream.{Event, frame, overlong, dropped, has_abort, is_short}
 use Rattle.model_bits.specs.declared.heard.Cause.TheVariants.{Short, Fcs}
-use Rattle.model_card.specs.ports.WholeLaws.{StandsIn, IsThere}
+use Rattle.model_card.specs.ports.WholeLaws.{StandsIn, IsThere, Brings}
 
 -- ---- the octets between two flags
 
@@ -107,70 +107,104 @@ in_time t older =
     ∙ append_assoc (reverse older ++ flag) (reverse t) flag
     ∙ append_assoc (reverse older) flag (reverse t ++ flag)
 
+-- A frame ends at the end of a text.
+record Ends (text : List Bool) (octets : List ℕ) : Type 0 where
+  before : List Bool
+  is : text ≡ before ++ (flag ++ (frame_text octets ++ (flag ++ [])))
+
+abbrev AtEnd : List Bool → Event → Type 0
+AtEnd text (frame octets) = Ends text octets
+AtEnd text (overlong head) = (octets : List ℕ) × (head ≡ take 4 octets) × Ends text octets
+AtEnd text (dropped cause) = Unit {0}
+
 standing : (past : List Bool) (g older : List Bool) (octets : List ℕ) → past ≡ flag ++ (drop 7 g ++ (flag ++ older)) → reverse (drop 7 g) ≡ frame_text octets
-    → StandsIn (reverse past) octets
+    → Ends (reverse past) octets
 standing past g older octets place is = record {
   before = reverse older;
-  after = [];
   is = ap reverse place ∙ in_time (drop 7 g) older ∙ ap (λ t. reverse older ++ (flag ++ (t ++ (flag ++ [])))) is;
 }
 
-stands : (past : List Bool) (g older : List Bool) (e : Event) → past ≡ flag ++ (drop 7 g ++ (flag ++ older)) → IsText (reverse (drop 7 g)) e → IsThere (reverse past) e
+stands : (past : List Bool) (g older : List Bool) (e : Event) → past ≡ flag ++ (drop 7 g ++ (flag ++ older)) → IsText (reverse (drop 7 g)) e → AtEnd (reverse past) e
 stands past g older (frame octets) place is = standing past g older octets place is
 stands past g older (overlong head) place is = (is.0, is.1, standing past g older is.0 place is.2)
 stands past g older (dropped cause) place is = tt
 
 -- ---- at each place
 
-longer : (text rest : List Bool) (octets : List ℕ) → StandsIn text octets → StandsIn (text ++ rest) octets
-longer text rest octets h = record {
+longer : (text rest : List Bool) (octets : List ℕ) → Ends text octets → length rest < 8 → StandsIn (text ++ rest) octets
+longer text rest octets h few = record {
   before = h.before;
-  after = h.after ++ rest;
+  after = rest;
   is =
       ap (λ t. t ++ rest) h.is
-      ∙ append_assoc h.before (flag ++ (frame_text octets ++ (flag ++ h.after))) rest
-      ∙ ap (λ t. h.before ++ (flag ++ t)) (append_assoc (frame_text octets) (flag ++ h.after) rest);
+      ∙ append_assoc h.before (flag ++ (frame_text octets ++ (flag ++ []))) rest
+      ∙ ap (λ t. h.before ++ (flag ++ t)) (append_assoc (frame_text octets) (flag ++ []) rest);
+  late = few;
 }
 
-more : (text rest : List Bool) (e : Event) → IsThere text e → IsThere (text ++ rest) e
-more text rest (frame octets) h = longer text rest octets h
-more text rest (overlong head) h = (h.0, h.1, longer text rest h.0 h.2)
-more text rest (dropped cause) h = tt
+more : (text rest : List Bool) (e : Event) → AtEnd text e → length rest < 8 → IsThere (text ++ rest) e
+more text rest (frame octets) h few = longer text rest octets h few
+more text rest (overlong head) h few = (h.0, h.1, longer text rest h.0 h.2 few)
+more text rest (dropped cause) h few = tt
+
+more_all : (text rest : List Bool) (es : List Event) → length rest < 8 → All (AtEnd text) es → All (IsThere (text ++ rest)) es
+more_all text rest [] few all = All-nil (IsThere (text ++ rest))
+more_all text rest (e ∷ es) few all =
+    All-cons (IsThere (text ++ rest)) e es (more text rest e (All-head (AtEnd text) e es all) few) (more_all text rest es few (All-tail (AtEnd text) e es all))
 
 closed : (room : ℕ) (b : Bool) (past g : List Bool) → 6 ≤ room → ends_flag (b ∷ past) ≡ true → since_flag past ≡ Some g
-    → All (IsThere (reverse (b ∷ past))) (option_to_list (closed_by_flag room g))
+    → All (AtEnd (reverse (b ∷ past))) (option_to_list (closed_by_flag room g))
 closed room b past g fits at since = go (nat_lt (length g) 8 || has_abort g) refl
   where
     go : (none : Bool) → (nat_lt (length g) 8 || has_abort g) ≡ none
-        → All (IsThere (reverse (b ∷ past))) (option_to_list (cond none None (Some (gap_event room (reverse (drop 7 g))))))
-    go true e = All-nil (IsThere (reverse (b ∷ past)))
+        → All (AtEnd (reverse (b ∷ past))) (option_to_list (cond none None (Some (gap_event room (reverse (drop 7 g))))))
+    go true e = All-nil (AtEnd (reverse (b ∷ past)))
     go false e =
         let place = closing b past g at since (ltb-false (length g) 8 (or_parts (nat_lt (length g) 8) (has_abort g) e).0) in
         let text = reverse (drop 7 g) in
-        All-cons (IsThere (reverse (b ∷ past))) (gap_event room text) []
-        (stands (b ∷ past) g place.0 (gap_event room text) place.1 (text_heard room text (octets_sent text) fits refl)) (All-nil (IsThere (reverse (b ∷ past))))
+        All-cons (AtEnd (reverse (b ∷ past))) (gap_event room text) []
+        (stands (b ∷ past) g place.0 (gap_event room text) place.1 (text_heard room text (octets_sent text) fits refl)) (All-nil (AtEnd (reverse (b ∷ past))))
 
-given_there : (text g : List Bool) → All (IsThere text) (option_to_list (given_up g))
+given_there : (text g : List Bool) → All (AtEnd text) (option_to_list (given_up g))
 given_there text g = grind (arith, nat_lt, option_to_list)
 
-at_there : (room : ℕ) (b : Bool) (past : List Bool) → 6 ≤ room → All (IsThere (reverse (b ∷ past))) (option_to_list (heard_at room (b ∷ past)))
+at_there : (room : ℕ) (b : Bool) (past : List Bool) → 6 ≤ room → All (AtEnd (reverse (b ∷ past))) (option_to_list (heard_at room (b ∷ past)))
 at_there room b past fits = go (ends_flag (b ∷ past)) (since_flag past) refl refl
   where
     go : (ends : Bool) (o : Option (List Bool)) → ends_flag (b ∷ past) ≡ ends → since_flag past ≡ o
-        → All (IsThere (reverse (b ∷ past))) (option_to_list (cond ends (option_and_then (closed_by_flag room) o) (option_and_then (λ g. given_up (b ∷ g)) o)))
-    go true None at so = All-nil (IsThere (reverse (b ∷ past)))
+        → All (AtEnd (reverse (b ∷ past))) (option_to_list (cond ends (option_and_then (closed_by_flag room) o) (option_and_then (λ g. given_up (b ∷ g)) o)))
+    go true None at so = All-nil (AtEnd (reverse (b ∷ past)))
     go true (Some g) at so = closed room b past g fits at so
-    go false None at so = All-nil (IsThere (reverse (b ∷ past)))
+    go false None at so = All-nil (AtEnd (reverse (b ∷ past)))
     go false (Some g) at so = given_there (reverse (b ∷ past)) (b ∷ g)
 
-until_there : (room : ℕ) (past : List Bool) → 6 ≤ room → All (IsThere (reverse past)) (heard_until room past)
-until_there room [] fits = All-nil (IsThere [])
-until_there room (b ∷ past) fits =
-    All-append (IsThere (reverse (b ∷ past))) (heard_until room past) (option_to_list (heard_at room (b ∷ past)))
-    (subst (λ t. All (IsThere t) (heard_until room past)) (sym (reverse-append (b ∷ []) past))
-    (All-weaker (IsThere (reverse past)) (IsThere (reverse past ++ b ∷ [])) (more (reverse past) (b ∷ [])) (heard_until room past) (until_there room past fits)))
-    (at_there room b past fits)
+-- in the bits of one more octet, after others
+in_bits : (room : ℕ) (past rest : List Bool) → 6 ≤ room → length rest ≤ 8 → All (IsThere (reverse past ++ rest)) (hears room past rest)
+in_bits room past [] fits few = All-nil (IsThere (reverse past ++ []))
+in_bits room past (b ∷ rest) fits few =
+    let same : reverse (b ∷ past) ++ rest ≡ reverse past ++ b ∷ rest =
+    ap (λ t. t ++ rest) (reverse-append (b ∷ []) past) ∙ append_assoc (reverse past) (b ∷ []) rest in
+    All-append (IsThere (reverse past ++ b ∷ rest)) (option_to_list (heard_at room (b ∷ past))) (hears room (b ∷ past) rest)
+    (subst (λ t. All (IsThere t) (option_to_list (heard_at room (b ∷ past)))) same
+    (more_all (reverse (b ∷ past)) rest (option_to_list (heard_at room (b ∷ past))) (omega (arith, few)) (at_there room b past fits)))
+    (subst (λ t. All (IsThere t) (hears room (b ∷ past) rest)) same (in_bits room (b ∷ past) rest fits (omega (arith, few))))
 
-pub frames_there : (n201 : ℕ) (octets : List ℕ) → All (IsThere (bits octets)) (heard_in n201 octets)
-frames_there n201 octets =
-    subst (λ t. All (IsThere t) (heard_in n201 octets)) (reverse-reverse (bits octets)) (until_there (room_for n201) (reverse (bits octets)) (omega arith))
+pub frames_there : (n201 : ℕ) (octets : List ℕ) (value : ℕ) → Brings n201 octets value
+frames_there n201 octets value =
+    let room = room_for n201 in
+    let past = reverse (bits octets) in
+    let last = bits (value ∷ []) in
+    let text : bits (octets ++ value ∷ []) ≡ bits octets ++ last = bits-append octets (value ∷ []) in
+    let back : reverse past ++ last ≡ bits (octets ++ value ∷ []) = ap (λ t. t ++ last) (reverse-reverse (bits octets)) ∙ sym text in
+    let heard : heard_in n201 (octets ++ value ∷ []) ≡ heard_in n201 octets ++ hears room past last =
+    ap (λ t. heard_until room (reverse t)) text ∙ ap (heard_until room) (reverse_aux-append (bits octets) last []) ∙ heard_until-onto room last past in
+    let same : hears room past last ≡ option_to_list (gained n201 octets value) =
+    append_cancel_left (heard_in n201 octets) (hears room past last) (option_to_list (gained n201 octets value)) (sym heard ∙ heard_with n201 octets value) in
+    let eight = length-bits (value ∷ []) in
+    record {
+      event = gained n201 octets value;
+      is = heard_with n201 octets value;
+      there =
+          subst (All (IsThere (bits (octets ++ value ∷ [])))) same
+          (subst (λ t. All (IsThere t) (hears room past last)) back (in_bits room past last (omega arith) (omega (arith, eight))));
+    }

@@ -1,6 +1,6 @@
 -- What a card of octets hears is what stands in the octets that come; and what stands in those of whole frames and of faults is
 -- what `Came` of `model_line` says of them.
-use Rattle.std.specs.Prelude.{◌≡◌, ℕ, ◌<◌, Bool, List, [], ◌∷◌, ◌++◌, take, All}
+use Rattle.std.specs.Prelude.{◌≡◌, ℕ, ◌<◌, Bool, List, [], ◌∷◌, ◌++◌, length, take, All, Option, option_to_list}
 use Rattle.model_bits.specs.Bits.{bits, flag}
 use Rattle.model_bits.specs.Sent.{frame_text}
 use Rattle.model_bits.specs.StuffingLaws.{AreOctets}
@@ -19,11 +19,12 @@ pub record AreHeardAs (n201 : ℕ) (before octets : List ℕ) (event : Event) : 
   pub heard : heard_in n201 (before ++ octets) ≡ heard_in n201 before ++ event ∷ []
   pub idle : IsIdle (before ++ octets)
 
--- A frame stands in a text: its octets and their check, stuffed, between two flags.
+-- A frame stands in a text, and ends with its last octet: its octets and their check, stuffed, between two flags.
 pub record StandsIn (text : List Bool) (octets : List ℕ) : Type 0 where
   pub before : List Bool
   pub after : List Bool
   pub is : text ≡ before ++ (flag ++ (frame_text octets ++ (flag ++ after)))
+  pub late : length after < 8
 
 -- So does one that is heard as too long, of which the first four octets are told.
 abbrev pub IsThere : List Bool → Event → Type 0
@@ -31,11 +32,11 @@ IsThere text (frame octets) = StandsIn text octets
 IsThere text (overlong head) = (octets : List ℕ) × (head ≡ take 4 octets) × StandsIn text octets
 IsThere text (dropped cause) = Unit {0}
 
--- An event is one of those that are heard in octets.
-pub record IsHeardIn (n201 : ℕ) (octets : List ℕ) (event : Event) : Type 0 where
-  pub earlier : List Event
-  pub later : List Event
-  pub is : heard_in n201 octets ≡ earlier ++ event ∷ later
+-- One more octet brings one event at most; and a frame, or one that is too long, ends with it.
+pub record Brings (n201 : ℕ) (octets : List ℕ) (value : ℕ) : Type 0 where
+  pub event : Option Event
+  pub is : heard_in n201 (octets ++ value ∷ []) ≡ heard_in n201 octets ++ option_to_list event
+  pub there : All (IsThere (bits (octets ++ value ∷ []))) (option_to_list event)
 
 pub record FramesAreHeard : Type 0 where
   -- A card, from its start on: after any events, what its card of frames has heard at a line is exactly what stands in all
@@ -43,10 +44,11 @@ pub record FramesAreHeard : Type 0 where
   -- is heard with the octet that ends it.
   pub card : (c : Config) (events : List octets.Event) (number : ℕ) → number < c.lines →
       heard_at number (meant_all (fresh c) events) ≡ heard_in c.n201 (octets_come number events)
-  -- What stands in octets: each frame that is heard does, and each that does is heard, whatever came before it; and on an idle line
-  -- each frame and each fault that stands there is heard as itself and nothing else.
-  pub there : (n201 : ℕ) (octets : List ℕ) → All (IsThere (bits octets)) (heard_in n201 octets)
-  pub all : (n201 : ℕ) (octets frame : List ℕ) → AreOctets frame → StandsIn (bits octets) frame → IsHeardIn n201 octets (came n201 frame)
+  -- What stands in octets: each frame that is heard does, where it ends; and each that does is heard there, so once, whatever came
+  -- before it; and on an idle line each frame and each fault that stands there is heard as itself and nothing else.
+  pub there : (n201 : ℕ) (octets : List ℕ) (value : ℕ) → Brings n201 octets value
+  pub all : (n201 : ℕ) (octets frame : List ℕ) → AreOctets frame → StandsIn (bits octets) frame
+      → (earlier : List Event) × (heard_in n201 octets ≡ earlier ++ came n201 frame ∷ [])
   pub begins : IsIdle []
   pub frames : (n201 : ℕ) (before octets : List ℕ) → IsIdle before → AreOctets octets →
       AreHeardAs n201 before (line_octets octets) (came n201 octets)

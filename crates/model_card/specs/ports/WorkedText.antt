@@ -1,5 +1,7 @@
 -- Worked values: when pulls call for the next frame, and what goes out then; and frames that stand in octets, as they are heard.
-use Rattle.std.specs.Prelude.{◌≡◌, ℕ, List, [], ◌∷◌, ◌++◌, replicate, refl}
+use Rattle.std.specs.Prelude.{◌≡◌, ℕ, List, [], ◌∷◌, ◌++◌, replicate, Some, refl}
+use Rattle.std.proofs.Common.{lit<}
+use Rattle.std.proofs.lemmas.List.Elements.{All-nil, All-cons}
 use Rattle.model_bits.specs.Bits.{bits, flag, low_bits}
 use Rattle.model_bits.specs.Sent.{frame_text}
 use Rattle.model_bits.specs.Stream.{frame, overlong, dropped, heard_in}
@@ -19,7 +21,7 @@ use Rattle.model_card.specs.ports.Event.{Event, at}
 use Rattle.model_card.specs.ports.GoingOut.{octets_given}
 use Rattle.model_card.specs.ports.Port.{request, pull}
 use Rattle.model_card.specs.ports.Run.{moments, meant_all}
-use Rattle.model_card.specs.ports.WholeLaws.{IsThere, IsHeardIn}
+use Rattle.model_card.specs.ports.WholeLaws.{IsThere, Brings}
 
 abbrev small : Config
 small = record { lines = 1; terminals = 1; k = 1; k16 = 1; queue = 1; unit_queue = 1; control = 2; slots = 1; n201 = 8; n200 = 1; side = Network }
@@ -65,17 +67,17 @@ its_end : octets_given small (pulled 9) 0 ≡ 0x7E ∷ 0x02 ∷ 0xDF ∷ 0x07 �
 unfolding meant_all moments after answer meant runs.moments lines.after lines.answer lines.takes_slot low_bits
 its_end = refl
 
--- A UA stands in these octets, and is heard, as nothing else is.
+-- A UA stands in these octets, and the last of them brings it, and nothing else.
 abbrev ua : List ℕ
 ua = 0x7E ∷ 0x00 ∷ 0x81 ∷ 0x73 ∷ 0xC4 ∷ 0x12 ∷ 0x7E ∷ []
 
 ua_stands : IsThere (bits ua) (frame (0x00 ∷ 0x81 ∷ 0x73 ∷ []))
 unfolding low_bits
-ua_stands = record { before = []; after = []; is = refl }
+ua_stands = record { before = []; after = []; is = refl; late = lit< tt }
 
-ua_heard : IsHeardIn 8 ua (came 8 (0x00 ∷ 0x81 ∷ 0x73 ∷ []))
+ua_brought : Brings 8 (0x7E ∷ 0x00 ∷ 0x81 ∷ 0x73 ∷ 0xC4 ∷ 0x12 ∷ []) 0x7E
 unfolding low_bits
-ua_heard = record { earlier = []; later = []; is = refl }
+ua_brought = record { event = Some (came 8 (0x00 ∷ 0x81 ∷ 0x73 ∷ [])); is = refl; there = All-cons (IsThere (bits ua)) (frame (0x00 ∷ 0x81 ∷ 0x73 ∷ [])) [] ua_stands (All-nil (IsThere (bits ua))) }
 
 -- So does a frame of 13 octets behind it, of which the first four are heard, on a line for 8 octets of information.
 abbrev long : List ℕ
@@ -86,7 +88,7 @@ both = ua ++ (long ++ 0x2C ∷ 0x46 ∷ 0x7E ∷ [])
 
 long_stands : IsThere (bits both) (overlong (0x00 ∷ 0x81 ∷ 0x00 ∷ 0x04 ∷ []))
 unfolding low_bits
-long_stands = (long, refl, record { before = bits (0x7E ∷ 0x00 ∷ 0x81 ∷ 0x73 ∷ 0xC4 ∷ 0x12 ∷ []); after = []; is = refl })
+long_stands = (long, refl, record { before = bits (0x7E ∷ 0x00 ∷ 0x81 ∷ 0x73 ∷ 0xC4 ∷ 0x12 ∷ []); after = []; is = refl; late = lit< tt })
 
 both_heard : heard_in 8 both ≡ frame (0x00 ∷ 0x81 ∷ 0x73 ∷ []) ∷ overlong (0x00 ∷ 0x81 ∷ 0x00 ∷ 0x04 ∷ []) ∷ []
 unfolding low_bits

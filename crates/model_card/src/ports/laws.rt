@@ -57,8 +57,9 @@ pub fn lines_isolated()
     ensures { LinesIsolated }
 {}
 
-/// What a card hears at a line is exactly what stands in the octets that came there, from its start on (`card`). A frame
-/// is heard there that stands with its check, stuffed, between two flags, and no other (`there`, `all`). On an idle line
+/// What a card hears at a line is exactly what stands in the octets that came there, from its start on (`card`). A frame is
+/// heard there that stands with its check, stuffed, between two flags, and no other; with the octet in which its second flag
+/// ends, so that it is heard once; and an octet brings one event at most (`there`, `all`). On an idle line
 /// the octets in which a frame stands, between flags, are heard as this frame and nothing else, or, by its length, as one
 /// that is too short or overlong; those in which a fault stands are heard as what is dropped for its cause and nothing
 /// else. So a card of frames takes what a controller tells for what stood on its line.

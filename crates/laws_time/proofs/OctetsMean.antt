@@ -58,8 +58,8 @@ frame_steps (falls_due ∷ steps) t = falls_due ∷ frame_steps steps (next_octe
 says-orders : (what : port.Event) (a : port.Answer) (s : Option Answer) → SaysSo what a s → orders_of a ≡ option_map_or orders_in s []
 says-orders what a (Some (line.told t)) h = ap orders_of h
 says-orders what a (Some (line.refused why)) h = ap orders_of h
-says-orders what a (Some (line.gave None)) h = ap orders_of h.1
-says-orders what a (Some (line.gave (Some next))) h = ap orders_of h.1
+says-orders what a (Some (line.gave None)) h = ap orders_of h.2
+says-orders what a (Some (line.gave (Some next))) h = ap orders_of h.2
 says-orders (port.octet value) a None h = ap orders_of h
 says-orders (port.expiry timer) a None h = absurd h
 says-orders (port.request r) a None h = absurd h
@@ -68,8 +68,8 @@ says-orders port.pull a None h = ap orders_of h.1
 says-notes : (what : port.Event) (a : port.Answer) (s : Option Answer) → SaysSo what a s → notes_in a ≡ option_map_or notes_of s []
 says-notes what a (Some (line.told t)) h = ap notes_in h
 says-notes what a (Some (line.refused why)) h = ap notes_in h
-says-notes what a (Some (line.gave None)) h = ap notes_in h.1
-says-notes what a (Some (line.gave (Some next))) h = ap notes_in h.1
+says-notes what a (Some (line.gave None)) h = ap notes_in h.2
+says-notes what a (Some (line.gave (Some next))) h = ap notes_in h.2
 says-notes (port.octet value) a None h = ap notes_in h
 says-notes (port.expiry timer) a None h = absurd h
 says-notes (port.request r) a None h = absurd h

@@ -1,8 +1,8 @@
 -- Each event of a line is one of one of its parts, or nothing changes.
 use Rattle.laws_line.proofs.Vocabulary.{◌≡◌, ◌≢◌, ◌⊎◌, inl, inr, ℕ, ◌<◌, true, false, ◌==◌, List, [], ◌∷◌, ◌++◌, length, get_or, set, Option, Some, None, refl, sym, ap, subst, arith, append-nil, append_assoc, eq-eqb, get_or-set_other, Refusal, Service, Call, Packet, Timer, T201, Change, LinkTimer, Config, is_change_at, Aim, at_link, at_management, told_of_management, of_change, of_aim, hears}
 use Rattle.laws_line.proofs.Vocabulary.{request, next, told, nothing, at_timer, aim_of_expiry, Line, UnitData, link_number, link_count, place_at, tei_at, place_in, link_at, unless_refused_told, aim_of_heard, Request, Establish, Release, Assign, Remove, SetBusy, ClearBusy, Deactivate, at_requested, at_deactivated, aim_of_request, IsProper, heard_proper, expiry_proper, request_proper, Down}
-use Rattle.laws_line.proofs.Vocabulary.{eqb-true, T200, T203, fresh, Event, expiry, after, answer, unless_refused, refusal, Data, Check, Disown, IsSound, noted_behind, IsManaged, IsGranted, IsOfPart, line_of_link as of_link, line_of_management as of_management, of_units, of_group, of_down, of_next, SaysNothing, IsOneEvent, is_granted, BringsMessage, IsOfManagement, GivesUp, link_received, LinkEstablish}
-use Rattle.laws_line.proofs.Vocabulary.{LinkRelease, link_expired, LinkClearBusy, link_requested, LinkRequest, LinkData, link_cleared, LinkSetBusy, LinkEvent, StreamEvent, begin_here, begin_away}
+use Rattle.laws_line.proofs.Vocabulary.{eqb-true, T200, T203, fresh, Event, expiry, after, answer, unless_refused, refusal, Data, Check, IsSound, noted_behind, IsManaged, IsGranted, IsOfPart, line_of_link as of_link, line_of_management as of_management, of_units, of_group, of_down, of_next, SaysNothing, IsOneEvent, is_granted, BringsMessage, IsOfManagement, GivesUp, link_received, LinkEstablish}
+use Rattle.laws_line.proofs.Vocabulary.{LinkRelease, link_expired, LinkClearBusy, link_requested, LinkRequest, LinkData, link_cleared, LinkSetBusy, LinkEvent, StreamEvent, begin_here, begin_away, Disown}
 use Rattle.lapd_tei.specs.Events as teis
 use Rattle.lapd_tei.specs.Laws as tei_laws
 use Rattle.lapd_tei.proofs.LawLemmas as tei_lemmas

@@ -438,14 +438,15 @@ enum {
     LAPD_BUSY = 8,      /* take no I-frames on the link for now (clause 5.6.6) */
     LAPD_READY = 9,     /* take I-frames again */
     LAPD_DEACTIVATE = 10, /* the line is down: give the link up (annex B, persistent deactivation) */
-    LAPD_DOWN = 11        /* the line is down: give up what waits on it and is of no link (annex B) */
+    LAPD_DOWN = 11,       /* the line is down: give up what waits on it and is of no link (annex B) */
+    LAPD_DISOWN = 12      /* a TEI that is not on the line, or 127 for all: its terminals give it up (clause 5.3.4) */
 };
 
 /* Asks for something at a line; the contents are copied. LAPD_REFUSED_BAD_TEI to LAPD_REFUSED_CONTROL_FULL, or
- * LAPD_REFUSED_WRONG_SIDE, where it is refused. The service is LAPD_CALL or LAPD_PACKET in each, though assign, remove
- * and check are about both, and LAPD_DOWN about the line, which reads no TEI either; the length is 0 except for LAPD_DATA
- * and LAPD_UNIT. The contents lie outside of *report; where they are those of the report itself, ask by lapd_data or
- * lapd_unit. */
+ * LAPD_REFUSED_WRONG_SIDE, where it is refused. The service is LAPD_CALL or LAPD_PACKET in each, though assign, remove,
+ * check and disown are about both, and LAPD_DOWN about the line, which reads no TEI either; the length is 0 except for
+ * LAPD_DATA and LAPD_UNIT. The contents lie outside of *report; where they are those of the report itself, ask by lapd_data
+ * or lapd_unit. */
 LAPD_STATUS lapd_request(lapd_card *card, uint32_t line, uint8_t request, uint8_t service, uint8_t tei,
                          const uint8_t *contents, size_t length, lapd_report *report);
 
@@ -766,6 +767,13 @@ LAPD_INLINE_STATUS lapd_remove(lapd_card *card, uint32_t line, uint8_t tei, lapd
 /* Asks the terminals of the line who has the TEI. Of the network's side alone: LAPD_REFUSED_WRONG_SIDE. */
 LAPD_INLINE_STATUS lapd_check(lapd_card *card, uint32_t line, uint8_t tei, lapd_report *report) {
     return lapd_request_with(card, line, LAPD_CHECK, LAPD_CALL, tei, LAPD_NULL, 0, report);
+}
+
+/* Tells the terminals that still use a TEI to give it up, or with LAPD_GROUP_TEI all terminals, as after a restart of the
+ * network's side (clause 5.3.4): the TEI is not on the line, or none is, else LAPD_REFUSED_TEI_TAKEN. Nothing is told. Of the
+ * network's side alone: LAPD_REFUSED_WRONG_SIDE. */
+LAPD_INLINE_STATUS lapd_disown(lapd_card *card, uint32_t line, uint8_t tei, lapd_report *report) {
+    return lapd_request_with(card, line, LAPD_DISOWN, LAPD_CALL, tei, LAPD_NULL, 0, report);
 }
 
 /* Layer 3 can take no data of the link for now. */

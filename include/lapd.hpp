@@ -293,6 +293,7 @@ public:
     status assign(uint32_t line, uint8_t tei, report &to) { return of(lapd_assign(&card_, line, tei, to.raw())); }
     status remove(uint32_t line, uint8_t tei, report &to) { return of(lapd_remove(&card_, line, tei, to.raw())); }
     status check(uint32_t line, uint8_t tei, report &to) { return of(lapd_check(&card_, line, tei, to.raw())); }
+    status disown(uint32_t line, uint8_t tei, report &to) { return of(lapd_disown(&card_, line, tei, to.raw())); }
     status busy(uint32_t line, service by, uint8_t tei, report &to) {
         return of(lapd_busy(&card_, line, number(by), tei, to.raw()));
     }

@@ -151,6 +151,7 @@ class Request(enum.IntEnum):
     READY = 9
     DEACTIVATE = 10
     DOWN = 11
+    DISOWN = 12
 
 
 class State(enum.IntEnum):
@@ -528,6 +529,10 @@ class AnyCard(_Owner):
 
     def check(self, line: int, tei: int) -> Report:
         return self._ask(line, Request.CHECK, Service.CALL, tei)
+
+    def disown(self, line: int, tei: int) -> Report:
+        """Tells the terminals of a TEI that is not on the line, or with 127 all, to give it up."""
+        return self._ask(line, Request.DISOWN, Service.CALL, tei)
 
     def busy(self, line: int, tei: int, service: Service = Service.CALL) -> Report:
         return self._ask(line, Request.BUSY, service, tei)

@@ -1,9 +1,9 @@
 /*
  * calls.c: calls that no script makes. The links of a line, as lapd_next_link tells them, are those that lapd_state has
  * a state of, in order, from each place on; contents of a report go back with the same report, and with another one while the
- * first stays as it is; the room of a link is what it refuses contents by; the frame begun last is the one that goes; what is counted is what
- * came, went and was told; a line goes down as docs/EMBEDDING.md has it; lengths of timers that are out of range change
- * nothing; and the version is the header's. For tests alone.
+ * first stays as it is; the room of a link is what it refuses contents by; the frame begun last is the one that goes; what
+ * is counted is what came, went and was told; a line goes down, and an exchange starts, as docs/EMBEDDING.md has it; lengths
+ * of timers that are out of range change nothing; and the version is the header's. For tests alone.
  */
 #include <stdio.h>
 #include <string.h>
@@ -336,9 +336,58 @@ static void line_down(unsigned links) {
     wants(lapd_clock_free(&timers) == LAPD_OK, "a clock stays");
 }
 
+/* The next frame of a line is the network's identity remove of this TEI. */
+static void removes(uint32_t line, uint8_t tei) {
+    const uint8_t wanted[] = {0xFE, 0xFF, 0x03, 0x0F, 0x00, 0x00, 0x06, (uint8_t)(2 * tei + 1)};
+    uint8_t frame[LAPD_MOST_FRAME];
+    size_t length = 0;
+    wants(lapd_next_frame(&card, line, frame, sizeof frame, &length, &report) == LAPD_OK && length == sizeof wanted
+              && memcmp(frame, wanted, sizeof wanted) == 0, "no identity remove");
+}
+
+/* As docs/EMBEDDING.md has it. */
+static uint32_t disowns_all(const lapd_config basic) {
+    uint32_t status = LAPD_OK;
+    for (uint32_t line = 0; line < basic.lines; line++)
+        for (int times = 0; status == LAPD_OK && times < 2; times++)
+            status = carried_out(line, lapd_disown(&card, line, LAPD_GROUP_TEI, &report));
+    return status;
+}
+
+static void disowns(uint32_t line, const uint8_t *frame) {
+    if (report.cause == LAPD_TEI && frame[0] >> 2 != 63 && frame[1] >> 1 != LAPD_GROUP_TEI)
+        (void)!lapd_disown(&card, line, frame[1] >> 1, &report);
+}
+
+/* A frame that is dropped, since its TEI is on no line; whether that is disowned. */
+static void is_dropped(uint8_t first, uint8_t second, bool is_disowned) {
+    const uint8_t frame[] = {first, second, 0x7F};
+    wants(lapd_frame(&card, 0, frame, sizeof frame, &report) == LAPD_OK && report.cause == LAPD_TEI, "an unknown TEI is known");
+    disowns(0, frame);
+    if (is_disowned)
+        removes(0, second >> 1);
+}
+
+/* An exchange starts: all TEIs are disowned, twice; and then those of frames that are dropped, and no others. */
+static void exchange_starts(void) {
+    wants(lapd_card_start_frames(&card, &config) == LAPD_OK && lapd_clock_start(&timers, &config) == LAPD_OK, "no card of frames");
+    wants(disowns_all(config) == LAPD_OK, "not all are disowned");
+    for (uint32_t line = 0; line < 2 * LINES; line++)
+        removes(line / 2, LAPD_GROUP_TEI);
+    wants(lapd_assign(&card, 0, 64, &report) == LAPD_OK, "no TEI");
+    wants(disowns_all(config) == LAPD_REFUSED_TEI_TAKEN, "all are disowned while one is on the line");
+    wants(lapd_disown(&card, 0, 64, &report) == LAPD_REFUSED_TEI_TAKEN, "a TEI of the line is disowned");
+    is_dropped(0x00, 0x83, true);
+    is_dropped(0x00, 0xFF, false);
+    is_dropped(0xFC, 0x83, false);
+    wants(lapd_next_waiting(&card, 0, &(uint32_t){0}) == LAPD_NO_FRAME, "a frame waits");
+    wants(lapd_card_free(&card) == LAPD_OK && lapd_clock_free(&timers) == LAPD_OK, "the card of frames stays");
+}
+
 int main(void) {
     static const uint8_t teis[] = {0, 1, 63, 64, 65, 100, 125, 126};
     wants(lapd_version() == LAPD_VERSION, "the library has another version");
+    exchange_starts();
     wants(lapd_card_start(&card, &config) == LAPD_OK, "no card");
     wrong_calls();
     rooms_of_nobody();

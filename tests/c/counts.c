@@ -133,7 +133,7 @@ static void frame_comes(uint32_t line) {
 
 static void asks(uint32_t line) {
     static const uint8_t requests[] = {LAPD_ESTABLISH, LAPD_RELEASE, LAPD_DATA, LAPD_DATA, LAPD_DATA, LAPD_UNIT,
-        LAPD_ASSIGN, LAPD_REMOVE, LAPD_CHECK, LAPD_BUSY, LAPD_READY, LAPD_READY, LAPD_DEACTIVATE, LAPD_DOWN};
+        LAPD_ASSIGN, LAPD_REMOVE, LAPD_CHECK, LAPD_DISOWN, LAPD_BUSY, LAPD_READY, LAPD_READY, LAPD_DEACTIVATE, LAPD_DOWN};
     uint8_t request = requests[below(sizeof requests)], contents[N201 + 4] = {1, 2, 3};
     size_t length = request == LAPD_DATA || request == LAPD_UNIT ? below(sizeof contents) : 0;
     uint8_t service = below(2) ? LAPD_CALL : LAPD_PACKET;

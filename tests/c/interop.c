@@ -4,8 +4,9 @@
  * for layer 3. Octets pass between them in memory, as true HDLC, both at 16 kbit/s of real time or faster.
  *
  * It gets its TEI, comes up, calls, is called, loses frames both ways and recovers, answers an identity check, is released
- * and removed, and comes again. Each step is told; status 1 where one did not come in time. For tests alone: see
- * tests/interop.
+ * and removed, and comes again. Then the exchange starts anew, twice, and knows no TEI: as docs/EMBEDDING.md has it, all
+ * TEIs are disowned, and then that of a frame that is dropped. Each time the terminal asks for another and comes up. Each
+ * step is told; status 1 where one did not come in time. For tests alone: see tests/interop.
  */
 #define _POSIX_C_SOURCE 200809L
 
@@ -64,7 +65,7 @@ static uint64_t now;
 
 /* What has been seen so far, on either side. */
 static struct {
-    unsigned tei, assigned, up, down, errors, calls_out, calls_in, cleared;
+    unsigned tei, assigned, up, down, errors, calls_out, calls_in, cleared, disowned;
 } seen;
 
 static void tell(const lapd_report *report);
@@ -137,6 +138,17 @@ static void tell(const lapd_report *report) {
     }
 }
 
+/* The TEI of the frame that was heard last is on no line: its terminal is to give it up. */
+static void disown_heard(void) {
+    static lapd_report report;
+    lapd_head head;
+    did(lapd_heard(&card, 0, &head), "what was heard");
+    if (head.octets[0] >> 2 == 63 || head.octets[1] >> 1 == LAPD_GROUP_TEI)
+        return;
+    did(lapd_disown(&card, 0, head.octets[1] >> 1, &report), "a TEI that is disowned");
+    seen.disowned++;
+}
+
 /* Some octets each way, and the timers that fall due. */
 static void turn_card(void) {
     static lapd_report report;
@@ -158,6 +170,8 @@ static void turn_card(void) {
         if (report.cause != 0)
             printf("  dropped %s\n", lapd_cause_text(report.cause));
         tell(&report);
+        if (report.cause == LAPD_TEI && seen.disowned == 0)
+            disown_heard();
         did(lapd_pull(&card, 0, &octet, &report), "a pull");
         tell(&report);
         if (hdlc_hear(&listener, octet))
@@ -249,8 +263,17 @@ static void want_state(uint8_t wanted) {
     exit(1);
 }
 
+static const lapd_config config = {1, 8, 7, 7, 8, 4, 4, 64, 260, 3, LAPD_NETWORK};
+
+/* The exchange starts anew, and knows no TEI. */
+static void restart(void) {
+    did(lapd_clock_free(&timers), "the end of the clock");
+    did(lapd_card_free(&card), "the end of the card");
+    did(lapd_card_start(&card, &config), "another card");
+    did(lapd_clock_start(&timers, &config), "another clock");
+}
+
 int main(void) {
-    static const lapd_config config = {1, 8, 7, 7, 8, 4, 4, 64, 260, 3, LAPD_NETWORK};
     static lapd_report report;
     setvbuf(stdout, NULL, _IOLBF, 0);
     if (lapd_card_start(&card, &config) != LAPD_OK || lapd_clock_start(&timers, &config) != LAPD_OK)
@@ -293,6 +316,20 @@ int main(void) {
     want_state(0);
     step("its TEI is removed, and it asks for one again", &seen.assigned, 2, 8000);
     step("and comes up again", &seen.up, 2, 8000);
+
+    restart();
+    for (int times = 0; times < 2; times++)
+        did(lapd_disown(&card, 0, LAPD_GROUP_TEI, &report), "all TEIs are disowned");
+    step("the exchange starts anew and disowns all TEIs; the terminal asks for one", &seen.assigned, 3, 2000);
+    step("and comes up again", &seen.up, 3, 8000);
+    want_state(7);
+
+    restart();
+    call = libpri_calls(terminal);
+    step("the exchange starts anew; the terminal calls, and its TEI is disowned", &seen.disowned, 1, 2000);
+    step("it asks for one", &seen.assigned, 4, 2000);
+    step("and comes up again", &seen.up, 4, 8000);
+    want_state(7);
     printf("interop: all steps passed, %u errors noted\n", seen.errors);
     did(lapd_clock_free(&timers), "the end of the clock");
     did(lapd_card_free(&card), "the end of the card");

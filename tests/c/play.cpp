@@ -229,6 +229,7 @@ status station::asked(uint32_t line, const command &of) {
     case LAPD_ASSIGN: return any()->assign(line, tei, report_);
     case LAPD_REMOVE: return any()->remove(line, tei, report_);
     case LAPD_CHECK: return any()->check(line, tei, report_);
+    case LAPD_DISOWN: return any()->disown(line, tei, report_);
     case LAPD_BUSY: return any()->busy(line, service, tei, report_);
     case LAPD_READY: return any()->ready(line, service, tei, report_);
     default: return any()->deactivate(line, service, tei, report_);

@@ -22,8 +22,8 @@ NUMBERS: Dict[bytes, Tuple[int, int, int]] = {
     b"rx": (1, 0, MOST_NUMBER), b"in": (1, 0, MOST_NUMBER), b"pull": (2, 1, MOST_PULLS), b"next": (1, 0, MOST_NUMBER),
     b"wait": (1, 0, MOST_WAIT), b"stored": (0, 0, 0), b"counters": (1, 0, MOST_NUMBER),
     b"messages": (1, 0, MOST_NUMBER), b"down": (1, 0, MOST_NUMBER),
-    **{it: (2, 0, MOST_TEI) for it in (b"assign", b"remove", b"check", b"establish", b"release", b"busy", b"ready",
-                                       b"deactivate", b"data", b"unit", b"establish16", b"release16", b"busy16", b"ready16",
+    **{it: (2, 0, MOST_TEI) for it in (b"assign", b"remove", b"check", b"disown", b"establish", b"release", b"busy",
+                                       b"ready", b"deactivate", b"data", b"unit", b"establish16", b"release16", b"busy16", b"ready16",
                                        b"deactivate16", b"data16", b"unit16")}}
 WITH_OCTETS = {b"rx", b"in", b"data", b"unit", b"data16", b"unit16"}
 

@@ -136,9 +136,9 @@ static void line_calls(void) {
 
 static void requests(void) {
     static const uint8_t contents[16] = {0};
-    uint8_t request = (uint8_t)below(13), place = below(4) ? 0 : (uint8_t)below(256);
+    uint8_t request = (uint8_t)below(14), place = below(4) ? 0 : (uint8_t)below(256);
     size_t length = below(3) ? 0 : below(10);
-    switch (below(14)) {
+    switch (below(15)) {
     case 0: CALL(lapd_request, &card, line(), request, service(), tei(), contents, length, &report); break;
     case 1: CALL(lapd_request_with, &card, line(), request, service(), tei(), contents, length, &report); break;
     case 2: CALL(lapd_establish, &card, line(), service(), tei(), &report); break;
@@ -148,8 +148,9 @@ static void requests(void) {
     case 7: case 8: CALL(lapd_assign, &card, line(), tei(), &report); break;
     case 9: CALL(lapd_remove, &card, line(), tei(), &report); break;
     case 10: CALL(lapd_check, &card, line(), tei(), &report); break;
-    case 11: CALL(lapd_busy, &card, line(), service(), tei(), &report); break;
-    case 12: CALL(lapd_ready, &card, line(), service(), tei(), &report); break;
+    case 11: CALL(lapd_disown, &card, line(), tei(), &report); break;
+    case 12: CALL(lapd_busy, &card, line(), service(), tei(), &report); break;
+    case 13: CALL(lapd_ready, &card, line(), service(), tei(), &report); break;
     default:
         if (below(2))
             CALL(lapd_deactivate, &card, line(), service(), tei(), &report);

@@ -36,6 +36,7 @@ static const meaning meanings[] = {
     {"assign", REQUEST, LAPD_ASSIGN, LAPD_CALL, 2, false, 0, MOST_TEI},
     {"remove", REQUEST, LAPD_REMOVE, LAPD_CALL, 2, false, 0, MOST_TEI},
     {"check", REQUEST, LAPD_CHECK, LAPD_CALL, 2, false, 0, MOST_TEI},
+    {"disown", REQUEST, LAPD_DISOWN, LAPD_CALL, 2, false, 0, MOST_TEI},
     {"establish", REQUEST, LAPD_ESTABLISH, LAPD_CALL, 2, false, 0, MOST_TEI},
     {"release", REQUEST, LAPD_RELEASE, LAPD_CALL, 2, false, 0, MOST_TEI},
     {"busy", REQUEST, LAPD_BUSY, LAPD_CALL, 2, false, 0, MOST_TEI},

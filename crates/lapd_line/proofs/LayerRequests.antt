@@ -1,6 +1,7 @@
 -- Requests, and why they are refused.
 use Rattle.lapd_line.proofs.Vocabulary.{◌≡◌, ℕ, ◌+◌, ◌||◌, Bool, true, false, not, ◌≤◌, nat_lt, List, [], ◌∷◌, length, Option, Some, None, refl, sym, ap, subst, ◌∙◌, cond, arith, option_map_or, ltb-false, none-some, prefix_len, list_any, Refusal, BadTei, NoLink, WrongState, Service, serves, Terms, Places, is_on, place_of, IsAt, is_on-at, place_of-is, Config, Line, has_tei, link_of, link_in}
 use Rattle.lapd_line.proofs.Vocabulary.{place_in, terms, link_number, with_link, refusal, Establish, Release, Data, SetBusy, ClearBusy, Assign, Remove, Check, Owned, Store, Link, told_with, at_link, of_aim, told_of_link, at_requested, Marks, LinkLayer, BareReport, LayerStands, Standing, Serves, Sets, TellsOf, HasTerms, Refuses, machine_at, told_in, link_refusal, management_refusal, Deactivate}
+use Rattle.lapd_line.proofs.Vocabulary.{Disown}
 use Rattle.model_link.specs.Events as link
 use Rattle.model_link.specs.Link as machine
 use Rattle.model_link.specs.Machine as answers
@@ -46,6 +47,10 @@ remove_rows c full tei l = refl
 pub check_rows : (c : Config) (full : Bool) (tei : ℕ) (l : Line) → refusal c full (Check tei) l ≡ management_refusal c.side tei_request.Check tei l
 unfolding teis.refusal
 check_rows c full tei l = refl
+
+pub disown_rows : (c : Config) (full : Bool) (tei : ℕ) (l : Line) → refusal c full (Disown tei) l ≡ management_refusal c.side tei_request.Disown tei l
+unfolding teis.refusal
+disown_rows c full tei l = refl
 
 -- a granted request does the same, whether the pool is full or not
 pub granted_same : (t : Terms) (m : machine.Link) (full : Bool) (request : link.Request) → links.refusal t m full request ≡ None → links.refusal t m false request ≡ None

@@ -78,7 +78,7 @@ pub use Rattle.lapd_line.specs.Octets.{OctetsLead, OctetsStand, octets_config}
 pub use Rattle.lapd_line.specs.Ports.{IsLoaded, IsSaid, PortStands, latest_frame, latest_in, or_latest, with_frame}
 pub use Rattle.lapd_line.specs.Pulls.{Takes, TakesNext, orders_taken}
 pub use Rattle.lapd_line.specs.Reports.{IsClear, answer_of_request, delivered_in, gave_in, octets_of, pulled_of, report_told, told_in, told_beside, without_contents, written}
-pub use Rattle.lapd_line.specs.Requests.{event_of, link_refusal, management_refusal, may_ask}
+pub use Rattle.lapd_line.specs.Requests.{event_of, last_tei, link_refusal, management_refusal, may_ask}
 pub use Rattle.lapd_line.specs.Rounds.{IsFirstAround}
 pub use Rattle.lapd_line.specs.Stands.{Leads, LeadsIfHeard, answer_if_heard, config_of}
 pub use Rattle.lapd_line.specs.Starts.{AreBegun}

@@ -25,16 +25,25 @@ abbrev pub event_of : TeiRequest → ℕ → teis.Event
 event_of tei_request.Assign tei = teis.assign tei
 event_of tei_request.Remove tei = teis.remove tei
 event_of tei_request.Check tei = teis.check tei
+event_of tei_request.Disown tei = teis.disown tei
 
--- Each side puts a TEI on the line; the network's alone takes one off, or checks one.
+-- Each side puts a TEI on the line; the network's alone takes one off, checks one, or disowns one.
 abbrev pub may_ask : Side → TeiRequest → Bool
 may_ask side tei_request.Assign = true
 may_ask side tei_request.Remove = has_management side
 may_ask side tei_request.Check = has_management side
+may_ask side tei_request.Disown = has_management side
 
--- The side has to be the right one, and the TEI one of a terminal; then TEI management refuses, or not.
+-- The greatest TEI that may be named: that of a terminal, or all of them where they are disowned.
+abbrev pub last_tei : TeiRequest → ℕ
+last_tei tei_request.Assign = 126
+last_tei tei_request.Remove = 126
+last_tei tei_request.Check = 126
+last_tei tei_request.Disown = 127
+
+-- The side has to be the right one, and the TEI one that may be named; then TEI management refuses, or not.
 abbrev pub management_refusal : Side → TeiRequest → ℕ → Line → Option Refusal
 management_refusal side asked tei l =
     if not (may_ask side asked) then Some WrongSide
-    else if nat_lt 126 tei then Some BadTei
+    else if nat_lt (last_tei asked) tei then Some BadTei
     else teis.refusal (event_of asked tei) l.management

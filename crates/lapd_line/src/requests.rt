@@ -1,7 +1,7 @@
 //! What layer 3 and management ask for.
 
 ghost use Rattle.std.specs.Prelude.{◌≡◌, ◌≤◌, ◌==◌, ◌||◌, ℕ, false, List, [], length, Some, None, IfOk, IfErr, OnOk, OnErr, nat_le};
-ghost use Rattle.lapd_line.specs.{Service, Owned, Store, used_slots, told_of, IsShort, is_on, Line, at_management, at_units, refusal, request_of, aim_of_request, at_deactivated, at_requested, last_unit_tei, event_of, link_refusal, management_refusal, may_ask, Standing, Serves, always, IsClear};
+ghost use Rattle.lapd_line.specs.{Service, Owned, Store, used_slots, told_of, IsShort, is_on, Line, at_management, at_units, refusal, request_of, aim_of_request, at_deactivated, at_requested, last_unit_tei, event_of, link_refusal, management_refusal, may_ask, last_tei, Standing, Serves, always, IsClear};
 ghost use Rattle.lapd_tei.specs.Events as teis;
 ghost use Rattle.lapd_tei.specs.Laws.{IsInRange};
 ghost use Rattle.model_line.specs.Line as machine;
@@ -22,6 +22,7 @@ enum TeiRequest {
     Assign,
     Remove,
     Check,
+    Disown,
 }
 
 /// The greatest TEI to which a side sends unit data: the network's to the group, the user's to no more than a terminal's.
@@ -41,13 +42,23 @@ impl TeiRequest {
     {
         match self {
             TeiRequest::Assign => true,
-            TeiRequest::Remove | TeiRequest::Check => has_management(side),
+            TeiRequest::Remove | TeiRequest::Check | TeiRequest::Disown => has_management(side),
+        }
+    }
+
+    /// The greatest TEI that it may name: that of a terminal, or 127 for all of them.
+    fn last_tei(self) -> u8
+        ensures { result ≡ last_tei self }
+    {
+        match self {
+            TeiRequest::Assign | TeiRequest::Remove | TeiRequest::Check => LAST_TEI,
+            TeiRequest::Disown => GROUP,
         }
     }
 
     /// Asks it of TEI management.
     fn put(self, tei: u8, table: &mut Teis) -> Result<TeiOutcome, Refusal>
-        requires { tei ≤ 126 }
+        requires { tei ≤ last_tei self }
         ensures range { IsInRange (event_of self tei) }
         ensures told { IfOk result (λ outcome. told_of outcome ≡ teis.told (event_of self tei) table.old) }
         ensures accepted { OnOk result (teis.refusal (event_of self tei) table.old ≡ None) }
@@ -60,6 +71,7 @@ impl TeiRequest {
             TeiRequest::Assign => table.assign(tei),
             TeiRequest::Remove => table.remove(tei),
             TeiRequest::Check => table.check(tei),
+            TeiRequest::Disown => table.disown(tei),
         }
     }
 }
@@ -96,6 +108,7 @@ impl LinkLayer {
             Request::Assign(tei) => return self.manage(TeiRequest::Assign, tei, report, shelf),
             Request::Remove(tei) => return self.manage(TeiRequest::Remove, tei, report, shelf),
             Request::Check(tei) => return self.manage(TeiRequest::Check, tei, report, shelf),
+            Request::Disown(tei) => return self.manage(TeiRequest::Disown, tei, report, shelf),
             Request::Establish(service, tei) => (service, tei, LinkRequest::Establish),
             Request::Release(service, tei) => (service, tei, LinkRequest::Release),
             Request::Data(service, tei, contents) => (service, tei, LinkRequest::Data(contents)),
@@ -204,7 +217,7 @@ impl LinkLayer {
         if !asked.is_for(self.config.side) {
             return Err(Refusal::WrongSide);
         }
-        if tei > LAST_TEI {
+        if tei > asked.last_tei() {
             return Err(Refusal::BadTei);
         }
         match asked.put(tei, &mut self.teis) {

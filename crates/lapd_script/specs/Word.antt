@@ -2,7 +2,7 @@
 use Rattle.std.specs.Prelude.{ℕ, Bool, true, false, if◌then◌else◌, List, codes, bytes_eq, Option, Some, None, option_map}
 use Rattle.lapd_frame.specs.declared.services.Service.TheVariants.{Call, Packet}
 use Rattle.lapd_script.specs.declared.command.Asked.{Asked}
-use Rattle.lapd_script.specs.declared.command.Asked.TheVariants.{Assign, Remove, Check, Establish, Release, SetBusy, ClearBusy, Deactivate, Data, Unit}
+use Rattle.lapd_script.specs.declared.command.Asked.TheVariants.{Assign, Remove, Check, Disown, Establish, Release, SetBusy, ClearBusy, Deactivate, Data, Unit}
 use Rattle.lapd_script.specs.declared.command.CardKind.TheVariants.{Octets, Frames}
 use Rattle.lapd_transcript.specs.declared.counters.CounterGroup.TheVariants.{Line, Messages}
 use Rattle.lapd_script.specs.declared.word.Word.{Word}
@@ -14,6 +14,7 @@ asked_named name =
     if bytes_eq name (codes "assign") then Some Assign
     else if bytes_eq name (codes "remove") then Some Remove
     else if bytes_eq name (codes "check") then Some Check
+    else if bytes_eq name (codes "disown") then Some Disown
     else if bytes_eq name (codes "establish") then Some (Establish Call)
     else if bytes_eq name (codes "establish16") then Some (Establish Packet)
     else if bytes_eq name (codes "release") then Some (Release Call)

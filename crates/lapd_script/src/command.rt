@@ -13,6 +13,8 @@ pub enum Asked {
     Remove,
     /// `check`: asks the terminals of the line who has it.
     Check,
+    /// `disown`: tells its terminals, or all of them, to give up a TEI that is not on the line.
+    Disown,
     /// `establish`, `establish16`: the link's establishment.
     Establish(Service),
     /// `release`, `release16`: its release.

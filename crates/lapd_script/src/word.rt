@@ -57,6 +57,7 @@ impl Asked {
             _ if name == b"assign".as_slice() => Some(Asked::Assign),
             _ if name == b"remove".as_slice() => Some(Asked::Remove),
             _ if name == b"check".as_slice() => Some(Asked::Check),
+            _ if name == b"disown".as_slice() => Some(Asked::Disown),
             _ if name == b"establish".as_slice() => Some(Asked::Establish(Service::Call)),
             _ if name == b"establish16".as_slice() => Some(Asked::Establish(Service::Packet)),
             _ if name == b"release".as_slice() => Some(Asked::Release(Service::Call)),

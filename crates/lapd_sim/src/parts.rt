@@ -82,6 +82,7 @@ pub(crate) fn request_for(what: Asked, tei: u8, octets: &[u8]) -> Request<'_>
         Asked::Assign => Request::Assign(tei),
         Asked::Remove => Request::Remove(tei),
         Asked::Check => Request::Check(tei),
+        Asked::Disown => Request::Disown(tei),
         Asked::Establish(service) => Request::Establish(service, tei),
         Asked::Release(service) => Request::Release(service, tei),
         Asked::SetBusy(service) => Request::SetBusy(service, tei),

@@ -60,6 +60,7 @@ ways e m = record {
   joins = λ tei place is off at. quiet m _ refl (omega arith) refl (omega arith) (omega arith) refl;
   leaves_checked = λ tei on. sends (IdentityRemove tei) m _ refl refl refl (omega arith) (omega arith) refl;
   leaves = λ tei on other. sends (IdentityRemove tei) m _ refl refl refl (omega arith) (omega arith) refl;
+  disowns = λ tei is. sends (IdentityRemove tei) m _ refl refl refl (omega arith) (omega arith) refl;
   gives_up = λ is. none_waits m _ refl refl refl (omega arith) (omega arith) refl;
   gives_up_checked = λ own is. none_waits m _ refl refl refl (omega arith) (omega arith) refl;
 }

@@ -12,3 +12,4 @@ pub mod LawLemmas
 pub mod Brief
 pub mod Followed
 pub mod GivenUp
+pub mod Disowned

@@ -86,6 +86,7 @@ module _ (m : Management) (sound : IsSound m) where
     joins = λ tei place is off at. comes tei place _ _ _ refl off at (subst IsInRange is range) (memory-put m.places m.remembered place tei at sound.memory) sound.queue;
     leaves_checked = λ tei on. goes tei None _ _ refl tt (sent (IdentityRemove tei) (low tei on));
     leaves = λ tei on other. goes tei m.check _ _ refl (check-freed m.places m.check tei other sound.checked) (sent (IdentityRemove tei) (low tei on));
+    disowns = λ tei is. stays m.check _ _ refl sound.checked (sent (IdentityRemove tei) (subst IsInRange is range));
     gives_up = λ is. stays m.check [] _ refl sound.checked queue-empty;
     gives_up_checked = λ own is. stays None [] _ refl tt queue-empty;
   }

@@ -1,5 +1,5 @@
 -- Every event ends in one of a few ways: the rows of the table are walked once, for any claim.
-use Rattle.lapd_tei.proofs.Vocabulary.{arith, ◌≡◌, ℕ, ◌&&◌, nat_le, Bool, true, false, cond, is_some, Option, Some, None, refl, none-some, Refusal, Heard, IdentityAssigned, IdentityDenied, IdentityRemove, is_on, free_place, free_tei, Management, Check, Period, First, Course, Step, begun, leave, check_is, begin_check, end_check, lose_one, send, unserved, assign, assign_new, remembered_in, counted, responses, doubled, respond, serve, expire, expire_period, expire_check, removed, join_at, is_checked, take_off, withdraw, Event, remove, refusal_if, refusal, unless_refused, course}
+use Rattle.lapd_tei.proofs.Vocabulary.{arith, ◌≡◌, ℕ, ◌&&◌, nat_le, Bool, true, false, cond, is_some, Option, Some, None, refl, none-some, Refusal, Heard, IdentityAssigned, IdentityDenied, IdentityRemove, is_on, free_place, free_tei, Management, Check, Period, First, Course, Step, begun, leave, check_is, begin_check, end_check, lose_one, send, unserved, assign, assign_new, remembered_in, counted, responses, doubled, respond, serve, expire, expire_period, expire_check, removed, join_at, is_checked, take_off, withdraw, Event, remove, disown, refusal_if, refusal, unless_refused, course}
 use Rattle.lapd_tei.specs.Events.{assign as assigning}
 use Rattle.lapd_tei.proofs.Tables.{same_number, not_not}
 
@@ -30,6 +30,7 @@ pub record OfEvents (e : Event) (m : Management) (E : Course → Type 0) : Type 
   pub joins : (tei place : ℕ) → e ≡ assigning tei → is_on tei m.places ≡ false → free_place m.places ≡ Some place → E (join_at tei (Some place) (begun m))
   pub leaves_checked : (tei : ℕ) → is_on tei m.places ≡ true → E (leave tei (end_check (send (IdentityRemove tei) (begun m))))
   pub leaves : (tei : ℕ) → is_on tei m.places ≡ true → is_checked tei m.check ≡ false → E (leave tei (send (IdentityRemove tei) (begun m)))
+  pub disowns : (tei : ℕ) → e ≡ disown tei → E (send (IdentityRemove tei) (begun m))
   pub gives_up : m.check ≡ None → E (withdraw (begun m))
   pub gives_up_checked : (own : Check) → m.check ≡ Some own → E (end_check (withdraw (begun m)))
 

@@ -4,19 +4,20 @@ use Rattle.lapd_frame.specs.declared.addresses.Side.{Side}
 use Rattle.lapd_frame.specs.declared.refusals.Refusal.{Refusal}
 use Rattle.lapd_frame.specs.declared.refusals.Refusal.TheVariants.{NoLink, TeiTaken, TableFull, CheckRunning, ControlFull}
 use Rattle.lapd_tei.specs.Messages.{heard_in, frame_of}
-use Rattle.lapd_tei.specs.Table.{is_on, free_place}
+use Rattle.lapd_tei.specs.Table.{is_on, is_in_use, free_place}
 use Rattle.lapd_tei.specs.Machine.{Management, TeiTold}
 use Rattle.lapd_tei.specs.Words.{Course, begun, Step, no_room, begin_check}
-use Rattle.lapd_tei.specs.Rows.{serve, expire, put_on, take_off, give_up}
+use Rattle.lapd_tei.specs.Rows.{serve, expire, put_on, take_off, disown as send_away, give_up}
 
 -- The information of a UI frame of SAPI 63 to the group TEI; the expiry of T201; the requests of layer management, of a
--- TEI of at most 126; and that the line is down.
+-- TEI of at most 126, or to disown one of at most 127; and that the line is down.
 pub data Event : Type 0 where
   message : List ℕ → Event
   expiry : Event
   assign : ℕ → Event
   remove : ℕ → Event
   check : ℕ → Event
+  disown : ℕ → Event
   down : Event
 
 -- Why a request is refused: the first that holds (profile).
@@ -30,6 +31,7 @@ refusal (assign tei) m = refusal_if (is_on tei m.places) TeiTaken (refusal_if (n
 refusal (remove tei) m = refusal_if (not (is_on tei m.places)) NoLink (refusal_if (no_room m.waiting) ControlFull None)
 refusal (check tei) m =
     refusal_if (not (is_on tei m.places)) NoLink (refusal_if (is_some m.check) CheckRunning (refusal_if (no_room m.waiting) ControlFull None))
+refusal (disown tei) m = refusal_if (is_in_use tei m.places) TeiTaken (refusal_if (no_room m.waiting) ControlFull None)
 refusal down m = None
 
 -- What an event does that is not refused.
@@ -39,6 +41,7 @@ step expiry = expire
 step (assign tei) = put_on tei
 step (remove tei) = take_off tei
 step (check tei) = begin_check tei
+step (disown tei) = send_away tei
 step down = give_up
 
 -- What an event leaves, and what is told of it. A refused request changes nothing.

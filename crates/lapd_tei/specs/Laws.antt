@@ -4,20 +4,21 @@ use Rattle.lapd_frame.specs.declared.addresses.Side.{Side}
 use Rattle.lapd_frame.specs.declared.timers.Order.{Order}
 use Rattle.lapd_frame.specs.declared.timers.Order.TheVariants.{Start, Stop}
 use Rattle.lapd_frame.specs.declared.timers.Timer.TheVariants.{T201}
-use Rattle.lapd_tei.specs.Table.{Places, is_on, free_place, free_tei}
-use Rattle.lapd_tei.specs.Messages.{IdentityAssigned, IdentityRequest, heard_in}
+use Rattle.lapd_tei.specs.Table.{Places, is_on, is_in_use, free_place, free_tei}
+use Rattle.lapd_tei.specs.Messages.{IdentityAssigned, IdentityRemove, IdentityRequest, heard_in}
 use Rattle.lapd_tei.specs.Machine.{Management, Check, empty, may_send, messages_limit, nothing, Change, Gained, Left}
 use Rattle.lapd_tei.specs.Rows.{remembered_in}
-use Rattle.lapd_tei.specs.Events.{Event, message, expiry, assign, remove, check, down, after, told, offered, after_offer}
+use Rattle.lapd_tei.specs.Events.{Event, refusal, message, expiry, assign, remove, check, disown, down, after, told, offered, after_offer}
 use Rattle.lapd_tei.specs.Sound.{IsAt, IsSound}
 
--- A request names a TEI that a terminal can have.
+-- A request names a TEI that a terminal can have, or all TEIs where these are disowned.
 abbrev pub IsInRange : Event → Type 0
 IsInRange (message octets) = Unit {0}
 IsInRange expiry = Unit {0}
 IsInRange (assign tei) = tei ≤ 126
 IsInRange (remove tei) = tei ≤ 126
 IsInRange (check tei) = tei ≤ 126
+IsInRange (disown tei) = tei ≤ 127
 IsInRange down = Unit {0}
 
 -- Events and pulls, in any order.
@@ -149,3 +150,18 @@ pub record IsGivenUp (m : Management) : Type 0 where
 
 abbrev pub DownGivesUp : Type 0
 DownGivesUp = (m : Management) → IsGivenUp m
+
+-- A TEI that is not in use is disowned: an identity remove of it waits behind the other messages, nothing else changes, and
+-- nothing is told. One that is in use never is.
+pub record IsDisowned (tei : ℕ) (m : Management) : Type 0 where
+  pub after : after (disown tei) m ≡ record m { waiting = m.waiting ++ IdentityRemove tei ∷ [] }
+  pub told : told (disown tei) m ≡ nothing
+
+abbrev pub DisownSendsRemove : Type 0
+DisownSendsRemove = (tei : ℕ) (m : Management) → refusal (disown tei) m ≡ None → IsDisowned tei m
+
+abbrev pub DisownSpares : Type 0
+DisownSpares = (tei : ℕ) (m : Management) → is_on tei m.places ≡ true → IsSome (refusal (disown tei) m)
+
+abbrev pub DisownAllSpares : Type 0
+DisownAllSpares = (tei : ℕ) (m : Management) → is_on tei m.places ≡ true → IsSome (refusal (disown 127) m)

@@ -119,6 +119,11 @@ end_check_of tei c = (if is_checked tei c.now.check then end_check else nothing_
 abbrev pub take_off : ℕ → Step
 take_off tei = send (IdentityRemove tei) then end_check_of tei then leave tei
 
+-- A request to disown a TEI that is not on the line (clause 5.3.4): a terminal that still uses it is told to give it up, or
+-- each terminal, where the request is for all TEIs, 127. The network has nothing of it that could change.
+abbrev pub disown : ℕ → Step
+disown tei = send (IdentityRemove tei)
+
 -- The line is down (persistent deactivation, annex B): the messages that wait are given up, and a check that runs ends
 -- without a result. The TEIs stay on the line, and nothing is told (profile).
 abbrev pub end_if_any : Option Check → Step

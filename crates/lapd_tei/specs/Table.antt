@@ -1,5 +1,5 @@
 -- The TEIs of a line, each at a place of a table.
-use Rattle.std.specs.Prelude.{ℕ, Bool, true, false, not, ◌==◌, List, Option, Some, None}
+use Rattle.std.specs.Prelude.{ℕ, Bool, true, false, not, ◌==◌, ◌||◌, List, Option, Some, None}
 use Rattle.std.specs.List.{find, position, list_any, range_with_len}
 
 -- the TEI at each place, `None` where the place is free
@@ -17,6 +17,14 @@ has tei (Some own) = own == tei
 
 abbrev pub is_on : ℕ → Places → Bool
 is_on tei places = list_any (has tei) places
+
+-- A TEI is in use while it is on the line; 127, which means all TEIs, while any is (clause 5.3.4).
+abbrev pub means : ℕ → Option ℕ → Bool
+means tei None = false
+means tei (Some own) = tei == 127 || own == tei
+
+abbrev pub is_in_use : ℕ → Places → Bool
+is_in_use tei places = list_any (means tei) places
 
 -- the place of a TEI, `None` where it is not on the line
 abbrev pub place_of : ℕ → Places → Option ℕ

@@ -1,17 +1,16 @@
 //! What holds of the table of TEI management itself.
 
-ghost use Rattle.lapd_tei.specs.Laws.{IsSoundThroughout, ChangesAreTold, LowestIsAssigned, NewIsAssigned, OneIsFree, OneMoreWaits, OneIsLost, OneFewerWaits, UnservedChangesNothing, T201Follows, ExpiredT201Follows, DownGivesUp};
+ghost use Rattle.lapd_tei.specs.Laws.{IsSoundThroughout, ChangesAreTold, LowestIsAssigned, NewIsAssigned, OneIsFree, OneMoreWaits, OneIsLost, OneFewerWaits, UnservedChangesNothing, T201Follows, ExpiredT201Follows, DownGivesUp, DisownSendsRemove, DisownSpares, DisownAllSpares};
 
-/// From the empty table on, after any events and pulls whose requests name TEIs of at most 126: no TEI
-/// and no Ri stands twice, each TEI is at most 126, at most four assignments are remembered, each of a
-/// TEI that is on the line, at most four messages wait, each with an Ai of at most 127, and a check is
-/// of a TEI that is on the line and has at most one response in each period. This is a law about the
-/// definitions in `specs/`; the call does nothing.
+/// From the empty table on, after any events and pulls whose requests name TEIs of at most 126, or disown one of at most
+/// 127: no TEI and no Ri stands twice, each TEI is at most 126, at most four assignments are remembered, each of a TEI that
+/// is on the line, at most four messages wait, each with an Ai of at most 127, and a check is of a TEI that is on the line
+/// and has at most one response in each period. This is a law about the definitions in `specs/`; the call does nothing.
 pub fn sound_throughout()
     ensures { IsSoundThroughout }
 {}
 
-/// In sound management, and for events whose requests name TEIs of at most 126: the change that is told
+/// In sound management, and for events whose requests name TEIs of that range: the change that is told
 /// of an event is the change of the table, and a TEI that came was not on the line and took the lowest
 /// free place. A law about the definitions in `specs/`; the call does nothing.
 #[tactic(auto, using(crate::proofs::LawLemmas::changes_are_told))]
@@ -61,4 +60,13 @@ pub fn orders_follow_the_check()
 #[tactic(auto, using(crate::proofs::GivenUp::down_gives_up))]
 pub fn down_gives_up()
     ensures { DownGivesUp }
+{}
+
+/// A TEI that is not in use is disowned (Q.921 clause 5.3.4): an identity remove of it waits behind the other messages,
+/// nothing else changes, and nothing is told. One that is on the line is never disowned, and while any is, all are not. A law
+/// about the definitions in `specs/`; the call does nothing.
+pub fn disowned_is_nobodys()
+    ensures sends { DisownSendsRemove }
+    ensures spares { DisownSpares }
+    ensures spares_all { DisownAllSpares }
 {}

@@ -33,8 +33,8 @@ mod teis;
 pub use check::{Check, Period};
 pub use fault::StartFault;
 pub use laws::{
-    changes_are_told, down_gives_up, lowest_is_assigned, one_more_waits, orders_follow_the_check,
-    sound_throughout, unserved_changes_nothing,
+    changes_are_told, disowned_is_nobodys, down_gives_up, lowest_is_assigned, one_more_waits,
+    orders_follow_the_check, sound_throughout, unserved_changes_nothing,
 };
 pub use messages::Message;
 pub use outcome::{Change, TeiOutcome};

@@ -1,7 +1,7 @@
 //! The table of the TEIs of a line.
 
 ghost use Rattle.std.specs.Prelude.{◌≡◌, ◌<◌, ◌≤◌, Some, None, length, replicate, set, IfSome};
-ghost use Rattle.lapd_tei.specs.{Places, is_on, place_of, free_place, free_tei, freed};
+ghost use Rattle.lapd_tei.specs.{Places, is_on, is_in_use, place_of, free_place, free_tei, freed};
 
 use arrayvec::ArrayVec;
 use lapd_frame::GROUP;
@@ -42,6 +42,16 @@ impl Table {
         ensures { result ≡ is_on tei self.now }
     {
         self.places.as_slice().iter().any(|own| *own == Some(tei))
+    }
+
+    /// Whether the TEI is on the line, or any TEI where it is 127, which means all.
+    pub fn is_in_use(&self, tei: u8) -> bool
+        ensures { result ≡ is_in_use tei self.now }
+    {
+        self.places
+            .as_slice()
+            .iter()
+            .any(|own| own.is_some_and(|own| tei == GROUP || own == tei))
     }
 
     /// The place of a TEI.

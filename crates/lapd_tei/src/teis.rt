@@ -1,7 +1,7 @@
 //! TEI management of one line.
 
 ghost use Rattle.std.specs.Prelude.{◌≡◌, ◌≤◌, ◌<◌, true, Some, None, length, option_map, slice_get, is_some, false, IfOk, IfErr, IfSome, OnOk, OnErr};
-ghost use Rattle.lapd_tei.specs.{type_of, empty, place, held, is_on, begun, leave, left, request, take_off, is_checked, message, expiry, assign, remove, check, down, refusal, after, told, offered, after_offer, told_of, led_to, IsShort};
+ghost use Rattle.lapd_tei.specs.{type_of, empty, place, held, is_on, begun, leave, left, request, take_off, is_checked, message, expiry, assign, remove, check, disown, down, refusal, after, told, offered, after_offer, told_of, led_to, IsShort};
 ghost use Rattle.lapd_frame.specs.declared.addresses.Side.{Side as Spelt};
 
 mod checks;
@@ -163,6 +163,31 @@ impl Teis {
             return Err(Refusal::ControlFull);
         }
         Ok(self.begin_check(tei))
+    }
+
+    /// Disowns a TEI that is not on the line, at most 126, or 127 for all TEIs (Q.921 clause 5.3.4): the terminals that still
+    /// use it are told to give it up. Nothing else changes.
+    ///
+    /// # Errors
+    ///
+    /// `TeiTaken` where it is on the line, or any TEI is where it is 127; else `ControlFull` where no message more may wait.
+    pub fn disown(&mut self, tei: u8) -> Result<TeiOutcome, Refusal>
+        requires { tei ≤ 127 }
+        ensures told { IfOk result (λ outcome. told_of outcome ≡ told (disown tei) self.old) }
+        ensures accepted { OnOk result (refusal (disown tei) self.old ≡ None) }
+        ensures refused { IfErr result (λ why. refusal (disown tei) self.old ≡ Some why) }
+        ensures after { self.new ≡ after (disown tei) self.old }
+        ensures short { IfOk result IsShort }
+        ensures unchanged { OnErr result (self.new ≡ self.old) }
+    {
+        if self.table.is_in_use(tei) {
+            return Err(Refusal::TeiTaken);
+        }
+        if self.queue.is_full() {
+            return Err(Refusal::ControlFull);
+        }
+        self.queue.send(Message::IdentityRemove { tei });
+        Ok(TeiOutcome::nothing())
     }
 
     /// The line is down (Q.921 annex B, persistent deactivation): the messages that wait are given up, and a check that runs

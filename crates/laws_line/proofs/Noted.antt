@@ -1,7 +1,7 @@
 -- All that an answer notes: each event of a line.
 use Rattle.laws_line.proofs.Vocabulary.{◌≡◌, ℕ, false, List, [], Option, Some, None, refl, ap, subst, arith, inl, inr, next_walk, option_map_or, get_or-set_same, get_or-set_other, Note, Refusal, Service, Timer, Terms, LinkTimer, Link, told_cleared, event-follows, Change, at-within, Config, hears, request, next, Answer, told, Aim, at_link, at_management, told_of_management, of_change, of_aim}
 use Rattle.laws_line.proofs.Vocabulary.{at_timer, aim_of_expiry, Line, place_in, link_in, unless_refused_told, aim_of_heard, Taken, taken, line_of, Request, Establish, Release, Assign, Remove, SetBusy, ClearBusy, Deactivate, at_requested, at_deactivated, aim_of_request, IsProper, number_within, heard_proper, expiry_proper, request_proper, Down, Event, expiry, after, answer, unless_refused}
-use Rattle.laws_line.proofs.Vocabulary.{refusal, Data, Unit, Check, IsSound, notes_of, noted_coming, noted_leaving, NotesItsOwn, link_received, LinkEstablish, LinkRelease, link_expired, LinkClearBusy, link_requested, LinkRequest, LinkData, link_cleared, LinkSetBusy, LinkEvent, link_told, StreamEvent, message, tei_told, check, tei_after, remove, assigning, TeiEvent}
+use Rattle.laws_line.proofs.Vocabulary.{refusal, Data, Unit, Check, Disown, IsSound, notes_of, noted_coming, noted_leaving, NotesItsOwn, link_received, LinkEstablish, LinkRelease, link_expired, LinkClearBusy, link_requested, LinkRequest, LinkData, link_cleared, LinkSetBusy, LinkEvent, link_told, StreamEvent, message, tei_told, check, disown, tei_after, remove, assigning, TeiEvent}
 use Rattle.lapd_tei.specs.Laws as tei_laws
 use Rattle.lapd_tei.proofs.LawLemmas as tei_lemmas
 use Rattle.laws_line.proofs.GroupAims.{heard-aims-at}
@@ -90,6 +90,7 @@ module _ (c : Config) (l : Line) (s : IsSound c l) where
   request-noted (Assign tei) proper by = managed c l s (request (Assign tei)) (assigning tei) proper (λ t ns is. is.1) (λ t ns is. absurd is)
   request-noted (Remove tei) proper by = managed c l s (request (Remove tei)) (remove tei) proper (λ t ns is. absurd is) (λ t ns is. is.1)
   request-noted (Check tei) proper by = managed c l s (request (Check tei)) (check tei) proper (λ t ns is. absurd is) (λ t ns is. absurd is)
+  request-noted (Disown tei) proper by = managed c l s (request (Disown tei)) (disown tei) proper (λ t ns is. absurd is) (λ t ns is. absurd is)
   request-noted Down proper by = by-down c l (λ f. NotesItsOwn c (request Down) l f.line (told f.told)) (nothing-noted c l s (request Down) _ _ refl refl)
 
 -- A call for the next frame notes nothing, and no TEI comes or leaves by it.

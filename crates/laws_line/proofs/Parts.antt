@@ -2,7 +2,7 @@
 use Rattle.laws_line.proofs.Vocabulary.{◌≡◌, ◌≢◌, ◌⊎◌, inl, inr, ℕ, ◌<◌, true, false, ◌==◌, List, [], ◌∷◌, ◌++◌, length, get_or, set, Option, Some, None, refl, sym, ap, subst, arith, append-nil, append_assoc, eq-eqb, get_or-set_other, Refusal, Service, Call, Packet, Timer, T201, Change, LinkTimer, Config, is_change_at, Aim, at_link, at_management, told_of_management, of_change, of_aim, hears}
 use Rattle.laws_line.proofs.Vocabulary.{request, next, told, nothing, at_timer, aim_of_expiry, Line, UnitData, link_number, link_count, place_at, tei_at, place_in, link_at, unless_refused_told, aim_of_heard, Request, Establish, Release, Assign, Remove, SetBusy, ClearBusy, Deactivate, at_requested, at_deactivated, aim_of_request, IsProper, heard_proper, expiry_proper, request_proper, Down}
 use Rattle.laws_line.proofs.Vocabulary.{eqb-true, T200, T203, fresh, Event, expiry, after, answer, unless_refused, refusal, Data, Check, IsSound, noted_behind, IsManaged, IsGranted, IsOfPart, line_of_link as of_link, line_of_management as of_management, of_units, of_group, of_down, of_next, SaysNothing, IsOneEvent, is_granted, BringsMessage, IsOfManagement, GivesUp, link_received, LinkEstablish}
-use Rattle.laws_line.proofs.Vocabulary.{LinkRelease, link_expired, LinkClearBusy, link_requested, LinkRequest, LinkData, link_cleared, LinkSetBusy, LinkEvent, StreamEvent, begin_here, begin_away}
+use Rattle.laws_line.proofs.Vocabulary.{LinkRelease, link_expired, LinkClearBusy, link_requested, LinkRequest, LinkData, link_cleared, LinkSetBusy, LinkEvent, StreamEvent, begin_here, begin_away, Disown}
 use Rattle.lapd_tei.specs.Events as teis
 use Rattle.lapd_tei.specs.Laws as tei_laws
 use Rattle.lapd_tei.proofs.LawLemmas as tei_lemmas
@@ -64,7 +64,7 @@ module _ (c : Config) (l : Line) (s : IsSound c l) where
   unfolding after answer
   by-request r me o aim none = grind (arith, managed)
 
-  -- a request that is granted is of a TEI of at most 126
+  -- a request that is granted is of a TEI in range
   in-range : (r : Request) (me : teis.Event) → aim_of_request r l ≡ at_management me → refusal c false r l ≡ None → tei_laws.IsInRange me
   in-range r me aim none = grind (arith, request_proper)
 
@@ -81,6 +81,7 @@ module _ (c : Config) (l : Line) (s : IsSound c l) where
   is-managed e (teis.assign tei) by = asked e (Assign tei) (teis.assign tei) refl by
   is-managed e (teis.remove tei) by = asked e (Remove tei) (teis.remove tei) refl by
   is-managed e (teis.check tei) by = asked e (Check tei) (teis.check tei) refl by
+  is-managed e (teis.disown tei) by = asked e (Disown tei) (teis.disown tei) refl by
   is-managed e teis.down by = absurd by
 
   -- Unit data that is granted.
@@ -153,6 +154,7 @@ module _ (c : Config) (l : Line) (s : IsSound c l) where
   request-falls (Assign tei) = λ proper by. inl (of_management (teis.assign tei) (refl, refl))
   request-falls (Remove tei) = λ proper by. inl (of_management (teis.remove tei) (refl, refl))
   request-falls (Check tei) = λ proper by. inl (of_management (teis.check tei) (refl, refl))
+  request-falls (Disown tei) = λ proper by. inl (of_management (teis.disown tei) (refl, refl))
   request-falls Down = λ proper by. inl (of_down refl)
 
   pub falls : (e : Event) → IsOfPart c l e (answer c e l) ⊎ ((after c e l ≡ l) × SaysNothing (answer c e l))

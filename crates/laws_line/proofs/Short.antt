@@ -1,7 +1,7 @@
 -- An answer has at most four notes and four orders.
 use Rattle.laws_line.proofs.Vocabulary.{ℕ, ◌≤◌, false, List, [], ◌∷◌, ◌++◌, length, Option, Some, None, IfSome, arith, length-append, Refusal, Service, Timer, T201, event-tells, cleared-tells, two-orders, cleared-orders, Change, Config, hears, request, next, LineTold, gave, aim_of_expiry, notes_in, orders_in, Line, terms_at, unless_refused_told, aim_of_heard, told_of_management, of_link}
 use Rattle.laws_line.proofs.Vocabulary.{of_change, of_management, of_aim, Taken, first_taken, taken, next_of, Request, Establish, Release, Assign, Remove, SetBusy, ClearBusy, Deactivate, aim_of_request, IsBrief, told_brief, heard_aims, expiry_starts, Down, without_units, option_map, T200, T203, Event, expiry, AnswersAreShort, answer, unless_refused, refusal, Data, Unit, Check, link_received}
-use Rattle.laws_line.proofs.Vocabulary.{LinkEvent, StreamEvent, down, message, tei_told, check, tei_after, remove, assigning, tei_expiry, TeiEvent}
+use Rattle.laws_line.proofs.Vocabulary.{LinkEvent, StreamEvent, down, message, tei_told, check, disown, tei_after, remove, assigning, tei_expiry, TeiEvent, Disown}
 use Rattle.lapd_tei.specs.Machine as tei
 
 record IsShort (t : LineTold) : Type 0 where
@@ -43,6 +43,7 @@ module _ (c : Config) where
   request_short l (Assign n) = management_short (assigning n) l
   request_short l (Remove n) = management_short (remove n) l
   request_short l (Check n) = management_short (check n) l
+  request_short l (Disown n) = management_short (disown n) l
   request_short l (SetBusy service n) = grind (arith, link_short)
   request_short l (ClearBusy service n) = grind (arith, link_short)
   request_short l (Deactivate service n) = grind (arith, link_short)

@@ -1,7 +1,7 @@
 -- Contents that an answer hands on are noted once.
 use Rattle.laws_line.proofs.Vocabulary.{◌≡◌, ℕ, ◌+◌, false, cond, List, [], ◌∷◌, length, Option, Some, None, option_to_list, refl, ◌⊎◌, arith, count_by, option_or, sum_by-cons, sum_by-append, Note, Refusal, Service, Timer, Terms, LinkTimer, Link, is_data, is_unit, event-tells, Change, place_of-is, Config, request, hears, next, Aim, at_link, at_management, told_of_management, of_change, of_aim}
 use Rattle.laws_line.proofs.Vocabulary.{at_timer, aim_of_expiry, Line, place_in, link_in, terms, unless_refused_told, aim_of_heard, Request, Establish, Release, Assign, Remove, SetBusy, ClearBusy, Deactivate, at_requested, aim_of_request, IsInRange, sound_in, heard_aims, Down, Event, expiry, answer, unless_refused, refusal, Data, Unit, Check, IsSound, tells_contents, IsNotedOnce, link_received}
-use Rattle.laws_line.proofs.Vocabulary.{LinkEstablish, LinkRelease, link_expired, LinkClearBusy, link_requested, LinkRequest, LinkData, link_cleared, LinkSetBusy, LinkEvent, link_told, StreamEvent, message, tei_told, check, tei_after, remove, assigning, TeiEvent}
+use Rattle.laws_line.proofs.Vocabulary.{LinkEstablish, LinkRelease, link_expired, LinkClearBusy, link_requested, LinkRequest, LinkData, link_cleared, LinkSetBusy, LinkEvent, link_told, StreamEvent, message, tei_told, check, disown, tei_after, remove, assigning, TeiEvent, Disown}
 use Rattle.model_link.specs.Sound as link_sound
 use Rattle.laws_link.proofs.Once as link_once
 use Rattle.laws_line.proofs.TeiNotes.{ByChange, noted}
@@ -76,6 +76,7 @@ module _ (c : Config) (ranged : IsInRange c) (l : Line) (s : IsSound c l) where
   request-once (Assign tei) = managed (assigning tei)
   request-once (Remove tei) = managed (remove tei)
   request-once (Check tei) = managed (check tei)
+  request-once (Disown tei) = managed (disown tei)
   request-once (SetBusy service tei) = asked-once service tei LinkSetBusy (place_in l tei) refl
   request-once (ClearBusy service tei) = asked-once service tei LinkClearBusy (place_in l tei) refl
   request-once (Deactivate service tei) = grind (arith, at-its-link)

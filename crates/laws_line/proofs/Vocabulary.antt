@@ -60,7 +60,7 @@ pub use Rattle.lapd_tei.proofs.Brief.{IsBrief, told_brief}
 pub use Rattle.lapd_tei.proofs.Followed.{expired_t201_follows, t201_follows}
 pub use Rattle.lapd_tei.proofs.LawLemmas.{one_more_waits}
 pub use Rattle.lapd_tei.proofs.Tables.{at-off, at-within, is_on-at, not_not, place_of-is}
-pub use Rattle.lapd_tei.specs.Events.{Event as TeiEvent, assign as assigning, check, down, expiry as tei_expiry, message, refusal_if, remove, unless_refused as tei_unless_refused, after as tei_after, told as tei_told}
+pub use Rattle.lapd_tei.specs.Events.{Event as TeiEvent, assign as assigning, check, disown, down, expiry as tei_expiry, message, refusal_if, remove, unless_refused as tei_unless_refused, after as tei_after, told as tei_told}
 unfoldable pub use Rattle.lapd_tei.specs.Events.{course, refusal as tei_refusal}
 pub use Rattle.lapd_tei.specs.Laws.{Follows, Moves, stop_of}
 pub use Rattle.lapd_tei.specs.Machine.{Management}
@@ -102,7 +102,7 @@ pub use Rattle.model_line.specs.Line.{Line, UnitData, fresh_line, link_at, link_
 pub use Rattle.model_line.specs.Machine.{unless_refused, unless_refused_told}
 unfoldable pub use Rattle.model_line.specs.Machine.{after, answer, takes_slot as line_takes_slot}
 pub use Rattle.model_line.specs.Refusal.{refusal}
-pub use Rattle.model_line.specs.Request.{Assign, Check, ClearBusy, Data, Deactivate, Down, Establish, Release, Remove, Request, SetBusy, Unit}
+pub use Rattle.model_line.specs.Request.{Assign, Check, ClearBusy, Data, Deactivate, Disown, Down, Establish, Release, Remove, Request, SetBusy, Unit}
 pub use Rattle.model_line.specs.Requested.{aim_of_request, at_deactivated, at_requested}
 pub use Rattle.model_line.specs.Sides.{IsToGroup, at_side, group_tei as line_group_tei, group_told, told_at}
 pub use Rattle.model_line.specs.Sound.{IsInRange, IsSound, IsSoundAt, IsUnitData}

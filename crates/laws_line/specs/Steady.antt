@@ -17,7 +17,7 @@ use Rattle.lapd_tei.specs.Events as teis
 use Rattle.model_line.specs.declared.config.Config.{Config}
 use Rattle.model_line.specs.Event.{Event, hears, expiry, request, next, Answer}
 use Rattle.model_line.specs.Heard.{heard_side}
-use Rattle.model_line.specs.Request.{Assign, Remove, Check, Deactivate}
+use Rattle.model_line.specs.Request.{Assign, Remove, Check, Disown, Deactivate}
 use Rattle.laws_line.specs.Heard.{IsMalformed, IsTooLong}
 use Rattle.laws_line.specs.Requests.{of_link}
 use Rattle.laws_line.specs.Share.{is_granted}
@@ -87,4 +87,5 @@ IsOfManagement c e answer teis.expiry = e ≡ expiry timers.T201
 IsOfManagement c e answer (teis.assign tei) = (e ≡ request (Assign tei)) × (is_granted answer ≡ true)
 IsOfManagement c e answer (teis.remove tei) = (e ≡ request (Remove tei)) × (is_granted answer ≡ true)
 IsOfManagement c e answer (teis.check tei) = (e ≡ request (Check tei)) × (is_granted answer ≡ true)
+IsOfManagement c e answer (teis.disown tei) = (e ≡ request (Disown tei)) × (is_granted answer ≡ true)
 IsOfManagement c e answer teis.down = ⊥

@@ -1,6 +1,6 @@
 -- Worked values of a line: each computes.
-use Rattle.std.specs.Prelude.{◌≡◌, ℕ, zero, suc, false, List, [], ◌∷◌, replicate, Some, None, refl}
-use Rattle.laws_line.specs.WorkedWords.{Sapi, Tei, BadTei, NoLink, WrongState, TeiTaken, CheckRunning, ControlFull, Call, Packet, Start, Stop, T203, reading, header_of, control_of, unnumbered_of, nothing, dropped, Data, Unit, Assign, Remove, Check, Line, state_of, Effect, of_aim, aim_of_heard, refusal, of_request, taken}
+use Rattle.std.specs.Prelude.{◌≡◌, ℕ, zero, suc, false, List, [], ◌∷◌, ◌++◌, replicate, Some, None, refl}
+use Rattle.laws_line.specs.WorkedWords.{Sapi, Tei, BadTei, NoLink, WrongState, TeiTaken, CheckRunning, ControlFull, Call, Packet, Start, Stop, T203, reading, header_of, control_of, unnumbered_of, nothing, dropped, Data, Unit, Assign, Remove, Check, Disown, IdentityRemove, Line, state_of, Effect, of_aim, aim_of_heard, refusal, of_request, taken}
 use Rattle.model_bits.specs.Stream as stream
 use Rattle.lapd_frame.specs.declared.notes.Note.TheVariants as notes
 use Rattle.lapd_frame.specs.declared.notes.ErrorCode.TheVariants as code
@@ -133,6 +133,24 @@ refused_removal :
     ≡ Some ControlFull
 unfolding teis.course teis.refusal
 refused_removal = refl
+
+refused_disowning :
+    refusal usual false (Disown 64) with_64 ∷ refusal usual false (Disown 127) with_64 ∷ refusal usual false (Disown 128) with_64
+    ∷ refusal usual false (Disown 69) (asked (Disown 68) (asked (Disown 67) (asked (Disown 66) (asked (Disown 65) with_64)))) ∷ []
+    ≡ Some TeiTaken ∷ Some TeiTaken ∷ Some BadTei ∷ Some ControlFull ∷ []
+unfolding teis.course teis.refusal
+refused_disowning = refl
+
+-- Where it is granted, the message goes out in its turn, and all else of the line is as it was.
+disowned :
+    frames_taken 3 (asked (Disown 65) (asked (Disown 66) with_64))
+    ≡ (0xFE ∷ 0xFF ∷ 0x03 ∷ 0x0F ∷ 0x00 ∷ 0x00 ∷ 0x06 ∷ 0x85 ∷ []) ∷ (0xFE ∷ 0xFF ∷ 0x03 ∷ 0x0F ∷ 0x00 ∷ 0x00 ∷ 0x06 ∷ 0x83 ∷ []) ∷ []
+unfolding teis.course teis.refusal frames_taken
+disowned = refl
+
+unchanged : asked (Disown 65) with_64 ≡ record with_64 { management = record with_64.management { waiting = with_64.management.waiting ++ IdentityRemove 65 ∷ [] } }
+unfolding teis.course teis.refusal
+unchanged = refl
 
 refused_taken_tei : refusal usual false (Assign 64) with_64 ≡ Some TeiTaken
 unfolding teis.course teis.refusal

@@ -1,6 +1,6 @@
 -- Worked values of the user's side of a line: each computes.
 use Rattle.std.specs.Prelude.{◌≡◌, ℕ, false, List, [], ◌∷◌, replicate, Option, Some, None, refl}
-use Rattle.laws_line.specs.WorkedWords.{Tei, Unserved, User, BadTei, WrongSide, Call, Packet, Start, Stop, T200, T203, reading, header_of, control_of, unnumbered_of, Config, nothing, dropped, Request, Establish, Unit, Assign, Remove, Check, Line, fresh_line, state_of, Effect, of_aim, aim_of_heard, refusal, of_request, Taken, taken}
+use Rattle.laws_line.specs.WorkedWords.{Tei, Unserved, User, BadTei, WrongSide, Call, Packet, Start, Stop, T200, T203, reading, header_of, control_of, unnumbered_of, Config, nothing, dropped, Request, Establish, Unit, Assign, Remove, Check, Disown, Line, fresh_line, state_of, Effect, of_aim, aim_of_heard, refusal, of_request, Taken, taken}
 use Rattle.model_bits.specs.Stream as stream
 use Rattle.lapd_frame.specs.declared.notes.Note.TheVariants as notes
 use Rattle.lapd_tei.specs.Events as teis
@@ -92,6 +92,10 @@ refused_removal = refl
 refused_check : refusal trunk false (Check 0) with_0 ≡ Some WrongSide
 unfolding teis.course teis.refusal
 refused_check = refl
+
+refused_disowning : refusal trunk false (Disown 127) with_0 ≡ Some WrongSide
+unfolding teis.course teis.refusal
+refused_disowning = refl
 
 unit_data_is_asked : refusal trunk false (Unit Call 0 (0xAB ∷ [])) with_0 ≡ None
 unfolding teis.course teis.refusal

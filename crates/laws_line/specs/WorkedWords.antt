@@ -33,7 +33,7 @@ pub use Rattle.model_line.specs.Line.{Line, fresh_line, has_tei, link_at, link_i
 pub use Rattle.model_line.specs.Machine.{of_request}
 unfoldable pub use Rattle.model_line.specs.Machine.{after, answer}
 pub use Rattle.model_line.specs.Refusal.{refusal}
-pub use Rattle.model_line.specs.Request.{Assign, Check, Data, Deactivate, Down, Establish, Release, Remove, Request, SetBusy, Unit}
+pub use Rattle.model_line.specs.Request.{Assign, Check, Data, Deactivate, Disown, Down, Establish, Release, Remove, Request, SetBusy, Unit}
 pub use Rattle.model_line.specs.Taken.{Taken, taken}
 pub use Rattle.model_line.specs.declared.config.Config.{Config}
 pub use Rattle.model_card.specs.ByEvent.{IsPriced}

@@ -52,7 +52,7 @@ module _ (on : List ℕ) (m : Management) (h : AreOn on m.places) (order : IfSom
   pub here : Follows w m
   here = record { is = refl; on = h; order = order }
 
-  plain : (message : Message) → Leads (owes message w) (send message (begun m))
+  pub plain : (message : Message) → Leads (owes message w) (send message (begun m))
   plain message = record { notes = refl; orders = refl; lost = refl; begins = refl; granted = refl; follows = record { is = refl; on = h; order = order } }
 
   pub none-due : Leads w (unserved (begun m))

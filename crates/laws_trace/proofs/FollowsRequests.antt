@@ -1,7 +1,7 @@
 -- What is due of TEI management by a request, and by any event of a line, is what its answer shows.
-use Rattle.laws_trace.proofs.Vocabulary.{IdentityRemove, ◌≡◌, ℕ, ◌==◌, ◌&&◌, Bool, true, false, cond, not, List, [], ◌∷◌, length, Option, Some, None, IfSome, is_some, refl, sym, ap, subst, inl, arith, leb-true, leb-false, nat_le, nat_lt, list_any, Refusal, Management, free_place, on-range, Config, at_management, of_aim, hears, expiry, request, next, Line, place_in, has_tei, unless_refused, unless_refused_told, wrong_side, bad_tei, no_link, tei_taken, table_full, check_running, control_full, Assign, Remove, Deactivate, aim_of_request, has_management, passed, Down, at_no_link, filter, option_map, Stop, T201, ltb-true, ltb-false, tei_begun as begun, Event, told, line_after as after, answer, refusal, Request, Checking, SetBusy, ClearBusy, IsSound, Managed, owes, leaves, checks, may_check, grants, managing_by_event as by_event, due, is_of_t201, by-down, stop_of, Check, false_from_ne_true, LinkSetBusy, LinkClearBusy, tei_check, tei_unless_refused, tei_course, tei_remove, tei_refusal_if, TeiEvent, tei_refusal, tei_assign, tei_step}
-use Rattle.laws_trace.proofs.Follows.{Follows, Leads, InOrder, seen_check, as_seen, assign-leads, remove-leads, begins-check, fewer-on, all-on}
-use Rattle.laws_trace.proofs.ManagingTables.{AreOn}
+use Rattle.laws_trace.proofs.Vocabulary.{IdentityRemove, ◌≡◌, ℕ, ◌==◌, ◌&&◌, ◌||◌, Bool, true, false, cond, not, List, [], ◌∷◌, length, Option, Some, None, IfSome, is_some, refl, sym, ap, subst, inl, arith, leb-true, leb-false, nat_le, nat_lt, list_any, Refusal, Management, free_place, on-range, Config, at_management, of_aim, hears, expiry, request, next, Line, place_in, has_tei, unless_refused, unless_refused_told, wrong_side, bad_tei, no_link, tei_taken, bad_tei_or_all, tei_in_use, table_full, check_running, control_full, Assign, Remove, Disown, tei_disown, Deactivate, aim_of_request, has_management, passed, Down, at_no_link, filter, option_map, Stop, T201, ltb-true, ltb-false, tei_begun as begun, Event, told, line_after as after, answer, refusal, Request, Checking, SetBusy, ClearBusy, IsSound, Managed, owes, leaves, checks, may_check, grants, managing_by_event as by_event, due, is_of_t201, by-down, stop_of, Check, false_from_ne_true, LinkSetBusy, LinkClearBusy, tei_check, tei_unless_refused, tei_course, tei_remove, tei_refusal_if, TeiEvent, tei_refusal, tei_assign, tei_step}
+use Rattle.laws_trace.proofs.Follows.{Follows, Leads, InOrder, seen_check, as_seen, plain, assign-leads, remove-leads, begins-check, fewer-on, all-on}
+use Rattle.laws_trace.proofs.ManagingTables.{AreOn, used-same}
 use Rattle.laws_trace.proofs.ManagingNotes.{is_management}
 use Rattle.laws_trace.proofs.FollowsLine.{Shows, IsUnmanaged, none-granted, asked-aims, deactivated-aims, managed-shows, unmanaged-shows, hears-shows, expiry-shows, next-shows}
 
@@ -93,6 +93,20 @@ module _ (c : Config) (l : Line) (s : IsSound c l) (on : List ℕ) (h : AreOn on
           let full = passed (control_full l) [] running.1 in
           granted-shows (Checking tei) (checks tei None w) (tei_check tei) refl (three _ _ _ _ _ _ unknown.0 running.0 full.0) (begins-check on m h order s.management tei)
 
+  disown-shows : (tei : ℕ) → Answers (Disown tei) (by_event c (request (Disown tei)) w) (refusal c false (Disown tei) l)
+  unfolding tei_refusal
+  disown-shows tei = by-grant (Disown tei) (owes (IdentityRemove tei) w) (has_management c.side && nat_le tei 127 && not (list_any (λ y. tei == 127 || y == tei) on) && not (nat_le 4 (length m.waiting))) same granted
+    where
+      same : is_some (refusal c false (Disown tei) l) ≡ not (has_management c.side && nat_le tei 127 && not (list_any (λ y. tei == 127 || y == tei) on) && not (nat_le 4 (length m.waiting)))
+      same = rw (used-same on m.places h tei) (grind (arith, is_some, nat_le, leb-true, ltb-true, leb-false, ltb-false))
+
+      granted : refusal c false (Disown tei) l ≡ None → Answers (Disown tei) (grants true (owes (IdentityRemove tei) w) w) None
+      granted none =
+          let bad = passed (bad_tei_or_all tei) (tei_in_use tei l ∷ control_full l ∷ []) (passed (wrong_side c) (bad_tei_or_all tei ∷ tei_in_use tei l ∷ control_full l ∷ []) none).1 in
+          let used = passed (tei_in_use tei l) (control_full l ∷ []) bad.1 in
+          let full = passed (control_full l) [] used.1 in
+          granted-shows (Disown tei) (owes (IdentityRemove tei) w) (tei_disown tei) refl (two _ _ _ _ used.0 full.0) (plain on m h order s.management (IdentityRemove tei))
+
   link-shows : (r : Request) → IsUnmanaged c l (aim_of_request r l) → (o : Option Refusal) → refusal c false r l ≡ o → Answers r w o
   link-shows r x o is = grind (arith, none-granted, unmanaged-shows, is_management)
 
@@ -124,6 +138,7 @@ module _ (c : Config) (l : Line) (s : IsSound c l) (on : List ℕ) (h : AreOn on
   request-shows (Assign tei) = assign-shows tei
   request-shows (Remove tei) = remove-shows tei
   request-shows (Checking tei) = check-shows tei
+  request-shows (Disown tei) = disown-shows tei
   request-shows Down = down-shows
   request-shows other = grind (arith, link-shows, asked-aims)
 

@@ -1,6 +1,6 @@
 -- The table of TEIs, and the list of those on a line that an observer has: what is on it after a TEI came or left, and how
 -- many are.
-use Rattle.laws_trace.proofs.Vocabulary.{◌≡◌, ℕ, zero, suc, ◌+◌, ◌<◌, ◌≤◌, ◌==◌, ◌&&◌, ◌||◌, Bool, true, false, cond, not, List, [], ◌∷◌, length, replicate, set, get_or, Option, Some, None, refl, sym, ap, ◌∙◌, subst, arith, eq-eqb, true≢false, filter, list_any, prefix_len, any-filter_same, none-some, IsAt, IsSoundTable, Places, is_free, has, is_on, place_of, free_place, freed, place_of-is, is_on-at, free_place-is, is-off, eqb-true, ltb-false, false_from_ne_true}
+use Rattle.laws_trace.proofs.Vocabulary.{◌≡◌, ℕ, zero, suc, ◌+◌, ◌<◌, ◌≤◌, ◌==◌, ◌&&◌, ◌||◌, Bool, true, false, cond, not, List, [], ◌∷◌, length, replicate, set, get_or, Option, Some, None, refl, sym, ap, ◌∙◌, subst, arith, eq-eqb, true≢false, filter, list_any, prefix_len, any-filter_same, none-some, IsAt, IsSoundTable, Places, is_free, has, is_in_use, is_on, means, place_of, free_place, freed, place_of-is, is_on-at, free_place-is, is-off, eqb-true, ltb-false, false_from_ne_true}
 
 -- A TEI that comes.
 swap : (a b c : Bool) → (a || (b || c)) ≡ (b || (a || c))
@@ -169,3 +169,45 @@ module _ (on : List ℕ) (places : Places) (h : AreOn on places) where
 
   pub leaves-on : (tei : ℕ) → IsSoundTable places → AreOn (others tei on) (freed places (place_of tei places))
   leaves-on tei sound = grind (arith, on-filtered, on-leaving, size-leaving, fewer-times)
+
+-- Of what passes a test in a list, one is there: each test that it passes finds something in the list.
+or-true : (b : Bool) → (b || true) ≡ true
+or-true b = grind arith
+
+module _ {X : Type 0} (p : X → Bool) where
+  abbrev IsAmong : List X → Type 0
+  IsAmong xs = (x : X) × (p x ≡ true) × ((q : X → Bool) → q x ≡ true → list_any q xs ≡ true)
+
+  first-or : (x : X) (xs : List X) (b : Bool) → p x ≡ b → (b || list_any p xs) ≡ true → (list_any p xs ≡ true → IsAmong xs) → IsAmong (x ∷ xs)
+  first-or x xs true is e rest = (x, is, λ q qx. ap (λ b. b || list_any q xs) qx)
+  first-or x xs false is e rest = let r = rest e in (r.0, r.1, λ q qy. ap (λ b. q x || b) (r.2 q qy) ∙ or-true (q x))
+
+  among-some : (xs : List X) → list_any p xs ≡ true → IsAmong xs
+  among-some [] e = absurd (true≢false (sym e))
+  among-some (x ∷ xs) e = first-or x xs (p x) refl e (among-some xs)
+
+alike : (a b : Bool) → (a ≡ true → b ≡ true) → (b ≡ true → a ≡ true) → a ≡ b
+alike a b f g = grind arith
+
+-- A TEI is in use, or any is where all are meant, to the observer as on the line.
+module _ (on : List ℕ) (places : Places) (h : AreOn on places) (tei : ℕ) where
+  abbrev used : ℕ → Bool
+  used y = tei == 127 || y == tei
+
+  seen-used : list_any used on ≡ true → is_in_use tei places ≡ true
+  seen-used e =
+      let y = among-some used on e in
+      let there = among-some (has y.0) places (sym (h.same y.0) ∙ y.2 (λ z. z == y.0) (eq-eqb y.0 y.0 refl)) in
+      there.2 (means tei) (ap (means tei) (holder y.0 there.0 there.1) ∙ y.1)
+
+  used-seen : is_in_use tei places ≡ true → list_any used on ≡ true
+  used-seen e = let x = among-some (means tei) places e in go x.0 x.1 x.2
+    where
+      go : (o : Option ℕ) → means tei o ≡ true → ((q : Option ℕ → Bool) → q o ≡ true → list_any q places ≡ true) → list_any used on ≡ true
+      go None is there = absurd (true≢false (sym is))
+      go (Some y) is there =
+          let z = among-some (λ z. z == y) on (h.same y ∙ there (has y) (eq-eqb y y refl)) in
+          z.2 used (ap used (eqb-true z.0 y z.1) ∙ is)
+
+  pub used-same : list_any used on ≡ is_in_use tei places
+  used-same = alike (list_any used on) (is_in_use tei places) seen-used used-seen

@@ -49,12 +49,12 @@ pub use Rattle.lapd_tei.proofs.Followed.{t201_follows}
 pub use Rattle.lapd_tei.proofs.LawLemmas.{changes_are_told, sound-after}
 pub use Rattle.lapd_tei.proofs.Tables.{at-within, free_place-is, free_tei-is, is_on-at, not_not, on-range, place_of-is}
 unfoldable pub use Rattle.lapd_tei.specs.Events.{course as tei_course, refusal as tei_refusal}
-pub use Rattle.lapd_tei.specs.Events.{Event as TeiEvent, after as tei_after, assign as tei_assign, check as tei_check, message as tei_message, refusal_if as tei_refusal_if, remove as tei_remove, step as tei_step, told as tei_told, unless_refused as tei_unless_refused}
+pub use Rattle.lapd_tei.specs.Events.{Event as TeiEvent, after as tei_after, assign as tei_assign, check as tei_check, disown as tei_disown, message as tei_message, refusal_if as tei_refusal_if, remove as tei_remove, step as tei_step, told as tei_told, unless_refused as tei_unless_refused}
 pub use Rattle.lapd_tei.specs.Laws.{Follows, HasJoined, HasLeft, IsInRange as TeiIsInRange, Moves, stop_of}
 pub use Rattle.lapd_tei.specs.Machine.{Management, TeiTold}
 pub use Rattle.lapd_tei.specs.Messages.{action_of, frame_of as message_frame, heard_in, heard_of_type, information_of}
 pub use Rattle.lapd_tei.specs.Sound.{IsAt, IsSoundCheck, IsSoundTable}
-pub use Rattle.lapd_tei.specs.Table.{Places, free_place, has, is_free, is_on, place_of}
+pub use Rattle.lapd_tei.specs.Table.{Places, free_place, has, is_free, is_in_use, is_on, means, place_of}
 pub use Rattle.lapd_tei.specs.Words.{Course as TeiCourse, begin_check, begun as tei_begun, end_check, freed, leave, lose_one, no_room, send, unserved, with_message as tei_with_message}
 pub use Rattle.lapd_tei.specs.declared.check.Check.{Check}
 pub use Rattle.lapd_tei.specs.declared.check.Period.{Period}
@@ -187,8 +187,8 @@ pub use Rattle.model_line.specs.Laws.{orders_in}
 pub use Rattle.model_line.specs.Line.{Line, UnitData, fresh_line, has_tei, link_at, link_count, link_in, link_number, link_of, place_at, place_in, service_at, state_in, state_of, tei_at, terms, with_link}
 pub use Rattle.model_line.specs.Machine.{aim_of, of_request, unless_refused, unless_refused_told}
 unfoldable pub use Rattle.model_line.specs.Machine.{after as line_after, answer, takes_slot}
-pub use Rattle.model_line.specs.Refusal.{bad_tei, check_running, control_full, no_link, refusal, table_full, tei_taken, wrong_side}
-pub use Rattle.model_line.specs.Request.{Assign, Check as Checking, ClearBusy, Data, Deactivate, Down, Establish, Release, Remove, Request, SetBusy}
+pub use Rattle.model_line.specs.Refusal.{bad_tei, bad_tei_or_all, check_running, control_full, no_link, refusal, table_full, tei_in_use, tei_taken, wrong_side}
+pub use Rattle.model_line.specs.Request.{Assign, Check as Checking, ClearBusy, Data, Deactivate, Disown, Down, Establish, Release, Remove, Request, SetBusy}
 pub use Rattle.model_line.specs.Requested.{aim_of_request, at_deactivated, at_requested}
 pub use Rattle.model_line.specs.Room.{unless}
 pub use Rattle.model_line.specs.Sides.{IsToGroup, at_side, group_told, has_management, last_unit_tei}

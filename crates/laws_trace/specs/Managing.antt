@@ -16,7 +16,7 @@ use Rattle.lapd_tei.specs.declared.messages.Message.{Message}
 use Rattle.lapd_tei.specs.declared.messages.Message.TheVariants.{IdentityAssigned, IdentityDenied, IdentityCheckRequest, IdentityRemove}
 use Rattle.model_line.specs.declared.config.Config.{Config}
 use Rattle.model_line.specs.Event.{Event, hears, expiry, request, next}
-use Rattle.model_line.specs.Request.{Request, Assign, Remove, Check, Down}
+use Rattle.model_line.specs.Request.{Request, Assign, Remove, Check, Disown, Down}
 use Rattle.model_card.specs.Event as card
 use Rattle.laws_trace.specs.LinkFrames.{frame_of}
 use Rattle.laws_trace.specs.Units.{is_ui}
@@ -50,6 +50,10 @@ nothing_due w = record w { notes = []; orders = []; lost = 0; begins = []; grant
 
 abbrev pub is_on : ℕ → Managed → Bool
 is_on tei w = list_any (λ on. on == tei) w.on
+
+-- A TEI is in use while it is on the line; 127, which means all TEIs, while any is (clause 5.3.4).
+abbrev pub is_in_use : ℕ → Managed → Bool
+is_in_use tei w = list_any (λ on. tei == 127 || on == tei) w.on
 
 -- A message is owed, or it is lost where four are (profile).
 abbrev pub is_full : Managed → Bool
@@ -117,7 +121,8 @@ by_message c w (entity ∷ high ∷ low ∷ type ∷ last ∷ []) =
     else w
 by_message c w other = w
 
--- The network's side alone manages TEIs (clause 5.3.1): the user's serves no message, removes none and checks none (profile).
+-- The network's side alone manages TEIs (clause 5.3.1): the user's serves no message, and removes, checks and disowns none
+-- (profile).
 abbrev pub manages : Side → Bool
 manages Network = true
 manages User = false
@@ -127,7 +132,8 @@ by_frame c w f =
     if manages c.side && ((f.address.sapi == 63 && f.address.tei == 127) && is_ui f.control) then by_message c w f.info else w
 
 -- What management asks for, and whether it is granted (clauses 4.1.1.5, 5.3.3 and 5.3.4). The user's side neither removes
--- a TEI nor checks one (profile). That the line is down is always granted: no message is owed any more, and a check that runs
+-- a TEI, nor checks one, nor disowns one (profile). A TEI that is disowned is not on the line, and terminals that use it are to
+-- give it up (clause 5.3.4). That the line is down is always granted: no message is owed any more, and a check that runs
 -- ends without a result (annex B, persistent deactivation).
 abbrev pub grants : Bool → Managed → Managed → Managed
 grants so after w = record (if so then after else w) { granted = Some so }
@@ -136,6 +142,7 @@ abbrev pub by_request : Config → Request → Managed → Managed
 by_request c (Assign tei) w = grants (nat_le tei 126 && not (is_on tei w) && nat_lt (length w.on) c.terminals) (record w { on = tei ∷ w.on }) w
 by_request c (Remove tei) w = grants (manages c.side && is_on tei w && not (is_full w)) (owes (IdentityRemove tei) (leaves tei w)) w
 by_request c (Check tei) w = grants (manages c.side && may_check tei w && not (is_full w)) (checks tei None w) w
+by_request c (Disown tei) w = grants (manages c.side && nat_le tei 127 && not (is_in_use tei w) && not (is_full w)) (owes (IdentityRemove tei) w) w
 by_request c Down w = record w { check = None; owed = []; orders = if is_some w.check then Stop T201 ∷ [] else []; granted = Some true }
 by_request c other w = w
 

@@ -1,5 +1,5 @@
 -- Worked values: TEIs that are assigned, checked and removed, what is due of them, and answers that break the law.
-use Rattle.std.specs.Prelude.{◌≡◌, ℕ, List, [], ◌∷◌, ◌++◌, None, Some, refl}
+use Rattle.std.specs.Prelude.{◌≡◌, ℕ, true, false, List, [], ◌∷◌, ◌++◌, None, Some, refl}
 use Rattle.lapd_frame.specs.declared.addresses.Side.TheVariants.{User}
 use Rattle.lapd_frame.specs.declared.notes.Note.{Note}
 use Rattle.lapd_frame.specs.declared.notes.Note.TheVariants.{Assigned, Removed, Doubled}
@@ -14,7 +14,7 @@ use Rattle.lapd_tei.specs.Messages.{frame_of}
 use Rattle.model_line.specs.declared.config.Config.{Config}
 use Rattle.model_line.specs.Event.{Answer, expiry, next, nothing, told, gave}
 use Rattle.model_line.specs.Machine as lines
-use Rattle.model_line.specs.Request.{Assign, Check, Down}
+use Rattle.model_line.specs.Request.{Assign, Check, Disown, Down}
 use Rattle.model_card.specs.Card.{fresh}
 use Rattle.model_card.specs.Event.{Event, at}
 use Rattle.model_card.specs.Machine.{answer}
@@ -119,6 +119,20 @@ verified = refl
 verified_again : (due_behind usual checked verifies).orders ≡ []
 unfolding reading header_of control_of unnumbered_of
 verified_again = refl
+
+-- A TEI that is not on the line is disowned: its terminals are owed a removal, and nothing else is due. All TEIs are, while none
+-- is on the line; that of a line with one, and all of it, are not.
+disowned : owed_after usual (on_0 (Disown 127) ∷ on_0 (Disown 127) ∷ []) ≡ IdentityRemove 127 ∷ IdentityRemove 127 ∷ []
+disowned = refl
+
+disowned_beside : due_behind usual (on_0 (Assign 64) ∷ []) (on_0 (Disown 65)) ≡ record none_on { on = 64 ∷ []; owed = IdentityRemove 65 ∷ []; granted = Some true }
+disowned_beside = refl
+
+in_use : (due_behind usual (on_0 (Assign 64) ∷ []) (on_0 (Disown 64))).granted ∷ (due_behind usual (on_0 (Assign 64) ∷ []) (on_0 (Disown 127))).granted ∷ [] ≡ Some false ∷ Some false ∷ []
+in_use = refl
+
+of_the_network : (due_behind (record usual { side = User }) [] (on_0 (Disown 127))).granted ≡ Some false
+of_the_network = refl
 
 -- Where the line is down no message is owed, the check ends, and T201 stops, if it ran; the TEI stays, and can be checked anew.
 none_owed : owed_after usual (checked ++ on_0 Down ∷ []) ≡ []

@@ -158,12 +158,13 @@ pub fn nothing_is_lost_in_vain()
 /// terminals are asked, where fewer than four messages are owed, and T201 is started; both once more as it expires. As
 /// it expires again the check is over, and a TEI of which no terminal answered is told as removed. Where a second one
 /// answers in one of the periods, it is told that two have it, and they are owed a removal, as they are by a granted
-/// request; and the TEI leaves. As a check is over, T201 is stopped. Messages begin as the line is called for its next
-/// frame, before all other frames, the oldest first, whole, each once; at most four are owed. Where the line is down
-/// none is owed any more, a check that runs is over, and T201 is stopped. And management is granted exactly to put a
-/// TEI of at most 126 on a line that does not have it and has room, and, on the network's side and while fewer than
-/// four messages are owed, to remove one that is on the line, and to check it while no check runs. The user's side
-/// serves no message (Q.921 clauses 4.1.1.5, 5.3.1 to 5.3.5, annex B and profile).
+/// request; and the TEI leaves. Those of a TEI that is disowned are owed one, too. As a check is over, T201 is stopped.
+/// Messages begin as the line is called for its next frame, before all other frames, the oldest first, whole, each
+/// once; at most four are owed. Where the line is down none is owed any more, a check that runs is over, and T201 is
+/// stopped. And management is granted exactly to put a TEI of at most 126 on a line that does not have it and has room,
+/// and, on the network's side and while fewer than four messages are owed, to remove one that is on the line, to check
+/// it while no check runs, and to disown one that is not on the line, or all TEIs while none is. The user's side serves
+/// no message (Q.921 clauses 4.1.1.5, 5.3.1 to 5.3.5, annex B and profile).
 pub fn teis_are_managed()
     ensures { Always TeisAreManaged }
 {}

@@ -6,9 +6,9 @@ use Rattle.lapd_frame.specs.declared.refusals.Refusal.TheVariants.{BadTei, NoLin
 use Rattle.model_link.specs.Events as link
 use Rattle.model_link.specs.Requests.{serves, is_queue_full}
 use Rattle.lapd_tei.specs.Machine.{messages_limit}
-use Rattle.lapd_tei.specs.Table.{free_place}
+use Rattle.lapd_tei.specs.Table.{free_place, is_in_use}
 use Rattle.model_line.specs.declared.config.Config.{Config}
-use Rattle.model_line.specs.Request.{Request, Establish, Release, Data, Unit, Assign, Remove, Check, SetBusy, ClearBusy, Deactivate, Down}
+use Rattle.model_line.specs.Request.{Request, Establish, Release, Data, Unit, Assign, Remove, Check, Disown, SetBusy, ClearBusy, Deactivate, Down}
 use Rattle.model_line.specs.Sides.{last_unit_tei, has_management}
 use Rattle.model_line.specs.Line.{Line, terms, has_tei, link_of}
 
@@ -55,6 +55,13 @@ pool_full is_full = record { why = PoolFull; holds = is_full }
 abbrev pub tei_taken : ℕ → Line → Row
 tei_taken tei l = record { why = TeiTaken; holds = has_tei tei l }
 
+-- A TEI that is disowned may be 127, which means all TEIs, and is on no line: where any is on this one, all are not disowned.
+abbrev pub bad_tei_or_all : ℕ → Row
+bad_tei_or_all tei = record { why = BadTei; holds = nat_lt 127 tei }
+
+abbrev pub tei_in_use : ℕ → Line → Row
+tei_in_use tei l = record { why = TeiTaken; holds = is_in_use tei l.management.places }
+
 abbrev pub table_full : Line → Row
 table_full l = record { why = TableFull; holds = not (is_some (free_place l.management.places)) }
 
@@ -64,7 +71,7 @@ check_running l = record { why = CheckRunning; holds = is_some l.management.chec
 abbrev pub control_full : Line → Row
 control_full l = record { why = ControlFull; holds = nat_le messages_limit (length l.management.waiting) }
 
--- TEI management is the network's: the user's side neither takes a TEI off the line nor checks one.
+-- TEI management is the network's: the user's side neither takes a TEI off the line, nor checks one, nor disowns one.
 abbrev pub wrong_side : Config → Row
 wrong_side c = record { why = WrongSide; holds = not (has_management c.side) }
 
@@ -80,6 +87,7 @@ rows c full (Unit service tei contents) l =
 rows c full (Assign tei) l = bad_tei tei ∷ tei_taken tei l ∷ table_full l ∷ []
 rows c full (Remove tei) l = wrong_side c ∷ bad_tei tei ∷ no_link tei l ∷ control_full l ∷ []
 rows c full (Check tei) l = wrong_side c ∷ bad_tei tei ∷ no_link tei l ∷ check_running l ∷ control_full l ∷ []
+rows c full (Disown tei) l = wrong_side c ∷ bad_tei_or_all tei ∷ tei_in_use tei l ∷ control_full l ∷ []
 rows c full (SetBusy service tei) l = bad_tei tei ∷ no_link tei l ∷ wrong_state service tei link.SetBusy l ∷ []
 rows c full (ClearBusy service tei) l = bad_tei tei ∷ no_link tei l ∷ wrong_state service tei link.ClearBusy l ∷ []
 rows c full (Deactivate service tei) l = bad_tei tei ∷ no_link tei l ∷ []

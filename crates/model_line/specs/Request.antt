@@ -11,6 +11,7 @@ pub data Request : Type 0 where
   Assign : ℕ → Request
   Remove : ℕ → Request
   Check : ℕ → Request
+  Disown : ℕ → Request
   SetBusy : Service → ℕ → Request
   ClearBusy : Service → ℕ → Request
   Deactivate : Service → ℕ → Request
@@ -25,6 +26,7 @@ request_of (rust.TheVariants.Unit service tei contents) = Unit service tei conte
 request_of (rust.TheVariants.Assign tei) = Assign tei
 request_of (rust.TheVariants.Remove tei) = Remove tei
 request_of (rust.TheVariants.Check tei) = Check tei
+request_of (rust.TheVariants.Disown tei) = Disown tei
 request_of (rust.TheVariants.SetBusy service tei) = SetBusy service tei
 request_of (rust.TheVariants.ClearBusy service tei) = ClearBusy service tei
 request_of (rust.TheVariants.Deactivate service tei) = Deactivate service tei

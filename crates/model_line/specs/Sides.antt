@@ -64,7 +64,7 @@ abbrev pub last_unit_tei : Side → ℕ
 last_unit_tei Network = 127
 last_unit_tei User = 126
 
--- Whether a side has TEI management: whether it takes a TEI off the line, and checks one.
+-- Whether a side has TEI management: whether it takes a TEI off the line, checks one, and disowns one.
 abbrev pub has_management : Side → Bool
 has_management Network = true
 has_management User = false

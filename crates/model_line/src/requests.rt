@@ -22,6 +22,9 @@ pub enum Request<'a> {
     Remove(u8),
     /// Ask which terminals have the TEI (clause 5.3.3.2).
     Check(u8),
+    /// Tell the terminals that still use the TEI to give it up, or all terminals, with TEI 127: it is not on the line, as after a
+    /// restart of the network's side (clause 5.3.4; the request is the profile's).
+    Disown(u8),
     /// Take no I-frames on the link for now (own receiver busy, clause 5.6.6; the primitive is the profile's).
     SetBusy(Service, u8),
     /// Take I-frames again.

@@ -8,7 +8,7 @@ use Rattle.lapd_frame.specs.declared.timers.Timer.TheVariants.{T201}
 use Rattle.lapd_tei.specs.declared.messages.Message.TheVariants.{IdentityRemove}
 use Rattle.lapd_tei.specs.declared.outcome.Change.TheVariants.{Gained, Left}
 use Rattle.lapd_tei.specs.Machine.{Management, empty, may_send, held, TeiTold, nothing}
-use Rattle.lapd_tei.specs.Events.{Event, message, expiry, assign, remove, check, refusal, course, after, told, offered, after_offer}
+use Rattle.lapd_tei.specs.Events.{Event, message, expiry, assign, remove, check, disown, refusal, course, after, told, offered, after_offer}
 
 -- a line with room for eight TEIs, after events from its start; each message is pulled at once
 abbrev pulled : Event → Management → Management
@@ -259,6 +259,34 @@ check-refused = refl
 remove-refused : map (refusal (remove 64)) (full ∷ full-of-one ∷ full-while-checked ∷ one ∷ []) ≡ Some NoLink ∷ Some ControlFull ∷ Some ControlFull ∷ None ∷ []
 unfolding course refusal
 remove-refused = refl
+
+-- A TEI that is not on the line is disowned, or all are: their terminals are told so, nothing else changes, and nothing is
+-- told. Two for all may go back to back.
+disowned : brought (disown 65) one ≡ (nothing, taken 0x83)
+unfolding course refusal
+disowned = refl
+
+all-disowned : brought (disown 127) (line []) ≡ (nothing, taken 0xFF)
+unfolding course refusal
+all-disowned = refl
+
+disowned-twice : after (disown 127) (after (disown 127) (line [])) ≡ record (line []) { waiting = IdentityRemove 127 ∷ IdentityRemove 127 ∷ [] }
+unfolding course refusal
+disowned-twice = refl
+
+-- The message stays where the TEI is then put on the line.
+disowned-and-assigned : after (assign 64) (after (disown 64) (line [])) ≡ record (line (assign 64 ∷ [])) { waiting = IdentityRemove 64 ∷ [] }
+unfolding course refusal
+disowned-and-assigned = refl
+
+-- One that is on the line is not disowned, nor are all while one is; else there has to be room for the message.
+disown-refused : map (refusal (disown 64)) (full-of-one ∷ one ∷ full ∷ line (assign 65 ∷ []) ∷ []) ≡ Some TeiTaken ∷ Some TeiTaken ∷ Some ControlFull ∷ None ∷ []
+unfolding course refusal
+disown-refused = refl
+
+disown-all-refused : map (refusal (disown 127)) (full ∷ one ∷ unpulled (map disown (127 ∷ 127 ∷ 1 ∷ 2 ∷ [])) (line []) ∷ line [] ∷ []) ≡ Some TeiTaken ∷ Some TeiTaken ∷ Some ControlFull ∷ None ∷ []
+unfolding course refusal
+disown-all-refused = refl
 
 -- What is refused changes nothing.
 unchanged : after (remove 64) full-of-one ≡ full-of-one

@@ -28,8 +28,31 @@ enum Event {
     Assign(bool),
     Remove(bool),
     Check(bool),
+    Disown(Named),
     /// The line is down.
     Down,
+}
+
+/// Which TEIs are disowned.
+#[derive(Clone, Copy)]
+enum Named {
+    /// One that is on the line in no state.
+    Unknown,
+    /// One that is on the line in some.
+    First,
+    All,
+}
+
+impl Named {
+    fn tei(self) -> u8
+        ensures { result ≤ 127 }
+    {
+        match self {
+            Named::First => 64,
+            Named::Unknown => 66,
+            Named::All => 127,
+        }
+    }
 }
 
 /// A state of TEI management, and the events that lead there from the empty table.
@@ -101,7 +124,7 @@ fn events() -> &'static [(&'static str, Event)] {
     &EVENTS
 }
 
-static EVENTS: [(&str, Event); 16] = [
+static EVENTS: [(&str, Event); 19] = [
     ("identity request, Ri 1", FIRST),
     ("identity request, Ri 2", SECOND),
     ("identity request, Ri 3", Event::Message(3, 1, 127)),
@@ -117,6 +140,9 @@ static EVENTS: [(&str, Event); 16] = [
     ("remove 64", Event::Remove(false)),
     ("check 64", CHECK),
     ("check 65", Event::Check(true)),
+    ("disown 64", Event::Disown(Named::First)),
+    ("disown 66", Event::Disown(Named::Unknown)),
+    ("disown 127", Event::Disown(Named::All)),
     ("the line is down", Event::Down),
 ];
 
@@ -211,6 +237,7 @@ fn play(teis: &mut Teis, event: Event) -> Result<TeiOutcome, Refusal> {
         Event::Assign(next) => teis.assign(tei_of(next)),
         Event::Remove(next) => teis.remove(tei_of(next)),
         Event::Check(next) => teis.check(tei_of(next)),
+        Event::Disown(named) => teis.disown(named.tei()),
         Event::Down => Ok(teis.give_up()),
     }
 }

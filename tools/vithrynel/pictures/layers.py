@@ -32,7 +32,7 @@ def layer_3(draw: Drawing) -> None:
     draw.text(515, 52, "layer 3: call control and packet mode", "ink", 14.5, anchor="middle", bold=True)
     upright(draw, 216, 70, 142, IN)
     draw.text(230, 94, "requests: establish, release, data, unit data, busy,", IN, 12.5)
-    draw.text(230, 111, "ready, deactivate, down; assign, check, remove a TEI", IN, 12.5)
+    draw.text(230, 111, "ready, deactivate, down; assign, check, remove, disown a TEI", IN, 12.5)
     draw.text(230, 128, "each is accepted, or refused and nothing changes", "soft", 12.5)
     upright(draw, 610, 142, 70, OUT)
     draw.text(624, 94, "notes: link established, released, data,", OUT, 12.5)

@@ -135,6 +135,7 @@ abbrev pub request_for : Asked → ℕ → List ℕ → asking.Request
 request_for asked.Assign tei octets = asking.Assign tei
 request_for asked.Remove tei octets = asking.Remove tei
 request_for asked.Check tei octets = asking.Check tei
+request_for asked.Disown tei octets = asking.Disown tei
 request_for (asked.Establish service) tei octets = asking.Establish service tei
 request_for (asked.Release service) tei octets = asking.Release service tei
 request_for (asked.SetBusy service) tei octets = asking.SetBusy service tei

@@ -1,6 +1,6 @@
 -- Hand-written answers for `LinkLayer::request`.
 use Rattle.lapd_line.proofs.Vocabulary.{nat_le, [], refl, ap, sym, subst, used_slots, refusal, request_of, aim_of_request, Serves}
-use Rattle.lapd_line.proofs.LayerRequests.{assign_rows, remove_rows, check_rows}
+use Rattle.lapd_line.proofs.LayerRequests.{assign_rows, remove_rows, check_rows, disown_rows}
 use Rattle.lapd_line.proofs.RequestSteps.{refused_as, granted_as, aimed_as, Asks, asks_as, establish_asks, release_asks, data_asks, set_busy_asks, clear_busy_asks}
 use Rattle.lapd_line.proofs.link_layer.LinkLayer.request.Goals as goal
 use Rattle.lapd_line.proofs.link_layer.LinkLayer.request.Goals.{in-Establish, in-Release, in-Data, in-SetBusy, in-ClearBusy}
@@ -47,6 +47,12 @@ returns-in-Check-clause-refused g c = refused_as _ _ _ (ap request_of c.in-Check
 
 pub returns-in-Check-clause-granted : goal.returns-in-Check-clause-granted
 returns-in-Check-clause-granted g c = granted_as _ _ _ (ap request_of c.in-Check.is) (check_rows c.args.self.now.config (nat_le c.args.slots (used_slots (g.S.Shelf.store c.args.shelf.now))) c.in-Check.tei) c.manage-in-Check.result c.manage-in-Check.ensures.granted
+
+pub returns-in-Disown-clause-refused : goal.returns-in-Disown-clause-refused
+returns-in-Disown-clause-refused g c = refused_as _ _ _ (ap request_of c.in-Disown.is) (disown_rows c.args.self.now.config (nat_le c.args.slots (used_slots (g.S.Shelf.store c.args.shelf.now))) c.in-Disown.tei) c.manage-in-Disown.result c.manage-in-Disown.ensures.refused
+
+pub returns-in-Disown-clause-granted : goal.returns-in-Disown-clause-granted
+returns-in-Disown-clause-granted g c = granted_as _ _ _ (ap request_of c.in-Disown.is) (disown_rows c.args.self.now.config (nat_le c.args.slots (used_slots (g.S.Shelf.store c.args.shelf.now))) c.in-Disown.tei) c.manage-in-Disown.result c.manage-in-Disown.ensures.granted
 
 pub returns-in-Deactivate-clause-refused : goal.returns-in-Deactivate-clause-refused
 returns-in-Deactivate-clause-refused g c = refused_as _ _ _ (ap request_of c.in-Deactivate.is) (λ m. refl) c.deactivate.result c.deactivate.ensures.refused

@@ -137,13 +137,14 @@ all_heard n201 octets frame are h =
     let rest : hears room place (text ++ (flag ++ h.after)) ≡ came n201 frame ∷ hears room end h.after =
     ap (hears room place) (sym (append_assoc text flag h.after)) ∙ hears-append room (text ++ flag) h.after place ∙ ap (λ l. l ++ hears room end h.after) one in
     let none : hears room end h.after ≡ [] =
-    ap (λ p. hears room p h.after) (after_text text place) ∙ quiet room (after_flag (reverse_aux text place)) [] h.after refl (omega (arith, h.late)) in
-    (hears room [] h.before ++ hears room first flag,
-    by_bits n201 octets ∙ ap (hears room []) h.is
-    ∙ hears-append room h.before (flag ++ (text ++ (flag ++ h.after))) []
-    ∙ ap (λ l. hears room [] h.before ++ l) (hears-append room flag (text ++ (flag ++ h.after)) first ∙ ap (λ l. hears room first flag ++ l) rest)
-    ∙ sym (append_assoc (hears room [] h.before) (hears room first flag) (came n201 frame ∷ hears room end h.after))
-    ∙ ap (λ l. (hears room [] h.before ++ hears room first flag) ++ came n201 frame ∷ l) none)
+    ap (λ p. hears room p h.after) (after_text text place) ∙ quiet room (after_flag (reverse_aux text place)) [] h.after refl (omega (arith, h.late)) in (
+      hears room [] h.before ++ hears room first flag,
+      by_bits n201 octets ∙ ap (hears room []) h.is
+          ∙ hears-append room h.before (flag ++ (text ++ (flag ++ h.after))) []
+          ∙ ap (λ l. hears room [] h.before ++ l) (hears-append room flag (text ++ (flag ++ h.after)) first ∙ ap (λ l. hears room first flag ++ l) rest)
+          ∙ sym (append_assoc (hears room [] h.before) (hears room first flag) (came n201 frame ∷ hears room end h.after))
+          ∙ ap (λ l. (hears room [] h.before ++ hears room first flag) ++ came n201 frame ∷ l) none,
+    )
 
 -- ---- a fault
 

@@ -115,14 +115,14 @@ def copy(crates, name, folder):
 
 
 def narrowed(text, words=frozenset()):
-    """Returns a module without the imports of which it uses no word, and without what it hands on but these words."""
+    """Returns a module without the imports of which it uses no word, unless they hand one of these words on."""
     lines = text.splitlines(True)
     body = "".join(it for it in lines if not it.startswith(("--", "use ")) and not HANDS_ON.match(it))
 
     def is_kept(line):
         found = WORDS.findall(line)
-        if HANDS_ON.match(line):
-            return "*" in words or not words.isdisjoint(found)
+        if HANDS_ON.match(line) and ("*" in words or not words.isdisjoint(found)):
+            return True
         # (operators are words with gaps)
         return any("◌" in it or re.search(rf"(?<![\w-]){re.escape(it)}(?![\w-])", body) for it in found)
 

@@ -1,6 +1,6 @@
 //! A card of frames that keeps its own timers.
 
-ghost use Rattle.std.specs.Prelude.{◌≡◌, ◌^◌, ◌<◌, ◌≤◌, true, false, None, Some, length, IfOk, IfErr, IfSome, IfNone, IsErr, OnErr, OnOk, option_map};
+ghost use Rattle.std.specs.Prelude.{◌≡◌, ◌^◌, ◌<◌, ◌≤◌, ◌↔◌, true, false, None, Some, length, IfOk, IfErr, IfSome, IfNone, IsErr, OnErr, OnOk, option_map};
 ghost use Rattle.lapd_card.specs.{answer_of_request, came, cause_of, gave_in, octets_of, request_of, told_beside, told_in, IsClear};
 ghost use Rattle.lapd_card.specs.FrameCard.{line_count};
 ghost use Rattle.model_bits.specs.Stream as stream;
@@ -52,6 +52,7 @@ impl<S: Shelf> TimedFrameCard<S> {
     pub fn go_to(&mut self, moment: u64) -> bool
         ensures gone { result ≡ true → (t : TimedCard) → TimedStands S.store self.old.card self.old.timers t
             → TimedStands S.store self.new.card self.new.timers (after (time moment) t) }
+        ensures later { result ≡ true ↔ ((self.old.timers.moment ≤ moment) × (moment < 2 ^ 63)) }
         ensures refused { result ≡ false → self.new.timers ≡ self.old.timers }
         ensures card { self.new.card ≡ self.old.card }
     {

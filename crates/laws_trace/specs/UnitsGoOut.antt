@@ -24,13 +24,13 @@ use Rattle.laws_trace.specs.Units.{is_ui}
 abbrev pub is_unit : Side → List ℕ → Bool
 is_unit side = reads side (λ (f : Parts). is_ui f.control && not (f.address.sapi == 63))
 
--- The frames of the unit data that waits, oldest first: from when it is granted, whole, with its service and its TEI, in a UI
--- command with P=0, until it begins (clauses 3.6.5 and 5.2.2), or the line is down, when what waits is given up (annex B,
--- persistent deactivation).
+-- The frame of unit data: a UI command with P=0, with its service and its TEI, and the contents whole (clauses 3.6.5 and 5.2.2).
 abbrev pub unit_text : Config → Service → ℕ → List ℕ → List ℕ
 unit_text c service tei contents =
     spelling c.side (record { address = record { sapi = sapi_of service; command = true; tei = tei }; control = Ui false; info = contents })
 
+-- The frames of the unit data that waits, oldest first: from when it is granted until it begins, or the line is down, when what
+-- waits is given up (annex B, persistent deactivation).
 abbrev pub waits : Config → line_event.Event → Answer → List (List ℕ) → List (List ℕ)
 waits c (request (asked.Unit service tei contents)) a units = if is_granted a then units ++ unit_text c service tei contents ∷ [] else units
 waits c (request Down) a units = if is_granted a then [] else units

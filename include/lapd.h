@@ -39,8 +39,9 @@
  * pointer what owns memory, and nothing is proved of two questions at once.
  *
  * Everything else is tested: each function says by its status what was wrong, and then nothing has changed, neither
- * the card or clock nor what is behind the other pointers (except LAPD_NO_PLACE of lapd_clock_apply_report, and that a
- * link waits for room after LAPD_REFUSED_QUEUE_FULL of lapd_data). Where several things are wrong, the first is told:
+ * the card or clock nor what is behind the other pointers (except LAPD_NO_PLACE of lapd_clock_apply_report, that a link
+ * waits for room after LAPD_REFUSED_QUEUE_FULL of lapd_data, and that it is the moment of lapd_fall_due after its
+ * LAPD_NO_TIMER). Where several things are wrong, the first is told:
  * that a pointer is null, that there is no card or clock, that the card is of the other kind, the line, the other
  * arguments in their order; a refusal of a request is told last.
  */
@@ -117,17 +118,17 @@ enum {
     LAPD_OK = 0, /* the call did what it says */
 
     /* A request was refused: the first of these that holds. Nothing has changed. */
-    LAPD_REFUSED_BAD_TEI = 1,       /* the TEI is over 126 (for unit data on the network's side over 127) */
-    LAPD_REFUSED_NO_LINK = 2,       /* the TEI is not on the line (not for assign, nor for unit data to 127) */
+    LAPD_REFUSED_BAD_TEI = 1,       /* the TEI is over 126 (for disown, and for unit data on the network's side, over 127) */
+    LAPD_REFUSED_NO_LINK = 2,       /* the TEI is not on the line (not for assign, disown, nor unit data to 127) */
     LAPD_REFUSED_WRONG_STATE = 3,   /* the state of the link does not serve the request */
     LAPD_REFUSED_TOO_LONG = 4,      /* the contents are longer than n201 */
     LAPD_REFUSED_QUEUE_FULL = 5,    /* the link's queue is full, or the line's queue of unit data */
     LAPD_REFUSED_POOL_FULL = 6,     /* as many contents wait on the card as it has slots */
-    LAPD_REFUSED_TEI_TAKEN = 7,     /* the TEI is on the line already */
+    LAPD_REFUSED_TEI_TAKEN = 7,     /* the TEI is on the line already; or all are to be disowned, and one is */
     LAPD_REFUSED_TABLE_FULL = 8,    /* the line has as many TEIs as it may have */
     LAPD_REFUSED_CHECK_RUNNING = 9, /* an identity check is running on the line */
     LAPD_REFUSED_CONTROL_FULL = 10, /* no room for one more message of TEI management */
-    LAPD_REFUSED_WRONG_SIDE = 29,   /* only the network's side removes and checks TEIs */
+    LAPD_REFUSED_WRONG_SIDE = 29,   /* only the network's side removes, checks and disowns TEIs */
 
     /* A wrong call. Nothing has changed. */
     LAPD_NO_CARD = 11,       /* no card is there: it was not started, or was freed */
@@ -141,7 +142,8 @@ enum {
     LAPD_WRONG_LENGTH = 19,  /* contents of a request that has none; an exchange of two lengths, or beyond them; or too
                                 little room for a frame */
     LAPD_WRONG_ORDER = 20,   /* an order is none, or a report's number of orders is over 4 */
-    LAPD_WRONG_TIME = 21,    /* a moment after LAPD_LATEST, or a timer's length out of range */
+    LAPD_WRONG_TIME = 21,    /* a moment after LAPD_LATEST, or of lapd_fall_due before its last one or from 2^63 on; or a
+                                timer's length out of range */
     LAPD_WRONG_POINTER = 30, /* a pointer is null: of lapd.c, and where LAPD_CHECKED is defined */
 
     /* What else can be. */
@@ -200,7 +202,7 @@ enum {
 };
 
 enum {
-    LAPD_GROUP_TEI = 127,   /* the TEI of all terminals of a line, for unit data that the network's side sends */
+    LAPD_GROUP_TEI = 127,   /* the TEI of all terminals of a line, for unit data of the network's side, and for disown */
     LAPD_MOST_NOTES = 4,    /* no event tells more notes */
     LAPD_MOST_ORDERS = 4,   /* nor gives more orders */
     LAPD_MOST_OCTETS = 260, /* no configuration allows longer contents */
@@ -342,8 +344,9 @@ typedef struct lapd_lengths {
 
 /*
  * Starts a card of frames that keeps its own timers: no clock is needed, and no order is to be carried out. It is at moment
- * 0, and its calls happen at the moment that lapd_fall_due named last. Its reports have no orders, and lapd_expire answers
- * LAPD_WRONG_CARD, as its expiries are its own; all other calls are the same. LAPD_WRONG_TIME: a length is out of range.
+ * 0, and its calls happen at the moment that lapd_fall_due named last. So call that first: a timer that another call starts
+ * before it runs from moment 0. Its reports have no orders, and lapd_expire answers LAPD_WRONG_CARD, as its expiries are its
+ * own; all other calls are the same. LAPD_WRONG_TIME: a length is out of range.
  *
  *     while (lapd_fall_due(&card, now(), &report) == LAPD_OK)
  *         ... what the report tells of report.line
@@ -456,12 +459,14 @@ LAPD_STATUS lapd_request(lapd_card *card, uint32_t line, uint8_t request, uint8_
  * The time is now a moment, in milliseconds from any origin; and the timer that is due first, if one is, expires: the report
  * tells what that led to, at its line. So call it until it answers LAPD_NO_TIMER: then nothing is due, and calls happen at
  * this moment. At one moment: by line, then T200 before T203 before T201, by TEI, and call control before packet.
- * LAPD_WRONG_TIME: a moment before the last one, or 2^63 and later, and nothing has changed.
+ * LAPD_WRONG_TIME: a moment before the last one, or 2^63 and later, and nothing has changed. Nothing falls due until the last
+ * moment has come again, so take a clock that is never set back, and look at the status that ends the loop.
  */
 LAPD_STATUS lapd_fall_due(lapd_card *card, uint64_t now, lapd_report *report);
 
-/* When the timer falls due that falls due first: nothing falls due before. Once lapd_fall_due has answered LAPD_NO_TIMER, it
- * is later than now. LAPD_NO_TIMER: none runs. */
+/* When the timer falls due that falls due first: nothing falls due before, unless another call starts a timer. So ask once all
+ * other calls of a turn are made. If lapd_fall_due has answered LAPD_NO_TIMER, it is later than now. LAPD_NO_TIMER: none
+ * runs. */
 LAPD_STATUS lapd_next_moment(lapd_card *card, uint64_t *moment);
 
 /* ---- What a card says of itself --------------------------------------------------------------------------------- */

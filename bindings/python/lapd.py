@@ -657,7 +657,8 @@ class FrameCard(AnyCard):
 
 
 class TimedFrameCard(FrameCard):
-    """A card of frames that keeps its own timers: its reports have no orders. Its calls happen at the moment of `fall_due`."""
+    """A card of frames that keeps its own timers: its reports have no orders. Its calls happen at the moment of `fall_due`,
+    and at 0 before the first."""
 
     def __init__(self, config: Config, t200: int = 1000, t203: int = 10000, t201: int = 1000) -> None:
         self._lengths = _Lengths(*(_whole(_U32, it) for it in (t200, t203, t201)))
@@ -667,7 +668,10 @@ class TimedFrameCard(FrameCard):
         _call("lapd_card_start_frames_timed", self._at, ctypes.byref(config._raw()), ctypes.byref(self._lengths))
 
     def fall_due(self, now: int) -> Iterator[Report]:
-        """The time is now this moment: what is due falls due, one after the other, and each tells what it led to."""
+        """The time is now this moment: what is due falls due, one after the other, and each tells what it led to.
+
+        Take all of them, as `for report in card.fall_due(now)` does. Nothing falls due, and no time passes, before the
+        first is asked for."""
         while _unless(Status.NO_TIMER, "lapd_fall_due", self._at, now, ctypes.byref(self._told)):
             yield _report(self._told)
 

@@ -103,7 +103,7 @@ static void frame_comes(void) {
 }
 
 static void frames_go(void) {
-    for (uint32_t line = 0; lapd_next_waiting(&timed, line, &line) == LAPD_OK; line++) {
+    for (uint32_t line = 0; lapd_next_waiting(&timed, line, &line) == LAPD_OK;) {
         uint8_t out[LAPD_MOST_FRAME], other[LAPD_MOST_FRAME];
         size_t length = 0, octets = 1;
         lapd_report own = {0}, told = {0};

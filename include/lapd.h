@@ -117,7 +117,7 @@ uint32_t lapd_version(void);
 enum {
     LAPD_OK = 0, /* the call did what it says */
 
-    /* A request was refused: the first of these that holds. Nothing has changed. */
+    /* A request was refused: the first of these that holds, and LAPD_REFUSED_WRONG_SIDE before all. Nothing has changed. */
     LAPD_REFUSED_BAD_TEI = 1,       /* the TEI is over 126 (for disown, and for unit data on the network's side, over 127) */
     LAPD_REFUSED_NO_LINK = 2,       /* the TEI is not on the line (not for assign, disown, nor unit data to 127) */
     LAPD_REFUSED_WRONG_STATE = 3,   /* the state of the link does not serve the request */

@@ -241,8 +241,6 @@ public:
     bool reopened() const { return raw_.reopened != 0; }
     service reopened_service() const { return static_cast<service>(raw_.reopened_service); }
     uint8_t reopened_tei() const { return raw_.reopened_tei; }
-    /// The line at which the event happened.
-    uint32_t line() const { return raw_.line; }
     bool tells() const { return lapd_tells(&raw_); }
     lapd_report *raw() { return &raw_; }
     const lapd_report *raw() const { return &raw_; }
@@ -358,14 +356,6 @@ public:
 /// A card of frames.
 class frame_card : public any_card {
 public:
-    /// With lengths of timers it keeps its own: fall_due and next_moment are of such a card.
-    status start(const lapd_config &config, const lapd_lengths &lengths) {
-        return of(lapd_card_start_frames_timed(&card_, &config, &lengths));
-    }
-    /// The time is now this moment, and what is due first falls due; status::no_timer where nothing is due.
-    status fall_due(uint64_t now, report &to) { return of(lapd_fall_due(&card_, now, to.raw())); }
-    /// When the first timer falls due; status::no_timer where none runs.
-    status next_moment(uint64_t &moment) { return of(lapd_next_moment(&card_, &moment)); }
     status start(const lapd_config &config) { return of(lapd_card_start_frames(&card_, &config)); }
     status frame(uint32_t line, octets came, report &to) {
         return of(lapd_frame(&card_, line, at(came), came.size(), to.raw()));

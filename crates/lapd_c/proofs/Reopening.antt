@@ -11,12 +11,6 @@ use Rattle.lapd_c.specs.Exchange.{ExchangedBy}
 use Rattle.lapd_c.specs.LinkMarks.{is_marked, marks_of, AreMarked, MarksBecome, SetsLink}
 use Rattle.lapd_c.specs.Reopened.{AreShutBelow, TellsReopened, is_open, is_there, is_told, with_reopened}
 use Rattle.lapd_c.specs.Reports.{ShowsPull}
-use Rattle.std.proofs.Common.{min}
-use Rattle.std.proofs.Math.Nat.{min-eq_left}
-use Rattle.lapd_c.proofs.Vocabulary.{Octets, Frames, with_ports, alone, card_in, ranges_of}
-use Rattle.lapd_frame.specs.declared.timers.Order.{Order}
-use Rattle.lapd_timed.specs.declared.card_timers.CardTimers.{CardTimers}
-use Rattle.lapd_c.specs.Kept.{orders_by, seen_by, settled}
 
 -- ---- which wait
 
@@ -58,8 +52,8 @@ pub others_wait_on : (waits : ℕ → Bool) (told : Option ℕ) (one : ℕ) (lin
 others_wait_on waits told one links after some are sets = grind (arith, eqb-true, and_right, eqb-false, and_true)
 
 -- where none is marked, none waits, and nothing is told
-pub none_reopened : (line : ℕ) (m : Card) (all : List LinkMarks) (r : PlainReport) → AreMarked (marks_of all line) (λ place. false) → r.reopened ≡ 0 → r.line ≡ line → TellsReopened line m all all r
-none_reopened line m all r none shown of_line = record {
+pub none_reopened : (line : ℕ) (m : Card) (all : List LinkMarks) (r : PlainReport) → AreMarked (marks_of all line) (λ place. false) → r.reopened ≡ 0 → TellsReopened line m all all r
+none_reopened line m all r none shown = record {
   told = None;
   first = λ place lt marked. absurd (false≢true (sym (none place lt) ∙ marked));
   shown = shown;
@@ -68,21 +62,7 @@ none_reopened line m all r none shown of_line = record {
     all = sym (set-get_or all line (record { words = [] }));
     marks = λ within place lt. none place lt ∙ ap (λ b. (b && is_there line m place) && not (is_told None place)) (sym (none place lt));
   };
-  of_line = of_line;
 }
-
--- no card has so many lines that its number has no room in a report
-few_lines : (card : AnyCard) (m : Machine) → AnyStands card m → (card_in m).config.lines ≤ 64
-few_lines (Octets c) (with_ports m) s = (ranges_of m.card.config s.frames.reached.config).lines.most
-few_lines (Octets c) (alone m) s = absurd s
-few_lines (Frames c) (with_ports m) s = absurd s
-few_lines (Frames c) (alone m) s = (ranges_of m.config s.reached.config).lines.most
-
-pub line_told : (card : AnyCard) (m : Machine) (line : ℕ) (r : PlainReport) → AnyStands card m → line < (card_in m).config.lines → r.line ≡ min line 65535 → r.line ≡ line
-line_told card m line r s within is =
-    let few : (card_in m).config.lines ≤ 64 = few_lines card m s in
-    let small : line ≤ 65535 = omega (arith, few, within) in
-    is ∙ min-eq_left small
 
 -- ---- what a report showed, it shows
 
@@ -94,18 +74,6 @@ still_pulled new old begun more orders is s = grind arith
 
 pub still_answered : (new old : PlainReport) (a : line_event.Answer) → new ≡ with_reopened new old → ShowsAnswer old a → ShowsAnswer new a
 still_answered new old a is s = grind (arith, still_told)
-
--- and where the card keeps its own timers, all but the orders
-pub settled_answered : (timers : Option CardTimers) (new old : PlainReport) (a : line_event.Answer) → new ≡ settled timers new old → ShowsAnswer old a → ShowsAnswer new (seen_by timers a)
-settled_answered None new old a is s = still_answered new old a is s
-settled_answered (Some timers) new old (line_event.told t) is s = grind arith
-settled_answered (Some timers) new old (line_event.refused why) is s = s
-settled_answered (Some timers) new old (line_event.gave next) is s = s
-
-pub settled_pulled : (timers : Option CardTimers) (new old : PlainReport) (begun more : Bool) (orders : List Order) → new ≡ settled timers new old → ShowsPull old begun more orders
-    → ShowsPull new begun more (orders_by timers orders)
-settled_pulled None new old begun more orders is s = still_pulled new old begun more orders is s
-settled_pulled (Some timers) new old begun more orders is s = grind arith
 
 pub still_replied : (new old : PlainReport) (a : port.Answer) → new ≡ with_reopened new old → ShowsReply old a → ShowsReply new a
 still_replied new old a is s = grind (arith, still_told, still_pulled)

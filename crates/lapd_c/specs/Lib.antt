@@ -23,7 +23,6 @@ pub mod WorkedReopened
 pub mod CardSlots
 pub mod Cards
 pub mod CardLends
-pub mod Kept
 pub mod Laws
 pub mod Links
 pub mod Orders
@@ -61,7 +60,6 @@ pub use Rattle.lapd_c.specs.Counters.{plain_counters}
 pub use Rattle.lapd_c.specs.Exchange.{Exchanged, ExchangedIn, is_exchange, tells_nothing, step_event, steps_made, with_step}
 pub use Rattle.lapd_c.specs.Frames.{frame_comes, fails, goes, IsGiven, next_at}
 pub use Rattle.lapd_c.specs.Heads.{plain_head}
-pub use Rattle.lapd_c.specs.Kept.{IsUntimed, Obeys, orders_seen, seen, timers_of, TimersStandIn}
 pub use Rattle.lapd_c.specs.LinkMarks.{AreMarked, AreUnmarked, marks_of, MarksBecome}
 pub use Rattle.lapd_c.specs.Links.{FirstFrom, IsNext, NoneFrom}
 pub use Rattle.lapd_c.specs.Notes.{plain_note}

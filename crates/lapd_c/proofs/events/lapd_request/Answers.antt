@@ -1,18 +1,17 @@
 -- Hand-written answers for `lapd_request`.
-use Rattle.lapd_c.proofs.Vocabulary.{alone, refl, sym, ap, subst, ◌∙◌, arith, none-some, request_of, read_of, answer_of_request, at, ShowsAnswer}
+use Rattle.lapd_c.proofs.Vocabulary.{refl, sym, ap, subst, ◌∙◌, arith, none-some, request_of, read_of, answer_of_request, at, ShowsAnswer}
 use Rattle.model_line.specs.Event as line_event
-use Rattle.model_line.specs.Laws.{orders_in}
 use Rattle.lapd_card.specs.Kinds.{after}
-use Rattle.lapd_c.proofs.Reopening.{settled_answered, still_stands}
-use Rattle.lapd_c.proofs.Served.{if_ok, if_some, led_any, seen_there, there, timers_there}
+use Rattle.lapd_c.proofs.Reopening.{still_answered, still_stands}
+use Rattle.lapd_c.proofs.Served.{if_ok, if_some, there}
 use Rattle.lapd_c.proofs.events.lapd_request.Goals as goal
 
 pub returns-in-Ok-request-clause-served : goal.returns-in-Ok-request-clause-served
 returns-in-Ok-request-clause-served c = λ m s w. let t = there c.in-Some.ensures.card m s in if_ok _ _ (request_of c.in-Ok.value) (sym c.request_in.ensures.read ∙ ap read_of c.in-Ok.is) (λ granted. (
   refl,
-  still_stands (after (at c.args.line (line_event.request (request_of c.in-Ok.value))) m) c.settle.ensures.card (c.request.ensures.after.stands m t),
-  seen_there c.in-Some.ensures.card c.settle.new.report _ (settled_answered _ c.settle.new.report c.show.new.self _ c.settle.ensures.rest
-      (subst (ShowsAnswer c.show.new.self) (ap (λ r. answer_of_request r c.request.new.report) (sym c.in-Ok-request.is) ∙ c.request.ensures.told m t) (c.show.ensures (omega arith)))),
+  still_stands (after (at c.args.line (line_event.request (request_of c.in-Ok.value))) m) c.tell_reopened.ensures.card (c.request.ensures.after.stands m t),
+  still_answered c.tell_reopened.new.report c.show.new.self _ c.tell_reopened.ensures.rest
+      (subst (ShowsAnswer c.show.new.self) (ap (λ r. answer_of_request r c.request.new.report) (sym c.in-Ok-request.is) ∙ c.request.ensures.told m t) (c.show.ensures (omega arith))),
 ))
 
 pub returns-in-Err-request-clause-refused : goal.returns-in-Err-request-clause-refused
@@ -22,12 +21,3 @@ returns-in-Err-request-clause-refused c = λ m s w. if_ok _ _ (request_of c.in-O
 pub returns-in-Err-request-clause-served : goal.returns-in-Err-request-clause-served
 returns-in-Err-request-clause-served c = λ m s w. if_ok _ _ (request_of c.in-Ok.value) (sym c.request_in.ensures.read ∙ ap read_of c.in-Ok.is)
     (λ none. absurd (none-some c.in-Err-request.why (sym none ∙ c.in-Err-request.ensures.refused m (there c.in-Some.ensures.card m s))))
-
--- its orders are carried out
-pub returns-in-Ok-request-clause-timed : goal.returns-in-Ok-request-clause-timed
-returns-in-Ok-request-clause-timed c = λ done m s w. if_ok _ _ (request_of c.in-Ok.value) (sym c.request_in.ensures.read ∙ ap read_of c.in-Ok.is) (λ clock stood.
-    let t = there c.in-Some.ensures.card (alone m) s in
-    c.settle.ensures.timed (at c.args.line (line_event.request (request_of c.in-Ok.value))) m clock
-    (led_any c.args.line (line_event.request (request_of c.in-Ok.value)) m _ w (c.request.ensures.after.stands (alone m) t))
-    (c.orders.ensures ∙ ap orders_in (ap (λ r. answer_of_request r c.request.new.report) (sym c.in-Ok-request.is) ∙ c.request.ensures.told (alone m) t))
-    (timers_there c.in-Some.ensures.card m clock stood))

@@ -4,12 +4,10 @@ use Rattle.lapd_line.proofs.Quiet.{quiet_told}
 use Rattle.lapd_line.specs.Reports.{delivered_in, octets_of, told_beside, told_in}
 use Rattle.model_card.specs.Machine.{after}
 use Rattle.model_line.specs.Came.{came}
-use Rattle.model_line.specs.Event.{hears}
-use Rattle.model_line.specs.Laws.{orders_in}
 use Rattle.lapd_card.specs.Kinds.{FrameCardStands}
-use Rattle.lapd_c.proofs.Reopening.{settled_answered, still_stands}
+use Rattle.lapd_c.proofs.Reopening.{still_answered, still_stands}
 use Rattle.lapd_c.proofs.WholeFrames.{comes_at}
-use Rattle.lapd_c.proofs.Served.{frames_there, led_to, seen_there, shown_told, timers_there}
+use Rattle.lapd_c.proofs.Served.{shown_told, frames_there}
 use Rattle.lapd_c.proofs.frames.lapd_frame.Goals as goal
 
 -- all of it is shown
@@ -19,10 +17,10 @@ returns-clause-served c = λ m s w.
     let is = comes_at c.args.line c.args.octets.now _ m t in
     let delivered = c.contents.ensures ∙ ap (λ (d : Config). delivered_in (octets_of (Some (came d.n201 c.args.octets.now))) c.frame.new.report) c.frame.ensures.after.config in (
       refl,
-      still_stands (alone (after (frame_comes c.args.line c.args.octets.now m) m)) c.settle-2.ensures.card (subst (λ (e : Event). FrameCardStands c.frame.new.self (after e m)) is (c.frame.ensures.after.stands m t)),
-      seen_there c.in-Some.ensures.card c.settle-2.new.report _ (settled_answered _ c.settle-2.new.report c.show.new.self _ c.settle-2.ensures.rest
+      still_stands (alone (after (frame_comes c.args.line c.args.octets.now m) m)) c.tell_reopened-2.ensures.card (subst (λ (e : Event). FrameCardStands c.frame.new.self (after e m)) is (c.frame.ensures.after.stands m t)),
+      still_answered c.tell_reopened-2.new.report c.show.new.self _ c.tell_reopened-2.ensures.rest
           (shown_told m (frame_comes c.args.line c.args.octets.now m) _ c.show.new.self t.reached.config (c.frame.ensures.told m t ∙ ap (λ (e : Event). answer e m) is)
-          (subst (λ (o : Option (List ℕ)). length (contents_or_none o) ≤ 260 → Shows c.show.new.self (told_beside o c.frame.new.report)) delivered c.show.ensures))),
+          (subst (λ (o : Option (List ℕ)). length (contents_or_none o) ≤ 260 → Shows c.show.new.self (told_beside o c.frame.new.report)) delivered c.show.ensures)),
     )
 
 -- orders alone are
@@ -32,27 +30,8 @@ returns-then-frame-clause-served c = λ m s w.
     let is = comes_at c.args.line c.args.octets.now _ m t in
     let octets = octets_of (Some (came _ c.args.octets.now)) in (
       refl,
-      still_stands (alone (after (frame_comes c.args.line c.args.octets.now m) m)) c.settle.ensures.card (subst (λ (e : Event). FrameCardStands c.frame.new.self (after e m)) is (c.frame.ensures.after.stands m t)),
-      seen_there c.in-Some.ensures.card c.settle.new.report _ (settled_answered _ c.settle.new.report c.show_orders.new.self _ c.settle.ensures.rest
+      still_stands (alone (after (frame_comes c.args.line c.args.octets.now m) m)) c.tell_reopened.ensures.card (subst (λ (e : Event). FrameCardStands c.frame.new.self (after e m)) is (c.frame.ensures.after.stands m t)),
+      still_answered c.tell_reopened.new.report c.show_orders.new.self _ c.tell_reopened.ensures.rest
           (subst (ShowsAnswer c.show_orders.new.self) (ap told (sym (quiet_told octets c.frame.new.report (c.frame.ensures.quiet c.if-frame.true))) ∙ c.frame.ensures.told m t ∙ ap (λ (e : Event). answer e m) is)
-          c.show_orders.ensures.told)),
+          c.show_orders.ensures.told),
     )
-
--- its orders are carried out
-pub returns-clause-timed : goal.returns-clause-timed
-returns-clause-timed c = λ done m s w clock stood.
-    let t = frames_there c.in-Some.ensures.card c.in-Frames.is m s in
-    let is = comes_at c.args.line c.args.octets.now _ m t in
-    c.settle-2.ensures.timed (frame_comes c.args.line c.args.octets.now m) m clock
-    (led_to c.args.line (hears (came m.config.n201 c.args.octets.now)) m _ w (subst (λ (e : Event). FrameCardStands c.frame.new.self (after e m)) is (c.frame.ensures.after.stands m t)))
-    (c.orders-2.ensures ∙ ap orders_in (c.frame.ensures.told m t ∙ ap (λ (e : Event). answer e m) is))
-    (timers_there c.in-Some.ensures.card m clock stood)
-
-pub returns-then-frame-clause-timed : goal.returns-then-frame-clause-timed
-returns-then-frame-clause-timed c = λ done m s w clock stood.
-    let t = frames_there c.in-Some.ensures.card c.in-Frames.is m s in
-    let is = comes_at c.args.line c.args.octets.now _ m t in
-    c.settle.ensures.timed (frame_comes c.args.line c.args.octets.now m) m clock
-    (led_to c.args.line (hears (came m.config.n201 c.args.octets.now)) m _ w (subst (λ (e : Event). FrameCardStands c.frame.new.self (after e m)) is (c.frame.ensures.after.stands m t)))
-    (c.orders.ensures ∙ ap orders_in (c.frame.ensures.told m t ∙ ap (λ (e : Event). answer e m) is))
-    (timers_there c.in-Some.ensures.card m clock stood)

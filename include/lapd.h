@@ -39,9 +39,8 @@
  * pointer what owns memory, and nothing is proved of two questions at once.
  *
  * Everything else is tested: each function says by its status what was wrong, and then nothing has changed, neither
- * the card or clock nor what is behind the other pointers (except LAPD_NO_PLACE of lapd_clock_apply_report, that a link
- * waits for room after LAPD_REFUSED_QUEUE_FULL of lapd_data, and that it is the moment of lapd_fall_due after its
- * LAPD_NO_TIMER). Where several things are wrong, the first is told:
+ * the card or clock nor what is behind the other pointers (except LAPD_NO_PLACE of lapd_clock_apply_report, and that a
+ * link waits for room after LAPD_REFUSED_QUEUE_FULL of lapd_data). Where several things are wrong, the first is told:
  * that a pointer is null, that there is no card or clock, that the card is of the other kind, the line, the other
  * arguments in their order; a refusal of a request is told last.
  */
@@ -142,8 +141,7 @@ enum {
     LAPD_WRONG_LENGTH = 19,  /* contents of a request that has none; an exchange of two lengths, or beyond them; or too
                                 little room for a frame */
     LAPD_WRONG_ORDER = 20,   /* an order is none, or a report's number of orders is over 4 */
-    LAPD_WRONG_TIME = 21,    /* a moment after LAPD_LATEST, or of lapd_fall_due before its last one or from 2^63 on; or a
-                                timer's length out of range */
+    LAPD_WRONG_TIME = 21,    /* a moment after LAPD_LATEST, or a timer's length out of range */
     LAPD_WRONG_POINTER = 30, /* a pointer is null: of lapd.c, and where LAPD_CHECKED is defined */
 
     /* What else can be. */

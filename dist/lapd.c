@@ -3,7 +3,7 @@
  *
  * Made by rattle-kit-13f logic dac8208d650f15bf, wasm-opt 108 (binaryen) and wasm2c 1.0.32 (wabt)
  * through a module with the sum
- * e5503a5f3504f3c828eec9aa0c0121d0db0a49bb0c8d6bf14084720d2d857051.
+ * 20da3bc23a2d364364ba596440f8f4409262a9f1cff02c6178f424cd41c72943.
  *
  * The code is proved, each function of it, in Rattle. Proofs end with the code as the kit's compiler has it. From there on nothing
  * is proved, and all is tested: that code is compiled for WebAssembly by the kit's clang, its addresses are lowered by wasm-opt,
@@ -39,6 +39,7 @@
 #ifdef LAPD_SYMBOLS
 #define LAPD_INLINE
 #endif
+#undef LAPD_CHECKED /* each call looks at its pointers by itself */
 #include "lapd.h"
 
 enum { AHEAD = 512, WIDEST = 8 };
@@ -243,6 +244,8 @@ void rattle_dealloc(void *at) {
 #endif
 
 enum { UNITS = (LAPD_HEAP_OCTETS) / UNIT };
+/* A block has a header and a unit. */
+typedef char the_region_has_room_for_a_block[UNITS >= 2 ? 1 : -1];
 
 /* One unit more than the region has, so that it can begin at a multiple of 16. */
 static unit room[UNITS + 1];
@@ -353,74 +356,75 @@ static inline u32 I64_CLZ(u64 x) {
 
 static void w2c_f0(machine *, u64, u32);
 static void w2c_f1(machine *, u64, u64, u64);
-static u32 w2c_f2(machine *, u64, u64, u32);
-static void w2c_f3(machine *, u64, u64, u64);
-static u32 w2c_f4(machine *, u64);
-static void w2c_f5(machine *, u64);
-static void w2c_f6(machine *, u64, u64, u64);
-static u32 w2c_f7(machine *, u64);
-static void w2c_f8(machine *, u64);
-static void w2c_f9(machine *, u64);
-static u32 w2c_f10(machine *, u64);
-static u32 w2c_f11(machine *, u64, u64, u64, u64);
+static void w2c_f2(machine *, u64, u32);
+static void w2c_f3(machine *, u64, u64);
+static u32 w2c_f4(machine *, u64, u64, u32);
+static void w2c_f5(machine *, u64, u64, u64);
+static u32 w2c_f6(machine *, u64);
+static void w2c_f7(machine *, u64);
+static void w2c_f8(machine *, u64, u64, u64);
+static u32 w2c_f9(machine *, u64);
+static void w2c_f10(machine *, u64);
+static void w2c_f11(machine *, u64);
 static u32 w2c_f12(machine *, u64);
-static void w2c_f13(machine *, u64, u64, u64);
-static void w2c_f14(machine *, u64, u64, u64, u64, u64);
-static void w2c_f15(machine *, u64, u64);
-static void w2c_f16(machine *, u64, u32, u32);
-static u32 w2c_f17(machine *, u32, u64, u64);
-static void w2c_f18(machine *, u64, u64, u64, u64, u64);
-static void w2c_f19(machine *, u64, u64, u64);
-static u32 w2c_f20(machine *, u64, u64);
-static void w2c_f21(machine *, u64, u32, u32, u32, u64, u64);
-static void w2c_f22(machine *, u64, u64);
-static void w2c_f23(machine *, u64, u64, u64, u32);
-static void w2c_f24(machine *, u64, u64, u64);
-static void w2c_f25(machine *, u64, u64, u32);
-static void w2c_f26(machine *, u64, u64);
-static void w2c_f27(machine *, u64, u64, u64);
-static void w2c_f28(machine *, u64, u64, u64, u64);
-static void w2c_f29(machine *, u64, u64, u64, u64);
-static void w2c_f30(machine *, u64, u64);
-static void w2c_f31(machine *, u64, u64);
-static void w2c_f32(machine *, u64, u64, u64);
-static void w2c_f33(machine *, u64, u64, u64);
+static u32 w2c_f13(machine *, u64, u64, u64, u64);
+static u32 w2c_f14(machine *, u64);
+static void w2c_f15(machine *, u64, u64, u64);
+static void w2c_f16(machine *, u64, u64, u64, u64, u64);
+static void w2c_f17(machine *, u64, u64);
+static void w2c_f18(machine *, u64, u32, u32);
+static u32 w2c_f19(machine *, u32, u64, u64);
+static void w2c_f20(machine *, u64, u64, u64, u64, u64);
+static void w2c_f21(machine *, u64, u64, u64);
+static u32 w2c_f22(machine *, u64, u64);
+static void w2c_f23(machine *, u64, u32, u32, u32, u64, u64);
+static void w2c_f24(machine *, u64, u64);
+static void w2c_f25(machine *, u64, u64, u64, u32);
+static void w2c_f26(machine *, u64, u64, u64);
+static void w2c_f27(machine *, u64, u64, u32);
+static void w2c_f28(machine *, u64, u64);
+static void w2c_f29(machine *, u64, u64, u64);
+static void w2c_f30(machine *, u64, u64, u64, u64);
+static void w2c_f31(machine *, u64, u64, u64, u64);
+static void w2c_f32(machine *, u64, u64);
+static void w2c_f33(machine *, u64, u64);
 static void w2c_f34(machine *, u64, u64, u64);
-static void w2c_f35(machine *, u64, u64, u64, u64);
-static void w2c_f36(machine *, u64, u64, u64, u64, u64, u64);
-static void w2c_f37(machine *, u64, u64, u64);
-static void w2c_f38(machine *, u64, u64, u64, u64, u64);
-static void w2c_f39(machine *, u64, u32);
+static void w2c_f35(machine *, u64, u64, u64);
+static void w2c_f36(machine *, u64, u64, u64);
+static void w2c_f37(machine *, u64, u64, u64, u64);
+static void w2c_f38(machine *, u64, u64, u64, u64, u64, u64);
+static void w2c_f39(machine *, u64, u64, u64);
 static void w2c_f40(machine *, u64, u64, u64, u64, u64);
 static void w2c_f41(machine *, u64, u64, u64, u64, u64);
 static void w2c_f42(machine *, u64, u64, u64, u64, u64);
-static void w2c_f43(machine *, u64, u64, u64, u32, u32);
-static void w2c_f44(machine *, u64, u64, u64, u32);
+static void w2c_f43(machine *, u64, u64, u64, u64, u64);
+static void w2c_f44(machine *, u64, u64, u64, u32, u32);
 static void w2c_f45(machine *, u64, u64, u64, u32);
 static void w2c_f46(machine *, u64, u64, u64, u32);
-static void w2c_f47(machine *, u64, u64, u64);
-static void w2c_f48(machine *, u64, u64, u64, u32, u64, u64);
-static void w2c_f49(machine *, u64, u64, u64, u64, u64, u64);
-static void w2c_f50(machine *, u64, u64, u64, u64);
-static void w2c_f51(machine *, u64, u64, u32);
-static void w2c_f52(machine *, u64, u64, u32, u64);
-static void w2c_f53(machine *, u64, u64, u32);
-static void w2c_f54(machine *, u64, u32);
-static void w2c_f55(machine *, u64, u64, u32, u32);
-static void w2c_f56(machine *, u64, u64, u32);
-static void w2c_f57(machine *, u64, u64);
-static void w2c_f58(machine *, u64, u64, u32, u64);
-static void w2c_f59(machine *, u64, u64, u64, u64);
+static void w2c_f47(machine *, u64, u64, u64, u32);
+static void w2c_f48(machine *, u64, u64, u64);
+static void w2c_f49(machine *, u64, u64, u64, u32, u64, u64);
+static void w2c_f50(machine *, u64, u64, u64, u64, u64, u64);
+static void w2c_f51(machine *, u64, u64, u64, u64);
+static void w2c_f52(machine *, u64, u64, u32);
+static void w2c_f53(machine *, u64, u64, u32, u64);
+static void w2c_f54(machine *, u64, u64, u32);
+static void w2c_f55(machine *, u64, u32);
+static void w2c_f56(machine *, u64, u64, u32, u32);
+static void w2c_f57(machine *, u64, u64, u32);
+static void w2c_f58(machine *, u64, u64);
+static void w2c_f59(machine *, u64, u64, u32, u64);
 static void w2c_f60(machine *, u64, u64, u64, u64);
-static void w2c_f61(machine *, u64, u64, u32, u32, u64, u64);
-static void w2c_f62(machine *, u64, u64);
-static void w2c_f63(machine *, u64, u64, u64);
-static void w2c_f64(machine *, u64, u64, u64, u64);
-static void w2c_f65(machine *, u64, u64);
+static void w2c_f61(machine *, u64, u64, u64, u64);
+static void w2c_f62(machine *, u64, u64, u32, u32, u64, u64);
+static void w2c_f63(machine *, u64, u64);
+static void w2c_f64(machine *, u64, u64, u64);
+static void w2c_f65(machine *, u64, u64, u64, u64);
 static void w2c_f66(machine *, u64, u64);
-static u32 w2c_f67(machine *, u64, u64, u64, u64);
-static void w2c_f68(machine *, u64, u64, u64, u64);
-static u32 w2c_f69(machine *, u64, u64, u64, u64, u64);
+static void w2c_f67(machine *, u64, u64);
+static u32 w2c_f68(machine *, u64, u64, u64, u64);
+static void w2c_f69(machine *, u64, u64, u64, u64);
+static u32 w2c_f70(machine *, u64, u64, u64, u64, u64);
 static u32 w2c_lapd_clock_next(machine *, u64, u64);
 static u32 w2c_lapd_clock_set_lengths(machine *, u64, u32, u32, u32);
 static u32 w2c_lapd_limit(machine *, u64, u64);
@@ -434,6 +438,7 @@ static u32 w2c_lapd_next_link(machine *, u64, u32, u64, u64);
 static u32 w2c_lapd_room(machine *, u64, u32, u32, u32, u64);
 static u32 w2c_lapd_state(machine *, u64, u32, u32, u32, u64);
 static u32 w2c_lapd_clock_due(machine *, u64, u64, u64);
+static u32 w2c_lapd_frame_text(machine *, u64, u64, u32, u64, u64);
 static u32 w2c_lapd_card_start(machine *, u64, u64);
 static u32 w2c_lapd_card_start_frames(machine *, u64, u64);
 static u32 w2c_lapd_clock_start(machine *, u64, u64);
@@ -449,19 +454,33 @@ static u32 w2c_lapd_octet(machine *, u64, u32, u32, u64);
 static u32 w2c_lapd_request(machine *, u64, u32, u32, u32, u32, u64, u64, u64);
 static u32 w2c_lapd_exchange(machine *, u64, u32, u64, u64, u64, u64, u64, u64);
 static u32 w2c_lapd_clock_apply_report(machine *, u64, u32, u64, u64);
-static void w2c_f98(machine *, u64);
-static void w2c_f99(machine *, u64, u64, u64, u64, u64);
-static u64 w2c_f100(machine *, u64);
-static void w2c_f101(machine *, u64, u64, u64);
+static void w2c_f100(machine *, u64);
+static void w2c_f101(machine *, u64, u64, u64, u64, u64);
+static u64 w2c_f102(machine *, u64);
+static void w2c_f103(machine *, u64, u64, u64);
 static void w2c_module_heap(machine *, u64, u64);
 
 static void init_globals(machine *instance) {
 instance->w2c_g0 = 8192ull;
-instance->w2c___heap_base = 16960ull;
+instance->w2c___heap_base = 17136ull;
 }
 
 
 static const u8 data_segment_data_w2c_d0[] = {
+0x73, 0x61, 0x70, 0x69, 0x20, 0x20, 0x74, 0x65, 0x69, 0x20, 0x20, 0x63, 
+0x6f, 0x6d, 0x6d, 0x61, 0x6e, 0x64, 0x20, 0x20, 0x72, 0x65, 0x73, 0x70, 
+0x6f, 0x6e, 0x73, 0x65, 0x20, 0x20, 0x6e, 0x73, 0x20, 0x20, 0x6e, 0x72, 
+0x20, 0x20, 0x70, 0x20, 0x20, 0x66, 0x20, 0x31, 0x30, 0x20, 0x69, 0x6e, 
+0x66, 0x6f, 0x20, 0x69, 0x72, 0x72, 0x72, 0x6e, 0x72, 0x72, 0x65, 0x6a, 
+0x73, 0x61, 0x62, 0x6d, 0x65, 0x64, 0x69, 0x73, 0x63, 0x75, 0x69, 0x75, 
+0x61, 0x64, 0x6d, 0x66, 0x72, 0x6d, 0x72, 0x78, 0x69, 0x64, 0x30, 0x31, 
+0x32, 0x33, 0x34, 0x35, 0x36, 0x37, 0x38, 0x39, 0x61, 0x62, 0x63, 0x64, 
+0x65, 0x66, 0x66, 0x72, 0x61, 0x6d, 0x65, 0x3a, 0x20, 0x62, 0x61, 0x64, 
+0x20, 0x65, 0x78, 0x74, 0x65, 0x6e, 0x73, 0x69, 0x6f, 0x6e, 0x0a, 0x66, 
+0x72, 0x61, 0x6d, 0x65, 0x3a, 0x20, 0x75, 0x6e, 0x64, 0x65, 0x66, 0x69, 
+0x6e, 0x65, 0x64, 0x0a, 0x66, 0x72, 0x61, 0x6d, 0x65, 0x3a, 0x20, 0x77, 
+0x72, 0x6f, 0x6e, 0x67, 0x20, 0x73, 0x69, 0x7a, 0x65, 0x0a, 0x66, 0x72, 
+0x61, 0x6d, 0x65, 0x3a, 0x20, 0x73, 0x68, 0x6f, 0x72, 0x74, 0x0a, 0x00, 
 0x00, 0x00, 0x89, 0x11, 0x12, 0x23, 0x9b, 0x32, 0x24, 0x46, 0xad, 0x57, 
 0x36, 0x65, 0xbf, 0x74, 0x48, 0x8c, 0xc1, 0x9d, 0x5a, 0xaf, 0xd3, 0xbe, 
 0x6c, 0xca, 0xe5, 0xdb, 0x7e, 0xe9, 0xf7, 0xf8, 0x81, 0x10, 0x08, 0x01, 
@@ -1197,8 +1216,8 @@ static const u8 data_segment_data_w2c_d1[] = {
 
 static void init_memories(machine *instance) {
 wasm_rt_allocate_memory(instance, 1, 65536);
-LOAD_DATA(instance, 8192u, data_segment_data_w2c_d0, 8712);
-LOAD_DATA(instance, 16904u, data_segment_data_w2c_d1, 4);
+LOAD_DATA(instance, 8192u, data_segment_data_w2c_d0, 8880);
+LOAD_DATA(instance, 17072u, data_segment_data_w2c_d1, 4);
 }
 
 
@@ -1899,7 +1918,376 @@ i64_store(instance, LIMIT, (u64)(w2c_i0), 0, w2c_j1);
 FUNC_EPILOGUE;
 }
 
-static u32 w2c_f2(machine *instance, u64 w2c_p0, u64 w2c_p1, u32 w2c_p2) {
+static void w2c_f2(machine *instance, u64 w2c_p0, u32 w2c_p1) {
+u32 w2c_l2 = 0, w2c_l3 = 0, w2c_l4 = 0;
+FUNC_PROLOGUE;
+u32 w2c_i0, w2c_i1;
+u64 w2c_j0, w2c_j1;
+w2c_i0 = 1u;
+w2c_l2 = w2c_i0;
+w2c_i0 = 0u;
+w2c_l3 = w2c_i0;
+w2c_i0 = w2c_p1;
+w2c_i1 = 255u;
+w2c_i0 &= w2c_i1;
+w2c_l4 = w2c_i0;
+w2c_i1 = 82u;
+w2c_i0 = (u32)((s32)w2c_i0 > (s32)w2c_i1);
+if (w2c_i0) {goto w2c_B15;}
+w2c_i0 = w2c_l4;
+w2c_i1 = 4294967293u;
+w2c_i0 += w2c_i1;
+switch (w2c_i0) {
+case 0: goto w2c_B14;
+case 1: goto w2c_B2;
+case 2: goto w2c_B2;
+case 3: goto w2c_B2;
+case 4: goto w2c_B2;
+case 5: goto w2c_B2;
+case 6: goto w2c_B2;
+case 7: goto w2c_B2;
+case 8: goto w2c_B2;
+case 9: goto w2c_B2;
+case 10: goto w2c_B2;
+case 11: goto w2c_B2;
+case 12: goto w2c_B10;
+case 13: goto w2c_B2;
+case 14: goto w2c_B2;
+case 15: goto w2c_B2;
+case 16: goto w2c_B13;
+case 17: goto w2c_B2;
+case 18: goto w2c_B2;
+case 19: goto w2c_B2;
+case 20: goto w2c_B2;
+case 21: goto w2c_B2;
+case 22: goto w2c_B2;
+case 23: goto w2c_B2;
+case 24: goto w2c_B2;
+case 25: goto w2c_B2;
+case 26: goto w2c_B2;
+case 27: goto w2c_B2;
+case 28: goto w2c_B9;
+default: goto w2c_B3;
+}
+w2c_B15:;
+w2c_i0 = 4u;
+w2c_p1 = w2c_i0;
+w2c_i0 = w2c_l4;
+w2c_i1 = 4294967213u;
+w2c_i0 += w2c_i1;
+switch (w2c_i0) {
+case 0: goto w2c_B16;
+case 1: goto w2c_B2;
+case 2: goto w2c_B2;
+case 3: goto w2c_B2;
+case 4: goto w2c_B2;
+case 5: goto w2c_B2;
+case 6: goto w2c_B2;
+case 7: goto w2c_B2;
+case 8: goto w2c_B2;
+case 9: goto w2c_B2;
+case 10: goto w2c_B2;
+case 11: goto w2c_B2;
+case 12: goto w2c_B2;
+case 13: goto w2c_B2;
+case 14: goto w2c_B2;
+case 15: goto w2c_B2;
+case 16: goto w2c_B12;
+case 17: goto w2c_B2;
+case 18: goto w2c_B2;
+case 19: goto w2c_B2;
+case 20: goto w2c_B2;
+case 21: goto w2c_B2;
+case 22: goto w2c_B2;
+case 23: goto w2c_B2;
+case 24: goto w2c_B2;
+case 25: goto w2c_B2;
+case 26: goto w2c_B2;
+case 27: goto w2c_B2;
+case 28: goto w2c_B0;
+case 29: goto w2c_B2;
+case 30: goto w2c_B2;
+case 31: goto w2c_B2;
+case 32: goto w2c_B11;
+case 33: goto w2c_B2;
+case 34: goto w2c_B2;
+case 35: goto w2c_B2;
+case 36: goto w2c_B2;
+case 37: goto w2c_B2;
+case 38: goto w2c_B2;
+case 39: goto w2c_B2;
+case 40: goto w2c_B2;
+case 41: goto w2c_B2;
+case 42: goto w2c_B2;
+case 43: goto w2c_B2;
+case 44: goto w2c_B4;
+case 45: goto w2c_B2;
+case 46: goto w2c_B2;
+case 47: goto w2c_B2;
+case 48: goto w2c_B2;
+case 49: goto w2c_B2;
+case 50: goto w2c_B2;
+case 51: goto w2c_B2;
+case 52: goto w2c_B8;
+case 53: goto w2c_B2;
+case 54: goto w2c_B2;
+case 55: goto w2c_B2;
+case 56: goto w2c_B2;
+case 57: goto w2c_B2;
+case 58: goto w2c_B2;
+case 59: goto w2c_B2;
+case 60: goto w2c_B2;
+case 61: goto w2c_B2;
+case 62: goto w2c_B2;
+case 63: goto w2c_B2;
+case 64: goto w2c_B2;
+case 65: goto w2c_B2;
+case 66: goto w2c_B2;
+case 67: goto w2c_B2;
+case 68: goto w2c_B7;
+default: goto w2c_B17;
+}
+w2c_B17:;
+w2c_i0 = w2c_l4;
+w2c_i1 = 4294967121u;
+w2c_i0 += w2c_i1;
+switch (w2c_i0) {
+case 0: goto w2c_B6;
+case 1: goto w2c_B2;
+case 2: goto w2c_B2;
+case 3: goto w2c_B2;
+case 4: goto w2c_B2;
+case 5: goto w2c_B2;
+case 6: goto w2c_B2;
+case 7: goto w2c_B2;
+case 8: goto w2c_B2;
+case 9: goto w2c_B2;
+case 10: goto w2c_B2;
+case 11: goto w2c_B2;
+case 12: goto w2c_B2;
+case 13: goto w2c_B2;
+case 14: goto w2c_B2;
+case 15: goto w2c_B2;
+case 16: goto w2c_B5;
+default: goto w2c_B2;
+}
+w2c_B16:;
+w2c_i0 = 5u;
+w2c_p1 = w2c_i0;
+goto w2c_B4;
+w2c_B14:;
+w2c_i0 = 6u;
+w2c_p1 = w2c_i0;
+goto w2c_B0;
+w2c_B13:;
+w2c_i0 = 6u;
+w2c_p1 = w2c_i0;
+goto w2c_B4;
+w2c_B12:;
+w2c_i0 = 7u;
+w2c_p1 = w2c_i0;
+goto w2c_B0;
+w2c_B11:;
+w2c_i0 = 7u;
+w2c_p1 = w2c_i0;
+goto w2c_B4;
+w2c_B10:;
+w2c_i0 = 8u;
+w2c_p1 = w2c_i0;
+goto w2c_B0;
+w2c_B9:;
+w2c_i0 = 8u;
+w2c_p1 = w2c_i0;
+goto w2c_B4;
+w2c_B8:;
+w2c_i0 = 9u;
+w2c_p1 = w2c_i0;
+goto w2c_B0;
+w2c_B7:;
+w2c_i0 = 9u;
+w2c_p1 = w2c_i0;
+goto w2c_B4;
+w2c_B6:;
+w2c_i0 = 10u;
+w2c_p1 = w2c_i0;
+goto w2c_B0;
+w2c_B5:;
+w2c_i0 = 10u;
+w2c_p1 = w2c_i0;
+w2c_B4:;
+w2c_i0 = 1u;
+w2c_l3 = w2c_i0;
+w2c_i0 = 1u;
+w2c_l2 = w2c_i0;
+goto w2c_B0;
+w2c_B3:;
+w2c_i0 = w2c_l4;
+w2c_i1 = 67u;
+w2c_i0 = w2c_i0 == w2c_i1;
+if (w2c_i0) {goto w2c_B1;}
+w2c_B2:;
+w2c_i0 = 0u;
+w2c_l3 = w2c_i0;
+w2c_i0 = 0u;
+w2c_p1 = w2c_i0;
+w2c_i0 = 0u;
+w2c_l2 = w2c_i0;
+goto w2c_B0;
+w2c_B1:;
+w2c_i0 = 5u;
+w2c_p1 = w2c_i0;
+w2c_B0:;
+w2c_j0 = w2c_p0;
+w2c_i0 = (u32)(w2c_j0);
+w2c_i1 = w2c_l2;
+i32_store8(instance, LIMIT, (u64)(w2c_i0), 0, w2c_i1);
+w2c_j0 = w2c_p0;
+w2c_j1 = 3ull;
+w2c_j0 += w2c_j1;
+w2c_i0 = (u32)(w2c_j0);
+w2c_i1 = 0u;
+i32_store16(instance, LIMIT, (u64)(w2c_i0), 0, w2c_i1);
+w2c_j0 = w2c_p0;
+w2c_j1 = 2ull;
+w2c_j0 += w2c_j1;
+w2c_i0 = (u32)(w2c_j0);
+w2c_i1 = w2c_l3;
+i32_store8(instance, LIMIT, (u64)(w2c_i0), 0, w2c_i1);
+w2c_j0 = w2c_p0;
+w2c_j1 = 1ull;
+w2c_j0 += w2c_j1;
+w2c_i0 = (u32)(w2c_j0);
+w2c_i1 = w2c_p1;
+i32_store8(instance, LIMIT, (u64)(w2c_i0), 0, w2c_i1);
+FUNC_EPILOGUE;
+}
+
+static void w2c_f3(machine *instance, u64 w2c_p0, u64 w2c_p1) {
+u64 w2c_l2 = 0, w2c_l3 = 0, w2c_l4 = 0;
+FUNC_PROLOGUE;
+u32 w2c_i0, w2c_i1, w2c_i2;
+u64 w2c_j0, w2c_j1, w2c_j2;
+w2c_j0 = instance->w2c_g0;
+w2c_j1 = 96ull;
+w2c_j0 -= w2c_j1;
+w2c_l2 = w2c_j0;
+instance->w2c_g0 = w2c_j0;
+w2c_j0 = w2c_p1;
+w2c_j1 = 10ull;
+w2c_i0 = w2c_j0 >= w2c_j1;
+if (w2c_i0) {goto w2c_B1;}
+w2c_j0 = w2c_l2;
+w2c_i0 = (u32)(w2c_j0);
+w2c_j1 = 0ull;
+i64_store(instance, LIMIT, (u64)(w2c_i0), 88, w2c_j1);
+w2c_j0 = w2c_l2;
+w2c_i0 = (u32)(w2c_j0);
+w2c_j1 = 0ull;
+i64_store(instance, LIMIT, (u64)(w2c_i0), 80, w2c_j1);
+w2c_j0 = w2c_l2;
+w2c_i0 = (u32)(w2c_j0);
+w2c_j1 = 0ull;
+i64_store(instance, LIMIT, (u64)(w2c_i0), 72, w2c_j1);
+w2c_j0 = w2c_l2;
+w2c_i0 = (u32)(w2c_j0);
+w2c_j1 = 0ull;
+i64_store(instance, LIMIT, (u64)(w2c_i0), 64, w2c_j1);
+w2c_j0 = w2c_l2;
+w2c_j1 = 64ull;
+w2c_j0 += w2c_j1;
+w2c_l3 = w2c_j0;
+goto w2c_B0;
+w2c_B1:;
+w2c_j0 = w2c_l2;
+w2c_j1 = w2c_p1;
+w2c_j2 = 10ull;
+w2c_j1 = DIV_U(w2c_j1, w2c_j2);
+w2c_l3 = w2c_j1;
+w2c_f3(instance, w2c_j0, w2c_j1);
+w2c_j0 = w2c_l2;
+w2c_i0 = (u32)(w2c_j0);
+w2c_j1 = w2c_l2;
+w2c_i1 = (u32)(w2c_j1);
+w2c_j1 = i64_load(instance, LIMIT, (u64)(w2c_i1), 24);
+i64_store(instance, LIMIT, (u64)(w2c_i0), 56, w2c_j1);
+w2c_j0 = w2c_l2;
+w2c_i0 = (u32)(w2c_j0);
+w2c_j1 = w2c_l2;
+w2c_i1 = (u32)(w2c_j1);
+w2c_j1 = i64_load(instance, LIMIT, (u64)(w2c_i1), 16);
+i64_store(instance, LIMIT, (u64)(w2c_i0), 48, w2c_j1);
+w2c_j0 = w2c_l2;
+w2c_i0 = (u32)(w2c_j0);
+w2c_j1 = w2c_l2;
+w2c_i1 = (u32)(w2c_j1);
+w2c_j1 = i64_load(instance, LIMIT, (u64)(w2c_i1), 8);
+i64_store(instance, LIMIT, (u64)(w2c_i0), 40, w2c_j1);
+w2c_j0 = w2c_l2;
+w2c_i0 = (u32)(w2c_j0);
+w2c_j1 = w2c_l2;
+w2c_i1 = (u32)(w2c_j1);
+w2c_j1 = i64_load(instance, LIMIT, (u64)(w2c_i1), 0);
+i64_store(instance, LIMIT, (u64)(w2c_i0), 32, w2c_j1);
+w2c_j0 = w2c_p1;
+w2c_j1 = w2c_l3;
+w2c_j2 = 10ull;
+w2c_j1 *= w2c_j2;
+w2c_j0 -= w2c_j1;
+w2c_p1 = w2c_j0;
+w2c_j0 = w2c_l2;
+w2c_j1 = 32ull;
+w2c_j0 += w2c_j1;
+w2c_l3 = w2c_j0;
+w2c_B0:;
+w2c_j0 = w2c_l3;
+w2c_j1 = w2c_l3;
+w2c_i1 = (u32)(w2c_j1);
+w2c_j1 = i64_load(instance, LIMIT, (u64)(w2c_i1), 24);
+w2c_l4 = w2c_j1;
+w2c_j0 += w2c_j1;
+w2c_i0 = (u32)(w2c_j0);
+w2c_j1 = w2c_p1;
+w2c_i1 = (u32)(w2c_j1);
+w2c_i2 = 48u;
+w2c_i1 |= w2c_i2;
+i32_store8(instance, LIMIT, (u64)(w2c_i0), 0, w2c_i1);
+w2c_j0 = w2c_p0;
+w2c_i0 = (u32)(w2c_j0);
+w2c_j1 = w2c_l4;
+w2c_j2 = 1ull;
+w2c_j1 += w2c_j2;
+w2c_p1 = w2c_j1;
+i64_store(instance, LIMIT, (u64)(w2c_i0), 24, w2c_j1);
+w2c_j0 = w2c_l3;
+w2c_i0 = (u32)(w2c_j0);
+w2c_j1 = w2c_p1;
+i64_store(instance, LIMIT, (u64)(w2c_i0), 24, w2c_j1);
+w2c_j0 = w2c_p0;
+w2c_i0 = (u32)(w2c_j0);
+w2c_j1 = w2c_l3;
+w2c_i1 = (u32)(w2c_j1);
+w2c_j1 = i64_load(instance, LIMIT, (u64)(w2c_i1), 0);
+i64_store(instance, LIMIT, (u64)(w2c_i0), 0, w2c_j1);
+w2c_j0 = w2c_p0;
+w2c_i0 = (u32)(w2c_j0);
+w2c_j1 = w2c_l3;
+w2c_i1 = (u32)(w2c_j1);
+w2c_j1 = i64_load(instance, LIMIT, (u64)(w2c_i1), 8);
+i64_store(instance, LIMIT, (u64)(w2c_i0), 8, w2c_j1);
+w2c_j0 = w2c_p0;
+w2c_i0 = (u32)(w2c_j0);
+w2c_j1 = w2c_l3;
+w2c_i1 = (u32)(w2c_j1);
+w2c_j1 = i64_load(instance, LIMIT, (u64)(w2c_i1), 16);
+i64_store(instance, LIMIT, (u64)(w2c_i0), 16, w2c_j1);
+w2c_j0 = w2c_l2;
+w2c_j1 = 96ull;
+w2c_j0 += w2c_j1;
+instance->w2c_g0 = w2c_j0;
+FUNC_EPILOGUE;
+}
+
+static u32 w2c_f4(machine *instance, u64 w2c_p0, u64 w2c_p1, u32 w2c_p2) {
 u32 w2c_l21 = 0, w2c_l22 = 0, w2c_l23 = 0, w2c_l24 = 0, w2c_l25 = 0, w2c_l26 = 0, w2c_l27 = 0, w2c_l28 = 0, 
 w2c_l29 = 0, w2c_l30 = 0;
 u64 w2c_l3 = 0, w2c_l4 = 0, w2c_l5 = 0, w2c_l6 = 0, w2c_l7 = 0, w2c_l8 = 0, w2c_l9 = 0, w2c_l10 = 0, 
@@ -2268,7 +2656,7 @@ w2c_j2 = 1ull;
 w2c_j1 <<= (w2c_j2 & 63);
 w2c_p1 = w2c_j1;
 w2c_j2 = 2ull;
-w2c_f101(instance, w2c_j0, w2c_j1, w2c_j2);
+w2c_f103(instance, w2c_j0, w2c_j1, w2c_j2);
 w2c_j0 = w2c_l3;
 w2c_i0 = (u32)(w2c_j0);
 w2c_j0 = i64_load(instance, LIMIT, (u64)(w2c_i0), 88);
@@ -2326,7 +2714,7 @@ w2c_j2 = w2c_l5;
 w2c_j1 *= w2c_j2;
 w2c_l8 = w2c_j1;
 w2c_j2 = 1ull;
-w2c_f101(instance, w2c_j0, w2c_j1, w2c_j2);
+w2c_f103(instance, w2c_j0, w2c_j1, w2c_j2);
 w2c_j0 = w2c_l3;
 w2c_i0 = (u32)(w2c_j0);
 w2c_j0 = i64_load(instance, LIMIT, (u64)(w2c_i0), 72);
@@ -2550,7 +2938,7 @@ w2c_j1 += w2c_j2;
 w2c_j2 = w2c_l3;
 w2c_j3 = 720ull;
 w2c_j2 += w2c_j3;
-w2c_f3(instance, w2c_j0, w2c_j1, w2c_j2);
+w2c_f5(instance, w2c_j0, w2c_j1, w2c_j2);
 w2c_j0 = w2c_l3;
 w2c_i0 = (u32)(w2c_j0);
 w2c_i0 = i32_load8_u(instance, LIMIT, (u64)(w2c_i0) + 800, 0);
@@ -2638,7 +3026,7 @@ w2c_l4 = w2c_j1;
 w2c_j2 = 152ull;
 w2c_j1 *= w2c_j2;
 w2c_j2 = 8ull;
-w2c_f101(instance, w2c_j0, w2c_j1, w2c_j2);
+w2c_f103(instance, w2c_j0, w2c_j1, w2c_j2);
 w2c_j0 = w2c_l3;
 w2c_i0 = (u32)(w2c_j0);
 w2c_j0 = i64_load(instance, LIMIT, (u64)(w2c_i0), 56);
@@ -2699,7 +3087,7 @@ w2c_j1 = 40ull;
 w2c_j0 += w2c_j1;
 w2c_j1 = w2c_l15;
 w2c_j2 = 1ull;
-w2c_f101(instance, w2c_j0, w2c_j1, w2c_j2);
+w2c_f103(instance, w2c_j0, w2c_j1, w2c_j2);
 w2c_j0 = w2c_l3;
 w2c_i0 = (u32)(w2c_j0);
 w2c_j0 = i64_load(instance, LIMIT, (u64)(w2c_i0), 40);
@@ -2733,7 +3121,7 @@ w2c_j1 = 24ull;
 w2c_j0 += w2c_j1;
 w2c_j1 = w2c_l6;
 w2c_j2 = 1ull;
-w2c_f101(instance, w2c_j0, w2c_j1, w2c_j2);
+w2c_f103(instance, w2c_j0, w2c_j1, w2c_j2);
 w2c_j0 = w2c_l3;
 w2c_i0 = (u32)(w2c_j0);
 w2c_j0 = i64_load(instance, LIMIT, (u64)(w2c_i0), 24);
@@ -2819,7 +3207,7 @@ if (w2c_i0) {goto w2c_B29;}
 w2c_j0 = w2c_l3;
 w2c_j1 = 984ull;
 w2c_j0 += w2c_j1;
-w2c_i0 = w2c_f4(instance, w2c_j0);
+w2c_i0 = w2c_f6(instance, w2c_j0);
 w2c_i0 = !(w2c_i0);
 if (w2c_i0) {goto w2c_B23;}
 w2c_j0 = w2c_l3;
@@ -3155,7 +3543,7 @@ w2c_p1 = w2c_j0;
 goto w2c_B12;
 w2c_B25:;
 w2c_j0 = w2c_l14;
-w2c_f98(instance, w2c_j0);
+w2c_f100(instance, w2c_j0);
 w2c_B24:;
 w2c_j0 = w2c_l3;
 w2c_i0 = (u32)(w2c_j0);
@@ -3189,13 +3577,13 @@ if (w2c_i0) {goto w2c_B32;}
 w2c_j0 = w2c_p0;
 w2c_i0 = (u32)(w2c_j0);
 w2c_j0 = i64_load(instance, LIMIT, (u64)(w2c_i0), 0);
-w2c_f98(instance, w2c_j0);
+w2c_f100(instance, w2c_j0);
 w2c_B32:;
 w2c_j0 = w2c_p1;
 w2c_i0 = !(w2c_j0);
 if (w2c_i0) {goto w2c_B33;}
 w2c_j0 = w2c_l5;
-w2c_f98(instance, w2c_j0);
+w2c_f100(instance, w2c_j0);
 w2c_B33:;
 w2c_j0 = w2c_p0;
 w2c_j1 = 152ull;
@@ -3216,9 +3604,9 @@ if (w2c_i0) {goto w2c_B22;}
 goto w2c_B21;
 w2c_B23:;
 w2c_j0 = w2c_l14;
-w2c_f98(instance, w2c_j0);
+w2c_f100(instance, w2c_j0);
 w2c_j0 = w2c_l5;
-w2c_f98(instance, w2c_j0);
+w2c_f100(instance, w2c_j0);
 w2c_j0 = w2c_l3;
 w2c_i0 = (u32)(w2c_j0);
 w2c_j0 = i64_load(instance, LIMIT, (u64)(w2c_i0) + 1000, 0);
@@ -3258,13 +3646,13 @@ if (w2c_i0) {goto w2c_B36;}
 w2c_j0 = w2c_p0;
 w2c_i0 = (u32)(w2c_j0);
 w2c_j0 = i64_load(instance, LIMIT, (u64)(w2c_i0), 0);
-w2c_f98(instance, w2c_j0);
+w2c_f100(instance, w2c_j0);
 w2c_B36:;
 w2c_j0 = w2c_l13;
 w2c_i0 = !(w2c_j0);
 if (w2c_i0) {goto w2c_B37;}
 w2c_j0 = w2c_l5;
-w2c_f98(instance, w2c_j0);
+w2c_f100(instance, w2c_j0);
 w2c_B37:;
 w2c_j0 = w2c_p0;
 w2c_j1 = 152ull;
@@ -3283,19 +3671,19 @@ w2c_i0 = !(w2c_j0);
 if (w2c_i0) {goto w2c_B21;}
 w2c_B22:;
 w2c_j0 = w2c_l8;
-w2c_f98(instance, w2c_j0);
+w2c_f100(instance, w2c_j0);
 w2c_B21:;
 w2c_j0 = w2c_l3;
 w2c_j1 = 960ull;
 w2c_j0 += w2c_j1;
-w2c_f5(instance, w2c_j0);
+w2c_f7(instance, w2c_j0);
 w2c_j0 = w2c_l20;
-w2c_f98(instance, w2c_j0);
+w2c_f100(instance, w2c_j0);
 w2c_j0 = w2c_l10;
 w2c_i0 = !(w2c_j0);
 if (w2c_i0) {goto w2c_B13;}
 w2c_j0 = w2c_l18;
-w2c_f98(instance, w2c_j0);
+w2c_f100(instance, w2c_j0);
 w2c_i0 = 22u;
 w2c_l21 = w2c_i0;
 goto w2c_B0;
@@ -3345,7 +3733,7 @@ w2c_j1 += w2c_j2;
 w2c_j2 = w2c_l3;
 w2c_j3 = 248ull;
 w2c_j2 += w2c_j3;
-w2c_f3(instance, w2c_j0, w2c_j1, w2c_j2);
+w2c_f5(instance, w2c_j0, w2c_j1, w2c_j2);
 w2c_j0 = w2c_l3;
 w2c_i0 = (u32)(w2c_j0);
 w2c_i0 = i32_load8_u(instance, LIMIT, (u64)(w2c_i0), 304);
@@ -3376,7 +3764,7 @@ w2c_p1 = w2c_j0;
 goto w2c_B12;
 w2c_B16:;
 w2c_j0 = w2c_l7;
-w2c_f98(instance, w2c_j0);
+w2c_f100(instance, w2c_j0);
 w2c_B13:;
 w2c_i0 = 22u;
 w2c_l21 = w2c_i0;
@@ -3389,7 +3777,7 @@ w2c_j1 = w2c_p1;
 w2c_j2 = w2c_l3;
 w2c_j3 = 666ull;
 w2c_j2 += w2c_j3;
-w2c_f6(instance, w2c_j0, w2c_j1, w2c_j2);
+w2c_f8(instance, w2c_j0, w2c_j1, w2c_j2);
 w2c_j0 = w2c_l3;
 w2c_i0 = (u32)(w2c_j0);
 w2c_i0 = i32_load8_u(instance, LIMIT, (u64)(w2c_i0), 8);
@@ -3426,7 +3814,7 @@ FUNC_EPILOGUE;
 return w2c_i0;
 }
 
-static void w2c_f3(machine *instance, u64 w2c_p0, u64 w2c_p1, u64 w2c_p2) {
+static void w2c_f5(machine *instance, u64 w2c_p0, u64 w2c_p1, u64 w2c_p2) {
 u32 w2c_l35 = 0, w2c_l36 = 0, w2c_l37 = 0, w2c_l38 = 0, w2c_l39 = 0, w2c_l40 = 0, w2c_l41 = 0, w2c_l42 = 0, 
 w2c_l43 = 0, w2c_l44 = 0, w2c_l45 = 0, w2c_l46 = 0, w2c_l47 = 0, w2c_l48 = 0, w2c_l49 = 0, w2c_l50 = 0, 
 w2c_l51 = 0, w2c_l52 = 0;
@@ -3738,12 +4126,12 @@ w2c_i0 = !(w2c_i0);
 if (w2c_i0) {goto w2c_B1;}
 w2c_B2:;
 w2c_j0 = w2c_p2;
-w2c_f98(instance, w2c_j0);
+w2c_f100(instance, w2c_j0);
 w2c_j0 = w2c_l5;
 w2c_i0 = !(w2c_j0);
 if (w2c_i0) {goto w2c_B15;}
 w2c_j0 = w2c_l7;
-w2c_f98(instance, w2c_j0);
+w2c_f100(instance, w2c_j0);
 w2c_B15:;
 w2c_j0 = w2c_p0;
 w2c_i0 = (u32)(w2c_j0);
@@ -3782,7 +4170,7 @@ w2c_l9 = w2c_j1;
 w2c_j2 = 792ull;
 w2c_j1 *= w2c_j2;
 w2c_j2 = 8ull;
-w2c_f101(instance, w2c_j0, w2c_j1, w2c_j2);
+w2c_f103(instance, w2c_j0, w2c_j1, w2c_j2);
 w2c_j0 = w2c_l3;
 w2c_i0 = (u32)(w2c_j0);
 w2c_j0 = i64_load(instance, LIMIT, (u64)(w2c_i0), 80);
@@ -3947,7 +4335,7 @@ w2c_j1 = 64ull;
 w2c_j0 += w2c_j1;
 w2c_j1 = 24ull;
 w2c_j2 = 2ull;
-w2c_f101(instance, w2c_j0, w2c_j1, w2c_j2);
+w2c_f103(instance, w2c_j0, w2c_j1, w2c_j2);
 w2c_j0 = w2c_l3;
 w2c_i0 = (u32)(w2c_j0);
 w2c_j0 = i64_load(instance, LIMIT, (u64)(w2c_i0), 64);
@@ -3977,7 +4365,7 @@ w2c_j1 = 48ull;
 w2c_j0 += w2c_j1;
 w2c_j1 = w2c_l12;
 w2c_j2 = 8ull;
-w2c_f101(instance, w2c_j0, w2c_j1, w2c_j2);
+w2c_f103(instance, w2c_j0, w2c_j1, w2c_j2);
 w2c_j0 = w2c_l3;
 w2c_i0 = (u32)(w2c_j0);
 w2c_j0 = i64_load(instance, LIMIT, (u64)(w2c_i0), 48);
@@ -4008,7 +4396,7 @@ w2c_j1 = 32ull;
 w2c_j0 += w2c_j1;
 w2c_j1 = w2c_l18;
 w2c_j2 = 1ull;
-w2c_f101(instance, w2c_j0, w2c_j1, w2c_j2);
+w2c_f103(instance, w2c_j0, w2c_j1, w2c_j2);
 w2c_j0 = w2c_l3;
 w2c_i0 = (u32)(w2c_j0);
 w2c_j0 = i64_load(instance, LIMIT, (u64)(w2c_i0), 32);
@@ -4026,7 +4414,7 @@ w2c_j1 = 16ull;
 w2c_j0 += w2c_j1;
 w2c_j1 = w2c_l16;
 w2c_j2 = 8ull;
-w2c_f101(instance, w2c_j0, w2c_j1, w2c_j2);
+w2c_f103(instance, w2c_j0, w2c_j1, w2c_j2);
 w2c_j0 = w2c_l3;
 w2c_i0 = (u32)(w2c_j0);
 w2c_j0 = i64_load(instance, LIMIT, (u64)(w2c_i0), 16);
@@ -4187,7 +4575,7 @@ if (w2c_i0) {goto w2c_L26;}
 w2c_j0 = w2c_l3;
 w2c_j1 = w2c_l14;
 w2c_j2 = 8ull;
-w2c_f101(instance, w2c_j0, w2c_j1, w2c_j2);
+w2c_f103(instance, w2c_j0, w2c_j1, w2c_j2);
 w2c_j0 = w2c_l3;
 w2c_i0 = (u32)(w2c_j0);
 w2c_j0 = i64_load(instance, LIMIT, (u64)(w2c_i0), 0);
@@ -4216,9 +4604,9 @@ w2c_j1 = 32ull;
 w2c_j0 += w2c_j1;
 w2c_i0 = (u32)(w2c_j0);
 w2c_j0 = i64_load(instance, LIMIT, (u64)(w2c_i0), 0);
-w2c_f98(instance, w2c_j0);
+w2c_f100(instance, w2c_j0);
 w2c_j0 = w2c_l4;
-w2c_f98(instance, w2c_j0);
+w2c_f100(instance, w2c_j0);
 w2c_j0 = w2c_l8;
 w2c_j1 = w2c_p1;
 w2c_j2 = 96ull;
@@ -4227,13 +4615,13 @@ w2c_p1 = w2c_j1;
 w2c_i0 = w2c_j0 != w2c_j1;
 if (w2c_i0) {goto w2c_L27;}
 w2c_j0 = w2c_l29;
-w2c_f98(instance, w2c_j0);
+w2c_f100(instance, w2c_j0);
 w2c_j0 = w2c_l28;
-w2c_f98(instance, w2c_j0);
+w2c_f100(instance, w2c_j0);
 goto w2c_B21;
 w2c_B25:;
 w2c_j0 = w2c_l32;
-w2c_f98(instance, w2c_j0);
+w2c_f100(instance, w2c_j0);
 w2c_B24:;
 w2c_j0 = w2c_l31;
 w2c_i0 = !(w2c_j0);
@@ -4252,9 +4640,9 @@ w2c_j1 = 18446744073709551584ull;
 w2c_j0 += w2c_j1;
 w2c_i0 = (u32)(w2c_j0);
 w2c_j0 = i64_load(instance, LIMIT, (u64)(w2c_i0), 0);
-w2c_f98(instance, w2c_j0);
+w2c_f100(instance, w2c_j0);
 w2c_j0 = w2c_l6;
-w2c_f98(instance, w2c_j0);
+w2c_f100(instance, w2c_j0);
 w2c_j0 = w2c_p1;
 w2c_j1 = 96ull;
 w2c_j0 += w2c_j1;
@@ -4268,10 +4656,10 @@ w2c_i0 = w2c_j0 != w2c_j1;
 if (w2c_i0) {goto w2c_L29;}
 w2c_B28:;
 w2c_j0 = w2c_l29;
-w2c_f98(instance, w2c_j0);
+w2c_f100(instance, w2c_j0);
 w2c_B23:;
 w2c_j0 = w2c_l28;
-w2c_f98(instance, w2c_j0);
+w2c_f100(instance, w2c_j0);
 goto w2c_B21;
 w2c_B22:;
 w2c_j0 = w2c_l3;
@@ -4349,7 +4737,7 @@ if (w2c_i0) {goto w2c_B20;}
 w2c_j0 = w2c_l3;
 w2c_j1 = 184ull;
 w2c_j0 += w2c_j1;
-w2c_i0 = w2c_f7(instance, w2c_j0);
+w2c_i0 = w2c_f9(instance, w2c_j0);
 w2c_i0 = !(w2c_i0);
 if (w2c_i0) {goto w2c_B30;}
 w2c_j0 = w2c_l3;
@@ -4363,7 +4751,7 @@ w2c_l25 = w2c_j0;
 goto w2c_B20;
 w2c_B30:;
 w2c_j0 = w2c_l28;
-w2c_f98(instance, w2c_j0);
+w2c_f100(instance, w2c_j0);
 w2c_i0 = w2c_l45;
 w2c_i1 = 65535u;
 w2c_i0 &= w2c_i1;
@@ -4383,9 +4771,9 @@ w2c_j1 = 18446744073709551584ull;
 w2c_j0 += w2c_j1;
 w2c_i0 = (u32)(w2c_j0);
 w2c_j0 = i64_load(instance, LIMIT, (u64)(w2c_i0), 0);
-w2c_f98(instance, w2c_j0);
+w2c_f100(instance, w2c_j0);
 w2c_j0 = w2c_l6;
-w2c_f98(instance, w2c_j0);
+w2c_f100(instance, w2c_j0);
 w2c_j0 = w2c_p1;
 w2c_j1 = 96ull;
 w2c_j0 += w2c_j1;
@@ -4399,14 +4787,14 @@ w2c_i0 = w2c_j0 != w2c_j1;
 if (w2c_i0) {goto w2c_L32;}
 w2c_B31:;
 w2c_j0 = w2c_l29;
-w2c_f98(instance, w2c_j0);
+w2c_f100(instance, w2c_j0);
 w2c_j0 = w2c_l30;
-w2c_f98(instance, w2c_j0);
+w2c_f100(instance, w2c_j0);
 w2c_B21:;
 w2c_j0 = w2c_l3;
 w2c_j1 = 184ull;
 w2c_j0 += w2c_j1;
-w2c_f5(instance, w2c_j0);
+w2c_f7(instance, w2c_j0);
 goto w2c_B16;
 w2c_B20:;
 w2c_j0 = w2c_l10;
@@ -4781,12 +5169,12 @@ i64_store(instance, LIMIT, (u64)(w2c_i0), 0, w2c_j1);
 goto w2c_B0;
 w2c_B16:;
 w2c_j0 = w2c_p2;
-w2c_f98(instance, w2c_j0);
+w2c_f100(instance, w2c_j0);
 w2c_j0 = w2c_l5;
 w2c_i0 = !(w2c_j0);
 if (w2c_i0) {goto w2c_B33;}
 w2c_j0 = w2c_l7;
-w2c_f98(instance, w2c_j0);
+w2c_f100(instance, w2c_j0);
 w2c_B33:;
 w2c_j0 = w2c_p0;
 w2c_i0 = (u32)(w2c_j0);
@@ -4814,7 +5202,7 @@ instance->w2c_g0 = w2c_j0;
 FUNC_EPILOGUE;
 }
 
-static u32 w2c_f4(machine *instance, u64 w2c_p0) {
+static u32 w2c_f6(machine *instance, u64 w2c_p0) {
 u32 w2c_l6 = 0;
 u64 w2c_l1 = 0, w2c_l2 = 0, w2c_l3 = 0, w2c_l4 = 0, w2c_l5 = 0;
 FUNC_PROLOGUE;
@@ -4884,7 +5272,7 @@ w2c_j3 = w2c_l3;
 w2c_j4 = 152ull;
 w2c_j3 *= w2c_j4;
 w2c_j4 = 8ull;
-w2c_f99(instance, w2c_j0, w2c_j1, w2c_j2, w2c_j3, w2c_j4);
+w2c_f101(instance, w2c_j0, w2c_j1, w2c_j2, w2c_j3, w2c_j4);
 w2c_j0 = w2c_l1;
 w2c_i0 = (u32)(w2c_j0);
 w2c_j0 = i64_load(instance, LIMIT, (u64)(w2c_i0), 16);
@@ -4904,7 +5292,7 @@ w2c_j1 = w2c_l5;
 w2c_j2 = 152ull;
 w2c_j1 *= w2c_j2;
 w2c_j2 = 8ull;
-w2c_f101(instance, w2c_j0, w2c_j1, w2c_j2);
+w2c_f103(instance, w2c_j0, w2c_j1, w2c_j2);
 w2c_j0 = w2c_l1;
 w2c_i0 = (u32)(w2c_j0);
 w2c_j0 = i64_load(instance, LIMIT, (u64)(w2c_i0), 0);
@@ -4940,7 +5328,7 @@ FUNC_EPILOGUE;
 return w2c_i0;
 }
 
-static void w2c_f5(machine *instance, u64 w2c_p0) {
+static void w2c_f7(machine *instance, u64 w2c_p0) {
 u64 w2c_l1 = 0, w2c_l2 = 0, w2c_l3 = 0, w2c_l4 = 0, w2c_l5 = 0, w2c_l6 = 0, w2c_l7 = 0, w2c_l8 = 0, 
 w2c_l9 = 0;
 FUNC_PROLOGUE;
@@ -4987,7 +5375,7 @@ w2c_l8 = w2c_j0;
 w2c_j0 = w2c_p0;
 w2c_i0 = (u32)(w2c_j0);
 w2c_j0 = i64_load(instance, LIMIT, (u64)(w2c_i0), 80);
-w2c_f98(instance, w2c_j0);
+w2c_f100(instance, w2c_j0);
 w2c_j0 = w2c_l8;
 w2c_i0 = !(w2c_j0);
 if (w2c_i0) {goto w2c_B2;}
@@ -5005,9 +5393,9 @@ w2c_j1 = 18446744073709551584ull;
 w2c_j0 += w2c_j1;
 w2c_i0 = (u32)(w2c_j0);
 w2c_j0 = i64_load(instance, LIMIT, (u64)(w2c_i0), 0);
-w2c_f98(instance, w2c_j0);
+w2c_f100(instance, w2c_j0);
 w2c_j0 = w2c_l9;
-w2c_f98(instance, w2c_j0);
+w2c_f100(instance, w2c_j0);
 w2c_j0 = w2c_p0;
 w2c_j1 = 96ull;
 w2c_j0 += w2c_j1;
@@ -5024,10 +5412,10 @@ w2c_j0 = w2c_l6;
 w2c_i0 = !(w2c_j0);
 if (w2c_i0) {goto w2c_B4;}
 w2c_j0 = w2c_l7;
-w2c_f98(instance, w2c_j0);
+w2c_f100(instance, w2c_j0);
 w2c_B4:;
 w2c_j0 = w2c_l5;
-w2c_f98(instance, w2c_j0);
+w2c_f100(instance, w2c_j0);
 w2c_j0 = w2c_l4;
 w2c_j1 = 1ull;
 w2c_j0 += w2c_j1;
@@ -5040,12 +5428,12 @@ w2c_j0 = w2c_l1;
 w2c_i0 = !(w2c_j0);
 if (w2c_i0) {goto w2c_B5;}
 w2c_j0 = w2c_l2;
-w2c_f98(instance, w2c_j0);
+w2c_f100(instance, w2c_j0);
 w2c_B5:;
 FUNC_EPILOGUE;
 }
 
-static void w2c_f6(machine *instance, u64 w2c_p0, u64 w2c_p1, u64 w2c_p2) {
+static void w2c_f8(machine *instance, u64 w2c_p0, u64 w2c_p1, u64 w2c_p2) {
 u32 w2c_l16 = 0, w2c_l17 = 0;
 u64 w2c_l3 = 0, w2c_l4 = 0, w2c_l5 = 0, w2c_l6 = 0, w2c_l7 = 0, w2c_l8 = 0, w2c_l9 = 0, w2c_l10 = 0, 
 w2c_l11 = 0, w2c_l12 = 0, w2c_l13 = 0, w2c_l14 = 0, w2c_l15 = 0;
@@ -5203,7 +5591,7 @@ w2c_j2 = 5ull;
 w2c_j1 <<= (w2c_j2 & 63);
 w2c_p1 = w2c_j1;
 w2c_j2 = 8ull;
-w2c_f101(instance, w2c_j0, w2c_j1, w2c_j2);
+w2c_f103(instance, w2c_j0, w2c_j1, w2c_j2);
 w2c_j0 = w2c_l3;
 w2c_i0 = (u32)(w2c_j0);
 w2c_j0 = i64_load(instance, LIMIT, (u64)(w2c_i0), 24);
@@ -5276,7 +5664,7 @@ w2c_j1 = 8ull;
 w2c_j0 += w2c_j1;
 w2c_j1 = 176ull;
 w2c_j2 = 8ull;
-w2c_f101(instance, w2c_j0, w2c_j1, w2c_j2);
+w2c_f103(instance, w2c_j0, w2c_j1, w2c_j2);
 w2c_i0 = 1u;
 w2c_l17 = w2c_i0;
 w2c_j0 = w2c_l3;
@@ -5547,7 +5935,7 @@ i64_store(instance, LIMIT, (u64)(w2c_i0), 208, w2c_j1);
 w2c_j0 = w2c_l3;
 w2c_j1 = 104ull;
 w2c_j0 += w2c_j1;
-w2c_f8(instance, w2c_j0);
+w2c_f10(instance, w2c_j0);
 w2c_i0 = 0u;
 w2c_l17 = w2c_i0;
 goto w2c_B0;
@@ -5555,9 +5943,9 @@ w2c_B1:;
 w2c_j0 = w2c_l3;
 w2c_j1 = 80ull;
 w2c_j0 += w2c_j1;
-w2c_f9(instance, w2c_j0);
+w2c_f11(instance, w2c_j0);
 w2c_j0 = w2c_l4;
-w2c_f98(instance, w2c_j0);
+w2c_f100(instance, w2c_j0);
 w2c_i0 = w2c_l16;
 w2c_i1 = 255u;
 w2c_i0 &= w2c_i1;
@@ -5566,7 +5954,7 @@ w2c_j0 = w2c_l8;
 w2c_i0 = !(w2c_j0);
 if (w2c_i0) {goto w2c_B8;}
 w2c_j0 = w2c_l6;
-w2c_f98(instance, w2c_j0);
+w2c_f100(instance, w2c_j0);
 w2c_B8:;
 w2c_j0 = w2c_l10;
 w2c_i0 = !(w2c_j0);
@@ -5596,13 +5984,13 @@ if (w2c_i0) {goto w2c_B11;}
 w2c_j0 = w2c_p1;
 w2c_i0 = (u32)(w2c_j0);
 w2c_j0 = i64_load(instance, LIMIT, (u64)(w2c_i0), 0);
-w2c_f98(instance, w2c_j0);
+w2c_f100(instance, w2c_j0);
 w2c_B11:;
 w2c_j0 = w2c_p2;
 w2c_i0 = !(w2c_j0);
 if (w2c_i0) {goto w2c_B12;}
 w2c_j0 = w2c_l4;
-w2c_f98(instance, w2c_j0);
+w2c_f100(instance, w2c_j0);
 w2c_B12:;
 w2c_j0 = w2c_p1;
 w2c_j1 = 152ull;
@@ -5624,7 +6012,7 @@ w2c_j0 = w2c_l9;
 w2c_i0 = !(w2c_j0);
 if (w2c_i0) {goto w2c_B0;}
 w2c_j0 = w2c_l11;
-w2c_f98(instance, w2c_j0);
+w2c_f100(instance, w2c_j0);
 goto w2c_B0;
 w2c_B7:;
 w2c_i0 = 0u;
@@ -5635,7 +6023,7 @@ w2c_j0 = w2c_l8;
 w2c_i0 = !(w2c_j0);
 if (w2c_i0) {goto w2c_B0;}
 w2c_j0 = w2c_l6;
-w2c_f98(instance, w2c_j0);
+w2c_f100(instance, w2c_j0);
 w2c_B0:;
 w2c_j0 = w2c_p0;
 w2c_i0 = (u32)(w2c_j0);
@@ -5652,7 +6040,7 @@ instance->w2c_g0 = w2c_j0;
 FUNC_EPILOGUE;
 }
 
-static u32 w2c_f7(machine *instance, u64 w2c_p0) {
+static u32 w2c_f9(machine *instance, u64 w2c_p0) {
 u32 w2c_l6 = 0;
 u64 w2c_l1 = 0, w2c_l2 = 0, w2c_l3 = 0, w2c_l4 = 0, w2c_l5 = 0;
 FUNC_PROLOGUE;
@@ -5722,7 +6110,7 @@ w2c_j3 = w2c_l3;
 w2c_j4 = 792ull;
 w2c_j3 *= w2c_j4;
 w2c_j4 = 8ull;
-w2c_f99(instance, w2c_j0, w2c_j1, w2c_j2, w2c_j3, w2c_j4);
+w2c_f101(instance, w2c_j0, w2c_j1, w2c_j2, w2c_j3, w2c_j4);
 w2c_j0 = w2c_l1;
 w2c_i0 = (u32)(w2c_j0);
 w2c_j0 = i64_load(instance, LIMIT, (u64)(w2c_i0), 16);
@@ -5742,7 +6130,7 @@ w2c_j1 = w2c_l5;
 w2c_j2 = 792ull;
 w2c_j1 *= w2c_j2;
 w2c_j2 = 8ull;
-w2c_f101(instance, w2c_j0, w2c_j1, w2c_j2);
+w2c_f103(instance, w2c_j0, w2c_j1, w2c_j2);
 w2c_j0 = w2c_l1;
 w2c_i0 = (u32)(w2c_j0);
 w2c_j0 = i64_load(instance, LIMIT, (u64)(w2c_i0), 0);
@@ -5778,7 +6166,7 @@ FUNC_EPILOGUE;
 return w2c_i0;
 }
 
-static void w2c_f8(machine *instance, u64 w2c_p0) {
+static void w2c_f10(machine *instance, u64 w2c_p0) {
 u64 w2c_l1 = 0, w2c_l2 = 0, w2c_l3 = 0, w2c_l4 = 0, w2c_l5 = 0, w2c_l6 = 0, w2c_l7 = 0, w2c_l8 = 0, 
 w2c_l9 = 0, w2c_l10 = 0;
 FUNC_PROLOGUE;
@@ -5866,14 +6254,14 @@ i64_store(instance, LIMIT, (u64)(w2c_i0), 8, w2c_j1);
 w2c_j0 = w2c_l1;
 w2c_j1 = 8ull;
 w2c_j0 += w2c_j1;
-w2c_f9(instance, w2c_j0);
+w2c_f11(instance, w2c_j0);
 w2c_j0 = w2c_l7;
-w2c_f98(instance, w2c_j0);
+w2c_f100(instance, w2c_j0);
 w2c_j0 = w2c_l5;
 w2c_i0 = !(w2c_j0);
 if (w2c_i0) {goto w2c_B2;}
 w2c_j0 = w2c_l6;
-w2c_f98(instance, w2c_j0);
+w2c_f100(instance, w2c_j0);
 w2c_B2:;
 w2c_j0 = w2c_l9;
 w2c_i0 = !(w2c_j0);
@@ -5903,13 +6291,13 @@ if (w2c_i0) {goto w2c_B5;}
 w2c_j0 = w2c_p0;
 w2c_i0 = (u32)(w2c_j0);
 w2c_j0 = i64_load(instance, LIMIT, (u64)(w2c_i0), 0);
-w2c_f98(instance, w2c_j0);
+w2c_f100(instance, w2c_j0);
 w2c_B5:;
 w2c_j0 = w2c_l2;
 w2c_i0 = !(w2c_j0);
 if (w2c_i0) {goto w2c_B6;}
 w2c_j0 = w2c_l5;
-w2c_f98(instance, w2c_j0);
+w2c_f100(instance, w2c_j0);
 w2c_B6:;
 w2c_j0 = w2c_p0;
 w2c_j1 = 152ull;
@@ -5927,7 +6315,7 @@ w2c_j0 = w2c_l8;
 w2c_i0 = !(w2c_j0);
 if (w2c_i0) {goto w2c_B0;}
 w2c_j0 = w2c_l10;
-w2c_f98(instance, w2c_j0);
+w2c_f100(instance, w2c_j0);
 goto w2c_B0;
 w2c_B1:;
 w2c_j0 = w2c_l1;
@@ -5951,20 +6339,20 @@ i64_store(instance, LIMIT, (u64)(w2c_i0), 8, w2c_j1);
 w2c_j0 = w2c_l1;
 w2c_j1 = 8ull;
 w2c_j0 += w2c_j1;
-w2c_f9(instance, w2c_j0);
+w2c_f11(instance, w2c_j0);
 w2c_j0 = w2c_l7;
-w2c_f98(instance, w2c_j0);
+w2c_f100(instance, w2c_j0);
 w2c_j0 = w2c_l5;
 w2c_i0 = !(w2c_j0);
 if (w2c_i0) {goto w2c_B0;}
 w2c_j0 = w2c_l6;
-w2c_f98(instance, w2c_j0);
+w2c_f100(instance, w2c_j0);
 w2c_B0:;
 w2c_j0 = w2c_l3;
 w2c_i0 = !(w2c_j0);
 if (w2c_i0) {goto w2c_B7;}
 w2c_j0 = w2c_l4;
-w2c_f98(instance, w2c_j0);
+w2c_f100(instance, w2c_j0);
 w2c_B7:;
 w2c_j0 = w2c_l1;
 w2c_j1 = 32ull;
@@ -5973,7 +6361,7 @@ instance->w2c_g0 = w2c_j0;
 FUNC_EPILOGUE;
 }
 
-static void w2c_f9(machine *instance, u64 w2c_p0) {
+static void w2c_f11(machine *instance, u64 w2c_p0) {
 u64 w2c_l1 = 0, w2c_l2 = 0, w2c_l3 = 0, w2c_l4 = 0, w2c_l5 = 0, w2c_l6 = 0, w2c_l7 = 0, w2c_l8 = 0, 
 w2c_l9 = 0;
 FUNC_PROLOGUE;
@@ -6020,7 +6408,7 @@ w2c_l8 = w2c_j0;
 w2c_j0 = w2c_p0;
 w2c_i0 = (u32)(w2c_j0);
 w2c_j0 = i64_load(instance, LIMIT, (u64)(w2c_i0), 80);
-w2c_f98(instance, w2c_j0);
+w2c_f100(instance, w2c_j0);
 w2c_j0 = w2c_l8;
 w2c_i0 = !(w2c_j0);
 if (w2c_i0) {goto w2c_B2;}
@@ -6038,9 +6426,9 @@ w2c_j1 = 18446744073709551584ull;
 w2c_j0 += w2c_j1;
 w2c_i0 = (u32)(w2c_j0);
 w2c_j0 = i64_load(instance, LIMIT, (u64)(w2c_i0), 0);
-w2c_f98(instance, w2c_j0);
+w2c_f100(instance, w2c_j0);
 w2c_j0 = w2c_l9;
-w2c_f98(instance, w2c_j0);
+w2c_f100(instance, w2c_j0);
 w2c_j0 = w2c_p0;
 w2c_j1 = 96ull;
 w2c_j0 += w2c_j1;
@@ -6057,10 +6445,10 @@ w2c_j0 = w2c_l6;
 w2c_i0 = !(w2c_j0);
 if (w2c_i0) {goto w2c_B4;}
 w2c_j0 = w2c_l7;
-w2c_f98(instance, w2c_j0);
+w2c_f100(instance, w2c_j0);
 w2c_B4:;
 w2c_j0 = w2c_l5;
-w2c_f98(instance, w2c_j0);
+w2c_f100(instance, w2c_j0);
 w2c_j0 = w2c_l4;
 w2c_j1 = 1ull;
 w2c_j0 += w2c_j1;
@@ -6073,12 +6461,12 @@ w2c_j0 = w2c_l1;
 w2c_i0 = !(w2c_j0);
 if (w2c_i0) {goto w2c_B5;}
 w2c_j0 = w2c_l2;
-w2c_f98(instance, w2c_j0);
+w2c_f100(instance, w2c_j0);
 w2c_B5:;
 FUNC_EPILOGUE;
 }
 
-static u32 w2c_f10(machine *instance, u64 w2c_p0) {
+static u32 w2c_f12(machine *instance, u64 w2c_p0) {
 u32 w2c_l6 = 0;
 u64 w2c_l1 = 0, w2c_l2 = 0, w2c_l3 = 0, w2c_l4 = 0, w2c_l5 = 0;
 FUNC_PROLOGUE;
@@ -6148,7 +6536,7 @@ w2c_j3 = w2c_l3;
 w2c_j4 = 24ull;
 w2c_j3 *= w2c_j4;
 w2c_j4 = 8ull;
-w2c_f99(instance, w2c_j0, w2c_j1, w2c_j2, w2c_j3, w2c_j4);
+w2c_f101(instance, w2c_j0, w2c_j1, w2c_j2, w2c_j3, w2c_j4);
 w2c_j0 = w2c_l1;
 w2c_i0 = (u32)(w2c_j0);
 w2c_j0 = i64_load(instance, LIMIT, (u64)(w2c_i0), 16);
@@ -6168,7 +6556,7 @@ w2c_j1 = w2c_l5;
 w2c_j2 = 24ull;
 w2c_j1 *= w2c_j2;
 w2c_j2 = 8ull;
-w2c_f101(instance, w2c_j0, w2c_j1, w2c_j2);
+w2c_f103(instance, w2c_j0, w2c_j1, w2c_j2);
 w2c_j0 = w2c_l1;
 w2c_i0 = (u32)(w2c_j0);
 w2c_j0 = i64_load(instance, LIMIT, (u64)(w2c_i0), 0);
@@ -6204,7 +6592,7 @@ FUNC_EPILOGUE;
 return w2c_i0;
 }
 
-static u32 w2c_f11(machine *instance, u64 w2c_p0, u64 w2c_p1, u64 w2c_p2, u64 w2c_p3) {
+static u32 w2c_f13(machine *instance, u64 w2c_p0, u64 w2c_p1, u64 w2c_p2, u64 w2c_p3) {
 u32 w2c_l13 = 0, w2c_l14 = 0, w2c_l15 = 0, w2c_l16 = 0, w2c_l17 = 0;
 u64 w2c_l4 = 0, w2c_l5 = 0, w2c_l6 = 0, w2c_l7 = 0, w2c_l8 = 0, w2c_l9 = 0, w2c_l10 = 0, w2c_l11 = 0, 
 w2c_l12 = 0;
@@ -6378,7 +6766,7 @@ w2c_j1 = w2c_l9;
 w2c_i0 = w2c_j0 != w2c_j1;
 if (w2c_i0) {goto w2c_B17;}
 w2c_j0 = w2c_l5;
-w2c_i0 = w2c_f12(instance, w2c_j0);
+w2c_i0 = w2c_f14(instance, w2c_j0);
 w2c_l16 = w2c_i0;
 w2c_j0 = w2c_l5;
 w2c_j1 = 8ull;
@@ -6981,7 +7369,7 @@ FUNC_EPILOGUE;
 return w2c_i0;
 }
 
-static u32 w2c_f12(machine *instance, u64 w2c_p0) {
+static u32 w2c_f14(machine *instance, u64 w2c_p0) {
 u32 w2c_l6 = 0;
 u64 w2c_l1 = 0, w2c_l2 = 0, w2c_l3 = 0, w2c_l4 = 0, w2c_l5 = 0;
 FUNC_PROLOGUE;
@@ -7051,7 +7439,7 @@ w2c_j3 = w2c_l3;
 w2c_j4 = 4ull;
 w2c_j3 <<= (w2c_j4 & 63);
 w2c_j4 = 8ull;
-w2c_f99(instance, w2c_j0, w2c_j1, w2c_j2, w2c_j3, w2c_j4);
+w2c_f101(instance, w2c_j0, w2c_j1, w2c_j2, w2c_j3, w2c_j4);
 w2c_j0 = w2c_l1;
 w2c_i0 = (u32)(w2c_j0);
 w2c_j0 = i64_load(instance, LIMIT, (u64)(w2c_i0), 16);
@@ -7071,7 +7459,7 @@ w2c_j1 = w2c_l5;
 w2c_j2 = 4ull;
 w2c_j1 <<= (w2c_j2 & 63);
 w2c_j2 = 8ull;
-w2c_f101(instance, w2c_j0, w2c_j1, w2c_j2);
+w2c_f103(instance, w2c_j0, w2c_j1, w2c_j2);
 w2c_j0 = w2c_l1;
 w2c_i0 = (u32)(w2c_j0);
 w2c_j0 = i64_load(instance, LIMIT, (u64)(w2c_i0), 0);
@@ -7107,7 +7495,7 @@ FUNC_EPILOGUE;
 return w2c_i0;
 }
 
-static void w2c_f13(machine *instance, u64 w2c_p0, u64 w2c_p1, u64 w2c_p2) {
+static void w2c_f15(machine *instance, u64 w2c_p0, u64 w2c_p1, u64 w2c_p2) {
 u32 w2c_l19 = 0, w2c_l20 = 0, w2c_l21 = 0, w2c_l22 = 0, w2c_l23 = 0, w2c_l24 = 0, w2c_l25 = 0, w2c_l26 = 0, 
 w2c_l27 = 0, w2c_l28 = 0;
 u64 w2c_l3 = 0, w2c_l4 = 0, w2c_l5 = 0, w2c_l6 = 0, w2c_l7 = 0, w2c_l8 = 0, w2c_l9 = 0, w2c_l10 = 0, 
@@ -7344,7 +7732,7 @@ w2c_j3 += w2c_j4;
 w2c_j4 = 4ull;
 w2c_j3 |= w2c_j4;
 w2c_j4 = 4ull;
-w2c_f14(instance, w2c_j0, w2c_j1, w2c_j2, w2c_j3, w2c_j4);
+w2c_f16(instance, w2c_j0, w2c_j1, w2c_j2, w2c_j3, w2c_j4);
 w2c_j0 = 0ull;
 w2c_l11 = w2c_j0;
 goto w2c_B1;
@@ -7465,7 +7853,7 @@ w2c_j5 = w2c_l18;
 w2c_j4 *= w2c_j5;
 w2c_j3 += w2c_j4;
 w2c_j4 = w2c_l15;
-w2c_f14(instance, w2c_j0, w2c_j1, w2c_j2, w2c_j3, w2c_j4);
+w2c_f16(instance, w2c_j0, w2c_j1, w2c_j2, w2c_j3, w2c_j4);
 w2c_j0 = w2c_l6;
 w2c_j1 = 152ull;
 w2c_j0 += w2c_j1;
@@ -8208,9 +8596,9 @@ w2c_j1 = w2c_l3;
 w2c_j2 = 40ull;
 w2c_j1 += w2c_j2;
 w2c_j2 = w2c_l12;
-w2c_j3 = 12288ull;
+w2c_j3 = 8225ull;
 w2c_j4 = 0ull;
-w2c_f14(instance, w2c_j0, w2c_j1, w2c_j2, w2c_j3, w2c_j4);
+w2c_f16(instance, w2c_j0, w2c_j1, w2c_j2, w2c_j3, w2c_j4);
 w2c_i0 = 0u;
 w2c_l25 = w2c_i0;
 goto w2c_B9;
@@ -8406,7 +8794,7 @@ w2c_j1 += w2c_j2;
 w2c_j2 = 4ull;
 w2c_j3 = w2c_l14;
 w2c_j4 = w2c_l9;
-w2c_f14(instance, w2c_j0, w2c_j1, w2c_j2, w2c_j3, w2c_j4);
+w2c_f16(instance, w2c_j0, w2c_j1, w2c_j2, w2c_j3, w2c_j4);
 w2c_B9:;
 w2c_j0 = w2c_l6;
 w2c_j1 = 168ull;
@@ -8444,7 +8832,7 @@ w2c_i1 >>= (w2c_i2 & 31);
 w2c_j1 = (u64)(w2c_i1);
 w2c_j2 = 255ull;
 w2c_j1 &= w2c_j2;
-w2c_j2 = 12288ull;
+w2c_j2 = 12456ull;
 w2c_j1 += w2c_j2;
 w2c_i1 = (u32)(w2c_j1);
 w2c_i1 = i32_load8_u(instance, LIMIT, (u64)(w2c_i1), 0);
@@ -8473,7 +8861,7 @@ w2c_i0 = w2c_j0 != w2c_j1;
 if (w2c_i0) {goto w2c_B41;}
 w2c_j0 = w2c_l7;
 w2c_j1 = w2c_l8;
-w2c_f15(instance, w2c_j0, w2c_j1);
+w2c_f17(instance, w2c_j0, w2c_j1);
 w2c_B41:;
 w2c_j0 = w2c_l6;
 w2c_j1 = 384ull;
@@ -8494,7 +8882,7 @@ w2c_i0 = w2c_j0 >= w2c_j1;
 if (w2c_i0) {goto w2c_B42;}
 w2c_j0 = w2c_l7;
 w2c_j1 = 25ull;
-w2c_f15(instance, w2c_j0, w2c_j1);
+w2c_f17(instance, w2c_j0, w2c_j1);
 w2c_B42:;
 w2c_i0 = w2c_l26;
 w2c_i1 = 16777216u;
@@ -8535,7 +8923,7 @@ w2c_i0 = w2c_j0 != w2c_j1;
 if (w2c_i0) {goto w2c_B43;}
 w2c_j0 = w2c_l7;
 w2c_j1 = 27ull;
-w2c_f15(instance, w2c_j0, w2c_j1);
+w2c_f17(instance, w2c_j0, w2c_j1);
 w2c_B43:;
 w2c_i0 = w2c_l20;
 if (w2c_i0) {goto w2c_B0;}
@@ -8544,7 +8932,7 @@ w2c_l21 = w2c_i0;
 w2c_j0 = w2c_l7;
 w2c_i1 = 1u;
 w2c_i2 = w2c_l22;
-w2c_f16(instance, w2c_j0, w2c_i1, w2c_i2);
+w2c_f18(instance, w2c_j0, w2c_i1, w2c_i2);
 w2c_B0:;
 w2c_j0 = w2c_l6;
 w2c_j1 = 176ull;
@@ -8746,7 +9134,7 @@ instance->w2c_g0 = w2c_j0;
 FUNC_EPILOGUE;
 }
 
-static void w2c_f14(machine *instance, u64 w2c_p0, u64 w2c_p1, u64 w2c_p2, u64 w2c_p3, u64 w2c_p4) {
+static void w2c_f16(machine *instance, u64 w2c_p0, u64 w2c_p1, u64 w2c_p2, u64 w2c_p3, u64 w2c_p4) {
 u32 w2c_l17 = 0, w2c_l18 = 0;
 u64 w2c_l5 = 0, w2c_l6 = 0, w2c_l7 = 0, w2c_l8 = 0, w2c_l9 = 0, w2c_l10 = 0, w2c_l11 = 0, w2c_l12 = 0, 
 w2c_l13 = 0, w2c_l14 = 0, w2c_l15 = 0, w2c_l16 = 0;
@@ -8761,7 +9149,7 @@ instance->w2c_g0 = w2c_j0;
 w2c_i0 = 65535u;
 w2c_j1 = w2c_p1;
 w2c_j2 = w2c_p2;
-w2c_i0 = w2c_f17(instance, w2c_i0, w2c_j1, w2c_j2);
+w2c_i0 = w2c_f19(instance, w2c_i0, w2c_j1, w2c_j2);
 w2c_l17 = w2c_i0;
 w2c_j0 = w2c_p4;
 w2c_i0 = !(w2c_j0);
@@ -8769,7 +9157,7 @@ if (w2c_i0) {goto w2c_B0;}
 w2c_i0 = w2c_l17;
 w2c_j1 = w2c_p3;
 w2c_j2 = w2c_p4;
-w2c_i0 = w2c_f17(instance, w2c_i0, w2c_j1, w2c_j2);
+w2c_i0 = w2c_f19(instance, w2c_i0, w2c_j1, w2c_j2);
 w2c_l17 = w2c_i0;
 w2c_B0:;
 w2c_j0 = w2c_p0;
@@ -9606,7 +9994,7 @@ w2c_j1 = w2c_p1;
 w2c_j2 = w2c_p2;
 w2c_j3 = w2c_p3;
 w2c_j4 = w2c_p4;
-w2c_f18(instance, w2c_j0, w2c_j1, w2c_j2, w2c_j3, w2c_j4);
+w2c_f20(instance, w2c_j0, w2c_j1, w2c_j2, w2c_j3, w2c_j4);
 w2c_j0 = w2c_p0;
 w2c_j1 = 58ull;
 w2c_j0 += w2c_j1;
@@ -9623,7 +10011,7 @@ instance->w2c_g0 = w2c_j0;
 FUNC_EPILOGUE;
 }
 
-static void w2c_f15(machine *instance, u64 w2c_p0, u64 w2c_p1) {
+static void w2c_f17(machine *instance, u64 w2c_p0, u64 w2c_p1) {
 FUNC_PROLOGUE;
 u32 w2c_i0;
 u64 w2c_j0, w2c_j1, w2c_j2;
@@ -9638,7 +10026,7 @@ i64_store(instance, LIMIT, (u64)(w2c_i0), 0, w2c_j1);
 FUNC_EPILOGUE;
 }
 
-static void w2c_f16(machine *instance, u64 w2c_p0, u32 w2c_p1, u32 w2c_p2) {
+static void w2c_f18(machine *instance, u64 w2c_p0, u32 w2c_p1, u32 w2c_p2) {
 u64 w2c_l3 = 0, w2c_l4 = 0;
 FUNC_PROLOGUE;
 u32 w2c_i0, w2c_i1, w2c_i2, w2c_i3, w2c_i4;
@@ -9683,12 +10071,12 @@ w2c_i0 = w2c_j0 != w2c_j1;
 if (w2c_i0) {goto w2c_B0;}
 w2c_j0 = w2c_p0;
 w2c_j1 = w2c_l3;
-w2c_f15(instance, w2c_j0, w2c_j1);
+w2c_f17(instance, w2c_j0, w2c_j1);
 w2c_B0:;
 FUNC_EPILOGUE;
 }
 
-static u32 w2c_f17(machine *instance, u32 w2c_p0, u64 w2c_p1, u64 w2c_p2) {
+static u32 w2c_f19(machine *instance, u32 w2c_p0, u64 w2c_p1, u64 w2c_p2) {
 u32 w2c_l7 = 0;
 u64 w2c_l3 = 0, w2c_l4 = 0, w2c_l5 = 0, w2c_l6 = 0;
 FUNC_PROLOGUE;
@@ -9719,7 +10107,7 @@ w2c_j0 = i64_load8_u(instance, LIMIT, (u64)(w2c_i0), 0);
 w2c_j1 = 1ull;
 w2c_j0 <<= (w2c_j1 & 63);
 w2c_i0 = (u32)(w2c_j0);
-w2c_i0 = i32_load16_u(instance, LIMIT, (u64)(w2c_i0) + 10240, 0);
+w2c_i0 = i32_load16_u(instance, LIMIT, (u64)(w2c_i0) + 10408, 0);
 w2c_j1 = w2c_l4;
 w2c_j2 = 2ull;
 w2c_j1 += w2c_j2;
@@ -9728,7 +10116,7 @@ w2c_j1 = i64_load8_u(instance, LIMIT, (u64)(w2c_i1), 0);
 w2c_j2 = 1ull;
 w2c_j1 <<= (w2c_j2 & 63);
 w2c_i1 = (u32)(w2c_j1);
-w2c_i1 = i32_load16_u(instance, LIMIT, (u64)(w2c_i1) + 10752, 0);
+w2c_i1 = i32_load16_u(instance, LIMIT, (u64)(w2c_i1) + 10920, 0);
 w2c_i0 ^= w2c_i1;
 w2c_j1 = w2c_l4;
 w2c_j2 = 4ull;
@@ -9738,7 +10126,7 @@ w2c_j1 = i64_load8_u(instance, LIMIT, (u64)(w2c_i1), 0);
 w2c_j2 = 1ull;
 w2c_j1 <<= (w2c_j2 & 63);
 w2c_i1 = (u32)(w2c_j1);
-w2c_i1 = i32_load16_u(instance, LIMIT, (u64)(w2c_i1) + 9728, 0);
+w2c_i1 = i32_load16_u(instance, LIMIT, (u64)(w2c_i1) + 9896, 0);
 w2c_i0 ^= w2c_i1;
 w2c_j1 = w2c_l4;
 w2c_j2 = 5ull;
@@ -9748,7 +10136,7 @@ w2c_j1 = i64_load8_u(instance, LIMIT, (u64)(w2c_i1), 0);
 w2c_j2 = 1ull;
 w2c_j1 <<= (w2c_j2 & 63);
 w2c_i1 = (u32)(w2c_j1);
-w2c_i1 = i32_load16_u(instance, LIMIT, (u64)(w2c_i1) + 9216, 0);
+w2c_i1 = i32_load16_u(instance, LIMIT, (u64)(w2c_i1) + 9384, 0);
 w2c_i0 ^= w2c_i1;
 w2c_j1 = w2c_l4;
 w2c_j2 = 6ull;
@@ -9758,7 +10146,7 @@ w2c_j1 = i64_load8_u(instance, LIMIT, (u64)(w2c_i1), 0);
 w2c_j2 = 1ull;
 w2c_j1 <<= (w2c_j2 & 63);
 w2c_i1 = (u32)(w2c_j1);
-w2c_i1 = i32_load16_u(instance, LIMIT, (u64)(w2c_i1) + 8704, 0);
+w2c_i1 = i32_load16_u(instance, LIMIT, (u64)(w2c_i1) + 8872, 0);
 w2c_i0 ^= w2c_i1;
 w2c_j1 = w2c_l4;
 w2c_j2 = 7ull;
@@ -9768,7 +10156,7 @@ w2c_j1 = i64_load8_u(instance, LIMIT, (u64)(w2c_i1), 0);
 w2c_j2 = 1ull;
 w2c_j1 <<= (w2c_j2 & 63);
 w2c_i1 = (u32)(w2c_j1);
-w2c_i1 = i32_load16_u(instance, LIMIT, (u64)(w2c_i1) + 8192, 0);
+w2c_i1 = i32_load16_u(instance, LIMIT, (u64)(w2c_i1) + 8360, 0);
 w2c_i0 ^= w2c_i1;
 w2c_j1 = w2c_l4;
 w2c_i1 = (u32)(w2c_j1);
@@ -9781,7 +10169,7 @@ w2c_j1 &= w2c_j2;
 w2c_j2 = 1ull;
 w2c_j1 <<= (w2c_j2 & 63);
 w2c_i1 = (u32)(w2c_j1);
-w2c_i1 = i32_load16_u(instance, LIMIT, (u64)(w2c_i1) + 11776, 0);
+w2c_i1 = i32_load16_u(instance, LIMIT, (u64)(w2c_i1) + 11944, 0);
 w2c_i0 ^= w2c_i1;
 w2c_j1 = w2c_l4;
 w2c_j2 = 1ull;
@@ -9796,7 +10184,7 @@ w2c_j1 &= w2c_j2;
 w2c_j2 = 1ull;
 w2c_j1 <<= (w2c_j2 & 63);
 w2c_i1 = (u32)(w2c_j1);
-w2c_i1 = i32_load16_u(instance, LIMIT, (u64)(w2c_i1) + 11264, 0);
+w2c_i1 = i32_load16_u(instance, LIMIT, (u64)(w2c_i1) + 11432, 0);
 w2c_i0 ^= w2c_i1;
 w2c_p0 = w2c_i0;
 w2c_i1 = 65280u;
@@ -9852,7 +10240,7 @@ w2c_j0 &= w2c_j1;
 w2c_j1 = 1ull;
 w2c_j0 <<= (w2c_j1 & 63);
 w2c_i0 = (u32)(w2c_j0);
-w2c_i0 = i32_load16_u(instance, LIMIT, (u64)(w2c_i0) + 8192, 0);
+w2c_i0 = i32_load16_u(instance, LIMIT, (u64)(w2c_i0) + 8360, 0);
 w2c_j1 = w2c_l4;
 w2c_i1 = (u32)(w2c_j1);
 w2c_i1 = i32_load8_u(instance, LIMIT, (u64)(w2c_i1), 0);
@@ -9864,7 +10252,7 @@ w2c_j1 &= w2c_j2;
 w2c_j2 = 1ull;
 w2c_j1 <<= (w2c_j2 & 63);
 w2c_i1 = (u32)(w2c_j1);
-w2c_i1 = i32_load16_u(instance, LIMIT, (u64)(w2c_i1) + 8704, 0);
+w2c_i1 = i32_load16_u(instance, LIMIT, (u64)(w2c_i1) + 8872, 0);
 w2c_i0 ^= w2c_i1;
 w2c_p0 = w2c_i0;
 w2c_i1 = 65280u;
@@ -9905,7 +10293,7 @@ w2c_j0 &= w2c_j1;
 w2c_j1 = 1ull;
 w2c_j0 <<= (w2c_j1 & 63);
 w2c_i0 = (u32)(w2c_j0);
-w2c_i0 = i32_load16_u(instance, LIMIT, (u64)(w2c_i0) + 8192, 0);
+w2c_i0 = i32_load16_u(instance, LIMIT, (u64)(w2c_i0) + 8360, 0);
 w2c_i1 = w2c_p0;
 w2c_i2 = 65280u;
 w2c_i1 &= w2c_i2;
@@ -9919,7 +10307,7 @@ FUNC_EPILOGUE;
 return w2c_i0;
 }
 
-static void w2c_f18(machine *instance, u64 w2c_p0, u64 w2c_p1, u64 w2c_p2, u64 w2c_p3, u64 w2c_p4) {
+static void w2c_f20(machine *instance, u64 w2c_p0, u64 w2c_p1, u64 w2c_p2, u64 w2c_p3, u64 w2c_p4) {
 u32 w2c_l5 = 0, w2c_l6 = 0, w2c_l7 = 0, w2c_l8 = 0;
 FUNC_PROLOGUE;
 u32 w2c_i0, w2c_i1;
@@ -10033,7 +10421,7 @@ i32_store8(instance, LIMIT, (u64)(w2c_i0), 0, w2c_i1);
 FUNC_EPILOGUE;
 }
 
-static void w2c_f19(machine *instance, u64 w2c_p0, u64 w2c_p1, u64 w2c_p2) {
+static void w2c_f21(machine *instance, u64 w2c_p0, u64 w2c_p1, u64 w2c_p2) {
 u32 w2c_l13 = 0, w2c_l14 = 0, w2c_l15 = 0, w2c_l16 = 0, w2c_l17 = 0;
 u64 w2c_l3 = 0, w2c_l4 = 0, w2c_l5 = 0, w2c_l6 = 0, w2c_l7 = 0, w2c_l8 = 0, w2c_l9 = 0, w2c_l10 = 0, 
 w2c_l11 = 0, w2c_l12 = 0;
@@ -10712,7 +11100,7 @@ i32_store8(instance, LIMIT, (u64)(w2c_i0), 0, w2c_i1);
 FUNC_EPILOGUE;
 }
 
-static u32 w2c_f20(machine *instance, u64 w2c_p0, u64 w2c_p1) {
+static u32 w2c_f22(machine *instance, u64 w2c_p0, u64 w2c_p1) {
 u32 w2c_l2 = 0, w2c_l3 = 0, w2c_l4 = 0, w2c_l5 = 0, w2c_l6 = 0, w2c_l7 = 0, w2c_l8 = 0, w2c_l9 = 0, 
 w2c_l10 = 0, w2c_l11 = 0, w2c_l12 = 0, w2c_l13 = 0, w2c_l14 = 0, w2c_l15 = 0, w2c_l16 = 0, w2c_l17 = 0, 
 w2c_l18 = 0, w2c_l19 = 0, w2c_l20 = 0, w2c_l21 = 0, w2c_l22 = 0, w2c_l23 = 0;
@@ -11142,7 +11530,7 @@ FUNC_EPILOGUE;
 return w2c_i0;
 }
 
-static void w2c_f21(machine *instance, u64 w2c_p0, u32 w2c_p1, u32 w2c_p2, u32 w2c_p3, u64 w2c_p4, u64 w2c_p5) {
+static void w2c_f23(machine *instance, u64 w2c_p0, u32 w2c_p1, u32 w2c_p2, u32 w2c_p3, u64 w2c_p4, u64 w2c_p5) {
 u32 w2c_l23 = 0, w2c_l24 = 0, w2c_l25 = 0;
 u64 w2c_l6 = 0, w2c_l7 = 0, w2c_l8 = 0, w2c_l9 = 0, w2c_l10 = 0, w2c_l11 = 0, w2c_l12 = 0, w2c_l13 = 0, 
 w2c_l14 = 0, w2c_l15 = 0, w2c_l16 = 0, w2c_l17 = 0, w2c_l18 = 0, w2c_l19 = 0, w2c_l20 = 0, w2c_l21 = 0, 
@@ -11470,7 +11858,7 @@ w2c_j0 = w2c_p4;
 w2c_j1 = w2c_l6;
 w2c_j2 = 12ull;
 w2c_j1 += w2c_j2;
-w2c_f22(instance, w2c_j0, w2c_j1);
+w2c_f24(instance, w2c_j0, w2c_j1);
 w2c_j0 = w2c_p4;
 w2c_i0 = (u32)(w2c_j0);
 w2c_i0 = i32_load8_u(instance, LIMIT, (u64)(w2c_i0), 0);
@@ -11725,7 +12113,7 @@ w2c_j0 = w2c_p4;
 w2c_j1 = w2c_l6;
 w2c_j2 = 12ull;
 w2c_j1 += w2c_j2;
-w2c_f22(instance, w2c_j0, w2c_j1);
+w2c_f24(instance, w2c_j0, w2c_j1);
 w2c_j0 = w2c_p4;
 w2c_i0 = (u32)(w2c_j0);
 w2c_i0 = i32_load8_u(instance, LIMIT, (u64)(w2c_i0), 0);
@@ -12053,14 +12441,14 @@ w2c_j0 += w2c_j1;
 w2c_j1 = w2c_l12;
 w2c_j2 = w2c_p4;
 w2c_i3 = 8u;
-w2c_f23(instance, w2c_j0, w2c_j1, w2c_j2, w2c_i3);
+w2c_f25(instance, w2c_j0, w2c_j1, w2c_j2, w2c_i3);
 goto w2c_B4;
 w2c_B8:;
 w2c_j0 = w2c_p4;
 w2c_j1 = w2c_l6;
 w2c_j2 = 12ull;
 w2c_j1 += w2c_j2;
-w2c_f22(instance, w2c_j0, w2c_j1);
+w2c_f24(instance, w2c_j0, w2c_j1);
 w2c_B7:;
 w2c_j0 = w2c_l12;
 w2c_j1 = 26ull;
@@ -12086,7 +12474,7 @@ w2c_j0 = w2c_p4;
 w2c_j1 = w2c_l6;
 w2c_j2 = 12ull;
 w2c_j1 += w2c_j2;
-w2c_f22(instance, w2c_j0, w2c_j1);
+w2c_f24(instance, w2c_j0, w2c_j1);
 w2c_B5:;
 w2c_j0 = w2c_l12;
 w2c_j1 = 26ull;
@@ -12491,12 +12879,6 @@ w2c_j0 |= w2c_j1;
 w2c_l8 = w2c_j0;
 w2c_B29:;
 w2c_j0 = w2c_p4;
-w2c_j1 = 48ull;
-w2c_j0 += w2c_j1;
-w2c_i0 = (u32)(w2c_j0);
-w2c_i1 = 0u;
-i32_store16(instance, LIMIT, (u64)(w2c_i0), 0, w2c_i1);
-w2c_j0 = w2c_p4;
 w2c_j1 = 26ull;
 w2c_j0 += w2c_j1;
 w2c_i0 = (u32)(w2c_j0);
@@ -12620,7 +13002,7 @@ instance->w2c_g0 = w2c_j0;
 FUNC_EPILOGUE;
 }
 
-static void w2c_f22(machine *instance, u64 w2c_p0, u64 w2c_p1) {
+static void w2c_f24(machine *instance, u64 w2c_p0, u64 w2c_p1) {
 u64 w2c_l2 = 0, w2c_l3 = 0;
 FUNC_PROLOGUE;
 u32 w2c_i0, w2c_i1;
@@ -12681,7 +13063,7 @@ w2c_j1 += w2c_j2;
 w2c_j2 = w2c_l2;
 w2c_j3 = 44ull;
 w2c_j2 += w2c_j3;
-w2c_f27(instance, w2c_j0, w2c_j1, w2c_j2);
+w2c_f29(instance, w2c_j0, w2c_j1, w2c_j2);
 w2c_j0 = w2c_p0;
 w2c_i0 = (u32)(w2c_j0);
 w2c_j1 = w2c_l2;
@@ -12707,7 +13089,7 @@ instance->w2c_g0 = w2c_j0;
 FUNC_EPILOGUE;
 }
 
-static void w2c_f23(machine *instance, u64 w2c_p0, u64 w2c_p1, u64 w2c_p2, u32 w2c_p3) {
+static void w2c_f25(machine *instance, u64 w2c_p0, u64 w2c_p1, u64 w2c_p2, u32 w2c_p3) {
 u32 w2c_l7 = 0, w2c_l8 = 0;
 u64 w2c_l4 = 0, w2c_l5 = 0, w2c_l6 = 0;
 FUNC_PROLOGUE;
@@ -12788,7 +13170,7 @@ w2c_j0 = w2c_p2;
 w2c_j1 = w2c_l4;
 w2c_j2 = 12ull;
 w2c_j1 += w2c_j2;
-w2c_f22(instance, w2c_j0, w2c_j1);
+w2c_f24(instance, w2c_j0, w2c_j1);
 w2c_B0:;
 w2c_j0 = w2c_p0;
 w2c_j1 = 4ull;
@@ -12899,7 +13281,7 @@ instance->w2c_g0 = w2c_j0;
 FUNC_EPILOGUE;
 }
 
-static void w2c_f24(machine *instance, u64 w2c_p0, u64 w2c_p1, u64 w2c_p2) {
+static void w2c_f26(machine *instance, u64 w2c_p0, u64 w2c_p1, u64 w2c_p2) {
 u32 w2c_l6 = 0;
 u64 w2c_l3 = 0, w2c_l4 = 0, w2c_l5 = 0;
 FUNC_PROLOGUE;
@@ -13007,7 +13389,7 @@ w2c_Bfunc:;
 FUNC_EPILOGUE;
 }
 
-static void w2c_f25(machine *instance, u64 w2c_p0, u64 w2c_p1, u32 w2c_p2) {
+static void w2c_f27(machine *instance, u64 w2c_p0, u64 w2c_p1, u32 w2c_p2) {
 u32 w2c_l4 = 0, w2c_l5 = 0;
 u64 w2c_l3 = 0;
 FUNC_PROLOGUE;
@@ -13088,7 +13470,7 @@ w2c_j0 = w2c_p0;
 w2c_j1 = w2c_l3;
 w2c_j2 = 12ull;
 w2c_j1 += w2c_j2;
-w2c_f22(instance, w2c_j0, w2c_j1);
+w2c_f24(instance, w2c_j0, w2c_j1);
 w2c_B0:;
 w2c_j0 = w2c_l3;
 w2c_j1 = 16ull;
@@ -13097,7 +13479,7 @@ instance->w2c_g0 = w2c_j0;
 FUNC_EPILOGUE;
 }
 
-static void w2c_f26(machine *instance, u64 w2c_p0, u64 w2c_p1) {
+static void w2c_f28(machine *instance, u64 w2c_p0, u64 w2c_p1) {
 u32 w2c_l3 = 0;
 u64 w2c_l2 = 0;
 FUNC_PROLOGUE;
@@ -13147,7 +13529,7 @@ w2c_j0 = w2c_p0;
 w2c_j1 = w2c_l2;
 w2c_j2 = 12ull;
 w2c_j1 += w2c_j2;
-w2c_f22(instance, w2c_j0, w2c_j1);
+w2c_f24(instance, w2c_j0, w2c_j1);
 w2c_B0:;
 w2c_j0 = w2c_l2;
 w2c_j1 = 16ull;
@@ -13156,7 +13538,7 @@ instance->w2c_g0 = w2c_j0;
 FUNC_EPILOGUE;
 }
 
-static void w2c_f27(machine *instance, u64 w2c_p0, u64 w2c_p1, u64 w2c_p2) {
+static void w2c_f29(machine *instance, u64 w2c_p0, u64 w2c_p1, u64 w2c_p2) {
 u32 w2c_l3 = 0, w2c_l4 = 0, w2c_l5 = 0, w2c_l6 = 0, w2c_l7 = 0, w2c_l8 = 0, w2c_l9 = 0, w2c_l10 = 0, 
 w2c_l11 = 0, w2c_l12 = 0, w2c_l13 = 0, w2c_l14 = 0, w2c_l15 = 0, w2c_l16 = 0, w2c_l17 = 0, w2c_l18 = 0, 
 w2c_l19 = 0, w2c_l20 = 0, w2c_l21 = 0, w2c_l22 = 0, w2c_l23 = 0, w2c_l24 = 0, w2c_l25 = 0, w2c_l26 = 0, 
@@ -13604,7 +13986,7 @@ i64_store(instance, LIMIT, (u64)(w2c_i0), 0, w2c_j1);
 FUNC_EPILOGUE;
 }
 
-static void w2c_f28(machine *instance, u64 w2c_p0, u64 w2c_p1, u64 w2c_p2, u64 w2c_p3) {
+static void w2c_f30(machine *instance, u64 w2c_p0, u64 w2c_p1, u64 w2c_p2, u64 w2c_p3) {
 u32 w2c_l12 = 0, w2c_l13 = 0, w2c_l14 = 0, w2c_l15 = 0, w2c_l16 = 0, w2c_l17 = 0, w2c_l18 = 0, w2c_l19 = 0;
 u64 w2c_l4 = 0, w2c_l5 = 0, w2c_l6 = 0, w2c_l7 = 0, w2c_l8 = 0, w2c_l9 = 0, w2c_l10 = 0, w2c_l11 = 0;
 FUNC_PROLOGUE;
@@ -14069,7 +14451,7 @@ w2c_j2 = w2c_l4;
 w2c_j3 = 96ull;
 w2c_j2 += w2c_j3;
 w2c_j3 = w2c_p3;
-w2c_f29(instance, w2c_j0, w2c_j1, w2c_j2, w2c_j3);
+w2c_f31(instance, w2c_j0, w2c_j1, w2c_j2, w2c_j3);
 w2c_j0 = w2c_p0;
 w2c_j1 = 176ull;
 w2c_j0 += w2c_j1;
@@ -14091,7 +14473,7 @@ w2c_j2 = w2c_l4;
 w2c_j3 = 40ull;
 w2c_j2 += w2c_j3;
 w2c_j3 = w2c_p3;
-w2c_f29(instance, w2c_j0, w2c_j1, w2c_j2, w2c_j3);
+w2c_f31(instance, w2c_j0, w2c_j1, w2c_j2, w2c_j3);
 w2c_j0 = w2c_l5;
 w2c_i0 = (u32)(w2c_j0);
 w2c_j1 = w2c_l5;
@@ -14205,7 +14587,7 @@ w2c_j0 += w2c_j1;
 w2c_j1 = w2c_l4;
 w2c_j2 = 175ull;
 w2c_j1 += w2c_j2;
-w2c_f30(instance, w2c_j0, w2c_j1);
+w2c_f32(instance, w2c_j0, w2c_j1);
 w2c_j0 = w2c_l4;
 w2c_i0 = (u32)(w2c_j0);
 w2c_j1 = w2c_l4;
@@ -14228,7 +14610,7 @@ w2c_j0 = w2c_p2;
 w2c_j1 = w2c_l4;
 w2c_j2 = 175ull;
 w2c_j1 += w2c_j2;
-w2c_f30(instance, w2c_j0, w2c_j1);
+w2c_f32(instance, w2c_j0, w2c_j1);
 w2c_j0 = w2c_l4;
 w2c_i0 = (u32)(w2c_j0);
 w2c_j1 = w2c_l4;
@@ -14271,7 +14653,7 @@ w2c_j0 += w2c_j1;
 w2c_j1 = w2c_l4;
 w2c_j2 = 158ull;
 w2c_j1 += w2c_j2;
-w2c_f31(instance, w2c_j0, w2c_j1);
+w2c_f33(instance, w2c_j0, w2c_j1);
 w2c_j0 = w2c_p1;
 w2c_i0 = (u32)(w2c_j0);
 w2c_j1 = w2c_l4;
@@ -14312,7 +14694,7 @@ w2c_j0 = w2c_p1;
 w2c_j1 = w2c_l4;
 w2c_j2 = 158ull;
 w2c_j1 += w2c_j2;
-w2c_f31(instance, w2c_j0, w2c_j1);
+w2c_f33(instance, w2c_j0, w2c_j1);
 w2c_B0:;
 w2c_j0 = w2c_l4;
 w2c_j1 = 240ull;
@@ -14321,7 +14703,7 @@ instance->w2c_g0 = w2c_j0;
 FUNC_EPILOGUE;
 }
 
-static void w2c_f29(machine *instance, u64 w2c_p0, u64 w2c_p1, u64 w2c_p2, u64 w2c_p3) {
+static void w2c_f31(machine *instance, u64 w2c_p0, u64 w2c_p1, u64 w2c_p2, u64 w2c_p3) {
 u32 w2c_l18 = 0, w2c_l19 = 0, w2c_l20 = 0, w2c_l21 = 0, w2c_l22 = 0, w2c_l23 = 0;
 u64 w2c_l4 = 0, w2c_l5 = 0, w2c_l6 = 0, w2c_l7 = 0, w2c_l8 = 0, w2c_l9 = 0, w2c_l10 = 0, w2c_l11 = 0, 
 w2c_l12 = 0, w2c_l13 = 0, w2c_l14 = 0, w2c_l15 = 0, w2c_l16 = 0, w2c_l17 = 0;
@@ -14354,7 +14736,7 @@ w2c_j1 = 16ull;
 w2c_j0 += w2c_j1;
 w2c_j1 = w2c_l4;
 w2c_j2 = w2c_p2;
-w2c_f32(instance, w2c_j0, w2c_j1, w2c_j2);
+w2c_f34(instance, w2c_j0, w2c_j1, w2c_j2);
 w2c_j0 = w2c_l4;
 w2c_j1 = 80ull;
 w2c_j0 += w2c_j1;
@@ -14761,7 +15143,7 @@ i32_store8(instance, LIMIT, (u64)(w2c_i0), 0, w2c_i1);
 FUNC_EPILOGUE;
 }
 
-static void w2c_f30(machine *instance, u64 w2c_p0, u64 w2c_p1) {
+static void w2c_f32(machine *instance, u64 w2c_p0, u64 w2c_p1) {
 u32 w2c_l4 = 0, w2c_l5 = 0, w2c_l6 = 0, w2c_l7 = 0;
 u64 w2c_l2 = 0, w2c_l3 = 0;
 FUNC_PROLOGUE;
@@ -14922,7 +15304,7 @@ w2c_j1 += w2c_j2;
 w2c_j2 = w2c_l2;
 w2c_j3 = 128ull;
 w2c_j2 += w2c_j3;
-w2c_f27(instance, w2c_j0, w2c_j1, w2c_j2);
+w2c_f29(instance, w2c_j0, w2c_j1, w2c_j2);
 goto w2c_B0;
 w2c_B3:;
 w2c_j0 = w2c_l2;
@@ -14960,7 +15342,7 @@ w2c_j1 += w2c_j2;
 w2c_j2 = w2c_l2;
 w2c_j3 = 80ull;
 w2c_j2 += w2c_j3;
-w2c_f27(instance, w2c_j0, w2c_j1, w2c_j2);
+w2c_f29(instance, w2c_j0, w2c_j1, w2c_j2);
 w2c_j0 = w2c_l2;
 w2c_i0 = (u32)(w2c_j0);
 w2c_j1 = w2c_l3;
@@ -14976,7 +15358,7 @@ w2c_j1 += w2c_j2;
 w2c_j2 = w2c_l2;
 w2c_j3 = 76ull;
 w2c_j2 += w2c_j3;
-w2c_f27(instance, w2c_j0, w2c_j1, w2c_j2);
+w2c_f29(instance, w2c_j0, w2c_j1, w2c_j2);
 goto w2c_B0;
 w2c_B2:;
 w2c_j0 = w2c_l2;
@@ -15014,7 +15396,7 @@ w2c_j1 += w2c_j2;
 w2c_j2 = w2c_l2;
 w2c_j3 = 8ull;
 w2c_j2 += w2c_j3;
-w2c_f27(instance, w2c_j0, w2c_j1, w2c_j2);
+w2c_f29(instance, w2c_j0, w2c_j1, w2c_j2);
 w2c_j0 = w2c_l2;
 w2c_i0 = (u32)(w2c_j0);
 w2c_j1 = w2c_l3;
@@ -15030,7 +15412,7 @@ w2c_j1 += w2c_j2;
 w2c_j2 = w2c_l2;
 w2c_j3 = 4ull;
 w2c_j2 += w2c_j3;
-w2c_f27(instance, w2c_j0, w2c_j1, w2c_j2);
+w2c_f29(instance, w2c_j0, w2c_j1, w2c_j2);
 w2c_j0 = w2c_l2;
 w2c_i0 = (u32)(w2c_j0);
 w2c_i1 = w2c_l4;
@@ -15054,7 +15436,7 @@ w2c_j1 = w2c_l2;
 w2c_j2 = 56ull;
 w2c_j1 += w2c_j2;
 w2c_j2 = w2c_l2;
-w2c_f27(instance, w2c_j0, w2c_j1, w2c_j2);
+w2c_f29(instance, w2c_j0, w2c_j1, w2c_j2);
 goto w2c_B0;
 w2c_B1:;
 w2c_j0 = w2c_l2;
@@ -15119,7 +15501,7 @@ instance->w2c_g0 = w2c_j0;
 FUNC_EPILOGUE;
 }
 
-static void w2c_f31(machine *instance, u64 w2c_p0, u64 w2c_p1) {
+static void w2c_f33(machine *instance, u64 w2c_p0, u64 w2c_p1) {
 u32 w2c_l4 = 0, w2c_l5 = 0, w2c_l6 = 0, w2c_l7 = 0;
 u64 w2c_l2 = 0, w2c_l3 = 0;
 FUNC_PROLOGUE;
@@ -15280,7 +15662,7 @@ w2c_j1 += w2c_j2;
 w2c_j2 = w2c_l2;
 w2c_j3 = 128ull;
 w2c_j2 += w2c_j3;
-w2c_f33(instance, w2c_j0, w2c_j1, w2c_j2);
+w2c_f35(instance, w2c_j0, w2c_j1, w2c_j2);
 goto w2c_B0;
 w2c_B3:;
 w2c_j0 = w2c_l2;
@@ -15318,7 +15700,7 @@ w2c_j1 += w2c_j2;
 w2c_j2 = w2c_l2;
 w2c_j3 = 80ull;
 w2c_j2 += w2c_j3;
-w2c_f33(instance, w2c_j0, w2c_j1, w2c_j2);
+w2c_f35(instance, w2c_j0, w2c_j1, w2c_j2);
 w2c_j0 = w2c_l2;
 w2c_i0 = (u32)(w2c_j0);
 w2c_j1 = w2c_l3;
@@ -15334,7 +15716,7 @@ w2c_j1 += w2c_j2;
 w2c_j2 = w2c_l2;
 w2c_j3 = 76ull;
 w2c_j2 += w2c_j3;
-w2c_f33(instance, w2c_j0, w2c_j1, w2c_j2);
+w2c_f35(instance, w2c_j0, w2c_j1, w2c_j2);
 goto w2c_B0;
 w2c_B2:;
 w2c_j0 = w2c_l2;
@@ -15372,7 +15754,7 @@ w2c_j1 += w2c_j2;
 w2c_j2 = w2c_l2;
 w2c_j3 = 8ull;
 w2c_j2 += w2c_j3;
-w2c_f33(instance, w2c_j0, w2c_j1, w2c_j2);
+w2c_f35(instance, w2c_j0, w2c_j1, w2c_j2);
 w2c_j0 = w2c_l2;
 w2c_i0 = (u32)(w2c_j0);
 w2c_j1 = w2c_l3;
@@ -15388,7 +15770,7 @@ w2c_j1 += w2c_j2;
 w2c_j2 = w2c_l2;
 w2c_j3 = 4ull;
 w2c_j2 += w2c_j3;
-w2c_f33(instance, w2c_j0, w2c_j1, w2c_j2);
+w2c_f35(instance, w2c_j0, w2c_j1, w2c_j2);
 w2c_j0 = w2c_l2;
 w2c_i0 = (u32)(w2c_j0);
 w2c_i1 = w2c_l4;
@@ -15412,7 +15794,7 @@ w2c_j1 = w2c_l2;
 w2c_j2 = 56ull;
 w2c_j1 += w2c_j2;
 w2c_j2 = w2c_l2;
-w2c_f33(instance, w2c_j0, w2c_j1, w2c_j2);
+w2c_f35(instance, w2c_j0, w2c_j1, w2c_j2);
 goto w2c_B0;
 w2c_B1:;
 w2c_j0 = w2c_l2;
@@ -15477,7 +15859,7 @@ instance->w2c_g0 = w2c_j0;
 FUNC_EPILOGUE;
 }
 
-static void w2c_f32(machine *instance, u64 w2c_p0, u64 w2c_p1, u64 w2c_p2) {
+static void w2c_f34(machine *instance, u64 w2c_p0, u64 w2c_p1, u64 w2c_p2) {
 u32 w2c_l4 = 0, w2c_l5 = 0;
 u64 w2c_l3 = 0;
 FUNC_PROLOGUE;
@@ -15567,7 +15949,7 @@ w2c_j0 = w2c_p2;
 w2c_j1 = w2c_l3;
 w2c_j2 = 8ull;
 w2c_j1 += w2c_j2;
-w2c_f22(instance, w2c_j0, w2c_j1);
+w2c_f24(instance, w2c_j0, w2c_j1);
 goto w2c_B0;
 w2c_B1:;
 w2c_j0 = w2c_p1;
@@ -15636,7 +16018,7 @@ w2c_j0 = w2c_p2;
 w2c_j1 = w2c_l3;
 w2c_j2 = 12ull;
 w2c_j1 += w2c_j2;
-w2c_f22(instance, w2c_j0, w2c_j1);
+w2c_f24(instance, w2c_j0, w2c_j1);
 w2c_B0:;
 w2c_j0 = w2c_p0;
 w2c_i0 = (u32)(w2c_j0);
@@ -15678,7 +16060,7 @@ instance->w2c_g0 = w2c_j0;
 FUNC_EPILOGUE;
 }
 
-static void w2c_f33(machine *instance, u64 w2c_p0, u64 w2c_p1, u64 w2c_p2) {
+static void w2c_f35(machine *instance, u64 w2c_p0, u64 w2c_p1, u64 w2c_p2) {
 u32 w2c_l3 = 0, w2c_l4 = 0, w2c_l5 = 0, w2c_l6 = 0, w2c_l7 = 0, w2c_l8 = 0, w2c_l9 = 0, w2c_l10 = 0, 
 w2c_l11 = 0, w2c_l12 = 0, w2c_l13 = 0, w2c_l14 = 0, w2c_l15 = 0, w2c_l16 = 0, w2c_l17 = 0, w2c_l18 = 0, 
 w2c_l19 = 0, w2c_l20 = 0, w2c_l21 = 0, w2c_l22 = 0, w2c_l23 = 0, w2c_l24 = 0, w2c_l25 = 0, w2c_l26 = 0, 
@@ -16126,7 +16508,7 @@ i64_store(instance, LIMIT, (u64)(w2c_i0), 0, w2c_j1);
 FUNC_EPILOGUE;
 }
 
-static void w2c_f34(machine *instance, u64 w2c_p0, u64 w2c_p1, u64 w2c_p2) {
+static void w2c_f36(machine *instance, u64 w2c_p0, u64 w2c_p1, u64 w2c_p2) {
 u32 w2c_l10 = 0, w2c_l11 = 0, w2c_l12 = 0, w2c_l13 = 0, w2c_l14 = 0, w2c_l15 = 0, w2c_l16 = 0;
 u64 w2c_l3 = 0, w2c_l4 = 0, w2c_l5 = 0, w2c_l6 = 0, w2c_l7 = 0, w2c_l8 = 0, w2c_l9 = 0;
 FUNC_PROLOGUE;
@@ -16301,7 +16683,7 @@ w2c_j0 += w2c_j1;
 w2c_j1 = w2c_l3;
 w2c_j2 = 15ull;
 w2c_j1 += w2c_j2;
-w2c_i0 = w2c_f20(instance, w2c_j0, w2c_j1);
+w2c_i0 = w2c_f22(instance, w2c_j0, w2c_j1);
 w2c_i1 = 255u;
 w2c_i0 &= w2c_i1;
 w2c_l12 = w2c_i0;
@@ -16823,7 +17205,7 @@ instance->w2c_g0 = w2c_j0;
 FUNC_EPILOGUE;
 }
 
-static void w2c_f35(machine *instance, u64 w2c_p0, u64 w2c_p1, u64 w2c_p2, u64 w2c_p3) {
+static void w2c_f37(machine *instance, u64 w2c_p0, u64 w2c_p1, u64 w2c_p2, u64 w2c_p3) {
 u32 w2c_l5 = 0, w2c_l6 = 0, w2c_l7 = 0, w2c_l8 = 0, w2c_l9 = 0;
 u64 w2c_l4 = 0;
 FUNC_PROLOGUE;
@@ -16945,7 +17327,7 @@ w2c_j2 = w2c_l4;
 w2c_j3 = 0ull;
 w2c_j4 = w2c_p2;
 w2c_j5 = w2c_p3;
-w2c_f36(instance, w2c_j0, w2c_j1, w2c_j2, w2c_j3, w2c_j4, w2c_j5);
+w2c_f38(instance, w2c_j0, w2c_j1, w2c_j2, w2c_j3, w2c_j4, w2c_j5);
 goto w2c_B0;
 w2c_B5:;
 w2c_i0 = w2c_l8;
@@ -17164,7 +17546,7 @@ w2c_j1 = w2c_l4;
 w2c_j2 = 36ull;
 w2c_j1 += w2c_j2;
 w2c_j2 = w2c_p2;
-w2c_f37(instance, w2c_j0, w2c_j1, w2c_j2);
+w2c_f39(instance, w2c_j0, w2c_j1, w2c_j2);
 goto w2c_B0;
 w2c_B4:;
 w2c_i0 = 1u;
@@ -17206,7 +17588,7 @@ w2c_j1 += w2c_j2;
 w2c_j2 = 0ull;
 w2c_j3 = w2c_p2;
 w2c_j4 = w2c_p3;
-w2c_f38(instance, w2c_j0, w2c_j1, w2c_j2, w2c_j3, w2c_j4);
+w2c_f40(instance, w2c_j0, w2c_j1, w2c_j2, w2c_j3, w2c_j4);
 w2c_B0:;
 w2c_j0 = w2c_l4;
 w2c_j1 = 48ull;
@@ -17215,7 +17597,7 @@ instance->w2c_g0 = w2c_j0;
 FUNC_EPILOGUE;
 }
 
-static void w2c_f36(machine *instance, u64 w2c_p0, u64 w2c_p1, u64 w2c_p2, u64 w2c_p3, u64 w2c_p4, u64 w2c_p5) {
+static void w2c_f38(machine *instance, u64 w2c_p0, u64 w2c_p1, u64 w2c_p2, u64 w2c_p3, u64 w2c_p4, u64 w2c_p5) {
 u32 w2c_l21 = 0, w2c_l22 = 0, w2c_l23 = 0, w2c_l24 = 0, w2c_l25 = 0, w2c_l26 = 0, w2c_l27 = 0, w2c_l28 = 0, 
 w2c_l29 = 0, w2c_l30 = 0;
 u64 w2c_l6 = 0, w2c_l7 = 0, w2c_l8 = 0, w2c_l9 = 0, w2c_l10 = 0, w2c_l11 = 0, w2c_l12 = 0, w2c_l13 = 0, 
@@ -17473,7 +17855,7 @@ w2c_j3 = w2c_l6;
 w2c_j4 = 12ull;
 w2c_j3 += w2c_j4;
 w2c_j4 = w2c_l7;
-w2c_f40(instance, w2c_j0, w2c_j1, w2c_j2, w2c_j3, w2c_j4);
+w2c_f41(instance, w2c_j0, w2c_j1, w2c_j2, w2c_j3, w2c_j4);
 goto w2c_B8;
 w2c_B17:;
 w2c_j0 = w2c_l10;
@@ -17485,7 +17867,7 @@ w2c_j3 = w2c_l6;
 w2c_j4 = 12ull;
 w2c_j3 += w2c_j4;
 w2c_j4 = w2c_l7;
-w2c_f41(instance, w2c_j0, w2c_j1, w2c_j2, w2c_j3, w2c_j4);
+w2c_f42(instance, w2c_j0, w2c_j1, w2c_j2, w2c_j3, w2c_j4);
 goto w2c_B8;
 w2c_B16:;
 w2c_j0 = w2c_l10;
@@ -17497,7 +17879,7 @@ w2c_j3 = w2c_l6;
 w2c_j4 = 12ull;
 w2c_j3 += w2c_j4;
 w2c_j4 = w2c_l7;
-w2c_f42(instance, w2c_j0, w2c_j1, w2c_j2, w2c_j3, w2c_j4);
+w2c_f43(instance, w2c_j0, w2c_j1, w2c_j2, w2c_j3, w2c_j4);
 goto w2c_B8;
 w2c_B15:;
 w2c_j0 = w2c_l6;
@@ -17536,7 +17918,7 @@ w2c_j0 += w2c_j1;
 w2c_j1 = w2c_l10;
 w2c_j2 = w2c_p4;
 w2c_i3 = 13u;
-w2c_f23(instance, w2c_j0, w2c_j1, w2c_j2, w2c_i3);
+w2c_f25(instance, w2c_j0, w2c_j1, w2c_j2, w2c_i3);
 goto w2c_B8;
 w2c_B30:;
 w2c_j0 = w2c_p2;
@@ -17546,7 +17928,7 @@ w2c_i3 = w2c_l23;
 w2c_i4 = w2c_l21;
 w2c_i5 = 1u;
 w2c_i4 &= w2c_i5;
-w2c_f43(instance, w2c_j0, w2c_j1, w2c_j2, w2c_i3, w2c_i4);
+w2c_f44(instance, w2c_j0, w2c_j1, w2c_j2, w2c_i3, w2c_i4);
 w2c_i0 = w2c_l22;
 w2c_j1 = w2c_l10;
 w2c_j2 = 17ull;
@@ -17576,7 +17958,7 @@ w2c_j0 += w2c_j1;
 w2c_j1 = w2c_l10;
 w2c_j2 = w2c_p4;
 w2c_i3 = 9u;
-w2c_f23(instance, w2c_j0, w2c_j1, w2c_j2, w2c_i3);
+w2c_f25(instance, w2c_j0, w2c_j1, w2c_j2, w2c_i3);
 goto w2c_B8;
 w2c_B31:;
 w2c_j0 = w2c_l10;
@@ -17781,7 +18163,7 @@ w2c_j1 += w2c_j2;
 w2c_j2 = w2c_l6;
 w2c_j3 = 27ull;
 w2c_j2 += w2c_j3;
-w2c_f24(instance, w2c_j0, w2c_j1, w2c_j2);
+w2c_f26(instance, w2c_j0, w2c_j1, w2c_j2);
 w2c_j0 = w2c_l6;
 w2c_i0 = (u32)(w2c_j0);
 w2c_i0 = i32_load8_u(instance, LIMIT, (u64)(w2c_i0), 21);
@@ -17814,7 +18196,7 @@ if (w2c_i0) {goto w2c_B37;}
 w2c_j0 = w2c_p4;
 w2c_j1 = w2c_l10;
 w2c_i2 = 0u;
-w2c_f25(instance, w2c_j0, w2c_j1, w2c_i2);
+w2c_f27(instance, w2c_j0, w2c_j1, w2c_i2);
 w2c_B37:;
 w2c_i0 = w2c_l23;
 w2c_j1 = w2c_l10;
@@ -17845,7 +18227,7 @@ w2c_j0 += w2c_j1;
 w2c_j1 = w2c_l10;
 w2c_j2 = w2c_p4;
 w2c_i3 = 9u;
-w2c_f23(instance, w2c_j0, w2c_j1, w2c_j2, w2c_i3);
+w2c_f25(instance, w2c_j0, w2c_j1, w2c_j2, w2c_i3);
 goto w2c_B8;
 w2c_B38:;
 w2c_i0 = w2c_l23;
@@ -18012,7 +18394,7 @@ w2c_j1 += w2c_j2;
 w2c_j2 = w2c_l6;
 w2c_j3 = 27ull;
 w2c_j2 += w2c_j3;
-w2c_f24(instance, w2c_j0, w2c_j1, w2c_j2);
+w2c_f26(instance, w2c_j0, w2c_j1, w2c_j2);
 w2c_j0 = w2c_l6;
 w2c_i0 = (u32)(w2c_j0);
 w2c_i0 = i32_load8_u(instance, LIMIT, (u64)(w2c_i0), 21);
@@ -18045,7 +18427,7 @@ if (w2c_i0) {goto w2c_B43;}
 w2c_j0 = w2c_p4;
 w2c_j1 = w2c_l10;
 w2c_i2 = 0u;
-w2c_f25(instance, w2c_j0, w2c_j1, w2c_i2);
+w2c_f27(instance, w2c_j0, w2c_j1, w2c_i2);
 w2c_B43:;
 w2c_i0 = w2c_l23;
 w2c_j1 = w2c_l10;
@@ -18075,7 +18457,7 @@ w2c_j0 += w2c_j1;
 w2c_j1 = w2c_l10;
 w2c_j2 = w2c_p4;
 w2c_i3 = 9u;
-w2c_f23(instance, w2c_j0, w2c_j1, w2c_j2, w2c_i3);
+w2c_f25(instance, w2c_j0, w2c_j1, w2c_j2, w2c_i3);
 goto w2c_B8;
 w2c_B44:;
 w2c_i0 = w2c_l27;
@@ -18186,7 +18568,7 @@ w2c_j1 += w2c_j2;
 w2c_j2 = w2c_l6;
 w2c_j3 = 27ull;
 w2c_j2 += w2c_j3;
-w2c_f24(instance, w2c_j0, w2c_j1, w2c_j2);
+w2c_f26(instance, w2c_j0, w2c_j1, w2c_j2);
 w2c_j0 = w2c_l6;
 w2c_i0 = (u32)(w2c_j0);
 w2c_i0 = i32_load8_u(instance, LIMIT, (u64)(w2c_i0), 21);
@@ -18219,7 +18601,7 @@ if (w2c_i0) {goto w2c_B48;}
 w2c_j0 = w2c_p4;
 w2c_j1 = w2c_l10;
 w2c_i2 = 0u;
-w2c_f25(instance, w2c_j0, w2c_j1, w2c_i2);
+w2c_f27(instance, w2c_j0, w2c_j1, w2c_i2);
 w2c_B48:;
 w2c_i0 = w2c_l23;
 w2c_j1 = w2c_l10;
@@ -18249,7 +18631,7 @@ w2c_j0 += w2c_j1;
 w2c_j1 = w2c_l10;
 w2c_j2 = w2c_p4;
 w2c_i3 = 9u;
-w2c_f23(instance, w2c_j0, w2c_j1, w2c_j2, w2c_i3);
+w2c_f25(instance, w2c_j0, w2c_j1, w2c_j2, w2c_i3);
 goto w2c_B8;
 w2c_B49:;
 w2c_i0 = w2c_l27;
@@ -18315,7 +18697,7 @@ w2c_j2 = w2c_p4;
 w2c_i3 = w2c_l23;
 w2c_i4 = 1u;
 w2c_i3 &= w2c_i4;
-w2c_f44(instance, w2c_j0, w2c_j1, w2c_j2, w2c_i3);
+w2c_f45(instance, w2c_j0, w2c_j1, w2c_j2, w2c_i3);
 goto w2c_B8;
 w2c_B24:;
 w2c_j0 = w2c_l10;
@@ -18326,7 +18708,7 @@ w2c_j2 = w2c_p4;
 w2c_i3 = w2c_l23;
 w2c_i4 = 1u;
 w2c_i3 &= w2c_i4;
-w2c_f45(instance, w2c_j0, w2c_j1, w2c_j2, w2c_i3);
+w2c_f46(instance, w2c_j0, w2c_j1, w2c_j2, w2c_i3);
 goto w2c_B8;
 w2c_B23:;
 w2c_i0 = w2c_l23;
@@ -18337,13 +18719,13 @@ if (w2c_i0) {goto w2c_B51;}
 w2c_j0 = w2c_p4;
 w2c_j1 = w2c_l10;
 w2c_i2 = 2u;
-w2c_f25(instance, w2c_j0, w2c_j1, w2c_i2);
+w2c_f27(instance, w2c_j0, w2c_j1, w2c_i2);
 goto w2c_B8;
 w2c_B51:;
 w2c_j0 = w2c_p4;
 w2c_j1 = w2c_l10;
 w2c_i2 = 3u;
-w2c_f25(instance, w2c_j0, w2c_j1, w2c_i2);
+w2c_f27(instance, w2c_j0, w2c_j1, w2c_i2);
 goto w2c_B8;
 w2c_B22:;
 w2c_i0 = w2c_l23;
@@ -18357,7 +18739,7 @@ w2c_j0 += w2c_j1;
 w2c_j1 = w2c_l10;
 w2c_j2 = w2c_p4;
 w2c_i3 = 0u;
-w2c_f46(instance, w2c_j0, w2c_j1, w2c_j2, w2c_i3);
+w2c_f47(instance, w2c_j0, w2c_j1, w2c_j2, w2c_i3);
 goto w2c_B8;
 w2c_B52:;
 w2c_j0 = w2c_l10;
@@ -18366,7 +18748,7 @@ w2c_j0 += w2c_j1;
 w2c_j1 = w2c_l10;
 w2c_j2 = w2c_p4;
 w2c_i3 = 4u;
-w2c_f23(instance, w2c_j0, w2c_j1, w2c_j2, w2c_i3);
+w2c_f25(instance, w2c_j0, w2c_j1, w2c_j2, w2c_i3);
 goto w2c_B8;
 w2c_B21:;
 w2c_j0 = w2c_l10;
@@ -18375,13 +18757,13 @@ w2c_j0 += w2c_j1;
 w2c_j1 = w2c_l10;
 w2c_j2 = w2c_p4;
 w2c_i3 = 10u;
-w2c_f23(instance, w2c_j0, w2c_j1, w2c_j2, w2c_i3);
+w2c_f25(instance, w2c_j0, w2c_j1, w2c_j2, w2c_i3);
 goto w2c_B8;
 w2c_B20:;
 w2c_j0 = w2c_p4;
 w2c_j1 = w2c_l10;
 w2c_j2 = w2c_l7;
-w2c_f47(instance, w2c_j0, w2c_j1, w2c_j2);
+w2c_f48(instance, w2c_j0, w2c_j1, w2c_j2);
 goto w2c_B8;
 w2c_B19:;
 w2c_j0 = w2c_l6;
@@ -18402,7 +18784,7 @@ w2c_j0 = w2c_p4;
 w2c_j1 = w2c_l6;
 w2c_j2 = 16ull;
 w2c_j1 += w2c_j2;
-w2c_f26(instance, w2c_j0, w2c_j1);
+w2c_f28(instance, w2c_j0, w2c_j1);
 goto w2c_B8;
 w2c_B14:;
 w2c_j0 = w2c_l10;
@@ -18417,7 +18799,7 @@ w2c_j4 = w2c_l6;
 w2c_j5 = 12ull;
 w2c_j4 += w2c_j5;
 w2c_j5 = w2c_l7;
-w2c_f48(instance, w2c_j0, w2c_j1, w2c_j2, w2c_i3, w2c_j4, w2c_j5);
+w2c_f49(instance, w2c_j0, w2c_j1, w2c_j2, w2c_i3, w2c_j4, w2c_j5);
 goto w2c_B8;
 w2c_B13:;
 UNREACHABLE;
@@ -18438,7 +18820,7 @@ w2c_j0 += w2c_j1;
 w2c_j1 = w2c_l10;
 w2c_j2 = w2c_p4;
 w2c_i3 = 11u;
-w2c_f23(instance, w2c_j0, w2c_j1, w2c_j2, w2c_i3);
+w2c_f25(instance, w2c_j0, w2c_j1, w2c_j2, w2c_i3);
 goto w2c_B8;
 w2c_B53:;
 w2c_j0 = w2c_p4;
@@ -18465,7 +18847,7 @@ w2c_j0 += w2c_j1;
 w2c_j1 = w2c_l10;
 w2c_j2 = w2c_p4;
 w2c_i3 = 12u;
-w2c_f23(instance, w2c_j0, w2c_j1, w2c_j2, w2c_i3);
+w2c_f25(instance, w2c_j0, w2c_j1, w2c_j2, w2c_i3);
 goto w2c_B8;
 w2c_B54:;
 w2c_j0 = w2c_p4;
@@ -18492,7 +18874,7 @@ w2c_j0 += w2c_j1;
 w2c_j1 = w2c_l10;
 w2c_j2 = w2c_p4;
 w2c_i3 = 13u;
-w2c_f23(instance, w2c_j0, w2c_j1, w2c_j2, w2c_i3);
+w2c_f25(instance, w2c_j0, w2c_j1, w2c_j2, w2c_i3);
 goto w2c_B8;
 w2c_B55:;
 w2c_j0 = w2c_p4;
@@ -18892,12 +19274,6 @@ w2c_j0 |= w2c_j1;
 w2c_p2 = w2c_j0;
 w2c_B59:;
 w2c_j0 = w2c_p4;
-w2c_j1 = 48ull;
-w2c_j0 += w2c_j1;
-w2c_i0 = (u32)(w2c_j0);
-w2c_i1 = 0u;
-i32_store16(instance, LIMIT, (u64)(w2c_i0), 0, w2c_i1);
-w2c_j0 = w2c_p4;
 w2c_j1 = 40ull;
 w2c_j0 += w2c_j1;
 w2c_i0 = (u32)(w2c_j0);
@@ -19027,7 +19403,7 @@ instance->w2c_g0 = w2c_j0;
 FUNC_EPILOGUE;
 }
 
-static void w2c_f37(machine *instance, u64 w2c_p0, u64 w2c_p1, u64 w2c_p2) {
+static void w2c_f39(machine *instance, u64 w2c_p0, u64 w2c_p1, u64 w2c_p2) {
 u32 w2c_l3 = 0, w2c_l4 = 0, w2c_l5 = 0;
 u64 w2c_l6 = 0;
 FUNC_PROLOGUE;
@@ -19143,7 +19519,7 @@ i32_store8(instance, LIMIT, (u64)(w2c_i0), 0, w2c_i1);
 FUNC_EPILOGUE;
 }
 
-static void w2c_f38(machine *instance, u64 w2c_p0, u64 w2c_p1, u64 w2c_p2, u64 w2c_p3, u64 w2c_p4) {
+static void w2c_f40(machine *instance, u64 w2c_p0, u64 w2c_p1, u64 w2c_p2, u64 w2c_p3, u64 w2c_p4) {
 u64 w2c_l5 = 0, w2c_l6 = 0;
 FUNC_PROLOGUE;
 u32 w2c_i0, w2c_i1;
@@ -19227,7 +19603,7 @@ w2c_j2 += w2c_j3;
 w2c_j3 = w2c_p2;
 w2c_j4 = w2c_p3;
 w2c_j5 = w2c_p4;
-w2c_f36(instance, w2c_j0, w2c_j1, w2c_j2, w2c_j3, w2c_j4, w2c_j5);
+w2c_f38(instance, w2c_j0, w2c_j1, w2c_j2, w2c_j3, w2c_j4, w2c_j5);
 goto w2c_B0;
 w2c_B2:;
 w2c_j0 = w2c_l5;
@@ -19256,7 +19632,7 @@ w2c_j2 += w2c_j3;
 w2c_j3 = w2c_p2;
 w2c_j4 = w2c_p3;
 w2c_j5 = w2c_p4;
-w2c_f36(instance, w2c_j0, w2c_j1, w2c_j2, w2c_j3, w2c_j4, w2c_j5);
+w2c_f38(instance, w2c_j0, w2c_j1, w2c_j2, w2c_j3, w2c_j4, w2c_j5);
 goto w2c_B0;
 w2c_B1:;
 w2c_j0 = w2c_p3;
@@ -19273,251 +19649,7 @@ instance->w2c_g0 = w2c_j0;
 FUNC_EPILOGUE;
 }
 
-static void w2c_f39(machine *instance, u64 w2c_p0, u32 w2c_p1) {
-u32 w2c_l2 = 0, w2c_l3 = 0, w2c_l4 = 0;
-FUNC_PROLOGUE;
-u32 w2c_i0, w2c_i1;
-u64 w2c_j0, w2c_j1;
-w2c_i0 = 1u;
-w2c_l2 = w2c_i0;
-w2c_i0 = 0u;
-w2c_l3 = w2c_i0;
-w2c_i0 = w2c_p1;
-w2c_i1 = 255u;
-w2c_i0 &= w2c_i1;
-w2c_l4 = w2c_i0;
-w2c_i1 = 82u;
-w2c_i0 = (u32)((s32)w2c_i0 > (s32)w2c_i1);
-if (w2c_i0) {goto w2c_B15;}
-w2c_i0 = w2c_l4;
-w2c_i1 = 4294967293u;
-w2c_i0 += w2c_i1;
-switch (w2c_i0) {
-case 0: goto w2c_B14;
-case 1: goto w2c_B2;
-case 2: goto w2c_B2;
-case 3: goto w2c_B2;
-case 4: goto w2c_B2;
-case 5: goto w2c_B2;
-case 6: goto w2c_B2;
-case 7: goto w2c_B2;
-case 8: goto w2c_B2;
-case 9: goto w2c_B2;
-case 10: goto w2c_B2;
-case 11: goto w2c_B2;
-case 12: goto w2c_B10;
-case 13: goto w2c_B2;
-case 14: goto w2c_B2;
-case 15: goto w2c_B2;
-case 16: goto w2c_B13;
-case 17: goto w2c_B2;
-case 18: goto w2c_B2;
-case 19: goto w2c_B2;
-case 20: goto w2c_B2;
-case 21: goto w2c_B2;
-case 22: goto w2c_B2;
-case 23: goto w2c_B2;
-case 24: goto w2c_B2;
-case 25: goto w2c_B2;
-case 26: goto w2c_B2;
-case 27: goto w2c_B2;
-case 28: goto w2c_B9;
-default: goto w2c_B3;
-}
-w2c_B15:;
-w2c_i0 = 4u;
-w2c_p1 = w2c_i0;
-w2c_i0 = w2c_l4;
-w2c_i1 = 4294967213u;
-w2c_i0 += w2c_i1;
-switch (w2c_i0) {
-case 0: goto w2c_B16;
-case 1: goto w2c_B2;
-case 2: goto w2c_B2;
-case 3: goto w2c_B2;
-case 4: goto w2c_B2;
-case 5: goto w2c_B2;
-case 6: goto w2c_B2;
-case 7: goto w2c_B2;
-case 8: goto w2c_B2;
-case 9: goto w2c_B2;
-case 10: goto w2c_B2;
-case 11: goto w2c_B2;
-case 12: goto w2c_B2;
-case 13: goto w2c_B2;
-case 14: goto w2c_B2;
-case 15: goto w2c_B2;
-case 16: goto w2c_B12;
-case 17: goto w2c_B2;
-case 18: goto w2c_B2;
-case 19: goto w2c_B2;
-case 20: goto w2c_B2;
-case 21: goto w2c_B2;
-case 22: goto w2c_B2;
-case 23: goto w2c_B2;
-case 24: goto w2c_B2;
-case 25: goto w2c_B2;
-case 26: goto w2c_B2;
-case 27: goto w2c_B2;
-case 28: goto w2c_B0;
-case 29: goto w2c_B2;
-case 30: goto w2c_B2;
-case 31: goto w2c_B2;
-case 32: goto w2c_B11;
-case 33: goto w2c_B2;
-case 34: goto w2c_B2;
-case 35: goto w2c_B2;
-case 36: goto w2c_B2;
-case 37: goto w2c_B2;
-case 38: goto w2c_B2;
-case 39: goto w2c_B2;
-case 40: goto w2c_B2;
-case 41: goto w2c_B2;
-case 42: goto w2c_B2;
-case 43: goto w2c_B2;
-case 44: goto w2c_B4;
-case 45: goto w2c_B2;
-case 46: goto w2c_B2;
-case 47: goto w2c_B2;
-case 48: goto w2c_B2;
-case 49: goto w2c_B2;
-case 50: goto w2c_B2;
-case 51: goto w2c_B2;
-case 52: goto w2c_B8;
-case 53: goto w2c_B2;
-case 54: goto w2c_B2;
-case 55: goto w2c_B2;
-case 56: goto w2c_B2;
-case 57: goto w2c_B2;
-case 58: goto w2c_B2;
-case 59: goto w2c_B2;
-case 60: goto w2c_B2;
-case 61: goto w2c_B2;
-case 62: goto w2c_B2;
-case 63: goto w2c_B2;
-case 64: goto w2c_B2;
-case 65: goto w2c_B2;
-case 66: goto w2c_B2;
-case 67: goto w2c_B2;
-case 68: goto w2c_B7;
-default: goto w2c_B17;
-}
-w2c_B17:;
-w2c_i0 = w2c_l4;
-w2c_i1 = 4294967121u;
-w2c_i0 += w2c_i1;
-switch (w2c_i0) {
-case 0: goto w2c_B6;
-case 1: goto w2c_B2;
-case 2: goto w2c_B2;
-case 3: goto w2c_B2;
-case 4: goto w2c_B2;
-case 5: goto w2c_B2;
-case 6: goto w2c_B2;
-case 7: goto w2c_B2;
-case 8: goto w2c_B2;
-case 9: goto w2c_B2;
-case 10: goto w2c_B2;
-case 11: goto w2c_B2;
-case 12: goto w2c_B2;
-case 13: goto w2c_B2;
-case 14: goto w2c_B2;
-case 15: goto w2c_B2;
-case 16: goto w2c_B5;
-default: goto w2c_B2;
-}
-w2c_B16:;
-w2c_i0 = 5u;
-w2c_p1 = w2c_i0;
-goto w2c_B4;
-w2c_B14:;
-w2c_i0 = 6u;
-w2c_p1 = w2c_i0;
-goto w2c_B0;
-w2c_B13:;
-w2c_i0 = 6u;
-w2c_p1 = w2c_i0;
-goto w2c_B4;
-w2c_B12:;
-w2c_i0 = 7u;
-w2c_p1 = w2c_i0;
-goto w2c_B0;
-w2c_B11:;
-w2c_i0 = 7u;
-w2c_p1 = w2c_i0;
-goto w2c_B4;
-w2c_B10:;
-w2c_i0 = 8u;
-w2c_p1 = w2c_i0;
-goto w2c_B0;
-w2c_B9:;
-w2c_i0 = 8u;
-w2c_p1 = w2c_i0;
-goto w2c_B4;
-w2c_B8:;
-w2c_i0 = 9u;
-w2c_p1 = w2c_i0;
-goto w2c_B0;
-w2c_B7:;
-w2c_i0 = 9u;
-w2c_p1 = w2c_i0;
-goto w2c_B4;
-w2c_B6:;
-w2c_i0 = 10u;
-w2c_p1 = w2c_i0;
-goto w2c_B0;
-w2c_B5:;
-w2c_i0 = 10u;
-w2c_p1 = w2c_i0;
-w2c_B4:;
-w2c_i0 = 1u;
-w2c_l3 = w2c_i0;
-w2c_i0 = 1u;
-w2c_l2 = w2c_i0;
-goto w2c_B0;
-w2c_B3:;
-w2c_i0 = w2c_l4;
-w2c_i1 = 67u;
-w2c_i0 = w2c_i0 == w2c_i1;
-if (w2c_i0) {goto w2c_B1;}
-w2c_B2:;
-w2c_i0 = 0u;
-w2c_l3 = w2c_i0;
-w2c_i0 = 0u;
-w2c_p1 = w2c_i0;
-w2c_i0 = 0u;
-w2c_l2 = w2c_i0;
-goto w2c_B0;
-w2c_B1:;
-w2c_i0 = 5u;
-w2c_p1 = w2c_i0;
-w2c_B0:;
-w2c_j0 = w2c_p0;
-w2c_i0 = (u32)(w2c_j0);
-w2c_i1 = w2c_l2;
-i32_store8(instance, LIMIT, (u64)(w2c_i0), 0, w2c_i1);
-w2c_j0 = w2c_p0;
-w2c_j1 = 3ull;
-w2c_j0 += w2c_j1;
-w2c_i0 = (u32)(w2c_j0);
-w2c_i1 = 0u;
-i32_store16(instance, LIMIT, (u64)(w2c_i0), 0, w2c_i1);
-w2c_j0 = w2c_p0;
-w2c_j1 = 2ull;
-w2c_j0 += w2c_j1;
-w2c_i0 = (u32)(w2c_j0);
-w2c_i1 = w2c_l3;
-i32_store8(instance, LIMIT, (u64)(w2c_i0), 0, w2c_i1);
-w2c_j0 = w2c_p0;
-w2c_j1 = 1ull;
-w2c_j0 += w2c_j1;
-w2c_i0 = (u32)(w2c_j0);
-w2c_i1 = w2c_p1;
-i32_store8(instance, LIMIT, (u64)(w2c_i0), 0, w2c_i1);
-FUNC_EPILOGUE;
-}
-
-static void w2c_f40(machine *instance, u64 w2c_p0, u64 w2c_p1, u64 w2c_p2, u64 w2c_p3, u64 w2c_p4) {
+static void w2c_f41(machine *instance, u64 w2c_p0, u64 w2c_p1, u64 w2c_p2, u64 w2c_p3, u64 w2c_p4) {
 u32 w2c_l7 = 0, w2c_l8 = 0, w2c_l9 = 0;
 u64 w2c_l5 = 0, w2c_l6 = 0;
 FUNC_PROLOGUE;
@@ -19751,7 +19883,7 @@ w2c_j0 = w2c_p2;
 w2c_j1 = w2c_l5;
 w2c_j2 = 12ull;
 w2c_j1 += w2c_j2;
-w2c_f22(instance, w2c_j0, w2c_j1);
+w2c_f24(instance, w2c_j0, w2c_j1);
 w2c_B9:;
 w2c_j0 = w2c_p0;
 w2c_i0 = (u32)(w2c_j0);
@@ -19905,7 +20037,7 @@ w2c_j0 = w2c_p2;
 w2c_j1 = w2c_l5;
 w2c_j2 = 12ull;
 w2c_j1 += w2c_j2;
-w2c_f22(instance, w2c_j0, w2c_j1);
+w2c_f24(instance, w2c_j0, w2c_j1);
 goto w2c_B0;
 w2c_B12:;
 w2c_j0 = w2c_l5;
@@ -19964,7 +20096,7 @@ w2c_j0 = w2c_p2;
 w2c_j1 = w2c_l5;
 w2c_j2 = 12ull;
 w2c_j1 += w2c_j2;
-w2c_f22(instance, w2c_j0, w2c_j1);
+w2c_f24(instance, w2c_j0, w2c_j1);
 goto w2c_B0;
 w2c_B3:;
 w2c_j0 = 53ull;
@@ -20039,7 +20171,7 @@ w2c_j0 = w2c_p2;
 w2c_j1 = w2c_l5;
 w2c_j2 = 12ull;
 w2c_j1 += w2c_j2;
-w2c_f22(instance, w2c_j0, w2c_j1);
+w2c_f24(instance, w2c_j0, w2c_j1);
 w2c_B16:;
 w2c_j0 = 35ull;
 w2c_p3 = w2c_j0;
@@ -20118,7 +20250,7 @@ w2c_j0 = w2c_p2;
 w2c_j1 = w2c_l5;
 w2c_j2 = 12ull;
 w2c_j1 += w2c_j2;
-w2c_f22(instance, w2c_j0, w2c_j1);
+w2c_f24(instance, w2c_j0, w2c_j1);
 goto w2c_B0;
 w2c_B1:;
 w2c_j0 = w2c_p2;
@@ -20135,7 +20267,7 @@ instance->w2c_g0 = w2c_j0;
 FUNC_EPILOGUE;
 }
 
-static void w2c_f41(machine *instance, u64 w2c_p0, u64 w2c_p1, u64 w2c_p2, u64 w2c_p3, u64 w2c_p4) {
+static void w2c_f42(machine *instance, u64 w2c_p0, u64 w2c_p1, u64 w2c_p2, u64 w2c_p3, u64 w2c_p4) {
 u32 w2c_l6 = 0, w2c_l7 = 0;
 u64 w2c_l5 = 0;
 FUNC_PROLOGUE;
@@ -20400,7 +20532,7 @@ w2c_j0 = w2c_p2;
 w2c_j1 = w2c_l5;
 w2c_j2 = 12ull;
 w2c_j1 += w2c_j2;
-w2c_f22(instance, w2c_j0, w2c_j1);
+w2c_f24(instance, w2c_j0, w2c_j1);
 goto w2c_B15;
 w2c_B16:;
 w2c_j0 = w2c_p0;
@@ -20494,7 +20626,7 @@ w2c_j0 = w2c_p2;
 w2c_j1 = w2c_l5;
 w2c_j2 = 12ull;
 w2c_j1 += w2c_j2;
-w2c_f22(instance, w2c_j0, w2c_j1);
+w2c_f24(instance, w2c_j0, w2c_j1);
 w2c_B15:;
 w2c_j0 = w2c_p2;
 w2c_j1 = 54ull;
@@ -20622,7 +20754,7 @@ w2c_j0 = w2c_p2;
 w2c_j1 = w2c_l5;
 w2c_j2 = 12ull;
 w2c_j1 += w2c_j2;
-w2c_f22(instance, w2c_j0, w2c_j1);
+w2c_f24(instance, w2c_j0, w2c_j1);
 goto w2c_B0;
 w2c_B8:;
 w2c_i0 = w2c_l6;
@@ -20712,7 +20844,7 @@ w2c_j0 = w2c_p2;
 w2c_j1 = w2c_l5;
 w2c_j2 = 12ull;
 w2c_j1 += w2c_j2;
-w2c_f22(instance, w2c_j0, w2c_j1);
+w2c_f24(instance, w2c_j0, w2c_j1);
 w2c_B21:;
 w2c_j0 = w2c_p0;
 w2c_j1 = 10ull;
@@ -20812,7 +20944,7 @@ w2c_j0 = w2c_p2;
 w2c_j1 = w2c_l5;
 w2c_j2 = 12ull;
 w2c_j1 += w2c_j2;
-w2c_f22(instance, w2c_j0, w2c_j1);
+w2c_f24(instance, w2c_j0, w2c_j1);
 w2c_B24:;
 w2c_j0 = 35ull;
 w2c_p3 = w2c_j0;
@@ -20891,7 +21023,7 @@ w2c_j0 = w2c_p2;
 w2c_j1 = w2c_l5;
 w2c_j2 = 12ull;
 w2c_j1 += w2c_j2;
-w2c_f22(instance, w2c_j0, w2c_j1);
+w2c_f24(instance, w2c_j0, w2c_j1);
 goto w2c_B0;
 w2c_B5:;
 w2c_j0 = w2c_p2;
@@ -20940,7 +21072,7 @@ instance->w2c_g0 = w2c_j0;
 FUNC_EPILOGUE;
 }
 
-static void w2c_f42(machine *instance, u64 w2c_p0, u64 w2c_p1, u64 w2c_p2, u64 w2c_p3, u64 w2c_p4) {
+static void w2c_f43(machine *instance, u64 w2c_p0, u64 w2c_p1, u64 w2c_p2, u64 w2c_p3, u64 w2c_p4) {
 u32 w2c_l6 = 0, w2c_l7 = 0, w2c_l8 = 0;
 u64 w2c_l5 = 0;
 FUNC_PROLOGUE;
@@ -21197,7 +21329,7 @@ w2c_j0 = w2c_p2;
 w2c_j1 = w2c_l5;
 w2c_j2 = 12ull;
 w2c_j1 += w2c_j2;
-w2c_f22(instance, w2c_j0, w2c_j1);
+w2c_f24(instance, w2c_j0, w2c_j1);
 w2c_B11:;
 w2c_j0 = w2c_p0;
 w2c_j1 = 10ull;
@@ -21273,7 +21405,7 @@ w2c_j0 = w2c_p2;
 w2c_j1 = w2c_l5;
 w2c_j2 = 12ull;
 w2c_j1 += w2c_j2;
-w2c_f22(instance, w2c_j0, w2c_j1);
+w2c_f24(instance, w2c_j0, w2c_j1);
 goto w2c_B0;
 w2c_B4:;
 w2c_i0 = w2c_l6;
@@ -21347,7 +21479,7 @@ w2c_j0 = w2c_p2;
 w2c_j1 = w2c_l5;
 w2c_j2 = 12ull;
 w2c_j1 += w2c_j2;
-w2c_f22(instance, w2c_j0, w2c_j1);
+w2c_f24(instance, w2c_j0, w2c_j1);
 w2c_B15:;
 w2c_j0 = w2c_p0;
 w2c_j1 = 10ull;
@@ -21447,7 +21579,7 @@ w2c_j0 = w2c_p2;
 w2c_j1 = w2c_l5;
 w2c_j2 = 12ull;
 w2c_j1 += w2c_j2;
-w2c_f22(instance, w2c_j0, w2c_j1);
+w2c_f24(instance, w2c_j0, w2c_j1);
 w2c_B18:;
 w2c_j0 = 35ull;
 w2c_p3 = w2c_j0;
@@ -21526,7 +21658,7 @@ w2c_j0 = w2c_p2;
 w2c_j1 = w2c_l5;
 w2c_j2 = 12ull;
 w2c_j1 += w2c_j2;
-w2c_f22(instance, w2c_j0, w2c_j1);
+w2c_f24(instance, w2c_j0, w2c_j1);
 goto w2c_B0;
 w2c_B1:;
 w2c_j0 = w2c_p2;
@@ -21543,7 +21675,7 @@ instance->w2c_g0 = w2c_j0;
 FUNC_EPILOGUE;
 }
 
-static void w2c_f43(machine *instance, u64 w2c_p0, u64 w2c_p1, u64 w2c_p2, u32 w2c_p3, u32 w2c_p4) {
+static void w2c_f44(machine *instance, u64 w2c_p0, u64 w2c_p1, u64 w2c_p2, u32 w2c_p3, u32 w2c_p4) {
 u32 w2c_l8 = 0;
 u64 w2c_l5 = 0, w2c_l6 = 0, w2c_l7 = 0;
 FUNC_PROLOGUE;
@@ -21664,7 +21796,7 @@ if (w2c_i0) {goto w2c_B4;}
 w2c_j0 = w2c_p0;
 w2c_j1 = w2c_p2;
 w2c_i2 = w2c_p4;
-w2c_f51(instance, w2c_j0, w2c_j1, w2c_i2);
+w2c_f52(instance, w2c_j0, w2c_j1, w2c_i2);
 goto w2c_B0;
 w2c_B4:;
 w2c_j0 = w2c_p0;
@@ -21743,7 +21875,7 @@ w2c_j0 = w2c_p2;
 w2c_j1 = w2c_l5;
 w2c_j2 = 12ull;
 w2c_j1 += w2c_j2;
-w2c_f22(instance, w2c_j0, w2c_j1);
+w2c_f24(instance, w2c_j0, w2c_j1);
 w2c_B5:;
 w2c_j0 = w2c_p2;
 w2c_j1 = 34ull;
@@ -21866,7 +21998,7 @@ instance->w2c_g0 = w2c_j0;
 FUNC_EPILOGUE;
 }
 
-static void w2c_f44(machine *instance, u64 w2c_p0, u64 w2c_p1, u64 w2c_p2, u32 w2c_p3) {
+static void w2c_f45(machine *instance, u64 w2c_p0, u64 w2c_p1, u64 w2c_p2, u32 w2c_p3) {
 u32 w2c_l8 = 0;
 u64 w2c_l4 = 0, w2c_l5 = 0, w2c_l6 = 0, w2c_l7 = 0;
 FUNC_PROLOGUE;
@@ -22021,7 +22153,7 @@ w2c_j0 = w2c_p2;
 w2c_j1 = w2c_l4;
 w2c_j2 = 8ull;
 w2c_j1 += w2c_j2;
-w2c_f22(instance, w2c_j0, w2c_j1);
+w2c_f24(instance, w2c_j0, w2c_j1);
 w2c_B2:;
 w2c_i0 = 0u;
 w2c_p3 = w2c_i0;
@@ -22117,7 +22249,7 @@ w2c_j0 = w2c_p2;
 w2c_j1 = w2c_l4;
 w2c_j2 = 12ull;
 w2c_j1 += w2c_j2;
-w2c_f22(instance, w2c_j0, w2c_j1);
+w2c_f24(instance, w2c_j0, w2c_j1);
 w2c_B5:;
 w2c_j0 = w2c_p0;
 w2c_j1 = 2ull;
@@ -22186,7 +22318,7 @@ instance->w2c_g0 = w2c_j0;
 FUNC_EPILOGUE;
 }
 
-static void w2c_f45(machine *instance, u64 w2c_p0, u64 w2c_p1, u64 w2c_p2, u32 w2c_p3) {
+static void w2c_f46(machine *instance, u64 w2c_p0, u64 w2c_p1, u64 w2c_p2, u32 w2c_p3) {
 u32 w2c_l8 = 0;
 u64 w2c_l4 = 0, w2c_l5 = 0, w2c_l6 = 0, w2c_l7 = 0;
 FUNC_PROLOGUE;
@@ -22357,7 +22489,7 @@ w2c_j0 = w2c_p2;
 w2c_j1 = w2c_l4;
 w2c_j2 = 12ull;
 w2c_j1 += w2c_j2;
-w2c_f22(instance, w2c_j0, w2c_j1);
+w2c_f24(instance, w2c_j0, w2c_j1);
 w2c_B2:;
 w2c_j0 = w2c_p0;
 w2c_j1 = 10ull;
@@ -22382,7 +22514,7 @@ instance->w2c_g0 = w2c_j0;
 FUNC_EPILOGUE;
 }
 
-static void w2c_f46(machine *instance, u64 w2c_p0, u64 w2c_p1, u64 w2c_p2, u32 w2c_p3) {
+static void w2c_f47(machine *instance, u64 w2c_p0, u64 w2c_p1, u64 w2c_p2, u32 w2c_p3) {
 u32 w2c_l5 = 0;
 u64 w2c_l4 = 0;
 FUNC_PROLOGUE;
@@ -22400,7 +22532,7 @@ w2c_j0 = w2c_p0;
 w2c_j1 = w2c_p1;
 w2c_j2 = w2c_p2;
 w2c_i3 = 1u;
-w2c_f23(instance, w2c_j0, w2c_j1, w2c_j2, w2c_i3);
+w2c_f25(instance, w2c_j0, w2c_j1, w2c_j2, w2c_i3);
 goto w2c_B0;
 w2c_B1:;
 w2c_j0 = w2c_p1;
@@ -22469,7 +22601,7 @@ w2c_j0 = w2c_p2;
 w2c_j1 = w2c_l4;
 w2c_j2 = 12ull;
 w2c_j1 += w2c_j2;
-w2c_f22(instance, w2c_j0, w2c_j1);
+w2c_f24(instance, w2c_j0, w2c_j1);
 w2c_B0:;
 w2c_j0 = w2c_l4;
 w2c_j1 = 16ull;
@@ -22478,7 +22610,7 @@ instance->w2c_g0 = w2c_j0;
 FUNC_EPILOGUE;
 }
 
-static void w2c_f47(machine *instance, u64 w2c_p0, u64 w2c_p1, u64 w2c_p2) {
+static void w2c_f48(machine *instance, u64 w2c_p0, u64 w2c_p1, u64 w2c_p2) {
 u32 w2c_l5 = 0, w2c_l6 = 0;
 u64 w2c_l3 = 0, w2c_l4 = 0;
 FUNC_PROLOGUE;
@@ -22561,7 +22693,7 @@ w2c_j0 = w2c_p0;
 w2c_j1 = w2c_l3;
 w2c_j2 = 12ull;
 w2c_j1 += w2c_j2;
-w2c_f22(instance, w2c_j0, w2c_j1);
+w2c_f24(instance, w2c_j0, w2c_j1);
 w2c_B1:;
 w2c_j0 = 35ull;
 w2c_l4 = w2c_j0;
@@ -22579,7 +22711,7 @@ instance->w2c_g0 = w2c_j0;
 FUNC_EPILOGUE;
 }
 
-static void w2c_f48(machine *instance, u64 w2c_p0, u64 w2c_p1, u64 w2c_p2, u32 w2c_p3, u64 w2c_p4, u64 w2c_p5) {
+static void w2c_f49(machine *instance, u64 w2c_p0, u64 w2c_p1, u64 w2c_p2, u32 w2c_p3, u64 w2c_p4, u64 w2c_p5) {
 u32 w2c_l8 = 0, w2c_l9 = 0, w2c_l10 = 0, w2c_l11 = 0;
 u64 w2c_l6 = 0, w2c_l7 = 0;
 FUNC_PROLOGUE;
@@ -22633,7 +22765,7 @@ w2c_j0 = w2c_p0;
 w2c_j1 = w2c_p1;
 w2c_j2 = w2c_p2;
 w2c_i3 = 13u;
-w2c_f23(instance, w2c_j0, w2c_j1, w2c_j2, w2c_i3);
+w2c_f25(instance, w2c_j0, w2c_j1, w2c_j2, w2c_i3);
 goto w2c_B0;
 w2c_B12:;
 w2c_j0 = w2c_p0;
@@ -22647,7 +22779,7 @@ w2c_i4 = (u32)(w2c_j4);
 w2c_i4 = i32_load8_u(instance, LIMIT, (u64)(w2c_i4), 0);
 w2c_i5 = 1u;
 w2c_i4 &= w2c_i5;
-w2c_f43(instance, w2c_j0, w2c_j1, w2c_j2, w2c_i3, w2c_i4);
+w2c_f44(instance, w2c_j0, w2c_j1, w2c_j2, w2c_i3, w2c_i4);
 w2c_i0 = w2c_l8;
 w2c_j1 = w2c_p0;
 w2c_j2 = 1ull;
@@ -22674,7 +22806,7 @@ w2c_j0 = w2c_p0;
 w2c_j1 = w2c_p1;
 w2c_j2 = w2c_p2;
 w2c_i3 = 9u;
-w2c_f23(instance, w2c_j0, w2c_j1, w2c_j2, w2c_i3);
+w2c_f25(instance, w2c_j0, w2c_j1, w2c_j2, w2c_i3);
 goto w2c_B0;
 w2c_B13:;
 w2c_i0 = w2c_l9;
@@ -22844,7 +22976,7 @@ w2c_j0 = w2c_p0;
 w2c_j1 = w2c_p1;
 w2c_j2 = w2c_p2;
 w2c_i3 = 9u;
-w2c_f23(instance, w2c_j0, w2c_j1, w2c_j2, w2c_i3);
+w2c_f25(instance, w2c_j0, w2c_j1, w2c_j2, w2c_i3);
 goto w2c_B0;
 w2c_B17:;
 w2c_i0 = w2c_p3;
@@ -23046,7 +23178,7 @@ w2c_j0 = w2c_p0;
 w2c_j1 = w2c_p1;
 w2c_j2 = w2c_p2;
 w2c_i3 = 9u;
-w2c_f23(instance, w2c_j0, w2c_j1, w2c_j2, w2c_i3);
+w2c_f25(instance, w2c_j0, w2c_j1, w2c_j2, w2c_i3);
 goto w2c_B0;
 w2c_B22:;
 w2c_i0 = w2c_p3;
@@ -23248,7 +23380,7 @@ w2c_j0 = w2c_p0;
 w2c_j1 = w2c_p1;
 w2c_j2 = w2c_p2;
 w2c_i3 = 9u;
-w2c_f23(instance, w2c_j0, w2c_j1, w2c_j2, w2c_i3);
+w2c_f25(instance, w2c_j0, w2c_j1, w2c_j2, w2c_i3);
 goto w2c_B0;
 w2c_B27:;
 w2c_i0 = w2c_p3;
@@ -23319,7 +23451,7 @@ w2c_j2 = w2c_p2;
 w2c_i3 = w2c_l9;
 w2c_i4 = 1u;
 w2c_i3 &= w2c_i4;
-w2c_f44(instance, w2c_j0, w2c_j1, w2c_j2, w2c_i3);
+w2c_f45(instance, w2c_j0, w2c_j1, w2c_j2, w2c_i3);
 goto w2c_B0;
 w2c_B6:;
 w2c_j0 = w2c_p0;
@@ -23328,7 +23460,7 @@ w2c_j2 = w2c_p2;
 w2c_i3 = w2c_l9;
 w2c_i4 = 1u;
 w2c_i3 &= w2c_i4;
-w2c_f45(instance, w2c_j0, w2c_j1, w2c_j2, w2c_i3);
+w2c_f46(instance, w2c_j0, w2c_j1, w2c_j2, w2c_i3);
 goto w2c_B0;
 w2c_B5:;
 w2c_j0 = w2c_p1;
@@ -23402,7 +23534,7 @@ w2c_j0 = w2c_p2;
 w2c_j1 = w2c_l6;
 w2c_j2 = 12ull;
 w2c_j1 += w2c_j2;
-w2c_f22(instance, w2c_j0, w2c_j1);
+w2c_f24(instance, w2c_j0, w2c_j1);
 goto w2c_B0;
 w2c_B29:;
 w2c_j0 = w2c_l6;
@@ -23461,7 +23593,7 @@ w2c_j0 = w2c_p2;
 w2c_j1 = w2c_l6;
 w2c_j2 = 12ull;
 w2c_j1 += w2c_j2;
-w2c_f22(instance, w2c_j0, w2c_j1);
+w2c_f24(instance, w2c_j0, w2c_j1);
 goto w2c_B0;
 w2c_B4:;
 w2c_i0 = w2c_l9;
@@ -23473,21 +23605,21 @@ w2c_j0 = w2c_p0;
 w2c_j1 = w2c_p1;
 w2c_j2 = w2c_p2;
 w2c_i3 = 1u;
-w2c_f23(instance, w2c_j0, w2c_j1, w2c_j2, w2c_i3);
+w2c_f25(instance, w2c_j0, w2c_j1, w2c_j2, w2c_i3);
 goto w2c_B0;
 w2c_B32:;
 w2c_j0 = w2c_p0;
 w2c_j1 = w2c_p1;
 w2c_j2 = w2c_p2;
 w2c_i3 = 4u;
-w2c_f23(instance, w2c_j0, w2c_j1, w2c_j2, w2c_i3);
+w2c_f25(instance, w2c_j0, w2c_j1, w2c_j2, w2c_i3);
 goto w2c_B0;
 w2c_B3:;
 w2c_j0 = w2c_p0;
 w2c_j1 = w2c_p1;
 w2c_j2 = w2c_p2;
 w2c_i3 = 10u;
-w2c_f23(instance, w2c_j0, w2c_j1, w2c_j2, w2c_i3);
+w2c_f25(instance, w2c_j0, w2c_j1, w2c_j2, w2c_i3);
 goto w2c_B0;
 w2c_B2:;
 w2c_j0 = 53ull;
@@ -23562,7 +23694,7 @@ w2c_j0 = w2c_p2;
 w2c_j1 = w2c_l6;
 w2c_j2 = 12ull;
 w2c_j1 += w2c_j2;
-w2c_f22(instance, w2c_j0, w2c_j1);
+w2c_f24(instance, w2c_j0, w2c_j1);
 w2c_B34:;
 w2c_j0 = 35ull;
 w2c_p0 = w2c_j0;
@@ -23641,7 +23773,7 @@ w2c_j0 = w2c_p2;
 w2c_j1 = w2c_l6;
 w2c_j2 = 12ull;
 w2c_j1 += w2c_j2;
-w2c_f22(instance, w2c_j0, w2c_j1);
+w2c_f24(instance, w2c_j0, w2c_j1);
 w2c_B0:;
 w2c_j0 = w2c_l6;
 w2c_j1 = 16ull;
@@ -23650,7 +23782,7 @@ instance->w2c_g0 = w2c_j0;
 FUNC_EPILOGUE;
 }
 
-static void w2c_f49(machine *instance, u64 w2c_p0, u64 w2c_p1, u64 w2c_p2, u64 w2c_p3, u64 w2c_p4, u64 w2c_p5) {
+static void w2c_f50(machine *instance, u64 w2c_p0, u64 w2c_p1, u64 w2c_p2, u64 w2c_p3, u64 w2c_p4, u64 w2c_p5) {
 u32 w2c_l12 = 0, w2c_l13 = 0, w2c_l14 = 0, w2c_l15 = 0, w2c_l16 = 0, w2c_l17 = 0, w2c_l18 = 0;
 u64 w2c_l6 = 0, w2c_l7 = 0, w2c_l8 = 0, w2c_l9 = 0, w2c_l10 = 0, w2c_l11 = 0;
 FUNC_PROLOGUE;
@@ -25087,7 +25219,7 @@ w2c_j2 = w2c_l6;
 w2c_j3 = 96ull;
 w2c_j2 += w2c_j3;
 w2c_j3 = w2c_p5;
-w2c_f50(instance, w2c_j0, w2c_j1, w2c_j2, w2c_j3);
+w2c_f51(instance, w2c_j0, w2c_j1, w2c_j2, w2c_j3);
 w2c_j0 = w2c_p0;
 w2c_j1 = 176ull;
 w2c_j0 += w2c_j1;
@@ -25109,7 +25241,7 @@ w2c_j2 = w2c_l6;
 w2c_j3 = 40ull;
 w2c_j2 += w2c_j3;
 w2c_j3 = w2c_p5;
-w2c_f50(instance, w2c_j0, w2c_j1, w2c_j2, w2c_j3);
+w2c_f51(instance, w2c_j0, w2c_j1, w2c_j2, w2c_j3);
 w2c_j0 = w2c_p0;
 w2c_i0 = (u32)(w2c_j0);
 w2c_j1 = w2c_p0;
@@ -25224,7 +25356,7 @@ w2c_j0 += w2c_j1;
 w2c_j1 = w2c_l6;
 w2c_j2 = 173ull;
 w2c_j1 += w2c_j2;
-w2c_f30(instance, w2c_j0, w2c_j1);
+w2c_f32(instance, w2c_j0, w2c_j1);
 w2c_j0 = w2c_l6;
 w2c_i0 = (u32)(w2c_j0);
 w2c_j1 = w2c_l6;
@@ -25247,7 +25379,7 @@ w2c_j0 = w2c_p4;
 w2c_j1 = w2c_l6;
 w2c_j2 = 173ull;
 w2c_j1 += w2c_j2;
-w2c_f30(instance, w2c_j0, w2c_j1);
+w2c_f32(instance, w2c_j0, w2c_j1);
 w2c_j0 = w2c_l6;
 w2c_i0 = (u32)(w2c_j0);
 w2c_j1 = w2c_l6;
@@ -25293,7 +25425,7 @@ w2c_j0 += w2c_j1;
 w2c_j1 = w2c_l6;
 w2c_j2 = 156ull;
 w2c_j1 += w2c_j2;
-w2c_f31(instance, w2c_j0, w2c_j1);
+w2c_f33(instance, w2c_j0, w2c_j1);
 w2c_j0 = w2c_p1;
 w2c_i0 = (u32)(w2c_j0);
 w2c_j1 = w2c_l6;
@@ -25334,7 +25466,7 @@ w2c_j0 = w2c_p1;
 w2c_j1 = w2c_l6;
 w2c_j2 = 156ull;
 w2c_j1 += w2c_j2;
-w2c_f31(instance, w2c_j0, w2c_j1);
+w2c_f33(instance, w2c_j0, w2c_j1);
 goto w2c_B0;
 w2c_B5:;
 w2c_i0 = 0u;
@@ -25455,7 +25587,7 @@ instance->w2c_g0 = w2c_j0;
 FUNC_EPILOGUE;
 }
 
-static void w2c_f50(machine *instance, u64 w2c_p0, u64 w2c_p1, u64 w2c_p2, u64 w2c_p3) {
+static void w2c_f51(machine *instance, u64 w2c_p0, u64 w2c_p1, u64 w2c_p2, u64 w2c_p3) {
 u32 w2c_l18 = 0, w2c_l19 = 0, w2c_l20 = 0, w2c_l21 = 0, w2c_l22 = 0, w2c_l23 = 0;
 u64 w2c_l4 = 0, w2c_l5 = 0, w2c_l6 = 0, w2c_l7 = 0, w2c_l8 = 0, w2c_l9 = 0, w2c_l10 = 0, w2c_l11 = 0, 
 w2c_l12 = 0, w2c_l13 = 0, w2c_l14 = 0, w2c_l15 = 0, w2c_l16 = 0, w2c_l17 = 0;
@@ -25488,7 +25620,7 @@ w2c_j1 = 16ull;
 w2c_j0 += w2c_j1;
 w2c_j1 = w2c_l4;
 w2c_j2 = w2c_p2;
-w2c_f32(instance, w2c_j0, w2c_j1, w2c_j2);
+w2c_f34(instance, w2c_j0, w2c_j1, w2c_j2);
 w2c_j0 = w2c_l4;
 w2c_j1 = 80ull;
 w2c_j0 += w2c_j1;
@@ -25895,7 +26027,7 @@ i32_store8(instance, LIMIT, (u64)(w2c_i0), 0, w2c_i1);
 FUNC_EPILOGUE;
 }
 
-static void w2c_f51(machine *instance, u64 w2c_p0, u64 w2c_p1, u32 w2c_p2) {
+static void w2c_f52(machine *instance, u64 w2c_p0, u64 w2c_p1, u32 w2c_p2) {
 u32 w2c_l6 = 0;
 u64 w2c_l3 = 0, w2c_l4 = 0, w2c_l5 = 0;
 FUNC_PROLOGUE;
@@ -26099,7 +26231,7 @@ w2c_B0:;
 FUNC_EPILOGUE;
 }
 
-static void w2c_f52(machine *instance, u64 w2c_p0, u64 w2c_p1, u32 w2c_p2, u64 w2c_p3) {
+static void w2c_f53(machine *instance, u64 w2c_p0, u64 w2c_p1, u32 w2c_p2, u64 w2c_p3) {
 u32 w2c_l4 = 0;
 FUNC_PROLOGUE;
 u32 w2c_i0, w2c_i1;
@@ -26219,7 +26351,7 @@ w2c_Bfunc:;
 FUNC_EPILOGUE;
 }
 
-static void w2c_f53(machine *instance, u64 w2c_p0, u64 w2c_p1, u32 w2c_p2) {
+static void w2c_f54(machine *instance, u64 w2c_p0, u64 w2c_p1, u32 w2c_p2) {
 u32 w2c_l3 = 0;
 FUNC_PROLOGUE;
 u32 w2c_i0, w2c_i1, w2c_i2, w2c_i3;
@@ -26249,7 +26381,7 @@ w2c_j3 = 8ull;
 w2c_j2 += w2c_j3;
 w2c_i2 = (u32)(w2c_j2);
 w2c_j2 = i64_load(instance, LIMIT, (u64)(w2c_i2), 0);
-w2c_i0 = w2c_f17(instance, w2c_i0, w2c_j1, w2c_j2);
+w2c_i0 = w2c_f19(instance, w2c_i0, w2c_j1, w2c_j2);
 w2c_l3 = w2c_i0;
 w2c_B0:;
 w2c_j0 = w2c_p0;
@@ -26271,7 +26403,7 @@ w2c_j1 &= w2c_j2;
 w2c_j2 = 1ull;
 w2c_j1 <<= (w2c_j2 & 63);
 w2c_i1 = (u32)(w2c_j1);
-w2c_i1 = i32_load16_u(instance, LIMIT, (u64)(w2c_i1) + 8192, 0);
+w2c_i1 = i32_load16_u(instance, LIMIT, (u64)(w2c_i1) + 8360, 0);
 w2c_i2 = w2c_l3;
 w2c_i3 = 65280u;
 w2c_i2 &= w2c_i3;
@@ -26282,7 +26414,7 @@ i32_store16(instance, LIMIT, (u64)(w2c_i0), 0, w2c_i1);
 FUNC_EPILOGUE;
 }
 
-static void w2c_f54(machine *instance, u64 w2c_p0, u32 w2c_p1) {
+static void w2c_f55(machine *instance, u64 w2c_p0, u32 w2c_p1) {
 u32 w2c_l5 = 0, w2c_l6 = 0, w2c_l7 = 0, w2c_l8 = 0;
 u64 w2c_l2 = 0, w2c_l3 = 0, w2c_l4 = 0;
 FUNC_PROLOGUE;
@@ -26409,7 +26541,7 @@ w2c_i3 = w2c_l6;
 w2c_i4 = 8u;
 w2c_i3 >>= (w2c_i4 & 31);
 w2c_p1 = w2c_i3;
-w2c_f55(instance, w2c_j0, w2c_j1, w2c_i2, w2c_i3);
+w2c_f56(instance, w2c_j0, w2c_j1, w2c_i2, w2c_i3);
 w2c_j0 = w2c_p0;
 w2c_j1 = 41ull;
 w2c_j0 += w2c_j1;
@@ -26490,7 +26622,7 @@ w2c_j1 = 8ull;
 w2c_j0 += w2c_j1;
 w2c_j1 = w2c_p0;
 w2c_i2 = w2c_p1;
-w2c_f56(instance, w2c_j0, w2c_j1, w2c_i2);
+w2c_f57(instance, w2c_j0, w2c_j1, w2c_i2);
 w2c_j0 = w2c_l2;
 w2c_i0 = (u32)(w2c_j0);
 w2c_i0 = i32_load16_u(instance, LIMIT, (u64)(w2c_i0), 10);
@@ -26529,7 +26661,7 @@ instance->w2c_g0 = w2c_j0;
 FUNC_EPILOGUE;
 }
 
-static void w2c_f55(machine *instance, u64 w2c_p0, u64 w2c_p1, u32 w2c_p2, u32 w2c_p3) {
+static void w2c_f56(machine *instance, u64 w2c_p0, u64 w2c_p1, u32 w2c_p2, u32 w2c_p3) {
 u32 w2c_l4 = 0, w2c_l5 = 0, w2c_l6 = 0;
 u64 w2c_l7 = 0, w2c_l8 = 0;
 FUNC_PROLOGUE;
@@ -26661,7 +26793,7 @@ w2c_j1 = 40ull;
 w2c_j0 += w2c_j1;
 w2c_j1 = w2c_p1;
 w2c_i2 = w2c_l4;
-w2c_f53(instance, w2c_j0, w2c_j1, w2c_i2);
+w2c_f54(instance, w2c_j0, w2c_j1, w2c_i2);
 w2c_B4:;
 w2c_j0 = w2c_p1;
 w2c_j1 = 61ull;
@@ -26760,7 +26892,7 @@ w2c_j1 = w2c_p1;
 w2c_i1 = (u32)(w2c_j1);
 w2c_j1 = i64_load(instance, LIMIT, (u64)(w2c_i1), 0);
 w2c_j2 = w2c_l7;
-w2c_i0 = w2c_f17(instance, w2c_i0, w2c_j1, w2c_j2);
+w2c_i0 = w2c_f19(instance, w2c_i0, w2c_j1, w2c_j2);
 w2c_i1 = 65535u;
 w2c_i0 &= w2c_i1;
 w2c_i1 = 61624u;
@@ -26795,7 +26927,7 @@ i32_store8(instance, LIMIT, (u64)(w2c_i0), 0, w2c_i1);
 FUNC_EPILOGUE;
 }
 
-static void w2c_f56(machine *instance, u64 w2c_p0, u64 w2c_p1, u32 w2c_p2) {
+static void w2c_f57(machine *instance, u64 w2c_p0, u64 w2c_p1, u32 w2c_p2) {
 u32 w2c_l12 = 0, w2c_l13 = 0, w2c_l14 = 0, w2c_l15 = 0, w2c_l16 = 0, w2c_l17 = 0, w2c_l18 = 0, w2c_l19 = 0, 
 w2c_l20 = 0, w2c_l21 = 0, w2c_l22 = 0;
 u64 w2c_l3 = 0, w2c_l4 = 0, w2c_l5 = 0, w2c_l6 = 0, w2c_l7 = 0, w2c_l8 = 0, w2c_l9 = 0, w2c_l10 = 0, 
@@ -27044,7 +27176,7 @@ w2c_B8:;
 w2c_j0 = w2c_l4;
 w2c_j1 = w2c_p1;
 w2c_i2 = w2c_l19;
-w2c_f53(instance, w2c_j0, w2c_j1, w2c_i2);
+w2c_f54(instance, w2c_j0, w2c_j1, w2c_i2);
 w2c_i0 = 0u;
 w2c_l22 = w2c_i0;
 w2c_i0 = 0u;
@@ -27059,7 +27191,7 @@ w2c_j0 += w2c_j1;
 w2c_j1 = w2c_p1;
 w2c_i2 = 0u;
 w2c_i3 = 0u;
-w2c_f55(instance, w2c_j0, w2c_j1, w2c_i2, w2c_i3);
+w2c_f56(instance, w2c_j0, w2c_j1, w2c_i2, w2c_i3);
 w2c_j0 = w2c_l4;
 w2c_i0 = (u32)(w2c_j0);
 w2c_j1 = 0ull;
@@ -27147,7 +27279,7 @@ instance->w2c_g0 = w2c_j0;
 FUNC_EPILOGUE;
 }
 
-static void w2c_f57(machine *instance, u64 w2c_p0, u64 w2c_p1) {
+static void w2c_f58(machine *instance, u64 w2c_p0, u64 w2c_p1) {
 u32 w2c_l2 = 0, w2c_l3 = 0, w2c_l4 = 0, w2c_l5 = 0;
 FUNC_PROLOGUE;
 u32 w2c_i0, w2c_i1, w2c_i2;
@@ -27295,7 +27427,7 @@ i32_store16(instance, LIMIT, (u64)(w2c_i0), 0, w2c_i1);
 FUNC_EPILOGUE;
 }
 
-static void w2c_f58(machine *instance, u64 w2c_p0, u64 w2c_p1, u32 w2c_p2, u64 w2c_p3) {
+static void w2c_f59(machine *instance, u64 w2c_p0, u64 w2c_p1, u32 w2c_p2, u64 w2c_p3) {
 u64 w2c_l4 = 0, w2c_l5 = 0, w2c_l6 = 0;
 FUNC_PROLOGUE;
 u32 w2c_i0, w2c_i1;
@@ -27352,7 +27484,7 @@ w2c_i0 = w2c_j0 != w2c_j1;
 if (w2c_i0) {goto w2c_B0;}
 w2c_j0 = w2c_l5;
 w2c_j1 = w2c_l6;
-w2c_f15(instance, w2c_j0, w2c_j1);
+w2c_f17(instance, w2c_j0, w2c_j1);
 w2c_B0:;
 w2c_j0 = w2c_p3;
 w2c_j1 = 176ull;
@@ -27410,7 +27542,7 @@ i64_store(instance, LIMIT, (u64)(w2c_i0), 0, w2c_j1);
 FUNC_EPILOGUE;
 }
 
-static void w2c_f59(machine *instance, u64 w2c_p0, u64 w2c_p1, u64 w2c_p2, u64 w2c_p3) {
+static void w2c_f60(machine *instance, u64 w2c_p0, u64 w2c_p1, u64 w2c_p2, u64 w2c_p3) {
 u32 w2c_l23 = 0, w2c_l24 = 0, w2c_l25 = 0, w2c_l26 = 0, w2c_l27 = 0, w2c_l28 = 0, w2c_l29 = 0, w2c_l30 = 0;
 u64 w2c_l4 = 0, w2c_l5 = 0, w2c_l6 = 0, w2c_l7 = 0, w2c_l8 = 0, w2c_l9 = 0, w2c_l10 = 0, w2c_l11 = 0, 
 w2c_l12 = 0, w2c_l13 = 0, w2c_l14 = 0, w2c_l15 = 0, w2c_l16 = 0, w2c_l17 = 0, w2c_l18 = 0, w2c_l19 = 0, 
@@ -27494,7 +27626,7 @@ w2c_i0 = w2c_j0 != w2c_j1;
 if (w2c_i0) {goto w2c_B9;}
 w2c_j0 = w2c_l6;
 w2c_j1 = 28ull;
-w2c_f15(instance, w2c_j0, w2c_j1);
+w2c_f17(instance, w2c_j0, w2c_j1);
 w2c_B9:;
 w2c_j0 = w2c_l4;
 w2c_i0 = (u32)(w2c_j0);
@@ -27518,7 +27650,7 @@ w2c_j2 = w2c_p3;
 w2c_j3 = w2c_p0;
 w2c_j4 = 48ull;
 w2c_j3 += w2c_j4;
-w2c_f35(instance, w2c_j0, w2c_j1, w2c_j2, w2c_j3);
+w2c_f37(instance, w2c_j0, w2c_j1, w2c_j2, w2c_j3);
 goto w2c_B1;
 w2c_B7:;
 w2c_j0 = w2c_l5;
@@ -27626,7 +27758,7 @@ w2c_j1 = (u64)(w2c_i1);
 w2c_j2 = 255ull;
 w2c_j1 &= w2c_j2;
 w2c_i1 = (u32)(w2c_j1);
-w2c_i1 = i32_load8_u(instance, LIMIT, (u64)(w2c_i1) + 12288, 0);
+w2c_i1 = i32_load8_u(instance, LIMIT, (u64)(w2c_i1) + 12456, 0);
 w2c_l25 = w2c_i1;
 w2c_j1 = (u64)(w2c_i1);
 w2c_j2 = 255ull;
@@ -27650,7 +27782,7 @@ w2c_i0 = w2c_j0 != w2c_j1;
 if (w2c_i0) {goto w2c_B15;}
 w2c_j0 = w2c_l6;
 w2c_j1 = w2c_l11;
-w2c_f15(instance, w2c_j0, w2c_j1);
+w2c_f17(instance, w2c_j0, w2c_j1);
 w2c_B15:;
 w2c_j0 = w2c_l5;
 w2c_j1 = 376ull;
@@ -27671,7 +27803,7 @@ w2c_i0 = w2c_j0 >= w2c_j1;
 if (w2c_i0) {goto w2c_B16;}
 w2c_j0 = w2c_l6;
 w2c_j1 = 24ull;
-w2c_f15(instance, w2c_j0, w2c_j1);
+w2c_f17(instance, w2c_j0, w2c_j1);
 w2c_B16:;
 w2c_i0 = w2c_l28;
 if (w2c_i0) {goto w2c_B17;}
@@ -27704,7 +27836,7 @@ w2c_i0 = w2c_j0 != w2c_j1;
 if (w2c_i0) {goto w2c_B17;}
 w2c_j0 = w2c_l6;
 w2c_j1 = 26ull;
-w2c_f15(instance, w2c_j0, w2c_j1);
+w2c_f17(instance, w2c_j0, w2c_j1);
 w2c_B17:;
 w2c_i0 = w2c_l23;
 w2c_i0 = !(w2c_i0);
@@ -27772,7 +27904,7 @@ w2c_B21:;
 w2c_j0 = w2c_l6;
 w2c_i1 = 0u;
 w2c_i2 = w2c_l25;
-w2c_f16(instance, w2c_j0, w2c_i1, w2c_i2);
+w2c_f18(instance, w2c_j0, w2c_i1, w2c_i2);
 w2c_B18:;
 w2c_i0 = 0u;
 w2c_l25 = w2c_i0;
@@ -27947,7 +28079,7 @@ w2c_j0 = w2c_l4;
 w2c_j1 = 52ull;
 w2c_j0 += w2c_j1;
 w2c_i1 = w2c_l24;
-w2c_f39(instance, w2c_j0, w2c_i1);
+w2c_f2(instance, w2c_j0, w2c_i1);
 w2c_j0 = w2c_l4;
 w2c_i0 = (u32)(w2c_j0);
 w2c_i0 = i32_load8_u(instance, LIMIT, (u64)(w2c_i0), 52);
@@ -28116,7 +28248,7 @@ w2c_j4 = w2c_p3;
 w2c_j5 = w2c_p0;
 w2c_j6 = 48ull;
 w2c_j5 += w2c_j6;
-w2c_f49(instance, w2c_j0, w2c_j1, w2c_j2, w2c_j3, w2c_j4, w2c_j5);
+w2c_f50(instance, w2c_j0, w2c_j1, w2c_j2, w2c_j3, w2c_j4, w2c_j5);
 goto w2c_B1;
 w2c_B37:;
 w2c_j0 = 1ull;
@@ -28222,7 +28354,7 @@ w2c_j2 = 8ull;
 w2c_j1 += w2c_j2;
 w2c_i2 = w2c_l29;
 w2c_j3 = w2c_p3;
-w2c_f52(instance, w2c_j0, w2c_j1, w2c_i2, w2c_j3);
+w2c_f53(instance, w2c_j0, w2c_j1, w2c_i2, w2c_j3);
 goto w2c_B1;
 w2c_B34:;
 w2c_j0 = w2c_l5;
@@ -28289,7 +28421,7 @@ w2c_j3 = w2c_l4;
 w2c_j4 = 44ull;
 w2c_j3 += w2c_j4;
 w2c_j4 = w2c_l11;
-w2c_f41(instance, w2c_j0, w2c_j1, w2c_j2, w2c_j3, w2c_j4);
+w2c_f42(instance, w2c_j0, w2c_j1, w2c_j2, w2c_j3, w2c_j4);
 goto w2c_B41;
 w2c_B46:;
 w2c_j0 = w2c_l13;
@@ -28301,7 +28433,7 @@ w2c_j3 = w2c_l4;
 w2c_j4 = 44ull;
 w2c_j3 += w2c_j4;
 w2c_j4 = w2c_l11;
-w2c_f42(instance, w2c_j0, w2c_j1, w2c_j2, w2c_j3, w2c_j4);
+w2c_f43(instance, w2c_j0, w2c_j1, w2c_j2, w2c_j3, w2c_j4);
 goto w2c_B41;
 w2c_B45:;
 w2c_j0 = w2c_l4;
@@ -28338,7 +28470,7 @@ w2c_j0 += w2c_j1;
 w2c_j1 = w2c_l13;
 w2c_j2 = w2c_p3;
 w2c_i3 = 13u;
-w2c_f23(instance, w2c_j0, w2c_j1, w2c_j2, w2c_i3);
+w2c_f25(instance, w2c_j0, w2c_j1, w2c_j2, w2c_i3);
 goto w2c_B41;
 w2c_B59:;
 w2c_j0 = w2c_p2;
@@ -28348,7 +28480,7 @@ w2c_i3 = w2c_l28;
 w2c_i4 = w2c_l30;
 w2c_i5 = 1u;
 w2c_i4 &= w2c_i5;
-w2c_f43(instance, w2c_j0, w2c_j1, w2c_j2, w2c_i3, w2c_i4);
+w2c_f44(instance, w2c_j0, w2c_j1, w2c_j2, w2c_i3, w2c_i4);
 w2c_i0 = w2c_l27;
 w2c_j1 = w2c_l13;
 w2c_j2 = 17ull;
@@ -28378,7 +28510,7 @@ w2c_j0 += w2c_j1;
 w2c_j1 = w2c_l13;
 w2c_j2 = w2c_p3;
 w2c_i3 = 9u;
-w2c_f23(instance, w2c_j0, w2c_j1, w2c_j2, w2c_i3);
+w2c_f25(instance, w2c_j0, w2c_j1, w2c_j2, w2c_i3);
 goto w2c_B41;
 w2c_B60:;
 w2c_j0 = w2c_l13;
@@ -28579,7 +28711,7 @@ w2c_j1 += w2c_j2;
 w2c_j2 = w2c_l4;
 w2c_j3 = 58ull;
 w2c_j2 += w2c_j3;
-w2c_f24(instance, w2c_j0, w2c_j1, w2c_j2);
+w2c_f26(instance, w2c_j0, w2c_j1, w2c_j2);
 w2c_j0 = w2c_l4;
 w2c_i0 = (u32)(w2c_j0);
 w2c_i0 = i32_load8_u(instance, LIMIT, (u64)(w2c_i0), 52);
@@ -28610,7 +28742,7 @@ if (w2c_i0) {goto w2c_B66;}
 w2c_j0 = w2c_p3;
 w2c_j1 = w2c_l13;
 w2c_i2 = 0u;
-w2c_f25(instance, w2c_j0, w2c_j1, w2c_i2);
+w2c_f27(instance, w2c_j0, w2c_j1, w2c_i2);
 w2c_B66:;
 w2c_i0 = w2c_l28;
 w2c_j1 = w2c_l13;
@@ -28641,7 +28773,7 @@ w2c_j0 += w2c_j1;
 w2c_j1 = w2c_l13;
 w2c_j2 = w2c_p3;
 w2c_i3 = 9u;
-w2c_f23(instance, w2c_j0, w2c_j1, w2c_j2, w2c_i3);
+w2c_f25(instance, w2c_j0, w2c_j1, w2c_j2, w2c_i3);
 goto w2c_B41;
 w2c_B67:;
 w2c_i0 = w2c_l28;
@@ -28804,7 +28936,7 @@ w2c_j1 += w2c_j2;
 w2c_j2 = w2c_l4;
 w2c_j3 = 58ull;
 w2c_j2 += w2c_j3;
-w2c_f24(instance, w2c_j0, w2c_j1, w2c_j2);
+w2c_f26(instance, w2c_j0, w2c_j1, w2c_j2);
 w2c_j0 = w2c_l4;
 w2c_i0 = (u32)(w2c_j0);
 w2c_i0 = i32_load8_u(instance, LIMIT, (u64)(w2c_i0), 52);
@@ -28835,7 +28967,7 @@ if (w2c_i0) {goto w2c_B72;}
 w2c_j0 = w2c_p3;
 w2c_j1 = w2c_l13;
 w2c_i2 = 0u;
-w2c_f25(instance, w2c_j0, w2c_j1, w2c_i2);
+w2c_f27(instance, w2c_j0, w2c_j1, w2c_i2);
 w2c_B72:;
 w2c_i0 = w2c_l28;
 w2c_j1 = w2c_l13;
@@ -28865,7 +28997,7 @@ w2c_j0 += w2c_j1;
 w2c_j1 = w2c_l13;
 w2c_j2 = w2c_p3;
 w2c_i3 = 9u;
-w2c_f23(instance, w2c_j0, w2c_j1, w2c_j2, w2c_i3);
+w2c_f25(instance, w2c_j0, w2c_j1, w2c_j2, w2c_i3);
 goto w2c_B41;
 w2c_B73:;
 w2c_i0 = w2c_l23;
@@ -28972,7 +29104,7 @@ w2c_j1 += w2c_j2;
 w2c_j2 = w2c_l4;
 w2c_j3 = 58ull;
 w2c_j2 += w2c_j3;
-w2c_f24(instance, w2c_j0, w2c_j1, w2c_j2);
+w2c_f26(instance, w2c_j0, w2c_j1, w2c_j2);
 w2c_j0 = w2c_l4;
 w2c_i0 = (u32)(w2c_j0);
 w2c_i0 = i32_load8_u(instance, LIMIT, (u64)(w2c_i0), 52);
@@ -29003,7 +29135,7 @@ if (w2c_i0) {goto w2c_B77;}
 w2c_j0 = w2c_p3;
 w2c_j1 = w2c_l13;
 w2c_i2 = 0u;
-w2c_f25(instance, w2c_j0, w2c_j1, w2c_i2);
+w2c_f27(instance, w2c_j0, w2c_j1, w2c_i2);
 w2c_B77:;
 w2c_i0 = w2c_l28;
 w2c_j1 = w2c_l13;
@@ -29033,7 +29165,7 @@ w2c_j0 += w2c_j1;
 w2c_j1 = w2c_l13;
 w2c_j2 = w2c_p3;
 w2c_i3 = 9u;
-w2c_f23(instance, w2c_j0, w2c_j1, w2c_j2, w2c_i3);
+w2c_f25(instance, w2c_j0, w2c_j1, w2c_j2, w2c_i3);
 goto w2c_B41;
 w2c_B78:;
 w2c_i0 = w2c_l23;
@@ -29099,7 +29231,7 @@ w2c_j2 = w2c_p3;
 w2c_i3 = w2c_l28;
 w2c_i4 = 1u;
 w2c_i3 &= w2c_i4;
-w2c_f44(instance, w2c_j0, w2c_j1, w2c_j2, w2c_i3);
+w2c_f45(instance, w2c_j0, w2c_j1, w2c_j2, w2c_i3);
 goto w2c_B41;
 w2c_B53:;
 w2c_j0 = w2c_l13;
@@ -29110,7 +29242,7 @@ w2c_j2 = w2c_p3;
 w2c_i3 = w2c_l28;
 w2c_i4 = 1u;
 w2c_i3 &= w2c_i4;
-w2c_f45(instance, w2c_j0, w2c_j1, w2c_j2, w2c_i3);
+w2c_f46(instance, w2c_j0, w2c_j1, w2c_j2, w2c_i3);
 goto w2c_B41;
 w2c_B52:;
 w2c_i0 = w2c_l28;
@@ -29121,13 +29253,13 @@ if (w2c_i0) {goto w2c_B80;}
 w2c_j0 = w2c_p3;
 w2c_j1 = w2c_l13;
 w2c_i2 = 2u;
-w2c_f25(instance, w2c_j0, w2c_j1, w2c_i2);
+w2c_f27(instance, w2c_j0, w2c_j1, w2c_i2);
 goto w2c_B41;
 w2c_B80:;
 w2c_j0 = w2c_p3;
 w2c_j1 = w2c_l13;
 w2c_i2 = 3u;
-w2c_f25(instance, w2c_j0, w2c_j1, w2c_i2);
+w2c_f27(instance, w2c_j0, w2c_j1, w2c_i2);
 goto w2c_B41;
 w2c_B51:;
 w2c_i0 = w2c_l28;
@@ -29141,7 +29273,7 @@ w2c_j0 += w2c_j1;
 w2c_j1 = w2c_l13;
 w2c_j2 = w2c_p3;
 w2c_i3 = 0u;
-w2c_f46(instance, w2c_j0, w2c_j1, w2c_j2, w2c_i3);
+w2c_f47(instance, w2c_j0, w2c_j1, w2c_j2, w2c_i3);
 goto w2c_B41;
 w2c_B81:;
 w2c_j0 = w2c_l13;
@@ -29150,7 +29282,7 @@ w2c_j0 += w2c_j1;
 w2c_j1 = w2c_l13;
 w2c_j2 = w2c_p3;
 w2c_i3 = 4u;
-w2c_f23(instance, w2c_j0, w2c_j1, w2c_j2, w2c_i3);
+w2c_f25(instance, w2c_j0, w2c_j1, w2c_j2, w2c_i3);
 goto w2c_B41;
 w2c_B50:;
 w2c_j0 = w2c_l13;
@@ -29159,13 +29291,13 @@ w2c_j0 += w2c_j1;
 w2c_j1 = w2c_l13;
 w2c_j2 = w2c_p3;
 w2c_i3 = 10u;
-w2c_f23(instance, w2c_j0, w2c_j1, w2c_j2, w2c_i3);
+w2c_f25(instance, w2c_j0, w2c_j1, w2c_j2, w2c_i3);
 goto w2c_B41;
 w2c_B49:;
 w2c_j0 = w2c_p3;
 w2c_j1 = w2c_l13;
 w2c_j2 = w2c_l11;
-w2c_f47(instance, w2c_j0, w2c_j1, w2c_j2);
+w2c_f48(instance, w2c_j0, w2c_j1, w2c_j2);
 goto w2c_B41;
 w2c_B48:;
 w2c_j0 = w2c_l4;
@@ -29186,7 +29318,7 @@ w2c_j0 = w2c_p3;
 w2c_j1 = w2c_l4;
 w2c_j2 = 48ull;
 w2c_j1 += w2c_j2;
-w2c_f26(instance, w2c_j0, w2c_j1);
+w2c_f28(instance, w2c_j0, w2c_j1);
 goto w2c_B41;
 w2c_B44:;
 w2c_j0 = w2c_l13;
@@ -29199,7 +29331,7 @@ w2c_j4 = w2c_l4;
 w2c_j5 = 44ull;
 w2c_j4 += w2c_j5;
 w2c_j5 = w2c_l11;
-w2c_f48(instance, w2c_j0, w2c_j1, w2c_j2, w2c_i3, w2c_j4, w2c_j5);
+w2c_f49(instance, w2c_j0, w2c_j1, w2c_j2, w2c_i3, w2c_j4, w2c_j5);
 goto w2c_B41;
 w2c_B43:;
 UNREACHABLE;
@@ -29213,7 +29345,7 @@ w2c_j3 = w2c_l4;
 w2c_j4 = 44ull;
 w2c_j3 += w2c_j4;
 w2c_j4 = w2c_l11;
-w2c_f40(instance, w2c_j0, w2c_j1, w2c_j2, w2c_j3, w2c_j4);
+w2c_f41(instance, w2c_j0, w2c_j1, w2c_j2, w2c_j3, w2c_j4);
 w2c_B41:;
 w2c_j0 = w2c_l13;
 w2c_j1 = 80ull;
@@ -29606,12 +29738,6 @@ w2c_j0 |= w2c_j1;
 w2c_p2 = w2c_j0;
 w2c_B85:;
 w2c_j0 = w2c_p3;
-w2c_j1 = 48ull;
-w2c_j0 += w2c_j1;
-w2c_i0 = (u32)(w2c_j0);
-w2c_i1 = 0u;
-i32_store16(instance, LIMIT, (u64)(w2c_i0), 0, w2c_i1);
-w2c_j0 = w2c_p3;
 w2c_j1 = 40ull;
 w2c_j0 += w2c_j1;
 w2c_i0 = (u32)(w2c_j0);
@@ -29773,7 +29899,7 @@ w2c_j3 = w2c_p3;
 w2c_j4 = w2c_p0;
 w2c_j5 = 48ull;
 w2c_j4 += w2c_j5;
-w2c_f38(instance, w2c_j0, w2c_j1, w2c_j2, w2c_j3, w2c_j4);
+w2c_f40(instance, w2c_j0, w2c_j1, w2c_j2, w2c_j3, w2c_j4);
 w2c_B1:;
 w2c_j0 = w2c_p3;
 w2c_i0 = (u32)(w2c_j0);
@@ -29995,7 +30121,7 @@ w2c_i0 = w2c_j0 != w2c_j1;
 if (w2c_i0) {goto w2c_B118;}
 w2c_j0 = w2c_l6;
 w2c_j1 = w2c_l8;
-w2c_f15(instance, w2c_j0, w2c_j1);
+w2c_f17(instance, w2c_j0, w2c_j1);
 w2c_B118:;
 w2c_j0 = w2c_p2;
 w2c_j1 = 4ull;
@@ -30034,7 +30160,7 @@ w2c_i0 = w2c_j0 != w2c_j1;
 if (w2c_i0) {goto w2c_B119;}
 w2c_j0 = w2c_l6;
 w2c_j1 = w2c_l11;
-w2c_f15(instance, w2c_j0, w2c_j1);
+w2c_f17(instance, w2c_j0, w2c_j1);
 w2c_B119:;
 w2c_i0 = w2c_l23;
 w2c_i1 = 255u;
@@ -30063,7 +30189,7 @@ w2c_i0 = w2c_j0 >= w2c_j1;
 if (w2c_i0) {goto w2c_B0;}
 w2c_j0 = w2c_l6;
 w2c_j1 = 61ull;
-w2c_f15(instance, w2c_j0, w2c_j1);
+w2c_f17(instance, w2c_j0, w2c_j1);
 w2c_B0:;
 w2c_j0 = w2c_l5;
 w2c_j1 = 176ull;
@@ -30125,7 +30251,7 @@ instance->w2c_g0 = w2c_j0;
 FUNC_EPILOGUE;
 }
 
-static void w2c_f60(machine *instance, u64 w2c_p0, u64 w2c_p1, u64 w2c_p2, u64 w2c_p3) {
+static void w2c_f61(machine *instance, u64 w2c_p0, u64 w2c_p1, u64 w2c_p2, u64 w2c_p3) {
 u32 w2c_l14 = 0;
 u64 w2c_l4 = 0, w2c_l5 = 0, w2c_l6 = 0, w2c_l7 = 0, w2c_l8 = 0, w2c_l9 = 0, w2c_l10 = 0, w2c_l11 = 0, 
 w2c_l12 = 0, w2c_l13 = 0;
@@ -30664,12 +30790,13 @@ i32_store8(instance, LIMIT, (u64)(w2c_i0), 0, w2c_i1);
 FUNC_EPILOGUE;
 }
 
-static void w2c_f61(machine *instance, u64 w2c_p0, u64 w2c_p1, u32 w2c_p2, u32 w2c_p3, u64 w2c_p4, u64 w2c_p5) {
-u32 w2c_l15 = 0, w2c_l16 = 0, w2c_l17 = 0, w2c_l18 = 0, w2c_l19 = 0, w2c_l20 = 0;
+static void w2c_f62(machine *instance, u64 w2c_p0, u64 w2c_p1, u32 w2c_p2, u32 w2c_p3, u64 w2c_p4, u64 w2c_p5) {
+u32 w2c_l15 = 0, w2c_l16 = 0, w2c_l17 = 0, w2c_l18 = 0, w2c_l19 = 0, w2c_l20 = 0, w2c_l21 = 0, w2c_l22 = 0, 
+w2c_l23 = 0;
 u64 w2c_l6 = 0, w2c_l7 = 0, w2c_l8 = 0, w2c_l9 = 0, w2c_l10 = 0, w2c_l11 = 0, w2c_l12 = 0, w2c_l13 = 0, 
 w2c_l14 = 0;
 FUNC_PROLOGUE;
-u32 w2c_i0, w2c_i1, w2c_i2, w2c_i4;
+u32 w2c_i0, w2c_i1, w2c_i2, w2c_i3, w2c_i4;
 u64 w2c_j0, w2c_j1, w2c_j2, w2c_j3, w2c_j4, w2c_j5;
 w2c_j0 = instance->w2c_g0;
 w2c_j1 = 80ull;
@@ -30689,10 +30816,11 @@ w2c_l15 = w2c_i0;
 w2c_i0 = w2c_p2;
 w2c_i1 = 255u;
 w2c_i0 &= w2c_i1;
+w2c_l16 = w2c_i0;
 w2c_i0 = !(w2c_i0);
 if (w2c_i0) {goto w2c_B1;}
 w2c_i0 = 10u;
-w2c_l16 = w2c_i0;
+w2c_l17 = w2c_i0;
 w2c_j0 = w2c_p1;
 w2c_j1 = 20ull;
 w2c_j0 += w2c_j1;
@@ -30704,14 +30832,19 @@ w2c_i1 = 1u;
 w2c_i0 = w2c_i0 != w2c_i1;
 if (w2c_i0) {goto w2c_B0;}
 w2c_B1:;
-w2c_i0 = w2c_p3;
-w2c_i1 = 255u;
-w2c_i0 &= w2c_i1;
+w2c_i0 = 127u;
 w2c_i1 = 126u;
-w2c_i0 = w2c_i0 <= w2c_i1;
+w2c_i2 = w2c_l16;
+w2c_i3 = 3u;
+w2c_i2 = w2c_i2 == w2c_i3;
+w2c_i0 = w2c_i2 ? w2c_i0 : w2c_i1;
+w2c_i1 = w2c_p3;
+w2c_i2 = 255u;
+w2c_i1 &= w2c_i2;
+w2c_i0 = w2c_i0 >= w2c_i1;
 if (w2c_i0) {goto w2c_B2;}
 w2c_i0 = 0u;
-w2c_l16 = w2c_i0;
+w2c_l17 = w2c_i0;
 goto w2c_B0;
 w2c_B2:;
 w2c_j0 = w2c_p1;
@@ -30726,17 +30859,18 @@ w2c_j1 = 255ull;
 w2c_j0 &= w2c_j1;
 w2c_i0 = (u32)(w2c_j0);
 switch (w2c_i0) {
-case 0: goto w2c_B13;
-case 1: goto w2c_B12;
-case 2: goto w2c_B11;
-default: goto w2c_B13;
+case 0: goto w2c_B14;
+case 1: goto w2c_B13;
+case 2: goto w2c_B12;
+case 3: goto w2c_B11;
+default: goto w2c_B14;
 }
-w2c_B13:;
+w2c_B14:;
 w2c_i0 = 7u;
-w2c_l16 = w2c_i0;
+w2c_l17 = w2c_i0;
 w2c_j0 = w2c_l7;
 w2c_i0 = !(w2c_j0);
-if (w2c_i0) {goto w2c_B7;}
+if (w2c_i0) {goto w2c_B6;}
 w2c_j0 = w2c_p1;
 w2c_j1 = 24ull;
 w2c_j0 += w2c_j1;
@@ -30751,7 +30885,7 @@ w2c_i0 &= w2c_i1;
 w2c_p2 = w2c_i0;
 w2c_j0 = w2c_l7;
 w2c_l10 = w2c_j0;
-w2c_L14: 
+w2c_L15: 
 w2c_j0 = w2c_l9;
 w2c_j1 = 18446744073709551615ull;
 w2c_j0 += w2c_j1;
@@ -30759,21 +30893,21 @@ w2c_i0 = (u32)(w2c_j0);
 w2c_i0 = i32_load8_u(instance, LIMIT, (u64)(w2c_i0), 0);
 w2c_i1 = 1u;
 w2c_i0 = w2c_i0 != w2c_i1;
-if (w2c_i0) {goto w2c_B15;}
+if (w2c_i0) {goto w2c_B16;}
 w2c_j0 = w2c_l9;
 w2c_i0 = (u32)(w2c_j0);
 w2c_i0 = i32_load8_u(instance, LIMIT, (u64)(w2c_i0), 0);
 w2c_i1 = w2c_p2;
 w2c_i0 = w2c_i0 != w2c_i1;
-if (w2c_i0) {goto w2c_B15;}
+if (w2c_i0) {goto w2c_B16;}
 w2c_i0 = 0u;
 w2c_p2 = w2c_i0;
 w2c_j0 = 0ull;
-w2c_l10 = w2c_j0;
+w2c_l11 = w2c_j0;
 w2c_i0 = 6u;
-w2c_l16 = w2c_i0;
-goto w2c_B6;
-w2c_B15:;
+w2c_l17 = w2c_i0;
+goto w2c_B5;
+w2c_B16:;
 w2c_j0 = w2c_l9;
 w2c_j1 = 2ull;
 w2c_j0 += w2c_j1;
@@ -30784,30 +30918,30 @@ w2c_j0 += w2c_j1;
 w2c_l10 = w2c_j0;
 w2c_j1 = 0ull;
 w2c_i0 = w2c_j0 != w2c_j1;
-if (w2c_i0) {goto w2c_L14;}
+if (w2c_i0) {goto w2c_L15;}
 w2c_j0 = 0ull;
-w2c_l9 = w2c_j0;
-w2c_L17: 
+w2c_l10 = w2c_j0;
+w2c_L18: 
 w2c_j0 = w2c_l8;
 w2c_i0 = (u32)(w2c_j0);
 w2c_i0 = i32_load8_u(instance, LIMIT, (u64)(w2c_i0), 0);
 w2c_i1 = 1u;
 w2c_i0 = w2c_i0 != w2c_i1;
-if (w2c_i0) {goto w2c_B16;}
+if (w2c_i0) {goto w2c_B17;}
 w2c_j0 = w2c_l8;
 w2c_j1 = 2ull;
 w2c_j0 += w2c_j1;
 w2c_l8 = w2c_j0;
 w2c_j0 = w2c_l7;
-w2c_j1 = w2c_l9;
+w2c_j1 = w2c_l10;
 w2c_j2 = 1ull;
 w2c_j1 += w2c_j2;
-w2c_l9 = w2c_j1;
+w2c_l10 = w2c_j1;
 w2c_i0 = w2c_j0 == w2c_j1;
-if (w2c_i0) {goto w2c_B7;}
-goto w2c_L17;
+if (w2c_i0) {goto w2c_B6;}
+goto w2c_L18;
 UNREACHABLE;
-w2c_B16:;
+w2c_B17:;
 w2c_i0 = 1u;
 w2c_p2 = w2c_i0;
 w2c_j0 = w2c_l8;
@@ -30815,7 +30949,7 @@ w2c_i0 = (u32)(w2c_j0);
 w2c_i1 = 1u;
 i32_store8(instance, LIMIT, (u64)(w2c_i0), 0, w2c_i1);
 w2c_j0 = 1ull;
-w2c_l10 = w2c_j0;
+w2c_l11 = w2c_j0;
 w2c_j0 = w2c_l8;
 w2c_j1 = 1ull;
 w2c_j0 += w2c_j1;
@@ -30823,16 +30957,18 @@ w2c_i0 = (u32)(w2c_j0);
 w2c_i1 = w2c_p3;
 i32_store8(instance, LIMIT, (u64)(w2c_i0), 0, w2c_i1);
 w2c_i0 = 0u;
-w2c_l16 = w2c_i0;
-w2c_i0 = 0u;
 w2c_l17 = w2c_i0;
-goto w2c_B5;
-w2c_B12:;
+w2c_i0 = 0u;
+w2c_l16 = w2c_i0;
+w2c_i0 = w2c_p3;
+w2c_l18 = w2c_i0;
+goto w2c_B4;
+w2c_B13:;
 w2c_j0 = 0ull;
-w2c_l10 = w2c_j0;
+w2c_l11 = w2c_j0;
 w2c_j0 = w2c_l7;
 w2c_i0 = !(w2c_j0);
-if (w2c_i0) {goto w2c_B8;}
+if (w2c_i0) {goto w2c_B7;}
 w2c_j0 = w2c_p1;
 w2c_j1 = 25ull;
 w2c_j0 += w2c_j1;
@@ -30840,8 +30976,8 @@ w2c_l9 = w2c_j0;
 w2c_i0 = w2c_p3;
 w2c_i1 = 255u;
 w2c_i0 &= w2c_i1;
-w2c_l16 = w2c_i0;
-w2c_L19: 
+w2c_l17 = w2c_i0;
+w2c_L20: 
 w2c_j0 = w2c_l9;
 w2c_j1 = 18446744073709551615ull;
 w2c_j0 += w2c_j1;
@@ -30849,14 +30985,14 @@ w2c_i0 = (u32)(w2c_j0);
 w2c_i0 = i32_load8_u(instance, LIMIT, (u64)(w2c_i0), 0);
 w2c_i1 = 1u;
 w2c_i0 = w2c_i0 != w2c_i1;
-if (w2c_i0) {goto w2c_B20;}
+if (w2c_i0) {goto w2c_B21;}
 w2c_j0 = w2c_l9;
 w2c_i0 = (u32)(w2c_j0);
 w2c_i0 = i32_load8_u(instance, LIMIT, (u64)(w2c_i0), 0);
-w2c_i1 = w2c_l16;
+w2c_i1 = w2c_l17;
 w2c_i0 = w2c_i0 == w2c_i1;
-if (w2c_i0) {goto w2c_B18;}
-w2c_B20:;
+if (w2c_i0) {goto w2c_B19;}
+w2c_B21:;
 w2c_j0 = w2c_l9;
 w2c_j1 = 2ull;
 w2c_j0 += w2c_j1;
@@ -30866,10 +31002,10 @@ w2c_j1 = 18446744073709551615ull;
 w2c_j0 += w2c_j1;
 w2c_l7 = w2c_j0;
 w2c_i0 = !(w2c_j0);
-if (w2c_i0) {goto w2c_B8;}
-goto w2c_L19;
+if (w2c_i0) {goto w2c_B7;}
+goto w2c_L20;
 UNREACHABLE;
-w2c_B18:;
+w2c_B19:;
 w2c_j0 = w2c_p1;
 w2c_j1 = 96ull;
 w2c_j0 += w2c_j1;
@@ -30877,16 +31013,10 @@ w2c_i0 = (u32)(w2c_j0);
 w2c_j0 = i64_load(instance, LIMIT, (u64)(w2c_i0), 0);
 w2c_l7 = w2c_j0;
 w2c_j1 = 3ull;
-w2c_i0 = w2c_j0 <= w2c_j1;
-if (w2c_i0) {goto w2c_B21;}
-w2c_i0 = 0u;
-w2c_p2 = w2c_i0;
-w2c_i0 = 9u;
-w2c_l16 = w2c_i0;
-goto w2c_B6;
-w2c_B21:;
+w2c_i0 = w2c_j0 > w2c_j1;
+if (w2c_i0) {goto w2c_B8;}
 w2c_i0 = 1u;
-w2c_l18 = w2c_i0;
+w2c_l19 = w2c_i0;
 w2c_j0 = w2c_p1;
 w2c_j1 = 88ull;
 w2c_j0 += w2c_j1;
@@ -30924,7 +31054,7 @@ w2c_i0 = (u32)(w2c_j0);
 w2c_i1 = 3u;
 i32_store8(instance, LIMIT, (u64)(w2c_i0), 0, w2c_i1);
 w2c_i0 = 0u;
-w2c_l18 = w2c_i0;
+w2c_l19 = w2c_i0;
 w2c_j0 = w2c_l7;
 w2c_j1 = 4ull;
 w2c_j0 += w2c_j1;
@@ -30956,7 +31086,7 @@ w2c_j1 += w2c_j2;
 i64_store(instance, LIMIT, (u64)(w2c_i0), 0, w2c_j1);
 w2c_B22:;
 w2c_i0 = 0u;
-w2c_l19 = w2c_i0;
+w2c_l20 = w2c_i0;
 w2c_j0 = w2c_p1;
 w2c_j1 = 72ull;
 w2c_j0 += w2c_j1;
@@ -30966,11 +31096,11 @@ w2c_i1 = 1u;
 w2c_i0 = w2c_i0 == w2c_i1;
 if (w2c_i0) {goto w2c_B24;}
 w2c_i0 = 0u;
-w2c_l20 = w2c_i0;
+w2c_l21 = w2c_i0;
 goto w2c_B23;
 w2c_B24:;
 w2c_i0 = 0u;
-w2c_l20 = w2c_i0;
+w2c_l21 = w2c_i0;
 w2c_i0 = w2c_p3;
 w2c_i1 = 255u;
 w2c_i0 &= w2c_i1;
@@ -30996,9 +31126,9 @@ w2c_i0 = (u32)(w2c_j0);
 w2c_i1 = 0u;
 i32_store8(instance, LIMIT, (u64)(w2c_i0), 0, w2c_i1);
 w2c_i0 = 513u;
-w2c_l20 = w2c_i0;
+w2c_l21 = w2c_i0;
 w2c_i0 = 1u;
-w2c_l19 = w2c_i0;
+w2c_l20 = w2c_i0;
 w2c_B23:;
 w2c_j0 = w2c_p1;
 w2c_j1 = 64ull;
@@ -31011,28 +31141,28 @@ if (w2c_i0) {goto w2c_B25;}
 w2c_j0 = w2c_p1;
 w2c_j1 = 48ull;
 w2c_j0 += w2c_j1;
-w2c_l11 = w2c_j0;
+w2c_l12 = w2c_j0;
 w2c_j0 = w2c_p1;
 w2c_j1 = 50ull;
 w2c_j0 += w2c_j1;
-w2c_l12 = w2c_j0;
+w2c_l11 = w2c_j0;
 w2c_j0 = 0ull;
 w2c_l7 = w2c_j0;
 w2c_i0 = w2c_p3;
 w2c_i1 = 255u;
 w2c_i0 &= w2c_i1;
-w2c_l16 = w2c_i0;
+w2c_l17 = w2c_i0;
 w2c_j0 = 0ull;
 w2c_l10 = w2c_j0;
 w2c_j0 = 0ull;
 w2c_l9 = w2c_j0;
 w2c_L26: 
-w2c_j0 = w2c_l12;
+w2c_j0 = w2c_l11;
 w2c_j1 = w2c_l7;
 w2c_j0 += w2c_j1;
 w2c_i0 = (u32)(w2c_j0);
 w2c_i0 = i32_load8_u(instance, LIMIT, (u64)(w2c_i0), 0);
-w2c_i1 = w2c_l16;
+w2c_i1 = w2c_l17;
 w2c_i0 = w2c_i0 == w2c_i1;
 if (w2c_i0) {goto w2c_B27;}
 w2c_j0 = w2c_l10;
@@ -31058,7 +31188,7 @@ w2c_l14 = w2c_j0;
 w2c_j0 = w2c_l7;
 w2c_l13 = w2c_j0;
 w2c_B29:;
-w2c_j0 = w2c_l11;
+w2c_j0 = w2c_l12;
 w2c_j1 = w2c_l13;
 w2c_j0 += w2c_j1;
 w2c_l13 = w2c_j0;
@@ -31067,7 +31197,7 @@ w2c_i0 = i32_load(instance, LIMIT, (u64)(w2c_i0), 0);
 w2c_p2 = w2c_i0;
 w2c_j0 = w2c_l13;
 w2c_i0 = (u32)(w2c_j0);
-w2c_j1 = w2c_l11;
+w2c_j1 = w2c_l12;
 w2c_j2 = w2c_l14;
 w2c_j1 += w2c_j2;
 w2c_l14 = w2c_j1;
@@ -31112,7 +31242,7 @@ w2c_j0 <<= (w2c_j1 & 63);
 w2c_l7 = w2c_j0;
 w2c_i0 = !(w2c_j0);
 if (w2c_i0) {goto w2c_B31;}
-w2c_j0 = w2c_l11;
+w2c_j0 = w2c_l12;
 w2c_j1 = w2c_l10;
 w2c_j2 = 2ull;
 w2c_j1 <<= (w2c_j2 & 63);
@@ -31131,13 +31261,13 @@ w2c_j1 = w2c_l10;
 i64_store(instance, LIMIT, (u64)(w2c_i0), 0, w2c_j1);
 w2c_B25:;
 w2c_i0 = 0u;
-w2c_l16 = w2c_i0;
+w2c_l17 = w2c_i0;
 w2c_j0 = w2c_p1;
 w2c_j1 = 40ull;
 w2c_j0 += w2c_j1;
 w2c_i0 = (u32)(w2c_j0);
 w2c_j0 = i64_load(instance, LIMIT, (u64)(w2c_i0), 0);
-w2c_l10 = w2c_j0;
+w2c_l9 = w2c_j0;
 w2c_i0 = !(w2c_j0);
 if (w2c_i0) {goto w2c_B10;}
 w2c_j0 = w2c_p1;
@@ -31145,7 +31275,7 @@ w2c_j1 = 25ull;
 w2c_j0 += w2c_j1;
 w2c_l7 = w2c_j0;
 w2c_j0 = 0ull;
-w2c_l9 = w2c_j0;
+w2c_l10 = w2c_j0;
 w2c_i0 = w2c_p3;
 w2c_i1 = 255u;
 w2c_i0 &= w2c_i1;
@@ -31170,11 +31300,11 @@ w2c_j0 = w2c_l7;
 w2c_j1 = 2ull;
 w2c_j0 += w2c_j1;
 w2c_l7 = w2c_j0;
-w2c_j0 = w2c_l10;
-w2c_j1 = w2c_l9;
+w2c_j0 = w2c_l9;
+w2c_j1 = w2c_l10;
 w2c_j2 = 1ull;
 w2c_j1 += w2c_j2;
-w2c_l9 = w2c_j1;
+w2c_l10 = w2c_j1;
 w2c_i0 = w2c_j0 == w2c_j1;
 if (w2c_i0) {goto w2c_B10;}
 goto w2c_L33;
@@ -31187,14 +31317,16 @@ w2c_i0 = (u32)(w2c_j0);
 w2c_i1 = 0u;
 i32_store16(instance, LIMIT, (u64)(w2c_i0), 0, w2c_i1);
 w2c_i0 = 1u;
-w2c_l17 = w2c_i0;
+w2c_l16 = w2c_i0;
+w2c_i0 = w2c_p3;
+w2c_l18 = w2c_i0;
 goto w2c_B9;
-w2c_B11:;
+w2c_B12:;
 w2c_j0 = 0ull;
-w2c_l10 = w2c_j0;
+w2c_l11 = w2c_j0;
 w2c_j0 = w2c_l7;
 w2c_i0 = !(w2c_j0);
-if (w2c_i0) {goto w2c_B8;}
+if (w2c_i0) {goto w2c_B7;}
 w2c_j0 = w2c_p1;
 w2c_j1 = 25ull;
 w2c_j0 += w2c_j1;
@@ -31202,7 +31334,7 @@ w2c_l9 = w2c_j0;
 w2c_i0 = w2c_p3;
 w2c_i1 = 255u;
 w2c_i0 &= w2c_i1;
-w2c_l16 = w2c_i0;
+w2c_l17 = w2c_i0;
 w2c_L36: 
 w2c_j0 = w2c_l9;
 w2c_j1 = 18446744073709551615ull;
@@ -31215,7 +31347,7 @@ if (w2c_i0) {goto w2c_B37;}
 w2c_j0 = w2c_l9;
 w2c_i0 = (u32)(w2c_j0);
 w2c_i0 = i32_load8_u(instance, LIMIT, (u64)(w2c_i0), 0);
-w2c_i1 = w2c_l16;
+w2c_i1 = w2c_l17;
 w2c_i0 = w2c_i0 == w2c_i1;
 if (w2c_i0) {goto w2c_B35;}
 w2c_B37:;
@@ -31228,7 +31360,7 @@ w2c_j1 = 18446744073709551615ull;
 w2c_j0 += w2c_j1;
 w2c_l7 = w2c_j0;
 w2c_i0 = !(w2c_j0);
-if (w2c_i0) {goto w2c_B8;}
+if (w2c_i0) {goto w2c_B7;}
 goto w2c_L36;
 UNREACHABLE;
 w2c_B35:;
@@ -31243,8 +31375,8 @@ if (w2c_i0) {goto w2c_B38;}
 w2c_i0 = 0u;
 w2c_p2 = w2c_i0;
 w2c_i0 = 8u;
-w2c_l16 = w2c_i0;
-goto w2c_B6;
+w2c_l17 = w2c_i0;
+goto w2c_B5;
 w2c_B38:;
 w2c_j0 = w2c_p1;
 w2c_j1 = 96ull;
@@ -31253,26 +31385,12 @@ w2c_i0 = (u32)(w2c_j0);
 w2c_j0 = i64_load(instance, LIMIT, (u64)(w2c_i0), 0);
 w2c_l7 = w2c_j0;
 w2c_j1 = 3ull;
-w2c_i0 = w2c_j0 <= w2c_j1;
-if (w2c_i0) {goto w2c_B39;}
-w2c_i0 = 0u;
+w2c_i0 = w2c_j0 > w2c_j1;
+if (w2c_i0) {goto w2c_B8;}
+w2c_i0 = 1u;
+w2c_p2 = w2c_i0;
+w2c_i0 = 1u;
 w2c_l19 = w2c_i0;
-w2c_i0 = 9u;
-w2c_l16 = w2c_i0;
-w2c_i0 = 0u;
-w2c_p2 = w2c_i0;
-w2c_i0 = 0u;
-w2c_l17 = w2c_i0;
-w2c_i0 = 0u;
-w2c_p3 = w2c_i0;
-w2c_j0 = 0ull;
-w2c_l9 = w2c_j0;
-goto w2c_B4;
-w2c_B39:;
-w2c_i0 = 1u;
-w2c_p2 = w2c_i0;
-w2c_i0 = 1u;
-w2c_l18 = w2c_i0;
 w2c_j0 = w2c_p1;
 w2c_j1 = 88ull;
 w2c_j0 += w2c_j1;
@@ -31281,7 +31399,7 @@ w2c_j0 = i64_load(instance, LIMIT, (u64)(w2c_i0), 0);
 w2c_l9 = w2c_j0;
 w2c_j1 = w2c_l7;
 w2c_i0 = w2c_j0 <= w2c_j1;
-if (w2c_i0) {goto w2c_B40;}
+if (w2c_i0) {goto w2c_B39;}
 w2c_j0 = w2c_p1;
 w2c_j1 = 80ull;
 w2c_j0 += w2c_j1;
@@ -31310,7 +31428,7 @@ w2c_i0 = (u32)(w2c_j0);
 w2c_i1 = 2u;
 i32_store8(instance, LIMIT, (u64)(w2c_i0), 0, w2c_i1);
 w2c_i0 = 0u;
-w2c_l18 = w2c_i0;
+w2c_l19 = w2c_i0;
 w2c_j0 = w2c_l7;
 w2c_j1 = 4ull;
 w2c_j0 += w2c_j1;
@@ -31340,7 +31458,7 @@ w2c_j1 = i64_load(instance, LIMIT, (u64)(w2c_i1), 0);
 w2c_j2 = 1ull;
 w2c_j1 += w2c_j2;
 i64_store(instance, LIMIT, (u64)(w2c_i0), 0, w2c_j1);
-w2c_B40:;
+w2c_B39:;
 w2c_j0 = w2c_p1;
 w2c_j1 = 73ull;
 w2c_j0 += w2c_j1;
@@ -31356,58 +31474,213 @@ w2c_i0 = (u32)(w2c_j0);
 w2c_i1 = 1u;
 i32_store8(instance, LIMIT, (u64)(w2c_i0), 0, w2c_i1);
 w2c_i0 = 512u;
-w2c_l20 = w2c_i0;
+w2c_l21 = w2c_i0;
+w2c_i0 = 0u;
+w2c_l17 = w2c_i0;
 w2c_i0 = 0u;
 w2c_l16 = w2c_i0;
 w2c_i0 = 0u;
-w2c_l17 = w2c_i0;
-w2c_i0 = 0u;
-w2c_p3 = w2c_i0;
+w2c_l18 = w2c_i0;
 w2c_j0 = 0ull;
-w2c_l9 = w2c_j0;
+w2c_l10 = w2c_j0;
 w2c_i0 = 1u;
-w2c_l19 = w2c_i0;
+w2c_l20 = w2c_i0;
 goto w2c_B3;
+w2c_B11:;
+w2c_j0 = w2c_l7;
+w2c_i0 = !(w2c_j0);
+if (w2c_i0) {goto w2c_B40;}
+w2c_j0 = w2c_p1;
+w2c_j1 = 25ull;
+w2c_j0 += w2c_j1;
+w2c_l9 = w2c_j0;
+w2c_i0 = w2c_p3;
+w2c_i1 = 255u;
+w2c_i0 &= w2c_i1;
+w2c_l22 = w2c_i0;
+w2c_i1 = 127u;
+w2c_i0 = w2c_i0 == w2c_i1;
+w2c_l23 = w2c_i0;
+w2c_L41: 
+w2c_j0 = w2c_l9;
+w2c_j1 = 18446744073709551615ull;
+w2c_j0 += w2c_j1;
+w2c_i0 = (u32)(w2c_j0);
+w2c_i0 = i32_load8_u(instance, LIMIT, (u64)(w2c_i0), 0);
+w2c_i1 = 1u;
+w2c_i0 = w2c_i0 != w2c_i1;
+if (w2c_i0) {goto w2c_B42;}
+w2c_i0 = 0u;
+w2c_p2 = w2c_i0;
+w2c_j0 = 0ull;
+w2c_l11 = w2c_j0;
+w2c_i0 = 6u;
+w2c_l17 = w2c_i0;
+w2c_i0 = w2c_l23;
+if (w2c_i0) {goto w2c_B5;}
+w2c_i0 = 0u;
+w2c_l16 = w2c_i0;
+w2c_i0 = 0u;
+w2c_l18 = w2c_i0;
+w2c_j0 = 0ull;
+w2c_l10 = w2c_j0;
+w2c_i0 = 0u;
+w2c_l20 = w2c_i0;
+w2c_i0 = 0u;
+w2c_l21 = w2c_i0;
+w2c_i0 = 0u;
+w2c_l19 = w2c_i0;
+w2c_j0 = w2c_l9;
+w2c_i0 = (u32)(w2c_j0);
+w2c_i0 = i32_load8_u(instance, LIMIT, (u64)(w2c_i0), 0);
+w2c_i1 = 255u;
+w2c_i0 &= w2c_i1;
+w2c_i1 = w2c_l22;
+w2c_i0 = w2c_i0 == w2c_i1;
+if (w2c_i0) {goto w2c_B3;}
+w2c_B42:;
+w2c_j0 = w2c_l9;
+w2c_j1 = 2ull;
+w2c_j0 += w2c_j1;
+w2c_l9 = w2c_j0;
+w2c_j0 = w2c_l7;
+w2c_j1 = 18446744073709551615ull;
+w2c_j0 += w2c_j1;
+w2c_l7 = w2c_j0;
+w2c_j1 = 0ull;
+w2c_i0 = w2c_j0 != w2c_j1;
+if (w2c_i0) {goto w2c_L41;}
+w2c_B40:;
+w2c_j0 = 0ull;
+w2c_l11 = w2c_j0;
+w2c_j0 = w2c_p1;
+w2c_j1 = 96ull;
+w2c_j0 += w2c_j1;
+w2c_i0 = (u32)(w2c_j0);
+w2c_j0 = i64_load(instance, LIMIT, (u64)(w2c_i0), 0);
+w2c_l7 = w2c_j0;
+w2c_j1 = 3ull;
+w2c_i0 = w2c_j0 > w2c_j1;
+if (w2c_i0) {goto w2c_B8;}
+w2c_i0 = 0u;
+w2c_l17 = w2c_i0;
+w2c_i0 = 1u;
+w2c_p2 = w2c_i0;
+w2c_j0 = w2c_p1;
+w2c_j1 = 88ull;
+w2c_j0 += w2c_j1;
+w2c_i0 = (u32)(w2c_j0);
+w2c_j0 = i64_load(instance, LIMIT, (u64)(w2c_i0), 0);
+w2c_l9 = w2c_j0;
+w2c_j1 = w2c_l7;
+w2c_i0 = w2c_j0 <= w2c_j1;
+if (w2c_i0) {goto w2c_B5;}
+w2c_j0 = 0ull;
+w2c_l11 = w2c_j0;
+w2c_j0 = w2c_p1;
+w2c_j1 = 80ull;
+w2c_j0 += w2c_j1;
+w2c_i0 = (u32)(w2c_j0);
+w2c_j0 = i64_load(instance, LIMIT, (u64)(w2c_i0), 0);
+w2c_j1 = w2c_p1;
+w2c_j2 = 104ull;
+w2c_j1 += w2c_j2;
+w2c_i1 = (u32)(w2c_j1);
+w2c_j1 = i64_load(instance, LIMIT, (u64)(w2c_i1), 0);
+w2c_j2 = w2c_l7;
+w2c_j1 += w2c_j2;
+w2c_l7 = w2c_j1;
+w2c_j2 = 0ull;
+w2c_j3 = w2c_l9;
+w2c_j4 = w2c_l7;
+w2c_j5 = w2c_l9;
+w2c_i4 = w2c_j4 < w2c_j5;
+w2c_j2 = w2c_i4 ? w2c_j2 : w2c_j3;
+w2c_j1 -= w2c_j2;
+w2c_j2 = 6ull;
+w2c_j1 *= w2c_j2;
+w2c_j0 += w2c_j1;
+w2c_l7 = w2c_j0;
+w2c_i0 = (u32)(w2c_j0);
+w2c_i1 = 3u;
+i32_store8(instance, LIMIT, (u64)(w2c_i0), 0, w2c_i1);
+w2c_i0 = 0u;
+w2c_l17 = w2c_i0;
+w2c_j0 = w2c_l7;
+w2c_j1 = 4ull;
+w2c_j0 += w2c_j1;
+w2c_i0 = (u32)(w2c_j0);
+w2c_i1 = 0u;
+i32_store8(instance, LIMIT, (u64)(w2c_i0), 0, w2c_i1);
+w2c_j0 = w2c_l7;
+w2c_j1 = 2ull;
+w2c_j0 += w2c_j1;
+w2c_i0 = (u32)(w2c_j0);
+w2c_i1 = 0u;
+i32_store16(instance, LIMIT, (u64)(w2c_i0), 0, w2c_i1);
+w2c_j0 = w2c_l7;
+w2c_j1 = 1ull;
+w2c_j0 += w2c_j1;
+w2c_i0 = (u32)(w2c_j0);
+w2c_i1 = w2c_p3;
+i32_store8(instance, LIMIT, (u64)(w2c_i0), 0, w2c_i1);
+w2c_j0 = w2c_p1;
+w2c_j1 = 96ull;
+w2c_j0 += w2c_j1;
+w2c_l7 = w2c_j0;
+w2c_i0 = (u32)(w2c_j0);
+w2c_j1 = w2c_l7;
+w2c_i1 = (u32)(w2c_j1);
+w2c_j1 = i64_load(instance, LIMIT, (u64)(w2c_i1), 0);
+w2c_j2 = 1ull;
+w2c_j1 += w2c_j2;
+i64_store(instance, LIMIT, (u64)(w2c_i0), 0, w2c_j1);
+goto w2c_B5;
 w2c_B10:;
 w2c_j0 = 0ull;
-w2c_l9 = w2c_j0;
-w2c_i0 = 0u;
-w2c_l17 = w2c_i0;
-w2c_i0 = 0u;
-w2c_p3 = w2c_i0;
-w2c_B9:;
-w2c_i0 = w2c_l17;
-w2c_j0 = (u64)(w2c_i0);
 w2c_l10 = w2c_j0;
+w2c_i0 = 0u;
+w2c_l16 = w2c_i0;
+w2c_i0 = 0u;
+w2c_l18 = w2c_i0;
+w2c_B9:;
+w2c_i0 = w2c_l16;
+w2c_j0 = (u64)(w2c_i0);
+w2c_l11 = w2c_j0;
 w2c_i0 = 1u;
 w2c_p2 = w2c_i0;
 goto w2c_B3;
 w2c_B8:;
 w2c_i0 = 0u;
 w2c_p2 = w2c_i0;
-w2c_i0 = 1u;
-w2c_l16 = w2c_i0;
-goto w2c_B6;
+w2c_i0 = 9u;
+w2c_l17 = w2c_i0;
+goto w2c_B5;
 w2c_B7:;
 w2c_i0 = 0u;
 w2c_p2 = w2c_i0;
-w2c_j0 = 0ull;
-w2c_l10 = w2c_j0;
+w2c_i0 = 1u;
+w2c_l17 = w2c_i0;
+goto w2c_B5;
 w2c_B6:;
 w2c_i0 = 0u;
-w2c_l17 = w2c_i0;
-w2c_i0 = 0u;
-w2c_p3 = w2c_i0;
+w2c_p2 = w2c_i0;
 w2c_j0 = 0ull;
-w2c_l9 = w2c_j0;
+w2c_l11 = w2c_j0;
 w2c_B5:;
 w2c_i0 = 0u;
-w2c_l19 = w2c_i0;
+w2c_l16 = w2c_i0;
+w2c_i0 = 0u;
+w2c_l18 = w2c_i0;
+w2c_j0 = 0ull;
+w2c_l10 = w2c_j0;
 w2c_B4:;
 w2c_i0 = 0u;
 w2c_l20 = w2c_i0;
 w2c_i0 = 0u;
-w2c_l18 = w2c_i0;
+w2c_l21 = w2c_i0;
+w2c_i0 = 0u;
+w2c_l19 = w2c_i0;
 w2c_B3:;
 w2c_i0 = w2c_p2;
 w2c_i0 = !(w2c_i0);
@@ -31425,22 +31698,22 @@ w2c_i0 = (u32)(w2c_j0);
 w2c_j1 = 0ull;
 i64_store(instance, LIMIT, (u64)(w2c_i0), 8, w2c_j1);
 w2c_i0 = 0u;
-w2c_l16 = w2c_i0;
+w2c_l17 = w2c_i0;
 w2c_j0 = w2c_l6;
 w2c_i0 = (u32)(w2c_j0);
 w2c_i1 = 0u;
 i32_store(instance, LIMIT, (u64)(w2c_i0), 42, w2c_i1);
 w2c_j0 = w2c_l6;
 w2c_i0 = (u32)(w2c_j0);
-w2c_i1 = w2c_p3;
+w2c_i1 = w2c_l18;
 i32_store8(instance, LIMIT, (u64)(w2c_i0), 41, w2c_i1);
 w2c_j0 = w2c_l6;
 w2c_i0 = (u32)(w2c_j0);
-w2c_i1 = w2c_l17;
+w2c_i1 = w2c_l16;
 i32_store8(instance, LIMIT, (u64)(w2c_i0), 40, w2c_i1);
 w2c_j0 = w2c_l6;
 w2c_i0 = (u32)(w2c_j0);
-w2c_j1 = w2c_l10;
+w2c_j1 = w2c_l11;
 i64_store(instance, LIMIT, (u64)(w2c_i0), 32, w2c_j1);
 w2c_j0 = w2c_l6;
 w2c_i0 = (u32)(w2c_j0);
@@ -31452,15 +31725,15 @@ w2c_j1 = 0ull;
 i64_store(instance, LIMIT, (u64)(w2c_i0), 61, w2c_j1);
 w2c_j0 = w2c_l6;
 w2c_i0 = (u32)(w2c_j0);
-w2c_i1 = w2c_l20;
+w2c_i1 = w2c_l21;
 i32_store(instance, LIMIT, (u64)(w2c_i0), 57, w2c_i1);
 w2c_j0 = w2c_l6;
 w2c_i0 = (u32)(w2c_j0);
-w2c_i1 = w2c_l19;
+w2c_i1 = w2c_l20;
 i32_store8(instance, LIMIT, (u64)(w2c_i0), 56, w2c_i1);
 w2c_j0 = w2c_l6;
 w2c_i0 = (u32)(w2c_j0);
-w2c_j1 = w2c_l9;
+w2c_j1 = w2c_l10;
 i64_store(instance, LIMIT, (u64)(w2c_i0), 48, w2c_j1);
 w2c_j0 = w2c_l6;
 w2c_i0 = (u32)(w2c_j0);
@@ -31472,7 +31745,7 @@ w2c_i1 = 0u;
 i32_store(instance, LIMIT, (u64)(w2c_i0), 74, w2c_i1);
 w2c_j0 = w2c_l6;
 w2c_i0 = (u32)(w2c_j0);
-w2c_i1 = w2c_l18;
+w2c_i1 = w2c_l19;
 i32_store8(instance, LIMIT, (u64)(w2c_i0), 73, w2c_i1);
 w2c_j0 = w2c_l6;
 w2c_i0 = (u32)(w2c_j0);
@@ -31484,13 +31757,13 @@ w2c_j2 = 8ull;
 w2c_j1 += w2c_j2;
 w2c_j2 = w2c_p4;
 w2c_j3 = w2c_p5;
-w2c_f28(instance, w2c_j0, w2c_j1, w2c_j2, w2c_j3);
+w2c_f30(instance, w2c_j0, w2c_j1, w2c_j2, w2c_j3);
 w2c_i0 = 0u;
 w2c_l15 = w2c_i0;
 w2c_B0:;
 w2c_j0 = w2c_p0;
 w2c_i0 = (u32)(w2c_j0);
-w2c_i1 = w2c_l16;
+w2c_i1 = w2c_l17;
 i32_store8(instance, LIMIT, (u64)(w2c_i0), 1, w2c_i1);
 w2c_j0 = w2c_p0;
 w2c_i0 = (u32)(w2c_j0);
@@ -31503,7 +31776,7 @@ instance->w2c_g0 = w2c_j0;
 FUNC_EPILOGUE;
 }
 
-static void w2c_f62(machine *instance, u64 w2c_p0, u64 w2c_p1) {
+static void w2c_f63(machine *instance, u64 w2c_p0, u64 w2c_p1) {
 u64 w2c_l2 = 0, w2c_l3 = 0, w2c_l4 = 0;
 FUNC_PROLOGUE;
 u32 w2c_i0, w2c_i1, w2c_i2, w2c_i4;
@@ -31613,7 +31886,7 @@ i32_store8(instance, LIMIT, (u64)(w2c_i0), 0, w2c_i1);
 FUNC_EPILOGUE;
 }
 
-static void w2c_f63(machine *instance, u64 w2c_p0, u64 w2c_p1, u64 w2c_p2) {
+static void w2c_f64(machine *instance, u64 w2c_p0, u64 w2c_p1, u64 w2c_p2) {
 u32 w2c_l6 = 0, w2c_l7 = 0;
 u64 w2c_l3 = 0, w2c_l4 = 0, w2c_l5 = 0;
 FUNC_PROLOGUE;
@@ -31703,7 +31976,7 @@ w2c_j0 = w2c_p2;
 w2c_j1 = w2c_l3;
 w2c_j2 = 12ull;
 w2c_j1 += w2c_j2;
-w2c_f22(instance, w2c_j0, w2c_j1);
+w2c_f24(instance, w2c_j0, w2c_j1);
 goto w2c_B0;
 w2c_B1:;
 w2c_j0 = w2c_p0;
@@ -31826,7 +32099,7 @@ instance->w2c_g0 = w2c_j0;
 FUNC_EPILOGUE;
 }
 
-static void w2c_f64(machine *instance, u64 w2c_p0, u64 w2c_p1, u64 w2c_p2, u64 w2c_p3) {
+static void w2c_f65(machine *instance, u64 w2c_p0, u64 w2c_p1, u64 w2c_p2, u64 w2c_p3) {
 u64 w2c_l4 = 0, w2c_l5 = 0, w2c_l6 = 0, w2c_l7 = 0;
 FUNC_PROLOGUE;
 u32 w2c_i0, w2c_i1, w2c_i4;
@@ -31840,7 +32113,7 @@ w2c_j0 = w2c_l4;
 w2c_j1 = w2c_p3;
 w2c_j2 = w2c_p1;
 w2c_j3 = w2c_p2;
-w2c_f60(instance, w2c_j0, w2c_j1, w2c_j2, w2c_j3);
+w2c_f61(instance, w2c_j0, w2c_j1, w2c_j2, w2c_j3);
 w2c_j0 = w2c_l4;
 w2c_i0 = (u32)(w2c_j0);
 w2c_i0 = i32_load8_u(instance, LIMIT, (u64)(w2c_i0), 0);
@@ -31947,7 +32220,7 @@ instance->w2c_g0 = w2c_j0;
 FUNC_EPILOGUE;
 }
 
-static void w2c_f65(machine *instance, u64 w2c_p0, u64 w2c_p1) {
+static void w2c_f66(machine *instance, u64 w2c_p0, u64 w2c_p1) {
 u32 w2c_l5 = 0;
 u64 w2c_l2 = 0, w2c_l3 = 0, w2c_l4 = 0;
 FUNC_PROLOGUE;
@@ -32054,7 +32327,7 @@ w2c_B0:;
 FUNC_EPILOGUE;
 }
 
-static void w2c_f66(machine *instance, u64 w2c_p0, u64 w2c_p1) {
+static void w2c_f67(machine *instance, u64 w2c_p0, u64 w2c_p1) {
 u32 w2c_l5 = 0;
 u64 w2c_l2 = 0, w2c_l3 = 0, w2c_l4 = 0;
 FUNC_PROLOGUE;
@@ -32160,7 +32433,7 @@ w2c_B0:;
 FUNC_EPILOGUE;
 }
 
-static u32 w2c_f67(machine *instance, u64 w2c_p0, u64 w2c_p1, u64 w2c_p2, u64 w2c_p3) {
+static u32 w2c_f68(machine *instance, u64 w2c_p0, u64 w2c_p1, u64 w2c_p2, u64 w2c_p3) {
 u32 w2c_l8 = 0, w2c_l9 = 0;
 u64 w2c_l4 = 0, w2c_l5 = 0, w2c_l6 = 0, w2c_l7 = 0;
 FUNC_PROLOGUE;
@@ -32214,7 +32487,7 @@ w2c_i0 = i32_load8_u(instance, LIMIT, (u64)(w2c_i0), 0);
 w2c_i1 = 2u;
 w2c_i0 = w2c_i0 == w2c_i1;
 if (w2c_i0) {goto w2c_B3;}
-w2c_j0 = 12288ull;
+w2c_j0 = 8225ull;
 w2c_p1 = w2c_j0;
 w2c_j0 = 0ull;
 w2c_p0 = w2c_j0;
@@ -32250,7 +32523,7 @@ w2c_i1 = 1u;
 w2c_i0 = w2c_i0 != w2c_i1;
 if (w2c_i0) {goto w2c_B0;}
 w2c_B4:;
-w2c_j0 = 12288ull;
+w2c_j0 = 8225ull;
 w2c_j1 = w2c_p1;
 w2c_j2 = w2c_p2;
 w2c_j3 = 40ull;
@@ -32340,7 +32613,7 @@ w2c_j1 = w2c_p2;
 w2c_j2 = w2c_l4;
 w2c_j3 = 8ull;
 w2c_j2 += w2c_j3;
-w2c_f34(instance, w2c_j0, w2c_j1, w2c_j2);
+w2c_f36(instance, w2c_j0, w2c_j1, w2c_j2);
 w2c_i0 = 1u;
 w2c_l8 = w2c_i0;
 w2c_B5:;
@@ -32353,7 +32626,7 @@ FUNC_EPILOGUE;
 return w2c_i0;
 }
 
-static void w2c_f68(machine *instance, u64 w2c_p0, u64 w2c_p1, u64 w2c_p2, u64 w2c_p3) {
+static void w2c_f69(machine *instance, u64 w2c_p0, u64 w2c_p1, u64 w2c_p2, u64 w2c_p3) {
 u32 w2c_l4 = 0, w2c_l5 = 0;
 FUNC_PROLOGUE;
 u32 w2c_i0, w2c_i1, w2c_i2;
@@ -32541,7 +32814,7 @@ i32_store8(instance, LIMIT, (u64)(w2c_i0), 0, w2c_i1);
 FUNC_EPILOGUE;
 }
 
-static u32 w2c_f69(machine *instance, u64 w2c_p0, u64 w2c_p1, u64 w2c_p2, u64 w2c_p3, u64 w2c_p4) {
+static u32 w2c_f70(machine *instance, u64 w2c_p0, u64 w2c_p1, u64 w2c_p2, u64 w2c_p3, u64 w2c_p4) {
 u32 w2c_l6 = 0, w2c_l7 = 0, w2c_l8 = 0, w2c_l9 = 0, w2c_l10 = 0, w2c_l11 = 0;
 u64 w2c_l5 = 0;
 FUNC_PROLOGUE;
@@ -32556,7 +32829,7 @@ w2c_j0 = w2c_l5;
 w2c_j1 = w2c_p2;
 w2c_j2 = w2c_p3;
 w2c_j3 = w2c_p4;
-w2c_f68(instance, w2c_j0, w2c_j1, w2c_j2, w2c_j3);
+w2c_f69(instance, w2c_j0, w2c_j1, w2c_j2, w2c_j3);
 w2c_i0 = 1u;
 w2c_l6 = w2c_i0;
 w2c_j0 = w2c_l5;
@@ -32852,7 +33125,7 @@ w2c_j2 = w2c_l5;
 w2c_j3 = 12ull;
 w2c_j2 += w2c_j3;
 w2c_j3 = w2c_p4;
-w2c_i0 = w2c_f11(instance, w2c_j0, w2c_j1, w2c_j2, w2c_j3);
+w2c_i0 = w2c_f13(instance, w2c_j0, w2c_j1, w2c_j2, w2c_j3);
 w2c_l7 = w2c_i0;
 w2c_B3:;
 w2c_j0 = w2c_p2;
@@ -35187,6 +35460,1338 @@ FUNC_EPILOGUE;
 return w2c_i0;
 }
 
+static u32 w2c_lapd_frame_text(machine *instance, u64 w2c_p0, u64 w2c_p1, u32 w2c_p2, u64 w2c_p3, u64 w2c_p4) {
+u32 w2c_l12 = 0, w2c_l13 = 0, w2c_l14 = 0, w2c_l15 = 0, w2c_l16 = 0, w2c_l17 = 0, w2c_l18 = 0, w2c_l19 = 0, 
+w2c_l20 = 0;
+u64 w2c_l5 = 0, w2c_l6 = 0, w2c_l7 = 0, w2c_l8 = 0, w2c_l9 = 0, w2c_l10 = 0, w2c_l11 = 0;
+FUNC_PROLOGUE;
+u32 w2c_i0, w2c_i1, w2c_i2, w2c_i3, w2c_i4, w2c_i5;
+u64 w2c_j0, w2c_j1, w2c_j2, w2c_j3, w2c_j4;
+w2c_j0 = instance->w2c_g0;
+w2c_j1 = 704ull;
+w2c_j0 -= w2c_j1;
+w2c_l5 = w2c_j0;
+instance->w2c_g0 = w2c_j0;
+w2c_j0 = w2c_p1;
+w2c_j1 = 1028ull;
+w2c_i0 = w2c_j0 <= w2c_j1;
+if (w2c_i0) {goto w2c_B1;}
+w2c_i0 = 19u;
+w2c_p2 = w2c_i0;
+goto w2c_B0;
+w2c_B1:;
+w2c_i0 = w2c_p2;
+w2c_i1 = 65535u;
+w2c_i0 &= w2c_i1;
+w2c_i1 = 1u;
+w2c_i0 = w2c_i0 <= w2c_i1;
+if (w2c_i0) {goto w2c_B2;}
+w2c_i0 = 43u;
+w2c_p2 = w2c_i0;
+goto w2c_B0;
+w2c_B2:;
+w2c_j0 = w2c_p3;
+w2c_j1 = 4096ull;
+w2c_j2 = 0ull;
+w2c_j3 = w2c_p3;
+w2c_i3 = !(w2c_j3);
+w2c_j1 = w2c_i3 ? w2c_j1 : w2c_j2;
+w2c_j0 += w2c_j1;
+w2c_l6 = w2c_j0;
+w2c_j0 = 8346ull;
+w2c_l7 = w2c_j0;
+w2c_j0 = 13ull;
+w2c_l8 = w2c_j0;
+w2c_j0 = w2c_p1;
+w2c_j1 = 3ull;
+w2c_i0 = w2c_j0 < w2c_j1;
+if (w2c_i0) {goto w2c_B4;}
+w2c_j0 = w2c_p0;
+w2c_j1 = 4096ull;
+w2c_j2 = 0ull;
+w2c_j3 = w2c_p0;
+w2c_i3 = !(w2c_j3);
+w2c_j1 = w2c_i3 ? w2c_j1 : w2c_j2;
+w2c_j0 += w2c_j1;
+w2c_p3 = w2c_j0;
+w2c_j0 = w2c_p1;
+w2c_j1 = 3ull;
+w2c_i0 = w2c_j0 != w2c_j1;
+if (w2c_i0) {goto w2c_B6;}
+w2c_i0 = 0u;
+w2c_l12 = w2c_i0;
+w2c_j0 = w2c_p3;
+w2c_j1 = 2ull;
+w2c_j0 += w2c_j1;
+w2c_i0 = (u32)(w2c_j0);
+w2c_i0 = i32_load8_u(instance, LIMIT, (u64)(w2c_i0), 0);
+w2c_i1 = 3u;
+w2c_i0 &= w2c_i1;
+w2c_i1 = 3u;
+w2c_i0 = w2c_i0 == w2c_i1;
+if (w2c_i0) {goto w2c_B5;}
+goto w2c_B4;
+w2c_B6:;
+w2c_j0 = w2c_p3;
+w2c_j1 = 3ull;
+w2c_j0 += w2c_j1;
+w2c_i0 = (u32)(w2c_j0);
+w2c_i0 = i32_load8_u(instance, LIMIT, (u64)(w2c_i0), 0);
+w2c_l12 = w2c_i0;
+w2c_B5:;
+w2c_j0 = 8290ull;
+w2c_l7 = w2c_j0;
+w2c_j0 = 21ull;
+w2c_l8 = w2c_j0;
+w2c_j0 = w2c_p3;
+w2c_i0 = (u32)(w2c_j0);
+w2c_i0 = i32_load8_u(instance, LIMIT, (u64)(w2c_i0), 0);
+w2c_l13 = w2c_i0;
+w2c_i1 = 1u;
+w2c_i0 &= w2c_i1;
+if (w2c_i0) {goto w2c_B4;}
+w2c_j0 = w2c_p3;
+w2c_i0 = (u32)(w2c_j0);
+w2c_i0 = i32_load8_u(instance, LIMIT, (u64)(w2c_i0), 1);
+w2c_l14 = w2c_i0;
+w2c_i1 = 1u;
+w2c_i0 &= w2c_i1;
+w2c_i0 = !(w2c_i0);
+if (w2c_i0) {goto w2c_B4;}
+w2c_i0 = w2c_l12;
+w2c_i1 = 254u;
+w2c_i0 &= w2c_i1;
+w2c_i1 = 1u;
+w2c_i0 >>= (w2c_i1 & 31);
+w2c_l15 = w2c_i0;
+w2c_i0 = w2c_l13;
+w2c_i1 = 1u;
+w2c_i0 >>= (w2c_i1 & 31);
+w2c_i1 = 1u;
+w2c_i0 &= w2c_i1;
+w2c_i1 = w2c_p2;
+w2c_i0 ^= w2c_i1;
+w2c_l16 = w2c_i0;
+w2c_i1 = 255u;
+w2c_i0 &= w2c_i1;
+w2c_l17 = w2c_i0;
+w2c_j0 = w2c_p3;
+w2c_i0 = (u32)(w2c_j0);
+w2c_i0 = i32_load8_u(instance, LIMIT, (u64)(w2c_i0), 2);
+w2c_p2 = w2c_i0;
+w2c_i1 = 1u;
+w2c_i0 &= w2c_i1;
+if (w2c_i0) {goto w2c_B8;}
+w2c_i0 = w2c_l17;
+w2c_i1 = 1u;
+w2c_i0 = w2c_i0 == w2c_i1;
+if (w2c_i0) {goto w2c_B9;}
+w2c_j0 = 8311ull;
+w2c_l7 = w2c_j0;
+w2c_j0 = 17ull;
+w2c_l8 = w2c_j0;
+goto w2c_B4;
+w2c_B9:;
+w2c_j0 = w2c_p1;
+w2c_j1 = 18446744073709551612ull;
+w2c_j0 += w2c_j1;
+w2c_l9 = w2c_j0;
+w2c_j0 = w2c_p3;
+w2c_j1 = 4ull;
+w2c_j0 += w2c_j1;
+w2c_l10 = w2c_j0;
+w2c_i0 = 1u;
+w2c_l17 = w2c_i0;
+w2c_i0 = w2c_p2;
+w2c_i1 = 1u;
+w2c_i0 >>= (w2c_i1 & 31);
+w2c_l18 = w2c_i0;
+w2c_i0 = 0u;
+w2c_l16 = w2c_i0;
+goto w2c_B7;
+w2c_B8:;
+w2c_i0 = w2c_l17;
+w2c_i1 = 1u;
+w2c_i0 = w2c_i0 == w2c_i1;
+w2c_l17 = w2c_i0;
+w2c_i0 = w2c_p2;
+w2c_i1 = 3u;
+w2c_i0 &= w2c_i1;
+w2c_i1 = 1u;
+w2c_i0 = w2c_i0 != w2c_i1;
+if (w2c_i0) {goto w2c_B19;}
+w2c_j0 = 8311ull;
+w2c_l7 = w2c_j0;
+w2c_j0 = 17ull;
+w2c_l8 = w2c_j0;
+w2c_i0 = w2c_p2;
+w2c_i1 = 4294967295u;
+w2c_i0 += w2c_i1;
+switch (w2c_i0) {
+case 0: goto w2c_B17;
+case 1: goto w2c_B4;
+case 2: goto w2c_B4;
+case 3: goto w2c_B4;
+case 4: goto w2c_B18;
+case 5: goto w2c_B4;
+case 6: goto w2c_B4;
+case 7: goto w2c_B4;
+case 8: goto w2c_B20;
+default: goto w2c_B4;
+}
+w2c_B20:;
+w2c_i0 = 3u;
+w2c_p2 = w2c_i0;
+goto w2c_B17;
+w2c_B19:;
+w2c_i0 = 0u;
+w2c_l18 = w2c_i0;
+w2c_j0 = 8311ull;
+w2c_l7 = w2c_j0;
+w2c_j0 = 17ull;
+w2c_l8 = w2c_j0;
+w2c_i0 = w2c_p2;
+w2c_i1 = 82u;
+w2c_i0 = (u32)((s32)w2c_i0 > (s32)w2c_i1);
+if (w2c_i0) {goto w2c_B33;}
+w2c_i0 = w2c_p2;
+w2c_i1 = 4294967293u;
+w2c_i0 += w2c_i1;
+switch (w2c_i0) {
+case 0: goto w2c_B32;
+case 1: goto w2c_B4;
+case 2: goto w2c_B4;
+case 3: goto w2c_B4;
+case 4: goto w2c_B4;
+case 5: goto w2c_B4;
+case 6: goto w2c_B4;
+case 7: goto w2c_B4;
+case 8: goto w2c_B4;
+case 9: goto w2c_B4;
+case 10: goto w2c_B4;
+case 11: goto w2c_B4;
+case 12: goto w2c_B30;
+case 13: goto w2c_B4;
+case 14: goto w2c_B4;
+case 15: goto w2c_B4;
+case 16: goto w2c_B31;
+case 17: goto w2c_B4;
+case 18: goto w2c_B4;
+case 19: goto w2c_B4;
+case 20: goto w2c_B4;
+case 21: goto w2c_B4;
+case 22: goto w2c_B4;
+case 23: goto w2c_B4;
+case 24: goto w2c_B4;
+case 25: goto w2c_B4;
+case 26: goto w2c_B4;
+case 27: goto w2c_B4;
+case 28: goto w2c_B29;
+default: goto w2c_B34;
+}
+w2c_B34:;
+w2c_i0 = w2c_p2;
+w2c_i1 = 67u;
+w2c_i0 = w2c_i0 != w2c_i1;
+if (w2c_i0) {goto w2c_B4;}
+w2c_i0 = w2c_l16;
+w2c_i1 = 255u;
+w2c_i0 &= w2c_i1;
+w2c_i1 = 1u;
+w2c_i0 = w2c_i0 != w2c_i1;
+if (w2c_i0) {goto w2c_B4;}
+w2c_i0 = 0u;
+w2c_l15 = w2c_i0;
+goto w2c_B14;
+w2c_B33:;
+w2c_i0 = 7u;
+w2c_l19 = w2c_i0;
+w2c_i0 = 0u;
+w2c_l12 = w2c_i0;
+w2c_i0 = w2c_p2;
+w2c_i1 = 4294967213u;
+w2c_i0 += w2c_i1;
+switch (w2c_i0) {
+case 0: goto w2c_B35;
+case 1: goto w2c_B4;
+case 2: goto w2c_B4;
+case 3: goto w2c_B4;
+case 4: goto w2c_B4;
+case 5: goto w2c_B4;
+case 6: goto w2c_B4;
+case 7: goto w2c_B4;
+case 8: goto w2c_B4;
+case 9: goto w2c_B4;
+case 10: goto w2c_B4;
+case 11: goto w2c_B4;
+case 12: goto w2c_B4;
+case 13: goto w2c_B4;
+case 14: goto w2c_B4;
+case 15: goto w2c_B4;
+case 16: goto w2c_B23;
+case 17: goto w2c_B4;
+case 18: goto w2c_B4;
+case 19: goto w2c_B4;
+case 20: goto w2c_B4;
+case 21: goto w2c_B4;
+case 22: goto w2c_B4;
+case 23: goto w2c_B4;
+case 24: goto w2c_B4;
+case 25: goto w2c_B4;
+case 26: goto w2c_B4;
+case 27: goto w2c_B4;
+case 28: goto w2c_B26;
+case 29: goto w2c_B4;
+case 30: goto w2c_B4;
+case 31: goto w2c_B4;
+case 32: goto w2c_B25;
+case 33: goto w2c_B4;
+case 34: goto w2c_B4;
+case 35: goto w2c_B4;
+case 36: goto w2c_B4;
+case 37: goto w2c_B4;
+case 38: goto w2c_B4;
+case 39: goto w2c_B4;
+case 40: goto w2c_B4;
+case 41: goto w2c_B4;
+case 42: goto w2c_B4;
+case 43: goto w2c_B4;
+case 44: goto w2c_B36;
+case 45: goto w2c_B4;
+case 46: goto w2c_B4;
+case 47: goto w2c_B4;
+case 48: goto w2c_B4;
+case 49: goto w2c_B4;
+case 50: goto w2c_B4;
+case 51: goto w2c_B4;
+case 52: goto w2c_B27;
+case 53: goto w2c_B4;
+case 54: goto w2c_B4;
+case 55: goto w2c_B4;
+case 56: goto w2c_B4;
+case 57: goto w2c_B4;
+case 58: goto w2c_B4;
+case 59: goto w2c_B4;
+case 60: goto w2c_B4;
+case 61: goto w2c_B4;
+case 62: goto w2c_B4;
+case 63: goto w2c_B4;
+case 64: goto w2c_B4;
+case 65: goto w2c_B4;
+case 66: goto w2c_B4;
+case 67: goto w2c_B4;
+case 68: goto w2c_B28;
+default: goto w2c_B37;
+}
+w2c_B37:;
+w2c_i0 = 10u;
+w2c_l16 = w2c_i0;
+w2c_i0 = w2c_p2;
+w2c_i1 = 4294967121u;
+w2c_i0 += w2c_i1;
+switch (w2c_i0) {
+case 0: goto w2c_B21;
+case 1: goto w2c_B4;
+case 2: goto w2c_B4;
+case 3: goto w2c_B4;
+case 4: goto w2c_B4;
+case 5: goto w2c_B4;
+case 6: goto w2c_B4;
+case 7: goto w2c_B4;
+case 8: goto w2c_B4;
+case 9: goto w2c_B4;
+case 10: goto w2c_B4;
+case 11: goto w2c_B4;
+case 12: goto w2c_B4;
+case 13: goto w2c_B4;
+case 14: goto w2c_B4;
+case 15: goto w2c_B4;
+case 16: goto w2c_B22;
+default: goto w2c_B4;
+}
+w2c_B36:;
+w2c_i0 = 1u;
+w2c_l15 = w2c_i0;
+w2c_i0 = w2c_l16;
+w2c_i1 = 255u;
+w2c_i0 &= w2c_i1;
+w2c_i1 = 1u;
+w2c_i0 = w2c_i0 != w2c_i1;
+if (w2c_i0) {goto w2c_B4;}
+w2c_i0 = 4u;
+w2c_p2 = w2c_i0;
+goto w2c_B13;
+w2c_B35:;
+w2c_i0 = 1u;
+w2c_l15 = w2c_i0;
+w2c_i0 = w2c_l16;
+w2c_i1 = 255u;
+w2c_i0 &= w2c_i1;
+w2c_i1 = 1u;
+w2c_i0 = w2c_i0 != w2c_i1;
+if (w2c_i0) {goto w2c_B4;}
+goto w2c_B14;
+w2c_B32:;
+w2c_i0 = w2c_l16;
+w2c_i1 = 255u;
+w2c_i0 &= w2c_i1;
+w2c_i1 = 1u;
+w2c_i0 = w2c_i0 != w2c_i1;
+if (w2c_i0) {goto w2c_B4;}
+w2c_i0 = 6u;
+w2c_l16 = w2c_i0;
+goto w2c_B21;
+w2c_B31:;
+w2c_i0 = 1u;
+w2c_l18 = w2c_i0;
+w2c_i0 = w2c_l16;
+w2c_i1 = 255u;
+w2c_i0 &= w2c_i1;
+w2c_i1 = 1u;
+w2c_i0 = w2c_i0 != w2c_i1;
+if (w2c_i0) {goto w2c_B4;}
+w2c_i0 = 6u;
+w2c_l16 = w2c_i0;
+goto w2c_B21;
+w2c_B30:;
+w2c_i0 = 0u;
+w2c_l12 = w2c_i0;
+w2c_i0 = 8u;
+w2c_l19 = w2c_i0;
+w2c_i0 = 0u;
+w2c_l18 = w2c_i0;
+goto w2c_B23;
+w2c_B29:;
+w2c_i0 = 1u;
+w2c_l18 = w2c_i0;
+w2c_i0 = 8u;
+w2c_l19 = w2c_i0;
+goto w2c_B24;
+w2c_B28:;
+w2c_i0 = 1u;
+w2c_l18 = w2c_i0;
+w2c_B27:;
+w2c_i0 = 9u;
+w2c_l19 = w2c_i0;
+w2c_i0 = 1u;
+w2c_l12 = w2c_i0;
+goto w2c_B23;
+w2c_B26:;
+w2c_i0 = w2c_l16;
+w2c_i1 = 255u;
+w2c_i0 &= w2c_i1;
+w2c_i1 = 1u;
+w2c_i0 = w2c_i0 != w2c_i1;
+if (w2c_i0) {goto w2c_B4;}
+w2c_i0 = 0u;
+w2c_l15 = w2c_i0;
+w2c_i0 = 4u;
+w2c_p2 = w2c_i0;
+goto w2c_B13;
+w2c_B25:;
+w2c_i0 = 1u;
+w2c_l18 = w2c_i0;
+w2c_B24:;
+w2c_i0 = 0u;
+w2c_l12 = w2c_i0;
+w2c_B23:;
+w2c_i0 = w2c_l16;
+w2c_i1 = 255u;
+w2c_i0 &= w2c_i1;
+w2c_i1 = 1u;
+w2c_i0 = w2c_i0 == w2c_i1;
+if (w2c_i0) {goto w2c_B4;}
+w2c_j0 = w2c_p1;
+w2c_j1 = 18446744073709551613ull;
+w2c_j0 += w2c_j1;
+w2c_p1 = w2c_j0;
+w2c_j0 = w2c_p3;
+w2c_j1 = 3ull;
+w2c_j0 += w2c_j1;
+w2c_l10 = w2c_j0;
+w2c_i0 = 0u;
+w2c_l20 = w2c_i0;
+w2c_i0 = w2c_l12;
+if (w2c_i0) {goto w2c_B16;}
+w2c_i0 = w2c_l18;
+w2c_l15 = w2c_i0;
+w2c_i0 = w2c_l19;
+w2c_p2 = w2c_i0;
+goto w2c_B12;
+w2c_B22:;
+w2c_i0 = 1u;
+w2c_l18 = w2c_i0;
+w2c_B21:;
+w2c_j0 = w2c_p1;
+w2c_j1 = 18446744073709551613ull;
+w2c_j0 += w2c_j1;
+w2c_l9 = w2c_j0;
+w2c_j0 = w2c_p3;
+w2c_j1 = 3ull;
+w2c_j0 += w2c_j1;
+w2c_l10 = w2c_j0;
+w2c_i0 = 0u;
+w2c_l15 = w2c_i0;
+goto w2c_B15;
+w2c_B18:;
+w2c_i0 = 2u;
+w2c_p2 = w2c_i0;
+w2c_B17:;
+w2c_i0 = w2c_l12;
+w2c_i1 = 1u;
+w2c_i0 &= w2c_i1;
+w2c_l20 = w2c_i0;
+w2c_j0 = w2c_p1;
+w2c_j1 = 18446744073709551612ull;
+w2c_j0 += w2c_j1;
+w2c_p1 = w2c_j0;
+w2c_j0 = w2c_p3;
+w2c_j1 = 4ull;
+w2c_j0 += w2c_j1;
+w2c_l10 = w2c_j0;
+goto w2c_B12;
+w2c_B16:;
+w2c_j0 = 5ull;
+w2c_l9 = w2c_j0;
+w2c_j0 = w2c_p1;
+w2c_j1 = 5ull;
+w2c_i0 = w2c_j0 != w2c_j1;
+if (w2c_i0) {goto w2c_B11;}
+w2c_i0 = 0u;
+w2c_l15 = w2c_i0;
+w2c_i0 = 9u;
+w2c_l16 = w2c_i0;
+w2c_i0 = 0u;
+w2c_l17 = w2c_i0;
+w2c_B15:;
+w2c_i0 = 0u;
+w2c_l12 = w2c_i0;
+goto w2c_B7;
+w2c_B14:;
+w2c_i0 = 5u;
+w2c_p2 = w2c_i0;
+w2c_B13:;
+w2c_j0 = w2c_p1;
+w2c_j1 = 18446744073709551613ull;
+w2c_j0 += w2c_j1;
+w2c_p1 = w2c_j0;
+w2c_j0 = w2c_p3;
+w2c_j1 = 3ull;
+w2c_j0 += w2c_j1;
+w2c_l10 = w2c_j0;
+w2c_i0 = 0u;
+w2c_l20 = w2c_i0;
+w2c_B12:;
+w2c_j0 = w2c_p1;
+w2c_i0 = !(w2c_j0);
+if (w2c_i0) {goto w2c_B10;}
+w2c_B11:;
+w2c_j0 = 8328ull;
+w2c_l7 = w2c_j0;
+w2c_j0 = 18ull;
+w2c_l8 = w2c_j0;
+goto w2c_B4;
+w2c_B10:;
+w2c_j0 = 0ull;
+w2c_l9 = w2c_j0;
+w2c_i0 = 0u;
+w2c_l12 = w2c_i0;
+w2c_i0 = w2c_p2;
+w2c_l16 = w2c_i0;
+w2c_i0 = w2c_l15;
+w2c_l18 = w2c_i0;
+w2c_i0 = w2c_l20;
+w2c_l15 = w2c_i0;
+w2c_B7:;
+w2c_i0 = 0u;
+w2c_p2 = w2c_i0;
+w2c_j0 = w2c_l5;
+w2c_j1 = 400ull;
+w2c_j0 += w2c_j1;
+w2c_i0 = (u32)(w2c_j0);
+w2c_i1 = 0u;
+w2c_j2 = 136ull;
+w2c_i2 = (u32)(w2c_j2);
+memory_fill(instance, w2c_i0, w2c_i1, w2c_i2);
+w2c_j0 = w2c_l5;
+w2c_j1 = 240ull;
+w2c_j0 += w2c_j1;
+w2c_i1 = w2c_l13;
+w2c_i2 = 2u;
+w2c_i1 >>= (w2c_i2 & 31);
+w2c_j1 = (u64)(w2c_i1);
+w2c_f3(instance, w2c_j0, w2c_j1);
+w2c_j0 = w2c_l5;
+w2c_i0 = (u32)(w2c_j0);
+w2c_j1 = w2c_l5;
+w2c_i1 = (u32)(w2c_j1);
+w2c_j1 = i64_load(instance, LIMIT, (u64)(w2c_i1), 264);
+i64_store(instance, LIMIT, (u64)(w2c_i0), 392, w2c_j1);
+w2c_j0 = w2c_l5;
+w2c_i0 = (u32)(w2c_j0);
+w2c_j1 = w2c_l5;
+w2c_i1 = (u32)(w2c_j1);
+w2c_j1 = i64_load(instance, LIMIT, (u64)(w2c_i1), 256);
+i64_store(instance, LIMIT, (u64)(w2c_i0), 384, w2c_j1);
+w2c_j0 = w2c_l5;
+w2c_i0 = (u32)(w2c_j0);
+w2c_j1 = w2c_l5;
+w2c_i1 = (u32)(w2c_j1);
+w2c_j1 = i64_load(instance, LIMIT, (u64)(w2c_i1), 248);
+i64_store(instance, LIMIT, (u64)(w2c_i0), 376, w2c_j1);
+w2c_j0 = w2c_l5;
+w2c_i0 = (u32)(w2c_j0);
+w2c_j1 = w2c_l5;
+w2c_i1 = (u32)(w2c_j1);
+w2c_j1 = i64_load(instance, LIMIT, (u64)(w2c_i1), 240);
+i64_store(instance, LIMIT, (u64)(w2c_i0), 368, w2c_j1);
+w2c_j0 = w2c_l5;
+w2c_j1 = 240ull;
+w2c_j0 += w2c_j1;
+w2c_i1 = w2c_l14;
+w2c_i2 = 1u;
+w2c_i1 >>= (w2c_i2 & 31);
+w2c_j1 = (u64)(w2c_i1);
+w2c_f3(instance, w2c_j0, w2c_j1);
+w2c_j0 = w2c_l5;
+w2c_i0 = (u32)(w2c_j0);
+w2c_j1 = w2c_l5;
+w2c_i1 = (u32)(w2c_j1);
+w2c_j1 = i64_load(instance, LIMIT, (u64)(w2c_i1), 264);
+i64_store(instance, LIMIT, (u64)(w2c_i0), 360, w2c_j1);
+w2c_j0 = w2c_l5;
+w2c_i0 = (u32)(w2c_j0);
+w2c_j1 = w2c_l5;
+w2c_i1 = (u32)(w2c_j1);
+w2c_j1 = i64_load(instance, LIMIT, (u64)(w2c_i1), 256);
+i64_store(instance, LIMIT, (u64)(w2c_i0), 352, w2c_j1);
+w2c_j0 = w2c_l5;
+w2c_i0 = (u32)(w2c_j0);
+w2c_j1 = w2c_l5;
+w2c_i1 = (u32)(w2c_j1);
+w2c_j1 = i64_load(instance, LIMIT, (u64)(w2c_i1), 248);
+i64_store(instance, LIMIT, (u64)(w2c_i0), 344, w2c_j1);
+w2c_j0 = w2c_l5;
+w2c_i0 = (u32)(w2c_j0);
+w2c_j1 = w2c_l5;
+w2c_i1 = (u32)(w2c_j1);
+w2c_j1 = i64_load(instance, LIMIT, (u64)(w2c_i1), 240);
+i64_store(instance, LIMIT, (u64)(w2c_i0), 336, w2c_j1);
+w2c_j0 = 8252ull;
+w2c_p3 = w2c_j0;
+w2c_j0 = 5ull;
+w2c_p0 = w2c_j0;
+w2c_j0 = 8244ull;
+w2c_p1 = w2c_j0;
+w2c_j0 = 2ull;
+w2c_l7 = w2c_j0;
+w2c_i0 = w2c_l16;
+switch (w2c_i0) {
+case 0: goto w2c_B46;
+case 1: goto w2c_B43;
+case 2: goto w2c_B45;
+case 3: goto w2c_B52;
+case 4: goto w2c_B39;
+case 5: goto w2c_B41;
+case 6: goto w2c_B51;
+case 7: goto w2c_B50;
+case 8: goto w2c_B49;
+case 9: goto w2c_B48;
+case 10: goto w2c_B47;
+default: goto w2c_B46;
+}
+w2c_B52:;
+w2c_j0 = 8249ull;
+w2c_p1 = w2c_j0;
+goto w2c_B44;
+w2c_B51:;
+w2c_j0 = 8261ull;
+w2c_p3 = w2c_j0;
+w2c_j0 = 2ull;
+w2c_p0 = w2c_j0;
+goto w2c_B39;
+w2c_B50:;
+w2c_j0 = 8263ull;
+w2c_p3 = w2c_j0;
+w2c_j0 = 2ull;
+w2c_p0 = w2c_j0;
+goto w2c_B39;
+w2c_B49:;
+w2c_j0 = 8265ull;
+w2c_p3 = w2c_j0;
+w2c_j0 = 2ull;
+w2c_p0 = w2c_j0;
+goto w2c_B39;
+w2c_B48:;
+w2c_j0 = 8267ull;
+w2c_p3 = w2c_j0;
+goto w2c_B40;
+w2c_B47:;
+w2c_j0 = 8271ull;
+w2c_p3 = w2c_j0;
+w2c_j0 = 3ull;
+w2c_p0 = w2c_j0;
+goto w2c_B39;
+w2c_B46:;
+w2c_j0 = w2c_l5;
+w2c_j1 = 208ull;
+w2c_j0 += w2c_j1;
+w2c_i1 = w2c_l18;
+w2c_j1 = (u64)(w2c_i1);
+w2c_f3(instance, w2c_j0, w2c_j1);
+w2c_i0 = 1u;
+w2c_l13 = w2c_i0;
+w2c_j0 = 8243ull;
+w2c_p1 = w2c_j0;
+w2c_j0 = 1ull;
+w2c_l7 = w2c_j0;
+w2c_i0 = w2c_l15;
+w2c_l18 = w2c_i0;
+w2c_i0 = w2c_l12;
+w2c_l15 = w2c_i0;
+goto w2c_B42;
+w2c_B45:;
+w2c_j0 = 8246ull;
+w2c_p1 = w2c_j0;
+w2c_B44:;
+w2c_j0 = 3ull;
+w2c_l7 = w2c_j0;
+w2c_B43:;
+w2c_j0 = w2c_l5;
+w2c_i0 = (u32)(w2c_j0);
+w2c_j1 = 0ull;
+i64_store(instance, LIMIT, (u64)(w2c_i0), 232, w2c_j1);
+w2c_j0 = w2c_l5;
+w2c_i0 = (u32)(w2c_j0);
+w2c_j1 = 0ull;
+i64_store(instance, LIMIT, (u64)(w2c_i0), 224, w2c_j1);
+w2c_j0 = w2c_l5;
+w2c_i0 = (u32)(w2c_j0);
+w2c_j1 = 0ull;
+i64_store(instance, LIMIT, (u64)(w2c_i0), 216, w2c_j1);
+w2c_j0 = w2c_l5;
+w2c_i0 = (u32)(w2c_j0);
+w2c_j1 = 0ull;
+i64_store(instance, LIMIT, (u64)(w2c_i0), 208, w2c_j1);
+w2c_i0 = 0u;
+w2c_l13 = w2c_i0;
+w2c_B42:;
+w2c_j0 = w2c_l5;
+w2c_j1 = 536ull;
+w2c_j0 += w2c_j1;
+w2c_i1 = w2c_l18;
+w2c_j1 = (u64)(w2c_i1);
+w2c_f3(instance, w2c_j0, w2c_j1);
+w2c_i0 = 1u;
+w2c_p2 = w2c_i0;
+w2c_j0 = w2c_l7;
+w2c_p0 = w2c_j0;
+w2c_j0 = w2c_p1;
+w2c_p3 = w2c_j0;
+w2c_i0 = w2c_l15;
+w2c_l18 = w2c_i0;
+goto w2c_B38;
+w2c_B41:;
+w2c_j0 = 8257ull;
+w2c_p3 = w2c_j0;
+w2c_B40:;
+w2c_j0 = 4ull;
+w2c_p0 = w2c_j0;
+w2c_B39:;
+w2c_j0 = w2c_l5;
+w2c_i0 = (u32)(w2c_j0);
+w2c_j1 = 0ull;
+i64_store(instance, LIMIT, (u64)(w2c_i0), 232, w2c_j1);
+w2c_j0 = w2c_l5;
+w2c_i0 = (u32)(w2c_j0);
+w2c_j1 = 0ull;
+i64_store(instance, LIMIT, (u64)(w2c_i0), 224, w2c_j1);
+w2c_j0 = w2c_l5;
+w2c_i0 = (u32)(w2c_j0);
+w2c_j1 = 0ull;
+i64_store(instance, LIMIT, (u64)(w2c_i0), 216, w2c_j1);
+w2c_j0 = w2c_l5;
+w2c_i0 = (u32)(w2c_j0);
+w2c_j1 = 0ull;
+i64_store(instance, LIMIT, (u64)(w2c_i0), 208, w2c_j1);
+w2c_j0 = w2c_l5;
+w2c_i0 = (u32)(w2c_j0);
+w2c_j1 = 0ull;
+i64_store(instance, LIMIT, (u64)(w2c_i0) + 536, 0, w2c_j1);
+w2c_j0 = w2c_l5;
+w2c_i0 = (u32)(w2c_j0);
+w2c_j1 = 0ull;
+i64_store(instance, LIMIT, (u64)(w2c_i0) + 544, 0, w2c_j1);
+w2c_j0 = w2c_l5;
+w2c_i0 = (u32)(w2c_j0);
+w2c_j1 = 0ull;
+i64_store(instance, LIMIT, (u64)(w2c_i0) + 552, 0, w2c_j1);
+w2c_j0 = w2c_l5;
+w2c_i0 = (u32)(w2c_j0);
+w2c_j1 = 0ull;
+i64_store(instance, LIMIT, (u64)(w2c_i0) + 560, 0, w2c_j1);
+w2c_i0 = 0u;
+w2c_l13 = w2c_i0;
+w2c_B38:;
+w2c_j0 = w2c_l5;
+w2c_i0 = (u32)(w2c_j0);
+w2c_j1 = w2c_l5;
+w2c_i1 = (u32)(w2c_j1);
+w2c_j1 = i64_load(instance, LIMIT, (u64)(w2c_i1), 232);
+w2c_l7 = w2c_j1;
+i64_store(instance, LIMIT, (u64)(w2c_i0), 328, w2c_j1);
+w2c_j0 = w2c_l5;
+w2c_i0 = (u32)(w2c_j0);
+w2c_j1 = w2c_l5;
+w2c_i1 = (u32)(w2c_j1);
+w2c_j1 = i64_load(instance, LIMIT, (u64)(w2c_i1), 224);
+i64_store(instance, LIMIT, (u64)(w2c_i0), 320, w2c_j1);
+w2c_j0 = w2c_l5;
+w2c_i0 = (u32)(w2c_j0);
+w2c_j1 = w2c_l5;
+w2c_i1 = (u32)(w2c_j1);
+w2c_j1 = i64_load(instance, LIMIT, (u64)(w2c_i1), 216);
+i64_store(instance, LIMIT, (u64)(w2c_i0), 312, w2c_j1);
+w2c_j0 = w2c_l5;
+w2c_i0 = (u32)(w2c_j0);
+w2c_j1 = w2c_l5;
+w2c_i1 = (u32)(w2c_j1);
+w2c_j1 = i64_load(instance, LIMIT, (u64)(w2c_i1), 208);
+i64_store(instance, LIMIT, (u64)(w2c_i0), 304, w2c_j1);
+w2c_j0 = w2c_l5;
+w2c_i0 = (u32)(w2c_j0);
+w2c_j1 = w2c_l5;
+w2c_i1 = (u32)(w2c_j1);
+w2c_j1 = i64_load(instance, LIMIT, (u64)(w2c_i1) + 536, 0);
+i64_store(instance, LIMIT, (u64)(w2c_i0), 272, w2c_j1);
+w2c_j0 = w2c_l5;
+w2c_i0 = (u32)(w2c_j0);
+w2c_j1 = w2c_l5;
+w2c_i1 = (u32)(w2c_j1);
+w2c_j1 = i64_load(instance, LIMIT, (u64)(w2c_i1) + 544, 0);
+i64_store(instance, LIMIT, (u64)(w2c_i0), 280, w2c_j1);
+w2c_j0 = w2c_l5;
+w2c_i0 = (u32)(w2c_j0);
+w2c_j1 = w2c_l5;
+w2c_i1 = (u32)(w2c_j1);
+w2c_j1 = i64_load(instance, LIMIT, (u64)(w2c_i1) + 552, 0);
+i64_store(instance, LIMIT, (u64)(w2c_i0), 288, w2c_j1);
+w2c_j0 = w2c_l5;
+w2c_i0 = (u32)(w2c_j0);
+w2c_j1 = w2c_l5;
+w2c_i1 = (u32)(w2c_j1);
+w2c_j1 = i64_load(instance, LIMIT, (u64)(w2c_i1) + 560, 0);
+w2c_p1 = w2c_j1;
+i64_store(instance, LIMIT, (u64)(w2c_i0), 296, w2c_j1);
+w2c_j0 = w2c_l5;
+w2c_i0 = (u32)(w2c_j0);
+w2c_j0 = i64_load(instance, LIMIT, (u64)(w2c_i0), 392);
+w2c_l8 = w2c_j0;
+w2c_j0 = w2c_l5;
+w2c_i0 = (u32)(w2c_j0);
+w2c_j0 = i64_load(instance, LIMIT, (u64)(w2c_i0), 360);
+w2c_l11 = w2c_j0;
+w2c_j0 = w2c_l5;
+w2c_i0 = (u32)(w2c_j0);
+w2c_j1 = 6ull;
+i64_store(instance, LIMIT, (u64)(w2c_i0), 200, w2c_j1);
+w2c_j0 = w2c_l5;
+w2c_i0 = (u32)(w2c_j0);
+w2c_j1 = 8237ull;
+i64_store(instance, LIMIT, (u64)(w2c_i0), 192, w2c_j1);
+w2c_j0 = w2c_l5;
+w2c_i0 = (u32)(w2c_j0);
+w2c_j1 = 1ull;
+i64_store(instance, LIMIT, (u64)(w2c_i0), 184, w2c_j1);
+w2c_j0 = w2c_l5;
+w2c_i0 = (u32)(w2c_j0);
+w2c_j1 = 3ull;
+i64_store(instance, LIMIT, (u64)(w2c_i0), 168, w2c_j1);
+w2c_j0 = w2c_l5;
+w2c_i0 = (u32)(w2c_j0);
+w2c_j1 = 8229ull;
+w2c_j2 = 8232ull;
+w2c_i3 = w2c_l17;
+w2c_j1 = w2c_i3 ? w2c_j1 : w2c_j2;
+i64_store(instance, LIMIT, (u64)(w2c_i0), 160, w2c_j1);
+w2c_j0 = w2c_l5;
+w2c_i0 = (u32)(w2c_j0);
+w2c_j1 = w2c_p1;
+i64_store(instance, LIMIT, (u64)(w2c_i0), 152, w2c_j1);
+w2c_j0 = 0ull;
+w2c_p1 = w2c_j0;
+w2c_j0 = w2c_l5;
+w2c_i0 = (u32)(w2c_j0);
+w2c_j1 = 4ull;
+w2c_j2 = 0ull;
+w2c_i3 = w2c_p2;
+w2c_j1 = w2c_i3 ? w2c_j1 : w2c_j2;
+i64_store(instance, LIMIT, (u64)(w2c_i0), 136, w2c_j1);
+w2c_j0 = w2c_l5;
+w2c_i0 = (u32)(w2c_j0);
+w2c_j1 = 8225ull;
+w2c_j2 = 8225ull;
+w2c_i3 = w2c_p2;
+w2c_j1 = w2c_i3 ? w2c_j1 : w2c_j2;
+i64_store(instance, LIMIT, (u64)(w2c_i0), 128, w2c_j1);
+w2c_j0 = w2c_l5;
+w2c_i0 = (u32)(w2c_j0);
+w2c_j1 = w2c_l7;
+i64_store(instance, LIMIT, (u64)(w2c_i0), 120, w2c_j1);
+w2c_j0 = w2c_l5;
+w2c_i0 = (u32)(w2c_j0);
+w2c_j1 = 4ull;
+w2c_j2 = 0ull;
+w2c_i3 = w2c_l13;
+w2c_j1 = w2c_i3 ? w2c_j1 : w2c_j2;
+i64_store(instance, LIMIT, (u64)(w2c_i0), 104, w2c_j1);
+w2c_j0 = w2c_l5;
+w2c_i0 = (u32)(w2c_j0);
+w2c_j1 = 8221ull;
+w2c_j2 = 8225ull;
+w2c_i3 = w2c_l13;
+w2c_j1 = w2c_i3 ? w2c_j1 : w2c_j2;
+i64_store(instance, LIMIT, (u64)(w2c_i0), 96, w2c_j1);
+w2c_j0 = w2c_l5;
+w2c_i0 = (u32)(w2c_j0);
+w2c_j1 = w2c_p0;
+i64_store(instance, LIMIT, (u64)(w2c_i0), 88, w2c_j1);
+w2c_j0 = w2c_l5;
+w2c_i0 = (u32)(w2c_j0);
+w2c_j1 = w2c_p3;
+i64_store(instance, LIMIT, (u64)(w2c_i0), 80, w2c_j1);
+w2c_j0 = w2c_l5;
+w2c_i0 = (u32)(w2c_j0);
+w2c_j1 = 9ull;
+w2c_j2 = 10ull;
+w2c_i3 = w2c_l17;
+w2c_j1 = w2c_i3 ? w2c_j1 : w2c_j2;
+i64_store(instance, LIMIT, (u64)(w2c_i0), 72, w2c_j1);
+w2c_j0 = w2c_l5;
+w2c_i0 = (u32)(w2c_j0);
+w2c_j1 = 8202ull;
+w2c_j2 = 8211ull;
+w2c_i3 = w2c_l17;
+w2c_j1 = w2c_i3 ? w2c_j1 : w2c_j2;
+i64_store(instance, LIMIT, (u64)(w2c_i0), 64, w2c_j1);
+w2c_j0 = w2c_l5;
+w2c_i0 = (u32)(w2c_j0);
+w2c_j1 = w2c_l11;
+i64_store(instance, LIMIT, (u64)(w2c_i0), 56, w2c_j1);
+w2c_j0 = w2c_l5;
+w2c_i0 = (u32)(w2c_j0);
+w2c_j1 = 5ull;
+i64_store(instance, LIMIT, (u64)(w2c_i0), 40, w2c_j1);
+w2c_j0 = w2c_l5;
+w2c_i0 = (u32)(w2c_j0);
+w2c_j1 = 8197ull;
+i64_store(instance, LIMIT, (u64)(w2c_i0), 32, w2c_j1);
+w2c_j0 = w2c_l5;
+w2c_i0 = (u32)(w2c_j0);
+w2c_j1 = w2c_l8;
+i64_store(instance, LIMIT, (u64)(w2c_i0), 24, w2c_j1);
+w2c_j0 = w2c_l5;
+w2c_i0 = (u32)(w2c_j0);
+w2c_j1 = 5ull;
+i64_store(instance, LIMIT, (u64)(w2c_i0), 8, w2c_j1);
+w2c_j0 = w2c_l5;
+w2c_i0 = (u32)(w2c_j0);
+w2c_j1 = 8192ull;
+i64_store(instance, LIMIT, (u64)(w2c_i0), 0, w2c_j1);
+w2c_j0 = w2c_l5;
+w2c_i0 = (u32)(w2c_j0);
+w2c_j1 = 8235ull;
+w2c_j2 = 8236ull;
+w2c_i3 = w2c_l18;
+w2c_i4 = 1u;
+w2c_i3 &= w2c_i4;
+w2c_j1 = w2c_i3 ? w2c_j1 : w2c_j2;
+i64_store(instance, LIMIT, (u64)(w2c_i0), 176, w2c_j1);
+w2c_j0 = w2c_l5;
+w2c_i0 = (u32)(w2c_j0);
+w2c_j1 = w2c_l5;
+w2c_j2 = 272ull;
+w2c_j1 += w2c_j2;
+i64_store(instance, LIMIT, (u64)(w2c_i0), 144, w2c_j1);
+w2c_j0 = w2c_l5;
+w2c_i0 = (u32)(w2c_j0);
+w2c_j1 = w2c_l5;
+w2c_j2 = 304ull;
+w2c_j1 += w2c_j2;
+i64_store(instance, LIMIT, (u64)(w2c_i0), 112, w2c_j1);
+w2c_j0 = w2c_l5;
+w2c_i0 = (u32)(w2c_j0);
+w2c_j1 = w2c_l5;
+w2c_j2 = 336ull;
+w2c_j1 += w2c_j2;
+i64_store(instance, LIMIT, (u64)(w2c_i0), 48, w2c_j1);
+w2c_j0 = w2c_l5;
+w2c_i0 = (u32)(w2c_j0);
+w2c_j1 = w2c_l5;
+w2c_j2 = 368ull;
+w2c_j1 += w2c_j2;
+i64_store(instance, LIMIT, (u64)(w2c_i0), 16, w2c_j1);
+w2c_j0 = w2c_l5;
+w2c_j1 = 568ull;
+w2c_j0 += w2c_j1;
+w2c_i0 = (u32)(w2c_j0);
+w2c_i1 = 0u;
+w2c_j2 = 136ull;
+w2c_i2 = (u32)(w2c_j2);
+memory_fill(instance, w2c_i0, w2c_i1, w2c_i2);
+w2c_j0 = 0ull;
+w2c_p3 = w2c_j0;
+w2c_L53: 
+w2c_j0 = 128ull;
+w2c_j1 = w2c_p3;
+w2c_j0 -= w2c_j1;
+w2c_j1 = w2c_l5;
+w2c_j2 = w2c_p1;
+w2c_j1 += w2c_j2;
+w2c_l7 = w2c_j1;
+w2c_j2 = 8ull;
+w2c_j1 += w2c_j2;
+w2c_i1 = (u32)(w2c_j1);
+w2c_j1 = i64_load(instance, LIMIT, (u64)(w2c_i1), 0);
+w2c_p0 = w2c_j1;
+w2c_i0 = w2c_j0 < w2c_j1;
+if (w2c_i0) {goto w2c_B54;}
+w2c_j0 = w2c_p0;
+w2c_i0 = !(w2c_j0);
+if (w2c_i0) {goto w2c_B55;}
+w2c_j0 = w2c_l5;
+w2c_j1 = 568ull;
+w2c_j0 += w2c_j1;
+w2c_j1 = w2c_p3;
+w2c_j0 += w2c_j1;
+w2c_i0 = (u32)(w2c_j0);
+w2c_j1 = w2c_l7;
+w2c_i1 = (u32)(w2c_j1);
+w2c_j1 = i64_load(instance, LIMIT, (u64)(w2c_i1), 0);
+w2c_i1 = (u32)(w2c_j1);
+w2c_j2 = w2c_p0;
+w2c_i2 = (u32)(w2c_j2);
+memory_copy(instance, instance, w2c_i0, w2c_i1, w2c_i2);
+w2c_B55:;
+w2c_j0 = w2c_l5;
+w2c_i0 = (u32)(w2c_j0);
+w2c_j1 = w2c_p0;
+w2c_j2 = w2c_p3;
+w2c_j1 += w2c_j2;
+w2c_p3 = w2c_j1;
+i64_store(instance, LIMIT, (u64)(w2c_i0) + 696, 0, w2c_j1);
+w2c_B54:;
+w2c_j0 = w2c_p1;
+w2c_j1 = 16ull;
+w2c_j0 += w2c_j1;
+w2c_p1 = w2c_j0;
+w2c_j1 = 208ull;
+w2c_i0 = w2c_j0 != w2c_j1;
+if (w2c_i0) {goto w2c_L53;}
+w2c_j0 = w2c_l5;
+w2c_j1 = 400ull;
+w2c_j0 += w2c_j1;
+w2c_i0 = (u32)(w2c_j0);
+w2c_j1 = w2c_l5;
+w2c_j2 = 568ull;
+w2c_j1 += w2c_j2;
+w2c_i1 = (u32)(w2c_j1);
+w2c_j2 = 136ull;
+w2c_i2 = (u32)(w2c_j2);
+memory_copy(instance, instance, w2c_i0, w2c_i1, w2c_i2);
+w2c_j0 = w2c_l5;
+w2c_j1 = 568ull;
+w2c_j0 += w2c_j1;
+w2c_i0 = (u32)(w2c_j0);
+w2c_j1 = w2c_l5;
+w2c_j2 = 400ull;
+w2c_j1 += w2c_j2;
+w2c_i1 = (u32)(w2c_j1);
+w2c_j2 = 136ull;
+w2c_i2 = (u32)(w2c_j2);
+memory_copy(instance, instance, w2c_i0, w2c_i1, w2c_i2);
+w2c_i0 = 19u;
+w2c_p2 = w2c_i0;
+w2c_j0 = w2c_p4;
+w2c_j1 = w2c_l5;
+w2c_i1 = (u32)(w2c_j1);
+w2c_j1 = i64_load(instance, LIMIT, (u64)(w2c_i1) + 696, 0);
+w2c_p0 = w2c_j1;
+w2c_j2 = 1ull;
+w2c_j1 += w2c_j2;
+w2c_p1 = w2c_j1;
+w2c_i0 = w2c_j0 < w2c_j1;
+w2c_l12 = w2c_i0;
+if (w2c_i0) {goto w2c_B0;}
+w2c_j0 = 0ull;
+w2c_j1 = 0ull;
+w2c_j2 = w2c_p4;
+w2c_j3 = w2c_p1;
+w2c_j2 -= w2c_j3;
+w2c_p1 = w2c_j2;
+w2c_j3 = w2c_p1;
+w2c_j4 = w2c_p4;
+w2c_i3 = w2c_j3 > w2c_j4;
+w2c_j1 = w2c_i3 ? w2c_j1 : w2c_j2;
+w2c_i2 = w2c_l12;
+w2c_j0 = w2c_i2 ? w2c_j0 : w2c_j1;
+w2c_p1 = w2c_j0;
+w2c_j1 = 1ull;
+w2c_j0 >>= (w2c_j1 & 63);
+w2c_j1 = w2c_l9;
+w2c_i0 = w2c_j0 < w2c_j1;
+if (w2c_i0) {goto w2c_B0;}
+w2c_j0 = 1ull;
+w2c_j1 = w2c_l9;
+w2c_j2 = 1ull;
+w2c_j1 <<= (w2c_j2 & 63);
+w2c_l8 = w2c_j1;
+w2c_j2 = w2c_l9;
+w2c_i2 = !(w2c_j2);
+w2c_l12 = w2c_i2;
+w2c_j0 = w2c_i2 ? w2c_j0 : w2c_j1;
+w2c_j1 = w2c_p1;
+w2c_i0 = w2c_j0 > w2c_j1;
+if (w2c_i0) {goto w2c_B0;}
+w2c_j0 = w2c_p0;
+w2c_i0 = !(w2c_j0);
+if (w2c_i0) {goto w2c_B56;}
+w2c_j0 = w2c_l6;
+w2c_i0 = (u32)(w2c_j0);
+w2c_j1 = w2c_l5;
+w2c_j2 = 568ull;
+w2c_j1 += w2c_j2;
+w2c_i1 = (u32)(w2c_j1);
+w2c_j2 = w2c_p0;
+w2c_i2 = (u32)(w2c_j2);
+memory_copy(instance, instance, w2c_i0, w2c_i1, w2c_i2);
+w2c_B56:;
+w2c_j0 = w2c_l6;
+w2c_j1 = w2c_p0;
+w2c_j0 += w2c_j1;
+w2c_p1 = w2c_j0;
+w2c_i0 = w2c_l12;
+if (w2c_i0) {goto w2c_B57;}
+w2c_L58: 
+w2c_j0 = w2c_p1;
+w2c_i0 = (u32)(w2c_j0);
+w2c_j1 = w2c_l10;
+w2c_i1 = (u32)(w2c_j1);
+w2c_j1 = i64_load8_u(instance, LIMIT, (u64)(w2c_i1), 0);
+w2c_p3 = w2c_j1;
+w2c_j2 = 15ull;
+w2c_j1 &= w2c_j2;
+w2c_i1 = (u32)(w2c_j1);
+w2c_i1 = i32_load8_u(instance, LIMIT, (u64)(w2c_i1) + 8274, 0);
+w2c_p2 = w2c_i1;
+w2c_i2 = 4294967264u;
+w2c_i1 += w2c_i2;
+w2c_i2 = w2c_p2;
+w2c_i3 = w2c_p2;
+w2c_i4 = 4294967199u;
+w2c_i3 += w2c_i4;
+w2c_i4 = 255u;
+w2c_i3 &= w2c_i4;
+w2c_i4 = 26u;
+w2c_i3 = w2c_i3 < w2c_i4;
+w2c_i1 = w2c_i3 ? w2c_i1 : w2c_i2;
+w2c_i2 = 8u;
+w2c_i1 <<= (w2c_i2 & 31);
+w2c_j2 = w2c_p3;
+w2c_j3 = 4ull;
+w2c_j2 >>= (w2c_j3 & 63);
+w2c_i2 = (u32)(w2c_j2);
+w2c_i2 = i32_load8_u(instance, LIMIT, (u64)(w2c_i2) + 8274, 0);
+w2c_p2 = w2c_i2;
+w2c_i3 = 4294967264u;
+w2c_i2 += w2c_i3;
+w2c_i3 = w2c_p2;
+w2c_i4 = w2c_p2;
+w2c_i5 = 4294967199u;
+w2c_i4 += w2c_i5;
+w2c_i5 = 255u;
+w2c_i4 &= w2c_i5;
+w2c_i5 = 26u;
+w2c_i4 = w2c_i4 < w2c_i5;
+w2c_i2 = w2c_i4 ? w2c_i2 : w2c_i3;
+w2c_i3 = 255u;
+w2c_i2 &= w2c_i3;
+w2c_i1 |= w2c_i2;
+i32_store16(instance, LIMIT, (u64)(w2c_i0), 0, w2c_i1);
+w2c_j0 = w2c_p1;
+w2c_j1 = 2ull;
+w2c_j0 += w2c_j1;
+w2c_p1 = w2c_j0;
+w2c_j0 = w2c_l10;
+w2c_j1 = 1ull;
+w2c_j0 += w2c_j1;
+w2c_l10 = w2c_j0;
+w2c_j0 = w2c_l9;
+w2c_j1 = 18446744073709551615ull;
+w2c_j0 += w2c_j1;
+w2c_l9 = w2c_j0;
+w2c_i0 = !(w2c_j0);
+w2c_i0 = !(w2c_i0);
+if (w2c_i0) {goto w2c_L58;}
+goto w2c_B3;
+UNREACHABLE;
+w2c_B57:;
+w2c_j0 = w2c_p1;
+w2c_i0 = (u32)(w2c_j0);
+w2c_i1 = 45u;
+i32_store8(instance, LIMIT, (u64)(w2c_i0), 0, w2c_i1);
+w2c_j0 = 1ull;
+w2c_l8 = w2c_j0;
+goto w2c_B3;
+w2c_B4:;
+w2c_i0 = 19u;
+w2c_p2 = w2c_i0;
+w2c_j0 = w2c_p4;
+w2c_j1 = w2c_l8;
+w2c_i0 = w2c_j0 < w2c_j1;
+if (w2c_i0) {goto w2c_B0;}
+w2c_j0 = w2c_l6;
+w2c_j1 = w2c_l7;
+w2c_j0 -= w2c_j1;
+w2c_j1 = w2c_l8;
+w2c_i0 = w2c_j0 >= w2c_j1;
+if (w2c_i0) {goto w2c_B60;}
+w2c_j0 = w2c_l8;
+w2c_j1 = 28ull;
+w2c_j0 &= w2c_j1;
+w2c_l10 = w2c_j0;
+w2c_j0 = w2c_l8;
+w2c_j1 = 3ull;
+w2c_j0 &= w2c_j1;
+w2c_p4 = w2c_j0;
+w2c_j0 = 0ull;
+w2c_p1 = w2c_j0;
+w2c_L61: 
+w2c_j0 = w2c_l6;
+w2c_j1 = w2c_p1;
+w2c_j0 += w2c_j1;
+w2c_p3 = w2c_j0;
+w2c_i0 = (u32)(w2c_j0);
+w2c_j1 = w2c_l7;
+w2c_j2 = w2c_p1;
+w2c_j1 += w2c_j2;
+w2c_p0 = w2c_j1;
+w2c_i1 = (u32)(w2c_j1);
+w2c_i1 = i32_load8_u(instance, LIMIT, (u64)(w2c_i1), 0);
+i32_store8(instance, LIMIT, (u64)(w2c_i0), 0, w2c_i1);
+w2c_j0 = w2c_p3;
+w2c_j1 = 1ull;
+w2c_j0 += w2c_j1;
+w2c_i0 = (u32)(w2c_j0);
+w2c_j1 = w2c_p0;
+w2c_j2 = 1ull;
+w2c_j1 += w2c_j2;
+w2c_i1 = (u32)(w2c_j1);
+w2c_i1 = i32_load8_u(instance, LIMIT, (u64)(w2c_i1), 0);
+i32_store8(instance, LIMIT, (u64)(w2c_i0), 0, w2c_i1);
+w2c_j0 = w2c_p3;
+w2c_j1 = 2ull;
+w2c_j0 += w2c_j1;
+w2c_i0 = (u32)(w2c_j0);
+w2c_j1 = w2c_p0;
+w2c_j2 = 2ull;
+w2c_j1 += w2c_j2;
+w2c_i1 = (u32)(w2c_j1);
+w2c_i1 = i32_load8_u(instance, LIMIT, (u64)(w2c_i1), 0);
+i32_store8(instance, LIMIT, (u64)(w2c_i0), 0, w2c_i1);
+w2c_j0 = w2c_p3;
+w2c_j1 = 3ull;
+w2c_j0 += w2c_j1;
+w2c_i0 = (u32)(w2c_j0);
+w2c_j1 = w2c_p0;
+w2c_j2 = 3ull;
+w2c_j1 += w2c_j2;
+w2c_i1 = (u32)(w2c_j1);
+w2c_i1 = i32_load8_u(instance, LIMIT, (u64)(w2c_i1), 0);
+i32_store8(instance, LIMIT, (u64)(w2c_i0), 0, w2c_i1);
+w2c_j0 = w2c_l10;
+w2c_j1 = w2c_p1;
+w2c_j2 = 4ull;
+w2c_j1 += w2c_j2;
+w2c_p1 = w2c_j1;
+w2c_i0 = w2c_j0 != w2c_j1;
+if (w2c_i0) {goto w2c_L61;}
+w2c_j0 = w2c_p4;
+w2c_i0 = !(w2c_j0);
+w2c_i0 = !(w2c_i0);
+if (w2c_i0) {goto w2c_B59;}
+w2c_j0 = 18446744073709551615ull;
+w2c_p0 = w2c_j0;
+goto w2c_B3;
+w2c_B60:;
+w2c_j0 = w2c_l8;
+w2c_i0 = !(w2c_j0);
+if (w2c_i0) {goto w2c_B62;}
+w2c_j0 = w2c_l6;
+w2c_i0 = (u32)(w2c_j0);
+w2c_j1 = w2c_l7;
+w2c_i1 = (u32)(w2c_j1);
+w2c_j2 = w2c_l8;
+w2c_i2 = (u32)(w2c_j2);
+memory_copy(instance, instance, w2c_i0, w2c_i1, w2c_i2);
+w2c_B62:;
+w2c_j0 = 18446744073709551615ull;
+w2c_p0 = w2c_j0;
+goto w2c_B3;
+w2c_B59:;
+w2c_j0 = w2c_l7;
+w2c_j1 = w2c_p1;
+w2c_j0 += w2c_j1;
+w2c_p3 = w2c_j0;
+w2c_j0 = w2c_l6;
+w2c_j1 = w2c_p1;
+w2c_j0 += w2c_j1;
+w2c_p1 = w2c_j0;
+w2c_L63: 
+w2c_j0 = w2c_p1;
+w2c_i0 = (u32)(w2c_j0);
+w2c_j1 = w2c_p3;
+w2c_i1 = (u32)(w2c_j1);
+w2c_i1 = i32_load8_u(instance, LIMIT, (u64)(w2c_i1), 0);
+i32_store8(instance, LIMIT, (u64)(w2c_i0), 0, w2c_i1);
+w2c_j0 = w2c_p1;
+w2c_j1 = 1ull;
+w2c_j0 += w2c_j1;
+w2c_p1 = w2c_j0;
+w2c_j0 = w2c_p3;
+w2c_j1 = 1ull;
+w2c_j0 += w2c_j1;
+w2c_p3 = w2c_j0;
+w2c_j0 = 18446744073709551615ull;
+w2c_p0 = w2c_j0;
+w2c_j0 = w2c_p4;
+w2c_j1 = 18446744073709551615ull;
+w2c_j0 += w2c_j1;
+w2c_p4 = w2c_j0;
+w2c_j1 = 0ull;
+w2c_i0 = w2c_j0 != w2c_j1;
+if (w2c_i0) {goto w2c_L63;}
+w2c_B3:;
+w2c_i0 = 0u;
+w2c_p2 = w2c_i0;
+w2c_j0 = w2c_l6;
+w2c_j1 = w2c_l8;
+w2c_j0 += w2c_j1;
+w2c_j1 = w2c_p0;
+w2c_j0 += w2c_j1;
+w2c_i0 = (u32)(w2c_j0);
+w2c_i1 = 0u;
+i32_store8(instance, LIMIT, (u64)(w2c_i0), 0, w2c_i1);
+w2c_B0:;
+w2c_j0 = w2c_l5;
+w2c_j1 = 704ull;
+w2c_j0 += w2c_j1;
+instance->w2c_g0 = w2c_j0;
+w2c_i0 = w2c_p2;
+FUNC_EPILOGUE;
+return w2c_i0;
+}
+
 static u32 w2c_lapd_card_start(machine *instance, u64 w2c_p0, u64 w2c_p1) {
 FUNC_PROLOGUE;
 u32 w2c_i0, w2c_i2;
@@ -35194,7 +36799,7 @@ u64 w2c_j0, w2c_j1;
 w2c_j0 = w2c_p0;
 w2c_j1 = w2c_p1;
 w2c_i2 = 0u;
-w2c_i0 = w2c_f2(instance, w2c_j0, w2c_j1, w2c_i2);
+w2c_i0 = w2c_f4(instance, w2c_j0, w2c_j1, w2c_i2);
 FUNC_EPILOGUE;
 return w2c_i0;
 }
@@ -35206,7 +36811,7 @@ u64 w2c_j0, w2c_j1;
 w2c_j0 = w2c_p0;
 w2c_j1 = w2c_p1;
 w2c_i2 = 1u;
-w2c_i0 = w2c_f2(instance, w2c_j0, w2c_j1, w2c_i2);
+w2c_i0 = w2c_f4(instance, w2c_j0, w2c_j1, w2c_i2);
 FUNC_EPILOGUE;
 return w2c_i0;
 }
@@ -35425,7 +37030,7 @@ w2c_j2 = 4ull;
 w2c_j1 <<= (w2c_j2 & 63);
 w2c_p1 = w2c_j1;
 w2c_j2 = 8ull;
-w2c_f101(instance, w2c_j0, w2c_j1, w2c_j2);
+w2c_f103(instance, w2c_j0, w2c_j1, w2c_j2);
 w2c_j0 = w2c_l2;
 w2c_i0 = (u32)(w2c_j0);
 w2c_j0 = i64_load(instance, LIMIT, (u64)(w2c_i0), 56);
@@ -35464,7 +37069,7 @@ w2c_j1 = w2c_l3;
 w2c_j2 = 24ull;
 w2c_j1 *= w2c_j2;
 w2c_j2 = 8ull;
-w2c_f101(instance, w2c_j0, w2c_j1, w2c_j2);
+w2c_f103(instance, w2c_j0, w2c_j1, w2c_j2);
 w2c_j0 = w2c_l2;
 w2c_i0 = (u32)(w2c_j0);
 w2c_j0 = i64_load(instance, LIMIT, (u64)(w2c_i0), 40);
@@ -35515,7 +37120,7 @@ w2c_j1 = 24ull;
 w2c_j0 += w2c_j1;
 w2c_j1 = w2c_l8;
 w2c_j2 = 8ull;
-w2c_f101(instance, w2c_j0, w2c_j1, w2c_j2);
+w2c_f103(instance, w2c_j0, w2c_j1, w2c_j2);
 w2c_j0 = w2c_l2;
 w2c_i0 = (u32)(w2c_j0);
 w2c_j0 = i64_load(instance, LIMIT, (u64)(w2c_i0), 88);
@@ -35541,7 +37146,7 @@ if (w2c_i0) {goto w2c_B20;}
 w2c_j0 = w2c_l2;
 w2c_j1 = 72ull;
 w2c_j0 += w2c_j1;
-w2c_i0 = w2c_f10(instance, w2c_j0);
+w2c_i0 = w2c_f12(instance, w2c_j0);
 w2c_i0 = !(w2c_i0);
 if (w2c_i0) {goto w2c_B18;}
 w2c_j0 = w2c_l2;
@@ -35597,7 +37202,7 @@ w2c_j1 = 8ull;
 w2c_j0 += w2c_j1;
 w2c_j1 = 80ull;
 w2c_j2 = 8ull;
-w2c_f101(instance, w2c_j0, w2c_j1, w2c_j2);
+w2c_f103(instance, w2c_j0, w2c_j1, w2c_j2);
 w2c_j0 = w2c_l2;
 w2c_i0 = (u32)(w2c_j0);
 w2c_j0 = i64_load(instance, LIMIT, (u64)(w2c_i0), 8);
@@ -35625,7 +37230,7 @@ if (w2c_i0) {goto w2c_B23;}
 w2c_j0 = w2c_p0;
 w2c_i0 = (u32)(w2c_j0);
 w2c_j0 = i64_load(instance, LIMIT, (u64)(w2c_i0), 0);
-w2c_f98(instance, w2c_j0);
+w2c_f100(instance, w2c_j0);
 w2c_B23:;
 w2c_j0 = w2c_p0;
 w2c_j1 = 24ull;
@@ -35643,16 +37248,16 @@ w2c_j0 = w2c_l9;
 w2c_i0 = !(w2c_j0);
 if (w2c_i0) {goto w2c_B24;}
 w2c_j0 = w2c_l10;
-w2c_f98(instance, w2c_j0);
+w2c_f100(instance, w2c_j0);
 w2c_B24:;
 w2c_j0 = w2c_l4;
-w2c_f98(instance, w2c_j0);
+w2c_f100(instance, w2c_j0);
 w2c_i0 = 22u;
 w2c_l13 = w2c_i0;
 goto w2c_B0;
 w2c_B18:;
 w2c_j0 = w2c_l11;
-w2c_f98(instance, w2c_j0);
+w2c_f100(instance, w2c_j0);
 w2c_j0 = w2c_l2;
 w2c_i0 = (u32)(w2c_j0);
 w2c_j0 = i64_load(instance, LIMIT, (u64)(w2c_i0), 88);
@@ -35680,7 +37285,7 @@ if (w2c_i0) {goto w2c_B27;}
 w2c_j0 = w2c_p0;
 w2c_i0 = (u32)(w2c_j0);
 w2c_j0 = i64_load(instance, LIMIT, (u64)(w2c_i0), 0);
-w2c_f98(instance, w2c_j0);
+w2c_f100(instance, w2c_j0);
 w2c_B27:;
 w2c_j0 = w2c_p0;
 w2c_j1 = 24ull;
@@ -35716,7 +37321,7 @@ if (w2c_i0) {goto w2c_B30;}
 w2c_j0 = w2c_p0;
 w2c_i0 = (u32)(w2c_j0);
 w2c_j0 = i64_load(instance, LIMIT, (u64)(w2c_i0), 0);
-w2c_f98(instance, w2c_j0);
+w2c_f100(instance, w2c_j0);
 w2c_B30:;
 w2c_j0 = w2c_p0;
 w2c_j1 = 24ull;
@@ -35735,7 +37340,7 @@ w2c_i0 = !(w2c_j0);
 if (w2c_i0) {goto w2c_B14;}
 w2c_B16:;
 w2c_j0 = w2c_l6;
-w2c_f98(instance, w2c_j0);
+w2c_f100(instance, w2c_j0);
 goto w2c_B14;
 w2c_B15:;
 w2c_j0 = w2c_l2;
@@ -35796,7 +37401,7 @@ w2c_l13 = w2c_i0;
 goto w2c_B0;
 w2c_B14:;
 w2c_j0 = w2c_l4;
-w2c_f98(instance, w2c_j0);
+w2c_f100(instance, w2c_j0);
 w2c_B12:;
 w2c_i0 = 22u;
 w2c_l13 = w2c_i0;
@@ -35894,13 +37499,13 @@ w2c_i1 = (u32)(w2c_j1);
 w2c_j1 = i64_load(instance, LIMIT, (u64)(w2c_i1), 0);
 i64_store(instance, LIMIT, (u64)(w2c_i0), 144, w2c_j1);
 w2c_j0 = w2c_p0;
-w2c_f98(instance, w2c_j0);
+w2c_f100(instance, w2c_j0);
 w2c_j0 = w2c_l1;
 w2c_i0 = (u32)(w2c_j0);
 w2c_j1 = w2c_l2;
 i64_store(instance, LIMIT, (u64)(w2c_i0), 0, w2c_j1);
 w2c_j0 = w2c_l1;
-w2c_f8(instance, w2c_j0);
+w2c_f10(instance, w2c_j0);
 w2c_B0:;
 w2c_j0 = w2c_l1;
 w2c_j1 = 176ull;
@@ -35961,7 +37566,7 @@ w2c_i0 = (u32)(w2c_j0);
 w2c_j0 = i64_load(instance, LIMIT, (u64)(w2c_i0), 32);
 w2c_l2 = w2c_j0;
 w2c_j0 = w2c_p0;
-w2c_f98(instance, w2c_j0);
+w2c_f100(instance, w2c_j0);
 w2c_j0 = w2c_l2;
 w2c_i0 = !(w2c_j0);
 if (w2c_i0) {goto w2c_B1;}
@@ -35978,7 +37583,7 @@ if (w2c_i0) {goto w2c_B3;}
 w2c_j0 = w2c_p0;
 w2c_i0 = (u32)(w2c_j0);
 w2c_j0 = i64_load(instance, LIMIT, (u64)(w2c_i0), 0);
-w2c_f98(instance, w2c_j0);
+w2c_f100(instance, w2c_j0);
 w2c_B3:;
 w2c_j0 = w2c_p0;
 w2c_j1 = 24ull;
@@ -35996,7 +37601,7 @@ w2c_j0 = w2c_l5;
 w2c_i0 = !(w2c_j0);
 if (w2c_i0) {goto w2c_B4;}
 w2c_j0 = w2c_l6;
-w2c_f98(instance, w2c_j0);
+w2c_f100(instance, w2c_j0);
 w2c_B4:;
 w2c_i0 = 0u;
 w2c_l1 = w2c_i0;
@@ -36004,7 +37609,7 @@ w2c_j0 = w2c_l3;
 w2c_i0 = !(w2c_j0);
 if (w2c_i0) {goto w2c_B0;}
 w2c_j0 = w2c_l4;
-w2c_f98(instance, w2c_j0);
+w2c_f100(instance, w2c_j0);
 w2c_B0:;
 w2c_i0 = w2c_l1;
 FUNC_EPILOGUE;
@@ -36348,7 +37953,7 @@ w2c_j4 = w2c_l4;
 w2c_j5 = 12ull;
 w2c_j4 += w2c_j5;
 w2c_j5 = w2c_p3;
-w2c_i2 = w2c_f11(instance, w2c_j2, w2c_j3, w2c_j4, w2c_j5);
+w2c_i2 = w2c_f13(instance, w2c_j2, w2c_j3, w2c_j4, w2c_j5);
 w2c_i0 = w2c_i2 ? w2c_i0 : w2c_i1;
 w2c_p1 = w2c_i0;
 goto w2c_B0;
@@ -36520,7 +38125,7 @@ w2c_j1 = 8ull;
 w2c_j0 += w2c_j1;
 w2c_j1 = w2c_l5;
 w2c_j2 = w2c_l6;
-w2c_f13(instance, w2c_j0, w2c_j1, w2c_j2);
+w2c_f15(instance, w2c_j0, w2c_j1, w2c_j2);
 w2c_j0 = w2c_l4;
 w2c_i0 = (u32)(w2c_j0);
 w2c_i0 = i32_load8_u(instance, LIMIT, (u64)(w2c_i0), 26);
@@ -36983,7 +38588,7 @@ w2c_B27:;
 w2c_j0 = w2c_l4;
 w2c_j1 = w2c_p0;
 w2c_j2 = w2c_l6;
-w2c_f19(instance, w2c_j0, w2c_j1, w2c_j2);
+w2c_f21(instance, w2c_j0, w2c_j1, w2c_j2);
 w2c_i0 = 0u;
 w2c_l11 = w2c_i0;
 w2c_j0 = w2c_l4;
@@ -38673,7 +40278,7 @@ w2c_l25 = w2c_i0;
 w2c_j0 = w2c_l10;
 w2c_j1 = w2c_l12;
 w2c_i1 = (u32)(w2c_j1);
-w2c_i1 = i32_load8_u(instance, LIMIT, (u64)(w2c_i1) + 12288, 0);
+w2c_i1 = i32_load8_u(instance, LIMIT, (u64)(w2c_i1) + 12456, 0);
 w2c_l22 = w2c_i1;
 w2c_j1 = (u64)(w2c_i1);
 w2c_j2 = 255ull;
@@ -38699,7 +40304,7 @@ w2c_i0 = w2c_j0 != w2c_j1;
 if (w2c_i0) {goto w2c_B56;}
 w2c_j0 = w2c_l10;
 w2c_j1 = w2c_l19;
-w2c_f15(instance, w2c_j0, w2c_j1);
+w2c_f17(instance, w2c_j0, w2c_j1);
 w2c_B56:;
 w2c_i0 = w2c_l24;
 w2c_i1 = 1u;
@@ -38724,7 +40329,7 @@ w2c_i0 = w2c_j0 >= w2c_j1;
 if (w2c_i0) {goto w2c_B57;}
 w2c_j0 = w2c_l10;
 w2c_j1 = 25ull;
-w2c_f15(instance, w2c_j0, w2c_j1);
+w2c_f17(instance, w2c_j0, w2c_j1);
 w2c_B57:;
 w2c_i0 = 1u;
 w2c_l24 = w2c_i0;
@@ -38762,7 +40367,7 @@ w2c_i0 = w2c_j0 != w2c_j1;
 if (w2c_i0) {goto w2c_B58;}
 w2c_j0 = w2c_l10;
 w2c_j1 = 27ull;
-w2c_f15(instance, w2c_j0, w2c_j1);
+w2c_f17(instance, w2c_j0, w2c_j1);
 w2c_B58:;
 w2c_j0 = w2c_l8;
 w2c_i0 = (u32)(w2c_j0);
@@ -38831,7 +40436,7 @@ w2c_l24 = w2c_i0;
 w2c_j0 = w2c_l10;
 w2c_i1 = 1u;
 w2c_i2 = w2c_p1;
-w2c_f16(instance, w2c_j0, w2c_i1, w2c_i2);
+w2c_f18(instance, w2c_j0, w2c_i1, w2c_i2);
 w2c_B5:;
 w2c_j0 = w2c_p3;
 w2c_j1 = 176ull;
@@ -39030,7 +40635,7 @@ w2c_j0 += w2c_j1;
 w2c_j1 = w2c_l6;
 w2c_j2 = 15ull;
 w2c_j1 += w2c_j2;
-w2c_i0 = w2c_f20(instance, w2c_j0, w2c_j1);
+w2c_i0 = w2c_f22(instance, w2c_j0, w2c_j1);
 w2c_i1 = 255u;
 w2c_i0 &= w2c_i1;
 w2c_l23 = w2c_i0;
@@ -39062,7 +40667,7 @@ w2c_j1 = 8ull;
 w2c_j0 += w2c_j1;
 w2c_j1 = w2c_p0;
 w2c_j2 = w2c_l9;
-w2c_f19(instance, w2c_j0, w2c_j1, w2c_j2);
+w2c_f21(instance, w2c_j0, w2c_j1, w2c_j2);
 w2c_i0 = 0u;
 w2c_l23 = w2c_i0;
 w2c_j0 = w2c_l6;
@@ -39328,7 +40933,7 @@ w2c_j4 += w2c_j5;
 w2c_j5 = w2c_l5;
 w2c_j6 = 56ull;
 w2c_j5 += w2c_j6;
-w2c_f21(instance, w2c_j0, w2c_i1, w2c_i2, w2c_i3, w2c_j4, w2c_j5);
+w2c_f23(instance, w2c_j0, w2c_i1, w2c_i2, w2c_i3, w2c_j4, w2c_j5);
 w2c_j0 = w2c_l4;
 w2c_j1 = 40ull;
 w2c_j0 += w2c_j1;
@@ -39384,7 +40989,7 @@ w2c_j4 += w2c_j5;
 w2c_j5 = w2c_l5;
 w2c_j6 = 56ull;
 w2c_j5 += w2c_j6;
-w2c_f21(instance, w2c_j0, w2c_i1, w2c_i2, w2c_i3, w2c_j4, w2c_j5);
+w2c_f23(instance, w2c_j0, w2c_i1, w2c_i2, w2c_i3, w2c_j4, w2c_j5);
 w2c_j0 = w2c_l4;
 w2c_j1 = 40ull;
 w2c_j0 += w2c_j1;
@@ -39901,7 +41506,7 @@ w2c_j2 = w2c_l4;
 w2c_j3 = 40ull;
 w2c_j2 += w2c_j3;
 w2c_j3 = w2c_l8;
-w2c_f28(instance, w2c_j0, w2c_j1, w2c_j2, w2c_j3);
+w2c_f30(instance, w2c_j0, w2c_j1, w2c_j2, w2c_j3);
 w2c_B3:;
 w2c_j0 = w2c_l4;
 w2c_i0 = (u32)(w2c_j0);
@@ -40085,7 +41690,7 @@ w2c_i0 = w2c_j0 != w2c_j1;
 if (w2c_i0) {goto w2c_B48;}
 w2c_j0 = w2c_l14;
 w2c_j1 = w2c_p2;
-w2c_f15(instance, w2c_j0, w2c_j1);
+w2c_f17(instance, w2c_j0, w2c_j1);
 w2c_B48:;
 w2c_j0 = w2c_p0;
 w2c_j1 = 4ull;
@@ -40128,7 +41733,7 @@ w2c_i0 = w2c_j0 != w2c_j1;
 if (w2c_i0) {goto w2c_B49;}
 w2c_j0 = w2c_l14;
 w2c_j1 = w2c_p2;
-w2c_f15(instance, w2c_j0, w2c_j1);
+w2c_f17(instance, w2c_j0, w2c_j1);
 w2c_B49:;
 w2c_i0 = w2c_l17;
 w2c_i1 = 255u;
@@ -40157,7 +41762,7 @@ w2c_i0 = w2c_j0 >= w2c_j1;
 if (w2c_i0) {goto w2c_B29;}
 w2c_j0 = w2c_l14;
 w2c_j1 = 61ull;
-w2c_f15(instance, w2c_j0, w2c_j1);
+w2c_f17(instance, w2c_j0, w2c_j1);
 w2c_B29:;
 w2c_j0 = w2c_l7;
 w2c_j1 = 176ull;
@@ -40223,7 +41828,7 @@ w2c_j1 += w2c_j2;
 w2c_j2 = w2c_l4;
 w2c_j3 = 16ull;
 w2c_j2 += w2c_j3;
-w2c_f34(instance, w2c_j0, w2c_j1, w2c_j2);
+w2c_f36(instance, w2c_j0, w2c_j1, w2c_j2);
 w2c_i0 = 0u;
 w2c_p1 = w2c_i0;
 w2c_j0 = 301ull;
@@ -40245,7 +41850,7 @@ w2c_j1 = 8ull;
 w2c_j0 += w2c_j1;
 w2c_j1 = w2c_l5;
 w2c_j2 = w2c_l6;
-w2c_f19(instance, w2c_j0, w2c_j1, w2c_j2);
+w2c_f21(instance, w2c_j0, w2c_j1, w2c_j2);
 w2c_i0 = 0u;
 w2c_l17 = w2c_i0;
 w2c_j0 = w2c_l4;
@@ -40420,8 +42025,10 @@ w2c_j1 = 3ull;
 w2c_i0 = w2c_j0 != w2c_j1;
 if (w2c_i0) {goto w2c_B11;}
 w2c_j0 = w2c_l7;
+w2c_j1 = 2ull;
+w2c_j0 += w2c_j1;
 w2c_i0 = (u32)(w2c_j0);
-w2c_i0 = i32_load8_u(instance, LIMIT, (u64)(w2c_i0), 2);
+w2c_i0 = i32_load8_u(instance, LIMIT, (u64)(w2c_i0), 0);
 w2c_p1 = w2c_i0;
 w2c_i1 = 3u;
 w2c_i0 &= w2c_i1;
@@ -40472,7 +42079,7 @@ w2c_i0 = w2c_j0 != w2c_j1;
 if (w2c_i0) {goto w2c_B13;}
 w2c_j0 = w2c_l12;
 w2c_j1 = 28ull;
-w2c_f15(instance, w2c_j0, w2c_j1);
+w2c_f17(instance, w2c_j0, w2c_j1);
 w2c_B13:;
 w2c_j0 = w2c_l5;
 w2c_i0 = (u32)(w2c_j0);
@@ -40488,7 +42095,7 @@ w2c_j2 += w2c_j3;
 w2c_j3 = w2c_l6;
 w2c_j4 = 56ull;
 w2c_j3 += w2c_j4;
-w2c_f35(instance, w2c_j0, w2c_j1, w2c_j2, w2c_j3);
+w2c_f37(instance, w2c_j0, w2c_j1, w2c_j2, w2c_j3);
 goto w2c_B4;
 w2c_B12:;
 w2c_j0 = w2c_l7;
@@ -40521,7 +42128,7 @@ w2c_j1 = (u64)(w2c_i1);
 w2c_j2 = 255ull;
 w2c_j1 &= w2c_j2;
 w2c_i1 = (u32)(w2c_j1);
-w2c_i1 = i32_load8_u(instance, LIMIT, (u64)(w2c_i1) + 12288, 0);
+w2c_i1 = i32_load8_u(instance, LIMIT, (u64)(w2c_i1) + 12456, 0);
 w2c_l28 = w2c_i1;
 w2c_j1 = (u64)(w2c_i1);
 w2c_j2 = 255ull;
@@ -40551,7 +42158,7 @@ w2c_i0 = w2c_j0 != w2c_j1;
 if (w2c_i0) {goto w2c_B14;}
 w2c_j0 = w2c_l12;
 w2c_j1 = w2c_p2;
-w2c_f15(instance, w2c_j0, w2c_j1);
+w2c_f17(instance, w2c_j0, w2c_j1);
 w2c_B14:;
 w2c_j0 = w2c_l10;
 w2c_j1 = 376ull;
@@ -40572,7 +42179,7 @@ w2c_i0 = w2c_j0 >= w2c_j1;
 if (w2c_i0) {goto w2c_B15;}
 w2c_j0 = w2c_l12;
 w2c_j1 = 24ull;
-w2c_f15(instance, w2c_j0, w2c_j1);
+w2c_f17(instance, w2c_j0, w2c_j1);
 w2c_B15:;
 w2c_i0 = w2c_l26;
 if (w2c_i0) {goto w2c_B16;}
@@ -40610,7 +42217,7 @@ w2c_i0 = w2c_j0 != w2c_j1;
 if (w2c_i0) {goto w2c_B16;}
 w2c_j0 = w2c_l12;
 w2c_j1 = 26ull;
-w2c_f15(instance, w2c_j0, w2c_j1);
+w2c_f17(instance, w2c_j0, w2c_j1);
 w2c_B16:;
 w2c_j0 = w2c_l7;
 w2c_i0 = (u32)(w2c_j0);
@@ -40672,7 +42279,7 @@ w2c_B20:;
 w2c_j0 = w2c_l12;
 w2c_i1 = 0u;
 w2c_i2 = w2c_p1;
-w2c_f16(instance, w2c_j0, w2c_i1, w2c_i2);
+w2c_f18(instance, w2c_j0, w2c_i1, w2c_i2);
 w2c_B17:;
 w2c_i0 = 0u;
 w2c_l26 = w2c_i0;
@@ -40857,7 +42464,7 @@ w2c_j0 = w2c_l5;
 w2c_j1 = 149ull;
 w2c_j0 += w2c_j1;
 w2c_i1 = w2c_l26;
-w2c_f39(instance, w2c_j0, w2c_i1);
+w2c_f2(instance, w2c_j0, w2c_i1);
 w2c_j0 = w2c_l5;
 w2c_i0 = (u32)(w2c_j0);
 w2c_i0 = i32_load8_u(instance, LIMIT, (u64)(w2c_i0), 149);
@@ -41027,7 +42634,7 @@ w2c_j4 += w2c_j5;
 w2c_j5 = w2c_l6;
 w2c_j6 = 56ull;
 w2c_j5 += w2c_j6;
-w2c_f49(instance, w2c_j0, w2c_j1, w2c_j2, w2c_j3, w2c_j4, w2c_j5);
+w2c_f50(instance, w2c_j0, w2c_j1, w2c_j2, w2c_j3, w2c_j4, w2c_j5);
 goto w2c_B4;
 w2c_B35:;
 w2c_j0 = 1ull;
@@ -41135,7 +42742,7 @@ w2c_i2 = w2c_l30;
 w2c_j3 = w2c_l5;
 w2c_j4 = 48ull;
 w2c_j3 += w2c_j4;
-w2c_f52(instance, w2c_j0, w2c_j1, w2c_i2, w2c_j3);
+w2c_f53(instance, w2c_j0, w2c_j1, w2c_i2, w2c_j3);
 goto w2c_B4;
 w2c_B6:;
 w2c_j0 = w2c_l5;
@@ -41165,7 +42772,7 @@ w2c_j3 += w2c_j4;
 w2c_j4 = w2c_l6;
 w2c_j5 = 56ull;
 w2c_j4 += w2c_j5;
-w2c_f38(instance, w2c_j0, w2c_j1, w2c_j2, w2c_j3, w2c_j4);
+w2c_f40(instance, w2c_j0, w2c_j1, w2c_j2, w2c_j3, w2c_j4);
 goto w2c_B4;
 w2c_B5:;
 w2c_j0 = w2c_l10;
@@ -41234,7 +42841,7 @@ w2c_j3 = w2c_l5;
 w2c_j4 = 140ull;
 w2c_j3 += w2c_j4;
 w2c_j4 = w2c_l14;
-w2c_f41(instance, w2c_j0, w2c_j1, w2c_j2, w2c_j3, w2c_j4);
+w2c_f42(instance, w2c_j0, w2c_j1, w2c_j2, w2c_j3, w2c_j4);
 goto w2c_B39;
 w2c_B44:;
 w2c_j0 = w2c_l17;
@@ -41248,7 +42855,7 @@ w2c_j3 = w2c_l5;
 w2c_j4 = 140ull;
 w2c_j3 += w2c_j4;
 w2c_j4 = w2c_l14;
-w2c_f42(instance, w2c_j0, w2c_j1, w2c_j2, w2c_j3, w2c_j4);
+w2c_f43(instance, w2c_j0, w2c_j1, w2c_j2, w2c_j3, w2c_j4);
 goto w2c_B39;
 w2c_B43:;
 w2c_j0 = w2c_l5;
@@ -41287,7 +42894,7 @@ w2c_j2 = w2c_l5;
 w2c_j3 = 48ull;
 w2c_j2 += w2c_j3;
 w2c_i3 = 13u;
-w2c_f23(instance, w2c_j0, w2c_j1, w2c_j2, w2c_i3);
+w2c_f25(instance, w2c_j0, w2c_j1, w2c_j2, w2c_i3);
 goto w2c_B39;
 w2c_B57:;
 w2c_j0 = w2c_p0;
@@ -41299,7 +42906,7 @@ w2c_i3 = w2c_l31;
 w2c_i4 = w2c_l32;
 w2c_i5 = 1u;
 w2c_i4 &= w2c_i5;
-w2c_f43(instance, w2c_j0, w2c_j1, w2c_j2, w2c_i3, w2c_i4);
+w2c_f44(instance, w2c_j0, w2c_j1, w2c_j2, w2c_i3, w2c_i4);
 w2c_i0 = w2c_l29;
 w2c_j1 = w2c_l17;
 w2c_j2 = 17ull;
@@ -41331,7 +42938,7 @@ w2c_j2 = w2c_l5;
 w2c_j3 = 48ull;
 w2c_j2 += w2c_j3;
 w2c_i3 = 9u;
-w2c_f23(instance, w2c_j0, w2c_j1, w2c_j2, w2c_i3);
+w2c_f25(instance, w2c_j0, w2c_j1, w2c_j2, w2c_i3);
 goto w2c_B39;
 w2c_B58:;
 w2c_j0 = w2c_l17;
@@ -41507,7 +43114,7 @@ w2c_j1 += w2c_j2;
 w2c_j2 = w2c_l5;
 w2c_j3 = 155ull;
 w2c_j2 += w2c_j3;
-w2c_f24(instance, w2c_j0, w2c_j1, w2c_j2);
+w2c_f26(instance, w2c_j0, w2c_j1, w2c_j2);
 w2c_j0 = w2c_l5;
 w2c_i0 = (u32)(w2c_j0);
 w2c_i0 = i32_load8_u(instance, LIMIT, (u64)(w2c_i0), 149);
@@ -41537,7 +43144,7 @@ w2c_j1 = 48ull;
 w2c_j0 += w2c_j1;
 w2c_j1 = w2c_l17;
 w2c_i2 = 0u;
-w2c_f25(instance, w2c_j0, w2c_j1, w2c_i2);
+w2c_f27(instance, w2c_j0, w2c_j1, w2c_i2);
 w2c_B64:;
 w2c_i0 = w2c_l31;
 w2c_j1 = w2c_l17;
@@ -41570,7 +43177,7 @@ w2c_j2 = w2c_l5;
 w2c_j3 = 48ull;
 w2c_j2 += w2c_j3;
 w2c_i3 = 9u;
-w2c_f23(instance, w2c_j0, w2c_j1, w2c_j2, w2c_i3);
+w2c_f25(instance, w2c_j0, w2c_j1, w2c_j2, w2c_i3);
 goto w2c_B39;
 w2c_B65:;
 w2c_i0 = w2c_l31;
@@ -41711,7 +43318,7 @@ w2c_j1 += w2c_j2;
 w2c_j2 = w2c_l5;
 w2c_j3 = 155ull;
 w2c_j2 += w2c_j3;
-w2c_f24(instance, w2c_j0, w2c_j1, w2c_j2);
+w2c_f26(instance, w2c_j0, w2c_j1, w2c_j2);
 w2c_j0 = w2c_l5;
 w2c_i0 = (u32)(w2c_j0);
 w2c_i0 = i32_load8_u(instance, LIMIT, (u64)(w2c_i0), 149);
@@ -41741,7 +43348,7 @@ w2c_j1 = 48ull;
 w2c_j0 += w2c_j1;
 w2c_j1 = w2c_l17;
 w2c_i2 = 0u;
-w2c_f25(instance, w2c_j0, w2c_j1, w2c_i2);
+w2c_f27(instance, w2c_j0, w2c_j1, w2c_i2);
 w2c_B70:;
 w2c_i0 = w2c_l31;
 w2c_j1 = w2c_l17;
@@ -41773,7 +43380,7 @@ w2c_j2 = w2c_l5;
 w2c_j3 = 48ull;
 w2c_j2 += w2c_j3;
 w2c_i3 = 9u;
-w2c_f23(instance, w2c_j0, w2c_j1, w2c_j2, w2c_i3);
+w2c_f25(instance, w2c_j0, w2c_j1, w2c_j2, w2c_i3);
 goto w2c_B39;
 w2c_B71:;
 w2c_i0 = w2c_p1;
@@ -41869,7 +43476,7 @@ w2c_j1 += w2c_j2;
 w2c_j2 = w2c_l5;
 w2c_j3 = 155ull;
 w2c_j2 += w2c_j3;
-w2c_f24(instance, w2c_j0, w2c_j1, w2c_j2);
+w2c_f26(instance, w2c_j0, w2c_j1, w2c_j2);
 w2c_j0 = w2c_l5;
 w2c_i0 = (u32)(w2c_j0);
 w2c_i0 = i32_load8_u(instance, LIMIT, (u64)(w2c_i0), 149);
@@ -41899,7 +43506,7 @@ w2c_j1 = 48ull;
 w2c_j0 += w2c_j1;
 w2c_j1 = w2c_l17;
 w2c_i2 = 0u;
-w2c_f25(instance, w2c_j0, w2c_j1, w2c_i2);
+w2c_f27(instance, w2c_j0, w2c_j1, w2c_i2);
 w2c_B75:;
 w2c_i0 = w2c_l31;
 w2c_j1 = w2c_l17;
@@ -41931,7 +43538,7 @@ w2c_j2 = w2c_l5;
 w2c_j3 = 48ull;
 w2c_j2 += w2c_j3;
 w2c_i3 = 9u;
-w2c_f23(instance, w2c_j0, w2c_j1, w2c_j2, w2c_i3);
+w2c_f25(instance, w2c_j0, w2c_j1, w2c_j2, w2c_i3);
 goto w2c_B39;
 w2c_B76:;
 w2c_i0 = w2c_p1;
@@ -41988,7 +43595,7 @@ w2c_j2 += w2c_j3;
 w2c_i3 = w2c_l31;
 w2c_i4 = 1u;
 w2c_i3 &= w2c_i4;
-w2c_f44(instance, w2c_j0, w2c_j1, w2c_j2, w2c_i3);
+w2c_f45(instance, w2c_j0, w2c_j1, w2c_j2, w2c_i3);
 goto w2c_B39;
 w2c_B51:;
 w2c_j0 = w2c_l17;
@@ -42001,7 +43608,7 @@ w2c_j2 += w2c_j3;
 w2c_i3 = w2c_l31;
 w2c_i4 = 1u;
 w2c_i3 &= w2c_i4;
-w2c_f45(instance, w2c_j0, w2c_j1, w2c_j2, w2c_i3);
+w2c_f46(instance, w2c_j0, w2c_j1, w2c_j2, w2c_i3);
 goto w2c_B39;
 w2c_B50:;
 w2c_i0 = w2c_l31;
@@ -42014,7 +43621,7 @@ w2c_j1 = 48ull;
 w2c_j0 += w2c_j1;
 w2c_j1 = w2c_l17;
 w2c_i2 = 2u;
-w2c_f25(instance, w2c_j0, w2c_j1, w2c_i2);
+w2c_f27(instance, w2c_j0, w2c_j1, w2c_i2);
 goto w2c_B39;
 w2c_B78:;
 w2c_j0 = w2c_l5;
@@ -42022,7 +43629,7 @@ w2c_j1 = 48ull;
 w2c_j0 += w2c_j1;
 w2c_j1 = w2c_l17;
 w2c_i2 = 3u;
-w2c_f25(instance, w2c_j0, w2c_j1, w2c_i2);
+w2c_f27(instance, w2c_j0, w2c_j1, w2c_i2);
 goto w2c_B39;
 w2c_B49:;
 w2c_i0 = w2c_l31;
@@ -42038,7 +43645,7 @@ w2c_j2 = w2c_l5;
 w2c_j3 = 48ull;
 w2c_j2 += w2c_j3;
 w2c_i3 = 0u;
-w2c_f46(instance, w2c_j0, w2c_j1, w2c_j2, w2c_i3);
+w2c_f47(instance, w2c_j0, w2c_j1, w2c_j2, w2c_i3);
 goto w2c_B39;
 w2c_B79:;
 w2c_j0 = w2c_l17;
@@ -42049,7 +43656,7 @@ w2c_j2 = w2c_l5;
 w2c_j3 = 48ull;
 w2c_j2 += w2c_j3;
 w2c_i3 = 4u;
-w2c_f23(instance, w2c_j0, w2c_j1, w2c_j2, w2c_i3);
+w2c_f25(instance, w2c_j0, w2c_j1, w2c_j2, w2c_i3);
 goto w2c_B39;
 w2c_B48:;
 w2c_j0 = w2c_l17;
@@ -42060,7 +43667,7 @@ w2c_j2 = w2c_l5;
 w2c_j3 = 48ull;
 w2c_j2 += w2c_j3;
 w2c_i3 = 10u;
-w2c_f23(instance, w2c_j0, w2c_j1, w2c_j2, w2c_i3);
+w2c_f25(instance, w2c_j0, w2c_j1, w2c_j2, w2c_i3);
 goto w2c_B39;
 w2c_B47:;
 w2c_j0 = w2c_l5;
@@ -42068,7 +43675,7 @@ w2c_j1 = 48ull;
 w2c_j0 += w2c_j1;
 w2c_j1 = w2c_l17;
 w2c_j2 = w2c_l14;
-w2c_f47(instance, w2c_j0, w2c_j1, w2c_j2);
+w2c_f48(instance, w2c_j0, w2c_j1, w2c_j2);
 goto w2c_B39;
 w2c_B46:;
 w2c_j0 = w2c_l5;
@@ -42091,7 +43698,7 @@ w2c_j0 += w2c_j1;
 w2c_j1 = w2c_l5;
 w2c_j2 = 144ull;
 w2c_j1 += w2c_j2;
-w2c_f26(instance, w2c_j0, w2c_j1);
+w2c_f28(instance, w2c_j0, w2c_j1);
 goto w2c_B39;
 w2c_B42:;
 w2c_j0 = w2c_l17;
@@ -42106,7 +43713,7 @@ w2c_j4 = w2c_l5;
 w2c_j5 = 140ull;
 w2c_j4 += w2c_j5;
 w2c_j5 = w2c_l14;
-w2c_f48(instance, w2c_j0, w2c_j1, w2c_j2, w2c_i3, w2c_j4, w2c_j5);
+w2c_f49(instance, w2c_j0, w2c_j1, w2c_j2, w2c_i3, w2c_j4, w2c_j5);
 goto w2c_B39;
 w2c_B41:;
 UNREACHABLE;
@@ -42122,7 +43729,7 @@ w2c_j3 = w2c_l5;
 w2c_j4 = 140ull;
 w2c_j3 += w2c_j4;
 w2c_j4 = w2c_l14;
-w2c_f40(instance, w2c_j0, w2c_j1, w2c_j2, w2c_j3, w2c_j4);
+w2c_f41(instance, w2c_j0, w2c_j1, w2c_j2, w2c_j3, w2c_j4);
 w2c_B39:;
 w2c_j0 = w2c_l17;
 w2c_j1 = 80ull;
@@ -42509,10 +44116,6 @@ w2c_p0 = w2c_j0;
 w2c_B83:;
 w2c_j0 = w2c_l5;
 w2c_i0 = (u32)(w2c_j0);
-w2c_i1 = 0u;
-i32_store16(instance, LIMIT, (u64)(w2c_i0), 96, w2c_i1);
-w2c_j0 = w2c_l5;
-w2c_i0 = (u32)(w2c_j0);
 w2c_j1 = w2c_l13;
 i64_store(instance, LIMIT, (u64)(w2c_i0), 88, w2c_j1);
 w2c_j0 = w2c_l5;
@@ -42810,7 +44413,7 @@ w2c_i0 = w2c_j0 != w2c_j1;
 if (w2c_i0) {goto w2c_B114;}
 w2c_j0 = w2c_l12;
 w2c_j1 = w2c_p2;
-w2c_f15(instance, w2c_j0, w2c_j1);
+w2c_f17(instance, w2c_j0, w2c_j1);
 w2c_B114:;
 w2c_j0 = w2c_p0;
 w2c_j1 = 4ull;
@@ -42867,7 +44470,7 @@ w2c_i0 = w2c_j0 != w2c_j1;
 if (w2c_i0) {goto w2c_B115;}
 w2c_j0 = w2c_l12;
 w2c_j1 = w2c_p2;
-w2c_f15(instance, w2c_j0, w2c_j1);
+w2c_f17(instance, w2c_j0, w2c_j1);
 w2c_B115:;
 w2c_i0 = 0u;
 w2c_l26 = w2c_i0;
@@ -42898,7 +44501,7 @@ w2c_i0 = w2c_j0 >= w2c_j1;
 if (w2c_i0) {goto w2c_B94;}
 w2c_j0 = w2c_l12;
 w2c_j1 = 61ull;
-w2c_f15(instance, w2c_j0, w2c_j1);
+w2c_f17(instance, w2c_j0, w2c_j1);
 w2c_B94:;
 w2c_j0 = w2c_l10;
 w2c_j1 = 176ull;
@@ -43091,7 +44694,7 @@ w2c_j0 += w2c_j1;
 w2c_j1 = w2c_l5;
 w2c_j2 = 104ull;
 w2c_j1 += w2c_j2;
-w2c_i0 = w2c_f20(instance, w2c_j0, w2c_j1);
+w2c_i0 = w2c_f22(instance, w2c_j0, w2c_j1);
 w2c_i1 = 255u;
 w2c_i0 &= w2c_i1;
 w2c_p1 = w2c_i0;
@@ -43118,7 +44721,7 @@ w2c_j1 = 8ull;
 w2c_j0 += w2c_j1;
 w2c_j1 = w2c_l6;
 w2c_j2 = w2c_l8;
-w2c_f19(instance, w2c_j0, w2c_j1, w2c_j2);
+w2c_f21(instance, w2c_j0, w2c_j1, w2c_j2);
 w2c_j0 = w2c_l5;
 w2c_i0 = (u32)(w2c_j0);
 w2c_i0 = i32_load8_u(instance, LIMIT, (u64)(w2c_i0), 8);
@@ -43134,7 +44737,7 @@ goto w2c_B121;
 w2c_B122:;
 w2c_j0 = 0ull;
 w2c_p2 = w2c_j0;
-w2c_j0 = 12288ull;
+w2c_j0 = 8225ull;
 w2c_l14 = w2c_j0;
 w2c_j0 = w2c_p3;
 w2c_j1 = 3ull;
@@ -43163,8 +44766,10 @@ if (w2c_i0) {goto w2c_B131;}
 w2c_j0 = 0ull;
 w2c_p0 = w2c_j0;
 w2c_j0 = w2c_l7;
+w2c_j1 = 2ull;
+w2c_j0 += w2c_j1;
 w2c_i0 = (u32)(w2c_j0);
-w2c_i0 = i32_load8_u(instance, LIMIT, (u64)(w2c_i0), 2);
+w2c_i0 = i32_load8_u(instance, LIMIT, (u64)(w2c_i0), 0);
 w2c_i1 = 3u;
 w2c_i0 &= w2c_i1;
 w2c_i1 = 3u;
@@ -43181,7 +44786,7 @@ w2c_i2 = w2c_j2 < w2c_j3;
 w2c_p1 = w2c_i2;
 w2c_j0 = w2c_i2 ? w2c_j0 : w2c_j1;
 w2c_p0 = w2c_j0;
-w2c_j0 = 12288ull;
+w2c_j0 = 8225ull;
 w2c_j1 = w2c_l7;
 w2c_i2 = w2c_p1;
 w2c_j0 = w2c_i2 ? w2c_j0 : w2c_j1;
@@ -43203,7 +44808,7 @@ w2c_i0 &= w2c_i1;
 w2c_i0 = !(w2c_i0);
 if (w2c_i0) {goto w2c_B132;}
 w2c_B133:;
-w2c_j0 = 12288ull;
+w2c_j0 = 8225ull;
 w2c_j1 = w2c_l14;
 w2c_j2 = w2c_l5;
 w2c_i2 = (u32)(w2c_j2);
@@ -43251,7 +44856,7 @@ w2c_j1 += w2c_j2;
 w2c_j2 = w2c_l5;
 w2c_j3 = 24ull;
 w2c_j2 += w2c_j3;
-w2c_f34(instance, w2c_j0, w2c_j1, w2c_j2);
+w2c_f36(instance, w2c_j0, w2c_j1, w2c_j2);
 w2c_i0 = 0u;
 w2c_p1 = w2c_i0;
 w2c_j0 = 301ull;
@@ -43268,7 +44873,7 @@ w2c_j1 = 16ull;
 w2c_j0 += w2c_j1;
 w2c_j1 = w2c_l6;
 w2c_j2 = w2c_l8;
-w2c_f19(instance, w2c_j0, w2c_j1, w2c_j2);
+w2c_f21(instance, w2c_j0, w2c_j1, w2c_j2);
 w2c_j0 = w2c_l5;
 w2c_i0 = (u32)(w2c_j0);
 w2c_i0 = i32_load8_u(instance, LIMIT, (u64)(w2c_i0), 16);
@@ -43469,7 +45074,7 @@ w2c_i0 = w2c_j0 != w2c_j1;
 if (w2c_i0) {goto w2c_B5;}
 w2c_j0 = w2c_l7;
 w2c_j1 = w2c_l8;
-w2c_f15(instance, w2c_j0, w2c_j1);
+w2c_f17(instance, w2c_j0, w2c_j1);
 w2c_B5:;
 w2c_j0 = w2c_l6;
 w2c_j1 = 176ull;
@@ -43535,7 +45140,7 @@ w2c_j1 += w2c_j2;
 w2c_j2 = w2c_l4;
 w2c_j3 = 16ull;
 w2c_j2 += w2c_j3;
-w2c_f34(instance, w2c_j0, w2c_j1, w2c_j2);
+w2c_f36(instance, w2c_j0, w2c_j1, w2c_j2);
 w2c_i0 = 0u;
 w2c_p1 = w2c_i0;
 w2c_j0 = 301ull;
@@ -43557,7 +45162,7 @@ w2c_j1 = 8ull;
 w2c_j0 += w2c_j1;
 w2c_j1 = w2c_p0;
 w2c_j2 = w2c_l5;
-w2c_f19(instance, w2c_j0, w2c_j1, w2c_j2);
+w2c_f21(instance, w2c_j0, w2c_j1, w2c_j2);
 w2c_i0 = 0u;
 w2c_p2 = w2c_i0;
 w2c_j0 = w2c_l4;
@@ -43739,7 +45344,7 @@ w2c_j1 &= w2c_j2;
 w2c_j0 += w2c_j1;
 w2c_l11 = w2c_j0;
 w2c_i0 = (u32)(w2c_j0);
-w2c_i0 = i32_load8_u(instance, LIMIT, (u64)(w2c_i0) + 14592, 0);
+w2c_i0 = i32_load8_u(instance, LIMIT, (u64)(w2c_i0) + 14760, 0);
 w2c_p1 = w2c_i0;
 w2c_i0 = !(w2c_i0);
 if (w2c_i0) {goto w2c_B9;}
@@ -43747,7 +45352,7 @@ w2c_j0 = w2c_l10;
 w2c_i0 = (u32)(w2c_j0);
 w2c_j1 = w2c_l7;
 w2c_i1 = (u32)(w2c_j1);
-w2c_i1 = i32_load8_u(instance, LIMIT, (u64)(w2c_i1) + 16640, 0);
+w2c_i1 = i32_load8_u(instance, LIMIT, (u64)(w2c_i1) + 16808, 0);
 i32_store8(instance, LIMIT, (u64)(w2c_i0), 0, w2c_i1);
 w2c_j0 = w2c_l6;
 w2c_j1 = 32ull;
@@ -43759,7 +45364,7 @@ w2c_i0 = w2c_i0 != w2c_i1;
 if (w2c_i0) {goto w2c_B8;}
 w2c_j0 = w2c_l11;
 w2c_i0 = (u32)(w2c_j0);
-w2c_i0 = i32_load8_u(instance, LIMIT, (u64)(w2c_i0) + 12544, 0);
+w2c_i0 = i32_load8_u(instance, LIMIT, (u64)(w2c_i0) + 12712, 0);
 w2c_p2 = w2c_i0;
 w2c_j0 = w2c_l6;
 w2c_j1 = 40ull;
@@ -43852,7 +45457,7 @@ w2c_j1 = 40ull;
 w2c_j0 += w2c_j1;
 w2c_j1 = w2c_l6;
 w2c_i2 = w2c_p2;
-w2c_f53(instance, w2c_j0, w2c_j1, w2c_i2);
+w2c_f54(instance, w2c_j0, w2c_j1, w2c_i2);
 goto w2c_B8;
 w2c_B9:;
 w2c_j0 = w2c_l6;
@@ -43890,7 +45495,7 @@ w2c_i0 &= w2c_i1;
 w2c_i1 = w2c_p1;
 w2c_j1 = (u64)(w2c_i1);
 w2c_i1 = (u32)(w2c_j1);
-w2c_i1 = i32_load8_u(instance, LIMIT, (u64)(w2c_i1) + 16896, 0);
+w2c_i1 = i32_load8_u(instance, LIMIT, (u64)(w2c_i1) + 17064, 0);
 w2c_i0 = w2c_i0 != w2c_i1;
 if (w2c_i0) {goto w2c_B7;}
 w2c_B8:;
@@ -43904,7 +45509,7 @@ goto w2c_B6;
 w2c_B7:;
 w2c_j0 = w2c_l6;
 w2c_i1 = w2c_p2;
-w2c_f54(instance, w2c_j0, w2c_i1);
+w2c_f55(instance, w2c_j0, w2c_i1);
 w2c_j0 = w2c_l6;
 w2c_j1 = 65ull;
 w2c_j0 += w2c_j1;
@@ -43924,7 +45529,7 @@ w2c_j0 = w2c_l4;
 w2c_j1 = 56ull;
 w2c_j0 += w2c_j1;
 w2c_j1 = w2c_l6;
-w2c_f57(instance, w2c_j0, w2c_j1);
+w2c_f58(instance, w2c_j0, w2c_j1);
 w2c_j0 = w2c_l6;
 w2c_j1 = 136ull;
 w2c_j0 += w2c_j1;
@@ -43999,7 +45604,7 @@ w2c_j2 += w2c_j3;
 w2c_j3 = w2c_l4;
 w2c_j4 = 160ull;
 w2c_j3 += w2c_j4;
-w2c_f59(instance, w2c_j0, w2c_j1, w2c_j2, w2c_j3);
+w2c_f60(instance, w2c_j0, w2c_j1, w2c_j2, w2c_j3);
 w2c_j0 = w2c_l4;
 w2c_j1 = 178ull;
 w2c_j0 += w2c_j1;
@@ -44102,7 +45707,7 @@ w2c_i2 = w2c_p2;
 w2c_j3 = w2c_l4;
 w2c_j4 = 216ull;
 w2c_j3 += w2c_j4;
-w2c_f58(instance, w2c_j0, w2c_j1, w2c_i2, w2c_j3);
+w2c_f59(instance, w2c_j0, w2c_j1, w2c_i2, w2c_j3);
 w2c_j0 = w2c_l4;
 w2c_j1 = 234ull;
 w2c_j0 += w2c_j1;
@@ -44304,7 +45909,7 @@ goto w2c_B16;
 w2c_B17:;
 w2c_j0 = 0ull;
 w2c_l5 = w2c_j0;
-w2c_j0 = 12288ull;
+w2c_j0 = 8225ull;
 w2c_l10 = w2c_j0;
 w2c_j0 = w2c_l7;
 w2c_j1 = w2c_l9;
@@ -44334,7 +45939,7 @@ w2c_j1 = 1ull;
 i64_store(instance, LIMIT, (u64)(w2c_i0), 16, w2c_j1);
 w2c_j0 = w2c_l4;
 w2c_i0 = (u32)(w2c_j0);
-w2c_j1 = 12288ull;
+w2c_j1 = 8225ull;
 w2c_j2 = w2c_l10;
 w2c_j3 = w2c_l6;
 w2c_j2 += w2c_j3;
@@ -44367,7 +45972,7 @@ w2c_j1 += w2c_j2;
 w2c_j2 = w2c_l4;
 w2c_j3 = 16ull;
 w2c_j2 += w2c_j3;
-w2c_f34(instance, w2c_j0, w2c_j1, w2c_j2);
+w2c_f36(instance, w2c_j0, w2c_j1, w2c_j2);
 w2c_i0 = 0u;
 w2c_p1 = w2c_i0;
 w2c_j0 = 301ull;
@@ -44384,7 +45989,7 @@ w2c_j1 = 8ull;
 w2c_j0 += w2c_j1;
 w2c_j1 = w2c_p0;
 w2c_j2 = w2c_l8;
-w2c_f19(instance, w2c_j0, w2c_j1, w2c_j2);
+w2c_f21(instance, w2c_j0, w2c_j1, w2c_j2);
 w2c_j0 = w2c_l4;
 w2c_i0 = (u32)(w2c_j0);
 w2c_i0 = i32_load8_u(instance, LIMIT, (u64)(w2c_i0), 8);
@@ -44422,7 +46027,7 @@ if (w2c_i0) {goto w2c_B4;}
 w2c_j0 = w2c_l4;
 w2c_j1 = w2c_p0;
 w2c_j2 = w2c_l8;
-w2c_f19(instance, w2c_j0, w2c_j1, w2c_j2);
+w2c_f21(instance, w2c_j0, w2c_j1, w2c_j2);
 w2c_j0 = w2c_l4;
 w2c_i0 = (u32)(w2c_j0);
 w2c_i0 = i32_load8_u(instance, LIMIT, (u64)(w2c_i0), 0);
@@ -44531,11 +46136,11 @@ w2c_l26 = w2c_i0;
 goto w2c_B0;
 w2c_B2:;
 w2c_i0 = w2c_p2;
-w2c_i1 = 4294967284u;
+w2c_i1 = 4294967283u;
 w2c_i0 += w2c_i1;
 w2c_i1 = 255u;
 w2c_i0 &= w2c_i1;
-w2c_i1 = 245u;
+w2c_i1 = 244u;
 w2c_i0 = w2c_i0 >= w2c_i1;
 if (w2c_i0) {goto w2c_B3;}
 w2c_i0 = 18u;
@@ -44626,15 +46231,16 @@ w2c_i0 += w2c_i1;
 switch (w2c_i0) {
 case 0: goto w2c_B6;
 case 1: goto w2c_B17;
-case 2: goto w2c_B10;
-case 3: goto w2c_B10;
+case 2: goto w2c_B11;
+case 3: goto w2c_B11;
 case 4: goto w2c_B16;
 case 5: goto w2c_B15;
 case 6: goto w2c_B14;
 case 7: goto w2c_B13;
-case 8: goto w2c_B12;
-case 9: goto w2c_B11;
-default: goto w2c_B10;
+case 8: goto w2c_B13;
+case 9: goto w2c_B13;
+case 10: goto w2c_B12;
+default: goto w2c_B11;
 }
 w2c_B17:;
 w2c_i0 = 1u;
@@ -44647,50 +46253,41 @@ w2c_i0 = 0u;
 w2c_l29 = w2c_i0;
 w2c_i0 = 4u;
 w2c_l28 = w2c_i0;
-w2c_i0 = w2c_p4;
-w2c_l27 = w2c_i0;
-goto w2c_B6;
+goto w2c_B10;
 w2c_B15:;
 w2c_i0 = 0u;
 w2c_l29 = w2c_i0;
 w2c_i0 = 5u;
 w2c_l28 = w2c_i0;
-w2c_i0 = w2c_p4;
-w2c_l27 = w2c_i0;
-goto w2c_B6;
+goto w2c_B10;
 w2c_B14:;
 w2c_i0 = 0u;
 w2c_l29 = w2c_i0;
 w2c_i0 = 6u;
 w2c_l28 = w2c_i0;
-w2c_i0 = w2c_p4;
-w2c_l27 = w2c_i0;
-goto w2c_B6;
+goto w2c_B10;
 w2c_B13:;
-w2c_i0 = 7u;
+w2c_i0 = w2c_p2;
 w2c_l28 = w2c_i0;
 w2c_i0 = w2c_p4;
 w2c_l29 = w2c_i0;
 goto w2c_B6;
 w2c_B12:;
-w2c_i0 = 8u;
+w2c_i0 = 0u;
+w2c_l27 = w2c_i0;
+w2c_i0 = w2c_p2;
 w2c_l28 = w2c_i0;
-w2c_i0 = w2c_p4;
+w2c_i0 = 0u;
 w2c_l29 = w2c_i0;
 goto w2c_B6;
 w2c_B11:;
-w2c_i0 = 9u;
-w2c_l28 = w2c_i0;
-w2c_i0 = w2c_p4;
+w2c_i0 = 0u;
 w2c_l29 = w2c_i0;
-goto w2c_B6;
+w2c_i0 = 7u;
+w2c_l28 = w2c_i0;
 w2c_B10:;
-w2c_i0 = 0u;
+w2c_i0 = w2c_p4;
 w2c_l27 = w2c_i0;
-w2c_i0 = 10u;
-w2c_l28 = w2c_i0;
-w2c_i0 = 0u;
-w2c_l29 = w2c_i0;
 w2c_B6:;
 w2c_i0 = w2c_p1;
 w2c_j0 = (u64)(w2c_i0);
@@ -44743,6 +46340,8 @@ w2c_j1 = 8ull;
 w2c_j0 <<= (w2c_j1 & 63);
 w2c_i1 = w2c_l28;
 w2c_j1 = (u64)(w2c_i1);
+w2c_j2 = 255ull;
+w2c_j1 &= w2c_j2;
 w2c_j0 |= w2c_j1;
 w2c_i1 = w2c_l29;
 w2c_j1 = (u64)(w2c_i1);
@@ -44817,17 +46416,18 @@ switch (w2c_i0) {
 case 0: goto w2c_B30;
 case 1: goto w2c_B30;
 case 2: goto w2c_B31;
-case 3: goto w2c_B38;
-case 4: goto w2c_B37;
+case 3: goto w2c_B39;
+case 4: goto w2c_B38;
 case 5: goto w2c_B29;
-case 6: goto w2c_B36;
-case 7: goto w2c_B35;
-case 8: goto w2c_B34;
-case 9: goto w2c_B33;
-case 10: goto w2c_B32;
+case 6: goto w2c_B37;
+case 7: goto w2c_B36;
+case 8: goto w2c_B35;
+case 9: goto w2c_B34;
+case 10: goto w2c_B33;
+case 11: goto w2c_B32;
 default: goto w2c_B30;
 }
-w2c_B38:;
+w2c_B39:;
 w2c_i0 = 127u;
 w2c_i1 = 126u;
 w2c_j2 = w2c_l12;
@@ -44843,13 +46443,13 @@ w2c_i2 = 255u;
 w2c_i1 &= w2c_i2;
 w2c_l26 = w2c_i1;
 w2c_i0 = w2c_i0 >= w2c_i1;
-if (w2c_i0) {goto w2c_B39;}
+if (w2c_i0) {goto w2c_B40;}
 w2c_i0 = 0u;
 w2c_p1 = w2c_i0;
 w2c_i0 = 1u;
 w2c_l26 = w2c_i0;
 goto w2c_B20;
-w2c_B39:;
+w2c_B40:;
 w2c_j0 = w2c_p0;
 w2c_j1 = 104ull;
 w2c_j0 += w2c_j1;
@@ -44859,7 +46459,7 @@ w2c_l28 = w2c_i0;
 w2c_i0 = w2c_l26;
 w2c_i1 = 127u;
 w2c_i0 = w2c_i0 == w2c_i1;
-if (w2c_i0) {goto w2c_B40;}
+if (w2c_i0) {goto w2c_B41;}
 w2c_j0 = w2c_l12;
 w2c_j1 = 40ull;
 w2c_j0 += w2c_j1;
@@ -44868,13 +46468,13 @@ w2c_j0 = i64_load(instance, LIMIT, (u64)(w2c_i0), 0);
 w2c_l11 = w2c_j0;
 w2c_i0 = !(w2c_j0);
 w2c_i0 = !(w2c_i0);
-if (w2c_i0) {goto w2c_B41;}
+if (w2c_i0) {goto w2c_B42;}
 w2c_i0 = 1u;
 w2c_p1 = w2c_i0;
 w2c_i0 = 1u;
 w2c_l26 = w2c_i0;
 goto w2c_B20;
-w2c_B41:;
+w2c_B42:;
 w2c_j0 = w2c_l12;
 w2c_j1 = 25ull;
 w2c_j0 += w2c_j1;
@@ -44883,7 +46483,7 @@ w2c_i0 = w2c_l29;
 w2c_i1 = 255u;
 w2c_i0 &= w2c_i1;
 w2c_l26 = w2c_i0;
-w2c_L42: 
+w2c_L43: 
 w2c_j0 = w2c_p5;
 w2c_j1 = 18446744073709551615ull;
 w2c_j0 += w2c_j1;
@@ -44891,14 +46491,14 @@ w2c_i0 = (u32)(w2c_j0);
 w2c_i0 = i32_load8_u(instance, LIMIT, (u64)(w2c_i0), 0);
 w2c_i1 = 1u;
 w2c_i0 = w2c_i0 != w2c_i1;
-if (w2c_i0) {goto w2c_B43;}
+if (w2c_i0) {goto w2c_B44;}
 w2c_j0 = w2c_p5;
 w2c_i0 = (u32)(w2c_j0);
 w2c_i0 = i32_load8_u(instance, LIMIT, (u64)(w2c_i0), 0);
 w2c_i1 = w2c_l26;
 w2c_i0 = w2c_i0 == w2c_i1;
-if (w2c_i0) {goto w2c_B40;}
-w2c_B43:;
+if (w2c_i0) {goto w2c_B41;}
+w2c_B44:;
 w2c_j0 = w2c_p5;
 w2c_j1 = 2ull;
 w2c_j0 += w2c_j1;
@@ -44911,10 +46511,10 @@ w2c_j0 += w2c_j1;
 w2c_l11 = w2c_j0;
 w2c_i0 = !(w2c_j0);
 w2c_i0 = !(w2c_i0);
-if (w2c_i0) {goto w2c_L42;}
+if (w2c_i0) {goto w2c_L43;}
 goto w2c_B25;
 UNREACHABLE;
-w2c_B40:;
+w2c_B41:;
 w2c_j0 = w2c_p6;
 w2c_j1 = w2c_l12;
 w2c_j2 = 16ull;
@@ -44922,13 +46522,13 @@ w2c_j1 += w2c_j2;
 w2c_i1 = (u32)(w2c_j1);
 w2c_j1 = i64_load16_u(instance, LIMIT, (u64)(w2c_i1), 0);
 w2c_i0 = w2c_j0 <= w2c_j1;
-if (w2c_i0) {goto w2c_B44;}
+if (w2c_i0) {goto w2c_B45;}
 w2c_i0 = 3u;
 w2c_p1 = w2c_i0;
 w2c_i0 = 1u;
 w2c_l26 = w2c_i0;
 goto w2c_B20;
-w2c_B44:;
+w2c_B45:;
 w2c_i0 = 4u;
 w2c_i1 = 5u;
 w2c_j2 = w2c_l12;
@@ -44952,24 +46552,24 @@ if (w2c_i0) {goto w2c_B25;}
 w2c_i0 = w2c_l26;
 if (w2c_i0) {goto w2c_B25;}
 w2c_j0 = w2c_l8;
-w2c_j1 = 16ull;
+w2c_j1 = 8ull;
 w2c_j0 += w2c_j1;
 w2c_j1 = w2c_l13;
 w2c_j2 = w2c_l9;
 w2c_j3 = w2c_p6;
-w2c_f60(instance, w2c_j0, w2c_j1, w2c_j2, w2c_j3);
+w2c_f61(instance, w2c_j0, w2c_j1, w2c_j2, w2c_j3);
 w2c_j0 = w2c_l8;
 w2c_i0 = (u32)(w2c_j0);
-w2c_i0 = i32_load8_u(instance, LIMIT, (u64)(w2c_i0), 16);
+w2c_i0 = i32_load8_u(instance, LIMIT, (u64)(w2c_i0), 8);
 w2c_i1 = 1u;
 w2c_i0 = w2c_i0 == w2c_i1;
-if (w2c_i0) {goto w2c_B45;}
+if (w2c_i0) {goto w2c_B46;}
 w2c_i0 = 5u;
 w2c_p1 = w2c_i0;
 w2c_i0 = 1u;
 w2c_l26 = w2c_i0;
 goto w2c_B20;
-w2c_B45:;
+w2c_B46:;
 w2c_j0 = w2c_l12;
 w2c_j1 = 144ull;
 w2c_j0 += w2c_j1;
@@ -44978,19 +46578,19 @@ w2c_j0 = i64_load(instance, LIMIT, (u64)(w2c_i0), 0);
 w2c_p5 = w2c_j0;
 w2c_i0 = !(w2c_j0);
 w2c_i0 = !(w2c_i0);
-if (w2c_i0) {goto w2c_B46;}
+if (w2c_i0) {goto w2c_B47;}
 w2c_i0 = 0u;
 w2c_l26 = w2c_i0;
 goto w2c_B21;
-w2c_B46:;
+w2c_B47:;
 w2c_j0 = w2c_l8;
 w2c_i0 = (u32)(w2c_j0);
-w2c_j0 = i64_load(instance, LIMIT, (u64)(w2c_i0), 24);
+w2c_j0 = i64_load(instance, LIMIT, (u64)(w2c_i0), 16);
 w2c_l9 = w2c_j0;
 w2c_j0 = w2c_l12;
 w2c_j1 = 160ull;
 w2c_j0 += w2c_j1;
-w2c_l13 = w2c_j0;
+w2c_l11 = w2c_j0;
 w2c_i0 = (u32)(w2c_j0);
 w2c_j0 = i64_load(instance, LIMIT, (u64)(w2c_i0), 0);
 w2c_p6 = w2c_j0;
@@ -45001,17 +46601,17 @@ w2c_j1 += w2c_j2;
 w2c_l14 = w2c_j1;
 w2c_i1 = (u32)(w2c_j1);
 w2c_j1 = i64_load(instance, LIMIT, (u64)(w2c_i1), 0);
-w2c_l11 = w2c_j1;
+w2c_l13 = w2c_j1;
 w2c_i0 = w2c_j0 > w2c_j1;
-if (w2c_i0) {goto w2c_B48;}
+if (w2c_i0) {goto w2c_B49;}
 w2c_j0 = w2c_l14;
 w2c_i0 = (u32)(w2c_j0);
-w2c_j1 = w2c_l11;
+w2c_j1 = w2c_l13;
 w2c_j2 = 18446744073709551615ull;
 w2c_j1 += w2c_j2;
-w2c_l11 = w2c_j1;
+w2c_l13 = w2c_j1;
 i64_store(instance, LIMIT, (u64)(w2c_i0), 0, w2c_j1);
-w2c_j0 = w2c_l13;
+w2c_j0 = w2c_l11;
 w2c_i0 = (u32)(w2c_j0);
 w2c_j1 = w2c_p6;
 w2c_j2 = 1ull;
@@ -45027,16 +46627,16 @@ w2c_j1 -= w2c_j2;
 w2c_p6 = w2c_j1;
 i64_store(instance, LIMIT, (u64)(w2c_i0), 0, w2c_j1);
 w2c_j0 = w2c_p6;
-w2c_j1 = w2c_l11;
+w2c_j1 = w2c_l13;
 w2c_j0 += w2c_j1;
 w2c_p6 = w2c_j0;
-goto w2c_B47;
-w2c_B48:;
+goto w2c_B48;
+w2c_B49:;
 w2c_j0 = w2c_p6;
-w2c_j1 = w2c_l11;
+w2c_j1 = w2c_l13;
 w2c_j0 += w2c_j1;
 w2c_p6 = w2c_j0;
-w2c_B47:;
+w2c_B48:;
 w2c_i0 = 0u;
 w2c_l26 = w2c_i0;
 w2c_j0 = w2c_l12;
@@ -45087,7 +46687,7 @@ w2c_j2 = 1ull;
 w2c_j1 += w2c_j2;
 i64_store(instance, LIMIT, (u64)(w2c_i0), 0, w2c_j1);
 goto w2c_B21;
-w2c_B37:;
+w2c_B38:;
 w2c_i0 = 1u;
 w2c_l26 = w2c_i0;
 w2c_i0 = w2c_l27;
@@ -45095,11 +46695,11 @@ w2c_i1 = 255u;
 w2c_i0 &= w2c_i1;
 w2c_i1 = 126u;
 w2c_i0 = w2c_i0 <= w2c_i1;
-if (w2c_i0) {goto w2c_B49;}
+if (w2c_i0) {goto w2c_B50;}
 w2c_i0 = 0u;
 w2c_p1 = w2c_i0;
 goto w2c_B28;
-w2c_B49:;
+w2c_B50:;
 w2c_i0 = 7u;
 w2c_p1 = w2c_i0;
 w2c_j0 = w2c_l12;
@@ -45124,7 +46724,7 @@ w2c_i0 &= w2c_i1;
 w2c_l26 = w2c_i0;
 w2c_j0 = w2c_l11;
 w2c_p6 = w2c_j0;
-w2c_L50: 
+w2c_L51: 
 w2c_j0 = w2c_p5;
 w2c_j1 = 18446744073709551615ull;
 w2c_j0 += w2c_j1;
@@ -45132,19 +46732,19 @@ w2c_i0 = (u32)(w2c_j0);
 w2c_i0 = i32_load8_u(instance, LIMIT, (u64)(w2c_i0), 0);
 w2c_i1 = 1u;
 w2c_i0 = w2c_i0 != w2c_i1;
-if (w2c_i0) {goto w2c_B51;}
+if (w2c_i0) {goto w2c_B52;}
 w2c_j0 = w2c_p5;
 w2c_i0 = (u32)(w2c_j0);
 w2c_i0 = i32_load8_u(instance, LIMIT, (u64)(w2c_i0), 0);
 w2c_i1 = w2c_l26;
 w2c_i0 = w2c_i0 != w2c_i1;
-if (w2c_i0) {goto w2c_B51;}
+if (w2c_i0) {goto w2c_B52;}
 w2c_i0 = 1u;
 w2c_l26 = w2c_i0;
 w2c_i0 = 6u;
 w2c_p1 = w2c_i0;
 goto w2c_B28;
-w2c_B51:;
+w2c_B52:;
 w2c_j0 = w2c_p5;
 w2c_j1 = 2ull;
 w2c_j0 += w2c_j1;
@@ -45155,16 +46755,16 @@ w2c_j0 += w2c_j1;
 w2c_p6 = w2c_j0;
 w2c_j1 = 0ull;
 w2c_i0 = w2c_j0 != w2c_j1;
-if (w2c_i0) {goto w2c_L50;}
+if (w2c_i0) {goto w2c_L51;}
 w2c_j0 = 0ull;
 w2c_p5 = w2c_j0;
-w2c_L53: 
+w2c_L54: 
 w2c_j0 = w2c_l9;
 w2c_i0 = (u32)(w2c_j0);
 w2c_i0 = i32_load8_u(instance, LIMIT, (u64)(w2c_i0), 0);
 w2c_i1 = 1u;
 w2c_i0 = w2c_i0 != w2c_i1;
-if (w2c_i0) {goto w2c_B52;}
+if (w2c_i0) {goto w2c_B53;}
 w2c_j0 = w2c_l9;
 w2c_j1 = 2ull;
 w2c_j0 += w2c_j1;
@@ -45175,11 +46775,11 @@ w2c_j2 = 1ull;
 w2c_j1 += w2c_j2;
 w2c_p5 = w2c_j1;
 w2c_i0 = w2c_j0 != w2c_j1;
-if (w2c_i0) {goto w2c_L53;}
+if (w2c_i0) {goto w2c_L54;}
 w2c_i0 = 1u;
 w2c_l26 = w2c_i0;
 goto w2c_B28;
-w2c_B52:;
+w2c_B53:;
 w2c_j0 = w2c_l9;
 w2c_i0 = (u32)(w2c_j0);
 w2c_i1 = 1u;
@@ -45248,13 +46848,13 @@ w2c_j2 = w2c_l8;
 w2c_j3 = 72ull;
 w2c_j2 += w2c_j3;
 w2c_j3 = w2c_l13;
-w2c_f28(instance, w2c_j0, w2c_j1, w2c_j2, w2c_j3);
+w2c_f30(instance, w2c_j0, w2c_j1, w2c_j2, w2c_j3);
 w2c_i0 = 0u;
 w2c_l26 = w2c_i0;
 goto w2c_B28;
-w2c_B36:;
+w2c_B37:;
 w2c_j0 = w2c_l8;
-w2c_j1 = 40ull;
+w2c_j1 = 32ull;
 w2c_j0 += w2c_j1;
 w2c_j1 = w2c_l12;
 w2c_i2 = 2u;
@@ -45263,7 +46863,28 @@ w2c_j4 = w2c_l8;
 w2c_j5 = 72ull;
 w2c_j4 += w2c_j5;
 w2c_j5 = w2c_l13;
-w2c_f61(instance, w2c_j0, w2c_j1, w2c_i2, w2c_i3, w2c_j4, w2c_j5);
+w2c_f62(instance, w2c_j0, w2c_j1, w2c_i2, w2c_i3, w2c_j4, w2c_j5);
+w2c_j0 = w2c_l8;
+w2c_i0 = (u32)(w2c_j0);
+w2c_i0 = i32_load8_u(instance, LIMIT, (u64)(w2c_i0), 33);
+w2c_p1 = w2c_i0;
+w2c_j0 = w2c_l8;
+w2c_i0 = (u32)(w2c_j0);
+w2c_i0 = i32_load8_u(instance, LIMIT, (u64)(w2c_i0), 32);
+w2c_l26 = w2c_i0;
+goto w2c_B28;
+w2c_B36:;
+w2c_j0 = w2c_l8;
+w2c_j1 = 40ull;
+w2c_j0 += w2c_j1;
+w2c_j1 = w2c_l12;
+w2c_i2 = 3u;
+w2c_i3 = w2c_l27;
+w2c_j4 = w2c_l8;
+w2c_j5 = 72ull;
+w2c_j4 += w2c_j5;
+w2c_j5 = w2c_l13;
+w2c_f62(instance, w2c_j0, w2c_j1, w2c_i2, w2c_i3, w2c_j4, w2c_j5);
 w2c_j0 = w2c_l8;
 w2c_i0 = (u32)(w2c_j0);
 w2c_i0 = i32_load8_u(instance, LIMIT, (u64)(w2c_i0), 41);
@@ -45303,13 +46924,13 @@ w2c_i1 = 255u;
 w2c_i0 &= w2c_i1;
 w2c_i1 = 126u;
 w2c_i0 = w2c_i0 <= w2c_i1;
-if (w2c_i0) {goto w2c_B54;}
+if (w2c_i0) {goto w2c_B55;}
 w2c_i0 = 0u;
 w2c_p1 = w2c_i0;
 w2c_i0 = 1u;
 w2c_l26 = w2c_i0;
 goto w2c_B20;
-w2c_B54:;
+w2c_B55:;
 w2c_j0 = w2c_l12;
 w2c_j1 = 40ull;
 w2c_j0 += w2c_j1;
@@ -45318,20 +46939,20 @@ w2c_j0 = i64_load(instance, LIMIT, (u64)(w2c_i0), 0);
 w2c_p6 = w2c_j0;
 w2c_i0 = !(w2c_j0);
 w2c_i0 = !(w2c_i0);
-if (w2c_i0) {goto w2c_B55;}
+if (w2c_i0) {goto w2c_B56;}
 w2c_i0 = 1u;
 w2c_p1 = w2c_i0;
 w2c_i0 = 1u;
 w2c_l26 = w2c_i0;
 goto w2c_B20;
-w2c_B55:;
+w2c_B56:;
 w2c_j0 = 0ull;
 w2c_p5 = w2c_j0;
 w2c_i0 = w2c_l29;
 w2c_i1 = 255u;
 w2c_i0 &= w2c_i1;
 w2c_l26 = w2c_i0;
-w2c_L57: 
+w2c_L58: 
 w2c_j0 = w2c_l12;
 w2c_j1 = w2c_p5;
 w2c_j0 += w2c_j1;
@@ -45342,7 +46963,7 @@ w2c_i0 = (u32)(w2c_j0);
 w2c_i0 = i32_load8_u(instance, LIMIT, (u64)(w2c_i0), 0);
 w2c_i1 = 1u;
 w2c_i0 = w2c_i0 != w2c_i1;
-if (w2c_i0) {goto w2c_B58;}
+if (w2c_i0) {goto w2c_B59;}
 w2c_j0 = w2c_l9;
 w2c_j1 = 25ull;
 w2c_j0 += w2c_j1;
@@ -45350,8 +46971,8 @@ w2c_i0 = (u32)(w2c_j0);
 w2c_i0 = i32_load8_u(instance, LIMIT, (u64)(w2c_i0), 0);
 w2c_i1 = w2c_l26;
 w2c_i0 = w2c_i0 == w2c_i1;
-if (w2c_i0) {goto w2c_B56;}
-w2c_B58:;
+if (w2c_i0) {goto w2c_B57;}
+w2c_B59:;
 w2c_j0 = w2c_p5;
 w2c_j1 = 2ull;
 w2c_j0 += w2c_j1;
@@ -45362,13 +46983,13 @@ w2c_j0 += w2c_j1;
 w2c_p6 = w2c_j0;
 w2c_i0 = !(w2c_j0);
 w2c_i0 = !(w2c_i0);
-if (w2c_i0) {goto w2c_L57;}
+if (w2c_i0) {goto w2c_L58;}
 w2c_i0 = 1u;
 w2c_p1 = w2c_i0;
 w2c_i0 = 1u;
 w2c_l26 = w2c_i0;
 goto w2c_B20;
-w2c_B56:;
+w2c_B57:;
 w2c_j0 = w2c_l12;
 w2c_j1 = 112ull;
 w2c_j0 += w2c_j1;
@@ -45386,11 +47007,7 @@ w2c_j2 = w2c_l8;
 w2c_j3 = 72ull;
 w2c_j2 += w2c_j3;
 w2c_j3 = w2c_l13;
-w2c_f29(instance, w2c_j0, w2c_j1, w2c_j2, w2c_j3);
-w2c_j0 = w2c_l8;
-w2c_i0 = (u32)(w2c_j0);
-w2c_i1 = 0u;
-i32_store16(instance, LIMIT, (u64)(w2c_i0), 120, w2c_i1);
+w2c_f31(instance, w2c_j0, w2c_j1, w2c_j2, w2c_j3);
 w2c_j0 = w2c_p6;
 w2c_i0 = (u32)(w2c_j0);
 w2c_j0 = i64_load(instance, LIMIT, (u64)(w2c_i0), 0);
@@ -45405,7 +47022,7 @@ w2c_i0 = (u32)(w2c_j0);
 w2c_j0 = i64_load(instance, LIMIT, (u64)(w2c_i0), 0);
 w2c_j1 = 0ull;
 w2c_i0 = w2c_j0 != w2c_j1;
-if (w2c_i0) {goto w2c_B61;}
+if (w2c_i0) {goto w2c_B62;}
 w2c_j0 = w2c_p6;
 w2c_j1 = 80ull;
 w2c_j0 += w2c_j1;
@@ -45427,7 +47044,7 @@ w2c_i1 &= w2c_i2;
 w2c_l26 = w2c_i1;
 w2c_j1 = (u64)(w2c_i1);
 w2c_i0 = w2c_j0 <= w2c_j1;
-if (w2c_i0) {goto w2c_B62;}
+if (w2c_i0) {goto w2c_B63;}
 w2c_j0 = w2c_p6;
 w2c_j1 = 16ull;
 w2c_j0 += w2c_j1;
@@ -45435,13 +47052,13 @@ w2c_i0 = (u32)(w2c_j0);
 w2c_i0 = i32_load8_u(instance, LIMIT, (u64)(w2c_i0), 0);
 w2c_i1 = 3u;
 w2c_i0 = w2c_i0 != w2c_i1;
-if (w2c_i0) {goto w2c_B62;}
+if (w2c_i0) {goto w2c_B63;}
 w2c_j0 = w2c_p6;
 w2c_j1 = 20ull;
 w2c_j0 += w2c_j1;
 w2c_i0 = (u32)(w2c_j0);
 w2c_i0 = i32_load8_u(instance, LIMIT, (u64)(w2c_i0), 0);
-if (w2c_i0) {goto w2c_B62;}
+if (w2c_i0) {goto w2c_B63;}
 w2c_i0 = w2c_l26;
 w2c_j1 = w2c_p6;
 w2c_j2 = 2ull;
@@ -45449,8 +47066,8 @@ w2c_j1 += w2c_j2;
 w2c_i1 = (u32)(w2c_j1);
 w2c_i1 = i32_load8_u(instance, LIMIT, (u64)(w2c_i1), 0);
 w2c_i0 = w2c_i0 < w2c_i1;
-if (w2c_i0) {goto w2c_B61;}
-w2c_B62:;
+if (w2c_i0) {goto w2c_B62;}
+w2c_B63:;
 w2c_j0 = w2c_p6;
 w2c_j1 = 23ull;
 w2c_j0 += w2c_j1;
@@ -45458,8 +47075,8 @@ w2c_i0 = (u32)(w2c_j0);
 w2c_i0 = i32_load8_u(instance, LIMIT, (u64)(w2c_i0), 0);
 w2c_i1 = 1u;
 w2c_i0 = w2c_i0 != w2c_i1;
-if (w2c_i0) {goto w2c_B60;}
-w2c_B61:;
+if (w2c_i0) {goto w2c_B61;}
+w2c_B62:;
 w2c_j0 = w2c_l12;
 w2c_j1 = 176ull;
 w2c_j0 += w2c_j1;
@@ -45470,8 +47087,8 @@ w2c_j2 = w2c_p5;
 w2c_j1 <<= (w2c_j2 & 63);
 w2c_j0 |= w2c_j1;
 w2c_p5 = w2c_j0;
-goto w2c_B59;
-w2c_B60:;
+goto w2c_B60;
+w2c_B61:;
 w2c_j0 = w2c_l12;
 w2c_j1 = 176ull;
 w2c_j0 += w2c_j1;
@@ -45482,7 +47099,7 @@ w2c_j2 = w2c_p5;
 w2c_j1 = I64_ROTL(w2c_j1, w2c_j2);
 w2c_j0 &= w2c_j1;
 w2c_p5 = w2c_j0;
-w2c_B59:;
+w2c_B60:;
 w2c_j0 = w2c_l12;
 w2c_j1 = 176ull;
 w2c_j0 += w2c_j1;
@@ -45509,7 +47126,7 @@ w2c_i0 = (u32)(w2c_j0);
 w2c_j0 = i64_load(instance, LIMIT, (u64)(w2c_i0), 0);
 w2c_p6 = w2c_j0;
 w2c_i0 = !(w2c_j0);
-if (w2c_i0) {goto w2c_B63;}
+if (w2c_i0) {goto w2c_B64;}
 w2c_j0 = w2c_l12;
 w2c_j1 = 144ull;
 w2c_j0 += w2c_j1;
@@ -45548,14 +47165,14 @@ w2c_j0 += w2c_j1;
 w2c_l22 = w2c_j0;
 w2c_j0 = 1ull;
 w2c_p5 = w2c_j0;
-w2c_L64: 
+w2c_L65: 
 w2c_j0 = w2c_p5;
 w2c_i0 = !(w2c_j0);
 w2c_l26 = w2c_i0;
 w2c_j0 = 0ull;
 w2c_p5 = w2c_j0;
 w2c_i0 = w2c_l26;
-if (w2c_i0) {goto w2c_B65;}
+if (w2c_i0) {goto w2c_B66;}
 w2c_j0 = 0ull;
 w2c_p5 = w2c_j0;
 w2c_j0 = w2c_l18;
@@ -45634,7 +47251,7 @@ w2c_i0 = (u32)(w2c_j0);
 w2c_j0 = i64_load(instance, LIMIT, (u64)(w2c_i0), 0);
 w2c_l9 = w2c_j0;
 w2c_i0 = !(w2c_j0);
-if (w2c_i0) {goto w2c_B65;}
+if (w2c_i0) {goto w2c_B66;}
 w2c_j0 = w2c_l15;
 w2c_i0 = (u32)(w2c_j0);
 w2c_j1 = w2c_l9;
@@ -45661,15 +47278,15 @@ w2c_i4 = w2c_j4 < w2c_j5;
 w2c_j2 = w2c_i4 ? w2c_j2 : w2c_j3;
 w2c_j1 -= w2c_j2;
 i64_store(instance, LIMIT, (u64)(w2c_i0), 0, w2c_j1);
-w2c_B65:;
+w2c_B66:;
 w2c_j0 = w2c_p6;
 w2c_j1 = 18446744073709551615ull;
 w2c_j0 += w2c_j1;
 w2c_p6 = w2c_j0;
 w2c_j1 = 0ull;
 w2c_i0 = w2c_j0 != w2c_j1;
-if (w2c_i0) {goto w2c_L64;}
-w2c_B63:;
+if (w2c_i0) {goto w2c_L65;}
+w2c_B64:;
 w2c_j0 = w2c_l8;
 w2c_i0 = (u32)(w2c_j0);
 w2c_i1 = 0u;
@@ -45701,12 +47318,12 @@ w2c_p5 = w2c_j0;
 w2c_i0 = (u32)(w2c_j0);
 w2c_j0 = i64_load(instance, LIMIT, (u64)(w2c_i0), 0);
 w2c_i0 = !(w2c_j0);
-if (w2c_i0) {goto w2c_B66;}
+if (w2c_i0) {goto w2c_B67;}
 w2c_j0 = w2c_p5;
 w2c_i0 = (u32)(w2c_j0);
 w2c_j1 = 0ull;
 i64_store(instance, LIMIT, (u64)(w2c_i0), 0, w2c_j1);
-w2c_B66:;
+w2c_B67:;
 w2c_i0 = 0u;
 w2c_p1 = w2c_i0;
 w2c_j0 = w2c_l12;
@@ -45731,7 +47348,7 @@ w2c_l27 = w2c_i0;
 w2c_i0 = w2c_l26;
 w2c_i1 = 1u;
 w2c_i0 = w2c_i0 != w2c_i1;
-if (w2c_i0) {goto w2c_B68;}
+if (w2c_i0) {goto w2c_B69;}
 w2c_j0 = w2c_l8;
 w2c_i0 = (u32)(w2c_j0);
 w2c_i1 = 0u;
@@ -45742,8 +47359,8 @@ w2c_j1 = 0ull;
 i64_store(instance, LIMIT, (u64)(w2c_i0), 208, w2c_j1);
 w2c_i0 = 513u;
 w2c_p1 = w2c_i0;
-goto w2c_B67;
-w2c_B68:;
+goto w2c_B68;
+w2c_B69:;
 w2c_j0 = w2c_l8;
 w2c_i0 = (u32)(w2c_j0);
 w2c_i1 = 0u;
@@ -45778,7 +47395,7 @@ w2c_i1 = 0u;
 i32_store8(instance, LIMIT, (u64)(w2c_i0), 204, w2c_i1);
 w2c_i0 = 0u;
 w2c_l27 = w2c_i0;
-w2c_B67:;
+w2c_B68:;
 w2c_i0 = 0u;
 w2c_l26 = w2c_i0;
 w2c_j0 = w2c_l8;
@@ -45873,7 +47490,7 @@ w2c_j2 = w2c_l8;
 w2c_j3 = 72ull;
 w2c_j2 += w2c_j3;
 w2c_j3 = w2c_l13;
-w2c_f28(instance, w2c_j0, w2c_j1, w2c_j2, w2c_j3);
+w2c_f30(instance, w2c_j0, w2c_j1, w2c_j2, w2c_j3);
 goto w2c_B21;
 w2c_B31:;
 w2c_i0 = 1u;
@@ -45899,20 +47516,20 @@ w2c_j0 = i64_load(instance, LIMIT, (u64)(w2c_i0), 0);
 w2c_p6 = w2c_j0;
 w2c_i0 = !(w2c_j0);
 w2c_i0 = !(w2c_i0);
-if (w2c_i0) {goto w2c_B69;}
+if (w2c_i0) {goto w2c_B70;}
 w2c_i0 = 1u;
 w2c_p1 = w2c_i0;
 w2c_i0 = 1u;
 w2c_l26 = w2c_i0;
 goto w2c_B20;
-w2c_B69:;
+w2c_B70:;
 w2c_j0 = 0ull;
 w2c_p5 = w2c_j0;
 w2c_i0 = w2c_l29;
 w2c_i1 = 255u;
 w2c_i0 &= w2c_i1;
 w2c_l26 = w2c_i0;
-w2c_L71: 
+w2c_L72: 
 w2c_j0 = w2c_l12;
 w2c_j1 = w2c_p5;
 w2c_j0 += w2c_j1;
@@ -45923,7 +47540,7 @@ w2c_i0 = (u32)(w2c_j0);
 w2c_i0 = i32_load8_u(instance, LIMIT, (u64)(w2c_i0), 0);
 w2c_i1 = 1u;
 w2c_i0 = w2c_i0 != w2c_i1;
-if (w2c_i0) {goto w2c_B72;}
+if (w2c_i0) {goto w2c_B73;}
 w2c_j0 = w2c_l9;
 w2c_j1 = 25ull;
 w2c_j0 += w2c_j1;
@@ -45931,8 +47548,8 @@ w2c_i0 = (u32)(w2c_j0);
 w2c_i0 = i32_load8_u(instance, LIMIT, (u64)(w2c_i0), 0);
 w2c_i1 = w2c_l26;
 w2c_i0 = w2c_i0 == w2c_i1;
-if (w2c_i0) {goto w2c_B70;}
-w2c_B72:;
+if (w2c_i0) {goto w2c_B71;}
+w2c_B73:;
 w2c_j0 = w2c_p5;
 w2c_j1 = 2ull;
 w2c_j0 += w2c_j1;
@@ -45943,13 +47560,13 @@ w2c_j0 += w2c_j1;
 w2c_p6 = w2c_j0;
 w2c_i0 = !(w2c_j0);
 w2c_i0 = !(w2c_i0);
-if (w2c_i0) {goto w2c_L71;}
+if (w2c_i0) {goto w2c_L72;}
 w2c_i0 = 1u;
 w2c_p1 = w2c_i0;
 w2c_i0 = 1u;
 w2c_l26 = w2c_i0;
 goto w2c_B20;
-w2c_B70:;
+w2c_B71:;
 w2c_j0 = w2c_l12;
 w2c_j1 = 112ull;
 w2c_j0 += w2c_j1;
@@ -45981,14 +47598,14 @@ w2c_j1 = 255ull;
 w2c_j0 &= w2c_j1;
 w2c_i0 = (u32)(w2c_j0);
 switch (w2c_i0) {
-case 0: goto w2c_B74;
-case 1: goto w2c_B75;
-case 2: goto w2c_B73;
-case 3: goto w2c_B73;
-case 4: goto w2c_B73;
-default: goto w2c_B74;
+case 0: goto w2c_B75;
+case 1: goto w2c_B76;
+case 2: goto w2c_B74;
+case 3: goto w2c_B74;
+case 4: goto w2c_B74;
+default: goto w2c_B75;
 }
-w2c_B75:;
+w2c_B76:;
 w2c_i0 = 2u;
 w2c_p1 = w2c_i0;
 w2c_i0 = w2c_l26;
@@ -46021,18 +47638,18 @@ w2c_j1 = w2c_l24;
 w2c_j2 = w2c_l8;
 w2c_j3 = 72ull;
 w2c_j2 += w2c_j3;
-w2c_f63(instance, w2c_j0, w2c_j1, w2c_j2);
+w2c_f64(instance, w2c_j0, w2c_j1, w2c_j2);
 goto w2c_B26;
-w2c_B74:;
+w2c_B75:;
 w2c_i0 = w2c_l26;
 w2c_i0 = !(w2c_i0);
-if (w2c_i0) {goto w2c_B76;}
+if (w2c_i0) {goto w2c_B77;}
 w2c_i0 = 2u;
 w2c_p1 = w2c_i0;
 w2c_i0 = 1u;
 w2c_l26 = w2c_i0;
 goto w2c_B20;
-w2c_B76:;
+w2c_B77:;
 w2c_j0 = w2c_l24;
 w2c_j1 = 27ull;
 w2c_j0 += w2c_j1;
@@ -46051,9 +47668,9 @@ w2c_j0 = w2c_p5;
 w2c_j1 = w2c_l8;
 w2c_j2 = 72ull;
 w2c_j1 += w2c_j2;
-w2c_f62(instance, w2c_j0, w2c_j1);
+w2c_f63(instance, w2c_j0, w2c_j1);
 goto w2c_B26;
-w2c_B73:;
+w2c_B74:;
 w2c_i0 = 2u;
 w2c_p1 = w2c_i0;
 w2c_i0 = w2c_l26;
@@ -46067,7 +47684,7 @@ if (w2c_i0) {goto w2c_B27;}
 goto w2c_B25;
 w2c_B29:;
 w2c_j0 = w2c_l8;
-w2c_j1 = 32ull;
+w2c_j1 = 24ull;
 w2c_j0 += w2c_j1;
 w2c_j1 = w2c_l12;
 w2c_i2 = 1u;
@@ -46076,14 +47693,14 @@ w2c_j4 = w2c_l8;
 w2c_j5 = 72ull;
 w2c_j4 += w2c_j5;
 w2c_j5 = w2c_l13;
-w2c_f61(instance, w2c_j0, w2c_j1, w2c_i2, w2c_i3, w2c_j4, w2c_j5);
+w2c_f62(instance, w2c_j0, w2c_j1, w2c_i2, w2c_i3, w2c_j4, w2c_j5);
 w2c_j0 = w2c_l8;
 w2c_i0 = (u32)(w2c_j0);
-w2c_i0 = i32_load8_u(instance, LIMIT, (u64)(w2c_i0), 33);
+w2c_i0 = i32_load8_u(instance, LIMIT, (u64)(w2c_i0), 25);
 w2c_p1 = w2c_i0;
 w2c_j0 = w2c_l8;
 w2c_i0 = (u32)(w2c_j0);
-w2c_i0 = i32_load8_u(instance, LIMIT, (u64)(w2c_i0), 32);
+w2c_i0 = i32_load8_u(instance, LIMIT, (u64)(w2c_i0), 24);
 w2c_l26 = w2c_i0;
 w2c_B28:;
 w2c_i0 = w2c_l26;
@@ -46094,7 +47711,7 @@ goto w2c_B21;
 w2c_B27:;
 w2c_i0 = w2c_l31;
 w2c_i0 = !(w2c_i0);
-if (w2c_i0) {goto w2c_B77;}
+if (w2c_i0) {goto w2c_B78;}
 w2c_j0 = w2c_l11;
 w2c_j1 = w2c_l24;
 w2c_j2 = 4ull;
@@ -46102,13 +47719,13 @@ w2c_j1 += w2c_j2;
 w2c_i1 = (u32)(w2c_j1);
 w2c_j1 = i64_load16_u(instance, LIMIT, (u64)(w2c_i1), 0);
 w2c_i0 = w2c_j0 <= w2c_j1;
-if (w2c_i0) {goto w2c_B78;}
+if (w2c_i0) {goto w2c_B79;}
 w2c_i0 = 3u;
 w2c_p1 = w2c_i0;
 w2c_i0 = 1u;
 w2c_l26 = w2c_i0;
 goto w2c_B20;
-w2c_B78:;
+w2c_B79:;
 w2c_i0 = 4u;
 w2c_i1 = 5u;
 w2c_j2 = w2c_l24;
@@ -46153,9 +47770,9 @@ w2c_j0 = w2c_l24;
 w2c_j1 = w2c_l14;
 w2c_j2 = w2c_l11;
 w2c_j3 = w2c_l13;
-w2c_f64(instance, w2c_j0, w2c_j1, w2c_j2, w2c_j3);
+w2c_f65(instance, w2c_j0, w2c_j1, w2c_j2, w2c_j3);
 goto w2c_B26;
-w2c_B77:;
+w2c_B78:;
 w2c_j0 = w2c_l24;
 w2c_j1 = 27ull;
 w2c_j0 += w2c_j1;
@@ -46171,19 +47788,19 @@ w2c_i0 = (u32)(w2c_j0);
 w2c_i0 = i32_load8_u(instance, LIMIT, (u64)(w2c_i0), 0);
 w2c_l27 = w2c_i0;
 w2c_i0 = w2c_l32;
-if (w2c_i0) {goto w2c_B79;}
-w2c_j0 = w2c_p5;
-w2c_j1 = w2c_l8;
-w2c_j2 = 72ull;
-w2c_j1 += w2c_j2;
-w2c_f65(instance, w2c_j0, w2c_j1);
-goto w2c_B26;
-w2c_B79:;
+if (w2c_i0) {goto w2c_B80;}
 w2c_j0 = w2c_p5;
 w2c_j1 = w2c_l8;
 w2c_j2 = 72ull;
 w2c_j1 += w2c_j2;
 w2c_f66(instance, w2c_j0, w2c_j1);
+goto w2c_B26;
+w2c_B80:;
+w2c_j0 = w2c_p5;
+w2c_j1 = w2c_l8;
+w2c_j2 = 72ull;
+w2c_j1 += w2c_j2;
+w2c_f67(instance, w2c_j0, w2c_j1);
 w2c_B26:;
 w2c_j0 = w2c_l24;
 w2c_j1 = 80ull;
@@ -46202,11 +47819,11 @@ w2c_i2 = w2c_j2 < w2c_j3;
 w2c_j0 = w2c_i2 ? w2c_j0 : w2c_j1;
 w2c_p5 = w2c_j0;
 w2c_i0 = !(w2c_j0);
-if (w2c_i0) {goto w2c_B80;}
+if (w2c_i0) {goto w2c_B81;}
 w2c_j0 = w2c_l24;
 w2c_j1 = 88ull;
 w2c_j0 += w2c_j1;
-w2c_l11 = w2c_j0;
+w2c_l13 = w2c_j0;
 w2c_j0 = w2c_l24;
 w2c_j1 = 64ull;
 w2c_j0 += w2c_j1;
@@ -46214,7 +47831,7 @@ w2c_l15 = w2c_j0;
 w2c_j0 = w2c_p0;
 w2c_j1 = 104ull;
 w2c_j0 += w2c_j1;
-w2c_l13 = w2c_j0;
+w2c_l11 = w2c_j0;
 w2c_j0 = w2c_p0;
 w2c_j1 = 96ull;
 w2c_j0 += w2c_j1;
@@ -46231,22 +47848,22 @@ w2c_j0 = w2c_p0;
 w2c_j1 = 108ull;
 w2c_j0 += w2c_j1;
 w2c_l19 = w2c_j0;
-w2c_L81: 
+w2c_L82: 
 w2c_j0 = w2c_l9;
 w2c_i0 = (u32)(w2c_j0);
 w2c_j0 = i64_load(instance, LIMIT, (u64)(w2c_i0), 0);
 w2c_p6 = w2c_j0;
 w2c_i0 = !(w2c_j0);
-if (w2c_i0) {goto w2c_B82;}
+if (w2c_i0) {goto w2c_B83;}
 w2c_j0 = w2c_l9;
 w2c_i0 = (u32)(w2c_j0);
 w2c_j1 = w2c_p6;
 w2c_j2 = 18446744073709551615ull;
 w2c_j1 += w2c_j2;
 i64_store(instance, LIMIT, (u64)(w2c_i0), 0, w2c_j1);
-w2c_j0 = w2c_l11;
+w2c_j0 = w2c_l13;
 w2c_i0 = (u32)(w2c_j0);
-w2c_j1 = w2c_l11;
+w2c_j1 = w2c_l13;
 w2c_i1 = (u32)(w2c_j1);
 w2c_j1 = i64_load(instance, LIMIT, (u64)(w2c_i1), 0);
 w2c_p6 = w2c_j1;
@@ -46288,9 +47905,9 @@ w2c_l22 = w2c_j0;
 w2c_i0 = (u32)(w2c_j0);
 w2c_j0 = i64_load16_u(instance, LIMIT, (u64)(w2c_i0), 0);
 w2c_l23 = w2c_j0;
-w2c_j0 = w2c_l13;
+w2c_j0 = w2c_l11;
 w2c_i0 = (u32)(w2c_j0);
-w2c_j1 = w2c_l13;
+w2c_j1 = w2c_l11;
 w2c_i1 = (u32)(w2c_j1);
 w2c_i1 = i32_load(instance, LIMIT, (u64)(w2c_i1), 0);
 w2c_i2 = 4294967295u;
@@ -46326,15 +47943,15 @@ w2c_j0 = w2c_l19;
 w2c_i0 = (u32)(w2c_j0);
 w2c_j1 = w2c_p6;
 i64_store16(instance, LIMIT, (u64)(w2c_i0), 0, w2c_j1);
-w2c_B82:;
+w2c_B83:;
 w2c_j0 = w2c_p5;
 w2c_j1 = 18446744073709551615ull;
 w2c_j0 += w2c_j1;
 w2c_p5 = w2c_j0;
 w2c_j1 = 0ull;
 w2c_i0 = w2c_j0 != w2c_j1;
-if (w2c_i0) {goto w2c_L81;}
-w2c_B80:;
+if (w2c_i0) {goto w2c_L82;}
+w2c_B81:;
 w2c_j0 = w2c_l21;
 w2c_i0 = (u32)(w2c_j0);
 w2c_i0 = i32_load8_u(instance, LIMIT, (u64)(w2c_i0), 0);
@@ -46348,13 +47965,13 @@ w2c_i0 = (u32)(w2c_j0);
 w2c_i0 = i32_load8_u(instance, LIMIT, (u64)(w2c_i0), 122);
 w2c_i1 = 1u;
 w2c_i0 = w2c_i0 != w2c_i1;
-if (w2c_i0) {goto w2c_B83;}
+if (w2c_i0) {goto w2c_B84;}
 w2c_i0 = w2c_p1;
 w2c_i1 = 255u;
 w2c_i0 &= w2c_i1;
 w2c_i1 = 1u;
 w2c_i0 = w2c_i0 != w2c_i1;
-if (w2c_i0) {goto w2c_B83;}
+if (w2c_i0) {goto w2c_B84;}
 w2c_j0 = w2c_l8;
 w2c_i0 = (u32)(w2c_j0);
 w2c_i0 = i32_load8_u(instance, LIMIT, (u64)(w2c_i0), 123);
@@ -46362,11 +47979,11 @@ w2c_l31 = w2c_i0;
 w2c_i0 = w2c_l28;
 w2c_i1 = 255u;
 w2c_i0 &= w2c_i1;
-if (w2c_i0) {goto w2c_B84;}
+if (w2c_i0) {goto w2c_B85;}
 w2c_i0 = w2c_l31;
 w2c_i1 = 255u;
 w2c_i0 &= w2c_i1;
-if (w2c_i0) {goto w2c_B83;}
+if (w2c_i0) {goto w2c_B84;}
 w2c_j0 = w2c_l24;
 w2c_i0 = (u32)(w2c_j0);
 w2c_i0 = i32_load8_u(instance, LIMIT, (u64)(w2c_i0), 0);
@@ -46418,14 +48035,14 @@ w2c_j1 |= w2c_j2;
 w2c_j0 |= w2c_j1;
 w2c_p5 = w2c_j0;
 goto w2c_B22;
-w2c_B84:;
+w2c_B85:;
 w2c_i0 = w2c_l31;
 w2c_i1 = 255u;
 w2c_i0 &= w2c_i1;
 w2c_i1 = 1u;
 w2c_i0 = w2c_i0 == w2c_i1;
 if (w2c_i0) {goto w2c_B24;}
-w2c_B83:;
+w2c_B84:;
 w2c_j0 = 0ull;
 w2c_p5 = w2c_j0;
 w2c_i0 = 0u;
@@ -46441,24 +48058,24 @@ w2c_i1 = 255u;
 w2c_i0 &= w2c_i1;
 w2c_i1 = 1u;
 w2c_i0 = w2c_i0 != w2c_i1;
-if (w2c_i0) {goto w2c_B85;}
+if (w2c_i0) {goto w2c_B86;}
 w2c_i0 = w2c_l28;
 w2c_i1 = 255u;
 w2c_i0 &= w2c_i1;
-if (w2c_i0) {goto w2c_B86;}
+if (w2c_i0) {goto w2c_B87;}
 w2c_i0 = w2c_l29;
 w2c_i1 = 255u;
 w2c_i0 &= w2c_i1;
-if (w2c_i0) {goto w2c_B85;}
+if (w2c_i0) {goto w2c_B86;}
 goto w2c_B22;
-w2c_B86:;
+w2c_B87:;
 w2c_i0 = w2c_l29;
 w2c_i1 = 255u;
 w2c_i0 &= w2c_i1;
 w2c_i1 = 1u;
 w2c_i0 = w2c_i0 == w2c_i1;
 if (w2c_i0) {goto w2c_B22;}
-w2c_B85:;
+w2c_B86:;
 w2c_j0 = w2c_l24;
 w2c_j1 = 1ull;
 w2c_j0 += w2c_j1;
@@ -46570,10 +48187,6 @@ w2c_p5 = w2c_j0;
 w2c_B22:;
 w2c_j0 = w2c_l8;
 w2c_i0 = (u32)(w2c_j0);
-w2c_i1 = 0u;
-i32_store16(instance, LIMIT, (u64)(w2c_i0), 120, w2c_i1);
-w2c_j0 = w2c_l8;
-w2c_i0 = (u32)(w2c_j0);
 w2c_j1 = w2c_p5;
 i64_store(instance, LIMIT, (u64)(w2c_i0), 90, w2c_j1);
 w2c_j0 = w2c_l8;
@@ -46600,7 +48213,7 @@ i64_store(instance, LIMIT, (u64)(w2c_i0), 98, w2c_j1);
 w2c_j0 = w2c_p6;
 w2c_j1 = 0ull;
 w2c_i0 = w2c_j0 != w2c_j1;
-if (w2c_i0) {goto w2c_B89;}
+if (w2c_i0) {goto w2c_B90;}
 w2c_j0 = w2c_p5;
 w2c_j1 = 80ull;
 w2c_j0 += w2c_j1;
@@ -46622,7 +48235,7 @@ w2c_i1 &= w2c_i2;
 w2c_l26 = w2c_i1;
 w2c_j1 = (u64)(w2c_i1);
 w2c_i0 = w2c_j0 <= w2c_j1;
-if (w2c_i0) {goto w2c_B90;}
+if (w2c_i0) {goto w2c_B91;}
 w2c_j0 = w2c_p5;
 w2c_j1 = 16ull;
 w2c_j0 += w2c_j1;
@@ -46630,13 +48243,13 @@ w2c_i0 = (u32)(w2c_j0);
 w2c_i0 = i32_load8_u(instance, LIMIT, (u64)(w2c_i0), 0);
 w2c_i1 = 3u;
 w2c_i0 = w2c_i0 != w2c_i1;
-if (w2c_i0) {goto w2c_B90;}
+if (w2c_i0) {goto w2c_B91;}
 w2c_j0 = w2c_p5;
 w2c_j1 = 20ull;
 w2c_j0 += w2c_j1;
 w2c_i0 = (u32)(w2c_j0);
 w2c_i0 = i32_load8_u(instance, LIMIT, (u64)(w2c_i0), 0);
-if (w2c_i0) {goto w2c_B90;}
+if (w2c_i0) {goto w2c_B91;}
 w2c_i0 = w2c_l26;
 w2c_j1 = w2c_p5;
 w2c_j2 = 2ull;
@@ -46644,8 +48257,8 @@ w2c_j1 += w2c_j2;
 w2c_i1 = (u32)(w2c_j1);
 w2c_i1 = i32_load8_u(instance, LIMIT, (u64)(w2c_i1), 0);
 w2c_i0 = w2c_i0 < w2c_i1;
-if (w2c_i0) {goto w2c_B89;}
-w2c_B90:;
+if (w2c_i0) {goto w2c_B90;}
+w2c_B91:;
 w2c_j0 = w2c_p5;
 w2c_j1 = 23ull;
 w2c_j0 += w2c_j1;
@@ -46653,8 +48266,8 @@ w2c_i0 = (u32)(w2c_j0);
 w2c_i0 = i32_load8_u(instance, LIMIT, (u64)(w2c_i0), 0);
 w2c_i1 = 1u;
 w2c_i0 = w2c_i0 != w2c_i1;
-if (w2c_i0) {goto w2c_B88;}
-w2c_B89:;
+if (w2c_i0) {goto w2c_B89;}
+w2c_B90:;
 w2c_j0 = w2c_l12;
 w2c_j1 = 176ull;
 w2c_j0 += w2c_j1;
@@ -46665,8 +48278,8 @@ w2c_j2 = w2c_l18;
 w2c_j1 <<= (w2c_j2 & 63);
 w2c_j0 |= w2c_j1;
 w2c_p5 = w2c_j0;
-goto w2c_B87;
-w2c_B88:;
+goto w2c_B88;
+w2c_B89:;
 w2c_j0 = w2c_l12;
 w2c_j1 = 176ull;
 w2c_j0 += w2c_j1;
@@ -46677,7 +48290,7 @@ w2c_j2 = w2c_l18;
 w2c_j1 = I64_ROTL(w2c_j1, w2c_j2);
 w2c_j0 &= w2c_j1;
 w2c_p5 = w2c_j0;
-w2c_B87:;
+w2c_B88:;
 w2c_j0 = w2c_l12;
 w2c_j1 = 176ull;
 w2c_j0 += w2c_j1;
@@ -46691,7 +48304,7 @@ w2c_j0 = w2c_l8;
 w2c_i0 = (u32)(w2c_j0);
 w2c_i0 = i32_load8_u(instance, LIMIT, (u64)(w2c_i0), 72);
 w2c_l27 = w2c_i0;
-if (w2c_i0) {goto w2c_B92;}
+if (w2c_i0) {goto w2c_B93;}
 w2c_j0 = w2c_l8;
 w2c_j1 = 239ull;
 w2c_j0 += w2c_j1;
@@ -46701,19 +48314,19 @@ w2c_l9 = w2c_j0;
 w2c_j0 = w2c_l8;
 w2c_i0 = (u32)(w2c_j0);
 w2c_i0 = i32_load8_u(instance, LIMIT, (u64)(w2c_i0), 125);
-if (w2c_i0) {goto w2c_B91;}
+if (w2c_i0) {goto w2c_B92;}
 w2c_j0 = w2c_l8;
 w2c_i0 = (u32)(w2c_j0);
 w2c_i0 = i32_load8_u(instance, LIMIT, (u64)(w2c_i0), 106);
 w2c_i1 = 1u;
 w2c_i0 &= w2c_i1;
-if (w2c_i0) {goto w2c_B91;}
+if (w2c_i0) {goto w2c_B92;}
 w2c_j0 = w2c_l8;
 w2c_i0 = (u32)(w2c_j0);
 w2c_i0 = i32_load8_u(instance, LIMIT, (u64)(w2c_i0), 107);
 w2c_i1 = 1u;
 w2c_i0 &= w2c_i1;
-if (w2c_i0) {goto w2c_B91;}
+if (w2c_i0) {goto w2c_B92;}
 w2c_j0 = w2c_l8;
 w2c_i0 = (u32)(w2c_j0);
 w2c_i0 = i32_load8_u(instance, LIMIT, (u64)(w2c_i0), 120);
@@ -46721,7 +48334,7 @@ w2c_i1 = 255u;
 w2c_i0 &= w2c_i1;
 w2c_i1 = 1u;
 w2c_i0 = w2c_i0 == w2c_i1;
-if (w2c_i0) {goto w2c_B91;}
+if (w2c_i0) {goto w2c_B92;}
 w2c_i0 = 0u;
 w2c_p1 = w2c_i0;
 w2c_j0 = w2c_l8;
@@ -46729,9 +48342,9 @@ w2c_i0 = (u32)(w2c_j0);
 w2c_i0 = i32_load8_u(instance, LIMIT, (u64)(w2c_i0), 124);
 w2c_i1 = 255u;
 w2c_i0 &= w2c_i1;
-if (w2c_i0) {goto w2c_B91;}
+if (w2c_i0) {goto w2c_B92;}
 goto w2c_B20;
-w2c_B92:;
+w2c_B93:;
 w2c_j0 = w2c_l8;
 w2c_j1 = 72ull;
 w2c_j0 += w2c_j1;
@@ -46744,24 +48357,24 @@ w2c_i0 = w2c_l27;
 w2c_i1 = 4294967295u;
 w2c_i0 += w2c_i1;
 switch (w2c_i0) {
-case 0: goto w2c_B91;
-case 1: goto w2c_B95;
-case 2: goto w2c_B94;
-case 3: goto w2c_B93;
-default: goto w2c_B91;
+case 0: goto w2c_B92;
+case 1: goto w2c_B96;
+case 2: goto w2c_B95;
+case 3: goto w2c_B94;
+default: goto w2c_B92;
 }
-w2c_B95:;
+w2c_B96:;
 w2c_j0 = 2ull;
 w2c_l9 = w2c_j0;
-goto w2c_B91;
-w2c_B94:;
+goto w2c_B92;
+w2c_B95:;
 w2c_j0 = 3ull;
 w2c_l9 = w2c_j0;
-goto w2c_B91;
-w2c_B93:;
+goto w2c_B92;
+w2c_B94:;
 w2c_j0 = 4ull;
 w2c_l9 = w2c_j0;
-w2c_B91:;
+w2c_B92:;
 w2c_j0 = w2c_l8;
 w2c_i0 = (u32)(w2c_j0);
 w2c_j0 = i64_load8_u(instance, LIMIT, (u64)(w2c_i0), 121);
@@ -46769,7 +48382,7 @@ w2c_l14 = w2c_j0;
 w2c_j0 = w2c_l12;
 w2c_j1 = 184ull;
 w2c_j0 += w2c_j1;
-w2c_l13 = w2c_j0;
+w2c_l11 = w2c_j0;
 w2c_j0 = w2c_l8;
 w2c_i0 = (u32)(w2c_j0);
 w2c_i0 = i32_load8_u(instance, LIMIT, (u64)(w2c_i0), 124);
@@ -46789,8 +48402,8 @@ w2c_i0 |= w2c_i1;
 w2c_p1 = w2c_i0;
 w2c_i0 = w2c_l27;
 w2c_i0 = !(w2c_i0);
-if (w2c_i0) {goto w2c_B96;}
-w2c_L97: 
+if (w2c_i0) {goto w2c_B97;}
+w2c_L98: 
 w2c_j0 = 51ull;
 w2c_p6 = w2c_j0;
 w2c_j0 = w2c_p5;
@@ -46798,20 +48411,20 @@ w2c_i0 = (u32)(w2c_j0);
 w2c_j0 = i64_load8_u(instance, LIMIT, (u64)(w2c_i0), 0);
 w2c_i0 = (u32)(w2c_j0);
 switch (w2c_i0) {
-case 0: goto w2c_B98;
-case 1: goto w2c_B107;
-case 2: goto w2c_B106;
-case 3: goto w2c_B105;
-case 4: goto w2c_B104;
-case 5: goto w2c_B103;
-case 6: goto w2c_B108;
-case 7: goto w2c_B101;
-case 8: goto w2c_B100;
-case 9: goto w2c_B99;
-case 10: goto w2c_B102;
-default: goto w2c_B98;
+case 0: goto w2c_B99;
+case 1: goto w2c_B108;
+case 2: goto w2c_B107;
+case 3: goto w2c_B106;
+case 4: goto w2c_B105;
+case 5: goto w2c_B104;
+case 6: goto w2c_B109;
+case 7: goto w2c_B102;
+case 8: goto w2c_B101;
+case 9: goto w2c_B100;
+case 10: goto w2c_B103;
+default: goto w2c_B99;
 }
-w2c_B108:;
+w2c_B109:;
 w2c_j0 = w2c_p5;
 w2c_j1 = 3ull;
 w2c_j0 += w2c_j1;
@@ -46820,65 +48433,65 @@ w2c_j0 = i64_load8_u(instance, LIMIT, (u64)(w2c_i0), 0);
 w2c_j1 = 37ull;
 w2c_j0 += w2c_j1;
 w2c_p6 = w2c_j0;
-goto w2c_B98;
-w2c_B107:;
+goto w2c_B99;
+w2c_B108:;
 w2c_j0 = 52ull;
 w2c_p6 = w2c_j0;
-goto w2c_B98;
-w2c_B106:;
+goto w2c_B99;
+w2c_B107:;
 w2c_j0 = 53ull;
 w2c_p6 = w2c_j0;
-goto w2c_B98;
-w2c_B105:;
+goto w2c_B99;
+w2c_B106:;
 w2c_j0 = 54ull;
 w2c_p6 = w2c_j0;
-goto w2c_B98;
-w2c_B104:;
+goto w2c_B99;
+w2c_B105:;
 w2c_j0 = 55ull;
 w2c_p6 = w2c_j0;
-goto w2c_B98;
-w2c_B103:;
+goto w2c_B99;
+w2c_B104:;
 w2c_j0 = 56ull;
 w2c_p6 = w2c_j0;
-goto w2c_B98;
-w2c_B102:;
+goto w2c_B99;
+w2c_B103:;
 w2c_j0 = 57ull;
 w2c_p6 = w2c_j0;
-goto w2c_B98;
-w2c_B101:;
+goto w2c_B99;
+w2c_B102:;
 w2c_j0 = 58ull;
 w2c_p6 = w2c_j0;
-goto w2c_B98;
-w2c_B100:;
+goto w2c_B99;
+w2c_B101:;
 w2c_j0 = 59ull;
 w2c_p6 = w2c_j0;
-goto w2c_B98;
-w2c_B99:;
+goto w2c_B99;
+w2c_B100:;
 w2c_j0 = 60ull;
 w2c_p6 = w2c_j0;
-w2c_B98:;
-w2c_j0 = w2c_l13;
+w2c_B99:;
+w2c_j0 = w2c_l11;
 w2c_j1 = w2c_p6;
 w2c_j2 = 3ull;
 w2c_j1 <<= (w2c_j2 & 63);
 w2c_j0 += w2c_j1;
-w2c_l11 = w2c_j0;
+w2c_l13 = w2c_j0;
 w2c_i0 = (u32)(w2c_j0);
-w2c_j1 = w2c_l11;
+w2c_j1 = w2c_l13;
 w2c_i1 = (u32)(w2c_j1);
 w2c_j1 = i64_load(instance, LIMIT, (u64)(w2c_i1), 0);
 w2c_j2 = 1ull;
 w2c_j1 += w2c_j2;
-w2c_l11 = w2c_j1;
+w2c_l13 = w2c_j1;
 i64_store(instance, LIMIT, (u64)(w2c_i0), 0, w2c_j1);
-w2c_j0 = w2c_l11;
+w2c_j0 = w2c_l13;
 w2c_j1 = 0ull;
 w2c_i0 = w2c_j0 != w2c_j1;
-if (w2c_i0) {goto w2c_B109;}
-w2c_j0 = w2c_l13;
+if (w2c_i0) {goto w2c_B110;}
+w2c_j0 = w2c_l11;
 w2c_j1 = w2c_p6;
-w2c_f15(instance, w2c_j0, w2c_j1);
-w2c_B109:;
+w2c_f17(instance, w2c_j0, w2c_j1);
+w2c_B110:;
 w2c_j0 = w2c_p5;
 w2c_j1 = 4ull;
 w2c_j0 += w2c_j1;
@@ -46889,12 +48502,12 @@ w2c_j0 += w2c_j1;
 w2c_l9 = w2c_j0;
 w2c_j1 = 0ull;
 w2c_i0 = w2c_j0 != w2c_j1;
-if (w2c_i0) {goto w2c_L97;}
-w2c_B96:;
+if (w2c_i0) {goto w2c_L98;}
+w2c_B97:;
 w2c_i0 = w2c_p1;
 w2c_i0 = !(w2c_i0);
-if (w2c_i0) {goto w2c_B110;}
-w2c_j0 = w2c_l13;
+if (w2c_i0) {goto w2c_B111;}
+w2c_j0 = w2c_l11;
 w2c_j1 = 36ull;
 w2c_j2 = w2c_l14;
 w2c_j3 = 29ull;
@@ -46917,11 +48530,11 @@ i64_store(instance, LIMIT, (u64)(w2c_i0), 0, w2c_j1);
 w2c_j0 = w2c_p5;
 w2c_j1 = 0ull;
 w2c_i0 = w2c_j0 != w2c_j1;
-if (w2c_i0) {goto w2c_B110;}
-w2c_j0 = w2c_l13;
+if (w2c_i0) {goto w2c_B111;}
+w2c_j0 = w2c_l11;
 w2c_j1 = w2c_p6;
-w2c_f15(instance, w2c_j0, w2c_j1);
-w2c_B110:;
+w2c_f17(instance, w2c_j0, w2c_j1);
+w2c_B111:;
 w2c_i0 = 0u;
 w2c_p1 = w2c_i0;
 w2c_i0 = w2c_l28;
@@ -46949,14 +48562,14 @@ w2c_j0 = w2c_p6;
 w2c_j1 = w2c_p5;
 w2c_i0 = w2c_j0 >= w2c_j1;
 if (w2c_i0) {goto w2c_B20;}
-w2c_j0 = w2c_l13;
+w2c_j0 = w2c_l11;
 w2c_j1 = 61ull;
-w2c_f15(instance, w2c_j0, w2c_j1);
+w2c_f17(instance, w2c_j0, w2c_j1);
 w2c_B20:;
 w2c_i0 = w2c_l26;
 w2c_i1 = 255u;
 w2c_i0 &= w2c_i1;
-if (w2c_i0) {goto w2c_B111;}
+if (w2c_i0) {goto w2c_B112;}
 w2c_j0 = w2c_l12;
 w2c_j1 = 176ull;
 w2c_j0 += w2c_j1;
@@ -46964,7 +48577,7 @@ w2c_i0 = (u32)(w2c_j0);
 w2c_j0 = i64_load(instance, LIMIT, (u64)(w2c_i0), 0);
 w2c_j1 = 0ull;
 w2c_i0 = w2c_j0 != w2c_j1;
-if (w2c_i0) {goto w2c_B114;}
+if (w2c_i0) {goto w2c_B115;}
 w2c_j0 = w2c_l12;
 w2c_j1 = 96ull;
 w2c_j0 += w2c_j1;
@@ -46972,15 +48585,15 @@ w2c_i0 = (u32)(w2c_j0);
 w2c_j0 = i64_load(instance, LIMIT, (u64)(w2c_i0), 0);
 w2c_j1 = 0ull;
 w2c_i0 = w2c_j0 != w2c_j1;
-if (w2c_i0) {goto w2c_B114;}
+if (w2c_i0) {goto w2c_B115;}
 w2c_j0 = w2c_l12;
 w2c_j1 = 152ull;
 w2c_j0 += w2c_j1;
 w2c_i0 = (u32)(w2c_j0);
 w2c_j0 = i64_load(instance, LIMIT, (u64)(w2c_i0), 0);
 w2c_i0 = !(w2c_j0);
-if (w2c_i0) {goto w2c_B113;}
-w2c_B114:;
+if (w2c_i0) {goto w2c_B114;}
+w2c_B115:;
 w2c_j0 = w2c_p0;
 w2c_j1 = 112ull;
 w2c_j0 += w2c_j1;
@@ -46991,8 +48604,8 @@ w2c_j2 = w2c_l10;
 w2c_j1 <<= (w2c_j2 & 63);
 w2c_j0 |= w2c_j1;
 w2c_p5 = w2c_j0;
-goto w2c_B112;
-w2c_B113:;
+goto w2c_B113;
+w2c_B114:;
 w2c_j0 = w2c_p0;
 w2c_j1 = 112ull;
 w2c_j0 += w2c_j1;
@@ -47003,7 +48616,7 @@ w2c_j2 = w2c_l10;
 w2c_j1 = I64_ROTL(w2c_j1, w2c_j2);
 w2c_j0 &= w2c_j1;
 w2c_p5 = w2c_j0;
-w2c_B112:;
+w2c_B113:;
 w2c_j0 = w2c_p0;
 w2c_j1 = 112ull;
 w2c_j0 += w2c_j1;
@@ -47021,7 +48634,7 @@ w2c_j1 += w2c_j2;
 w2c_j2 = w2c_l8;
 w2c_j3 = 48ull;
 w2c_j2 += w2c_j3;
-w2c_f34(instance, w2c_j0, w2c_j1, w2c_j2);
+w2c_f36(instance, w2c_j0, w2c_j1, w2c_j2);
 w2c_j0 = w2c_p0;
 w2c_j1 = 144ull;
 w2c_j0 += w2c_j1;
@@ -47029,28 +48642,6 @@ w2c_i0 = (u32)(w2c_j0);
 w2c_j0 = i64_load(instance, LIMIT, (u64)(w2c_i0), 0);
 w2c_j1 = 0ull;
 w2c_i0 = w2c_j0 != w2c_j1;
-if (w2c_i0) {goto w2c_B115;}
-w2c_i0 = 0u;
-w2c_l26 = w2c_i0;
-w2c_j0 = w2c_p7;
-w2c_j1 = 301ull;
-w2c_j0 += w2c_j1;
-w2c_i0 = (u32)(w2c_j0);
-w2c_i1 = 0u;
-i32_store8(instance, LIMIT, (u64)(w2c_i0), 0, w2c_i1);
-goto w2c_B0;
-w2c_B115:;
-w2c_j0 = w2c_l8;
-w2c_j1 = 8ull;
-w2c_j0 += w2c_j1;
-w2c_j1 = w2c_p0;
-w2c_j2 = w2c_l10;
-w2c_f19(instance, w2c_j0, w2c_j1, w2c_j2);
-w2c_j0 = w2c_l8;
-w2c_i0 = (u32)(w2c_j0);
-w2c_i0 = i32_load8_u(instance, LIMIT, (u64)(w2c_i0), 8);
-w2c_i1 = 1u;
-w2c_i0 &= w2c_i1;
 if (w2c_i0) {goto w2c_B116;}
 w2c_i0 = 0u;
 w2c_l26 = w2c_i0;
@@ -47063,8 +48654,28 @@ i32_store8(instance, LIMIT, (u64)(w2c_i0), 0, w2c_i1);
 goto w2c_B0;
 w2c_B116:;
 w2c_j0 = w2c_l8;
+w2c_j1 = w2c_p0;
+w2c_j2 = w2c_l10;
+w2c_f21(instance, w2c_j0, w2c_j1, w2c_j2);
+w2c_j0 = w2c_l8;
 w2c_i0 = (u32)(w2c_j0);
-w2c_i0 = i32_load8_u(instance, LIMIT, (u64)(w2c_i0), 9);
+w2c_i0 = i32_load8_u(instance, LIMIT, (u64)(w2c_i0), 0);
+w2c_i1 = 1u;
+w2c_i0 &= w2c_i1;
+if (w2c_i0) {goto w2c_B117;}
+w2c_i0 = 0u;
+w2c_l26 = w2c_i0;
+w2c_j0 = w2c_p7;
+w2c_j1 = 301ull;
+w2c_j0 += w2c_j1;
+w2c_i0 = (u32)(w2c_j0);
+w2c_i1 = 0u;
+i32_store8(instance, LIMIT, (u64)(w2c_i0), 0, w2c_i1);
+goto w2c_B0;
+w2c_B117:;
+w2c_j0 = w2c_l8;
+w2c_i0 = (u32)(w2c_j0);
+w2c_i0 = i32_load8_u(instance, LIMIT, (u64)(w2c_i0), 1);
 w2c_l26 = w2c_i0;
 w2c_j0 = w2c_p7;
 w2c_j1 = 301ull;
@@ -47095,7 +48706,7 @@ i32_store8(instance, LIMIT, (u64)(w2c_i0), 0, w2c_i1);
 w2c_i0 = 0u;
 w2c_l26 = w2c_i0;
 goto w2c_B0;
-w2c_B111:;
+w2c_B112:;
 w2c_i0 = 29u;
 w2c_i1 = w2c_p1;
 w2c_i2 = 255u;
@@ -47201,7 +48812,7 @@ w2c_i0 = (u32)(w2c_j0);
 w2c_j1 = w2c_l8;
 w2c_i1 = (u32)(w2c_j1);
 w2c_j1 = i64_load(instance, LIMIT, (u64)(w2c_i1), 152);
-w2c_l11 = w2c_j1;
+w2c_l13 = w2c_j1;
 i64_store(instance, LIMIT, (u64)(w2c_i0), 24, w2c_j1);
 w2c_j0 = w2c_p5;
 w2c_i0 = (u32)(w2c_j0);
@@ -47227,41 +48838,41 @@ i64_store(instance, LIMIT, (u64)(w2c_i0), 0, w2c_j1);
 w2c_j0 = w2c_p7;
 w2c_j1 = 0ull;
 w2c_i0 = w2c_j0 != w2c_j1;
-if (w2c_i0) {goto w2c_B119;}
+if (w2c_i0) {goto w2c_B120;}
 w2c_j0 = w2c_p6;
 w2c_j1 = 0ull;
 w2c_i0 = w2c_j0 == w2c_j1;
-if (w2c_i0) {goto w2c_B121;}
+if (w2c_i0) {goto w2c_B122;}
 w2c_j0 = 64ull;
 w2c_p5 = w2c_j0;
-goto w2c_B120;
-w2c_B121:;
+goto w2c_B121;
+w2c_B122:;
 w2c_j0 = w2c_l9;
 w2c_j1 = 0ull;
 w2c_i0 = w2c_j0 == w2c_j1;
-if (w2c_i0) {goto w2c_B122;}
+if (w2c_i0) {goto w2c_B123;}
 w2c_j0 = 128ull;
 w2c_p5 = w2c_j0;
 w2c_j0 = w2c_l9;
 w2c_p6 = w2c_j0;
-goto w2c_B120;
-w2c_B122:;
-w2c_j0 = w2c_l11;
+goto w2c_B121;
+w2c_B123:;
+w2c_j0 = w2c_l13;
 w2c_i0 = !(w2c_j0);
-if (w2c_i0) {goto w2c_B118;}
+if (w2c_i0) {goto w2c_B119;}
 w2c_j0 = 192ull;
 w2c_p5 = w2c_j0;
-w2c_j0 = w2c_l11;
+w2c_j0 = w2c_l13;
 w2c_p6 = w2c_j0;
-w2c_B120:;
+w2c_B121:;
 w2c_j0 = w2c_p6;
 w2c_j0 = I64_CTZ(w2c_j0);
 w2c_j1 = w2c_p5;
 w2c_j0 |= w2c_j1;
 w2c_j1 = 253ull;
 w2c_i0 = w2c_j0 > w2c_j1;
-if (w2c_i0) {goto w2c_B118;}
-w2c_B119:;
+if (w2c_i0) {goto w2c_B119;}
+w2c_B120:;
 w2c_j0 = w2c_p0;
 w2c_j1 = 144ull;
 w2c_j0 += w2c_j1;
@@ -47272,8 +48883,8 @@ w2c_j2 = w2c_l10;
 w2c_j1 <<= (w2c_j2 & 63);
 w2c_j0 |= w2c_j1;
 w2c_p5 = w2c_j0;
-goto w2c_B117;
-w2c_B118:;
+goto w2c_B118;
+w2c_B119:;
 w2c_j0 = w2c_p0;
 w2c_j1 = 144ull;
 w2c_j0 += w2c_j1;
@@ -47284,7 +48895,7 @@ w2c_j2 = w2c_l10;
 w2c_j1 = I64_ROTL(w2c_j1, w2c_j2);
 w2c_j0 &= w2c_j1;
 w2c_p5 = w2c_j0;
-w2c_B117:;
+w2c_B118:;
 w2c_j0 = w2c_p0;
 w2c_j1 = 144ull;
 w2c_j0 += w2c_j1;
@@ -47497,7 +49108,7 @@ w2c_j1 &= w2c_j2;
 w2c_j0 += w2c_j1;
 w2c_l25 = w2c_j0;
 w2c_i0 = (u32)(w2c_j0);
-w2c_i0 = i32_load8_u(instance, LIMIT, (u64)(w2c_i0) + 14592, 0);
+w2c_i0 = i32_load8_u(instance, LIMIT, (u64)(w2c_i0) + 14760, 0);
 w2c_p1 = w2c_i0;
 w2c_i0 = !(w2c_i0);
 if (w2c_i0) {goto w2c_B12;}
@@ -47505,7 +49116,7 @@ w2c_j0 = w2c_l24;
 w2c_i0 = (u32)(w2c_j0);
 w2c_j1 = w2c_l23;
 w2c_i1 = (u32)(w2c_j1);
-w2c_i1 = i32_load8_u(instance, LIMIT, (u64)(w2c_i1) + 16640, 0);
+w2c_i1 = i32_load8_u(instance, LIMIT, (u64)(w2c_i1) + 16808, 0);
 i32_store8(instance, LIMIT, (u64)(w2c_i0), 0, w2c_i1);
 w2c_j0 = w2c_p3;
 w2c_j1 = 32ull;
@@ -47517,7 +49128,7 @@ w2c_i0 = w2c_i0 != w2c_i1;
 if (w2c_i0) {goto w2c_B11;}
 w2c_j0 = w2c_l25;
 w2c_i0 = (u32)(w2c_j0);
-w2c_i0 = i32_load8_u(instance, LIMIT, (u64)(w2c_i0) + 12544, 0);
+w2c_i0 = i32_load8_u(instance, LIMIT, (u64)(w2c_i0) + 12712, 0);
 w2c_l26 = w2c_i0;
 w2c_j0 = w2c_p3;
 w2c_j1 = 40ull;
@@ -47609,7 +49220,7 @@ w2c_B14:;
 w2c_j0 = w2c_l25;
 w2c_j1 = w2c_p3;
 w2c_i2 = w2c_l26;
-w2c_f53(instance, w2c_j0, w2c_j1, w2c_i2);
+w2c_f54(instance, w2c_j0, w2c_j1, w2c_i2);
 goto w2c_B11;
 w2c_B12:;
 w2c_j0 = w2c_p3;
@@ -47647,7 +49258,7 @@ w2c_i0 &= w2c_i1;
 w2c_i1 = w2c_p1;
 w2c_j1 = (u64)(w2c_i1);
 w2c_i1 = (u32)(w2c_j1);
-w2c_i1 = i32_load8_u(instance, LIMIT, (u64)(w2c_i1) + 16896, 0);
+w2c_i1 = i32_load8_u(instance, LIMIT, (u64)(w2c_i1) + 17064, 0);
 w2c_i0 = w2c_i0 != w2c_i1;
 if (w2c_i0) {goto w2c_B10;}
 w2c_B11:;
@@ -47661,7 +49272,7 @@ goto w2c_B7;
 w2c_B10:;
 w2c_j0 = w2c_p3;
 w2c_i1 = w2c_l26;
-w2c_f54(instance, w2c_j0, w2c_i1);
+w2c_f55(instance, w2c_j0, w2c_i1);
 w2c_j0 = w2c_p3;
 w2c_j1 = 65ull;
 w2c_j0 += w2c_j1;
@@ -47681,7 +49292,7 @@ w2c_j0 = w2c_l8;
 w2c_j1 = 184ull;
 w2c_j0 += w2c_j1;
 w2c_j1 = w2c_p3;
-w2c_f57(instance, w2c_j0, w2c_j1);
+w2c_f58(instance, w2c_j0, w2c_j1);
 w2c_j0 = w2c_p3;
 w2c_j1 = 136ull;
 w2c_j0 += w2c_j1;
@@ -47754,7 +49365,7 @@ w2c_j2 += w2c_j3;
 w2c_j3 = w2c_l8;
 w2c_j4 = 72ull;
 w2c_j3 += w2c_j4;
-w2c_f59(instance, w2c_j0, w2c_j1, w2c_j2, w2c_j3);
+w2c_f60(instance, w2c_j0, w2c_j1, w2c_j2, w2c_j3);
 w2c_j0 = w2c_l8;
 w2c_j1 = 72ull;
 w2c_j0 += w2c_j1;
@@ -47851,7 +49462,7 @@ w2c_i2 = w2c_p1;
 w2c_j3 = w2c_l8;
 w2c_j4 = 128ull;
 w2c_j3 += w2c_j4;
-w2c_f58(instance, w2c_j0, w2c_j1, w2c_i2, w2c_j3);
+w2c_f59(instance, w2c_j0, w2c_j1, w2c_i2, w2c_j3);
 w2c_j0 = w2c_l8;
 w2c_j1 = 128ull;
 w2c_j0 += w2c_j1;
@@ -48001,7 +49612,7 @@ w2c_j2 = w2c_l8;
 w2c_j3 = 16ull;
 w2c_j2 += w2c_j3;
 w2c_j3 = w2c_p7;
-w2c_i0 = w2c_f67(instance, w2c_j0, w2c_j1, w2c_j2, w2c_j3);
+w2c_i0 = w2c_f68(instance, w2c_j0, w2c_j1, w2c_j2, w2c_j3);
 if (w2c_i0) {goto w2c_B8;}
 goto w2c_B7;
 w2c_B9:;
@@ -48102,7 +49713,7 @@ w2c_j1 = 128ull;
 w2c_j0 += w2c_j1;
 w2c_j1 = w2c_l10;
 w2c_j2 = w2c_l11;
-w2c_f13(instance, w2c_j0, w2c_j1, w2c_j2);
+w2c_f15(instance, w2c_j0, w2c_j1, w2c_j2);
 w2c_j0 = w2c_l8;
 w2c_i0 = (u32)(w2c_j0);
 w2c_i0 = i32_load8_u(instance, LIMIT, (u64)(w2c_i0), 146);
@@ -48601,7 +50212,7 @@ w2c_j1 = 8ull;
 w2c_j0 += w2c_j1;
 w2c_j1 = w2c_l9;
 w2c_j2 = w2c_l11;
-w2c_f19(instance, w2c_j0, w2c_j1, w2c_j2);
+w2c_f21(instance, w2c_j0, w2c_j1, w2c_j2);
 w2c_i0 = 0u;
 w2c_p1 = w2c_i0;
 w2c_j0 = w2c_l8;
@@ -48981,7 +50592,7 @@ w2c_j4 = w2c_l4;
 w2c_j5 = 28ull;
 w2c_j4 += w2c_j5;
 w2c_j5 = w2c_p3;
-w2c_i2 = w2c_f11(instance, w2c_j2, w2c_j3, w2c_j4, w2c_j5);
+w2c_i2 = w2c_f13(instance, w2c_j2, w2c_j3, w2c_j4, w2c_j5);
 w2c_i0 = w2c_i2 ? w2c_i0 : w2c_i1;
 w2c_p1 = w2c_i0;
 goto w2c_B0;
@@ -48992,7 +50603,7 @@ w2c_j2 = w2c_l6;
 w2c_i3 = w2c_p1;
 w2c_j3 = (u64)(w2c_i3);
 w2c_j4 = w2c_p3;
-w2c_i0 = w2c_f69(instance, w2c_j0, w2c_j1, w2c_j2, w2c_j3, w2c_j4);
+w2c_i0 = w2c_f70(instance, w2c_j0, w2c_j1, w2c_j2, w2c_j3, w2c_j4);
 w2c_p1 = w2c_i0;
 goto w2c_B0;
 w2c_B4:;
@@ -49008,7 +50619,7 @@ FUNC_EPILOGUE;
 return w2c_i0;
 }
 
-static void w2c_f98(machine *instance, u64 w2c_p0) {
+static void w2c_f100(machine *instance, u64 w2c_p0) {
 FUNC_PROLOGUE;
 u32 w2c_i0, w2c_i1;
 u64 w2c_j0, w2c_j1;
@@ -49021,15 +50632,15 @@ i32_store(instance, LIMIT, (u64)(w2c_i0), 0, w2c_i1);
 w2c_j0 = 0ull;
 w2c_i0 = (u32)(w2c_j0);
 w2c_i1 = 4294967295u;
-i32_store(instance, LIMIT, (u64)(w2c_i0) + 16904, 0, w2c_i1);
+i32_store(instance, LIMIT, (u64)(w2c_i0) + 17072, 0, w2c_i1);
 w2c_j0 = 0ull;
 w2c_i0 = (u32)(w2c_j0);
 w2c_j1 = 0ull;
-i64_store(instance, LIMIT, (u64)(w2c_i0) + 16912, 0, w2c_j1);
+i64_store(instance, LIMIT, (u64)(w2c_i0) + 17080, 0, w2c_j1);
 FUNC_EPILOGUE;
 }
 
-static void w2c_f99(machine *instance, u64 w2c_p0, u64 w2c_p1, u64 w2c_p2, u64 w2c_p3, u64 w2c_p4) {
+static void w2c_f101(machine *instance, u64 w2c_p0, u64 w2c_p1, u64 w2c_p2, u64 w2c_p3, u64 w2c_p4) {
 u32 w2c_l5 = 0;
 u64 w2c_l6 = 0, w2c_l7 = 0;
 FUNC_PROLOGUE;
@@ -49073,7 +50684,7 @@ w2c_l6 = w2c_j0;
 w2c_i0 = w2c_l5;
 if (w2c_i0) {goto w2c_B1;}
 w2c_j0 = w2c_p3;
-w2c_j0 = w2c_f100(instance, w2c_j0);
+w2c_j0 = w2c_f102(instance, w2c_j0);
 w2c_l6 = w2c_j0;
 w2c_B1:;
 w2c_j0 = w2c_p0;
@@ -49096,7 +50707,7 @@ w2c_i0 = (u32)(w2c_j0);
 w2c_j1 = w2c_l6;
 w2c_j2 = 16ull;
 w2c_j1 += w2c_j2;
-w2c_j2 = 16928ull;
+w2c_j2 = 17096ull;
 w2c_i3 = w2c_l5;
 w2c_j1 = w2c_i3 ? w2c_j1 : w2c_j2;
 i64_store(instance, LIMIT, (u64)(w2c_i0), 8, w2c_j1);
@@ -49226,17 +50837,17 @@ i32_store(instance, LIMIT, (u64)(w2c_i0), 0, w2c_i1);
 w2c_j0 = 0ull;
 w2c_i0 = (u32)(w2c_j0);
 w2c_i1 = 4294967295u;
-i32_store(instance, LIMIT, (u64)(w2c_i0) + 16904, 0, w2c_i1);
+i32_store(instance, LIMIT, (u64)(w2c_i0) + 17072, 0, w2c_i1);
 w2c_j0 = 0ull;
 w2c_i0 = (u32)(w2c_j0);
 w2c_j1 = 0ull;
-i64_store(instance, LIMIT, (u64)(w2c_i0) + 16912, 0, w2c_j1);
+i64_store(instance, LIMIT, (u64)(w2c_i0) + 17080, 0, w2c_j1);
 w2c_B2:;
 w2c_Bfunc:;
 FUNC_EPILOGUE;
 }
 
-static u64 w2c_f100(machine *instance, u64 w2c_p0) {
+static u64 w2c_f102(machine *instance, u64 w2c_p0) {
 u32 w2c_l9 = 0, w2c_l10 = 0, w2c_l11 = 0, w2c_l12 = 0, w2c_l13 = 0, w2c_l14 = 0;
 u64 w2c_l1 = 0, w2c_l2 = 0, w2c_l3 = 0, w2c_l4 = 0, w2c_l5 = 0, w2c_l6 = 0, w2c_l7 = 0, w2c_l8 = 0;
 FUNC_PROLOGUE;
@@ -49250,7 +50861,7 @@ w2c_i0 = w2c_j0 > w2c_j1;
 if (w2c_i0) {goto w2c_B0;}
 w2c_j0 = 0ull;
 w2c_i0 = (u32)(w2c_j0);
-w2c_j0 = i64_load(instance, LIMIT, (u64)(w2c_i0) + 16944, 0);
+w2c_j0 = i64_load(instance, LIMIT, (u64)(w2c_i0) + 17112, 0);
 w2c_l2 = w2c_j0;
 w2c_j1 = 0ull;
 w2c_i0 = w2c_j0 != w2c_j1;
@@ -49262,16 +50873,16 @@ w2c_j1 = (u64)(w2c_i1);
 w2c_j2 = 16ull;
 w2c_j1 <<= (w2c_j2 & 63);
 w2c_l1 = w2c_j1;
-i64_store(instance, LIMIT, (u64)(w2c_i0) + 16952, 0, w2c_j1);
+i64_store(instance, LIMIT, (u64)(w2c_i0) + 17120, 0, w2c_j1);
 w2c_j0 = 0ull;
 w2c_i0 = (u32)(w2c_j0);
-w2c_j1 = 16960ull;
+w2c_j1 = 17136ull;
 w2c_j2 = 15ull;
 w2c_j1 += w2c_j2;
 w2c_j2 = 18446744073709551600ull;
 w2c_j1 &= w2c_j2;
 w2c_l2 = w2c_j1;
-i64_store(instance, LIMIT, (u64)(w2c_i0) + 16944, 0, w2c_j1);
+i64_store(instance, LIMIT, (u64)(w2c_i0) + 17112, 0, w2c_j1);
 w2c_j0 = w2c_l1;
 w2c_j1 = w2c_l2;
 w2c_i0 = w2c_j0 <= w2c_j1;
@@ -49293,19 +50904,19 @@ w2c_i1 += w2c_i2;
 i32_store(instance, LIMIT, (u64)(w2c_i0), 0, w2c_i1);
 w2c_j0 = 0ull;
 w2c_i0 = (u32)(w2c_j0);
-w2c_j0 = i64_load(instance, LIMIT, (u64)(w2c_i0) + 16944, 0);
+w2c_j0 = i64_load(instance, LIMIT, (u64)(w2c_i0) + 17112, 0);
 w2c_l2 = w2c_j0;
 goto w2c_B1;
 w2c_B2:;
 w2c_j0 = 0ull;
 w2c_i0 = (u32)(w2c_j0);
 w2c_j1 = w2c_l2;
-i64_store(instance, LIMIT, (u64)(w2c_i0) + 16952, 0, w2c_j1);
+i64_store(instance, LIMIT, (u64)(w2c_i0) + 17120, 0, w2c_j1);
 w2c_B1:;
 w2c_j0 = w2c_l2;
 w2c_j1 = 0ull;
 w2c_i1 = (u32)(w2c_j1);
-w2c_j1 = i64_load(instance, LIMIT, (u64)(w2c_i1) + 16912, 0);
+w2c_j1 = i64_load(instance, LIMIT, (u64)(w2c_i1) + 17080, 0);
 w2c_l3 = w2c_j1;
 w2c_j2 = w2c_l3;
 w2c_i2 = !(w2c_j2);
@@ -49343,15 +50954,15 @@ w2c_j0 <<= (w2c_j1 & 63);
 w2c_l6 = w2c_j0;
 w2c_j0 = 0ull;
 w2c_i0 = (u32)(w2c_j0);
-w2c_i0 = i32_load(instance, LIMIT, (u64)(w2c_i0) + 16904, 0);
+w2c_i0 = i32_load(instance, LIMIT, (u64)(w2c_i0) + 17072, 0);
 w2c_l13 = w2c_i0;
 w2c_j0 = 0ull;
 w2c_i0 = (u32)(w2c_j0);
-w2c_j0 = i64_load(instance, LIMIT, (u64)(w2c_i0) + 16952, 0);
+w2c_j0 = i64_load(instance, LIMIT, (u64)(w2c_i0) + 17120, 0);
 w2c_l7 = w2c_j0;
 w2c_j0 = 0ull;
 w2c_i0 = (u32)(w2c_j0);
-w2c_i0 = i32_load8_u(instance, LIMIT, (u64)(w2c_i0) + 16920, 0);
+w2c_i0 = i32_load8_u(instance, LIMIT, (u64)(w2c_i0) + 17088, 0);
 w2c_i1 = 1u;
 w2c_i0 &= w2c_i1;
 w2c_l14 = w2c_i0;
@@ -49574,7 +51185,7 @@ w2c_B13:;
 w2c_j0 = 0ull;
 w2c_i0 = (u32)(w2c_j0);
 w2c_i1 = w2c_l10;
-i32_store(instance, LIMIT, (u64)(w2c_i0) + 16904, 0, w2c_i1);
+i32_store(instance, LIMIT, (u64)(w2c_i0) + 17072, 0, w2c_i1);
 w2c_i0 = w2c_l10;
 w2c_l13 = w2c_i0;
 w2c_B12:;
@@ -49595,7 +51206,7 @@ w2c_j1 = w2c_l7;
 w2c_j2 = w2c_l6;
 w2c_j1 += w2c_j2;
 w2c_l1 = w2c_j1;
-i64_store(instance, LIMIT, (u64)(w2c_i0) + 16952, 0, w2c_j1);
+i64_store(instance, LIMIT, (u64)(w2c_i0) + 17120, 0, w2c_j1);
 w2c_j0 = w2c_l7;
 w2c_i0 = (u32)(w2c_j0);
 w2c_i1 = 0u;
@@ -49616,14 +51227,14 @@ w2c_B3:;
 w2c_j0 = 0ull;
 w2c_i0 = (u32)(w2c_j0);
 w2c_j1 = w2c_l1;
-i64_store(instance, LIMIT, (u64)(w2c_i0) + 16912, 0, w2c_j1);
+i64_store(instance, LIMIT, (u64)(w2c_i0) + 17080, 0, w2c_j1);
 w2c_B0:;
 w2c_j0 = w2c_l1;
 FUNC_EPILOGUE;
 return w2c_j0;
 }
 
-static void w2c_f101(machine *instance, u64 w2c_p0, u64 w2c_p1, u64 w2c_p2) {
+static void w2c_f103(machine *instance, u64 w2c_p0, u64 w2c_p1, u64 w2c_p2) {
 u32 w2c_l4 = 0;
 u64 w2c_l3 = 0;
 FUNC_PROLOGUE;
@@ -49636,7 +51247,7 @@ w2c_j1 = 16ull;
 w2c_i0 = w2c_j0 > w2c_j1;
 if (w2c_i0) {goto w2c_B0;}
 w2c_j0 = w2c_p1;
-w2c_j0 = w2c_f100(instance, w2c_j0);
+w2c_j0 = w2c_f102(instance, w2c_j0);
 w2c_l3 = w2c_j0;
 w2c_B0:;
 w2c_j0 = w2c_p0;
@@ -49659,7 +51270,7 @@ w2c_i0 = (u32)(w2c_j0);
 w2c_j1 = w2c_l3;
 w2c_j2 = 16ull;
 w2c_j1 += w2c_j2;
-w2c_j2 = 16928ull;
+w2c_j2 = 17096ull;
 w2c_i3 = w2c_l4;
 w2c_j1 = w2c_i3 ? w2c_j1 : w2c_j2;
 i64_store(instance, LIMIT, (u64)(w2c_i0), 8, w2c_j1);
@@ -49674,14 +51285,14 @@ u64 w2c_j0, w2c_j1, w2c_j2;
 w2c_j0 = 0ull;
 w2c_i0 = (u32)(w2c_j0);
 w2c_i1 = 1u;
-i32_store8(instance, LIMIT, (u64)(w2c_i0) + 16920, 0, w2c_i1);
+i32_store8(instance, LIMIT, (u64)(w2c_i0) + 17088, 0, w2c_i1);
 w2c_j0 = 0ull;
 w2c_i0 = (u32)(w2c_j0);
 w2c_j1 = w2c_p1;
 w2c_j2 = 18446744073709551600ull;
 w2c_j1 &= w2c_j2;
 w2c_l2 = w2c_j1;
-i64_store(instance, LIMIT, (u64)(w2c_i0) + 16952, 0, w2c_j1);
+i64_store(instance, LIMIT, (u64)(w2c_i0) + 17120, 0, w2c_j1);
 w2c_j0 = 0ull;
 w2c_i0 = (u32)(w2c_j0);
 w2c_j1 = w2c_p0;
@@ -49690,7 +51301,7 @@ w2c_j1 += w2c_j2;
 w2c_j2 = 18446744073709551600ull;
 w2c_j1 &= w2c_j2;
 w2c_p0 = w2c_j1;
-i64_store(instance, LIMIT, (u64)(w2c_i0) + 16944, 0, w2c_j1);
+i64_store(instance, LIMIT, (u64)(w2c_i0) + 17112, 0, w2c_j1);
 w2c_j0 = w2c_l2;
 w2c_j1 = w2c_p0;
 w2c_i0 = w2c_j0 <= w2c_j1;
@@ -49715,13 +51326,13 @@ w2c_B0:;
 w2c_j0 = 0ull;
 w2c_i0 = (u32)(w2c_j0);
 w2c_j1 = w2c_p0;
-i64_store(instance, LIMIT, (u64)(w2c_i0) + 16952, 0, w2c_j1);
+i64_store(instance, LIMIT, (u64)(w2c_i0) + 17120, 0, w2c_j1);
 w2c_Bfunc:;
 FUNC_EPILOGUE;
 }
 
 
-enum { PLACES = 16960, REPORT_OCTETS = 304, OTHER_OCTETS = 608, RUN = 256 };
+enum { PLACES = 17136, REPORT_OCTETS = 304, OTHER_OCTETS = 608, RUN = 256 };
 
 /* So many octets of the caller's, or as many of them as say all that a call asks. */
 static inline size_t at_most(size_t count, size_t most) {
@@ -49907,6 +51518,9 @@ static u32 fault_of(const lapd_config *config) {
     return LAPD_OK;
 }
 
+/* What a null pointer to no octets is taken for. */
+static const uint8_t no_octet = 0;
+
 typedef u32 starts(machine *instance, u64 handle, u64 config);
 
 /* Starts a card or a clock in a machine of its own. */
@@ -49933,14 +51547,20 @@ uint32_t lapd_version(void) {
 }
 
 uint32_t lapd_card_start(lapd_card *card, const lapd_config *config) {
+    if (card == NULL || config == NULL)
+        return LAPD_WRONG_POINTER;
     return start(&card->started, &card->at, config, lapd_card_octets(config), w2c_lapd_card_start);
 }
 
 uint32_t lapd_card_start_frames(lapd_card *card, const lapd_config *config) {
+    if (card == NULL || config == NULL)
+        return LAPD_WRONG_POINTER;
     return start(&card->started, &card->at, config, lapd_card_octets_frames(config), w2c_lapd_card_start_frames);
 }
 
 uint32_t lapd_clock_start(lapd_clock *clock, const lapd_config *config) {
+    if (clock == NULL || config == NULL)
+        return LAPD_WRONG_POINTER;
     return start(&clock->started, &clock->at, config, lapd_clock_octets(config), w2c_lapd_clock_start);
 }
 
@@ -49958,10 +51578,14 @@ static uint32_t finish(bool *started, void **at, uint32_t none, ends *call) {
 }
 
 uint32_t lapd_card_free(lapd_card *card) {
+    if (card == NULL)
+        return LAPD_WRONG_POINTER;
     return finish(&card->started, &card->at, LAPD_NO_CARD, w2c_lapd_card_free);
 }
 
 uint32_t lapd_clock_free(lapd_clock *clock) {
+    if (clock == NULL)
+        return LAPD_WRONG_POINTER;
     return finish(&clock->started, &clock->at, LAPD_NO_CLOCK, w2c_lapd_clock_free);
 }
 
@@ -49975,6 +51599,8 @@ static bool is_exchange(size_t taken, size_t given, size_t steps) {
 uint32_t lapd_exchange(lapd_card *card, uint32_t line, const uint8_t *in, size_t in_length, uint8_t *out, size_t out_length,
                        size_t *steps, lapd_report *report) {
     enum { STEPS = OTHER, IN = OTHER + 16, OUT = IN + RUN };
+    if (card == NULL || (in == NULL && in_length != 0) || (out == NULL && out_length != 0) || steps == NULL || report == NULL)
+        return LAPD_WRONG_POINTER;
     if (!card->started)
         return LAPD_NO_CARD;
     machine *instance = card->at;
@@ -49982,13 +51608,15 @@ uint32_t lapd_exchange(lapd_card *card, uint32_t line, const uint8_t *in, size_t
         return w2c_lapd_exchange(instance, HANDLE, line, IN, 0, OUT, 1, STEPS, REPORT);
     for (;;) {
         size_t from = *steps / 2, run = at_most(in_length - from, RUN), first = *steps % 2, last = first;
-        memcpy(instance->data + IN, in + from, run);
+        if (run != 0)
+            memcpy(instance->data + IN, in + from, run);
         put_size_t(instance, STEPS, &last);
         u32 status = w2c_lapd_exchange(instance, HANDLE, line, IN, run, OUT, run, STEPS, REPORT);
         if (status != LAPD_OK)
             return status;
         get_size_t(instance, STEPS, &last);
-        memcpy(out + from, instance->data + OUT, at_most(last / 2, run));
+        if (run != 0)
+            memcpy(out + from, instance->data + OUT, at_most(last / 2, run));
         *steps = 2 * from + last;
         get_lapd_report(instance, REPORT, report);
         if (lapd_tells(report) || *steps == 2 * in_length)
@@ -49996,7 +51624,35 @@ uint32_t lapd_exchange(lapd_card *card, uint32_t line, const uint8_t *in, size_t
     }
 }
 
+/* What octets say is said by a machine of its own on the stack, as no card is needed. */
+uint32_t lapd_frame_text(const uint8_t *octets, size_t length, uint16_t side, char *text, size_t room) {
+    enum { MOST_OCTETS = 1029, MOST_TEXT = 2176, OCTETS = OTHER, TEXT = OCTETS + 1040, END = TEXT + MOST_TEXT };
+    union {
+        machine own;
+        u8 room[sizeof(machine) + END + BEHIND];
+    } of;
+    machine *instance = &of.own;
+    if (octets == NULL && length == 0)
+        octets = &no_octet;
+    if (octets == NULL || (text == NULL && room != 0))
+        return LAPD_WRONG_POINTER;
+    memset(instance->data, 0, END);
+    instance->octets = END;
+    init_globals(instance);
+    init_memories(instance);
+    memcpy(instance->data + OCTETS, octets, at_most(length, MOST_OCTETS));
+    u32 status = w2c_lapd_frame_text(instance, OCTETS, at_most(length, MOST_OCTETS), side, TEXT, at_most(room, MOST_TEXT));
+    for (size_t i = 0; status == LAPD_OK && i < at_most(room, MOST_TEXT); i++) {
+        text[i] = (char)instance->data[TEXT + i];
+        if (text[i] == 0)
+            break;
+    }
+    return status;
+}
+
 uint32_t lapd_octet(lapd_card *card, uint32_t line, uint8_t octet, lapd_report *report) {
+    if (card == NULL || report == NULL)
+        return LAPD_WRONG_POINTER;
     if (!card->started)
         return LAPD_NO_CARD;
     machine *instance = card->at;
@@ -50008,6 +51664,8 @@ uint32_t lapd_octet(lapd_card *card, uint32_t line, uint8_t octet, lapd_report *
 }
 
 uint32_t lapd_pull(lapd_card *card, uint32_t line, uint8_t *octet, lapd_report *report) {
+    if (card == NULL || octet == NULL || report == NULL)
+        return LAPD_WRONG_POINTER;
     if (!card->started)
         return LAPD_NO_CARD;
     machine *instance = card->at;
@@ -50020,6 +51678,10 @@ uint32_t lapd_pull(lapd_card *card, uint32_t line, uint8_t *octet, lapd_report *
 }
 
 uint32_t lapd_frame(lapd_card *card, uint32_t line, const uint8_t *octets, size_t length, lapd_report *report) {
+    if (octets == NULL && length == 0)
+        octets = &no_octet;
+    if (card == NULL || (octets == NULL && length != 0) || report == NULL)
+        return LAPD_WRONG_POINTER;
     if (!card->started)
         return LAPD_NO_CARD;
     machine *instance = card->at;
@@ -50032,6 +51694,8 @@ uint32_t lapd_frame(lapd_card *card, uint32_t line, const uint8_t *octets, size_
 }
 
 uint32_t lapd_frame_failed(lapd_card *card, uint32_t line, uint8_t cause, lapd_report *report) {
+    if (card == NULL || report == NULL)
+        return LAPD_WRONG_POINTER;
     if (!card->started)
         return LAPD_NO_CARD;
     machine *instance = card->at;
@@ -50043,6 +51707,8 @@ uint32_t lapd_frame_failed(lapd_card *card, uint32_t line, uint8_t cause, lapd_r
 }
 
 uint32_t lapd_next_frame(lapd_card *card, uint32_t line, uint8_t *out, size_t room, size_t *length, lapd_report *report) {
+    if (card == NULL || (out == NULL && room != 0) || length == NULL || report == NULL)
+        return LAPD_WRONG_POINTER;
     if (!card->started)
         return LAPD_NO_CARD;
     machine *instance = card->at;
@@ -50056,6 +51722,8 @@ uint32_t lapd_next_frame(lapd_card *card, uint32_t line, uint8_t *out, size_t ro
 }
 
 uint32_t lapd_next_waiting(lapd_card *card, uint32_t from, uint32_t *line) {
+    if (card == NULL || line == NULL)
+        return LAPD_WRONG_POINTER;
     if (!card->started)
         return LAPD_NO_CARD;
     machine *instance = card->at;
@@ -50067,6 +51735,8 @@ uint32_t lapd_next_waiting(lapd_card *card, uint32_t from, uint32_t *line) {
 }
 
 uint32_t lapd_expire(lapd_card *card, uint32_t line, const lapd_timer *timer, lapd_report *report) {
+    if (card == NULL || timer == NULL || report == NULL)
+        return LAPD_WRONG_POINTER;
     if (!card->started)
         return LAPD_NO_CARD;
     machine *instance = card->at;
@@ -50079,6 +51749,10 @@ uint32_t lapd_expire(lapd_card *card, uint32_t line, const lapd_timer *timer, la
 }
 
 uint32_t lapd_request(lapd_card *card, uint32_t line, uint8_t request, uint8_t service, uint8_t tei, const uint8_t *contents, size_t length, lapd_report *report) {
+    if (contents == NULL && length == 0)
+        contents = &no_octet;
+    if (card == NULL || (contents == NULL && length != 0) || report == NULL)
+        return LAPD_WRONG_POINTER;
     if (!card->started)
         return LAPD_NO_CARD;
     machine *instance = card->at;
@@ -50091,6 +51765,8 @@ uint32_t lapd_request(lapd_card *card, uint32_t line, uint8_t request, uint8_t s
 }
 
 uint32_t lapd_state(lapd_card *card, uint32_t line, uint8_t service, uint8_t tei, uint8_t *state) {
+    if (card == NULL || state == NULL)
+        return LAPD_WRONG_POINTER;
     if (!card->started)
         return LAPD_NO_CARD;
     machine *instance = card->at;
@@ -50102,6 +51778,8 @@ uint32_t lapd_state(lapd_card *card, uint32_t line, uint8_t service, uint8_t tei
 }
 
 uint32_t lapd_next_link(lapd_card *card, uint32_t line, uint8_t *place, lapd_link *link) {
+    if (card == NULL || place == NULL || link == NULL)
+        return LAPD_WRONG_POINTER;
     if (!card->started)
         return LAPD_NO_CARD;
     machine *instance = card->at;
@@ -50115,6 +51793,8 @@ uint32_t lapd_next_link(lapd_card *card, uint32_t line, uint8_t *place, lapd_lin
 }
 
 uint32_t lapd_room(lapd_card *card, uint32_t line, uint8_t service, uint8_t tei, struct lapd_room *room) {
+    if (card == NULL || room == NULL)
+        return LAPD_WRONG_POINTER;
     if (!card->started)
         return LAPD_NO_CARD;
     machine *instance = card->at;
@@ -50126,6 +51806,8 @@ uint32_t lapd_room(lapd_card *card, uint32_t line, uint8_t service, uint8_t tei,
 }
 
 uint32_t lapd_begun(lapd_card *card, uint32_t line, lapd_head *head) {
+    if (card == NULL || head == NULL)
+        return LAPD_WRONG_POINTER;
     if (!card->started)
         return LAPD_NO_CARD;
     machine *instance = card->at;
@@ -50137,6 +51819,8 @@ uint32_t lapd_begun(lapd_card *card, uint32_t line, lapd_head *head) {
 }
 
 uint32_t lapd_heard(lapd_card *card, uint32_t line, lapd_head *head) {
+    if (card == NULL || head == NULL)
+        return LAPD_WRONG_POINTER;
     if (!card->started)
         return LAPD_NO_CARD;
     machine *instance = card->at;
@@ -50148,6 +51832,8 @@ uint32_t lapd_heard(lapd_card *card, uint32_t line, lapd_head *head) {
 }
 
 uint32_t lapd_counters(lapd_card *card, uint32_t line, struct lapd_counters *counters) {
+    if (card == NULL || counters == NULL)
+        return LAPD_WRONG_POINTER;
     if (!card->started)
         return LAPD_NO_CARD;
     machine *instance = card->at;
@@ -50159,6 +51845,8 @@ uint32_t lapd_counters(lapd_card *card, uint32_t line, struct lapd_counters *cou
 }
 
 uint32_t lapd_stored(lapd_card *card, uint32_t *octets) {
+    if (card == NULL || octets == NULL)
+        return LAPD_WRONG_POINTER;
     if (!card->started)
         return LAPD_NO_CARD;
     machine *instance = card->at;
@@ -50170,6 +51858,8 @@ uint32_t lapd_stored(lapd_card *card, uint32_t *octets) {
 }
 
 uint32_t lapd_limit(lapd_card *card, uint32_t *octets) {
+    if (card == NULL || octets == NULL)
+        return LAPD_WRONG_POINTER;
     if (!card->started)
         return LAPD_NO_CARD;
     machine *instance = card->at;
@@ -50181,6 +51871,8 @@ uint32_t lapd_limit(lapd_card *card, uint32_t *octets) {
 }
 
 uint32_t lapd_lines(lapd_card *card, uint32_t *lines) {
+    if (card == NULL || lines == NULL)
+        return LAPD_WRONG_POINTER;
     if (!card->started)
         return LAPD_NO_CARD;
     machine *instance = card->at;
@@ -50192,6 +51884,8 @@ uint32_t lapd_lines(lapd_card *card, uint32_t *lines) {
 }
 
 uint32_t lapd_clock_set_lengths(lapd_clock *clock, uint32_t t200, uint32_t t203, uint32_t t201) {
+    if (clock == NULL)
+        return LAPD_WRONG_POINTER;
     if (!clock->started)
         return LAPD_NO_CLOCK;
     machine *instance = clock->at;
@@ -50200,6 +51894,8 @@ uint32_t lapd_clock_set_lengths(lapd_clock *clock, uint32_t t200, uint32_t t203,
 }
 
 uint32_t lapd_clock_apply(lapd_clock *clock, uint32_t line, const lapd_order *order, uint64_t now) {
+    if (clock == NULL || order == NULL)
+        return LAPD_WRONG_POINTER;
     if (!clock->started)
         return LAPD_NO_CLOCK;
     machine *instance = clock->at;
@@ -50209,6 +51905,8 @@ uint32_t lapd_clock_apply(lapd_clock *clock, uint32_t line, const lapd_order *or
 }
 
 uint32_t lapd_clock_apply_report(lapd_clock *clock, uint32_t line, const lapd_report *report, uint64_t now) {
+    if (clock == NULL || report == NULL)
+        return LAPD_WRONG_POINTER;
     if (!clock->started)
         return LAPD_NO_CLOCK;
     machine *instance = clock->at;
@@ -50218,6 +51916,8 @@ uint32_t lapd_clock_apply_report(lapd_clock *clock, uint32_t line, const lapd_re
 }
 
 uint32_t lapd_clock_due(lapd_clock *clock, uint64_t now, lapd_due *due) {
+    if (clock == NULL || due == NULL)
+        return LAPD_WRONG_POINTER;
     if (!clock->started)
         return LAPD_NO_CLOCK;
     machine *instance = clock->at;
@@ -50229,6 +51929,8 @@ uint32_t lapd_clock_due(lapd_clock *clock, uint64_t now, lapd_due *due) {
 }
 
 uint32_t lapd_clock_next(lapd_clock *clock, uint64_t *moment) {
+    if (clock == NULL || moment == NULL)
+        return LAPD_WRONG_POINTER;
     if (!clock->started)
         return LAPD_NO_CLOCK;
     machine *instance = clock->at;

@@ -19,9 +19,14 @@
  *
  * lapd_memory.h declares the functions of memory.
  *
+ * A null pointer is answered by LAPD_WRONG_POINTER: by lapd.c always, and with a library of the toolchain's where the program
+ * is compiled with -DLAPD_CHECKED, by lapd_checked.h. So compile a program that is not finished yet. A pointer to octets may
+ * be null there if the length behind it is 0.
+ *
  * What the caller promises, and no call can test:
  *
- *  - Each pointer is valid for what it points to, and none is null, also where a length is 0.
+ *  - Each pointer is valid for what it points to. Where null pointers are not answered, as above, none is null, also where a
+ *    length is 0.
  *  - A length is the true number of octets behind its pointer.
  *  - What two arguments of a call point to does not overlap, and neither overlaps what a card or a clock holds: the
  *    proofs take each as a place of its own. Where it could happen by mistake, the call says what to do.
@@ -36,8 +41,8 @@
  * Everything else is tested: each function says by its status what was wrong, and then nothing has changed, neither
  * the card or clock nor what is behind the other pointers (except LAPD_NO_PLACE of lapd_clock_apply_report, and that a
  * link waits for room after LAPD_REFUSED_QUEUE_FULL of lapd_data). Where several things are wrong, the first is told:
- * that there is no card or clock, that the card is of the other kind, the line, the other arguments in their order; a
- * refusal of a request is told last.
+ * that a pointer is null, that there is no card or clock, that the card is of the other kind, the line, the other
+ * arguments in their order; a refusal of a request is told last.
  */
 #ifndef LAPD_H
 #define LAPD_H
@@ -111,18 +116,18 @@ uint32_t lapd_version(void);
 enum {
     LAPD_OK = 0, /* the call did what it says */
 
-    /* A request was refused: the first of these that holds. Nothing has changed. */
-    LAPD_REFUSED_BAD_TEI = 1,       /* the TEI is over 126 (for unit data on the network's side over 127) */
-    LAPD_REFUSED_NO_LINK = 2,       /* the TEI is not on the line (not for assign, nor for unit data to 127) */
+    /* A request was refused: the first of these that holds, and LAPD_REFUSED_WRONG_SIDE before all. Nothing has changed. */
+    LAPD_REFUSED_BAD_TEI = 1,       /* the TEI is over 126 (for disown, and for unit data on the network's side, over 127) */
+    LAPD_REFUSED_NO_LINK = 2,       /* the TEI is not on the line (not for assign, disown, nor unit data to 127) */
     LAPD_REFUSED_WRONG_STATE = 3,   /* the state of the link does not serve the request */
     LAPD_REFUSED_TOO_LONG = 4,      /* the contents are longer than n201 */
     LAPD_REFUSED_QUEUE_FULL = 5,    /* the link's queue is full, or the line's queue of unit data */
     LAPD_REFUSED_POOL_FULL = 6,     /* as many contents wait on the card as it has slots */
-    LAPD_REFUSED_TEI_TAKEN = 7,     /* the TEI is on the line already */
+    LAPD_REFUSED_TEI_TAKEN = 7,     /* the TEI is on the line already; or all are to be disowned, and one is */
     LAPD_REFUSED_TABLE_FULL = 8,    /* the line has as many TEIs as it may have */
     LAPD_REFUSED_CHECK_RUNNING = 9, /* an identity check is running on the line */
     LAPD_REFUSED_CONTROL_FULL = 10, /* no room for one more message of TEI management */
-    LAPD_REFUSED_WRONG_SIDE = 29,   /* only the network's side removes and checks TEIs */
+    LAPD_REFUSED_WRONG_SIDE = 29,   /* only the network's side removes, checks and disowns TEIs */
 
     /* A wrong call. Nothing has changed. */
     LAPD_NO_CARD = 11,       /* no card is there: it was not started, or was freed */
@@ -137,6 +142,7 @@ enum {
                                 little room for a frame */
     LAPD_WRONG_ORDER = 20,   /* an order is none, or a report's number of orders is over 4 */
     LAPD_WRONG_TIME = 21,    /* a moment after LAPD_LATEST, or a timer's length out of range */
+    LAPD_WRONG_POINTER = 30, /* a pointer is null: of lapd.c, and where LAPD_CHECKED is defined */
 
     /* What else can be. */
     LAPD_NO_MEMORY = 22, /* a start was refused memory; what it had taken is given back */
@@ -160,7 +166,7 @@ enum {
     LAPD_BAD_SLOTS = 40,
     LAPD_BAD_N201 = 41,
     LAPD_BAD_N200 = 42,
-    LAPD_BAD_SIDE = 43
+    LAPD_BAD_SIDE = 43 /* of lapd_frame_text, too */
 };
 
 /* ---- The configuration of a card -------------------------------------------------------------------------------- */
@@ -193,12 +199,13 @@ enum {
 };
 
 enum {
-    LAPD_GROUP_TEI = 127,   /* the TEI of all terminals of a line, for unit data that the network's side sends */
+    LAPD_GROUP_TEI = 127,   /* the TEI of all terminals of a line, for unit data of the network's side, and for disown */
     LAPD_MOST_NOTES = 4,    /* no event tells more notes */
     LAPD_MOST_ORDERS = 4,   /* nor gives more orders */
     LAPD_MOST_OCTETS = 260, /* no configuration allows longer contents */
     LAPD_MOST_FRAME = 264,  /* no frame to send has more octets: the greatest n201 and four */
-    LAPD_MOST_LINES = 64    /* no card has more lines */
+    LAPD_MOST_LINES = 64,   /* no card has more lines */
+    LAPD_MOST_TEXT = 592    /* no text of a frame of at most LAPD_MOST_FRAME octets has more, with the 0 at its end */
 };
 
 /* What a note says. Those of a link name its service and TEI. A SABME while the link is up (states 7 and 8) tells
@@ -271,6 +278,22 @@ enum {
  * contents were acknowledged, or given up as the link was released, established anew or taken down. Where more than
  * one that waits has room, a report tells one, the lowest TEI first, and call control before packet; the next reports of
  * the line tell the others, if they still have. A link whose TEI leaves the line waits no longer, and is not told.
+ *
+ * A report is written by the calls that it is handed to, and by these alone: no card keeps its address. It has no pointers, so
+ * a copy tells the same, and stays as it is. While layer 3 reads a report and asks for something meanwhile, its requests take
+ * another one. So nothing is copied:
+ *
+ *     lapd_report came, asked;
+ *     if (lapd_frame(&card, line, frame, length, &came) == LAPD_OK) {
+ *         ... the orders of `came`
+ *         for (const lapd_note *note = came.notes; note < came.notes + came.note_count; note++)
+ *             if (note->note == LAPD_DATA_INDICATION
+ *                 && lapd_data(&card, line, note->service, note->tei, came.contents, came.length, &asked) == LAPD_OK)
+ *                 ... the orders of `asked`, and its notes, which are of the request
+ *     }
+ *
+ * With the same report for both, what was told is gone after the first request: read all of it before, or only answer with
+ * its contents, which lapd_data and lapd_unit copy first.
  */
 typedef struct lapd_report {
     uint8_t note_count;  /* 0 to 4 */
@@ -391,14 +414,15 @@ enum {
     LAPD_BUSY = 8,      /* take no I-frames on the link for now (clause 5.6.6) */
     LAPD_READY = 9,     /* take I-frames again */
     LAPD_DEACTIVATE = 10, /* the line is down: give the link up (annex B, persistent deactivation) */
-    LAPD_DOWN = 11        /* the line is down: give up what waits on it and is of no link (annex B) */
+    LAPD_DOWN = 11,       /* the line is down: give up what waits on it and is of no link (annex B) */
+    LAPD_DISOWN = 12      /* a TEI that is not on the line, or 127 for all: its terminals give it up (clause 5.3.4) */
 };
 
 /* Asks for something at a line; the contents are copied. LAPD_REFUSED_BAD_TEI to LAPD_REFUSED_CONTROL_FULL, or
- * LAPD_REFUSED_WRONG_SIDE, where it is refused. The service is LAPD_CALL or LAPD_PACKET in each, though assign, remove
- * and check are about both, and LAPD_DOWN about the line, which reads no TEI either; the length is 0 except for LAPD_DATA
- * and LAPD_UNIT. The contents lie outside of *report; where they are those of the report itself, ask by lapd_data or
- * lapd_unit. */
+ * LAPD_REFUSED_WRONG_SIDE, where it is refused. The service is LAPD_CALL or LAPD_PACKET in each, though assign, remove,
+ * check and disown are about both, and LAPD_DOWN about the line, which reads no TEI either; the length is 0 except for
+ * LAPD_DATA and LAPD_UNIT. The contents lie outside of *report; where they are those of the report itself, ask by lapd_data
+ * or lapd_unit. */
 LAPD_STATUS lapd_request(lapd_card *card, uint32_t line, uint8_t request, uint8_t service, uint8_t tei,
                          const uint8_t *contents, size_t length, lapd_report *report);
 
@@ -526,6 +550,22 @@ LAPD_STATUS lapd_limit(lapd_card *card, uint32_t *octets);
 /* How many lines the card has. */
 LAPD_STATUS lapd_lines(lapd_card *card, uint32_t *lines);
 
+/* ---- A frame in words ------------------------------------------------------------------------------------------- */
+
+/*
+ * What octets say, without a check, as a side sent them (LAPD_NETWORK or LAPD_USER), for a log: in front of `text`, which ends
+ * with a 0, the first line that `lapdsim frame` prints of them. What is no frame has the line that tells why.
+ *
+ *     sapi 0 tei 64 command i ns 1 nr 2 p 0 info 0801          an I-frame of the user's side
+ *     sapi 0 tei 64 response ua f 1 info -                     UA of the network's side
+ *     frame: bad extension                                     and so: short, undefined, wrong size
+ *
+ * LAPD_WRONG_LENGTH: `length` is over 1,028, or `room` is too small; 64 and twice the length are enough, so LAPD_MOST_TEXT
+ * for each frame that a card takes or gives. LAPD_BAD_SIDE: it is neither side. Nothing is written then. It is of no card, takes
+ * no memory, and may be called at any time; of lapd.c it takes 24 KB of stack.
+ */
+LAPD_STATUS lapd_frame_text(const uint8_t *octets, size_t length, uint16_t side, char *text, size_t room);
+
 /* ---- A clock ---------------------------------------------------------------------------------------------------- */
 
 /* Keeps the timers of all lines of a card, for a caller that has none of its own. It reads no time: each moment is a
@@ -578,6 +618,10 @@ LAPD_STATUS lapd_clock_next(lapd_clock *clock, uint64_t *moment);
 #ifdef __GNUC__
 #pragma GCC diagnostic pop
 #endif
+#endif
+
+#ifdef LAPD_CHECKED
+#include "lapd_checked.h"
 #endif
 
 /* ---- In words and by name: defined here ------------------------------------------------------------------------- */
@@ -636,7 +680,7 @@ LAPD_INLINE_STATUS lapd_request_with(lapd_card *card, uint32_t line, uint8_t req
     uintptr_t at = LAPD_ADDRESS(contents), from = LAPD_ADDRESS(report);
     if (length == 0)
         return lapd_request(card, line, request, service, tei, &nothing, 0, report);
-    if (at < from || at >= from + sizeof *report || length > from + sizeof *report - at)
+    if (contents == LAPD_NULL || at < from || at >= from + sizeof *report || length > from + sizeof *report - at)
         return lapd_request(card, line, request, service, tei, contents, length, report);
     for (size_t i = 0; i < length; i++)
         copy[i] = contents[i];
@@ -681,6 +725,13 @@ LAPD_INLINE_STATUS lapd_check(lapd_card *card, uint32_t line, uint8_t tei, lapd_
     return lapd_request_with(card, line, LAPD_CHECK, LAPD_CALL, tei, LAPD_NULL, 0, report);
 }
 
+/* Tells the terminals that still use a TEI to give it up, or with LAPD_GROUP_TEI all terminals, as after a restart of the
+ * network's side (clause 5.3.4): the TEI is not on the line, or none is, else LAPD_REFUSED_TEI_TAKEN. Nothing is told. Of the
+ * network's side alone: LAPD_REFUSED_WRONG_SIDE. */
+LAPD_INLINE_STATUS lapd_disown(lapd_card *card, uint32_t line, uint8_t tei, lapd_report *report) {
+    return lapd_request_with(card, line, LAPD_DISOWN, LAPD_CALL, tei, LAPD_NULL, 0, report);
+}
+
 /* Layer 3 can take no data of the link for now. */
 LAPD_INLINE_STATUS lapd_busy(lapd_card *card, uint32_t line, uint8_t service, uint8_t tei, lapd_report *report) {
     return lapd_request_with(card, line, LAPD_BUSY, service, tei, LAPD_NULL, 0, report);
@@ -713,6 +764,8 @@ LAPD_INLINE_STATUS lapd_deactivate(lapd_card *card, uint32_t line, uint8_t servi
  */
 LAPD_INLINE_STATUS lapd_line_down(lapd_card *card, uint32_t line, uint8_t *place, lapd_report *report) {
     lapd_link link;
+    if (place == LAPD_NULL || report == LAPD_NULL)
+        return LAPD_WRONG_POINTER;
     uint32_t status = lapd_next_link(card, line, place, &link);
     if (status == LAPD_OK)
         return lapd_deactivate(card, line, link.service, link.tei, report);
@@ -748,6 +801,7 @@ LAPD_INLINE const char *lapd_status_text(uint32_t status) {
     case LAPD_WRONG_LENGTH: return "wrong length";
     case LAPD_WRONG_ORDER: return "wrong order";
     case LAPD_WRONG_TIME: return "wrong time";
+    case LAPD_WRONG_POINTER: return "wrong pointer";
     case LAPD_NO_MEMORY: return "out of memory";
     case LAPD_NO_TIMER: return "no timer";
     case LAPD_NO_PLACE: return "no place";

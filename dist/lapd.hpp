@@ -50,6 +50,12 @@ private:
 
 using octets = span<const uint8_t>;
 
+/// Where a span's octets lie; not null where it has none, as lapd.h asks.
+template <class T> T *at(span<T> of) {
+    static T none = 0;
+    return of.empty() ? &none : of.data();
+}
+
 /// Structs of C that are read as values of this header.
 template <class Raw, class Value> class list {
 public:
@@ -105,6 +111,7 @@ enum class [[nodiscard]] status : uint32_t {
     wrong_length = LAPD_WRONG_LENGTH,
     wrong_order = LAPD_WRONG_ORDER,
     wrong_time = LAPD_WRONG_TIME,
+    wrong_pointer = LAPD_WRONG_POINTER,
     no_memory = LAPD_NO_MEMORY,
     no_timer = LAPD_NO_TIMER,
     no_place = LAPD_NO_PLACE,
@@ -169,6 +176,12 @@ enum class state : uint8_t {
 
 inline const char *text(status of) { return lapd_status_text(static_cast<uint32_t>(of)); }
 inline const char *text(cause of) { return lapd_cause_text(static_cast<uint8_t>(of)); }
+
+/// What octets say, without a check, as a side sent them (LAPD_NETWORK or LAPD_USER): the first line that `lapdsim frame` prints
+/// of them, in front of the room, with a 0 at its end. LAPD_MOST_TEXT is room for each frame of a card.
+inline status frame_text(octets of, uint16_t side, span<char> to) {
+    return static_cast<status>(lapd_frame_text(at(of), of.size(), side, at(to), to.size()));
+}
 
 /// Whether a request was refused.
 constexpr bool is_refusal(status of) {
@@ -278,6 +291,7 @@ public:
     status assign(uint32_t line, uint8_t tei, report &to) { return of(lapd_assign(&card_, line, tei, to.raw())); }
     status remove(uint32_t line, uint8_t tei, report &to) { return of(lapd_remove(&card_, line, tei, to.raw())); }
     status check(uint32_t line, uint8_t tei, report &to) { return of(lapd_check(&card_, line, tei, to.raw())); }
+    status disown(uint32_t line, uint8_t tei, report &to) { return of(lapd_disown(&card_, line, tei, to.raw())); }
     status busy(uint32_t line, service by, uint8_t tei, report &to) {
         return of(lapd_busy(&card_, line, number(by), tei, to.raw()));
     }
@@ -323,12 +337,6 @@ protected:
     ~any_card() { (void)lapd_card_free(&card_); }
     static constexpr status of(uint32_t number) { return static_cast<status>(number); }
     static constexpr uint8_t number(service by) { return static_cast<uint8_t>(by); }
-    /// Where a span's octets lie; not null where it has none, as lapd.h asks.
-    template <class T> static T *at(span<T> of) {
-        static T none = 0;
-        return of.empty() ? &none : of.data();
-    }
-
     lapd_card card_ = LAPD_CARD_NONE;
 };
 

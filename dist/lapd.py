@@ -66,6 +66,7 @@ class Status(enum.IntEnum):
     WRONG_CAUSE = 27
     NO_FRAME = 28
     REFUSED_WRONG_SIDE = 29
+    WRONG_POINTER = 30
     BAD_LINES = 33
     BAD_TERMINALS = 34
     BAD_K = 35
@@ -150,6 +151,7 @@ class Request(enum.IntEnum):
     READY = 9
     DEACTIVATE = 10
     DOWN = 11
+    DISOWN = 12
 
 
 class State(enum.IntEnum):
@@ -240,7 +242,7 @@ _TAKES: Dict[str, List[Any]] = {
     "lapd_clock_start": [_AT, _AT], "lapd_clock_set_lengths": [_AT, _U32, _U32, _U32], "lapd_clock_free": [_AT],
     "lapd_clock_apply_report": [_AT, _U32, _AT, _U64], "lapd_clock_due": [_AT, _U64, _AT], "lapd_clock_next": [_AT, _AT],
     "lapd_status_text": [_U32], "lapd_note_text": [_AT], "lapd_cause_text": [_U8], "lapd_counter_text": [_U32],
-    "lapd_turned": [_U8],
+    "lapd_turned": [_U8], "lapd_frame_text": [_AT, _SIZE, ctypes.c_uint16, _AT, _SIZE],
 }
 _ANSWERS: Dict[str, Any] = {**{f"lapd_{it}_text": ctypes.c_char_p for it in ("status", "note", "cause", "counter")},
                             "lapd_turned": ctypes.c_uint8}
@@ -315,6 +317,14 @@ def _unless(empty: Status, name: str, *words: Any) -> bool:
 def turned(octets: bytes) -> bytes:
     """Each octet with its bits turned round, bit 1 as bit 8: for a controller that has the bit that came first as bit 8."""
     return _octets(octets).translate(_turned())
+
+
+def frame_text(octets: bytes, side: Side = Side.USER) -> str:
+    """What octets say, without a check, as a side sent them: the first line that `lapdsim frame` prints of them."""
+    octets = _octets(octets)
+    text = ctypes.create_string_buffer(2 * len(octets) + 64)
+    _call("lapd_frame_text", octets, len(octets), side, text, len(text))
+    return _text(text.value)
 
 
 @functools.lru_cache(None)
@@ -509,6 +519,10 @@ class AnyCard(_Owner):
 
     def check(self, line: int, tei: int) -> Report:
         return self._ask(line, Request.CHECK, Service.CALL, tei)
+
+    def disown(self, line: int, tei: int) -> Report:
+        """Tells the terminals of a TEI that is not on the line, or with 127 all, to give it up."""
+        return self._ask(line, Request.DISOWN, Service.CALL, tei)
 
     def busy(self, line: int, tei: int, service: Service = Service.CALL) -> Report:
         return self._ask(line, Request.BUSY, service, tei)

@@ -134,7 +134,7 @@ static void line_calls(void) {
 
 static void requests(void) {
     static const uint8_t contents[16] = {0};
-    uint8_t request = (uint8_t)below(14), place = below(4) ? 0 : (uint8_t)below(256);
+    uint8_t request = (uint8_t)below(14), place = below(4) ? 0 : below(4) ? (uint8_t)below(256) : 0xFF;
     size_t length = below(3) ? 0 : below(10);
     switch (below(15)) {
     case 0: CALL(lapd_request, &card, line(), request, service(), tei(), contents, length, &report); break;

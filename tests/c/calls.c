@@ -356,7 +356,7 @@ static uint32_t disowns_all(const lapd_config basic) {
 
 static void disowns(uint32_t line, const uint8_t *frame) {
     if (report.cause == LAPD_TEI && frame[0] >> 2 != 63 && frame[1] >> 1 != LAPD_GROUP_TEI)
-        (void)!lapd_disown(&card, line, frame[1] >> 1, &report);
+        (void)!carried_out(line, lapd_disown(&card, line, frame[1] >> 1, &report));
 }
 
 /* A frame that is dropped, since its TEI is on no line; whether that is disowned. */

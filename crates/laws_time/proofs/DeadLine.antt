@@ -86,11 +86,11 @@ module _ (c : Config) (lengths : Lengths) (late number : ℕ) (ranged : IsInRang
   abbrev H : LinkTimer → List Event → Clock → (ℕ → Type 0) → Type 0
   H timer events clock P = Holds c lengths late number ranged within service tei timer events clock P
 
-  abbrev D2 : List Event → ℕ → Type 0
-  D2 events m = Due200 c.n200 lengths.t200 late first all (o_at events).state (o_at events).expiries m
+  abbrev DueAt200 : List Event → ℕ → Type 0
+  DueAt200 events m = Due200 c.n200 lengths.t200 late first all (o_at events).state (o_at events).expiries m
 
-  abbrev D3 : ℕ → Type 0
-  D3 m = Due203 c.n200 lengths.t200 late first all m
+  abbrev DueAt203 : ℕ → Type 0
+  DueAt203 m = Due203 c.n200 lengths.t200 late first all m
 
   -- Its TEI stays on the line.
   on-now : (events : List Event) (t : TimedCard) → G events t → is_some (state number service tei t.card) ≡ true → is_on tei (view_of c service tei number events).teis ≡ true
@@ -104,7 +104,7 @@ module _ (c : Config) (lengths : Lengths) (late number : ℕ) (ranged : IsInRang
 
   -- An event at another line.
   other-waits : (events : List Event) (t u : TimedCard) (told : List Note) → W events t told → S events u → (e : Event) → (e.line == number) ≡ false → G (events ++ e ∷ []) (with_event e u) → OnAfter events e
-      → H T200 events u.clock (D2 events) → H T203 events u.clock D3 → W (events ++ e ∷ []) (with_event e u) (told ++ news_in of_frames service tei number (Some e) u.card)
+      → H T200 events u.clock (DueAt200 events) → H T203 events u.clock DueAt203 → W (events ++ e ∷ []) (with_event e u) (told ++ news_in of_frames service tei number (Some e) u.card)
   other-waits events t u told w s e other g on h200 h203 =
       let m : Moment = record { card = runs_of.after_all (cards.fresh c) events; event = e; answer = answer e (runs_of.after_all (cards.fresh c) events) } in
       let same : o_at (events ++ e ∷ []) ≡ o_at events =
@@ -117,13 +117,13 @@ module _ (c : Config) (lengths : Lengths) (late number : ℕ) (ranged : IsInRang
             ∙ ap (λ ns. ns ++ owed service tei (o_at (events ++ e ∷ [])).state) (append-nil told) ∙ ap (λ (o : Observed). told ++ owed service tei o.state) same ∙ w.told_is;
         wait = λ up. w.wait (ap (λ (o : Observed). nat_le 7 o.state) (sym same) ∙ up);
         t200 = subst (λ (o : Observed). H T200 (events ++ e ∷ []) (with_event e u).clock (λ m. Due200 c.n200 lengths.t200 late first all o.state o.expiries m)) (sym same)
-            (other-line c lengths late number ranged within service tei events u s (D2 events) e T200 other h200);
-        t203 = other-line c lengths late number ranged within service tei events u s D3 e T203 other h203;
+            (other-line c lengths late number ranged within service tei events u s (DueAt200 events) e T200 other h200);
+        t203 = other-line c lengths late number ranged within service tei events u s DueAt203 e T203 other h203;
       }
 
   -- An event, at one or the other.
   event-waits : (events : List Event) (t u : TimedCard) (told : List Note) → W events t told → S events u → (e : Event) → G (events ++ e ∷ []) (with_event e u) → OnAfter events e
-      → ((e.line == number) ≡ false → H T200 events u.clock (D2 events) × H T203 events u.clock D3)
+      → ((e.line == number) ≡ false → H T200 events u.clock (DueAt200 events) × H T203 events u.clock DueAt203)
       → ((e.line == number) ≡ true → G (events ++ at number e.what ∷ []) (with_event (at number e.what) u) → OnAfter events (at number e.what)
       → W (events ++ at number e.what ∷ []) (with_event (at number e.what) u) (told ++ news_in of_frames service tei number (Some (at number e.what)) u.card))
       → W (events ++ e ∷ []) (with_event e u) (told ++ news_in of_frames service tei number (Some e) u.card)
@@ -151,11 +151,11 @@ module _ (c : Config) (lengths : Lengths) (late number : ℕ) (ranged : IsInRang
     based : S events u
     based = record { card = w.goes.stands.card; all = w.goes.stands.all; lengths_are = w.goes.stands.lengths_are }
 
-    drop-200 : (is_of number (timers.T200 service tei) x ≡ false) → H T200 events u.clock (D2 events)
-    drop-200 other run = dropped-holds c lengths late number ranged within service tei (D2 events) events t x is T200 other (w.t200 run)
+    drop-200 : (is_of number (timers.T200 service tei) x ≡ false) → H T200 events u.clock (DueAt200 events)
+    drop-200 other run = dropped-holds c lengths late number ranged within service tei (DueAt200 events) events t x is T200 other (w.t200 run)
 
-    drop-203 : (is_of number (timers.T203 service tei) x ≡ false) → H T203 events u.clock D3
-    drop-203 other run = dropped-holds c lengths late number ranged within service tei D3 events t x is T203 other (w.t203 run)
+    drop-203 : (is_of number (timers.T203 service tei) x ≡ false) → H T203 events u.clock DueAt203
+    drop-203 other run = dropped-holds c lengths late number ranged within service tei DueAt203 events t x is T203 other (w.t203 run)
 
     by-line : (its : Timer) → (x.line == number) ≡ false → is_of number its x ≡ false
     by-line its other = ap (λ b. b && is_same x.timer its) other

@@ -1,5 +1,6 @@
 -- How a deframer's fields follow the bits of an open gap: octets are put together and kept.
-use Rattle.lapd_bits.proofs.Vocabulary.{◌≡◌, ◌≢◌, ℕ, ◌-◌, ◌^◌, ◌<◌, ◌≤◌, Bool, true, false, List, [], ◌∷◌, ◌++◌, length, take, Option, Some, None, is_some, nat_lt, refl, ap, sym, ◌∙◌, arith, length-append, lt-ltb, le-ltb, ltb-true, ltb-false, eq-eqb, ne_eqb, false_from_ne_true, take-append-le, take-take, All-nil, take-length, bits, low_bits, same_bits, is_good, HoldsDivision, Event, overlong, dropped, is_short, judged, flag_front, closing_event, Keeps, Assembles, Ragged, Short, Fcs, length-low_bits, bits-push, same_from_low_bits, same_from_test}
+use Rattle.lapd_bits.proofs.Vocabulary.{◌≡◌, ◌≢◌, ℕ, ◌-◌, ◌^◌, ◌<◌, ◌≤◌, Bool, true, false, List, [], ◌∷◌, ◌++◌, length, take, Option, Some, None, is_some, nat_lt, refl, ap, sym, ◌∙◌, arith, length-append, lt-ltb, le-ltb, ltb-true, ltb-false, eq-eqb, ne_eqb, false_from_ne_true, take-append-le, take-take, All-nil, take-length, bits, low_bits, same_bits, is_good, HoldsDivision, Event, overlong}
+use Rattle.lapd_bits.proofs.Vocabulary.{dropped, is_short, judged, flag_front, closing_event, Keeps, Assembles, Ragged, Short, Fcs, length-low_bits, bits-push, same_from_low_bits, same_from_test}
 use Rattle.model_bits.specs.Stream.{frame}
 use Rattle.lapd_bits.proofs.Division.Holds.{HoldsDivision_good}
 

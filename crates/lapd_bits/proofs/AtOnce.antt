@@ -1,5 +1,6 @@
 -- Bits that end nothing go on the open gap all at once.
-use Rattle.lapd_bits.proofs.Vocabulary.{◌≡◌, ℕ, suc, zero, ◌+◌, Bool, true, false, not, List, [], ◌∷◌, ◌++◌, length, reverse, replicate, nat_eq, if◌then◌else◌, min, Option, Some, None, option_map, refl, ap, sym, ◌∙◌, arith, and_parts, eq-eqb, false≢true, reverse-append, reverse-reverse, append_cancel_left, unstuffed, run_of, open_gap, AssemblesIn, HoldsGap, HoldsPast, IsJoined, onto, ends_nothing, Gap, ones_after, ones_after-reverse, unstuffed_after, unstuffed-counted, unstuffed_after-append, reverse_aux-onto, EndsNothing, IsQuiet, quiet}
+use Rattle.lapd_bits.proofs.Vocabulary.{◌≡◌, ℕ, suc, zero, ◌+◌, Bool, true, false, not, List, [], ◌∷◌, ◌++◌, length, reverse, replicate, nat_eq, if◌then◌else◌, min, Option, Some, None, option_map, refl, ap, sym, ◌∙◌, arith, and_parts, eq-eqb, false≢true, reverse-append, reverse-reverse, append_cancel_left, unstuffed, run_of, open_gap, AssemblesIn, HoldsGap, HoldsPast, IsJoined, onto, ends_nothing}
+use Rattle.lapd_bits.proofs.Vocabulary.{Gap, ones_after, ones_after-reverse, unstuffed_after, unstuffed-counted, unstuffed_after-append, reverse_aux-onto, EndsNothing, IsQuiet, quiet}
 use Rattle.lapd_bits.proofs.BitSteps.{open_run, for_open}
 
 pub length-onto : (text past : List Bool) → length (onto text past) ≡ length text + length past

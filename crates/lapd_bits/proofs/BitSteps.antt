@@ -1,5 +1,7 @@
 -- One bit more of a line: what a deframer's fields then stand for, and what the bit ends.
-use Rattle.lapd_bits.proofs.Vocabulary.{◌≡◌, ℕ, ◌+◌, ◌*◌, ◌/◌, ◌^◌, ◌<◌, ◌≤◌, Bool, true, false, List, [], ◌∷◌, ◌++◌, length, drop, reverse, Option, Some, None, option_and_then, IfSome, option_to_list, nat_lt, nat_eq, cond, refl, ap, sym, ◌∙◌, subst, arith, length-append, ◌⊎◌, bit_and, le-ltb, reverse-append, bits, low_bits, same_bits, unstuffed, octets_sent, Event, since_flag, has_abort, gap_event, room_for, heard_at, heard_until, flag_front, closing_event, event_in, closed_event, run_of, open_gap, kept_count, octets_held, IsYoung, with_bits, KeepsIn, HoldsGap, Gap, Ended, length-bits, length-low_bits, reverse-bits_push, latest_ones, latest_ones-below, run_of-gap, gap_has_no_flag, NoFlag, NoSix-reverse, front_of_flag, NoSix, reverse_aux-append, reverse_aux-onto}
+use Rattle.lapd_bits.proofs.Vocabulary.{◌≡◌, ℕ, ◌+◌, ◌*◌, ◌/◌, ◌^◌, ◌<◌, ◌≤◌, Bool, true, false, List, [], ◌∷◌, ◌++◌, length, drop, reverse, Option, Some, None, option_and_then, IfSome, option_to_list, nat_lt, nat_eq, cond, refl, ap, sym, ◌∙◌, subst, arith, length-append, ◌⊎◌, bit_and, le-ltb, reverse-append, bits, low_bits, same_bits, unstuffed, octets_sent, Event, since_flag, has_abort}
+use Rattle.lapd_bits.proofs.Vocabulary.{gap_event, room_for, heard_at, heard_until, flag_front, closing_event, event_in, closed_event, run_of, open_gap, kept_count, octets_held, IsYoung, with_bits, KeepsIn, HoldsGap, Gap, Ended, length-bits, length-low_bits, reverse-bits_push, latest_ones, latest_ones-below, run_of-gap, gap_has_no_flag, NoFlag, NoSix-reverse, front_of_flag, NoSix}
+use Rattle.lapd_bits.proofs.Vocabulary.{reverse_aux-append, reverse_aux-onto}
 use Rattle.std.proofs.lemmas.List.{append-nil}
 use Rattle.lapd_bits.specs.declared.ended.Ended.TheVariants as ended
 use Rattle.lapd_bits.proofs.Division.Holds.{low_bits-next}

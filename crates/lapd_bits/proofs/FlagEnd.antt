@@ -1,5 +1,6 @@
 -- An octet in which a flag ends: its first bits go on the open gap, which the flag closes; the bits behind begin the next.
-use Rattle.lapd_bits.proofs.Vocabulary.{◌≡◌, ℕ, ◌+◌, ◌-◌, ◌<◌, ◌≤◌, Bool, false, List, [], ◌∷◌, ◌++◌, length, reverse, min, Option, Some, None, IfSome, option_map, option_to_list, refl, ap, sym, ◌∙◌, subst, arith, lt-ltb, low_bits, unstuffed, Event, heard_until, run_of, open_gap, closed_event, KeepsIn, AssemblesIn, HoldsGap, HoldsPast, closing_event, EndsFlag, onto, with_bits, IsFlagEnd, Gap, length-low_bits, ones_after, unstuffed_after, reverse_aux-append, EndsNothing, IsFlag, flag_ends, quiet}
+use Rattle.lapd_bits.proofs.Vocabulary.{◌≡◌, ℕ, ◌+◌, ◌-◌, ◌<◌, ◌≤◌, Bool, false, List, [], ◌∷◌, ◌++◌, length, reverse, min, Option, Some, None, IfSome, option_map, option_to_list, refl, ap, sym, ◌∙◌, subst, arith, lt-ltb, low_bits, unstuffed, Event, heard_until, run_of, open_gap, closed_event, KeepsIn, AssemblesIn, HoldsGap, HoldsPast, closing_event, EndsFlag, onto, with_bits, IsFlagEnd, Gap}
+use Rattle.lapd_bits.proofs.Vocabulary.{length-low_bits, ones_after, unstuffed_after, reverse_aux-append, EndsNothing, IsFlag, flag_ends, quiet}
 use Rattle.lapd_bits.proofs.BitSteps.{closed_told}
 use Rattle.lapd_bits.proofs.AtOnce.{EndsNothing-by_test, joined, run-after, stays-after, length-onto, reverse-onto, HoldsGap-joined}
 

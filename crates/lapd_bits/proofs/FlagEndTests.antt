@@ -1,5 +1,6 @@
 -- Each octet in which a flag ends is tested by computing, after each number of 1s before it.
-use Rattle.lapd_bits.proofs.Vocabulary.{◌≡◌, ℕ, ◌+◌, ◌-◌, ◌*◌, ◌/◌, ◌%◌, ◌^◌, ◌<◌, ◌≤◌, Bool, true, false, not, ◌&&◌, ◌||◌, [], ◌∷◌, ◌++◌, Option, Some, map, range_with_len, replicate, nat_eq, nat_le, refl, ap, sym, subst, ◌∙◌, arith, and_parts, eq-eqb, eqb-true, leb-true, pow_below, pow_pos, shr_lt, one-mul, mod-eq_of_lt, low_bits, same_bits, same_from_test, unstuffed, run_of, with_bits, ends_nothing, fives, IsFlagEnd}
+use Rattle.lapd_bits.proofs.Vocabulary.{◌≡◌, ℕ, ◌+◌, ◌-◌, ◌*◌, ◌/◌, ◌%◌, ◌^◌, ◌<◌, ◌≤◌, Bool, true, false, not, ◌&&◌, ◌||◌, [], ◌∷◌, ◌++◌, Option, Some, map, range_with_len, replicate, nat_eq, nat_le, refl, ap, sym, subst, ◌∙◌, arith, and_parts, eq-eqb, eqb-true, leb-true, pow_below, pow_pos, shr_lt, one-mul, mod-eq_of_lt, low_bits, same_bits, same_from_test, unstuffed, run_of, with_bits}
+use Rattle.lapd_bits.proofs.Vocabulary.{ends_nothing, fives, IsFlagEnd}
 use Rattle.std.specs.Int.{leading_ones, w8}
 use Rattle.std.specs.Prelude.{SomeIff}
 use lib.Count.{count_leading_zeros}

@@ -1,5 +1,6 @@
 -- An octet of a line of flags brings nothing, and leaves the open gap as it was.
-use Rattle.lapd_bits.proofs.Vocabulary.{◌≡◌, ℕ, suc, zero, ◌+◌, ◌-◌, ◌<◌, Bool, true, false, ◌&&◌, List, [], ◌∷◌, ◌++◌, length, min, take, drop, replicate, get_or, same_bits, same_from_test, nat_eq, nat_lt, Option, Some, None, option_map, option_to_list, refl, ap, sym, ◌∙◌, subst, arith, append-nil, and_parts, eqb-true, lt-ltb, low_bits, heard_until, run_of, open_gap, closed_event, flag_front, HoldsGap, HoldsPast, onto, with_bits, ends_nothing, Gap, IDLE, latest_ones, ones_after, reverse_aux-append, IsFlag, flag_ends, quiet}
+use Rattle.lapd_bits.proofs.Vocabulary.{◌≡◌, ℕ, suc, zero, ◌+◌, ◌-◌, ◌<◌, Bool, true, false, ◌&&◌, List, [], ◌∷◌, ◌++◌, length, min, take, drop, replicate, get_or, same_bits, same_from_test, nat_eq, nat_lt, Option, Some, None, option_map, option_to_list, refl, ap, sym, ◌∙◌, subst, arith, append-nil, and_parts, eqb-true, lt-ltb, low_bits, heard_until, run_of, open_gap, closed_event, flag_front}
+use Rattle.lapd_bits.proofs.Vocabulary.{HoldsGap, HoldsPast, onto, with_bits, ends_nothing, Gap, IDLE, latest_ones, ones_after, reverse_aux-append, IsFlag, flag_ends, quiet}
 use Rattle.lapd_bits.proofs.AtOnce.{EndsNothing-by_test, length-onto}
 use Rattle.lapd_bits.proofs.BitSteps.{open_run}
 use Rattle.lapd_bits.proofs.Tested.{all_pass}

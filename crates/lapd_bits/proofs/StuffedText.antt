@@ -1,5 +1,6 @@
 -- A stuffed text as it is made: bits are put after it, and its octets go into the buffer.
-use Rattle.lapd_bits.proofs.Vocabulary.{◌≡◌, ℕ, zero, suc, ◌+◌, ◌*◌, ◌^◌, ◌<◌, Bool, List, [], ◌∷◌, ◌++◌, ◌≤◌, length, take, drop, drop-cons, get_or, get_or-drop, refl, ap, sym, subst, ◌∙◌, arith, append_assoc, append-nil, length-take, take-add, get_or-take, take-set_at, drop_all, drop-drop, take-append-drop, first_chunks, slice_set, from_le_bytes, w32, low_bits, bits, last_ones, text_after, Goes, waits, made, StuffedText, bits-append, bits-push}
+use Rattle.lapd_bits.proofs.Vocabulary.{◌≡◌, ℕ, zero, suc, ◌+◌, ◌*◌, ◌^◌, ◌<◌, Bool, List, [], ◌∷◌, ◌++◌, ◌≤◌, length, take, drop, drop-cons, get_or, get_or-drop, refl, ap, sym, subst, ◌∙◌, arith, append_assoc, append-nil, length-take, take-add, get_or-take, take-set_at, drop_all, drop-drop, take-append-drop, first_chunks, slice_set, from_le_bytes, w32, low_bits, bits, last_ones, text_after, Goes}
+use Rattle.lapd_bits.proofs.Vocabulary.{waits, made, StuffedText, bits-append, bits-push}
 use Rattle.std.proofs.Common.{length-drop}
 use Rattle.lapd_bits.proofs.Joining.{above_bits}
 use Rattle.lapd_bits.proofs.StuffingAtOnce.{text_after-none, last_ones_few}

@@ -1,6 +1,7 @@
 -- Unstuffing that runs on into a closing flag: a receiver takes the flag's first seven bits in before its
 -- last bit tells that they are a flag.
-use Rattle.lapd_bits.proofs.Vocabulary.{◌≡◌, refl, ◌+◌, ◌↔◌, ℕ, ◌<◌, ◌≤◌, Bool, true, false, List, [], ◌∷◌, ◌++◌, Some, ap, sym, ◌∙◌, subst, arith, ⊎_elim, append_assoc, length, ◌*◌, drop, None, cond, length-append, cases_Bool, false≢true, lt-ltb, le-ltb, cases_lt, drop_at, append_cancel_right, bits, same_bits, stuffed, unstuffed, octets_sent, AreOctets, flag_front, ones_after, unstuffed_after, NoSix, unstuffed-counted, ones_after-append, unstuffed_after-append, ones_after-unstuffed_after, ones_after-stuffed, stuffed-unstuffed, unstuffed-stuffed, octets_are_those_sent, none_where_none_sent, length-bits, same_from_test, same_bits_self}
+use Rattle.lapd_bits.proofs.Vocabulary.{◌≡◌, refl, ◌+◌, ◌↔◌, ℕ, ◌<◌, ◌≤◌, Bool, true, false, List, [], ◌∷◌, ◌++◌, Some, ap, sym, ◌∙◌, subst, arith, ⊎_elim, append_assoc, length, ◌*◌, drop, None, cond, length-append, cases_Bool, false≢true, lt-ltb, le-ltb, cases_lt, drop_at, append_cancel_right, bits, same_bits, stuffed, unstuffed, octets_sent, AreOctets, flag_front, ones_after, unstuffed_after}
+use Rattle.lapd_bits.proofs.Vocabulary.{NoSix, unstuffed-counted, ones_after-append, unstuffed_after-append, ones_after-unstuffed_after, ones_after-stuffed, stuffed-unstuffed, unstuffed-stuffed, octets_are_those_sent, none_where_none_sent, length-bits, same_from_test, same_bits_self}
 
 -- a flag without its first bit and its last
 abbrev pub six_ones : List Bool

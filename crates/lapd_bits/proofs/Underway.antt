@@ -1,5 +1,6 @@
 -- Bits are stuffed one 0 after the other: what lies below a place is done, and the places above where five 1s begin are known.
-use Rattle.lapd_bits.proofs.Vocabulary.{◌≡◌, ℕ, suc, zero, ◌+◌, ◌-◌, ◌*◌, ◌/◌, ◌%◌, ◌^◌, ◌<◌, ◌≤◌, min, Bool, false, nat_eq, List, [], ◌∷◌, ◌++◌, length, reverse, ap, sym, ◌∙◌, arith, append_assoc, length-append, subst, ⊎_elim, shr-shr, div-mul-add, pow-add, pow_pos, pow_below, bit_at-suc, bit_at_lowest, bit_at-trailing_zeros, div-one, div-add-mod, mod-lt, mod-eq_of_lt, add-mul-mod_self_right, div-le_self, div-mul-le_self, mul-le-mul_left, shr_lt, cases_lt, bit_at, w64, low_bits, first_ones, last_ones, Goes, fives, low_bits-add, low_bits-mod, length-low_bits, stuffed_after, stuffed_after-pays, stuffed_after-at_least}
+use Rattle.lapd_bits.proofs.Vocabulary.{◌≡◌, ℕ, suc, zero, ◌+◌, ◌-◌, ◌*◌, ◌/◌, ◌%◌, ◌^◌, ◌<◌, ◌≤◌, min, Bool, false, nat_eq, List, [], ◌∷◌, ◌++◌, length, reverse, ap, sym, ◌∙◌, arith, append_assoc, length-append, subst, ⊎_elim, shr-shr, div-mul-add, pow-add, pow_pos, pow_below, bit_at-suc, bit_at_lowest, bit_at-trailing_zeros, div-one, div-add-mod, mod-lt, mod-eq_of_lt, add-mul-mod_self_right}
+use Rattle.lapd_bits.proofs.Vocabulary.{div-le_self, div-mul-le_self, mul-le-mul_left, shr_lt, cases_lt, bit_at, w64, low_bits, first_ones, last_ones, Goes, fives, low_bits-add, low_bits-mod, length-low_bits, stuffed_after, stuffed_after-pays, stuffed_after-at_least}
 use lib.Count.{count_trailing_zeros}
 use native.Mathlib.Nat.{pow-suc}
 use Rattle.lapd_bits.proofs.StuffingAtOnce.{Goes-sent, last_ones_few}

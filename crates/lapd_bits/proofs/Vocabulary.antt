@@ -1,5 +1,6 @@
 -- The words with which the proofs of this crate speak, from where they are defined.
-pub use Rattle.std.proofs.Common.{Bool, IfSome, IsTrue, List, None, Option, Some, [], ap, append-nil, append_assoc, arith, bit_and, cond, drop, drop-cons, false, get_or, get_or-drop, get_or-take, if◌then◌else◌, inl, inr, is_some, length, length-append, length-take, map, min, mul-add, mul-one, nat_eq, nat_le, nat_lt, not, option_and_then, option_map, option_to_list, refl, replicate, reverse, rules, subst, suc, sym, take, take-add, true, vec_len, zero, ℕ, ⊎_elim, ◌%◌, ◌&&◌, ◌*◌, ◌++◌, ◌+◌, ◌-◌, ◌/◌, ◌<◌, ◌^◌, ◌||◌, ◌↔◌, ◌∙◌, ◌∷◌, ◌≡◌, ◌≢◌, ◌≤◌, ◌⊎◌}
+pub use Rattle.std.proofs.Common.{Bool, IfSome, IsTrue, List, None, Option, Some, [], ap, append-nil, append_assoc, arith, bit_and, cond, drop, drop-cons, false, get_or, get_or-drop, get_or-take, if◌then◌else◌, inl, inr, is_some, length, length-append, length-take, map, min, mul-add, mul-one, nat_eq, nat_le, nat_lt, not, option_and_then, option_map, option_to_list, refl, replicate, reverse, rules}
+pub use Rattle.std.proofs.Common.{subst, suc, sym, take, take-add, true, vec_len, zero, ℕ, ⊎_elim, ◌%◌, ◌&&◌, ◌*◌, ◌++◌, ◌+◌, ◌-◌, ◌/◌, ◌<◌, ◌^◌, ◌||◌, ◌↔◌, ◌∙◌, ◌∷◌, ◌≡◌, ◌≢◌, ◌≤◌, ◌⊎◌}
 pub use Rattle.std.proofs.Math.Nat.{add-mul-mod_self_right, div-add-mod, div-le_self, div-mul-le_self, div-one, mod-eq_of_lt, mod-le, mod-lt, mul-le-mul_left, one-mul, pow-suc}
 pub use Rattle.std.proofs.Math.Pow.{pow_mono, shr_lt}
 pub use Rattle.std.proofs.Math.Seq.{take-length}

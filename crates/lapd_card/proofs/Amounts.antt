@@ -1,5 +1,6 @@
 -- How many octets a card stores, line by line and port by port, and that they are few.
-use Rattle.lapd_card.proofs.Vocabulary.{◌≡◌, ℕ, ◌+◌, ◌*◌, ◌≤◌, ◌<◌, List, [], ◌∷◌, length, take, get_or, refl, sym, ap, subst, ◌∙◌, arith, Fits, w32, w64, mul-le-mul_left, sum_by_more, sum_by-cons, sum_by, take_all, Config, IsInRange, held_in, octets_of, stored_in, ranges_of, FrameLine, Card, stored, limit, IsReached, reached-sound, stored_within_limit, Store, stored_octets, Held, line_count, FrameStands, HasPast}
+use Rattle.lapd_card.proofs.Vocabulary.{◌≡◌, ℕ, ◌+◌, ◌*◌, ◌≤◌, ◌<◌, List, [], ◌∷◌, length, take, get_or, refl, sym, ap, subst, ◌∙◌, arith, Fits, w32, w64, mul-le-mul_left, sum_by_more, sum_by-cons, sum_by, take_all, Config, IsInRange, held_in, octets_of, stored_in, ranges_of, FrameLine, Card, stored, limit, IsReached, reached-sound, stored_within_limit, Store, stored_octets, Held, line_count}
+use Rattle.lapd_card.proofs.Vocabulary.{FrameStands, HasPast}
 use Rattle.model_line.specs.Line as line
 use Rattle.model_card.specs.ports.Stored as octets
 use Rattle.lapd_card.proofs.OneLine.{Called, lines-all, few-lines}

@@ -1,5 +1,6 @@
 -- A card as it begins.
-use Rattle.lapd_card.proofs.Vocabulary.{◌≡◌, ◌≤◌, List, [], ◌∷◌, map, ◌++◌, length, replicate, refl, sym, ap, subst, ◌∙◌, arith, None, Some, Option, Bool, true, false, if◌then◌else◌, none-some, nat_lt, ◌||◌, or_parts, ltb-false, length-replicate, append-nil, All-nil, All-cons, All, AllByRecursion, flat_map, zip, Config, first_fault, fresh_line, fresh, reached-fresh, Holds, Store, used_slots, Holds-unused, used_slots-held, none_counted, counters_of, FrameLine, pairs_of, held_of, IsFit, owned, IsFresh, AreFresh, FrameStands, is_too_small, start_fault, fault_by, Field, BadConfig, ShelfTooSmall}
+use Rattle.lapd_card.proofs.Vocabulary.{◌≡◌, ◌≤◌, List, [], ◌∷◌, map, ◌++◌, length, replicate, refl, sym, ap, subst, ◌∙◌, arith, None, Some, Option, Bool, true, false, if◌then◌else◌, none-some, nat_lt, ◌||◌, or_parts, ltb-false, length-replicate, append-nil, All-nil, All-cons, All, AllByRecursion, flat_map, zip, Config, first_fault, fresh_line, fresh, reached-fresh, Holds, Store, used_slots}
+use Rattle.lapd_card.proofs.Vocabulary.{Holds-unused, used_slots-held, none_counted, counters_of, FrameLine, pairs_of, held_of, IsFit, owned, IsFresh, AreFresh, FrameStands, is_too_small, start_fault, fault_by, Field, BadConfig, ShelfTooSmall}
 use Rattle.lapd_line.specs.Marks.{AreMarked}
 use Rattle.lapd_line.specs.declared.marks.Marks.{Marks}
 use Rattle.lapd_card.proofs.Waiting.{none_marked_first}

@@ -1,5 +1,6 @@
 -- What is counted over a run.
-use Rattle.lapd_card.proofs.Vocabulary.{arith, ◌≡◌, ℕ, ◌<◌, ◌==◌, cond, List, [], ◌∷◌, ◌++◌, length, length-set, get_or, set, refl, sym, ap, subst, ◌∙◌, eqb-true, eqb-false, get_or-set_same, get_or-set_other, fold-append, Counters, More, none_counted, with_more, with_all, counters_are_numbers, shown, Card, Event, after, Moment, moments, after_all, moment_counted, all_counted, moment_of, shown_at, all_shown, CountersAreNumbers}
+use Rattle.lapd_card.proofs.Vocabulary.{arith, ◌≡◌, ℕ, ◌<◌, ◌==◌, cond, List, [], ◌∷◌, ◌++◌, length, length-set, get_or, set, refl, sym, ap, subst, ◌∙◌, eqb-true, eqb-false, get_or-set_same, get_or-set_other, fold-append, Counters, More, none_counted, with_more, with_all, counters_are_numbers, shown, Card, Event, after, Moment, moments, after_all, moment_counted, all_counted, moment_of, shown_at}
+use Rattle.lapd_card.proofs.Vocabulary.{all_shown, CountersAreNumbers}
 
 -- what is shown at a line is counted there, and at no other
 at_place : (all : List Counters) (line : ℕ) (shows : List More) (number : ℕ) → number < length all

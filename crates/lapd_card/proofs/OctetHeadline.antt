@@ -1,6 +1,7 @@
 -- A law of the machine holds of the events of a list at a card of octets, and of every front of it: of frames it is said of
 -- what they mean.
-use Rattle.lapd_card.proofs.Vocabulary.{arith, ◌≡◌, ℕ, ◌<◌, ◌↔◌, List, take, sym, ap, subst, ◌∙◌, All-map, All-take, All-weaker, All, Config, IsInRange, Refusal, refused_by_the_table, Card, IsSound, ArePriced, frames_by_event, IsAmortised, IsAmortisedFromZero, IsNeverFull, IsNumbered, IsNumberedFromZero, frames_amortised, frames_amortised_from_zero, pool_never_full, deliveries_numbered, Store, OctetCard}
+use Rattle.lapd_card.proofs.Vocabulary.{arith, ◌≡◌, ℕ, ◌<◌, ◌↔◌, List, take, sym, ap, subst, ◌∙◌, All-map, All-take, All-weaker, All, Config, IsInRange, Refusal, refused_by_the_table, Card, IsSound, ArePriced, frames_by_event, IsAmortised, IsAmortisedFromZero, IsNeverFull, IsNumbered, IsNumberedFromZero, frames_amortised, frames_amortised_from_zero, pool_never_full, deliveries_numbered, Store}
+use Rattle.lapd_card.proofs.Vocabulary.{OctetCard}
 use Rattle.model_line.specs.Event as line
 use Rattle.model_card.specs.Card as cards
 use Rattle.model_card.specs.Event as frames

@@ -1,5 +1,7 @@
 -- An event at a card is one at one of its lines.
-use Rattle.lapd_card.proofs.Vocabulary.{arith, if◌then◌else◌, ◌≡◌, ℕ, ◌<◌, ◌-◌, false, List, [], ◌++◌, length, nat_le, refl, sym, ap, subst, ◌∙◌, Some, None, IsSome, Option, Ok, Err, Result, IfOk, IfErr, IfSome, OnOk, OnErr, lt-ltb, append-nil, set-get_or, set, map, flat_map, sum_by, zip, Refusal, Service, none_counted, BareReport, answer_of_request, told_beside, Config, refusal, Request, slots_of, octets_of, Card, line_at, used, is_full, state, Event, at, wants_room, after, refused_by_the_table, IfErr-weaker, moment_counted, Store, used_slots, stored_octets, used_slots-held, stored_octets-held, slots-machines, octets-machines, slots-pairs, octets-pairs, owned_octets, Owned, FrameLine, config_of, Held, counters_of, IsFit, owned, FrameStands, HasPast, Leads, Room, room_in, room, RefusesBy, refuses_by}
+use Rattle.lapd_card.proofs.Vocabulary.{arith, if◌then◌else◌, ◌≡◌, ℕ, ◌<◌, ◌-◌, false, List, [], ◌++◌, length, nat_le, refl, sym, ap, subst, ◌∙◌, Some, None, IsSome, Option, Ok, Err, Result, IfOk, IfErr, IfSome, OnOk, OnErr, lt-ltb, append-nil, set-get_or, set, map, flat_map, sum_by, zip, Refusal, Service, none_counted, BareReport, answer_of_request, told_beside, Config, refusal, Request}
+use Rattle.lapd_card.proofs.Vocabulary.{slots_of, octets_of, Card, line_at, used, is_full, state, Event, at, wants_room, after, refused_by_the_table, IfErr-weaker, moment_counted, Store, used_slots, stored_octets, used_slots-held, stored_octets-held, slots-machines, octets-machines, slots-pairs, octets-pairs, owned_octets, Owned, FrameLine, config_of, Held, counters_of, IsFit, owned, FrameStands}
+use Rattle.lapd_card.proofs.Vocabulary.{HasPast, Leads, Room, room_in, room, RefusesBy, refuses_by}
 use Rattle.lapd_line.specs.Stands as line
 use Rattle.model_bits.specs.Stream as stream
 use Rattle.model_line.specs.Event as line_event

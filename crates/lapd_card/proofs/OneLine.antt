@@ -1,5 +1,6 @@
 -- One line of a card, taken out of its lines and put back.
-use Rattle.lapd_card.proofs.Vocabulary.{◌≡◌, ℕ, ◌≤◌, ◌<◌, List, [], length, refl, sym, ap, subst, ◌∙◌, arith, false, get_or, set, length-set, get_or_default, get_or-map, map, map-set, none_counted, with_all, ranges_of, Config, Owned, Store, SameLimits, FocusPair, focus_pair, held_of, stands_on, FrameLine, config_of, Card, line_at, at, wants_room, moment_counted, reached-after, reached-sound, Held, line_count, counters_of, IsFit, owned, LinesStand, FrameStands, HasPast, Leads}
+use Rattle.lapd_card.proofs.Vocabulary.{◌≡◌, ℕ, ◌≤◌, ◌<◌, List, [], length, refl, sym, ap, subst, ◌∙◌, arith, false, get_or, set, length-set, get_or_default, get_or-map, map, map-set, none_counted, with_all, ranges_of, Config, Owned, Store, SameLimits, FocusPair, focus_pair, held_of, stands_on, FrameLine, config_of, Card, line_at, at, wants_room, moment_counted, reached-after, reached-sound, Held}
+use Rattle.lapd_card.proofs.Vocabulary.{line_count, counters_of, IsFit, owned, LinesStand, FrameStands, HasPast, Leads}
 use Rattle.lapd_line.specs.Stands as line
 use Rattle.model_line.specs.Counted.{shown}
 use Rattle.model_line.specs.Event as line_event

@@ -1,5 +1,6 @@
 -- An event at a card of octets: what it means to the card of frames, and what becomes of its port.
-use Rattle.lapd_card.proofs.Vocabulary.{arith, ◌≡◌, ◌⊎◌, ℕ, ◌<◌, Bool, true, false, List, [], ◌∷◌, ◌++◌, length, refl, sym, ap, subst, ◌∙◌, cond, false≢true, lt-ltb, set, set-get_or, Option, None, Some, IsSome, IfSome, is_some, option_map, option_map_or, option_to_list, Result, Ok, Err, OnErr, All-cons, All-nil, All-head, ShortList, Order, Store, Counters, all_counted, moment_counted, moment_of, Card, line_at, may_send, frames_by_event, reached-sound, Timer, Request, BareReport, Port, PortStands, told_in, told_if, latest_in, latest_frame, with_frame, orders_taken, IsLoaded, IsSaid, Pulls, OctetCard, port_at, counters_in}
+use Rattle.lapd_card.proofs.Vocabulary.{arith, ◌≡◌, ◌⊎◌, ℕ, ◌<◌, Bool, true, false, List, [], ◌∷◌, ◌++◌, length, refl, sym, ap, subst, ◌∙◌, cond, false≢true, lt-ltb, set, set-get_or, Option, None, Some, IsSome, IfSome, is_some, option_map, option_map_or, option_to_list, Result, Ok, Err, OnErr, All-cons, All-nil, All-head, ShortList, Order, Store, Counters, all_counted, moment_counted, moment_of}
+use Rattle.lapd_card.proofs.Vocabulary.{Card, line_at, may_send, frames_by_event, reached-sound, Timer, Request, BareReport, Port, PortStands, told_in, told_if, latest_in, latest_frame, with_frame, orders_taken, IsLoaded, IsSaid, Pulls, OctetCard, port_at, counters_in}
 use Rattle.std.specs.Result.{IsErr, IsErrAnd}
 use Rattle.lapd_bits.specs.Ended.{without_octets}
 use Rattle.lapd_bits.specs.declared.ended.Ended.{Ended}

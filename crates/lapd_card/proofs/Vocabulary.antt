@@ -1,5 +1,6 @@
 -- The words with which the proofs of this crate speak, from where they are defined.
-pub use Rattle.std.proofs.Common.{Bool, Err, Fits, IfErr, IfOk, IsSome, List, None, Ok, OnErr, Option, Result, Some, [], ap, arith, cond, eq-eqb, false, get_or, if◌then◌else◌, inl, inr, is_some, length, length-set, map, nat_le, nat_lt, refl, replicate, rules, set, slice_get, subst, suc, sym, take, true, true≢false, vec_len, w32, w64, zero, ℕ, ◌&&◌, ◌*◌, ◌++◌, ◌+◌, ◌-◌, ◌<◌, ◌==◌, ◌||◌, ◌↔◌, ◌∙◌, ◌∷◌, ◌≡◌, ◌≢◌, ◌≤◌, ◌⊎◌}
+pub use Rattle.std.proofs.Common.{Bool, Err, Fits, IfErr, IfOk, IsSome, List, None, Ok, OnErr, Option, Result, Some, [], ap, arith, cond, eq-eqb, false, get_or, if◌then◌else◌, inl, inr, is_some, length, length-set, map, nat_le, nat_lt, refl, replicate, rules, set, slice_get, subst, suc, sym, take, true, true≢false, vec_len, w32, w64, zero, ℕ, ◌&&◌, ◌*◌, ◌++◌, ◌+◌, ◌-◌, ◌<◌, ◌==◌, ◌||◌, ◌↔◌, ◌∙◌}
+pub use Rattle.std.proofs.Common.{◌∷◌, ◌≡◌, ◌≢◌, ◌≤◌, ◌⊎◌}
 pub use Rattle.std.proofs.Math.Nat.{mul-le-mul_left}
 pub use Rattle.std.proofs.lemmas.Bool.{eqb-false, eqb-true, false≢true, lt-ltb, ltb-false, or_parts}
 pub use Rattle.std.proofs.lemmas.Grind.{flat_map-append}

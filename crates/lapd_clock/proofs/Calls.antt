@@ -1,5 +1,7 @@
 -- What the calls of a clock do to the set that its lines stand for.
-use Rattle.lapd_clock.proofs.Vocabulary.{recursion_from_All, ◌≡◌, ℕ, ◌+◌, ◌^◌, ◌<◌, ◌≤◌, Bool, true, false, cond, not, ◌==◌, nat_le, List, [], ◌∷◌, length, get_or, set, slice_index, Some, None, All, Contains, refl, sym, ap, ◌∙◌, subst, arith, cases_lt, eq-eqb, ne_eqb, none-some, same_Some, get_or-map, map-set, length-set, AllByRecursion, nat_tests, All-from_recursion, length-filter, count_by-le-length, IsInOrder, Timer, Lengths, Start, Stop, duration, Expiry, Timers, is_before, finds_place, with_order, after_first_due, first_due, IsSound, IsLeastDue, Held, Line, held_before, all_but, from_line, in_order, timers_in, IsEachOnce, IsWith, IsStarted, IsLineKept, IsKept, Order, vec_len, vec_capacity, due_at, after_due, first_moment, next_moment, expiry_on, never, earliest, earliest_of}
+use Rattle.lapd_clock.proofs.Vocabulary.{recursion_from_All, ◌≡◌, ℕ, ◌+◌, ◌^◌, ◌<◌, ◌≤◌, Bool, true, false, cond, not, ◌==◌, nat_le, List, [], ◌∷◌, length, get_or, set, slice_index, Some, None, All, Contains, refl, sym, ap, ◌∙◌, subst, arith, cases_lt, eq-eqb, ne_eqb, none-some, same_Some, get_or-map, map-set, length-set, AllByRecursion, nat_tests, All-from_recursion, length-filter}
+use Rattle.lapd_clock.proofs.Vocabulary.{count_by-le-length, IsInOrder, Timer, Lengths, Start, Stop, duration, Expiry, Timers, is_before, finds_place, with_order, after_first_due, first_due, IsSound, IsLeastDue, Held, Line, held_before, all_but, from_line, in_order, timers_in, IsEachOnce, IsWith, IsStarted, IsLineKept, IsKept, Order, vec_len, vec_capacity, due_at, after_due, first_moment}
+use Rattle.lapd_clock.proofs.Vocabulary.{next_moment, expiry_on, never, earliest, earliest_of}
 use Rattle.std.proofs.lemmas.List.Elements as lists
 use Rattle.lapd_clock.proofs.StandsFor.{in_order-stopped, in_order-restarted, count_on-stopped}
 use Rattle.lapd_clock.proofs.Running.{finds_place-without, without-no_place, with_order_sound, after_due_sound, stop_in_time, start_in_time}

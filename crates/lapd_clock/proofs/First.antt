@@ -1,5 +1,6 @@
 -- The first timer of all lines.
-use Rattle.lapd_clock.proofs.Vocabulary.{◌≡◌, ℕ, suc, ◌+◌, ◌<◌, ◌≤◌, false, List, [], ◌∷◌, ◌++◌, length, length-map, replicate, get_or, set, refl, sym, ap, ◌∙◌, subst, arith, inl, inr, cases_lt, cases_order, get_or_default, get_or-map, Ordering, Greater, AllByRecursion, nat_lt, nat_cmp, ordering_then, is_lt, nat_tests, tied_itself, Expiry, is_before, Held, Line, held_before, expiry_on, on_line, from_line, in_order, IsWith, never, earliest, earliest_of, firsts_of}
+use Rattle.lapd_clock.proofs.Vocabulary.{◌≡◌, ℕ, suc, ◌+◌, ◌<◌, ◌≤◌, false, List, [], ◌∷◌, ◌++◌, length, length-map, replicate, get_or, set, refl, sym, ap, ◌∙◌, subst, arith, inl, inr, cases_lt, cases_order, get_or_default, get_or-map, Ordering, Greater, AllByRecursion, nat_lt, nat_cmp, ordering_then, is_lt, nat_tests, tied_itself, Expiry, is_before, Held, Line, held_before, expiry_on, on_line}
+use Rattle.lapd_clock.proofs.Vocabulary.{from_line, in_order, IsWith, never, earliest, earliest_of, firsts_of}
 use Rattle.lapd_clock.proofs.Ordered.{All-append, All-put_in_order, All-from_put_in_order, put_in_order-first}
 use Rattle.lapd_clock.proofs.TimerOrder.{expiry_total}
 use Rattle.lapd_clock.proofs.Knockout.{earliest_least}

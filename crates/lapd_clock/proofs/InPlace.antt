@@ -1,5 +1,6 @@
 -- The timers of one line, in their places.
-use Rattle.lapd_clock.proofs.Vocabulary.{◌≡◌, ℕ, zero, suc, ◌+◌, ◌<◌, ◌≤◌, true, false, cond, not, ◌==◌, List, [], ◌∷◌, ◌++◌, length, get_or, set, take, drop, remove, append-nil, refl, sym, ap, ◌∙◌, arith, All, AllByRecursion, HoldsAt, All-from_recursion, recursion_from_All, nat_tests, set_split, set-get_or, length-remove, eq_by_cmp_equiv, get_or_default, IsFirstBest, IsFirstBest-takes, IsFirstBest-keeps, Timer, is_same, Held, held_before, all_but, IsEachOnce, IsWith}
+use Rattle.lapd_clock.proofs.Vocabulary.{◌≡◌, ℕ, zero, suc, ◌+◌, ◌<◌, ◌≤◌, true, false, cond, not, ◌==◌, List, [], ◌∷◌, ◌++◌, length, get_or, set, take, drop, remove, append-nil, refl, sym, ap, ◌∙◌, arith, All, AllByRecursion, HoldsAt, All-from_recursion, recursion_from_All, nat_tests, set_split, set-get_or, length-remove, eq_by_cmp_equiv, get_or_default, IsFirstBest, IsFirstBest-takes}
+use Rattle.lapd_clock.proofs.Vocabulary.{IsFirstBest-keeps, Timer, is_same, Held, held_before, all_but, IsEachOnce, IsWith}
 use Rattle.lapd_clock.proofs.TimerOrder.{timer_total, held_order}
 
 -- what is not the same as one of two that are the same is not the same as the other

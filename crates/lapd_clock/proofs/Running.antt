@@ -1,5 +1,6 @@
 -- What the calls do to a set of running timers.
-use Rattle.lapd_clock.proofs.Vocabulary.{◌≡◌, ℕ, ◌+◌, ◌<◌, ◌≤◌, Bool, true, false, cond, not, ◌||◌, ◌==◌, nat_lt, nat_le, List, [], ◌∷◌, filter, refl, sym, ap, ◌∙◌, arith, AllByRecursion, false≢true, nat_tests, All-from_recursion, recursion_from_All, put_in_order, Timer, Lengths, AreInRange, Order, Start, Stop, duration, is_same, Expiry, Timers, is_before, is_of, is_held, without, count_on, finds_place, with_order, after_first_due, IsSound, IsOneEach, sum_by-filter_both, All-weaker, filter_passes}
+use Rattle.lapd_clock.proofs.Vocabulary.{◌≡◌, ℕ, ◌+◌, ◌<◌, ◌≤◌, Bool, true, false, cond, not, ◌||◌, ◌==◌, nat_lt, nat_le, List, [], ◌∷◌, filter, refl, sym, ap, ◌∙◌, arith, AllByRecursion, false≢true, nat_tests, All-from_recursion, recursion_from_All, put_in_order, Timer, Lengths, AreInRange, Order, Start, Stop, duration, is_same, Expiry, Timers, is_before, is_of, is_held, without, count_on}
+use Rattle.lapd_clock.proofs.Vocabulary.{finds_place, with_order, after_first_due, IsSound, IsOneEach, sum_by-filter_both, All-weaker, filter_passes}
 use Rattle.lapd_clock.proofs.Ordered.{by_place, IsInOrder-put_in_order, IsInOrder-filter, All-put_in_order, All-filter, count_by-put_in_order, count_by-cons}
 use Rattle.lapd_clock.proofs.TimerOrder.{before_order, is_same_both_ways}
 

@@ -1,5 +1,6 @@
 -- The set that the lines stand for, when the timers of one line change.
-use Rattle.lapd_clock.proofs.Vocabulary.{◌≡◌, ◌≢◌, ℕ, zero, suc, ◌+◌, ◌<◌, Bool, true, false, cond, not, ◌&&◌, ◌==◌, List, [], ◌∷◌, ◌++◌, length, filter, count_by, get_or, set, refl, sym, ap, ◌∙◌, arith, nat_cmp, ordering_then, is_lt, nat_tests, nat_cmp_total, tied_itself, filter-append, sum_by-append, put_in_order, IsInOrder, Timer, timer_cmp, is_same, Expiry, is_before, without, count_on, Held, Line, held_before, all_but, expiry_on, on_line, from_line, in_order, AllByRecursion, append_assoc, set-get_or, IsWith}
+use Rattle.lapd_clock.proofs.Vocabulary.{◌≡◌, ◌≢◌, ℕ, zero, suc, ◌+◌, ◌<◌, Bool, true, false, cond, not, ◌&&◌, ◌==◌, List, [], ◌∷◌, ◌++◌, length, filter, count_by, get_or, set, refl, sym, ap, ◌∙◌, arith, nat_cmp, ordering_then, is_lt, nat_tests, nat_cmp_total, tied_itself, filter-append, sum_by-append, put_in_order, IsInOrder, Timer, timer_cmp, is_same, Expiry, is_before, without, count_on, Held}
+use Rattle.lapd_clock.proofs.Vocabulary.{Line, held_before, all_but, expiry_on, on_line, from_line, in_order, AllByRecursion, append_assoc, set-get_or, IsWith}
 use Rattle.lapd_clock.proofs.Ordered.{All-append, put_in_order-swap, filter-put_in_order, IsInOrder-put_in_order, count_by-put_in_order, count_by-cons}
 use Rattle.lapd_clock.proofs.TimerOrder.{before_order, same_expiry}
 

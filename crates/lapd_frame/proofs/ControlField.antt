@@ -1,6 +1,7 @@
 -- Control fields: what `control_of` finds has that field, and the field of a row is found again.
 use Rattle.lapd_frame.specs.Allowed.{allowed}
-use Rattle.lapd_frame.proofs.Vocabulary.{◌≡◌, ◌≢◌, ℕ, ◌*◌, ◌/◌, ◌%◌, ◌<◌, inl, inr, Bool, true, false, cond, ◌==◌, refl, ap, sym, ◌∙◌, subst, List, [], ◌∷◌, ◌++◌, slice_index, Option, Some, None, arith, eq-eqb, ne_eqb, eqb_tells, Seq, seq, is_seq, Control, Information, ReceiveReady, ReceiveNotReady, Reject, Sabme, Disc, Ui, Ua, Dm, Frmr, Xid, allows, row, second_octet, supervisory_of, unnumbered_of, control_of}
+use Rattle.lapd_frame.proofs.Vocabulary.{◌≡◌, ◌≢◌, ℕ, ◌*◌, ◌/◌, ◌%◌, ◌<◌, inl, inr, Bool, true, false, cond, ◌==◌, refl, ap, sym, ◌∙◌, subst, List, [], ◌∷◌, ◌++◌, slice_index, Option, Some, None, arith, eq-eqb, ne_eqb, eqb_tells, Seq, seq, is_seq, Control, Information, ReceiveReady, ReceiveNotReady, Reject, Sabme, Disc, Ui, Ua, Dm, Frmr, Xid, allows, row, second_octet, supervisory_of}
+use Rattle.lapd_frame.proofs.Vocabulary.{unnumbered_of, control_of}
 
 -- what holds of each outcome of a chain of tests holds of the outcome
 step : (P : Control → Type 0) (octet k : ℕ) (x c : Control) (others : Option Control) → (octet ≡ k → P x) → (others ≡ Some c → P c)

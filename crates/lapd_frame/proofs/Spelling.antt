@@ -1,5 +1,7 @@
 -- The grammar read backwards: `reading` finds what the octets spell, and the first fault where they spell nothing.
-use Rattle.lapd_frame.proofs.Vocabulary.{◌≡◌, ℕ, ◌+◌, ◌*◌, ◌/◌, ◌%◌, ◌<◌, ◌≤◌, ◌⊎◌, inl, inr, Bool, true, false, IsTrue, cond, ◌==◌, refl, ap, sym, ◌∙◌, subst, List, [], ◌∷◌, ◌++◌, length, drop, slice_index, Option, Some, None, Result, Ok, Err, IfOk, IsOkAnd, ◌↔◌, length-append, lit<, zero, suc, arith, eqb-true, eqb_tells, All-nil, All-cons, All-head, All-tail, Side, Address, Control, Information, ReceiveReady, ReceiveNotReady, Reject, Sabme, Disc, Ui, Ua, Dm, Frmr, Xid, ReadFault, BadExtension, Undefined, WrongSize, Short, Long, Frame, is_short, has_bad_extension, HasAddress, HasControl, IsFault, Parts, parts_of, cr_bit, address_field, allows, takes, row, one_of, IsFrame, spelling, Spells, AreOctets, exactly, IsLong, address_of, control_of, checked, header_of, start_of, sized, completed, reading, outcome_of, long_kind, long_of}
+use Rattle.lapd_frame.proofs.Vocabulary.{◌≡◌, ℕ, ◌+◌, ◌*◌, ◌/◌, ◌%◌, ◌<◌, ◌≤◌, ◌⊎◌, inl, inr, Bool, true, false, IsTrue, cond, ◌==◌, refl, ap, sym, ◌∙◌, subst, List, [], ◌∷◌, ◌++◌, length, drop, slice_index, Option, Some, None, Result, Ok, Err, IfOk, IsOkAnd, ◌↔◌, length-append, lit<, zero, suc, arith, eqb-true, eqb_tells, All-nil, All-cons, All-head, All-tail, Side, Address, Control, Information}
+use Rattle.lapd_frame.proofs.Vocabulary.{ReceiveReady, ReceiveNotReady, Reject, Sabme, Disc, Ui, Ua, Dm, Frmr, Xid, ReadFault, BadExtension, Undefined, WrongSize, Short, Long, Frame, is_short, has_bad_extension, HasAddress, HasControl, IsFault, Parts, parts_of, cr_bit, address_field, allows, takes, row, one_of, IsFrame, spelling, Spells, AreOctets, exactly, IsLong, address_of, control_of, checked}
+use Rattle.lapd_frame.proofs.Vocabulary.{header_of, start_of, sized, completed, reading, outcome_of, long_kind, long_of}
 use Rattle.lapd_frame.proofs.AddressField.{address-found, extension-again, address-again}
 use Rattle.lapd_frame.proofs.ControlField.{HasField, two_octets, one_octet, control-found, control-again}
 

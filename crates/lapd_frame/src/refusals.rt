@@ -4,9 +4,9 @@
 /// request changes nothing (profile).
 #[derive(Clone, Copy, PartialEq, Eq, Debug)]
 pub enum Refusal {
-    /// The TEI is over 126; on the network's side for unit data over 127, since 127 is the group.
+    /// The TEI is over 126; over 127 for `Disown`, and for unit data on the network's side, since 127 names all.
     BadTei = 1,
-    /// The TEI is not on the line. Not for `Assign`, nor for unit data to the group.
+    /// The TEI is not on the line. Not for `Assign`, `Disown`, nor unit data to the group.
     NoLink,
     /// The link is not in a state that serves the request.
     WrongState,
@@ -16,7 +16,7 @@ pub enum Refusal {
     QueueFull,
     /// The card holds as many contents as it has slots.
     PoolFull,
-    /// The TEI is on the line already.
+    /// The TEI is on the line already. `Disown` of 127: a TEI is on the line.
     TeiTaken,
     /// The line has as many TEIs as it may have.
     TableFull,
@@ -24,6 +24,6 @@ pub enum Refusal {
     CheckRunning,
     /// No room for one more TEI management message.
     ControlFull,
-    /// Only the network's side takes a TEI off the line, or checks one (Q.921 clauses 5.3.3 and 5.3.4).
+    /// Only the network's side takes a TEI off the line, checks one, or disowns one (Q.921 clauses 5.3.3 and 5.3.4).
     WrongSide,
 }

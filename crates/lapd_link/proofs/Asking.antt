@@ -1,5 +1,6 @@
 -- Requests of layer 3.
-use Rattle.lapd_link.proofs.Vocabulary.{◌≡◌, ℕ, ◌<◌, Bool, Bor, true, List, [], ◌∷◌, ◌++◌, length, drop, Option, Some, None, sym, ap, subst, ◌∙◌, arith, length-append, if◌then◌else◌, drop-append-le, Store, Owned, Keeps, Refusal, WrongState, Terms, Request, requested, Course, begun, data_in_7_8, serves, refusal, refusal_for_room, granted, course, Entity, BareReport, Agrees, IsClear, Took, begun-resting, Link, LinkRequest, Data, request_of, LinkStands, Stays, terms_of}
+use Rattle.lapd_link.proofs.Vocabulary.{◌≡◌, ℕ, ◌<◌, Bool, Bor, true, List, [], ◌∷◌, ◌++◌, length, drop, Option, Some, None, sym, ap, subst, ◌∙◌, arith, length-append, if◌then◌else◌, drop-append-le, Store, Owned, Keeps, Refusal, WrongState, Terms, Request, requested, Course, begun, data_in_7_8, serves, refusal, refusal_for_room, granted, course, Entity, BareReport, Agrees, IsClear, Took}
+use Rattle.lapd_link.proofs.Vocabulary.{begun-resting, Link, LinkRequest, Data, request_of, LinkStands, Stays, terms_of}
 use Rattle.model_link.specs.Link as machine
 use Rattle.lapd_link.proofs.Ending.{reached}
 

@@ -1,5 +1,7 @@
 -- Offers.
-use Rattle.lapd_link.proofs.Vocabulary.{◌≡◌, ℕ, suc, zero, ◌+◌, ◌<◌, ◌≤◌, Bool, true, false, IsTrue, cond, List, [], ◌∷◌, length, drop, get_or, Option, Some, None, MatchOption, refl, sym, ap, subst, ◌∙◌, arith, length-drop, IfSome, IsSome, All, slice_get, get_or-drop, slice_get_within, get_or_from_slice_get, seq, ReceiveReady, IsFrame, allows, takes, row, sapi_of, Service, Call, Packet, frame_of, IsInRange, IsWaitingFrame, Store, IsUsed, contents_of, Owned, Keeps, Keeps-at, Keeps-used, Order, ControlFrame, T200, Terms, orders_for, Sent, Course, begun, ◌then◌, changed, pending_is, response, start, course, after, given, given_of, sound-after, Entity, BareReport, IsClear, Agrees, fits-resting, begun-resting, rests-after, Link, contents_in, HasMessage, LinkStands, terms_of}
+use Rattle.lapd_link.proofs.Vocabulary.{◌≡◌, ℕ, suc, zero, ◌+◌, ◌<◌, ◌≤◌, Bool, true, false, IsTrue, cond, List, [], ◌∷◌, length, drop, get_or, Option, Some, None, MatchOption, refl, sym, ap, subst, ◌∙◌, arith, length-drop, IfSome, IsSome, All, slice_get, get_or-drop, slice_get_within, get_or_from_slice_get, seq, ReceiveReady, IsFrame, allows, takes, row, sapi_of, Service, Call, Packet, frame_of}
+use Rattle.lapd_link.proofs.Vocabulary.{IsInRange, IsWaitingFrame, Store, IsUsed, contents_of, Owned, Keeps, Keeps-at, Keeps-used, Order, ControlFrame, T200, Terms, orders_for, Sent, Course, begun, ◌then◌, changed, pending_is, response, start, course, after, given, given_of, sound-after, Entity, BareReport, IsClear, Agrees, fits-resting, begun-resting, rests-after, Link, contents_in, HasMessage}
+use Rattle.lapd_link.proofs.Vocabulary.{LinkStands, terms_of}
 use Rattle.model_link.specs.Link as machine
 use Rattle.model_link.specs.Events as event
 use Rattle.model_link.specs.Offers as offers

@@ -1,5 +1,6 @@
 -- How the steps of an offer are put together.
-use Rattle.lapd_link_steps.proofs.Vocabulary.{◌≡◌, ℕ, ◌≤◌, Bool, true, false, cond, eqb, eqb-true, eqb-false, List, [], ◌∷◌, length, drop, Option, Some, None, is_some, refl, sym, ap, subst, arith, ◌∙◌, ◌||◌, Buffer, buffer, ControlFrame, Terms, Link, queue_of, Course, begun, changed, pending_is, ◌then◌, Sent, Step, depending_on, given, given_of, give_information, with_one_sent, is_awaiting_acknowledgement, may_send_information, send_acknowledgement, send_information, offer_among, offer_step, Entity, Given, BareReport, Past, past_at, link_of, course_of, Fits, Rests, Agrees, Gives, start, T200}
+use Rattle.lapd_link_steps.proofs.Vocabulary.{◌≡◌, ℕ, ◌≤◌, Bool, true, false, cond, eqb, eqb-true, eqb-false, List, [], ◌∷◌, length, drop, Option, Some, None, is_some, refl, sym, ap, subst, arith, ◌∙◌, ◌||◌, Buffer, buffer, ControlFrame, Terms, Link, queue_of, Course, begun, changed, pending_is, ◌then◌, Sent, Step, depending_on, given, given_of, give_information, with_one_sent}
+use Rattle.lapd_link_steps.proofs.Vocabulary.{is_awaiting_acknowledgement, may_send_information, send_acknowledgement, send_information, offer_among, offer_step, Entity, Given, BareReport, Past, past_at, link_of, course_of, Fits, Rests, Agrees, Gives, start, T200}
 use Rattle.lapd_frame.specs.declared.short_lists.ShortList.TheVariants.{None as no_notes}
 use Rattle.model_link.specs.Events.{offer}
 use Rattle.model_link.specs.Machine.{course}

@@ -1,5 +1,6 @@
 -- How the lines of a script are gone through.
-use Rattle.lapd_script.proofs.Vocabulary.{◌≡◌, ◌≢◌, ℕ, ◌+◌, ◌-◌, ◌<◌, ◌≤◌, Bool, true, false, List, [], ◌∷◌, ◌++◌, length, get_or, take, drop, Result, Ok, Err, Some, Option, refl, sym, ap, ◌∙◌, subst, append_assoc, arith, ◌==◌, inl, inr, IfOk, list_any, AllWithin, HoldsAt, eqb_tells, append-nil, drop-append-le, drop_all, drop_more, get_or-take, length-drop, length-take, take-append-drop, take-take, PlayFault, Read, ScriptLines, held, too_long_after, AreLeft, Takes, Advances, IsReady, pieces_of, line_in}
+use Rattle.lapd_script.proofs.Vocabulary.{◌≡◌, ◌≢◌, ℕ, ◌+◌, ◌-◌, ◌<◌, ◌≤◌, Bool, true, false, List, [], ◌∷◌, ◌++◌, length, get_or, take, drop, Result, Ok, Err, Some, Option, refl, sym, ap, ◌∙◌, subst, append_assoc, arith, ◌==◌, inl, inr, IfOk, list_any, AllWithin, HoldsAt, eqb_tells, append-nil, drop-append-le, drop_all, drop_more, get_or-take, length-drop, length-take, take-append-drop}
+use Rattle.lapd_script.proofs.Vocabulary.{take-take, PlayFault, Read, ScriptLines, held, too_long_after, AreLeft, Takes, Advances, IsReady, pieces_of, line_in}
 use Rattle.std.proofs.Common.{true≢false}
 use Rattle.std.proofs.lemmas.List.{length-append}
 use Rattle.lapd_script.proofs.Pieces.{IsOpen, HasPiece, piece_ended, line_ended, piece_last, line_last, piece_long}

@@ -1,5 +1,6 @@
 -- What is read of words that stand in references, and of lines with too many.
-use Rattle.lapd_script.proofs.Vocabulary.{◌≡◌, ℕ, Bool, true, false, cond, List, [], ◌∷◌, length, take, drop, get_or, Some, None, Ok, Err, Result, Option, refl, sym, ap, ◌∙◌, Bor, arith, IsErr, IsErrAnd, false≢true, Network, FaultKind, BadNumberOfWords, Config, Word, Ask, texts, word_named, carries_octets, read_words, read_after, read_as, card_numbers, nine_numbers, three_numbers, ten_numbers, for_user, is_user, ◌>>=◌}
+use Rattle.lapd_script.proofs.Vocabulary.{◌≡◌, ℕ, Bool, true, false, cond, List, [], ◌∷◌, length, take, drop, get_or, Some, None, Ok, Err, Result, Option, refl, sym, ap, ◌∙◌, Bor, arith, IsErr, IsErrAnd, false≢true, Network, FaultKind, BadNumberOfWords, Config, Word, Ask, texts, word_named, carries_octets, read_words, read_after, read_as, card_numbers, nine_numbers, three_numbers, ten_numbers}
+use Rattle.lapd_script.proofs.Vocabulary.{for_user, is_user, ◌>>=◌}
 
 abbrev pub nowhere : Bor (List ℕ)
 nowhere = record { ref_ptr = (0, 0); now = [] }

@@ -1,5 +1,7 @@
 -- The entries of a finite map whose keys are numbers, as a list in any order.
-use Rattle.lapd_store.proofs.Vocabulary.{zero, suc, ◌+◌, option_map, entries_from, ◌≡◌, ◌≢◌, ℕ, ◌<◌, Bool, true, false, cond, T, Option, Some, None, List, [], ◌∷◌, map, refl, sym, ap, subst, ◌∙◌, inl, inr, arith, eqb, get_or, eqb-false, ne_eqb, eq-eqb, cases_eq, and_parts, cond-true, cond-false, nat_tests, nil_from_length, All-nil, All-cons, All-contains, All-map, recursion_from_All, Contains-append_right, IsPermutation-refl, IsPermutation-sym, IsPermutation-cons, IsPermutation-trans, IsPermutation-middle, IsPermutation-map, All-permutation, IsDistinct-head, IsDistinct-tail, IsDistinct-cons, IsDistinct-from_apart, IsDistinct-IsPermutation, none-some, same_Some, nat_cmp_total, unsigned_tied, Less, Equal, Greater, by_order, below_all, find, put, is_sorted, All, AllByRecursion, Contains, IsDistinct, IsPermutation, nat_cmp, is_lt, is_eq, eq_by_cmp}
+use Rattle.lapd_store.proofs.Vocabulary.{zero, suc, ◌+◌, option_map, entries_from, ◌≡◌, ◌≢◌, ℕ, ◌<◌, Bool, true, false, cond, T, Option, Some, None, List, [], ◌∷◌, map, refl, sym, ap, subst, ◌∙◌, inl, inr, arith, eqb, get_or, eqb-false, ne_eqb, eq-eqb, cases_eq, and_parts, cond-true, cond-false, nat_tests, nil_from_length, All-nil, All-cons, All-contains, All-map, recursion_from_All}
+use Rattle.lapd_store.proofs.Vocabulary.{Contains-append_right, IsPermutation-refl, IsPermutation-sym, IsPermutation-cons, IsPermutation-trans, IsPermutation-middle, IsPermutation-map, All-permutation, IsDistinct-head, IsDistinct-tail, IsDistinct-cons, IsDistinct-from_apart, IsDistinct-IsPermutation, none-some, same_Some, nat_cmp_total, unsigned_tied, Less, Equal, Greater, by_order, below_all}
+use Rattle.lapd_store.proofs.Vocabulary.{find, put, is_sorted, All, AllByRecursion, Contains, IsDistinct, IsPermutation, nat_cmp, is_lt, is_eq, eq_by_cmp}
 use Rattle.std.specs.FinMap as finmap
 
 holds : (b : Bool) → T b → b ≡ true

@@ -1,6 +1,7 @@
 -- Laws of ownership: what the calls of a shelf do to the list of pairs that it holds. Whoever shares a shelf reasons by
 -- these laws, and not about maps. Each takes the clauses of the call that it is about as its premises.
-use Rattle.lapd_store.proofs.Vocabulary.{arith, ◌≡◌, ℕ, ◌+◌, ◌<◌, Some, List, [], ◌∷◌, ◌++◌, map, length, refl, sym, ap, subst, ◌∙◌, eqb, append_assoc, get_or, set, flat_map-append, set_split, set-get_or, All-contains, Contains-append_left, slice_get_within, get_or_from_slice_get, IsPermutation-refl, IsPermutation-sym, IsPermutation-cons, IsPermutation-trans, IsPermutation-middle, IsPermutation-append_comm, IsPermutation-append_left, All-permutation, length_permutation, sum_by-append, sum_by_values_permutation, Contains, IsDistinct, flat_map, fold, remove, IsPermutation, Store, empty_store, contents_of, IsFree, used_slots, stored_octets, with_contents, without, Owned, owned_octets}
+use Rattle.lapd_store.proofs.Vocabulary.{arith, ◌≡◌, ℕ, ◌+◌, ◌<◌, Some, List, [], ◌∷◌, ◌++◌, map, length, refl, sym, ap, subst, ◌∙◌, eqb, append_assoc, get_or, set, flat_map-append, set_split, set-get_or, All-contains, Contains-append_left, slice_get_within, get_or_from_slice_get, IsPermutation-refl, IsPermutation-sym, IsPermutation-cons, IsPermutation-trans, IsPermutation-middle}
+use Rattle.lapd_store.proofs.Vocabulary.{IsPermutation-append_comm, IsPermutation-append_left, All-permutation, length_permutation, sum_by-append, sum_by_values_permutation, Contains, IsDistinct, flat_map, fold, remove, IsPermutation, Store, empty_store, contents_of, IsFree, used_slots, stored_octets, with_contents, without, Owned, owned_octets}
 use Rattle.std.specs.FinMap as finmap
 use Rattle.std.specs.List.{slice_get}
 use Rattle.lapd_store.specs.Ownership.{Holds}

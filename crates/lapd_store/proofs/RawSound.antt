@@ -1,5 +1,6 @@
 -- A shelf over a region stays sound: after a put, a release and at the start.
-use Rattle.lapd_store.proofs.Vocabulary.{◌≡◌, ◌≢◌, ℕ, zero, suc, ◌+◌, ◌*◌, ◌^◌, ◌<◌, ◌≤◌, Option, Some, None, IsSome, List, [], ◌∷◌, length, replicate, set, get_or, refl, sym, ap, subst, ◌∙◌, arith, inl, inr, length-set, nat_cmp, cases_eq, cond-true, cond-false, le-ltb, lt-ltb, get_or-replicate, length-replicate, get_or-set_same, get_or-set_other, entries_from, Holds, SameOutside, free_mark, list_end, or_end, link, slot_contents, contents_from, raw_store, IsApart, IsFreeList, IsFilled, Store, empty_store, contents_of, IsUsed, IsFree, used_slots, stored_octets, with_contents, without, IsWithinLimits, Inside}
+use Rattle.lapd_store.proofs.Vocabulary.{◌≡◌, ◌≢◌, ℕ, zero, suc, ◌+◌, ◌*◌, ◌^◌, ◌<◌, ◌≤◌, Option, Some, None, IsSome, List, [], ◌∷◌, length, replicate, set, get_or, refl, sym, ap, subst, ◌∙◌, arith, inl, inr, length-set, nat_cmp, cases_eq, cond-true, cond-false, le-ltb, lt-ltb, get_or-replicate, length-replicate, get_or-set_same, get_or-set_other, entries_from, Holds, SameOutside, free_mark}
+use Rattle.lapd_store.proofs.Vocabulary.{list_end, or_end, link, slot_contents, contents_from, raw_store, IsApart, IsFreeList, IsFilled, Store, empty_store, contents_of, IsUsed, IsFree, used_slots, stored_octets, with_contents, without, IsWithinLimits, Inside}
 use Rattle.std.specs.FinMap as finmap
 use Rattle.lapd_store.specs.RawStore.{IsSoundRaw}
 use Rattle.lapd_store.proofs.Entries.{each_key, same_entries, get-insert_same, get-insert_other, get-remove_same, get-remove_other}

@@ -1,5 +1,6 @@
 -- What a `put` and a `release` do to the contents, the counts and the limits of a store.
-use Rattle.lapd_store.proofs.Vocabulary.{◌≡◌, ℕ, ◌+◌, ◌*◌, ◌<◌, ◌≤◌, Some, List, [], map, length, sym, ap, subst, ◌∙◌, arith, length-map, All-nil, All-cons, All-tail, All-contains, All-weaker, IsPermutation-map, IsPermutation-sym, All-permutation, length_permutation, sum_by-cons, sum_by-le, sum_by_values_permutation, Contains-values_of, All, sum_by, nat_cmp, Store, empty_store, contents_of, IsFree, used_slots, stored_octets, with_contents, without, IsWithinLimits}
+use Rattle.lapd_store.proofs.Vocabulary.{◌≡◌, ℕ, ◌+◌, ◌*◌, ◌<◌, ◌≤◌, Some, List, [], map, length, sym, ap, subst, ◌∙◌, arith, length-map, All-nil, All-cons, All-tail, All-contains, All-weaker, IsPermutation-map, IsPermutation-sym, All-permutation, length_permutation, sum_by-cons, sum_by-le, sum_by_values_permutation, Contains-values_of, All, sum_by, nat_cmp, Store, empty_store, contents_of}
+use Rattle.lapd_store.proofs.Vocabulary.{IsFree, used_slots, stored_octets, with_contents, without, IsWithinLimits}
 use Rattle.std.specs.FinMap as finmap
 use Rattle.lapd_store.proofs.Entries.{entries-empty, entries-insert_free, insert-remove_same, get-insert_same, get-remove_same, get_contained}
 

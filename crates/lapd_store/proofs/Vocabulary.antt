@@ -1,5 +1,6 @@
 -- The words with which the proofs of this crate speak, from where they are defined.
-pub use Rattle.std.proofs.Common.{Bool, IsSome, List, None, Option, Some, T, [], ap, append_assoc, arith, cond, drop, eqb, ext_get_or, false, get_or, get_or-drop, get_or-take, inl, inr, length, length-append, length-drop, length-set, length-take, lit<, map, refl, replicate, set, slice_get, subst, suc, sym, take, take-append-drop, true, w64, w8, zero, ℕ, ◌*◌, ◌++◌, ◌+◌, ◌-◌, ◌<◌, ◌^◌, ◌∙◌, ◌∷◌, ◌≡◌, ◌≢◌, ◌≤◌, ◌⊎◌}
+pub use Rattle.std.proofs.Common.{Bool, IsSome, List, None, Option, Some, T, [], ap, append_assoc, arith, cond, drop, eqb, ext_get_or, false, get_or, get_or-drop, get_or-take, inl, inr, length, length-append, length-drop, length-set, length-take, lit<, map, refl, replicate, set, slice_get, subst, suc, sym, take, take-append-drop, true, w64, w8, zero, ℕ, ◌*◌, ◌++◌, ◌+◌, ◌-◌, ◌<◌, ◌^◌, ◌∙◌, ◌∷◌}
+pub use Rattle.std.proofs.Common.{◌≡◌, ◌≢◌, ◌≤◌, ◌⊎◌}
 pub use Rattle.std.proofs.RcSteps.{first_Good}
 pub use Rattle.std.proofs.ResultValues.{err_of, ok_of}
 pub use Rattle.std.proofs.alloc.Calls.{Al, Answer-typed, Answered, Gives, Gives-Gives, Gives-goes, Goes-blank, Takes, Takes-gives, Takes-goes, answers, at_gives, at_takes, seen}

@@ -1,6 +1,7 @@
 -- How many messages wait after each row of the table, and how many are lost; what a message does that is not served;
 -- and which TEI a terminal is assigned.
-use Rattle.lapd_tei.proofs.Vocabulary.{◌≡◌, ℕ, ◌+◌, ◌<◌, ◌≤◌, true, false, cond, List, [], ◌∷◌, ◌++◌, length, Option, Some, None, refl, arith, length-append, option_map, nat_tests, Message, IdentityAssigned, IdentityDenied, IdentityCheckRequest, IdentityRemove, Heard, Event, course, TeiTold, Follows, is_some, IdentityRequest, Places, place_of, free_place, free_tei, Management, Gained, messages_limit, Course, begun, no_room, with_message, lost_after, left, unserved, remembered_in, serve, AssignsLowest}
+use Rattle.lapd_tei.proofs.Vocabulary.{◌≡◌, ℕ, ◌+◌, ◌<◌, ◌≤◌, true, false, cond, List, [], ◌∷◌, ◌++◌, length, Option, Some, None, refl, arith, length-append, option_map, nat_tests, Message, IdentityAssigned, IdentityDenied, IdentityCheckRequest, IdentityRemove, Heard, Event, course, TeiTold, Follows, is_some, IdentityRequest, Places, place_of, free_place, free_tei, Management, Gained}
+use Rattle.lapd_tei.proofs.Vocabulary.{messages_limit, Course, begun, no_room, with_message, lost_after, left, unserved, remembered_in, serve, AssignsLowest}
 use Rattle.lapd_tei.proofs.Tables.{free_tei-is}
 use Rattle.lapd_tei.proofs.Walk.{OfEvents, of_event, of_serve}
 

@@ -1,5 +1,6 @@
 -- The assignments that are remembered: after one more, and after a TEI left.
-use Rattle.lapd_tei.proofs.Vocabulary.{◌≡◌, ℕ, ◌-◌, ◌≤◌, ◌==◌, true, false, List, [], ◌∷◌, ◌++◌, length, drop, set, Option, Some, None, subst, arith, length-drop, AllByRecursion, filter, find, option_map, All-nil, All-cons, All-append, All-drop, recursion_from_All, none-some, same_Some, Places, is_on, place_of, free_place, Remembered, latest, freed, is_of_other, is_for, tei_in, remembered_in, IsSoundTable, IsSoundMemory, same_ri, same_tei, length-filter, count_by-le-length, All-get_or}
+use Rattle.lapd_tei.proofs.Vocabulary.{◌≡◌, ℕ, ◌-◌, ◌≤◌, ◌==◌, true, false, List, [], ◌∷◌, ◌++◌, length, drop, set, Option, Some, None, subst, arith, length-drop, AllByRecursion, filter, find, option_map, All-nil, All-cons, All-append, All-drop, recursion_from_All, none-some, same_Some, Places, is_on, place_of, free_place, Remembered, latest, freed, is_of_other, is_for, tei_in, remembered_in}
+use Rattle.lapd_tei.proofs.Vocabulary.{IsSoundTable, IsSoundMemory, same_ri, same_tei, length-filter, count_by-le-length, All-get_or}
 use Rattle.lapd_tei.proofs.Lists.{All-filter_by, IsDistinct-push, IsDistinct-drop, IsDistinct-filter, none-found, found}
 use Rattle.lapd_tei.proofs.Tables.{same_number, on-put, on-freed, on-range}
 

@@ -1,5 +1,6 @@
 -- What each row of the table keeps.
-use Rattle.lapd_tei.proofs.Vocabulary.{◌≡◌, ℕ, ◌≤◌, true, false, set, Option, Some, None, IfSome, subst, refl, sym, arith, List, [], option_map, IdentityAssigned, IdentityDenied, IdentityCheckRequest, IdentityRemove, Message, action_of, Places, is_on, place_of, free_place, Management, Check, Remembered, TeiTold, Gained, Course, with_message, freed, left, is_of_other, Event, IsInRange, IsSoundCheck, IsSoundQueue, IsSound, IsSoundMemory, Moves, course, filter}
+use Rattle.lapd_tei.proofs.Vocabulary.{◌≡◌, ℕ, ◌≤◌, true, false, set, Option, Some, None, IfSome, subst, refl, sym, arith, List, [], option_map, IdentityAssigned, IdentityDenied, IdentityCheckRequest, IdentityRemove, Message, action_of, Places, is_on, place_of, free_place, Management, Check, Remembered, TeiTold, Gained, Course, with_message, freed, left, is_of_other, Event, IsInRange}
+use Rattle.lapd_tei.proofs.Vocabulary.{IsSoundCheck, IsSoundQueue, IsSound, IsSoundMemory, Moves, course, filter}
 use Rattle.lapd_tei.proofs.Tables.{table-freed, on-newcomer, on-range, free_tei-is, free_place-is, place_of-is}
 use Rattle.lapd_tei.proofs.Memories.{memory-put, memory-remember, memory-freed, remembered-range}
 use Rattle.lapd_tei.proofs.SoundWords.{sound_came, queue-empty, queue-sent, check-freed, check-begun, check-again, check-counted}

@@ -1,5 +1,6 @@
 -- What the words of the table keep.
-use Rattle.lapd_tei.proofs.Vocabulary.{Remembered, ◌≡◌, ℕ, zero, suc, ◌+◌, ◌≤◌, nat_le, true, false, cond, List, [], ◌∷◌, ◌++◌, length, drop, set, replicate, Option, Some, None, IfSome, refl, arith, length-append, length-drop, IsDistinct, nat_tests, All-nil, All-cons, All-append, none-some, Message, action_of, Places, is_on, place_of, free_place, Check, First, Second, no_room, with_message, freed, counted, responses, is_checked, IsAt, IsSoundTable, IsSoundMemory, IsSoundCheck, IsSoundQueue, IsSound, Management, sym, subst}
+use Rattle.lapd_tei.proofs.Vocabulary.{Remembered, ◌≡◌, ℕ, zero, suc, ◌+◌, ◌≤◌, nat_le, true, false, cond, List, [], ◌∷◌, ◌++◌, length, drop, set, replicate, Option, Some, None, IfSome, refl, arith, length-append, length-drop, IsDistinct, nat_tests, All-nil, All-cons, All-append, none-some, Message, action_of, Places, is_on, place_of, free_place, Check, First, Second, no_room, with_message, freed}
+use Rattle.lapd_tei.proofs.Vocabulary.{counted, responses, is_checked, IsAt, IsSoundTable, IsSoundMemory, IsSoundCheck, IsSoundQueue, IsSound, Management, sym, subst}
 use Rattle.lapd_tei.proofs.Tables.{on-put, on-freed, on-range, table-put}
 
 has_room : (n : ℕ) → nat_le 4 n ≡ false → n + 1 ≤ 4

@@ -1,5 +1,6 @@
 -- The table of the TEIs: what stands where, after a TEI came and after one left.
-use Rattle.lapd_tei.proofs.Vocabulary.{cases_eq, ◌≡◌, ℕ, zero, suc, ◌<◌, ◌≤◌, ◌⊎◌, ◌==◌, Bool, true, false, not, [], ◌∷◌, length, set, get_or, Option, Some, None, subst, ◌∙◌, refl, sym, ap, arith, false≢true, nat_tests, get_or-set_same, get_or-set_other, position-Some, none-some, same_Some, Places, is_free, has, is_on, is_off, place_of, free_place, free_tei, automatic, freed, IsAt, IsSoundTable, IsLowestFree, ◌+◌, ◌-◌, list_any_at, Any-from_list_any, get_or_default, length-range_with_len, get_or-range_with_len}
+use Rattle.lapd_tei.proofs.Vocabulary.{cases_eq, ◌≡◌, ℕ, zero, suc, ◌<◌, ◌≤◌, ◌⊎◌, ◌==◌, Bool, true, false, not, [], ◌∷◌, length, set, get_or, Option, Some, None, subst, ◌∙◌, refl, sym, ap, arith, false≢true, nat_tests, get_or-set_same, get_or-set_other, position-Some, none-some, same_Some, Places, is_free, has, is_on, is_off, place_of, free_place, free_tei, automatic, freed, IsAt, IsSoundTable}
+use Rattle.lapd_tei.proofs.Vocabulary.{IsLowestFree, ◌+◌, ◌-◌, list_any_at, Any-from_list_any, get_or_default, length-range_with_len, get_or-range_with_len}
 use Rattle.lapd_tei.proofs.Lists.{found}
 
 pub same_number : (a b : ℕ) → (a == b) ≡ true → a ≡ b

@@ -1,5 +1,6 @@
 -- Every event ends in one of a few ways: the rows of the table are walked once, for any claim.
-use Rattle.lapd_tei.proofs.Vocabulary.{arith, ◌≡◌, ℕ, ◌&&◌, nat_le, Bool, true, false, cond, is_some, Option, Some, None, refl, none-some, Refusal, Heard, IdentityAssigned, IdentityDenied, IdentityRemove, is_on, free_place, free_tei, Management, Check, Period, First, Course, Step, begun, leave, check_is, begin_check, end_check, lose_one, send, unserved, assign, assign_new, remembered_in, counted, responses, doubled, respond, serve, expire, expire_period, expire_check, removed, join_at, is_checked, take_off, withdraw, Event, remove, disown, refusal_if, refusal, unless_refused, course}
+use Rattle.lapd_tei.proofs.Vocabulary.{arith, ◌≡◌, ℕ, ◌&&◌, nat_le, Bool, true, false, cond, is_some, Option, Some, None, refl, none-some, Refusal, Heard, IdentityAssigned, IdentityDenied, IdentityRemove, is_on, free_place, free_tei, Management, Check, Period, First, Course, Step, begun, leave, check_is, begin_check, end_check, lose_one, send, unserved, assign, assign_new, remembered_in, counted}
+use Rattle.lapd_tei.proofs.Vocabulary.{responses, doubled, respond, serve, expire, expire_period, expire_check, removed, join_at, is_checked, take_off, withdraw, Event, remove, disown, refusal_if, refusal, unless_refused, course}
 use Rattle.lapd_tei.specs.Events.{assign as assigning}
 use Rattle.lapd_tei.proofs.Tables.{same_number, not_not}
 

@@ -1,5 +1,6 @@
 -- Writes one after the other.
-use Rattle.lapd_transcript.proofs.Vocabulary.{◌≡◌, ℕ, ◌+◌, List, [], ◌∷◌, ◌++◌, length, take, drop, Some, None, Ok, Err, Result, Option, refl, sym, ap, ◌∙◌, subst, append_assoc, arith, Bor, suc, zero, get_or, ◌<◌, ◌≤◌, ◌-◌, take_all, length-drop, length-append, false, IsOk, IsErr, OnOk, OnErr, is_ok, false≢true, flat_map, take-append-add, take-append_seam, append-nil, take-append-drop, take_more, flat_map-append, Appends, Keeps, WriteFailed, Taken, IsWritten, IsBroken, Writes, Output, IsPut, IsStuck, Puts, one_failure_more}
+use Rattle.lapd_transcript.proofs.Vocabulary.{◌≡◌, ℕ, ◌+◌, List, [], ◌∷◌, ◌++◌, length, take, drop, Some, None, Ok, Err, Result, Option, refl, sym, ap, ◌∙◌, subst, append_assoc, arith, Bor, suc, zero, get_or, ◌<◌, ◌≤◌, ◌-◌, take_all, length-drop, length-append, false, IsOk, IsErr, OnOk, OnErr, is_ok, false≢true, flat_map, take-append-add, take-append_seam, append-nil, take-append-drop, take_more}
+use Rattle.lapd_transcript.proofs.Vocabulary.{flat_map-append, Appends, Keeps, WriteFailed, Taken, IsWritten, IsBroken, Writes, Output, IsPut, IsStuck, Puts, one_failure_more}
 use Rattle.std.specs.Prelude.{codes, decimal, unwrap_or, option_copied}
 use Rattle.model_bits.specs.declared.heard.Cause.{Cause}
 use Rattle.lapd_frame.specs.declared.notes.Note.{Note}

@@ -1,5 +1,6 @@
 -- The frames sent are linear in the octets of the frames that came.
-use Rattle.laws_promises.proofs.Vocabulary.{◌≡◌, ℕ, ◌+◌, ◌*◌, ◌≤◌, Bool, false, List, [], ◌∷◌, length, map, take, sym, subst, cond, arith, count_by, All, ltb-false, leb-true, All-nil, All-cons, All-head, All-tail, All-weaker, sum_by-cons, mul-le-mul_left, Short, came, hears_frame, hears_long_frame, is_frame, is_long_frame, Card, may_send, window, sent, heard, long_heard, accepted, expired, rejected, after, answer, Moment, after_all, IsSound, frames_amortised, rejects_are_long}
+use Rattle.laws_promises.proofs.Vocabulary.{◌≡◌, ℕ, ◌+◌, ◌*◌, ◌≤◌, Bool, false, List, [], ◌∷◌, length, map, take, sym, subst, cond, arith, count_by, All, ltb-false, leb-true, All-nil, All-cons, All-head, All-tail, All-weaker, sum_by-cons, mul-le-mul_left, Short, came, hears_frame, hears_long_frame, is_frame, is_long_frame, Card, may_send, window, sent, heard, long_heard, accepted, expired}
+use Rattle.laws_promises.proofs.Vocabulary.{rejected, after, answer, Moment, after_all, IsSound, frames_amortised, rejects_are_long}
 use Rattle.lapd_frame.specs.Faults.{is_short}
 use Rattle.model_bits.specs.Stream as stream
 use Rattle.model_line.specs.Event as line

@@ -1,5 +1,9 @@
 -- The cause of each drop is told, and no other: the law.
-use Rattle.laws_trace.proofs.Vocabulary.{◌≡◌, ℕ, ◌+◌, ◌*◌, ◌/◌, ◌%◌, ◌<◌, ◌==◌, ◌&&◌, ◌||◌, Bool, true, false, cond, List, [], ◌∷◌, Option, Some, None, Ok, Err, Result, refl, sym, ap, ◌∙◌, subst, arith, leb-true, eqb-true, and_parts, nat_le, length, is_some, option_map_or, PoolFull, ReadFault, BadExtension, Address, Service, Long, Parts, reading, service_of, Terms, Link, state_number, State, Received, received, frame, undefined, wrong_size, overlong, LinkEvent, link_told, begun, Config, hears, expiry, request, next, Answer, refused, Line, state_of, state_in, place_in, terms, link_in, at_link, at_management, at_no_link, of_aim, LinkRequest, requested, expired, cleared, at_requested, at_deactivated, at_timer, aim_of_expiry, aim_of_request, unless_refused, unless_refused_told, refusal, Refusal, Request, Timer, LinkTimer, Aim, addressed, aim_of_reading, aim_of_long, heard_side, message_of, at_side, IsToGroup, group-read, IsSound as IsSoundLine, Card, line_at, is_full, at, always_sound, fresh_is_sound, has_lines, by_room, config-stays, fresh, CardEvent as Event, card_answer, after_all, IsAtLine, CardIsSound as IsSound, line_sound as sound-at, nothing_due, stream_frame, Managed, managed_after, view_of, is_unit_taken, IfSome, Always, is_ui, is_up, Management, Change, of_change, told_of_management, tei_after, not, tei_begun, tei_told, tei_message, TeiEvent, heard_in, heard_of_type, Check, Checked, may_check, tei_course, tei_refusal, no_room, lose_one, free_place, told, dropped, none-some}
+use Rattle.laws_trace.proofs.Vocabulary.{◌≡◌, ℕ, ◌+◌, ◌*◌, ◌/◌, ◌%◌, ◌<◌, ◌==◌, ◌&&◌, ◌||◌, Bool, true, false, cond, List, [], ◌∷◌, Option, Some, None, Ok, Err, Result, refl, sym, ap, ◌∙◌, subst, arith, leb-true, eqb-true, and_parts, nat_le, length, is_some, option_map_or, PoolFull, ReadFault, BadExtension, Address, Service, Long, Parts, reading, service_of, Terms, Link, state_number, State}
+use Rattle.laws_trace.proofs.Vocabulary.{Received, received, frame, undefined, wrong_size, overlong, LinkEvent, link_told, begun, Config, hears, expiry, request, next, Answer, refused, Line, state_of, state_in, place_in, terms, link_in, at_link, at_management, at_no_link, of_aim, LinkRequest, requested, expired, cleared, at_requested, at_deactivated, at_timer, aim_of_expiry, aim_of_request}
+use Rattle.laws_trace.proofs.Vocabulary.{unless_refused, unless_refused_told, refusal, Refusal, Request, Timer, LinkTimer, Aim, addressed, aim_of_reading, aim_of_long, heard_side, message_of, at_side, IsToGroup, group-read, IsSound as IsSoundLine, Card, line_at, is_full, at, always_sound, fresh_is_sound, has_lines, by_room, config-stays, fresh, CardEvent as Event, card_answer, after_all, IsAtLine}
+use Rattle.laws_trace.proofs.Vocabulary.{CardIsSound as IsSound, line_sound as sound-at, nothing_due, stream_frame, Managed, managed_after, view_of, is_unit_taken, IfSome, Always, is_ui, is_up, Management, Change, of_change, told_of_management, tei_after, not, tei_begun, tei_told, tei_message, TeiEvent, heard_in, heard_of_type, Check, Checked, may_check, tei_course, tei_refusal, no_room, lose_one}
+use Rattle.laws_trace.proofs.Vocabulary.{free_place, told, dropped, none-some}
 use Rattle.lapd_frame.specs.Reading.{long_reading}
 use Rattle.lapd_tei.specs.Rows as rows
 use Rattle.lapd_tei.specs.Table as table

@@ -1,5 +1,6 @@
 -- The control frames of a link that wait are those that were due, and have not begun: a moment of a card.
-use Rattle.laws_trace.proofs.Vocabulary.{◌≡◌, ℕ, ◌==◌, ◌&&◌, ◌||◌, Bool, true, false, cond, List, [], get_or, None, refl, sym, ap, ◌∙◌, subst, arith, eq-eqb, true≢false, append-nil, option_map_or, and_parts, get_or-set_same, Service, Config, Line, fresh_line, link_of, state_of, lost_in, deactivates, Card, line_at, is_full, has_lines, by_room, line_sound, AllHaveTheirTimers, eqb-true, IsAtLine, Seen, seen, Event, after, card_answer as answer, CardIsSound as IsSound, CardEvent}
+use Rattle.laws_trace.proofs.Vocabulary.{◌≡◌, ℕ, ◌==◌, ◌&&◌, ◌||◌, Bool, true, false, cond, List, [], get_or, None, refl, sym, ap, ◌∙◌, subst, arith, eq-eqb, true≢false, append-nil, option_map_or, and_parts, get_or-set_same, Service, Config, Line, fresh_line, link_of, state_of, lost_in, deactivates, Card, line_at, is_full, has_lines, by_room, line_sound, AllHaveTheirTimers, eqb-true, IsAtLine}
+use Rattle.laws_trace.proofs.Vocabulary.{Seen, seen, Event, after, card_answer as answer, CardIsSound as IsSound, CardEvent}
 use Rattle.model_line.specs.Machine as lines
 use Rattle.laws_trace.proofs.ControlsWatched.{command_of}
 use Rattle.laws_trace.proofs.DeliveriesWatched.{Standing}

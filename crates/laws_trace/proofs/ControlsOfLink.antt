@@ -1,5 +1,6 @@
 -- What an event of a link puts is what it makes due.
-use Rattle.laws_trace.proofs.Vocabulary.{◌≡◌, ℕ, ◌+◌, ◌-◌, ◌≤◌, ◌==◌, ◌||◌, Bool, true, false, cond, List, [], ◌∷◌, ◌++◌, length, take, drop, zero, suc, Some, refl, sym, ap, ◌∙◌, subst, arith, nat_lt, flat_map-append, All-take, Information, Ua, Dm, Parts, HasItsTimer, State, ControlFrame, Terms, LinkTimer, restarts, overlong, received, expired, Link, is_multiple_frame, state_number, busy_asked, takes_contents, as_heard, moves, state_after, receipt_as, as_command, to_sabme, answers, commands, put, event-follows, Seq, length-drop, Control, T200, LinkEvent as Event, frame, room, link_after as after, link_told as told, false_from_ne_true}
+use Rattle.laws_trace.proofs.Vocabulary.{◌≡◌, ℕ, ◌+◌, ◌-◌, ◌≤◌, ◌==◌, ◌||◌, Bool, true, false, cond, List, [], ◌∷◌, ◌++◌, length, take, drop, zero, suc, Some, refl, sym, ap, ◌∙◌, subst, arith, nat_lt, flat_map-append, All-take, Information, Ua, Dm, Parts, HasItsTimer, State, ControlFrame, Terms, LinkTimer, restarts, overlong, received, expired, Link, is_multiple_frame, state_number, busy_asked}
+use Rattle.laws_trace.proofs.Vocabulary.{takes_contents, as_heard, moves, state_after, receipt_as, as_command, to_sabme, answers, commands, put, event-follows, Seq, length-drop, Control, T200, LinkEvent as Event, frame, room, link_after as after, link_told as told, false_from_ne_true}
 use Rattle.laws_link.specs.Waiting as waiting
 use Rattle.laws_trace.proofs.ControlsWatched.{control_in, receipt, polled, while_up, answer_to, command_of}
 use Rattle.laws_trace.proofs.DeliveriesWatched.{Standing}

@@ -1,5 +1,6 @@
 -- I-frames of a link that go out, as they are read.
-use Rattle.laws_trace.proofs.Vocabulary.{arith, ◌≡◌, ℕ, ◌==◌, ◌&&◌, true, false, cond, List, [], Option, Some, None, refl, ap, ◌∙◌, subst, eq-eqb, inl, inr, IfSome, option_map_or, Ui, Service, Parts, reading, sapi_of, reading-again, Link, address_at, is_information, Given, given_is_frame, Config, NextFrame, terms, same-sapi, unwrap_or, Control, information_of, line_frame_of as frame_of, given, IsGiven, LinkIsInRange as IsInRange, LinkIsSound as IsSound}
+use Rattle.laws_trace.proofs.Vocabulary.{arith, ◌≡◌, ℕ, ◌==◌, ◌&&◌, true, false, cond, List, [], Option, Some, None, refl, ap, ◌∙◌, subst, eq-eqb, inl, inr, IfSome, option_map_or, Ui, Service, Parts, reading, sapi_of, reading-again, Link, address_at, is_information, Given, given_is_frame, Config, NextFrame, terms, same-sapi, unwrap_or, Control, information_of, line_frame_of as frame_of, given}
+use Rattle.laws_trace.proofs.Vocabulary.{IsGiven, LinkIsInRange as IsInRange, LinkIsSound as IsSound}
 use Rattle.laws_trace.proofs.TimersWatched.{Sent, sent_by, sent_in}
 use Rattle.laws_trace.proofs.OneLink.{IsForeign}
 use Rattle.laws_trace.proofs.ReadAgain.{read-again}

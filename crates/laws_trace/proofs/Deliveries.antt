@@ -1,5 +1,7 @@
 -- What is told is what was heard.
-use Rattle.laws_trace.proofs.Vocabulary.{◌≡◌, ℕ, ◌%◌, ◌≤◌, ◌==◌, ◌&&◌, Bool, true, false, cond, List, [], ◌∷◌, Option, Some, None, refl, sym, ap, ◌∙◌, arith, eq-eqb, inl, inr, true≢false, All, ◌||◌, count_by, list_any, All-head, All-tail, sum_by-cons, none-some, Seq, Note, Service, Parts, same_service, Terms, Arrived, restarts, eligible, Link, is_multiple_frame, notes-own, unit_heard, Config, hears, Answer, Line, link_in, terms, aim_of, group_tei, IsInRange, notes_of, contents_in, is_data_of, is_unit_of, tells_contents, IsBy, Brings, BringsMalformed, contents-heard, sapi-is, read-aim, read-event, told-once, group-read, Control, IsOwn, Event, answer, IsSound, result_ok, frame_of, is_for, is_ui, Information, Unit, IsHeard, IsHeardAtLink, IsHeardByGroup, stream_frame, StreamEvent, link_told}
+use Rattle.laws_trace.proofs.Vocabulary.{◌≡◌, ℕ, ◌%◌, ◌≤◌, ◌==◌, ◌&&◌, Bool, true, false, cond, List, [], ◌∷◌, Option, Some, None, refl, sym, ap, ◌∙◌, arith, eq-eqb, inl, inr, true≢false, All, ◌||◌, count_by, list_any, All-head, All-tail, sum_by-cons, none-some, Seq, Note, Service, Parts, same_service, Terms, Arrived, restarts, eligible, Link, is_multiple_frame, notes-own, unit_heard, Config}
+use Rattle.laws_trace.proofs.Vocabulary.{hears, Answer, Line, link_in, terms, aim_of, group_tei, IsInRange, notes_of, contents_in, is_data_of, is_unit_of, tells_contents, IsBy, Brings, BringsMalformed, contents-heard, sapi-is, read-aim, read-event, told-once, group-read, Control, IsOwn, Event, answer, IsSound, result_ok, frame_of, is_for, is_ui, Information, Unit, IsHeard, IsHeardAtLink}
+use Rattle.laws_trace.proofs.Vocabulary.{IsHeardByGroup, stream_frame, StreamEvent, link_told}
 use Rattle.model_link.specs.Events as link
 use Rattle.laws_trace.proofs.Counting.{begins_by, begins}
 use Rattle.laws_trace.proofs.DeliveriesWatched.{number_in, IsOfFrame}

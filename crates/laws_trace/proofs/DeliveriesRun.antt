@@ -1,5 +1,7 @@
 -- What is told is what was heard: over runs.
-use Rattle.laws_trace.proofs.Vocabulary.{arith, length, nat_le, le-leb, within, ◌≡◌, ℕ, ◌%◌, ◌&&◌, Bool, true, false, List, Option, Some, None, refl, sym, ap, ◌∙◌, subst, eq-eqb, ◌==◌, Result, Ok, Err, true≢false, inl, inr, is_some, Note, list_any, option_or, option_map_or, none-some, ReadFault, reading, sapi_of, same_service, Service, Parts, Terms, Link, is_multiple_frame, event-delivers, delivered-at_once, notes-own, event-tells, unit_heard, event-unit, within-is, Config, hears, Answer, Line, place_in, link_in, link_of, terms, aim_of, aim_of_heard, aim_of_reading, message_of, heard_side, group_tei, IsInRange, at_side, notes_of, contents_in, is_data_of, is_unit_of, own-all, addressed-is, sapi-is, same-sapi, service-same, both-true, told-once, eqb-true, fresh_link as fresh, Event, line_after as after, answer, IsSound, result_ok, frame_of, is_for, is_ui, ReleaseConfirm, ReleaseIndication, stream_frame, StreamEvent, link_told}
+use Rattle.laws_trace.proofs.Vocabulary.{arith, length, nat_le, le-leb, within, ◌≡◌, ℕ, ◌%◌, ◌&&◌, Bool, true, false, List, Option, Some, None, refl, sym, ap, ◌∙◌, subst, eq-eqb, ◌==◌, Result, Ok, Err, true≢false, inl, inr, is_some, Note, list_any, option_or, option_map_or, none-some, ReadFault, reading, sapi_of, same_service, Service, Parts, Terms, Link, is_multiple_frame, event-delivers}
+use Rattle.laws_trace.proofs.Vocabulary.{delivered-at_once, notes-own, event-tells, unit_heard, event-unit, within-is, Config, hears, Answer, Line, place_in, link_in, link_of, terms, aim_of, aim_of_heard, aim_of_reading, message_of, heard_side, group_tei, IsInRange, at_side, notes_of, contents_in, is_data_of, is_unit_of, own-all, addressed-is, sapi-is, same-sapi, service-same, both-true}
+use Rattle.laws_trace.proofs.Vocabulary.{told-once, eqb-true, fresh_link as fresh, Event, line_after as after, answer, IsSound, result_ok, frame_of, is_for, is_ui, ReleaseConfirm, ReleaseIndication, stream_frame, StreamEvent, link_told}
 use Rattle.model_link.specs.Events as link
 use Rattle.model_link.specs.Sound as link_sound
 use Rattle.laws_trace.proofs.Counting.{Watched, begins, counted}

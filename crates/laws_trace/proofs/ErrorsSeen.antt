@@ -1,5 +1,6 @@
 -- What is wrong with what is seen of a link: one event of its line.
-use Rattle.laws_trace.proofs.Vocabulary.{arith, ◌≡◌, ℕ, false, cond, List, [], ◌++◌, Some, None, Result, ap, ◌∙◌, ◌⊎◌, append-nil, option_to_list, option_map_or, ReadFault, ErrorCode, Long, Service, Parts, Config, Answer, aim_of_reading, aim_of_long, Line, place_in, terms, aim_of, IsBy, nat_lt, length, eqb-true, Event, option_and_then, result_ok, result_err, its_frame, is_for, faulty_long, fault_of, wrong_frame, wrong, is_up, and-false, cond_both, frame, LinkEvent, received}
+use Rattle.laws_trace.proofs.Vocabulary.{arith, ◌≡◌, ℕ, false, cond, List, [], ◌++◌, Some, None, Result, ap, ◌∙◌, ◌⊎◌, append-nil, option_to_list, option_map_or, ReadFault, ErrorCode, Long, Service, Parts, Config, Answer, aim_of_reading, aim_of_long, Line, place_in, terms, aim_of, IsBy, nat_lt, length, eqb-true, Event, option_and_then, result_ok, result_err, its_frame, is_for, faulty_long}
+use Rattle.laws_trace.proofs.Vocabulary.{fault_of, wrong_frame, wrong, is_up, and-false, cond_both, frame, LinkEvent, received}
 use Rattle.laws_trace.proofs.DeliveriesRun.{heard-aims-at}
 use Rattle.laws_trace.proofs.LinkLed.{addressed-none, own-address}
 use Rattle.laws_trace.proofs.NewsRows.{errors_of}

@@ -1,5 +1,7 @@
 -- What is due of TEI management by one event of a line is what its answer shows, and the observer follows it.
-use Rattle.laws_trace.proofs.Vocabulary.{◌≡◌, ℕ, ◌==◌, Bool, true, false, cond, List, [], ◌∷◌, map, take, drop, slice_get, filter, Option, Some, None, IfSome, option_map, refl, sym, ap, ◌∙◌, subst, append-nil, true≢false, ◌⊎◌, inl, inr, arith, option_map_or, none-some, filter-append, Ui, Service, Timer, Parts, reading, Result, ReadFault, sapi_of, reading-again, Management, Message, Config, Aim, at_none, at_link, at_management, of_aim, hears, expiry, next, Answer, LineTold, gave, orders_in, Line, link_at, terms, service_at, aim_of, aim_of_heard, management_sapi, Taken, taken, next_of, line_of, at_requested, at_deactivated, heard_aims, lost_in, IsOwed, IsIdle, contents_of_link, IsOne, taken-one, served, unwrap_or, TimerT200 as T200, message_frame as frame_of, information_of, Event, told, line_after as after, answer, IsSound, result_ok, Managed, by_message, managing_by_event as by_event, is_of_teis, is_of_t201, IsAsDue, trace_frame_in as frame_in, offer, LinkEvent, LinkRequest, received, StreamEvent, link_told, tei_message, TeiEvent, tei_refusal, tei_course}
+use Rattle.laws_trace.proofs.Vocabulary.{◌≡◌, ℕ, ◌==◌, Bool, true, false, cond, List, [], ◌∷◌, map, take, drop, slice_get, filter, Option, Some, None, IfSome, option_map, refl, sym, ap, ◌∙◌, subst, append-nil, true≢false, ◌⊎◌, inl, inr, arith, option_map_or, none-some, filter-append, Ui, Service, Timer, Parts, reading, Result, ReadFault, sapi_of, reading-again, Management, Message, Config, Aim}
+use Rattle.laws_trace.proofs.Vocabulary.{at_none, at_link, at_management, of_aim, hears, expiry, next, Answer, LineTold, gave, orders_in, Line, link_at, terms, service_at, aim_of, aim_of_heard, management_sapi, Taken, taken, next_of, line_of, at_requested, at_deactivated, heard_aims, lost_in, IsOwed, IsIdle, contents_of_link, IsOne, taken-one, served, unwrap_or, TimerT200 as T200}
+use Rattle.laws_trace.proofs.Vocabulary.{message_frame as frame_of, information_of, Event, told, line_after as after, answer, IsSound, result_ok, Managed, by_message, managing_by_event as by_event, is_of_teis, is_of_t201, IsAsDue, trace_frame_in as frame_in, offer, LinkEvent, LinkRequest, received, StreamEvent, link_told, tei_message, TeiEvent, tei_refusal, tei_course}
 use Rattle.laws_trace.proofs.Follows.{Follows, Leads, InOrder, as_seen, serve-leads, expire-leads}
 use Rattle.laws_trace.proofs.ManagingTables.{AreOn}
 use Rattle.laws_trace.proofs.ManagingNotes.{none-of-teis, link-others, told-orders, Cases, is_management, message_in, message-is-read, heard-cases}

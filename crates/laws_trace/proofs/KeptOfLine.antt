@@ -1,5 +1,7 @@
 -- What an event of a line leaves of the contents that a link keeps.
-use Rattle.laws_trace.proofs.Vocabulary.{◌≡◌, ℕ, ◌%◌, Bool, true, false, cond, not, List, [], ◌∷◌, ◌++◌, ◌&&◌, ◌||◌, drop, Some, None, refl, sym, ap, ◌∙◌, subst, ◌⊎◌, inr, arith, append-nil, All, is_some, list_any, All-head, All-tail, none-some, Note, Service, place_of-is, is_on-at, not_not, accepted, ends, is_release, tells_loss, empties, Terms, Link, is_multiple_frame, queue_of, state_number, notes-own, Config, at_link, Answer, request, next, Line, has_tei, link_of, place_in, terms, aim_of, Deactivate, at_requested, at_deactivated, aim_of_request, IsInRange, terms_in_range, notes_of, is_loss_of, is_granted, link-grants, not-refused, fresh_link, refusal, Request, Release, IsSound, of_link, brings, is_news, is_sabme, steps, seen, is_up, link_after as after, link_told as told, Event, cond_both, LinkRequest, requested, LinkRelease, LinkData, cleared, line_after, answer}
+use Rattle.laws_trace.proofs.Vocabulary.{◌≡◌, ℕ, ◌%◌, Bool, true, false, cond, not, List, [], ◌∷◌, ◌++◌, ◌&&◌, ◌||◌, drop, Some, None, refl, sym, ap, ◌∙◌, subst, ◌⊎◌, inr, arith, append-nil, All, is_some, list_any, All-head, All-tail, none-some, Note, Service, place_of-is, is_on-at, not_not, accepted, ends, is_release, tells_loss, empties, Terms, Link, is_multiple_frame, queue_of, state_number}
+use Rattle.laws_trace.proofs.Vocabulary.{notes-own, Config, at_link, Answer, request, next, Line, has_tei, link_of, place_in, terms, aim_of, Deactivate, at_requested, at_deactivated, aim_of_request, IsInRange, terms_in_range, notes_of, is_loss_of, is_granted, link-grants, not-refused, fresh_link, refusal, Request, Release, IsSound, of_link, brings, is_news, is_sabme, steps, seen, is_up}
+use Rattle.laws_trace.proofs.Vocabulary.{link_after as after, link_told as told, Event, cond_both, LinkRequest, requested, LinkRelease, LinkData, cleared, line_after, answer}
 use Rattle.model_link.specs.Requests as requests
 use Rattle.model_link.specs.Sound as link_sound
 use Rattle.laws_trace.proofs.LineAtEnd.{link-at-end}

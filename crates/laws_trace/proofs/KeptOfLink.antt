@@ -1,5 +1,6 @@
 -- What an event of a link leaves of the contents that it keeps, and how far V(A) goes on.
-use Rattle.laws_trace.proofs.Vocabulary.{◌≡◌, ℕ, ◌%◌, ◌≤◌, Bool, true, false, cond, not, List, [], ◌∷◌, ◌++◌, ◌&&◌, ◌||◌, drop, refl, sym, ap, ◌∙◌, arith, eq-eqb, All, list_any, All-head, All-tail, none-some, Note, Parts, Terms, restarts, received, Link, is_multiple_frame, queue_of, state_number, accepted, ends, empties, is_loss, event-follows, event-done, is_loss_of, service-same, Control, LinkEvent as Event, frame, link_after as after, IsOwn, LinkIsSound as IsSound, acknowledged, is_sabme, steps, is_up, cond_both}
+use Rattle.laws_trace.proofs.Vocabulary.{◌≡◌, ℕ, ◌%◌, ◌≤◌, Bool, true, false, cond, not, List, [], ◌∷◌, ◌++◌, ◌&&◌, ◌||◌, drop, refl, sym, ap, ◌∙◌, arith, eq-eqb, All, list_any, All-head, All-tail, none-some, Note, Parts, Terms, restarts, received, Link, is_multiple_frame, queue_of, state_number, accepted, ends, empties, is_loss, event-follows, event-done, is_loss_of, service-same, Control}
+use Rattle.laws_trace.proofs.Vocabulary.{LinkEvent as Event, frame, link_after as after, IsOwn, LinkIsSound as IsSound, acknowledged, is_sabme, steps, is_up, cond_both}
 use Rattle.laws_trace.proofs.DataOfLink.{acknowledged-went}
 use Rattle.laws_trace.proofs.NewsRows.{sabme_of}
 use Rattle.laws_trace.proofs.Facts.{number-up}

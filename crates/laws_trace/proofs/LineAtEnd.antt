@@ -1,5 +1,6 @@
 -- The line and a link of it behind a list of events; and a link that has nothing to send, where nothing of its line does.
-use Rattle.laws_trace.proofs.Vocabulary.{◌≡◌, ℕ, ◌<◌, List, get_or, Option, Some, None, sym, ap, ◌∙◌, subst, arith, option_map_or, Service, place_of-is, Config, Line, link_in, link_of, place_in, terms, IsInRange, sound_in, place_at-number, service_at-number, HasNothing, IsSilent, line_at, fresh_is_sound, line-sound, config-stays, [], gave, next, next_of, Taken, taken, at, option_map, fresh_link as fresh, IsSound, CardEvent as Event, after_all, AreAtLines, always_sound, none-waits, trace_frame_in as frame_in, card_answer as answer}
+use Rattle.laws_trace.proofs.Vocabulary.{◌≡◌, ℕ, ◌<◌, List, get_or, Option, Some, None, sym, ap, ◌∙◌, subst, arith, option_map_or, Service, place_of-is, Config, Line, link_in, link_of, place_in, terms, IsInRange, sound_in, place_at-number, service_at-number, HasNothing, IsSilent, line_at, fresh_is_sound, line-sound, config-stays, [], gave, next, next_of, Taken, taken, at, option_map}
+use Rattle.laws_trace.proofs.Vocabulary.{fresh_link as fresh, IsSound, CardEvent as Event, after_all, AreAtLines, always_sound, none-waits, trace_frame_in as frame_in, card_answer as answer}
 use Rattle.model_link.specs.Sound as link_sound
 use Rattle.model_card.specs.Card as cards
 use Rattle.model_line.specs.Machine as lines

@@ -1,5 +1,6 @@
 -- Which state a link moves to: the law.
-use Rattle.laws_trace.proofs.Vocabulary.{◌≡◌, ℕ, ◌+◌, ◌≤◌, ◌==◌, not, Bool, true, false, cond, get_or, set, Option, Some, None, refl, sym, ap, ◌∙◌, subst, arith, eq-eqb, true≢false, inl, inr, IfSome, option_map_or, and_parts, get_or-set_same, Service, State, Terms, Link, state_number, Config, Answer, Line, fresh_line, link_of, place_in, state_of, terms, IsInRange, Card, line_at, is_full, has_lines, by_room, line_sound, AllHaveTheirTimers, IsBy, HaveTheirTimers, moves, eqb-true, IsSound, CardEvent as Event, after, card_answer as answer, IsAtLine, seen, LinkEvent, cleared}
+use Rattle.laws_trace.proofs.Vocabulary.{◌≡◌, ℕ, ◌+◌, ◌≤◌, ◌==◌, not, Bool, true, false, cond, get_or, set, Option, Some, None, refl, sym, ap, ◌∙◌, subst, arith, eq-eqb, true≢false, inl, inr, IfSome, option_map_or, and_parts, get_or-set_same, Service, State, Terms, Link, state_number, Config, Answer, Line, fresh_line, link_of, place_in, state_of, terms, IsInRange, Card, line_at, is_full}
+use Rattle.laws_trace.proofs.Vocabulary.{has_lines, by_room, line_sound, AllHaveTheirTimers, IsBy, HaveTheirTimers, moves, eqb-true, IsSound, CardEvent as Event, after, card_answer as answer, IsAtLine, seen, LinkEvent, cleared}
 use Rattle.model_line.specs.Event as line_event
 use Rattle.model_line.specs.Machine as lines
 use Rattle.model_card.specs.Sound as card_sound

@@ -1,6 +1,7 @@
 -- The table of TEIs, and the list of those on a line that an observer has: what is on it after a TEI came or left, and how
 -- many are.
-use Rattle.laws_trace.proofs.Vocabulary.{◌≡◌, ℕ, zero, suc, ◌+◌, ◌<◌, ◌≤◌, ◌==◌, ◌&&◌, ◌||◌, Bool, true, false, cond, not, List, [], ◌∷◌, length, replicate, set, get_or, Option, Some, None, refl, sym, ap, ◌∙◌, subst, arith, eq-eqb, true≢false, filter, list_any, prefix_len, any-filter_same, none-some, IsAt, IsSoundTable, Places, is_free, has, is_in_use, is_on, means, place_of, free_place, freed, place_of-is, is_on-at, free_place-is, is-off, eqb-true, ltb-false, false_from_ne_true}
+use Rattle.laws_trace.proofs.Vocabulary.{◌≡◌, ℕ, zero, suc, ◌+◌, ◌<◌, ◌≤◌, ◌==◌, ◌&&◌, ◌||◌, Bool, true, false, cond, not, List, [], ◌∷◌, length, replicate, set, get_or, Option, Some, None, refl, sym, ap, ◌∙◌, subst, arith, eq-eqb, true≢false, filter, list_any, prefix_len, any-filter_same, none-some, IsAt, IsSoundTable, Places, is_free, has, is_in_use, is_on, means, place_of, free_place, freed}
+use Rattle.laws_trace.proofs.Vocabulary.{place_of-is, is_on-at, free_place-is, is-off, eqb-true, ltb-false, false_from_ne_true}
 
 -- A TEI that comes.
 swap : (a b c : Bool) → (a || (b || c)) ≡ (b || (a || c))

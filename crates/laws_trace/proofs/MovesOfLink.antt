@@ -1,5 +1,6 @@
 -- Which state an event of a link leads to, and how often its command was repeated: by what an observer knows, row by row.
-use Rattle.laws_trace.proofs.Vocabulary.{◌≡◌, ℕ, ◌+◌, ◌≤◌, ◌==◌, not, Bool, false, cond, length, Some, None, ap, ◌∙◌, arith, nat_le, nat_lt, is_some, leb-true, leb-false, ReceiveReady, Seq, named, distance_of, seq, HasItsTimer, State, TeiAssigned, AwaitingEstablishment, Established, TimerRecovery, Terms, received, expired, requested, offer, cleared, Link, state_number, as_heard, state_after, moves, event-follows, ltb-true, ltb-false, LinkEvent as Event, frame, LinkEstablish as Establish, LinkRelease as Release, is_up, link_after as after}
+use Rattle.laws_trace.proofs.Vocabulary.{◌≡◌, ℕ, ◌+◌, ◌≤◌, ◌==◌, not, Bool, false, cond, length, Some, None, ap, ◌∙◌, arith, nat_le, nat_lt, is_some, leb-true, leb-false, ReceiveReady, Seq, named, distance_of, seq, HasItsTimer, State, TeiAssigned, AwaitingEstablishment, Established, TimerRecovery, Terms, received, expired, requested, offer, cleared, Link, state_number, as_heard, state_after}
+use Rattle.laws_trace.proofs.Vocabulary.{moves, event-follows, ltb-true, ltb-false, LinkEvent as Event, frame, LinkEstablish as Establish, LinkRelease as Release, is_up, link_after as after}
 use Rattle.laws_link.specs.States as states
 use Rattle.laws_trace.proofs.MovesWatched.{is_invalid, by_frame, by_expiry}
 use Rattle.laws_trace.proofs.States.{one_more}

@@ -1,5 +1,6 @@
 -- Which state a link moves to, by its numbers and by how often T200 expired: a part of what an observer knows.
-use Rattle.laws_trace.proofs.Vocabulary.{ℕ, ◌+◌, ◌==◌, ◌&&◌, ◌||◌, not, nat_lt, Bool, List, length, fold, Option, Some, None, is_some, if◌then◌else◌, option_map_or, Information, ReceiveReady, ReceiveNotReady, Reject, Sabme, Disc, Ua, Dm, Frmr, Service, Parts, Seq, LinkTimer, Config, Deactivate, Control, T200, T203, Request, Establish, Release, Moment, is_for, frame_of, malformed, steps, is_own, is_up, Seen, heard, granted, Event}
+use Rattle.laws_trace.proofs.Vocabulary.{ℕ, ◌+◌, ◌==◌, ◌&&◌, ◌||◌, not, nat_lt, Bool, List, length, fold, Option, Some, None, is_some, if◌then◌else◌, option_map_or, Information, ReceiveReady, ReceiveNotReady, Reject, Sabme, Disc, Ua, Dm, Frmr, Service, Parts, Seq, LinkTimer, Config, Deactivate, Control, T200, T203, Request, Establish, Release, Moment, is_for, frame_of, malformed, steps, is_own}
+use Rattle.laws_trace.proofs.Vocabulary.{is_up, Seen, heard, granted, Event}
 use Rattle.laws_trace.proofs.TimersWatched.{Known, awaits}
 use Rattle.laws_trace.proofs.States.{state_before, state_after, differ, expired_of, one_more}
 

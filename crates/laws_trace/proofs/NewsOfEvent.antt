@@ -1,5 +1,6 @@
 -- What layer 3 is told of the establishment and release of a link: one event of its line.
-use Rattle.laws_trace.proofs.Vocabulary.{arith, ◌≡◌, ℕ, ◌==◌, ◌&&◌, Bool, false, cond, List, [], Option, Some, None, refl, sym, ap, ◌∙◌, subst, true≢false, inl, inr, filter, list_any, none-some, ErrorCode, Service, State, Link, state_number, Config, Answer, Line, has_tei, link_of, place_in, state_of, notes_of, is-off, moves, unwrap_or, Control, fresh_link, IsSound, is_news, is_sabme, is_xid, releases, wrong, seen, Event, and-false, line_after, answer, event-follows}
+use Rattle.laws_trace.proofs.Vocabulary.{arith, ◌≡◌, ℕ, ◌==◌, ◌&&◌, Bool, false, cond, List, [], Option, Some, None, refl, sym, ap, ◌∙◌, subst, true≢false, inl, inr, filter, list_any, none-some, ErrorCode, Service, State, Link, state_number, Config, Answer, Line, has_tei, link_of, place_in, state_of, notes_of, is-off, moves, unwrap_or, Control, fresh_link, IsSound, is_news, is_sabme, is_xid}
+use Rattle.laws_trace.proofs.Vocabulary.{releases, wrong, seen, Event, and-false, line_after, answer, event-follows}
 use Rattle.laws_trace.proofs.NewsWatched.{establishes, due}
 use Rattle.laws_trace.proofs.TimersWatched.{brings, control_in}
 use Rattle.laws_trace.proofs.States.{is_state, differ}

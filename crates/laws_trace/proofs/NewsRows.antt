@@ -1,5 +1,6 @@
 -- What a link tells of establishments, releases and errors, by each frame that it hears.
-use Rattle.laws_trace.proofs.Vocabulary.{arith, ◌≡◌, ℕ, ◌==◌, not, Bool, true, false, cond, List, [], ◌∷◌, ◌++◌, length, refl, sym, ap, ◌∙◌, All, filter, nat_lt, is_some, All-head, All-tail, Address, ErrorCode, Note, State, AwaitingEstablishment, Established, Terms, undefined, wrong_size, overlong, received, expired, requested, Link, state_number, as_heard, state_after, told_by, numbered_as, Control, NoteXid as Xid, LinkEvent as Event, frame, LinkRelease as Release, IsOwn, is_up, is_news, is_sabme, is_xid, wrong_number, wrong_frame, given_up, F, L, N, O, NoteData as Data, Error, EstablishConfirm, EstablishIndication, ReleaseConfirm, ReleaseIndication}
+use Rattle.laws_trace.proofs.Vocabulary.{arith, ◌≡◌, ℕ, ◌==◌, not, Bool, true, false, cond, List, [], ◌∷◌, ◌++◌, length, refl, sym, ap, ◌∙◌, All, filter, nat_lt, is_some, All-head, All-tail, Address, ErrorCode, Note, State, AwaitingEstablishment, Established, Terms, undefined, wrong_size, overlong, received, expired, requested, Link, state_number, as_heard, state_after, told_by, numbered_as}
+use Rattle.laws_trace.proofs.Vocabulary.{Control, NoteXid as Xid, LinkEvent as Event, frame, LinkRelease as Release, IsOwn, is_up, is_news, is_sabme, is_xid, wrong_number, wrong_frame, given_up, F, L, N, O, NoteData as Data, Error, EstablishConfirm, EstablishIndication, ReleaseConfirm, ReleaseIndication}
 use Rattle.laws_trace.proofs.NewsWatched.{due}
 use Rattle.laws_trace.proofs.LinkLed.{own-is}
 use Rattle.laws_trace.proofs.TimerRows.{in_state}

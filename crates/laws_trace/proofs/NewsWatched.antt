@@ -1,5 +1,6 @@
 -- Whether layer 3 asked, and whether I-frames are outstanding: a part of what an observer knows; and by it the news.
-use Rattle.laws_trace.proofs.Vocabulary.{◌≡◌, ℕ, ◌==◌, ◌&&◌, ◌||◌, not, Bool, false, List, [], ◌∷◌, ◌++◌, fold, map, filter, Some, if◌then◌else◌, list_any, ErrorCode, Note, EstablishIndication, EstablishConfirm, ReleaseIndication, ReleaseConfirm, Error, Service, Config, request, Answer, notes_of, is_granted, at, moments, unwrap_or, NoteXid as Xid, Establish, fresh, CardEvent as Event, card_answer as answer, Moment, after_all, is_news, is_sabme, is_xid, releases, wrong, is_own, seen_in}
+use Rattle.laws_trace.proofs.Vocabulary.{◌≡◌, ℕ, ◌==◌, ◌&&◌, ◌||◌, not, Bool, false, List, [], ◌∷◌, ◌++◌, fold, map, filter, Some, if◌then◌else◌, list_any, ErrorCode, Note, EstablishIndication, EstablishConfirm, ReleaseIndication, ReleaseConfirm, Error, Service, Config, request, Answer, notes_of, is_granted, at, moments, unwrap_or, NoteXid as Xid, Establish, fresh, CardEvent as Event}
+use Rattle.laws_trace.proofs.Vocabulary.{card_answer as answer, Moment, after_all, is_news, is_sabme, is_xid, releases, wrong, is_own, seen_in}
 use Rattle.model_line.specs.Event as line_event
 use Rattle.laws_trace.proofs.TimersWatched.{Known, nothing_yet, watch, brings}
 use Rattle.laws_trace.proofs.States.{is_state, state_before, state_after, differ}

@@ -1,5 +1,7 @@
 -- Nothing is told as lost in vain: the law.
-use Rattle.laws_trace.proofs.Vocabulary.{◌≡◌, ℕ, ◌+◌, ◌-◌, ◌<◌, ◌≤◌, ◌==◌, ◌&&◌, Bool, true, false, cond, List, [], length, get_or, Option, Some, None, refl, sym, ap, ◌∙◌, subst, ◌⊎◌, inl, inr, arith, eq-eqb, true≢false, fold, le-ltb, and_parts, option_map_or, get_or-set_same, PoolFull, Refusal, Service, Call, place_of-is, is_on-at, service-same, ControlFrame, Config, Aim, at_none, at_link, of_aim, aim_of_expiry, aim_of_heard, hears, expiry, request, next, Answer, refused, Line, fresh_line, has_tei, link_of, aim_of, unless_refused, unless_refused_told, at_requested, aim_of_request, heard_aims, IsInRange, lost_in, deactivates, HaveTheirTimers, AllHaveTheirTimers, Card, line_at, is_full, at, fresh_is_sound, has_lines, by_room, line_sound, config-stays, at_no_link, Event, refusal, IsSound, after, card_answer as answer, after_all, AreAtLines, always_sound, put_in, managing_is_on as is_on, due, managed_after, Observed, View, by_event, view_of, view_behind, moment_of, is_empty, outgoing_of, seen, trace_of, Always, by-down, fresh, LinkRequest, StreamEvent, CardEvent}
+use Rattle.laws_trace.proofs.Vocabulary.{◌≡◌, ℕ, ◌+◌, ◌-◌, ◌<◌, ◌≤◌, ◌==◌, ◌&&◌, Bool, true, false, cond, List, [], length, get_or, Option, Some, None, refl, sym, ap, ◌∙◌, subst, ◌⊎◌, inl, inr, arith, eq-eqb, true≢false, fold, le-ltb, and_parts, option_map_or, get_or-set_same, PoolFull, Refusal, Service, Call, place_of-is, is_on-at, service-same, ControlFrame, Config, Aim, at_none, at_link}
+use Rattle.laws_trace.proofs.Vocabulary.{of_aim, aim_of_expiry, aim_of_heard, hears, expiry, request, next, Answer, refused, Line, fresh_line, has_tei, link_of, aim_of, unless_refused, unless_refused_told, at_requested, aim_of_request, heard_aims, IsInRange, lost_in, deactivates, HaveTheirTimers, AllHaveTheirTimers, Card, line_at, is_full, at, fresh_is_sound, has_lines, by_room, line_sound}
+use Rattle.laws_trace.proofs.Vocabulary.{config-stays, at_no_link, Event, refusal, IsSound, after, card_answer as answer, after_all, AreAtLines, always_sound, put_in, managing_is_on as is_on, due, managed_after, Observed, View, by_event, view_of, view_behind, moment_of, is_empty, outgoing_of, seen, trace_of, Always, by-down, fresh, LinkRequest, StreamEvent, CardEvent}
 use Rattle.model_line.specs.Machine as lines
 use Rattle.model_card.specs.Sound as card_sound
 use Rattle.laws_trace.specs.NoLossInVain.{puts_by, NoLossInVain}

@@ -1,5 +1,7 @@
 -- The control frames of a link that are due in a moment, by what the observer knows.
-use Rattle.laws_trace.proofs.Vocabulary.{◌≡◌, inl, inr, ℕ, ◌<◌, ◌+◌, ◌-◌, ◌==◌, ◌&&◌, ◌||◌, not, Bool, true, false, cond, length, take, List, [], ◌++◌, Option, Some, None, is_some, refl, sym, ap, ◌∙◌, subst, eq-eqb, arith, le-ltb, true≢false, nat_lt, option_map_or, none-some, Service, Parts, State, state_number, Config, hears, expiry, request, next, Answer, Line, link_of, place_in, state_of, ControlFrame, lost_in, is_granted, AllHaveTheirTimers, Card, line_at, at, eqb-true, lt-ltb, Request, CardEvent as Event, after, card_answer as answer, Moment, IsAtLine, brought, frame_of, its_frame, managing_is_on as is_on, led, due, Observed, View, in_state, by_event, by_heard, enters, views, is_up, Seen, trace_frame_in as frame_in, seen, seen_told, seen_granted, seen_in, CardIsSound as IsSound, StreamEvent}
+use Rattle.laws_trace.proofs.Vocabulary.{◌≡◌, inl, inr, ℕ, ◌<◌, ◌+◌, ◌-◌, ◌==◌, ◌&&◌, ◌||◌, not, Bool, true, false, cond, length, take, List, [], ◌++◌, Option, Some, None, is_some, refl, sym, ap, ◌∙◌, subst, eq-eqb, arith, le-ltb, true≢false, nat_lt, option_map_or, none-some, Service, Parts, State, state_number, Config, hears, expiry, request, next, Answer, Line, link_of, place_in, state_of}
+use Rattle.laws_trace.proofs.Vocabulary.{ControlFrame, lost_in, is_granted, AllHaveTheirTimers, Card, line_at, at, eqb-true, lt-ltb, Request, CardEvent as Event, after, card_answer as answer, Moment, IsAtLine, brought, frame_of, its_frame, managing_is_on as is_on, led, due, Observed, View, in_state, by_event, by_heard, enters, views, is_up, Seen, trace_frame_in as frame_in, seen, seen_told}
+use Rattle.laws_trace.proofs.Vocabulary.{seen_granted, seen_in, CardIsSound as IsSound, StreamEvent}
 use Rattle.model_line.specs.Event as line_event
 use Rattle.laws_trace.specs.ControlFrames as now_due
 use Rattle.laws_trace.proofs.ControlsSeen.{answers_seen, heard-answers, begun-none}

@@ -1,5 +1,6 @@
 -- What an observer knows of this side of a link, after a list of events.
-use Rattle.laws_trace.proofs.Vocabulary.{arith, ◌≡◌, ℕ, ◌==◌, not, Bool, true, cond, List, [], ◌∷◌, Option, Some, None, is_some, refl, sym, ap, ◌∙◌, subst, true≢false, inl, inr, fold, and_parts, All-head, All-tail, fold-append, PoolFull, Service, state_number, Config, refused, Line, link_of, place_in, state_of, Card, line_at, is_full, moments, after_is_sound, has_lines, by_room, line_sound, AllHaveTheirTimers, timely-after, eqb-true, CardEvent as Event, after, card_answer as answer, Moment, after_all, IsAtLine, AreAtLines, managing_is_on as is_on, led, Observed, View, in_state, by_event, views, seen, seen_in, trace, CardIsSound as IsSound}
+use Rattle.laws_trace.proofs.Vocabulary.{arith, ◌≡◌, ℕ, ◌==◌, not, Bool, true, cond, List, [], ◌∷◌, Option, Some, None, is_some, refl, sym, ap, ◌∙◌, subst, true≢false, inl, inr, fold, and_parts, All-head, All-tail, fold-append, PoolFull, Service, state_number, Config, refused, Line, link_of, place_in, state_of, Card, line_at, is_full, moments, after_is_sound, has_lines, by_room, line_sound}
+use Rattle.laws_trace.proofs.Vocabulary.{AllHaveTheirTimers, timely-after, eqb-true, CardEvent as Event, after, card_answer as answer, Moment, after_all, IsAtLine, AreAtLines, managing_is_on as is_on, led, Observed, View, in_state, by_event, views, seen, seen_in, trace, CardIsSound as IsSound}
 use Rattle.model_line.specs.Event as line_event
 use Rattle.model_line.specs.Machine as lines
 use Rattle.laws_trace.proofs.ControlFrames.{moment}

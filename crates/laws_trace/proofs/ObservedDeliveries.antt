@@ -1,5 +1,6 @@
 -- What layer 3 is told of what is heard, by what the observer knows of the link.
-use Rattle.laws_trace.proofs.Vocabulary.{arith, List, nat_le, ◌≡◌, ℕ, ◌<◌, ◌||◌, Bool, true, false, Option, Some, None, option_map, refl, sym, ap, ◌∙◌, subst, true≢false, inl, inr, fold, count_by, length, option_to_list, list_any, option_map_or, and_parts, none-some, PoolFull, Service, Parts, state_number, Config, Answer, refused, Line, link_of, place_in, state_of, IsInRange, notes_of, contents_in, is_data_of, is_unit_of, tells_contents, line_at, is_full, at, has_lines, by_room, line_sound, IsSound, fresh, card_answer as answer, after_all, AreAtLines, is_unit_for, is_unit_taken, WhatIsToldWasHeard, brought, is_for, Observed, in_state, view_of, is_up, trace_of, Always, is_ui, Managed, Event}
+use Rattle.laws_trace.proofs.Vocabulary.{arith, List, nat_le, ◌≡◌, ℕ, ◌<◌, ◌||◌, Bool, true, false, Option, Some, None, option_map, refl, sym, ap, ◌∙◌, subst, true≢false, inl, inr, fold, count_by, length, option_to_list, list_any, option_map_or, and_parts, none-some, PoolFull, Service, Parts, state_number, Config, Answer, refused, Line, link_of, place_in, state_of, IsInRange, notes_of}
+use Rattle.laws_trace.proofs.Vocabulary.{contents_in, is_data_of, is_unit_of, tells_contents, line_at, is_full, at, has_lines, by_room, line_sound, IsSound, fresh, card_answer as answer, after_all, AreAtLines, is_unit_for, is_unit_taken, WhatIsToldWasHeard, brought, is_for, Observed, in_state, view_of, is_up, trace_of, Always, is_ui, Managed, Event}
 use Rattle.model_line.specs.Machine as lines
 use Rattle.laws_trace.proofs.Deliveries.{frame_by}
 use Rattle.laws_trace.proofs.DeliveriesKept.{run-stands}

@@ -1,5 +1,6 @@
 -- How often T200 of a link expired, to an observer: it rises by an expiry of it alone.
-use Rattle.laws_trace.proofs.Vocabulary.{◌≡◌, ℕ, ◌==◌, ◌&&◌, ◌||◌, not, Bool, true, false, cond, refl, ap, ◌∙◌, arith, is_some, nat_lt, le-ltb, Service, Config, expiry, Answer, Deactivate, eqb-true, lt-ltb, Event, Request, Establish, Release, SetBusy, ClearBusy, Observed, in_state, awaits, observer_by_request as by_request, by_t200, enquires, enters, by_event, is_own, is_up, or-true, TimerT200 as T200}
+use Rattle.laws_trace.proofs.Vocabulary.{◌≡◌, ℕ, ◌==◌, ◌&&◌, ◌||◌, not, Bool, true, false, cond, refl, ap, ◌∙◌, arith, is_some, nat_lt, le-ltb, Service, Config, expiry, Answer, Deactivate, eqb-true, lt-ltb, Event, Request, Establish, Release, SetBusy, ClearBusy, Observed, in_state, awaits, observer_by_request as by_request, by_t200, enquires, enters, by_event, is_own, is_up, or-true}
+use Rattle.laws_trace.proofs.Vocabulary.{TimerT200 as T200}
 
 abbrev pub IsNoMore : Observed → Observed → Type 0
 IsNoMore o q = nat_lt o.expiries q.expiries ≡ false

@@ -1,5 +1,6 @@
 -- What the observer knows of a link gives the laws of it, by what follows its parts.
-use Rattle.laws_trace.proofs.Vocabulary.{arith, lt-ltb, config-stays, ◌≡◌, ℕ, ◌<◌, ◌==◌, ◌&&◌, ◌||◌, inl, inr, not, Bool, false, cond, List, [], ◌∷◌, ◌++◌, map, Option, Some, None, is_some, refl, sym, ap, ◌∙◌, subst, fold, filter, nat_le, list_any, Note, Error, Service, State, LinkTimer, state_number, Config, orders_in, Line, state_of, IsInRange, obeyed, notes_of, timer_of, left_by, runs_at_callers, line_at, at, moments, unwrap_or, fresh, CardEvent as Event, after, Moment, after_all, AreAtLines, managing_is_on as is_on, NewsIsTold, Observed, View, view_of, moment_of, view_behind, TimersRun, Seen, seen, Always, renews}
+use Rattle.laws_trace.proofs.Vocabulary.{arith, lt-ltb, config-stays, ◌≡◌, ℕ, ◌<◌, ◌==◌, ◌&&◌, ◌||◌, inl, inr, not, Bool, false, cond, List, [], ◌∷◌, ◌++◌, map, Option, Some, None, is_some, refl, sym, ap, ◌∙◌, subst, fold, filter, nat_le, list_any, Note, Error, Service, State, LinkTimer, state_number, Config, orders_in, Line, state_of, IsInRange, obeyed, notes_of, timer_of, left_by}
+use Rattle.laws_trace.proofs.Vocabulary.{runs_at_callers, line_at, at, moments, unwrap_or, fresh, CardEvent as Event, after, Moment, after_all, AreAtLines, managing_is_on as is_on, NewsIsTold, Observed, View, view_of, moment_of, view_behind, TimersRun, Seen, seen, Always, renews}
 use Rattle.model_line.specs.Event as line_event
 use Rattle.laws_trace.specs.LinksMove.{LinksMove}
 use Rattle.laws_trace.proofs.MovesWatched.{repeated}

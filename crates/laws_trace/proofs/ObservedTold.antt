@@ -1,5 +1,6 @@
 -- What an event of a line tells of data, by what an observer knows of the link; and when the numbers begin.
-use Rattle.laws_trace.proofs.Vocabulary.{◌≡◌, ℕ, ◌&&◌, not, Bool, true, false, cond, List, length, Option, Some, None, refl, sym, ap, ◌∙◌, arith, inl, inr, true≢false, nat_lt, nat_le, is_some, list_any, option_map_or, leb-true, leb-false, none-some, Service, Parts, Terms, restarts, eligible, eligible_of, Link, is_multiple_frame, state_number, in_sequence, event-follows, data-is, establishes, Config, Answer, Line, link_of, place_in, terms, IsInRange, notes_of, is_data_of, IsBy, ltb-true, ltb-false, Control, link_information_of as information_of, Event, IsSound, brings_next, brought, is_for, Observed, is_up, undefined, received, cleared, requested, LinkEvent, overlong, frame, wrong_size, line_after, answer}
+use Rattle.laws_trace.proofs.Vocabulary.{◌≡◌, ℕ, ◌&&◌, not, Bool, true, false, cond, List, length, Option, Some, None, refl, sym, ap, ◌∙◌, arith, inl, inr, true≢false, nat_lt, nat_le, is_some, list_any, option_map_or, leb-true, leb-false, none-some, Service, Parts, Terms, restarts, eligible, eligible_of, Link, is_multiple_frame, state_number, in_sequence, event-follows, data-is, establishes}
+use Rattle.laws_trace.proofs.Vocabulary.{Config, Answer, Line, link_of, place_in, terms, IsInRange, notes_of, is_data_of, IsBy, ltb-true, ltb-false, Control, link_information_of as information_of, Event, IsSound, brings_next, brought, is_for, Observed, is_up, undefined, received, cleared, requested, LinkEvent, overlong, frame, wrong_size, line_after, answer}
 use Rattle.laws_trace.proofs.Counting.{begins}
 use Rattle.laws_trace.proofs.Begins.{in-state, unless}
 use Rattle.laws_trace.proofs.Deliveries.{frame_by, brings-frame, brings-none, one-begins}

@@ -1,5 +1,6 @@
 -- What a link gives next is what an observer has it offer.
-use Rattle.laws_trace.proofs.Vocabulary.{◌≡◌, ℕ, zero, suc, ◌+◌, ◌%◌, ◌<◌, ◌≤◌, ◌==◌, Bool, true, false, cond, List, [], ◌∷◌, drop, length, slice_get, Some, None, refl, sym, ap, ◌∙◌, inl, inr, arith, and_parts, fold, Service, place_of-is, Information, ReceiveReady, seq, given-in-order, given-is-offered, IsInOrder, IsOffered, State, Established, ControlFrame, Terms, Link, is_multiple_frame, state_number, Given, Config, Line, link_of, place_in, terms, IsInRange, IsSilent, terms_in_range, line_at, moments, ltb-true, lt-ltb, line_frame_of as frame_of, IsSound, fresh, CardEvent as Event, after_all, AreAtLines, is_seq, text, may_go, offers, View, steps, view_of, Outgoing, outgoing_of, is_up, offer, link_after as after, given}
+use Rattle.laws_trace.proofs.Vocabulary.{◌≡◌, ℕ, zero, suc, ◌+◌, ◌%◌, ◌<◌, ◌≤◌, ◌==◌, Bool, true, false, cond, List, [], ◌∷◌, drop, length, slice_get, Some, None, refl, sym, ap, ◌∙◌, inl, inr, arith, and_parts, fold, Service, place_of-is, Information, ReceiveReady, seq, given-in-order, given-is-offered, IsInOrder, IsOffered, State, Established, ControlFrame, Terms, Link, is_multiple_frame}
+use Rattle.laws_trace.proofs.Vocabulary.{state_number, Given, Config, Line, link_of, place_in, terms, IsInRange, IsSilent, terms_in_range, line_at, moments, ltb-true, lt-ltb, line_frame_of as frame_of, IsSound, fresh, CardEvent as Event, after_all, AreAtLines, is_seq, text, may_go, offers, View, steps, view_of, Outgoing, outgoing_of, is_up, offer, link_after as after, given}
 use Rattle.model_link.specs.Sound as link_sound
 use Rattle.laws_link.specs.Sending.{MayGo}
 use Rattle.laws_trace.proofs.LineAtEnd.{line-at-end, link-at-end}

@@ -1,6 +1,9 @@
 -- What an event of a line is to the link of a service with a TEI, at whatever place the TEI is: one event of this link,
 -- its deactivation, or none.
-use Rattle.laws_trace.proofs.Vocabulary.{arith, ◌≡◌, ℕ, ◌==◌, ◌&&◌, Bool, true, false, List, [], ◌∷◌, map, slice_get, Option, Some, None, IfSome, option_map, refl, sym, ap, ◌∙◌, subst, ◌⊎◌, inl, inr, All, option_to_list, option_or, option_map_or, All-nil, All-cons, none-some, Refusal, Service, Order, same_service, IsAt, Message, Terms, Link, Given, Config, hears, expiry, request, next, Answer, gave, Aim, at_none, at_link, at_management, at_units, of_aim, aim_of_expiry, orders_in, Line, UnitData, link_number, service_at, place_at, place_in, has_tei, link_at, link_in, link_of, terms, with_link, aim_of, unless_refused, unless_refused_told, aim_of_heard, Taken, unit_frame, with_given_frame, next_of, line_of, aim_of_request, IsProper, heard_proper, expiry_proper, request_proper, round_below, lost_in, notes_of, contents_in, IsBy, IsDeactivated, IsOf, by-or-down, OfLink, of-links, services-equal, both-true, has-place, Ties, heard-ties, expiry-ties, request-ties, number-is, at_no_link, orders_for, eqb-true, message_frame, fresh_link as fresh, Event, told, line_after as after, answer, line_frame_of as frame_of, refusal, IsSound, trace_frame_in as frame_in, by-down, Timer, heard_aims, Request, given, StreamEvent, link_told, link_after, none-ordered}
+use Rattle.laws_trace.proofs.Vocabulary.{arith, ◌≡◌, ℕ, ◌==◌, ◌&&◌, Bool, true, false, List, [], ◌∷◌, map, slice_get, Option, Some, None, IfSome, option_map, refl, sym, ap, ◌∙◌, subst, ◌⊎◌, inl, inr, All, option_to_list, option_or, option_map_or, All-nil, All-cons, none-some, Refusal, Service, Order, same_service, IsAt, Message, Terms, Link, Given, Config, hears, expiry, request, next, Answer}
+use Rattle.laws_trace.proofs.Vocabulary.{gave, Aim, at_none, at_link, at_management, at_units, of_aim, aim_of_expiry, orders_in, Line, UnitData, link_number, service_at, place_at, place_in, has_tei, link_at, link_in, link_of, terms, with_link, aim_of, unless_refused, unless_refused_told, aim_of_heard, Taken, unit_frame, with_given_frame, next_of, line_of, aim_of_request, IsProper, heard_proper}
+use Rattle.laws_trace.proofs.Vocabulary.{expiry_proper, request_proper, round_below, lost_in, notes_of, contents_in, IsBy, IsDeactivated, IsOf, by-or-down, OfLink, of-links, services-equal, both-true, has-place, Ties, heard-ties, expiry-ties, request-ties, number-is, at_no_link, orders_for, eqb-true, message_frame, fresh_link as fresh, Event, told, line_after as after, answer}
+use Rattle.laws_trace.proofs.Vocabulary.{line_frame_of as frame_of, refusal, IsSound, trace_frame_in as frame_in, by-down, Timer, heard_aims, Request, given, StreamEvent, link_told, link_after, none-ordered}
 use Rattle.model_link.specs.Events as link
 use Rattle.laws_line.proofs.Readings as read
 use Rattle.laws_trace.proofs.ClearedTells.{none-delivered, none-lost}

@@ -1,5 +1,7 @@
 -- What a link has to send is what an observer has: what it keeps.
-use Rattle.laws_trace.proofs.Vocabulary.{◌≡◌, ℕ, ◌<◌, ◌==◌, ◌&&◌, Bool, true, false, cond, List, [], ◌∷◌, ◌++◌, drop, get_or, Option, Some, None, refl, sym, ap, ◌∙◌, subst, arith, eq-eqb, true≢false, append-nil, append_assoc, fold, and_parts, get_or-set_same, get_or-replicate, fold-append, none-some, Service, Link, queue_of, state_number, Config, Answer, Line, fresh_line, has_tei, link_of, place_in, IsInRange, is-off, nowhere, Card, line_at, is_full, at, moments, has_lines, by_room, line_sound, all-left, notes_of, eqb-true, fresh_link, fresh, CardEvent as Event, after, card_answer as answer, Moment, after_all, IsAtLine, AreAtLines, managing_is_on as is_on, due, brings, is_sabme, Observed, View, views, view_of, moment_of, view_behind, Outgoing, data_granted, went_on, keeps, watches, nothing_yet, outgoing_of, is_up, seen, CardIsSound as IsSound, after_all-append}
+use Rattle.laws_trace.proofs.Vocabulary.{◌≡◌, ℕ, ◌<◌, ◌==◌, ◌&&◌, Bool, true, false, cond, List, [], ◌∷◌, ◌++◌, drop, get_or, Option, Some, None, refl, sym, ap, ◌∙◌, subst, arith, eq-eqb, true≢false, append-nil, append_assoc, fold, and_parts, get_or-set_same, get_or-replicate, fold-append, none-some, Service, Link, queue_of, state_number, Config, Answer, Line, fresh_line, has_tei, link_of}
+use Rattle.laws_trace.proofs.Vocabulary.{place_in, IsInRange, is-off, nowhere, Card, line_at, is_full, at, moments, has_lines, by_room, line_sound, all-left, notes_of, eqb-true, fresh_link, fresh, CardEvent as Event, after, card_answer as answer, Moment, after_all, IsAtLine, AreAtLines, managing_is_on as is_on, due, brings, is_sabme, Observed, View, views, view_of, moment_of, view_behind}
+use Rattle.laws_trace.proofs.Vocabulary.{Outgoing, data_granted, went_on, keeps, watches, nothing_yet, outgoing_of, is_up, seen, CardIsSound as IsSound, after_all-append}
 use Rattle.model_line.specs.Event as line_event
 use Rattle.model_line.specs.Machine as lines
 use Rattle.laws_trace.proofs.KeptOfLine.{left, still, left-so, comes-so}

@@ -1,5 +1,7 @@
 -- A link owes an acknowledgement where an observer has it so.
-use Rattle.laws_trace.proofs.Vocabulary.{◌≡◌, ℕ, ◌<◌, ◌==◌, ◌&&◌, ◌||◌, not, Bool, true, false, cond, List, [], get_or, Some, None, refl, sym, ap, ◌∙◌, subst, arith, eq-eqb, fold, and_parts, list_any, option_map_or, get_or-set_same, PoolFull, Service, ControlFrame, Link, is_multiple_frame, state_number, Config, Answer, refused, Line, fresh_line, has_tei, link_of, place_in, state_of, IsInRange, notes_of, is_data_of, Card, line_at, is_full, at, moments, has_lines, by_room, line_sound, AllHaveTheirTimers, fresh, CardEvent as Event, Moment, after_all, IsAtLine, AreAtLines, put_in, is_frame_of, managing_is_on as is_on, Observed, View, views, view_of, moment_of, view_behind, Outgoing, outgoing_of, is_empty, still_owes, trace_frame_in as frame_in, is_up, Seen, seen, trace_of, and-false, line_after as after, answer, takes_slot, CardIsSound as IsSound, outgoing_waits}
+use Rattle.laws_trace.proofs.Vocabulary.{◌≡◌, ℕ, ◌<◌, ◌==◌, ◌&&◌, ◌||◌, not, Bool, true, false, cond, List, [], get_or, Some, None, refl, sym, ap, ◌∙◌, subst, arith, eq-eqb, fold, and_parts, list_any, option_map_or, get_or-set_same, PoolFull, Service, ControlFrame, Link, is_multiple_frame, state_number, Config, Answer, refused, Line, fresh_line, has_tei, link_of, place_in, state_of, IsInRange}
+use Rattle.laws_trace.proofs.Vocabulary.{notes_of, is_data_of, Card, line_at, is_full, at, moments, has_lines, by_room, line_sound, AllHaveTheirTimers, fresh, CardEvent as Event, Moment, after_all, IsAtLine, AreAtLines, put_in, is_frame_of, managing_is_on as is_on, Observed, View, views, view_of, moment_of, view_behind, Outgoing, outgoing_of, is_empty, still_owes, trace_frame_in as frame_in}
+use Rattle.laws_trace.proofs.Vocabulary.{is_up, Seen, seen, trace_of, and-false, line_after as after, answer, takes_slot, CardIsSound as IsSound, outgoing_waits}
 use Rattle.model_line.specs.Event as line_event
 use Rattle.model_card.specs.Machine as cards
 use Rattle.laws_trace.proofs.ControlsAtLine.{waits, put_here}

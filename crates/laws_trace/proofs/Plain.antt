@@ -1,5 +1,6 @@
 -- All that waits on a link are control frames: neither I-frames nor UI.
-use Rattle.laws_trace.proofs.Vocabulary.{◌≡◌, ℕ, ◌<◌, List, [], ◌∷◌, Some, sym, ap, subst, arith, All, option_map_or, get_or-replicate, All-nil, All-tail, Service, place_of-is, at-within, ControlFrame, Link, Config, Line, fresh_line, link_in, link_number, link_of, place_in, terms, number_within, IsInRange, line_at, fresh_is_sound, fresh_link, fresh, CardEvent as Event, after_all, AreAtLines, IsWaitingFrame}
+use Rattle.laws_trace.proofs.Vocabulary.{◌≡◌, ℕ, ◌<◌, List, [], ◌∷◌, Some, sym, ap, subst, arith, All, option_map_or, get_or-replicate, All-nil, All-tail, Service, place_of-is, at-within, ControlFrame, Link, Config, Line, fresh_line, link_in, link_number, link_of, place_in, terms, number_within, IsInRange, line_at, fresh_is_sound, fresh_link, fresh, CardEvent as Event, after_all, AreAtLines}
+use Rattle.laws_trace.proofs.Vocabulary.{IsWaitingFrame}
 use Rattle.laws_trace.proofs.LineAtEnd.{link-at-end, line-at-end}
 use Rattle.laws_trace.proofs.ControlsAtLine.{waits}
 use Rattle.laws_trace.proofs.ControlsDue.{IsControl, all-controls}

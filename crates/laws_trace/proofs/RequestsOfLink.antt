@@ -1,5 +1,6 @@
 -- What each request is to a link as it stands, and what is known of the link behind it where it is granted.
-use Rattle.laws_trace.proofs.Vocabulary.{◌≡◌, ℕ, ◌+◌, ◌-◌, ◌<◌, ◌≤◌, ◌==◌, ◌||◌, Bool, true, false, not, cond, nat_le, nat_lt, list_any, List, [], ◌∷◌, ◌++◌, length, take, filter, refl, sym, leb-true, leb-false, le-ltb, ap, ◌∙◌, arith, eq-eqb, eqb-true, append-nil, any-filter_same, Note, Service, ControlFrame, Config, Answer, lost_in, is_loss_of, is_granted, deactivates, Card, at, managing_is_on as is_on, due, is_news, Observed, in_state, observer_by_request, Outgoing, watches, is_empty, is_up, request, Request, Moment, State, state_number, keeps, put_in, changed, command_of, enters, steps, went_on, as_command, Sabme, Disc, ReleaseConfirm, ReleaseIndication, trace_frame_in as frame_in}
+use Rattle.laws_trace.proofs.Vocabulary.{◌≡◌, ℕ, ◌+◌, ◌-◌, ◌<◌, ◌≤◌, ◌==◌, ◌||◌, Bool, true, false, not, cond, nat_le, nat_lt, list_any, List, [], ◌∷◌, ◌++◌, length, take, filter, refl, sym, leb-true, leb-false, le-ltb, ap, ◌∙◌, arith, eq-eqb, eqb-true, append-nil, any-filter_same, Note, Service, ControlFrame, Config, Answer, lost_in, is_loss_of, is_granted, deactivates, Card, at}
+use Rattle.laws_trace.proofs.Vocabulary.{managing_is_on as is_on, due, is_news, Observed, in_state, observer_by_request, Outgoing, watches, is_empty, is_up, request, Request, Moment, State, state_number, keeps, put_in, changed, command_of, enters, steps, went_on, as_command, Sabme, Disc, ReleaseConfirm, ReleaseIndication, trace_frame_in as frame_in}
 use Rattle.std.proofs.Math.Seq.{take-nil, take-append-add}
 use Rattle.std.proofs.lemmas.List.{take_all}
 use Rattle.laws_trace.specs.News as news

@@ -1,5 +1,8 @@
 -- What layer 3 asks of a link is refused, or it takes effect: the law.
-use Rattle.laws_trace.proofs.Vocabulary.{◌≡◌, ℕ, ◌+◌, ◌-◌, ◌<◌, ◌≤◌, ⊎_elim, ◌==◌, ◌&&◌, ◌||◌, Bool, true, false, cond, nat_le, nat_lt, list_any, List, Option, [], ◌∷◌, ◌++◌, length, take, drop, filter, Some, None, Ok, Err, Result, refl, sym, ap, ◌∙◌, subst, arith, eqb-true, append-nil, All-nil, All-cons, All-append, Note, Service, Refusal, ControlFrame, Config, Answer, Line, link_of, has_tei, unless_refused_told, of_request, queue_of, IsInRange, lost_in, notes_of, is_loss_of, is_granted, deactivates, Card, line_at, is_full, at, fresh, refusal, refused_by_the_table, answer_is, CardEvent as Event, after_all, IsAtLine, AreAtLines, managing_is_on as is_on, due, releases, is_news, Observed, View, in_state, moment_of, view_of, views, observer_by_request, Outgoing, outgoing_of, watches, is_empty, is_own, is_up, Always, request, Request, Establish, Release, Data, SetBusy, ClearBusy, Deactivate, Moment, state_number, is_multiple_frame, result_err, keeps, config-stays, used, of_link, LinkRequest, LinkEstablish, LinkRelease, LinkData, LinkSetBusy, LinkClearBusy, put_in, changed, went_on, data_granted, Link, as_command, Sabme, Disc, ReleaseConfirm}
+use Rattle.laws_trace.proofs.Vocabulary.{◌≡◌, ℕ, ◌+◌, ◌-◌, ◌<◌, ◌≤◌, ⊎_elim, ◌==◌, ◌&&◌, ◌||◌, Bool, true, false, cond, nat_le, nat_lt, list_any, List, Option, [], ◌∷◌, ◌++◌, length, take, drop, filter, Some, None, Ok, Err, Result, refl, sym, ap, ◌∙◌, subst, arith, eqb-true, append-nil, All-nil, All-cons, All-append, Note, Service, Refusal, ControlFrame, Config, Answer, Line, link_of, has_tei}
+use Rattle.laws_trace.proofs.Vocabulary.{unless_refused_told, of_request, queue_of, IsInRange, lost_in, notes_of, is_loss_of, is_granted, deactivates, Card, line_at, is_full, at, fresh, refusal, refused_by_the_table, answer_is, CardEvent as Event, after_all, IsAtLine, AreAtLines, managing_is_on as is_on, due, releases, is_news, Observed, View, in_state, moment_of, view_of, views}
+use Rattle.laws_trace.proofs.Vocabulary.{observer_by_request, Outgoing, outgoing_of, watches, is_empty, is_own, is_up, Always, request, Request, Establish, Release, Data, SetBusy, ClearBusy, Deactivate, Moment, state_number, is_multiple_frame, result_err, keeps, config-stays, used, of_link, LinkRequest, LinkEstablish, LinkRelease, LinkData, LinkSetBusy, LinkClearBusy, put_in, changed, went_on}
+use Rattle.laws_trace.proofs.Vocabulary.{data_granted, Link, as_command, Sabme, Disc, ReleaseConfirm}
 use Rattle.model_card.specs.Card.{state}
 use Rattle.model_link.specs.Requests.{serves}
 use Rattle.laws_trace.specs.News as news

@@ -1,5 +1,6 @@
 -- What holds of every event of a line, and of what it shows, holds of the trace of a run.
-use Rattle.laws_trace.proofs.Vocabulary.{◌≡◌, ◌≢◌, ℕ, ◌==◌, Bool, true, cond, List, [], ◌∷◌, ◌++◌, get_or, refl, sym, subst, arith, eq-eqb, and_parts, get_or-set_same, get_or-set_other, All-head, All-tail, PoolFull, Config, refused, Line, fresh_line, Card, line_at, is_full, moments, after_is_sound, has_lines, by_room, line_sound, eqb-true, CardEvent as Event, after, card_answer as answer, after_all, IsAtLine, AreAtLines, CardIsSound as IsSound, Seen, seen, trace}
+use Rattle.laws_trace.proofs.Vocabulary.{◌≡◌, ◌≢◌, ℕ, ◌==◌, Bool, true, cond, List, [], ◌∷◌, ◌++◌, get_or, refl, sym, subst, arith, eq-eqb, and_parts, get_or-set_same, get_or-set_other, All-head, All-tail, PoolFull, Config, refused, Line, fresh_line, Card, line_at, is_full, moments, after_is_sound, has_lines, by_room, line_sound, eqb-true, CardEvent as Event, after, card_answer as answer}
+use Rattle.laws_trace.proofs.Vocabulary.{after_all, IsAtLine, AreAtLines, CardIsSound as IsSound, Seen, seen, trace}
 use Rattle.model_line.specs.Event as line_event
 use Rattle.model_line.specs.Machine as lines
 use Rattle.model_line.specs.Sound as line

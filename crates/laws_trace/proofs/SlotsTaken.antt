@@ -1,5 +1,6 @@
 -- What the lines of a card keep, as whoever watches them has it, takes the slots of its pool.
-use Rattle.laws_trace.proofs.Vocabulary.{◌≡◌, ℕ, ◌+◌, ◌<◌, ◌==◌, ◌&&◌, true, false, cond, length, List, [], ◌∷◌, Option, Some, None, refl, sym, ap, ◌∙◌, subst, arith, range_with_len, fold, true≢false, Service, Call, Packet, queue_of, fresh_link, place_of-is, is_on-at, Config, Line, fresh_line, has_tei, place_in, unit_frame, IsInRange, IsSound, Card, line_at, is-off, fresh, CardEvent as Event, moments, after_all, AreAtLines, managing_is_on as is_on, Moment, Outgoing, keeps, nothing_yet, outgoing_of, watches, units_of, View, views, config-stays, always_sound, fresh_is_sound, sum_by, option_map_or, length-map, place_at-number, number_within, link_at, link_in, link_number, tei_at, place_at, IsSoundAt, used}
+use Rattle.laws_trace.proofs.Vocabulary.{◌≡◌, ℕ, ◌+◌, ◌<◌, ◌==◌, ◌&&◌, true, false, cond, length, List, [], ◌∷◌, Option, Some, None, refl, sym, ap, ◌∙◌, subst, arith, range_with_len, fold, true≢false, Service, Call, Packet, queue_of, fresh_link, place_of-is, is_on-at, Config, Line, fresh_line, has_tei, place_in, unit_frame, IsInRange, IsSound, Card, line_at, is-off, fresh, CardEvent as Event}
+use Rattle.laws_trace.proofs.Vocabulary.{moments, after_all, AreAtLines, managing_is_on as is_on, Moment, Outgoing, keeps, nothing_yet, outgoing_of, watches, units_of, View, views, config-stays, always_sound, fresh_is_sound, sum_by, option_map_or, length-map, place_at-number, number_within, link_at, link_in, link_number, tei_at, place_at, IsSoundAt, used}
 use Rattle.model_line.specs.Stored.{slots_of, slots_by_link, sum_of_links}
 use Rattle.laws_trace.specs.NoSlotIsLost.{kept_at, slots_taken}
 use Rattle.laws_trace.proofs.LineAtEnd.{line-at-end}

@@ -1,5 +1,6 @@
 -- The messages of TEI management that wait stay small: what it hears are octets.
-use Rattle.laws_trace.proofs.Vocabulary.{arith, ◌≡◌, ℕ, ◌<◌, List, [], ◌∷◌, ◌++◌, length, drop, Option, IfSome, refl, subst, Ok, All, option_map_or, All-drop, All-head, AreOctets, Parts, reading, reading-found, Config, Aim, at_management, of_aim, hears, Answer, Line, aim_of_heard, heard_side, Taken, taken, line_of, side_aims, IsOne, taken-one, head_of, Event, line_after as after, IsSound, HasOctets, GivesOctets, seen, by-down, heard, seen_told, StreamEvent}
+use Rattle.laws_trace.proofs.Vocabulary.{arith, ◌≡◌, ℕ, ◌<◌, List, [], ◌∷◌, ◌++◌, length, drop, Option, IfSome, refl, subst, Ok, All, option_map_or, All-drop, All-head, AreOctets, Parts, reading, reading-found, Config, Aim, at_management, of_aim, hears, Answer, Line, aim_of_heard, heard_side, Taken, taken, line_of, side_aims, IsOne, taken-one, head_of, Event, line_after as after, IsSound}
+use Rattle.laws_trace.proofs.Vocabulary.{HasOctets, GivesOctets, seen, by-down, heard, seen_told, StreamEvent}
 use Rattle.laws_trace.proofs.SmallMessages.{IsSmall, IsOfOctets, after-small}
 
 -- What TEI management hears are octets.

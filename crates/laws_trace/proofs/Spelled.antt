@@ -1,5 +1,7 @@
 -- Each frame that begins on a line is one that the grammar has, of a service or of TEI management: the law.
-use Rattle.laws_trace.proofs.Vocabulary.{◌≡◌, ◌≤◌, true, false, List, [], ◌∷◌, ◌++◌, slice_get, Option, Some, None, IfSome, option_map, refl, sym, subst, arith, All, option_or, flat_map-append, All-nil, All-head, All-append, Parts, Ui, sapi_of, Message, address_at, IsGiven, Given, Terms, given_is_frame, Config, next, gave, Line, UnitData, service_at, place_at, terms, link_at, Taken, with_unit, unit_frame, first_taken, round, taken, next_of, IsInRange, IsSoundAt, IsUnitData, round_below, terms_in_range, OfLink, of-links, fresh_is_sound, Card, ℕ, moments, unwrap_or, information_of, message_frame, Event, line_after as after, answer, with_message, IsSound, fresh, IsSpelled, FramesAreRead, AreAtLines, trace_frame_in as frame_in, Seen, seen, trace, frames_begun, Always, given, frame_begun, CardEvent, sapi-small}
+use Rattle.laws_trace.proofs.Vocabulary.{◌≡◌, ◌≤◌, true, false, List, [], ◌∷◌, ◌++◌, slice_get, Option, Some, None, IfSome, option_map, refl, sym, subst, arith, All, option_or, flat_map-append, All-nil, All-head, All-append, Parts, Ui, sapi_of, Message, address_at, IsGiven, Given, Terms, given_is_frame, Config, next, gave, Line, UnitData, service_at, place_at, terms, link_at, Taken, with_unit}
+use Rattle.laws_trace.proofs.Vocabulary.{unit_frame, first_taken, round, taken, next_of, IsInRange, IsSoundAt, IsUnitData, round_below, terms_in_range, OfLink, of-links, fresh_is_sound, Card, ℕ, moments, unwrap_or, information_of, message_frame, Event, line_after as after, answer, with_message, IsSound, fresh, IsSpelled, FramesAreRead, AreAtLines, trace_frame_in as frame_in, Seen, seen, trace}
+use Rattle.laws_trace.proofs.Vocabulary.{frames_begun, Always, given, frame_begun, CardEvent, sapi-small}
 use Rattle.model_link.specs.Sound as link_sound
 use Rattle.model_card.specs.Sound as card_sound
 use Rattle.laws_trace.proofs.Runs.{run-shows}

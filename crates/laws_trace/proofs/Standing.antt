@@ -1,5 +1,6 @@
 -- How a link stands, to whoever watches it: over runs.
-use Rattle.laws_trace.proofs.Vocabulary.{arith, ◌≡◌, ℕ, ◌&&◌, ◌||◌, Bool, true, false, cond, List, Option, Some, None, refl, sym, ap, ◌∙◌, subst, eq-eqb, inl, inr, true≢false, fold, not, is_some, list_any, Service, Parts, Terms, restarts, Link, is_multiple_frame, Config, request, Answer, Line, place_in, link_of, terms, aim_of, IsInRange, notes_of, is_data_of, IsBy, not-refused, eqb-true, fresh_link as fresh, Event, told, line_after as after, answer, Request, IsSound, Seen, seen, is_for, service-same, link_told}
+use Rattle.laws_trace.proofs.Vocabulary.{arith, ◌≡◌, ℕ, ◌&&◌, ◌||◌, Bool, true, false, cond, List, Option, Some, None, refl, sym, ap, ◌∙◌, subst, eq-eqb, inl, inr, true≢false, fold, not, is_some, list_any, Service, Parts, Terms, restarts, Link, is_multiple_frame, Config, request, Answer, Line, place_in, link_of, terms, aim_of, IsInRange, notes_of, is_data_of, IsBy, not-refused, eqb-true}
+use Rattle.laws_trace.proofs.Vocabulary.{fresh_link as fresh, Event, told, line_after as after, answer, Request, IsSound, Seen, seen, is_for, service-same, link_told}
 use Rattle.laws_link.specs.Flags as flags
 use Rattle.model_link.specs.Events as link
 use Rattle.laws_trace.proofs.DeliveriesWatched.{Standing, busy_asked, brings_information, stand}

@@ -1,5 +1,6 @@
 -- How a link stands behind an event: own busy, and whether REJ stands.
-use Rattle.laws_trace.proofs.Vocabulary.{arith, ◌≡◌, ℕ, ◌&&◌, ◌||◌, Bool, true, false, cond, List, Some, None, sym, ap, ◌∙◌, not, is_some, and_right, or_parts, or_from, or_right, none-some, State, AwaitingEstablishment, Terms, restarts, received, Link, is_multiple_frame, event-delivers, delivered-at_once, flag_left, busy_asked, own_busy_left, rejecting_heard, pending_left, as_heard, is_anew, is_clearing, leads_by_sabme, leads_by_agreement, comes_to, numbers_begin, state_after, event-follows, LinkEvent as Event, frame, link_told, link_after}
+use Rattle.laws_trace.proofs.Vocabulary.{arith, ◌≡◌, ℕ, ◌&&◌, ◌||◌, Bool, true, false, cond, List, Some, None, sym, ap, ◌∙◌, not, is_some, and_right, or_parts, or_from, or_right, none-some, State, AwaitingEstablishment, Terms, restarts, received, Link, is_multiple_frame, event-delivers, delivered-at_once, flag_left, busy_asked, own_busy_left, rejecting_heard, pending_left, as_heard, is_anew}
+use Rattle.laws_trace.proofs.Vocabulary.{is_clearing, leads_by_sabme, leads_by_agreement, comes_to, numbers_begin, state_after, event-follows, LinkEvent as Event, frame, link_told, link_after}
 use Rattle.laws_trace.proofs.Counting.{Watched}
 use Rattle.laws_trace.proofs.DeliveriesWatched.{Standing}
 use Rattle.model_link.specs.Sound.{is_information}

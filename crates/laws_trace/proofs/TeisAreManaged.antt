@@ -1,5 +1,6 @@
 -- TEIs are managed as the procedures say: runs of a card, and the law.
-use Rattle.laws_trace.proofs.Vocabulary.{◌≡◌, ℕ, ◌<◌, ◌==◌, Bool, true, false, cond, List, [], ◌∷◌, get_or, refl, sym, ◌∙◌, subst, arith, eq-eqb, true≢false, fold, and_parts, get_or-replicate, get_or-set_same, All-head, All-tail, PoolFull, Config, Answer, refused, Line, fresh_line, IsInRange, Card, line_at, is_full, at, after_is_sound, fresh_is_sound, has_lines, by_room, config-stays, eqb-true, fresh, CardEvent as Event, after, card_answer as answer, after_all, IsAtLine, AreAtLines, always_sound, line_sound as sound-at, Managed, none_on, due, led, managed_after, TeisAreManaged, Always, CardIsSound as IsSound}
+use Rattle.laws_trace.proofs.Vocabulary.{◌≡◌, ℕ, ◌<◌, ◌==◌, Bool, true, false, cond, List, [], ◌∷◌, get_or, refl, sym, ◌∙◌, subst, arith, eq-eqb, true≢false, fold, and_parts, get_or-replicate, get_or-set_same, All-head, All-tail, PoolFull, Config, Answer, refused, Line, fresh_line, IsInRange, Card, line_at, is_full, at, after_is_sound, fresh_is_sound, has_lines, by_room, config-stays, eqb-true}
+use Rattle.laws_trace.proofs.Vocabulary.{fresh, CardEvent as Event, after, card_answer as answer, after_all, IsAtLine, AreAtLines, always_sound, line_sound as sound-at, Managed, none_on, due, led, managed_after, TeisAreManaged, Always, CardIsSound as IsSound}
 use Rattle.model_line.specs.Event as line_event
 use Rattle.model_line.specs.Machine as lines
 use Rattle.laws_trace.proofs.Follows.{Follows}

@@ -1,5 +1,6 @@
 -- What an observer knows of a link, and when its timers are started anew: what each row comes to, over plain values.
-use Rattle.laws_trace.proofs.Vocabulary.{◌≡◌, ℕ, ◌+◌, ◌%◌, ◌≤◌, ◌<◌, ◌==◌, ◌&&◌, ◌||◌, Bool, true, false, cond, not, Option, Some, None, refl, sym, ap, ◌∙◌, subst, arith, eq-eqb, true≢false, nat_lt, option_map_or, Information, ReceiveReady, ReceiveNotReady, Reject, Sabme, Ua, Seq, named, seq-value, State, TeiAssigned, AwaitingEstablishment, AwaitingRelease, Established, TimerRecovery, LinkTimer, state_number, runs, named-within, named-is_seq, eqb-true, ltb-true, ltb-false, Control, T200, T203}
+use Rattle.laws_trace.proofs.Vocabulary.{◌≡◌, ℕ, ◌+◌, ◌%◌, ◌≤◌, ◌<◌, ◌==◌, ◌&&◌, ◌||◌, Bool, true, false, cond, not, Option, Some, None, refl, sym, ap, ◌∙◌, subst, arith, eq-eqb, true≢false, nat_lt, option_map_or, Information, ReceiveReady, ReceiveNotReady, Reject, Sabme, Ua, Seq, named, seq-value, State, TeiAssigned, AwaitingEstablishment, AwaitingRelease, Established, TimerRecovery, LinkTimer}
+use Rattle.laws_trace.proofs.Vocabulary.{state_number, runs, named-within, named-is_seq, eqb-true, ltb-true, ltb-false, Control, T200, T203}
 use Rattle.laws_trace.proofs.TimersWatched.{Known, nothing_yet, number_heard, listens, renews}
 use Rattle.laws_trace.proofs.States.{is_state, differ}
 use Rattle.laws_trace.proofs.TimerActs.{Timing, by_name, starts, begins, ends, awaits, fails, acknowledges, with_busy, informs, supervises, informed, recovers}

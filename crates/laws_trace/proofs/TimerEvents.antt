@@ -1,5 +1,6 @@
 -- What is known of a link, and when its timers are started anew: any event of a link but an offer.
-use Rattle.laws_trace.proofs.Vocabulary.{◌≡◌, ◌≤◌, Bool, true, false, Option, Some, None, refl, arith, if◌then◌else◌, HasItsTimer, needed_in, State, AwaitingEstablishment, Established, TimerRecovery, Terms, LinkTimer, received, expired, offer, cleared, Link, course, ◌then◌, runs, is_timer, eqb-true, Control, T200, T203, LinkEvent as Event, frame, LinkIsSound as IsSound, Step, begun, LinkRequest as Request, expired_step, request_step}
+use Rattle.laws_trace.proofs.Vocabulary.{◌≡◌, ◌≤◌, Bool, true, false, Option, Some, None, refl, arith, if◌then◌else◌, HasItsTimer, needed_in, State, AwaitingEstablishment, Established, TimerRecovery, Terms, LinkTimer, received, expired, offer, cleared, Link, course, ◌then◌, runs, is_timer, eqb-true, Control, T200, T203, LinkEvent as Event, frame, LinkIsSound as IsSound, Step, begun}
+use Rattle.laws_trace.proofs.Vocabulary.{LinkRequest as Request, expired_step, request_step}
 use Rattle.laws_trace.proofs.TimersWatched.{Known}
 use Rattle.laws_trace.proofs.TimerActs.{timing, whichever}
 use Rattle.laws_trace.proofs.TimerClaims.{IsKnown, Agrees, Good, asked-4, ended, failed-8, released-7, released-8, same-4, same-5, same-6, same-7, same-8}

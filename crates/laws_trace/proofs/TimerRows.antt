@@ -1,5 +1,6 @@
 -- What is known of a link, and when its timers are started anew: each row of the tables, except for offers.
-use Rattle.laws_trace.proofs.Vocabulary.{arith, ◌≡◌, ℕ, ◌≤◌, ◌+◌, Bool, true, false, List, Option, Some, None, refl, sym, subst, nat_lt, length, Information, ReceiveReady, ReceiveNotReady, Reject, Sabme, ErrorCode, State, TeiAssigned, AwaitingEstablishment, AwaitingRelease, Established, TimerRecovery, Terms, LinkTimer, Link, Control, T200, T203, Step, begun, frame_in, malformed_in, is_final, unit_data}
+use Rattle.laws_trace.proofs.Vocabulary.{arith, ◌≡◌, ℕ, ◌≤◌, ◌+◌, Bool, true, false, List, Option, Some, None, refl, sym, subst, nat_lt, length, Information, ReceiveReady, ReceiveNotReady, Reject, Sabme, ErrorCode, State, TeiAssigned, AwaitingEstablishment, AwaitingRelease, Established, TimerRecovery, Terms, LinkTimer, Link, Control, T200, T203, Step, begun, frame_in, malformed_in, is_final}
+use Rattle.laws_trace.proofs.Vocabulary.{unit_data}
 use Rattle.laws_trace.proofs.TimersWatched.{Known, nothing_yet}
 use Rattle.laws_trace.proofs.TimerActs.{Timing, timing, Acts, itself, either-bit, acknowledged, acknowledges, begins, informed, informs, recovers, sabme-acts, starts, supervises, with_busy, both, by-number, answers, by-bit, whichever}
 use Rattle.laws_trace.proofs.TimerClaims.{IsKnown, Good}

@@ -1,5 +1,7 @@
 -- When the timers of links run, and when they are started: the law.
-use Rattle.laws_trace.proofs.Vocabulary.{◌≡◌, ℕ, ◌+◌, ◌==◌, ◌&&◌, ◌||◌, ◌<◌, ◌≤◌, not, Bool, true, false, cond, List, [], ◌∷◌, ◌++◌, get_or, set, Option, Some, None, refl, sym, ap, ◌∙◌, subst, arith, eq-eqb, fold, option_map_or, and_parts, get_or-set_same, get_or-replicate, All-nil, All-cons, All-head, All-tail, Service, HasItsTimer, needed_in, State, LinkTimer, Link, obeyed, runs, Config, orders_in, Line, fresh_line, link_of, link_in, link_number, place_in, state_of, terms, IsInRange, sound_in, terms_in_range, place_of-is, Card, line_at, is_full, at, moments, fresh_is_sound, after_is_sound, has_lines, by_room, line_sound, runs_at_callers, AllHaveTheirTimers, needed-run, needs-none, timely-all, timely-after, begins-timely-card, timer_of, is_needed, left_by, HaveTheirTimers, nowhere, Timer, eqb-true, T200, T203, fresh_link, fresh, CardEvent as Event, after, card_answer as answer, Moment, after_all, IsAtLine, AreAtLines, CardIsSound as IsSound, seen, Always, or_comm, TimerT203, TimerT200}
+use Rattle.laws_trace.proofs.Vocabulary.{◌≡◌, ℕ, ◌+◌, ◌==◌, ◌&&◌, ◌||◌, ◌<◌, ◌≤◌, not, Bool, true, false, cond, List, [], ◌∷◌, ◌++◌, get_or, set, Option, Some, None, refl, sym, ap, ◌∙◌, subst, arith, eq-eqb, fold, option_map_or, and_parts, get_or-set_same, get_or-replicate, All-nil, All-cons, All-head, All-tail, Service, HasItsTimer, needed_in, State, LinkTimer, Link, obeyed, runs, Config}
+use Rattle.laws_trace.proofs.Vocabulary.{orders_in, Line, fresh_line, link_of, link_in, link_number, place_in, state_of, terms, IsInRange, sound_in, terms_in_range, place_of-is, Card, line_at, is_full, at, moments, fresh_is_sound, after_is_sound, has_lines, by_room, line_sound, runs_at_callers, AllHaveTheirTimers, needed-run, needs-none, timely-all, timely-after, begins-timely-card, timer_of}
+use Rattle.laws_trace.proofs.Vocabulary.{is_needed, left_by, HaveTheirTimers, nowhere, Timer, eqb-true, T200, T203, fresh_link, fresh, CardEvent as Event, after, card_answer as answer, Moment, after_all, IsAtLine, AreAtLines, CardIsSound as IsSound, seen, Always, or_comm, TimerT203, TimerT200}
 use Rattle.model_link.specs.Sound as link_sound
 use Rattle.model_line.specs.Event as line_event
 use Rattle.model_line.specs.Machine as lines

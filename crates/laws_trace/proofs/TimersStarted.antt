@@ -1,5 +1,6 @@
 -- The timers of a link are started as they are due: each event of a line.
-use Rattle.laws_trace.proofs.Vocabulary.{arith, ◌≡◌, ℕ, ◌&&◌, ◌||◌, not, Bool, true, false, Option, Some, None, refl, sym, ap, ◌∙◌, subst, true≢false, inl, inr, option_map_or, Service, Timer, place_of-is, is_on-at, HasItsTimer, State, Terms, LinkTimer, Link, obeyed, runs, Config, Answer, orders_in, Line, link_of, place_in, has_tei, state_of, terms, IsInRange, timer_of, is_needed, left_by, HaveTheirTimers, followed, timely-line, List, ◌++◌, Order, order_for, orders_for, T200, T203, Event, line_after as after, answer, IsSound, seen, and-false, and-true, offer, link_after, given, course, TimerT203, TimerT200}
+use Rattle.laws_trace.proofs.Vocabulary.{arith, ◌≡◌, ℕ, ◌&&◌, ◌||◌, not, Bool, true, false, Option, Some, None, refl, sym, ap, ◌∙◌, subst, true≢false, inl, inr, option_map_or, Service, Timer, place_of-is, is_on-at, HasItsTimer, State, Terms, LinkTimer, Link, obeyed, runs, Config, Answer, orders_in, Line, link_of, place_in, has_tei, state_of, terms, IsInRange, timer_of, is_needed, left_by}
+use Rattle.laws_trace.proofs.Vocabulary.{HaveTheirTimers, followed, timely-line, List, ◌++◌, Order, order_for, orders_for, T200, T203, Event, line_after as after, answer, IsSound, seen, and-false, and-true, offer, link_after, given, course, TimerT203, TimerT200}
 use Rattle.model_link.specs.Sound as link_sound
 use Rattle.laws_trace.proofs.TimersWatched.{Known, control_in, renews, is_anew}
 use Rattle.laws_trace.proofs.States.{is_state, differ}

@@ -1,5 +1,6 @@
 -- Links take turns, whatever else happens meanwhile: the law.
-use Rattle.laws_trace.proofs.Vocabulary.{◌≡◌, ◌≢◌, ℕ, ◌<◌, ◌==◌, true, false, List, [], ◌∷◌, ◌++◌, Some, refl, sym, ap, ◌∙◌, subst, arith, All, get_or-replicate, All-head, All-tail, Service, sapi_of, Config, Line, fresh_line, tei_at, Card, line_at, at, moments, fresh_is_sound, all-left, all-right, config-stays, link_number, link_in, place_in, has_tei, at-within, place_of-is, number_within, place_at-number, service_at-number, append-nil, append_assoc, option_map_or, list_any, IsSilent, terms, link_at, length, fresh, CardEvent as Event, after, after_all, IsAtLine, AreAtLines, CardIsSound as IsSound, always_sound, is_own, Always, trace, frames_begun, IsAmong, IsSpelled, managed_after, fresh_link, All-cons, All-nil, after_all-append}
+use Rattle.laws_trace.proofs.Vocabulary.{◌≡◌, ◌≢◌, ℕ, ◌<◌, ◌==◌, true, false, List, [], ◌∷◌, ◌++◌, Some, refl, sym, ap, ◌∙◌, subst, arith, All, get_or-replicate, All-head, All-tail, Service, sapi_of, Config, Line, fresh_line, tei_at, Card, line_at, at, moments, fresh_is_sound, all-left, all-right, config-stays, link_number, link_in, place_in, has_tei, at-within, place_of-is, number_within}
+use Rattle.laws_trace.proofs.Vocabulary.{place_at-number, service_at-number, append-nil, append_assoc, option_map_or, list_any, IsSilent, terms, link_at, length, fresh, CardEvent as Event, after, after_all, IsAtLine, AreAtLines, CardIsSound as IsSound, always_sound, is_own, Always, trace, frames_begun, IsAmong, IsSpelled, managed_after, fresh_link, All-cons, All-nil, after_all-append}
 use Rattle.model_line.specs.Sound as line
 use Rattle.laws_trace.specs.TurnsMeanwhile.{IsKeptWaiting, LinksTakeTurnsMeanwhile}
 use Rattle.laws_trace.proofs.Runs.{run-shows}

@@ -1,5 +1,6 @@
 -- Numbers as bits, the lowest first, and back.
-use Rattle.model_bits.proofs.Vocabulary.{◌≡◌, ℕ, suc, zero, ◌+◌, ◌*◌, ◌/◌, ◌%◌, ◌^◌, ◌<◌, Bool, true, false, List, [], ◌∷◌, ◌++◌, length, take, reverse, nat_eq, refl, sym, ap, subst, ◌∙◌, add-one, append_assoc, append-nil, length-append, arith, reverse-append, pow-suc, pow-succ', pow-zero, suc-add, zero-add, div-div-eq-div-mul, div-one, mod-eq_of_lt, eqb-true, eqb-false, mod-pow-add, low_bits, bits, bit_value, number_of, same_bits}
+use Rattle.model_bits.proofs.Vocabulary.{◌≡◌, ℕ, suc, zero, ◌+◌, ◌*◌, ◌/◌, ◌%◌, ◌^◌, ◌<◌, Bool, true, false, List, [], ◌∷◌, ◌++◌, length, take, reverse, nat_eq, refl, sym, ap, subst, ◌∙◌, add-one, append_assoc, append-nil, length-append, arith, reverse-append, pow-suc, pow-succ', pow-zero, suc-add, zero-add, div-div-eq-div-mul, div-one, mod-eq_of_lt, eqb-true, eqb-false, mod-pow-add, low_bits}
+use Rattle.model_bits.proofs.Vocabulary.{bits, bit_value, number_of, same_bits}
 
 -- ---- the lowest bit
 

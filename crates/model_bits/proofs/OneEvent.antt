@@ -1,5 +1,6 @@
 -- Eight bits bring at most one event: what ends one leaves no open gap, or one that is too young to end another.
-use Rattle.model_bits.proofs.Vocabulary.{◌≡◌, ℕ, suc, ◌<◌, ◌≤◌, ◌⊎◌, Bool, true, false, List, [], ◌∷◌, ◌++◌, length, reverse, Option, Some, None, IfSome, option_to_list, nat_lt, refl, ap, sym, ◌∙◌, subst, arith, inl, inr, ⊎_elim, cases_lt, cases_eq, lt-ltb, le-ltb, length-reverse, bits, low_bits, Event, heard_at, heard_until, room_for, OneEventAnOctet, run_of, open_gap, one_more, given_up_event, closed_event}
+use Rattle.model_bits.proofs.Vocabulary.{◌≡◌, ℕ, suc, ◌<◌, ◌≤◌, ◌⊎◌, Bool, true, false, List, [], ◌∷◌, ◌++◌, length, reverse, Option, Some, None, IfSome, option_to_list, nat_lt, refl, ap, sym, ◌∙◌, subst, arith, inl, inr, ⊎_elim, cases_lt, cases_eq, lt-ltb, le-ltb, length-reverse, bits, low_bits, Event, heard_at, heard_until, room_for, OneEventAnOctet, run_of, open_gap, one_more, given_up_event}
+use Rattle.model_bits.proofs.Vocabulary.{closed_event}
 use Rattle.std.proofs.lemmas.List.{append-nil}
 use Rattle.model_bits.proofs.BitLemmas.{length-low_bits, reverse-bits_push}
 use Rattle.model_bits.proofs.Hearing.{heard_at-one, heard_at-abort, heard_at-zero, heard_at-flag, open_gap-one, open_gap-abort, open_gap-zero, open_gap-flag}

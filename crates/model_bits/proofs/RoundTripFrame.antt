@@ -1,5 +1,6 @@
 -- What a sender's frame is heard as, and what a line of items is.
-use Rattle.model_bits.proofs.Vocabulary.{◌≡◌, ℕ, ◌+◌, ◌-◌, ◌/◌, ◌%◌, ◌^◌, ◌<◌, Bool, true, false, not, ◌&&◌, List, [], ◌∷◌, ◌++◌, length, take, Some, None, cond, nat_eq, nat_lt, slice_index, flat_map, refl, ap, sym, ◌∙◌, subst, arith, ⊎_elim, append_assoc, length-append, take_at, get_or_append_left, le-ltb, ne_eqb, eq-eqb, or_from, and_left, and_right, All-append, bits, flag, number_of, stuffed, octets_sent, AreOctets, check, is_good, Event, dropped, is_short, judged, gap_event, room_for, Ragged, Item, idle, frame_text, item_text, frame, IsHeardWhole, AreHeardWhole, frames_of, FramesRoundTrip}
+use Rattle.model_bits.proofs.Vocabulary.{◌≡◌, ℕ, ◌+◌, ◌-◌, ◌/◌, ◌%◌, ◌^◌, ◌<◌, Bool, true, false, not, ◌&&◌, List, [], ◌∷◌, ◌++◌, length, take, Some, None, cond, nat_eq, nat_lt, slice_index, flat_map, refl, ap, sym, ◌∙◌, subst, arith, ⊎_elim, append_assoc, length-append, take_at, get_or_append_left, le-ltb, ne_eqb, eq-eqb, or_from, and_left, and_right, All-append, bits, flag, number_of, stuffed}
+use Rattle.model_bits.proofs.Vocabulary.{octets_sent, AreOctets, check, is_good, Event, dropped, is_short, judged, gap_event, room_for, Ragged, Item, idle, frame_text, item_text, frame, IsHeardWhole, AreHeardWhole, frames_of, FramesRoundTrip}
 use mathlib.Core.List.{reverse_aux}
 use Rattle.model_bits.specs.Stream as stream
 use Rattle.model_bits.proofs.BitLemmas.{bits-append, bits-two_octets, low_bits-number_of_n, number_of-lt}

@@ -1,5 +1,6 @@
 -- The words with which the proofs of this crate speak, from where they are defined.
-pub use Rattle.std.proofs.Common.{Bool, IfSome, List, None, Option, Some, [], add-one, ap, append-nil, append_assoc, arith, cond, drop, false, flat_map, if◌then◌else◌, inl, inr, length, length-append, length-drop, map, min, nat_eq, nat_le, nat_lt, not, option_and_then, option_map, option_to_list, refl, replicate, reverse, slice_index, subst, suc, sym, take, true, zero, ℕ, ⊎_elim, ◌%◌, ◌&&◌, ◌*◌, ◌++◌, ◌+◌, ◌-◌, ◌/◌, ◌<◌, ◌^◌, ◌||◌, ◌∙◌, ◌∷◌, ◌≡◌, ◌≢◌, ◌≤◌, ◌⊎◌}
+pub use Rattle.std.proofs.Common.{Bool, IfSome, List, None, Option, Some, [], add-one, ap, append-nil, append_assoc, arith, cond, drop, false, flat_map, if◌then◌else◌, inl, inr, length, length-append, length-drop, map, min, nat_eq, nat_le, nat_lt, not, option_and_then, option_map, option_to_list, refl, replicate, reverse, slice_index, subst, suc, sym, take, true, zero, ℕ, ⊎_elim, ◌%◌, ◌&&◌, ◌*◌}
+pub use Rattle.std.proofs.Common.{◌++◌, ◌+◌, ◌-◌, ◌/◌, ◌<◌, ◌^◌, ◌||◌, ◌∙◌, ◌∷◌, ◌≡◌, ◌≢◌, ◌≤◌, ◌⊎◌}
 pub use Rattle.std.proofs.Math.ListN.{length-replicate}
 pub use Rattle.std.proofs.Math.Nat.{div-div-eq-div-mul, div-one, mod-eq_of_lt, pow-suc, pow-succ', pow-zero, suc-add, zero-add}
 pub use Rattle.std.proofs.lemmas.Bool.{and_left, and_right, cases_Bool, cases_eq, cases_lt, eq-eqb, eqb-false, eqb-true, false≢true, le-leb, le-ltb, leb-false, lt-leb, lt-ltb, ltb-false, ltb-true, ne_eqb, or_from, or_parts}

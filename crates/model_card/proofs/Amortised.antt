@@ -1,5 +1,6 @@
 -- The frames sent, amortised.
-use Rattle.model_card.proofs.Vocabulary.{sum_by-replicate, fresh_may_send, event_rejects, is_long_heard, FramesAmortisedFromZero, RejectsAreLong, ◌+◌, ◌*◌, ◌≤◌, List, [], ◌∷◌, arith, sum_by, All-head, All-tail, event_rises, Event, Card, line_at, may_send, window, is_sent, is_heard, is_accepted, is_running_expiry, is_reject, FramesAmortised, after, answer, IsAmortised, Moment, moments, after_all, IsAtLine, AreAtLines}
+use Rattle.model_card.proofs.Vocabulary.{sum_by-replicate, fresh_may_send, event_rejects, is_long_heard, FramesAmortisedFromZero, RejectsAreLong, ◌+◌, ◌*◌, ◌≤◌, List, [], ◌∷◌, arith, sum_by, All-head, All-tail, event_rises, Event, Card, line_at, may_send, window, is_sent, is_heard, is_accepted, is_running_expiry, is_reject, FramesAmortised, after, answer, IsAmortised, Moment, moments, after_all}
+use Rattle.model_card.proofs.Vocabulary.{IsAtLine, AreAtLines}
 use Rattle.model_line.specs.Machine as lines
 use Rattle.model_line.specs.Counts as line
 use Rattle.model_card.proofs.Steps.{HasLines, has_lines, by_room, line_sound, after_lines, fresh_lines, one_line, count_cons}

@@ -1,5 +1,6 @@
 -- What a card does at one line, beside what happens at the others.
-use Rattle.model_card.proofs.Vocabulary.{Moment, IsAtLine, AreAtLines, All-head, All-tail, Config, ◌≡◌, ℕ, ◌≤◌, ◌<◌, ◌==◌, Bool, true, false, not, ◌&&◌, List, [], ◌∷◌, length, get_or, set, nat_le, refl, ap, sym, ◌∙◌, subst, cond, arith, length-set, sum_by, filter, map, leb-false, lt-leb, get_or-set_same, get_or-replicate, get_or-le-sum_by, sum_by-set, Answer, is_pool_full, Line, fresh_line, slots_of, line_not_pool, fresh_slots, Card, fresh, line_at, used, Event, is_served_at, event_in, answers_at, LinesIsolated, wants_room, after, answer, moments, answer_in, events_at}
+use Rattle.model_card.proofs.Vocabulary.{Moment, IsAtLine, AreAtLines, All-head, All-tail, Config, ◌≡◌, ℕ, ◌≤◌, ◌<◌, ◌==◌, Bool, true, false, not, ◌&&◌, List, [], ◌∷◌, length, get_or, set, nat_le, refl, ap, sym, ◌∙◌, subst, cond, arith, length-set, sum_by, filter, map, leb-false, lt-leb, get_or-set_same, get_or-replicate, get_or-le-sum_by, sum_by-set, Answer, is_pool_full, Line, fresh_line}
+use Rattle.model_card.proofs.Vocabulary.{slots_of, line_not_pool, fresh_slots, Card, fresh, line_at, used, Event, is_served_at, event_in, answers_at, LinesIsolated, wants_room, after, answer, moments, answer_in, events_at}
 use Rattle.std.proofs.lemmas.Bool.{eqb-true}
 use Rattle.model_line.specs.Machine as lines
 use Rattle.model_card.proofs.CardSound.{fresh_used}

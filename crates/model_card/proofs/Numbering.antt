@@ -1,5 +1,6 @@
 -- Numbered deliveries, over whole runs.
-use Rattle.model_card.proofs.Vocabulary.{◌≡◌, ℕ, ◌+◌, ◌<◌, ◌&&◌, Bool, false, List, [], ◌∷◌, length, All, Option, None, refl, ap, ◌∙◌, cond, arith, fold, option_to_list, get_or-replicate, All-nil, All-cons, All-head, All-tail, PoolFull, Arrived, counted_on, refused, link_at, link_count, Part, brings_none, none_at, event_parts, slot_brings_nothing, Event, Card, line_at, DeliveriesNumbered, after, LinkName, arrived, delivered, restarts, received_by, contents_numbered, IsNext, one_more, HasLink, moments, after_all, IsAtLine, AreAtLines}
+use Rattle.model_card.proofs.Vocabulary.{◌≡◌, ℕ, ◌+◌, ◌<◌, ◌&&◌, Bool, false, List, [], ◌∷◌, length, All, Option, None, refl, ap, ◌∙◌, cond, arith, fold, option_to_list, get_or-replicate, All-nil, All-cons, All-head, All-tail, PoolFull, Arrived, counted_on, refused, link_at, link_count, Part, brings_none, none_at, event_parts, slot_brings_nothing, Event, Card, line_at, DeliveriesNumbered, after}
+use Rattle.model_card.proofs.Vocabulary.{LinkName, arrived, delivered, restarts, received_by, contents_numbered, IsNext, one_more, HasLink, moments, after_all, IsAtLine, AreAtLines}
 use Rattle.model_line.specs.Deliveries as line
 use Rattle.model_card.proofs.EachMoment.{moment_of}
 use Rattle.model_card.proofs.Steps.{HasLines, has_lines, by_line, line_sound, after_lines, fresh_lines}

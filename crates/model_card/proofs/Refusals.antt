@@ -1,5 +1,6 @@
 -- Requests are refused by the table.
-use Rattle.model_card.proofs.Vocabulary.{arith, ◌≡◌, ℕ, Bool, true, false, not, ◌&&◌, List, [], ◌∷◌, ◌++◌, get_or, set, Option, Some, None, is_some, IsSome, refl, cond, set-get_or, Refusal, PoolFull, Config, Answer, request, Line, unless_refused, unless_refused_told, Effect, of_aim, Row, first_that_holds, pool_full, refusal, Request, Data, Unit, aim_of_request, carries_contents, at, Card, line_at, is_full, RefusedByTheTable, after, answer}
+use Rattle.model_card.proofs.Vocabulary.{arith, ◌≡◌, ℕ, Bool, true, false, not, ◌&&◌, List, [], ◌∷◌, ◌++◌, get_or, set, Option, Some, None, is_some, IsSome, refl, cond, set-get_or, Refusal, PoolFull, Config, Answer, request, Line, unless_refused, unless_refused_told, Effect, of_aim, Row, first_that_holds, pool_full, refusal, Request, Data, Unit, aim_of_request, carries_contents, at, Card, line_at}
+use Rattle.model_card.proofs.Vocabulary.{is_full, RefusedByTheTable, after, answer}
 use Rattle.model_line.specs.Machine as lines
 
 -- A full pool refuses after all other rows, and contents alone.

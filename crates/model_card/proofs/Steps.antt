@@ -1,5 +1,6 @@
 -- An event at a card is one at one of its lines, or finds the pool full.
-use Rattle.model_card.proofs.Vocabulary.{◌≡◌, ◌==◌, ℕ, eqb-true, eq-eqb, and_parts, get_or-set_same, get_or-set_other, ◌+◌, ◌<◌, Bool, true, false, List, ◌∷◌, length, set, ◌∙◌, cond, arith, length-set, sum_by, count_by, All, length-replicate, All-set, All-replicate, sum_by-set, sum_by-cons, PoolFull, Config, Answer, refused, Line, fresh_line, after_sound, fresh_sound, Event, Card, fresh, line_at, wants_room, after, answer, IsSound}
+use Rattle.model_card.proofs.Vocabulary.{◌≡◌, ◌==◌, ℕ, eqb-true, eq-eqb, and_parts, get_or-set_same, get_or-set_other, ◌+◌, ◌<◌, Bool, true, false, List, ◌∷◌, length, set, ◌∙◌, cond, arith, length-set, sum_by, count_by, All, length-replicate, All-set, All-replicate, sum_by-set, sum_by-cons, PoolFull, Config, Answer, refused, Line, fresh_line, after_sound, fresh_sound, Event, Card, fresh, line_at}
+use Rattle.model_card.proofs.Vocabulary.{wants_room, after, answer, IsSound}
 use Rattle.model_line.specs.Machine as lines
 use Rattle.model_line.specs.Sound as line
 

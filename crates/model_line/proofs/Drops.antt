@@ -1,5 +1,6 @@
 -- What is dropped changes nothing, and costs nothing.
-use Rattle.model_line.proofs.Vocabulary.{arith, ◌≡◌, ℕ, Bool, true, Option, Some, IsSome, refl, ap, ◌∙◌, unwrap_or, set-get_or, none-some, Cause, Unserved, Service, fresh, Config, hears, told, may_send, cause_in, Line, link_number, link_in, with_link, terms, aim_of_heard, Effect, unserved_cause, told_of_link, of_link, of_management, of_aim, unserved_leaves, LinkReceived, link_received, link_told, link_told_of, TeiEvent, tei_message, StreamEvent}
+use Rattle.model_line.proofs.Vocabulary.{arith, ◌≡◌, ℕ, Bool, true, Option, Some, IsSome, refl, ap, ◌∙◌, unwrap_or, set-get_or, none-some, Cause, Unserved, Service, fresh, Config, hears, told, may_send, cause_in, Line, link_number, link_in, with_link, terms, aim_of_heard, Effect, unserved_cause, told_of_link, of_link, of_management, of_aim, unserved_leaves, LinkReceived, link_received, link_told}
+use Rattle.model_line.proofs.Vocabulary.{link_told_of, TeiEvent, tei_message, StreamEvent}
 use Rattle.lapd_tei.proofs.LawLemmas as tei_lemmas
 use Rattle.model_line.specs.Event.{dropped}
 use Rattle.model_line.specs.Machine as lines

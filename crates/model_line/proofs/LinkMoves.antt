@@ -1,5 +1,6 @@
 -- What holds of a link that begins, and is kept by each event of a link, holds of all links of a line.
-use Rattle.model_line.proofs.Vocabulary.{arith, ◌≡◌, ℕ, zero, suc, ◌<◌, false, List, [], ◌∷◌, get_or, set, Option, Some, refl, sym, subst, ◌⊎◌, inl, inr, IfSome, option_map_or, unwrap_or, All-head, All-tail, Link, Given, Terms, Change, Config, hears, request, next, LineTold, Aim, of_change, of_aim, Line, UnitData, service_at, place_at, tei_at, link_at, terms, link_count, aim_of_heard, aim_of_expiry, Taken, with_unit, with_given_frame, link_taken, first_taken, taken, line_of, aim_of_request, IsInRange, IsSoundAt, option_map, All, fresh, Event, expiry, after, unless_refused, with_message, refusal, IsSound, link_offer, LinkEvent, link_given, link_after}
+use Rattle.model_line.proofs.Vocabulary.{arith, ◌≡◌, ℕ, zero, suc, ◌<◌, false, List, [], ◌∷◌, get_or, set, Option, Some, refl, sym, subst, ◌⊎◌, inl, inr, IfSome, option_map_or, unwrap_or, All-head, All-tail, Link, Given, Terms, Change, Config, hears, request, next, LineTold, Aim, of_change, of_aim, Line, UnitData, service_at, place_at, tei_at, link_at, terms, link_count, aim_of_heard}
+use Rattle.model_line.proofs.Vocabulary.{aim_of_expiry, Taken, with_unit, with_given_frame, link_taken, first_taken, taken, line_of, aim_of_request, IsInRange, IsSoundAt, option_map, All, fresh, Event, expiry, after, unless_refused, with_message, refusal, IsSound, link_offer, LinkEvent, link_given, link_after}
 use Rattle.model_line.proofs.AimsSound.{IsProper}
 use Rattle.model_line.proofs.LinksSound.{sound_in}
 use Rattle.model_line.proofs.Offered.{fresh_gives_nothing}

@@ -1,5 +1,6 @@
 -- What keeps the links of a line sound.
-use Rattle.model_line.proofs.Vocabulary.{◌≡◌, ◌≢◌, ℕ, ◌+◌, ◌*◌, ◌≤◌, ◌<◌, List, length, get_or, set, Option, Some, None, ◌∙◌, arith, length-set, cases_eq, get_or-set_same, get_or-set_other, Service, Call, Packet, Link, fresh, sound-after, sound-fresh, IsAt, Places, at-within, Config, Line, link_number, place_at, link_count, link_in, with_link, terms, of_link, IsInRange, IsSoundAt, IsSound, LinkEvent, link_after}
+use Rattle.model_line.proofs.Vocabulary.{◌≡◌, ◌≢◌, ℕ, ◌+◌, ◌*◌, ◌≤◌, ◌<◌, List, length, get_or, set, Option, Some, None, ◌∙◌, arith, length-set, cases_eq, get_or-set_same, get_or-set_other, Service, Call, Packet, Link, fresh, sound-after, sound-fresh, IsAt, Places, at-within, Config, Line, link_number, place_at, link_count, link_in, with_link, terms, of_link, IsInRange, IsSoundAt, IsSound}
+use Rattle.model_line.proofs.Vocabulary.{LinkEvent, link_after}
 use Rattle.model_link.specs.Sound as link_sound
 use Rattle.model_line.proofs.Numbers.{place_at-number, service_at-number, number_within, at_place}
 use Rattle.model_line.proofs.Ranges.{terms_in_range}

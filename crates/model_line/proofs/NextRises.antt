@@ -1,5 +1,6 @@
 -- A frame that is taken is no longer among those that may be sent.
-use Rattle.model_line.proofs.Vocabulary.{◌≡◌, ℕ, ◌+◌, ◌*◌, ◌≤◌, ◌<◌, List, ◌∷◌, Option, Some, is_some, arith, Link, Given, Terms, event-rises, offer-falls, frame_of, Message, IsAt, Config, one, may_send, Line, UnitData, link_count, service_at, place_at, terms, link_at, Taken, with_message, with_unit, with_given_frame, taken, next_of, option_map, after, answer, FallsByNext, IsInRange, IsSound, offer, given, link_after, rises_sent}
+use Rattle.model_line.proofs.Vocabulary.{◌≡◌, ℕ, ◌+◌, ◌*◌, ◌≤◌, ◌<◌, List, ◌∷◌, Option, Some, is_some, arith, Link, Given, Terms, event-rises, offer-falls, frame_of, Message, IsAt, Config, one, may_send, Line, UnitData, link_count, service_at, place_at, terms, link_at, Taken, with_message, with_unit, with_given_frame, taken, next_of, option_map, after, answer, FallsByNext, IsInRange, IsSound}
+use Rattle.model_line.proofs.Vocabulary.{offer, given, link_after, rises_sent}
 use Rattle.model_link.specs.Sound as link_sounds
 use Rattle.model_line.proofs.AimsRise.{may_send_of}
 use Rattle.model_line.proofs.TakenWalk.{taken_walk, next_walk}

@@ -1,5 +1,7 @@
 -- What an event delivers at a link of a line: the next eligible I-frame's contents, or none; or its numbers begin anew.
-use Rattle.model_line.proofs.Vocabulary.{◌&&◌, ◌≡◌, ◌≢◌, ℕ, ◌<◌, Bool, true, false, cond, ◌==◌, List, [], ◌∷◌, length, get_or, set, Option, Some, None, is_some, refl, ap, sym, ◌∙◌, subst, inr, arith, eqb-true, eq-eqb, All, list_any, option_or, option_map_or, get_or-set_same, get_or-set_other, All-head, All-tail, Note, Service, Call, Packet, Terms, Link, fresh, is_data, done, delivery, counted_on, event-delivers, IsOwn, notes-own, event-tells, Moves, Management, IsAt, Places, Change, Config, Answer, LineTold, told, same_service, arrived_aimed, arrived, is_change_at, restarts_aimed, restarts, is_data_of, delivered_in, delivered_at, delivered, Line, link_number, service_at, place_at, tei_at, link_at, link_in, terms, link_count, Aim, at_none, at_link, at_management, told_of_link, told_of_management, of_change, of_aim, IsSound, LinkEvent, link_told, link_after, course, tei_told, tei_after}
+use Rattle.model_line.proofs.Vocabulary.{◌&&◌, ◌≡◌, ◌≢◌, ℕ, ◌<◌, Bool, true, false, cond, ◌==◌, List, [], ◌∷◌, length, get_or, set, Option, Some, None, is_some, refl, ap, sym, ◌∙◌, subst, inr, arith, eqb-true, eq-eqb, All, list_any, option_or, option_map_or, get_or-set_same, get_or-set_other, All-head, All-tail, Note, Service, Call, Packet, Terms, Link, fresh, is_data, done, delivery, counted_on}
+use Rattle.model_line.proofs.Vocabulary.{event-delivers, IsOwn, notes-own, event-tells, Moves, Management, IsAt, Places, Change, Config, Answer, LineTold, told, same_service, arrived_aimed, arrived, is_change_at, restarts_aimed, restarts, is_data_of, delivered_in, delivered_at, delivered, Line, link_number, service_at, place_at, tei_at, link_at, link_in, terms, link_count, Aim, at_none, at_link}
+use Rattle.model_line.proofs.Vocabulary.{at_management, told_of_link, told_of_management, of_change, of_aim, IsSound, LinkEvent, link_told, link_after, course, tei_told, tei_after}
 use Rattle.std.proofs.Math.Bool.{and-false, and-true, and-or_distrib_right}
 use Rattle.model_link.specs.Deliveries as arrivals
 use Rattle.lapd_tei.proofs.GivenUp as tei_given_up

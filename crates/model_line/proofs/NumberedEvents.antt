@@ -1,5 +1,6 @@
 -- Each event of a line is what a link's numbers say of it.
-use Rattle.model_line.proofs.Vocabulary.{arith, ◌≡◌, ℕ, zero, suc, ◌<◌, Bool, true, false, cond, List, [], ◌∷◌, get_or, set, None, refl, sym, true≢false, Link, fresh, offer-keeps-r, transfer-goes-on, Config, Event, hears, expiry, request, next, gave, arrived_aimed, arrived, restarts_aimed, restarts, delivered, Line, link_at, terms, service_at, link_count, after, answer, takes_slot, aim_of_heard, aim_of_expiry, Aim, Taken, taken, line_of, next_of, option_map, option_map_or, IsSound, offer, link_after, aim_of}
+use Rattle.model_line.proofs.Vocabulary.{arith, ◌≡◌, ℕ, zero, suc, ◌<◌, Bool, true, false, cond, List, [], ◌∷◌, get_or, set, None, refl, sym, true≢false, Link, fresh, offer-keeps-r, transfer-goes-on, Config, Event, hears, expiry, request, next, gave, arrived_aimed, arrived, restarts_aimed, restarts, delivered, Line, link_at, terms, service_at, link_count, after, answer, takes_slot, aim_of_heard}
+use Rattle.model_line.proofs.Vocabulary.{aim_of_expiry, Aim, Taken, taken, line_of, next_of, option_map, option_map_or, IsSound, offer, link_after, aim_of}
 use Rattle.model_line.proofs.Numbered.{Part, brings_none, none_at, HasNoContents, aim_parts}
 use Rattle.model_line.proofs.ProperAims.{event_aims, heard_proper, expiry_proper, request_proper}
 use Rattle.model_line.proofs.TakenWalk.{taken_walk, next_walk}

@@ -1,5 +1,6 @@
 -- A line uses no more slots than its queues have places, and fewer where contents are accepted.
-use Rattle.model_line.proofs.Vocabulary.{◌≡◌, ℕ, zero, suc, ◌+◌, ◌*◌, ◌≤◌, ◌<◌, true, false, not, List, [], ◌∷◌, length, Option, Some, None, is_some, refl, ap, sym, ⊎_elim, arith, and_parts, true≢false, sum_by, range_with_len, option_map_or, leb-false, cases_eq, sum_by-cons, Service, fresh, queue_of, serves, is_queue_full, place_of-is, at-within, Config, Event, Line, link_number, link_count, place_in, link_in, terms, takes_slot, Row, first_that_holds, bad_tei, no_link, bad_tei_or_group, no_link_nor_group, wrong_state, too_long, queue_full, unit_queue_full, pool_full, refusal, Request, Data, Unit, carries_contents, IsSound, slots_by_link, slots_of, LinkData}
+use Rattle.model_line.proofs.Vocabulary.{◌≡◌, ℕ, zero, suc, ◌+◌, ◌*◌, ◌≤◌, ◌<◌, true, false, not, List, [], ◌∷◌, length, Option, Some, None, is_some, refl, ap, sym, ⊎_elim, arith, and_parts, true≢false, sum_by, range_with_len, option_map_or, leb-false, cases_eq, sum_by-cons, Service, fresh, queue_of, serves, is_queue_full, place_of-is, at-within, Config, Event, Line, link_number, link_count}
+use Rattle.model_line.proofs.Vocabulary.{place_in, link_in, terms, takes_slot, Row, first_that_holds, bad_tei, no_link, bad_tei_or_group, no_link_nor_group, wrong_state, too_long, queue_full, unit_queue_full, pool_full, refusal, Request, Data, Unit, carries_contents, IsSound, slots_by_link, slots_of, LinkData}
 use Rattle.model_line.proofs.Numbers.{number_within, sum_bounded}
 use Rattle.model_line.proofs.ProperAims.{skipped}
 use Rattle.model_line.proofs.SoundParts.{any_link}

@@ -1,5 +1,6 @@
 -- An expiry starts at most one timer.
-use Rattle.model_line.proofs.Vocabulary.{◌≡◌, ℕ, ◌≤◌, List, [], ◌∷◌, ◌++◌, length, Option, Some, None, refl, arith, Service, Call, Packet, Order, Start, Stop, Timer, one-start, orders_for, starts, Terms, LinkTimer, IsBrief, told_brief, Change, Gained, Left, Config, expiry, aim_of_expiry, orders_in, Line, link_in, terms, answer, told_of_management, of_link, of_change, of_aim, link_expired, link_cleared, tei_told, tei_after, tei_expiry}
+use Rattle.model_line.proofs.Vocabulary.{◌≡◌, ℕ, ◌≤◌, List, [], ◌∷◌, ◌++◌, length, Option, Some, None, refl, arith, Service, Call, Packet, Order, Start, Stop, Timer, one-start, orders_for, starts, Terms, LinkTimer, IsBrief, told_brief, Change, Gained, Left, Config, expiry, aim_of_expiry, orders_in, Line, link_in, terms, answer, told_of_management, of_link, of_change, of_aim, link_expired}
+use Rattle.model_line.proofs.Vocabulary.{link_cleared, tei_told, tei_after, tei_expiry}
 use Rattle.model_link.specs.Machine as links
 use Rattle.lapd_tei.specs.Machine as tei
 use Rattle.model_line.proofs.ProperAims.{expiry_aims}

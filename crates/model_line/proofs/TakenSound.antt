@@ -1,6 +1,7 @@
 -- What is taken leaves a line sound, and is a frame of at most the longest length.
 pub use Rattle.model_line.proofs.TakenWalk.{round_below}
-use Rattle.model_line.proofs.Vocabulary.{◌≡◌, ℕ, ◌+◌, ◌≤◌, ◌<◌, List, ◌∷◌, length, set, drop, Some, IfSome, sym, ◌∙◌, subst, arith, length-set, length-drop, All-drop, Given, sound-after, frame_of, Message, IsAt, sound-after_offer, Config, Line, UnitData, link_count, service_at, place_at, tei_at, terms, link_at, Taken, with_message, with_unit, with_given_frame, link_taken, taken, IsInRange, IsSoundAt, IsSound, IsUnitData, offer, given, link_after}
+use Rattle.model_line.proofs.Vocabulary.{◌≡◌, ℕ, ◌+◌, ◌≤◌, ◌<◌, List, ◌∷◌, length, set, drop, Some, IfSome, sym, ◌∙◌, subst, arith, length-set, length-drop, All-drop, Given, sound-after, frame_of, Message, IsAt, sound-after_offer, Config, Line, UnitData, link_count, service_at, place_at, tei_at, terms, link_at, Taken, with_message, with_unit, with_given_frame, link_taken, taken, IsInRange}
+use Rattle.model_line.proofs.Vocabulary.{IsSoundAt, IsSound, IsUnitData, offer, given, link_after}
 use Rattle.model_link.specs.Sound as link_sounds
 use Rattle.model_line.specs.Taken as taking
 use Rattle.model_line.proofs.LinksSound.{with_one}

@@ -1,5 +1,6 @@
 -- What holds of each frame that can be taken holds of the one that is.
-use Rattle.model_line.proofs.Vocabulary.{◌≡◌, ℕ, zero, suc, ◌+◌, ◌≤◌, ◌<◌, List, [], ◌∷◌, take, drop, Option, Some, None, option_map, IfSome, arith, All, range_with_len, option_or, All-nil, All-cons, All-head, All-tail, All-drop, All-take, All-append, Given, frame_of, Message, IsAt, Config, Line, UnitData, link_count, service_at, place_at, terms, link_at, Taken, with_message, with_unit, with_given_frame, link_taken, first_taken, round, taken, line_of, option_map_or, IsSound, given}
+use Rattle.model_line.proofs.Vocabulary.{◌≡◌, ℕ, zero, suc, ◌+◌, ◌≤◌, ◌<◌, List, [], ◌∷◌, take, drop, Option, Some, None, option_map, IfSome, arith, All, range_with_len, option_or, All-nil, All-cons, All-head, All-tail, All-drop, All-take, All-append, Given, frame_of, Message, IsAt, Config, Line, UnitData, link_count, service_at, place_at, terms, link_at, Taken, with_message, with_unit}
+use Rattle.model_line.proofs.Vocabulary.{with_given_frame, link_taken, first_taken, round, taken, line_of, option_map_or, IsSound, given}
 use Rattle.model_link.specs.Sound as link_sound
 use Rattle.model_line.proofs.SoundParts.{any_link}
 

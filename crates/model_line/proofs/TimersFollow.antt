@@ -1,5 +1,7 @@
 -- A caller that obeys the orders runs the timers that a line runs: each event of the line.
-use Rattle.model_line.proofs.Vocabulary.{◌≡◌, ℕ, zero, suc, Bool, false, arith, eq-eqb, is_some, List, get_or, replicate, Option, Some, None, refl, ap, sym, ◌∙◌, subst, inl, inr, option_map_or, none-some, Service, Order, Timer, T201, LinkTimer, Link, obeyed, IsTimed, Given, timer_at, Terms, Follows, Moves, Management, IsSoundTable, Change, Gained, Left, t201_follows, expired_t201_follows, place_of-is, Config, request, gave, hears, next, at_link, at_management, told_of_management, of_change, of_aim, at_timer, is_running, orders_in, Line, link_number, service_at, place_at, place_in, link_at, link_in, terms, with_link, fresh_line, aim_of_heard, Taken, with_unit, taken, next_of, line_of, Request, at_requested, at_deactivated, aim_of_request, Down, without_units, at_no_link, option_map, eqb-true, T200, T203, Event, expiry, after, answer, with_message, IsSound, runs_then, link_offer, link_received, link_expired, link_requested, LinkRequest, link_cleared, LinkEvent, link_given, link_told, link_after, StreamEvent, tei_down, tei_message, tei_told, tei_after, tei_expiry, TeiEvent, runs_at}
+use Rattle.model_line.proofs.Vocabulary.{◌≡◌, ℕ, zero, suc, Bool, false, arith, eq-eqb, is_some, List, get_or, replicate, Option, Some, None, refl, ap, sym, ◌∙◌, subst, inl, inr, option_map_or, none-some, Service, Order, Timer, T201, LinkTimer, Link, obeyed, IsTimed, Given, timer_at, Terms, Follows, Moves, Management, IsSoundTable, Change, Gained, Left, t201_follows, expired_t201_follows}
+use Rattle.model_line.proofs.Vocabulary.{place_of-is, Config, request, gave, hears, next, at_link, at_management, told_of_management, of_change, of_aim, at_timer, is_running, orders_in, Line, link_number, service_at, place_at, place_in, link_at, link_in, terms, with_link, fresh_line, aim_of_heard, Taken, with_unit, taken, next_of, line_of, Request, at_requested, at_deactivated, aim_of_request}
+use Rattle.model_line.proofs.Vocabulary.{Down, without_units, at_no_link, option_map, eqb-true, T200, T203, Event, expiry, after, answer, with_message, IsSound, runs_then, link_offer, link_received, link_expired, link_requested, LinkRequest, link_cleared, LinkEvent, link_given, link_told, link_after, StreamEvent, tei_down, tei_message, tei_told, tei_after, tei_expiry, TeiEvent, runs_at}
 use Rattle.model_line.proofs.AimsSound.{IsProper}
 use Rattle.model_line.proofs.ProperAims.{heard_aims, request_proper}
 use Rattle.model_line.proofs.TakenWalk.{next_walk}

@@ -1,6 +1,7 @@
 -- Every event delivers the contents of the next eligible I-frame, if it brings it, and counts them; or the numbers
 -- begin anew.
-use Rattle.model_link.proofs.Vocabulary.{◌≡◌, ℕ, ◌+◌, ◌%◌, Bool, true, false, cond, ◌==◌, List, length, Option, Some, None, is_some, refl, ap, inl, arith, nat_lt, Seq, seq, Control, Information, State, Established, Terms, Link, is_multiple_frame, Arrived, information_of, eligible_of, eligible, Course, begun, Step, Event, leave_unserved, contents_in_7_8, information_in_7_8, is_next, acknowledged_by_information_in_7, course, frame_in}
+use Rattle.model_link.proofs.Vocabulary.{◌≡◌, ℕ, ◌+◌, ◌%◌, Bool, true, false, cond, ◌==◌, List, length, Option, Some, None, is_some, refl, ap, inl, arith, nat_lt, Seq, seq, Control, Information, State, Established, Terms, Link, is_multiple_frame, Arrived, information_of, eligible_of, eligible, Course, begun, Step, Event, leave_unserved, contents_in_7_8, information_in_7_8, is_next}
+use Rattle.model_link.proofs.Vocabulary.{acknowledged_by_information_in_7, course, frame_in}
 use Rattle.model_link.proofs.Leads.{Leads, depending_leads, number_leads}
 use Rattle.model_link.proofs.Kept.{FitsEvent}
 use Rattle.model_link.proofs.Contents.{contents}

@@ -1,5 +1,6 @@
 -- What the row of a frame does, said once: a claim that every word of the tables leads on is led on by every row.
-use Rattle.model_link.proofs.Vocabulary.{◌≡◌, ℕ, ◌≤◌, Bool, true, false, IsTrue, List, Option, Some, None, inr, refl, sym, true≢false, length-take, arith, Seq, seq, named, leb-true, Control, Information, ReceiveReady, ReceiveNotReady, Reject, Sabme, Disc, Ui, Ua, Dm, Frmr, Xid, ErrorCode, State, TeiAssigned, AwaitingEstablishment, AwaitingRelease, Established, TimerRecovery, LinkTimer, T200, T203, ControlFrame, Terms, has_outstanding, is_asked, is_peer_busy, is_own_busy, is_multiple_frame, Course, Step, ◌then◌, nothing, depending_on, frame_in_4, frame_in_5, frame_in_6, acknowledged_in_8, particulars_in_8, frame_in, response}
+use Rattle.model_link.proofs.Vocabulary.{◌≡◌, ℕ, ◌≤◌, Bool, true, false, IsTrue, List, Option, Some, None, inr, refl, sym, true≢false, length-take, arith, Seq, seq, named, leb-true, Control, Information, ReceiveReady, ReceiveNotReady, Reject, Sabme, Disc, Ui, Ua, Dm, Frmr, Xid, ErrorCode, State, TeiAssigned, AwaitingEstablishment, AwaitingRelease, Established, TimerRecovery, LinkTimer, T200, T203}
+use Rattle.model_link.proofs.Vocabulary.{ControlFrame, Terms, has_outstanding, is_asked, is_peer_busy, is_own_busy, is_multiple_frame, Course, Step, ◌then◌, nothing, depending_on, frame_in_4, frame_in_5, frame_in_6, acknowledged_in_8, particulars_in_8, frame_in, response}
 use Rattle.std.specs.Prelude.{◌&&◌}
 use Rattle.model_link.specs.Words
 use Rattle.model_link.specs.MultipleFrame

@@ -1,5 +1,6 @@
 -- Two ends: what holds in both directions, as long as both links stay in states 7 and 8.
-use Rattle.model_link.proofs.Vocabulary.{◌≡◌, ℕ, Bool, cond, IsTrue, List, [], ◌∷◌, ◌++◌, drop, Option, None, Some, refl, sym, ap, subst, ◌∙◌, append-nil, arith, option_to_list, Refusal, Parts, State, Established, LinkTimer, Terms, Link, is_multiple_frame, frame, Request, Event, received, expired, requested, offer, Course, begun, IsInRange, IsSound, Endpoint, Ends, EndStep, requests, expires, StepAt, at_near, at_far, with_link, with_sent, without_first, with_first_of, acting, doing, doing_all, Begins, IsUp, StayUp, Agree, granted, refusal, release_in, after, course, expired_in, is_running, told}
+use Rattle.model_link.proofs.Vocabulary.{◌≡◌, ℕ, Bool, cond, IsTrue, List, [], ◌∷◌, ◌++◌, drop, Option, None, Some, refl, sym, ap, subst, ◌∙◌, append-nil, arith, option_to_list, Refusal, Parts, State, Established, LinkTimer, Terms, Link, is_multiple_frame, frame, Request, Event, received, expired, requested, offer, Course, begun, IsInRange, IsSound, Endpoint, Ends, EndStep, requests, expires}
+use Rattle.model_link.proofs.Vocabulary.{StepAt, at_near, at_far, with_link, with_sent, without_first, with_first_of, acting, doing, doing_all, Begins, IsUp, StayUp, Agree, granted, refusal, release_in, after, course, expired_in, is_running, told}
 use Rattle.model_link.proofs.SoundEvents.{sound-after}
 use Rattle.model_link.proofs.Delivering.{event-delivers}
 use Rattle.model_link.proofs.Lines.{Carried, Rising, rising-low}

@@ -1,5 +1,6 @@
 -- Numbered deliveries: one more eligible frame, delivered or passed over.
-use Rattle.model_link.proofs.Vocabulary.{◌≡◌, ◌≢◌, ℕ, ◌+◌, ◌%◌, Bool, true, false, cond, ◌==◌, List, [], ◌∷◌, ◌++◌, length, Option, Some, None, refl, sym, ap, subst, ◌∙◌, append_assoc, append-nil, length-append, true≢false, eqb-true, eq-eqb, ◌⊎◌, inl, inr, arith, option_to_list, All-push, All-nil, Terms, Link, fresh, Event, after, after_all, told, course, Arrived, eligible, Numbered, History, nothing_yet, with_event, with_all, IsNumbered}
+use Rattle.model_link.proofs.Vocabulary.{◌≡◌, ◌≢◌, ℕ, ◌+◌, ◌%◌, Bool, true, false, cond, ◌==◌, List, [], ◌∷◌, ◌++◌, length, Option, Some, None, refl, sym, ap, subst, ◌∙◌, append_assoc, append-nil, length-append, true≢false, eqb-true, eq-eqb, ◌⊎◌, inl, inr, arith, option_to_list, All-push, All-nil, Terms, Link, fresh, Event, after, after_all, told, course, Arrived, eligible, Numbered, History}
+use Rattle.model_link.proofs.Vocabulary.{nothing_yet, with_event, with_all, IsNumbered}
 use Rattle.model_link.proofs.Counting.{Counted, Restarted}
 use Rattle.model_link.proofs.Delivering.{delivery, counted_on, event-delivers}
 

@@ -1,5 +1,6 @@
 -- What a link owes the line, and how each word raises it: a purse holds the frames that may still be sent.
-use Rattle.model_link.proofs.Vocabulary.{◌≡◌, ℕ, ◌+◌, ◌-◌, ◌≤◌, Bool, true, false, cond, IsTrue, List, [], ◌∷◌, ◌++◌, length, take, drop, Option, is_some, refl, arith, length-append, length-take-le, length-drop, State, TeiAssigned, AwaitingEstablishment, AwaitingRelease, Established, TimerRecovery, LinkTimer, T203, ControlFrame, Terms, may_send, window_back, data_in_7_8, is_multiple_frame, IsInRange, Sent, Course, ◌then◌, changed, acknowledge, asked_is, begin_anew, clear_flags, discard, enter, has_room, own_busy_is, pending_is, rr_or_rnr, report_receiver_status, response, send, send_again_from, start, with_own_busy, zero_numbers, give_acknowledgement, give_information, give_waiting, with_one_sent}
+use Rattle.model_link.proofs.Vocabulary.{◌≡◌, ℕ, ◌+◌, ◌-◌, ◌≤◌, Bool, true, false, cond, IsTrue, List, [], ◌∷◌, ◌++◌, length, take, drop, Option, is_some, refl, arith, length-append, length-take-le, length-drop, State, TeiAssigned, AwaitingEstablishment, AwaitingRelease, Established, TimerRecovery, LinkTimer, T203, ControlFrame, Terms, may_send, window_back, data_in_7_8, is_multiple_frame}
+use Rattle.model_link.proofs.Vocabulary.{IsInRange, Sent, Course, ◌then◌, changed, acknowledge, asked_is, begin_anew, clear_flags, discard, enter, has_room, own_busy_is, pending_is, rr_or_rnr, report_receiver_status, response, send, send_again_from, start, with_own_busy, zero_numbers, give_acknowledgement, give_information, give_waiting, with_one_sent}
 use Rattle.model_link.proofs.Waits.{Waits}
 use Rattle.model_link.proofs.Kept.{Purse, another, two}
 unfoldable use Rattle.model_link.proofs.Kept.{how_many}

@@ -1,5 +1,6 @@
 -- No event raises what is sent and still owed by more than its price.
-use Rattle.model_link.proofs.Vocabulary.{◌≡◌, ℕ, ◌+◌, ◌*◌, ◌≤◌, Bool, true, cond, List, [], ◌∷◌, Option, Some, None, is_some, refl, ap, ◌∙◌, arith, and_from, Seq, named, Control, ErrorCode, Refusal, State, LinkTimer, ControlFrame, Terms, Link, is_multiple_frame, may_send, sent, reject_number, is_valid_reject, price, sent_in_all, price_of_all, IsInRange, IsSound, Course, begun, Event, Request, cleared, expired, frame, offer, overlong, received, requested, undefined, wrong_size, begin_anew, granted, refusal, offer_among, after, after_all, course, expired_in, frame_in, malformed_in, told_of_clearing}
+use Rattle.model_link.proofs.Vocabulary.{◌≡◌, ℕ, ◌+◌, ◌*◌, ◌≤◌, Bool, true, cond, List, [], ◌∷◌, Option, Some, None, is_some, refl, ap, ◌∙◌, arith, and_from, Seq, named, Control, ErrorCode, Refusal, State, LinkTimer, ControlFrame, Terms, Link, is_multiple_frame, may_send, sent, reject_number, is_valid_reject, price, sent_in_all, price_of_all, IsInRange, IsSound, Course, begun, Event, Request}
+use Rattle.model_link.proofs.Vocabulary.{cleared, expired, frame, offer, overlong, received, requested, undefined, wrong_size, begin_anew, granted, refusal, offer_among, after, after_all, course, expired_in, frame_in, malformed_in, told_of_clearing}
 use Rattle.model_link.proofs.Kept.{Purse, no_more, another, two}
 unfoldable use Rattle.model_link.proofs.Kept.{how_many}
 use Rattle.model_link.proofs.Careful.{anything, any_contents, Careful}

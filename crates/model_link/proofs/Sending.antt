@@ -1,5 +1,6 @@
 -- One direction between two ends, where an end gives a frame to its way.
-use Rattle.model_link.proofs.Vocabulary.{◌≡◌, ℕ, ◌+◌, ◌-◌, ◌<◌, ◌≤◌, Bool, true, false, cond, not, ◌&&◌, List, [], ◌∷◌, ◌++◌, length, Option, Some, refl, ap, ◌∙◌, append_assoc, append-nil, arith, slice_get, get_or, unwrap_or, nat_lt, ltb-true, and_parts, slice_get-get_or, seq, ReceiveReady, Parts, ControlFrame, Terms, Link, frame_of, Course, begun, given_of, IsInRange, IsSound, frame_given, response, give_waiting, is_established, may_send_information, next_information, offer_among, send_acknowledgement}
+use Rattle.model_link.proofs.Vocabulary.{◌≡◌, ℕ, ◌+◌, ◌-◌, ◌<◌, ◌≤◌, Bool, true, false, cond, not, ◌&&◌, List, [], ◌∷◌, ◌++◌, length, Option, Some, refl, ap, ◌∙◌, append_assoc, append-nil, arith, slice_get, get_or, unwrap_or, nat_lt, ltb-true, and_parts, slice_get-get_or, seq, ReceiveReady, Parts, ControlFrame, Terms, Link, frame_of, Course, begun, given_of, IsInRange, IsSound, frame_given}
+use Rattle.model_link.proofs.Vocabulary.{response, give_waiting, is_established, may_send_information, next_information, offer_among, send_acknowledgement}
 use Rattle.model_link.proofs.Lines.{Carries, Carried, Rising, carried-push, rising-push}
 use Rattle.model_link.proofs.Direction.{frames_of}
 

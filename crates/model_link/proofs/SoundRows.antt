@@ -1,6 +1,7 @@
 -- Every word of the tables keeps a link sound, over the plain values of which soundness speaks.
 pub use Rattle.model_link.proofs.FrameRows.{named-within}
-use Rattle.model_link.proofs.Vocabulary.{◌≡◌, ℕ, ◌+◌, ◌-◌, ◌<◌, ◌≤◌, Bool, true, false, cond, not, ◌&&◌, IsTrue, List, [], ◌∷◌, ◌++◌, length, take, drop, Option, Some, None, refl, sym, ap, subst, ◌∙◌, true≢false, arith, length-append, length-drop, length-take-le, All, nat_lt, nat_le, ltb-true, ltb-false, leb-false, and_parts, All-push, All-tail, All-take, All-drop, Refusal, WrongState, TooLong, QueueFull, State, TeiAssigned, AwaitingEstablishment, AwaitingRelease, Established, TimerRecovery, ControlFrame, Terms, is_multiple_frame, IsWaitingFrame, Course, ◌then◌, LinkTimer, data_in_7_8, Data, begin_anew, enter, own_busy_is, report_receiver_status, send_again_from, start, with_own_busy, refusal, is_established}
+use Rattle.model_link.proofs.Vocabulary.{◌≡◌, ℕ, ◌+◌, ◌-◌, ◌<◌, ◌≤◌, Bool, true, false, cond, not, ◌&&◌, IsTrue, List, [], ◌∷◌, ◌++◌, length, take, drop, Option, Some, None, refl, sym, ap, subst, ◌∙◌, true≢false, arith, length-append, length-drop, length-take-le, All, nat_lt, nat_le, ltb-true, ltb-false, leb-false, and_parts, All-push, All-tail, All-take, All-drop, Refusal, WrongState, TooLong}
+use Rattle.model_link.proofs.Vocabulary.{QueueFull, State, TeiAssigned, AwaitingEstablishment, AwaitingRelease, Established, TimerRecovery, ControlFrame, Terms, is_multiple_frame, IsWaitingFrame, Course, ◌then◌, LinkTimer, data_in_7_8, Data, begin_anew, enter, own_busy_is, report_receiver_status, send_again_from, start, with_own_busy, refusal, is_established}
 use Rattle.model_link.proofs.Waits.{Waits, ready_waits}
 use Rattle.model_link.proofs.Careful.{is_at_rest, idle, Careful}
 

@@ -1,5 +1,6 @@
 -- Each row of the tables tells at most two notes.
-use Rattle.model_link.proofs.Vocabulary.{◌≡◌, ℕ, ◌+◌, ◌≤◌, zero-add, Bool, false, cond, ◌&&◌, List, [], ◌∷◌, ◌++◌, length, Option, None, is_some, ◌⊎◌, inr, refl, sym, ap, ◌∙◌, arith, length-append, Control, Ui, Note, ErrorCode, State, TeiAssigned, AwaitingEstablishment, AwaitingRelease, Established, TimerRecovery, LinkTimer, T200, T203, Terms, Link, Course, begun, by_bit, frame_in_4, frame_in_5, frame_in_6, list_any, Timer, Order, Start, Stop, is_data, is_unit, runs, orders_for, starts, granted, frame_in_7, frame_in_8, ClearBusy, Data, Establish, Event, Release, Request, SetBusy, cleared, frame, received, deliver_unit, leave_unserved}
+use Rattle.model_link.proofs.Vocabulary.{◌≡◌, ℕ, ◌+◌, ◌≤◌, zero-add, Bool, false, cond, ◌&&◌, List, [], ◌∷◌, ◌++◌, length, Option, None, is_some, ◌⊎◌, inr, refl, sym, ap, ◌∙◌, arith, length-append, Control, Ui, Note, ErrorCode, State, TeiAssigned, AwaitingEstablishment, AwaitingRelease, Established, TimerRecovery, LinkTimer, T200, T203, Terms, Link, Course, begun, by_bit, frame_in_4, frame_in_5}
+use Rattle.model_link.proofs.Vocabulary.{frame_in_6, list_any, Timer, Order, Start, Stop, is_data, is_unit, runs, orders_for, starts, granted, frame_in_7, frame_in_8, ClearBusy, Data, Establish, Event, Release, Request, SetBusy, cleared, frame, received, deliver_unit, leave_unserved}
 use Rattle.model_link.specs.Machine
 use Rattle.model_link.proofs.Leads.{Leads, from_more}
 use Rattle.model_link.proofs.Telling.{Purse, no_more, another, how_many, Telling, HasTold, ToldWithin, untold, note-told, enough, words}

@@ -1,5 +1,6 @@
 -- A link that awaits something has its timer: the rows by state, and every event.
-use Rattle.model_link.proofs.Vocabulary.{arith, ◌≡◌, ℕ, ◌+◌, Bool, true, false, cond, ◌&&◌, List, Option, Some, None, refl, Control, Ua, Dm, Refusal, State, TeiAssigned, AwaitingEstablishment, AwaitingRelease, Established, LinkTimer, T200, ControlFrame, Terms, Link, runs, Course, begun, changed, IsTimed, IsTimedIn, Event, Request, frame, received, pending_is, start, give_information, is_established, offer_among, with_one_sent, after, course, expired_in, frame_in, frame_step}
+use Rattle.model_link.proofs.Vocabulary.{arith, ◌≡◌, ℕ, ◌+◌, Bool, true, false, cond, ◌&&◌, List, Option, Some, None, refl, Control, Ua, Dm, Refusal, State, TeiAssigned, AwaitingEstablishment, AwaitingRelease, Established, LinkTimer, T200, ControlFrame, Terms, Link, runs, Course, begun, changed, IsTimed, IsTimedIn, Event, Request, frame, received, pending_is, start, give_information}
+use Rattle.model_link.proofs.Vocabulary.{is_established, offer_among, with_one_sent, after, course, expired_in, frame_in, frame_step}
 use Rattle.model_link.proofs.Leads.{Leads, told_ways}
 use Rattle.model_link.specs.Requests
 use Rattle.model_link.proofs.Timing.{TimedBy, At, Ends, at_ends, failed_timed, ends, rows}

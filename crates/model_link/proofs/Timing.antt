@@ -1,5 +1,6 @@
 -- A link that awaits something has its timer: every row keeps that.
-use Rattle.model_link.proofs.Vocabulary.{◌≡◌, ℕ, ◌≤◌, Bool, true, Option, Some, None, ◌⊎◌, inl, inr, refl, arith, Seq, named, ErrorCode, State, TeiAssigned, AwaitingEstablishment, AwaitingRelease, Established, TimerRecovery, LinkTimer, T200, T203, Terms, Course, Step, ◌then◌, eqb-true, acknowledge, asked_is, by_number, discard, enter, error, establish_indication, no_timer, re_establish, send_again_from, start, zero_numbers, failed, acknowledged_by_information_in_7, acknowledged_in_7, is_all_sent, acknowledged_in_8, recovered}
+use Rattle.model_link.proofs.Vocabulary.{◌≡◌, ℕ, ◌≤◌, Bool, true, Option, Some, None, ◌⊎◌, inl, inr, refl, arith, Seq, named, ErrorCode, State, TeiAssigned, AwaitingEstablishment, AwaitingRelease, Established, TimerRecovery, LinkTimer, T200, T203, Terms, Course, Step, ◌then◌, eqb-true, acknowledge, asked_is, by_number, discard, enter, error, establish_indication, no_timer, re_establish}
+use Rattle.model_link.proofs.Vocabulary.{send_again_from, start, zero_numbers, failed, acknowledged_by_information_in_7, acknowledged_in_7, is_all_sent, acknowledged_in_8, recovered}
 use Rattle.model_link.proofs.Leads.{Leads, keeping_then, nothing_leads, depending_leads, bit_leads, tested_leads, Passed, from_more, to_less, leaves}
 use Rattle.model_link.proofs.SoundRows.{named-within}
 

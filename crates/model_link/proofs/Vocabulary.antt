@@ -44,7 +44,8 @@ pub use Rattle.model_link.specs.Told.{orders_for, runs, timer_at}
 unfoldable pub use Rattle.model_link.specs.Told.{starts}
 pub use Rattle.model_link.specs.TwoEnds.{Step as EndStep, Agree, Begins, StepAt, Endpoint, Ends, IsUp, acting, requests, at_far, at_near, doing, expires, frame_given, without_first, with_first_of, with_link, with_sent}
 unfoldable pub use Rattle.model_link.specs.TwoEnds.{StayUp, doing_all}
-pub use Rattle.model_link.specs.Words.{acknowledge, answer, asked_is, begin_anew, by_number, clear_flags, command, count_received, deliver, deliver_unit, discard, enquire, enter, error, establish_indication, has_room, leave_unserved, no_timer, own_busy_is, pending_is, re_establish, reject, rejecting_is, report_receiver_status, response, rr_or_rnr, send, send_again_from, start, with_own_busy, zero_numbers}
+pub use Rattle.model_link.specs.Words.{acknowledge, answer, asked_is, begin_anew, by_number, clear_flags, command, count_received, deliver, deliver_unit, discard, enquire, enter, error, establish_indication, has_room, leave_unserved, no_timer, own_busy_is, pending_is, re_establish, reject, rejecting_is, report_receiver_status, response, rr_or_rnr, send, send_again_from, start, with_own_busy}
+pub use Rattle.model_link.specs.Words.{zero_numbers}
 pub use Rattle.model_link.specs.declared.frames.ControlFrame.{ControlFrame}
 pub use Rattle.model_link.specs.declared.states.State.{State}
 pub use Rattle.model_link.specs.declared.states.State.TheVariants.{AwaitingEstablishment, AwaitingRelease, Established, TeiAssigned, TimerRecovery}

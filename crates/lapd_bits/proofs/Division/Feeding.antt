@@ -1,5 +1,6 @@
 -- Many bits fed to a register at once.
-use Rattle.lapd_bits.proofs.Vocabulary.{◌≡◌, ℕ, ◌+◌, Bool, false, not, List, [], ◌∷◌, ◌++◌, length, replicate, refl, sym, ap, ◌∙◌, append_assoc, append-nil, length-append, arith, beq, fold, replicate-append-replicate, fold-append, plus, brought_down, remainder, differ_self, plus-swap, plus-append, plus-zeros, plus_zeros_of, plus_twice, plus-comm, length-plus, brought_down-plus, remainder-plus, length-remainder, divided_zeros, with_bit, length-with_bit, remainder-text_below}
+use Rattle.lapd_bits.proofs.Vocabulary.{◌≡◌, ℕ, ◌+◌, Bool, false, not, List, [], ◌∷◌, ◌++◌, length, replicate, refl, sym, ap, ◌∙◌, append_assoc, append-nil, length-append, arith, beq, fold, replicate-append-replicate, fold-append, plus, brought_down, remainder, differ_self, plus-swap, plus-append, plus-zeros, plus_zeros_of, plus_twice, plus-comm, length-plus, brought_down-plus, remainder-plus}
+use Rattle.lapd_bits.proofs.Vocabulary.{length-remainder, divided_zeros, with_bit, length-with_bit, remainder-text_below}
 use Rattle.std.proofs.Math.ListN.{length-replicate}
 
 -- ---- a sum of registers, fed with a sum of texts

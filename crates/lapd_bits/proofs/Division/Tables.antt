@@ -1,5 +1,6 @@
 -- The tables of the frame check hold what the long division leaves of each octet, and how a register goes by them.
-use Rattle.lapd_bits.proofs.Vocabulary.{◌≡◌, ℕ, suc, zero, ◌≤◌, ◌+◌, ◌*◌, ◌/◌, ◌%◌, ◌^◌, ◌<◌, Bool, false, List, [], ◌∷◌, ◌++◌, length, take, drop, get_or, map, replicate, refl, sym, ap, subst, ◌∙◌, append-nil, append_assoc, length-append, mul-add, arith, mul-one, bit_xor, fold, range_with_len, length-take-le, length-drop, get_or-map-range_with_len, low_bits, bits, number_of, plus, remainder, dividend, HoldsDivision, LEFT, length-bits, length-low_bits, low_bits-two_octets, low_bits-number_of_n, bits-append, length-remainder, plus-append, with_bit, remainder-dividend-append}
+use Rattle.lapd_bits.proofs.Vocabulary.{◌≡◌, ℕ, suc, zero, ◌≤◌, ◌+◌, ◌*◌, ◌/◌, ◌%◌, ◌^◌, ◌<◌, Bool, false, List, [], ◌∷◌, ◌++◌, length, take, drop, get_or, map, replicate, refl, sym, ap, subst, ◌∙◌, append-nil, append_assoc, length-append, mul-add, arith, mul-one, bit_xor, fold, range_with_len, length-take-le, length-drop, get_or-map-range_with_len, low_bits, bits, number_of, plus, remainder}
+use Rattle.lapd_bits.proofs.Vocabulary.{dividend, HoldsDivision, LEFT, length-bits, length-low_bits, low_bits-two_octets, low_bits-number_of_n, bits-append, length-remainder, plus-append, with_bit, remainder-dividend-append}
 use Rattle.std.proofs.Math.Seq.{take-add}
 use Rattle.lapd_bits.proofs.Division.Feeding.{fed-met, fed-longer, remainder-first}
 use Rattle.lapd_bits.proofs.Division.Word.{low_bits-xor}

@@ -1,5 +1,7 @@
 -- Where a line was only pulled, as often as the configuration says, the latest call for its next frame gave none.
-use Rattle.laws_trace.proofs.Vocabulary.{◌≡◌, ℕ, zero, suc, ◌+◌, ◌<◌, ◌==◌, Bool, true, false, cond, List, [], ◌∷◌, ◌++◌, Option, None, option_map, refl, sym, ap, ◌∙◌, subst, arith, append_assoc, eq-eqb, All, flat_map-append, All-nil, All-cons, All-head, All-tail, Config, NextFrame, taken, next_of, most_frames, HasNothing, Card, line_at, AreTakesAt, takes_at, card-idles, all-left, all-right, config-stays, OctetCard, calls_answered, moments_meant, asked_at, refines, pulls_are_takes, fresh_octets_sound, moments-append, eqb-true, answer as line_answer, takes_slot, moments as frame_moments, after_all as frames_after, ports_fresh as fresh, ports_after as after, PortsEvent as Event, PortsAreAtLines as AreAtLines, ports_after_all as after_all, meant_all, EndsInPulls, gave, next, IsInRange, config_stays}
+use Rattle.laws_trace.proofs.Vocabulary.{◌≡◌, ℕ, zero, suc, ◌+◌, ◌<◌, ◌==◌, Bool, true, false, cond, List, [], ◌∷◌, ◌++◌, Option, None, option_map, refl, sym, ap, ◌∙◌, subst, arith, append_assoc, eq-eqb, All, flat_map-append, All-nil, All-cons, All-head, All-tail, Config, NextFrame, taken, next_of, most_frames, HasNothing, Card, line_at, AreTakesAt, takes_at, card-idles, all-left, all-right}
+use Rattle.laws_trace.proofs.Vocabulary.{config-stays, OctetCard, calls_answered, moments_meant, asked_at, refines, pulls_are_takes, fresh_octets_sound, moments-append, eqb-true, answer as line_answer, takes_slot, moments as frame_moments, after_all as frames_after, ports_fresh as fresh, ports_after as after, PortsEvent as Event, PortsAreAtLines as AreAtLines, ports_after_all as after_all}
+use Rattle.laws_trace.proofs.Vocabulary.{meant_all, EndsInPulls, gave, next, IsInRange, config_stays}
 use Rattle.model_card.specs.Card as cards
 use Rattle.model_card.specs.Event as frames
 use Rattle.model_card.specs.Machine as machine

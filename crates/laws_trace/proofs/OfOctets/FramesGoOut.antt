@@ -1,5 +1,6 @@
 -- What a receiver hears of a line are frames, and in the end all of them: the laws.
-use Rattle.laws_trace.proofs.Vocabulary.{arith, ◌≡◌, ℕ, ◌<◌, List, [], ◌∷◌, map, subst, All, All-nil, All-cons, All-head, All-tail, Config, IsInRange, all-left, as_octets, octets_given, frames_to_hear, OfEachLine, meant_all, refines, given_frames_are_heard, heard_frames_are_octets, IsSpelled, Seen, trace_of, frames_begun, ports_fresh as fresh, PortsEvent as Event, PortsAreAtLines as AreAtLines, stream_heard_in, stream_frame, CardEvent}
+use Rattle.laws_trace.proofs.Vocabulary.{arith, ◌≡◌, ℕ, ◌<◌, List, [], ◌∷◌, map, subst, All, All-nil, All-cons, All-head, All-tail, Config, IsInRange, all-left, as_octets, octets_given, frames_to_hear, OfEachLine, meant_all, refines, given_frames_are_heard, heard_frames_are_octets, IsSpelled, Seen, trace_of, frames_begun, ports_fresh as fresh, PortsEvent as Event, PortsAreAtLines as AreAtLines}
+use Rattle.laws_trace.proofs.Vocabulary.{stream_heard_in, stream_frame, CardEvent}
 use Rattle.model_card.proofs.OfPorts.AsOctets.{all_exact}
 use Rattle.model_card.specs.Card as cards
 use Rattle.model_card.specs.ports.GoingOut.{GoOut}

@@ -1,5 +1,6 @@
 -- What an observer sees of the events of frames that events of octets mean, in the words of ports.
-use Rattle.laws_trace.proofs.Vocabulary.{arith, ◌≡◌, ℕ, ◌==◌, cond, List, [], ◌∷◌, ◌++◌, map, option_map, refl, sym, ap, ◌∙◌, append-nil, All, flat_map, option_to_list, flat_map-append, All-nil, All-cons, All-head, All-tail, All-append, AreOctets, Card, OctetCard, port_at, answer_to, frame_moment, meant_in, frames_given, HearsOctets, Port, given_in, answer_of, meant_all, asked_at, gives_at_next, refines, answer as line_answer, Request, moments as frame_moments, contents_given, GivesOctets, Seen, seen, seen_told, seen_granted, seen_in, trace, frames_begun, ports_after as after, meant, PortsEvent as Event, if_granted, request_granted, requests_of, HasOctets, trace_begun as begun, granted, heard, lost, trace_noted as noted, octets_of, at, CardEvent}
+use Rattle.laws_trace.proofs.Vocabulary.{arith, ◌≡◌, ℕ, ◌==◌, cond, List, [], ◌∷◌, ◌++◌, map, option_map, refl, sym, ap, ◌∙◌, append-nil, All, flat_map, option_to_list, flat_map-append, All-nil, All-cons, All-head, All-tail, All-append, AreOctets, Card, OctetCard, port_at, answer_to, frame_moment, meant_in, frames_given, HearsOctets, Port, given_in, answer_of, meant_all, asked_at, gives_at_next}
+use Rattle.laws_trace.proofs.Vocabulary.{refines, answer as line_answer, Request, moments as frame_moments, contents_given, GivesOctets, Seen, seen, seen_told, seen_granted, seen_in, trace, frames_begun, ports_after as after, meant, PortsEvent as Event, if_granted, request_granted, requests_of, HasOctets, trace_begun as begun, granted, heard, lost, trace_noted as noted, octets_of, at, CardEvent}
 use Rattle.model_line.specs.Event as line
 use Rattle.model_card.specs.Machine as machine
 use Rattle.model_card.specs.Run as runs

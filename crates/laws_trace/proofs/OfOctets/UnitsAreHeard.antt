@@ -1,5 +1,6 @@
 -- What a receiver hears of unit data: the laws.
-use Rattle.laws_trace.proofs.Vocabulary.{◌≡◌, ℕ, ◌<◌, List, [], ◌∷◌, ◌++◌, map, refl, sym, ap, ◌∙◌, arith, filter, flat_map, flat_map-append, map-append, filter-append, Config, IsInRange, most_frames, takes_at, as_octets, octets_given, frames_to_hear, OfEachLine, given_frames_are_heard, append-nil, fold, unit_frame, subst, is_unit, ports_fresh as fresh, PortsEvent as Event, PortsAreAtLines as AreAtLines, Asked, none_asked, with_request, units_to_hear, AreFronts, whole_frame, whole_frames, UnitsAreHeard, AllUnitsAreHeard, stream_heard_in, stream_frame}
+use Rattle.laws_trace.proofs.Vocabulary.{◌≡◌, ℕ, ◌<◌, List, [], ◌∷◌, ◌++◌, map, refl, sym, ap, ◌∙◌, arith, filter, flat_map, flat_map-append, map-append, filter-append, Config, IsInRange, most_frames, takes_at, as_octets, octets_given, frames_to_hear, OfEachLine, given_frames_are_heard, append-nil, fold, unit_frame, subst, is_unit, ports_fresh as fresh, PortsEvent as Event}
+use Rattle.laws_trace.proofs.Vocabulary.{PortsAreAtLines as AreAtLines, Asked, none_asked, with_request, units_to_hear, AreFronts, whole_frame, whole_frames, UnitsAreHeard, AllUnitsAreHeard, stream_heard_in, stream_frame}
 use Rattle.laws_trace.proofs.Units.{units_begun}
 use Rattle.laws_trace.proofs.UnitsGoOut.{left-waiting, goes, nothing-left}
 use Rattle.laws_trace.proofs.OfOctets.AsOctets.{same_units}

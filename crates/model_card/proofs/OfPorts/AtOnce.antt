@@ -1,5 +1,6 @@
 -- A pull takes the next frame where fewer than eight bits are left, and nothing else is put on the line: the law.
-use Rattle.model_card.proofs.OfPorts.Vocabulary.{◌≡◌, ℕ, ◌<◌, Bool, true, false, nat_lt, cond, List, [], ◌∷◌, ◌++◌, length, map, drop, Option, None, Some, option_map, option_to_list, refl, sym, ap, ◌∙◌, subst, arith, append_assoc, bits, length-bits, line_text, Config, Event, NextFrame, IsTextOf, OctetCard, Port, after, after_all, fresh, fresh_port, is_due, item_of, left_of, length-replicate, meant, meant_all, port_at, calls_answered, octets_given, moments_meant, pull}
+use Rattle.model_card.proofs.OfPorts.Vocabulary.{◌≡◌, ℕ, ◌<◌, Bool, true, false, nat_lt, cond, List, [], ◌∷◌, ◌++◌, length, map, drop, Option, None, Some, option_map, option_to_list, refl, sym, ap, ◌∙◌, subst, arith, append_assoc, bits, length-bits, line_text, Config, Event, NextFrame, IsTextOf, OctetCard, Port, after, after_all, fresh, fresh_port, is_due, item_of, left_of, length-replicate}
+use Rattle.model_card.proofs.OfPorts.Vocabulary.{meant, meant_all, port_at, calls_answered, octets_given, moments_meant, pull}
 use Rattle.model_line.specs.Event as line
 use Rattle.model_card.specs.Event as frames
 use Rattle.model_card.specs.ports.AtOnce.{FramesGoAtOnce, item_given, left_to_give, text_of_calls}

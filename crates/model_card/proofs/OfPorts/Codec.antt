@@ -1,5 +1,6 @@
 -- The law of the codec.
-use Rattle.model_card.proofs.OfPorts.Vocabulary.{◌≡◌, ◌==◌, ℕ, ◌<◌, Bool, List, [], ◌∷◌, ◌++◌, length, flat_map, Option, option_map, option_to_list, refl, ap, sym, ◌∙◌, subst, cond, arith, flat_map-append, All, All-nil, All-head, All-tail, All-append, Config, Card, Event, OctetCard, Port, port_at, meant, said, answer, after, answer_to, after_all, meant_all, moments, GoesOn, PortGoesOn, Refines, OctetsAreACodec, come_of, frames_given, given_of, heard_of, meant_in, octet_come, octet_pulled, octets_come, octets_pulled, pulled_of, AreAtLines}
+use Rattle.model_card.proofs.OfPorts.Vocabulary.{◌≡◌, ◌==◌, ℕ, ◌<◌, Bool, List, [], ◌∷◌, ◌++◌, length, flat_map, Option, option_map, option_to_list, refl, ap, sym, ◌∙◌, subst, cond, arith, flat_map-append, All, All-nil, All-head, All-tail, All-append, Config, Card, Event, OctetCard, Port, port_at, meant, said, answer, after, answer_to, after_all, meant_all, moments, GoesOn, PortGoesOn, Refines}
+use Rattle.model_card.proofs.OfPorts.Vocabulary.{OctetsAreACodec, come_of, frames_given, given_of, heard_of, meant_in, octet_come, octet_pulled, octets_come, octets_pulled, pulled_of, AreAtLines}
 use Rattle.model_line.specs.Event as line
 unfoldable use Rattle.model_line.specs.Machine.{answer as line_answer}
 use Rattle.model_card.specs.Event as frames

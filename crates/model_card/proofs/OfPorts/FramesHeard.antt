@@ -1,5 +1,6 @@
 -- What is heard in the octets that a frame or a fault means.
-use Rattle.model_card.proofs.OfPorts.Vocabulary.{◌≡◌, ℕ, zero, suc, ◌+◌, ◌-◌, ◌*◌, ◌/◌, ◌%◌, ◌≤◌, Bool, true, List, [], ◌∷◌, ◌++◌, length, replicate, reverse, refl, ap, sym, ◌∙◌, arith, length-append, length-replicate, bits, flag, low_bits, check, frame_text, heard_until, heard_in, room_for, AreOctets, bits-append, low_bits-number_of_n, NoSix-stuffed, after_flag, heard_until-onto, hears_text, after_text, reverse_aux-append, Fault, IsIdle, line_octets, came, fault_octets, cause_of, AreHeardAs, FramesAreHeard, hears, hears-append, reverse_aux, some_text, append_assoc, ◌<◌, get_or-replicate, Config, Port, after_all, fresh, fresh_port, meant_all, octets_come, port_at, Event as CardEvent, lt-ltb, le-ltb, false}
+use Rattle.model_card.proofs.OfPorts.Vocabulary.{◌≡◌, ℕ, zero, suc, ◌+◌, ◌-◌, ◌*◌, ◌/◌, ◌%◌, ◌≤◌, Bool, true, List, [], ◌∷◌, ◌++◌, length, replicate, reverse, refl, ap, sym, ◌∙◌, arith, length-append, length-replicate, bits, flag, low_bits, check, frame_text, heard_until, heard_in, room_for, AreOctets, bits-append, low_bits-number_of_n, NoSix-stuffed, after_flag, heard_until-onto, hears_text}
+use Rattle.model_card.proofs.OfPorts.Vocabulary.{after_text, reverse_aux-append, Fault, IsIdle, line_octets, came, fault_octets, cause_of, AreHeardAs, FramesAreHeard, hears, hears-append, reverse_aux, some_text, append_assoc, ◌<◌, get_or-replicate, Config, Port, after_all, fresh, fresh_port, meant_all, octets_come, port_at, Event as CardEvent, lt-ltb, le-ltb, false}
 use Rattle.model_bits.specs.Bits.{octets_of}
 use Rattle.std.specs.Prelude.{◌||◌, cond, drop, nat_lt, option_to_list, option_map, option_and_then, Some, None}
 use Rattle.model_bits.specs.Stream.{Event, dropped, ends_flag, since_flag, has_abort, gap_event, closed_by_flag, given_up, heard_at as heard_bit}

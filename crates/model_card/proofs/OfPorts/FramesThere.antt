@@ -1,5 +1,6 @@
 -- A frame that is heard stands in the octets, with its check, between two flags.
-use Rattle.model_card.proofs.OfPorts.Vocabulary.{◌≡◌, ℕ, suc, ◌-◌, ◌≤◌, Bool, true, false, nat_lt, not, cond, List, [], ◌∷◌, ◌++◌, length, take, drop, reverse, Option, None, Some, option_map, option_and_then, option_to_list, refl, sym, ap, ◌∙◌, subst, arith, append_assoc, length-drop, take-append-drop, ltb-false, ltb-true, All, All-nil, All-cons, All-append, bits, bits-append, flag, stuffed, octets_sent, check, is_good, frame_text, judged, text_event, gap_event, closed_by_flag, ends_flag, given_up, heard_at, heard_in, heard_until, room_for, since_flag, octets_are_those_sent, ◌<◌, All-head, All-tail, hears, heard_until-onto, reverse_aux-append, gained, length-bits}
+use Rattle.model_card.proofs.OfPorts.Vocabulary.{◌≡◌, ℕ, suc, ◌-◌, ◌≤◌, Bool, true, false, nat_lt, not, cond, List, [], ◌∷◌, ◌++◌, length, take, drop, reverse, Option, None, Some, option_map, option_and_then, option_to_list, refl, sym, ap, ◌∙◌, subst, arith, append_assoc, length-drop, take-append-drop, ltb-false, ltb-true, All, All-nil, All-cons, All-append, bits, bits-append, flag, stuffed}
+use Rattle.model_card.proofs.OfPorts.Vocabulary.{octets_sent, check, is_good, frame_text, judged, text_event, gap_event, closed_by_flag, ends_flag, given_up, heard_at, heard_in, heard_until, room_for, since_flag, octets_are_those_sent, ◌<◌, All-head, All-tail, hears, heard_until-onto, reverse_aux-append, gained, length-bits}
 use Rattle.std.specs.Prelude.{IsTrue, ◌||◌}
 use Rattle.std.proofs.lemmas.Bool.{or_parts}
 use Rattle.std.proofs.lemmas.List.{reverse-append, reverse-reverse, append_cancel_left}

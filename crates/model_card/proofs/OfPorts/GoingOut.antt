@@ -1,5 +1,6 @@
 -- What a receiver hears in the octets that a line's pulls give: the law.
-use Rattle.model_card.proofs.OfPorts.Vocabulary.{◌≡◌, ℕ, ◌<◌, List, [], ◌∷◌, ◌++◌, length, map, refl, sym, ap, ◌∙◌, subst, arith, get_or-replicate, length-replicate, map-append, Item, idle, Config, Event, IsInRange, IsSoundPort, AreAtLines, OctetCard, Port, after_all, fresh, fresh_port, frames_among, left_of, port_at, AllGivenAreHeard, AreHeardWhole, GivenFramesAreHeard, GivenGoOut, GoOut, IsReached, as_octets, frames_to_hear, heard_in, octets_given}
+use Rattle.model_card.proofs.OfPorts.Vocabulary.{◌≡◌, ℕ, ◌<◌, List, [], ◌∷◌, ◌++◌, length, map, refl, sym, ap, ◌∙◌, subst, arith, get_or-replicate, length-replicate, map-append, Item, idle, Config, Event, IsInRange, IsSoundPort, AreAtLines, OctetCard, Port, after_all, fresh, fresh_port, frames_among, left_of, port_at, AllGivenAreHeard, AreHeardWhole, GivenFramesAreHeard, GivenGoOut, GoOut}
+use Rattle.model_card.proofs.OfPorts.Vocabulary.{IsReached, as_octets, frames_to_hear, heard_in, octets_given}
 use Rattle.model_bits.specs.Stream as stream
 use Rattle.model_card.proofs.OfPorts.AsOctets.{sent, same_text, frames_sent, cut_sent, heard_whole}
 use Rattle.model_card.proofs.OfPorts.CallsPut.{run_puts}

@@ -1,5 +1,6 @@
 -- What a card of octets does at one line, beside what happens at the others.
-use Rattle.model_card.proofs.OfPorts.Vocabulary.{◌≡◌, ◌==◌, ℕ, ◌<◌, Bool, true, false, not, ◌&&◌, List, [], ◌∷◌, length, get_or, set, Option, None, Some, option_map, option_map_or, refl, ap, sym, ◌∙◌, subst, cond, arith, eqb-true, eq-eqb, length-set, length-replicate, get_or-set_same, get_or-set_other, filter, map, All-head, All-tail, Card, Answer, AreAtLines, Event, IsAtLine, LinesIsolated, Moment, OctetCard, Port, after, answer, answer_to, card_after, fresh, fresh_port, meant, moments, port_at, said, Line, line_at}
+use Rattle.model_card.proofs.OfPorts.Vocabulary.{◌≡◌, ◌==◌, ℕ, ◌<◌, Bool, true, false, not, ◌&&◌, List, [], ◌∷◌, length, get_or, set, Option, None, Some, option_map, option_map_or, refl, ap, sym, ◌∙◌, subst, cond, arith, eqb-true, eq-eqb, length-set, length-replicate, get_or-set_same, get_or-set_other, filter, map, All-head, All-tail, Card, Answer, AreAtLines, Event, IsAtLine, LinesIsolated}
+use Rattle.model_card.proofs.OfPorts.Vocabulary.{Moment, OctetCard, Port, after, answer, answer_to, card_after, fresh, fresh_port, meant, moments, port_at, said, Line, line_at}
 use Rattle.model_bits.specs.Stream as stream
 use Rattle.model_line.specs.Counts as line_counts
 use Rattle.model_line.specs.Event as line

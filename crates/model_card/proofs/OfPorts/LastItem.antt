@@ -1,5 +1,6 @@
 -- All items of a port but the last have been given, to the last bit; and each frame among them is long enough for one.
-use Rattle.model_card.proofs.OfPorts.Vocabulary.{◌≡◌, ℕ, ◌+◌, ◌≤◌, ◌<◌, ◌⊎◌, inl, Bool, true, false, List, [], ◌∷◌, ◌++◌, length, Option, None, Some, IfSome, option_map, refl, cond, arith, length-append, ltb-true, length-drop, length-bits, All, All-nil, All-push, bits, Item, idle, frame, line_text, Config, Card, Port, given_in, is_due, item_of, meant, pull, with_item, with_octet, IsNotShort, NextFrame, Taken, next_of, taken_not_short}
+use Rattle.model_card.proofs.OfPorts.Vocabulary.{◌≡◌, ℕ, ◌+◌, ◌≤◌, ◌<◌, ◌⊎◌, inl, Bool, true, false, List, [], ◌∷◌, ◌++◌, length, Option, None, Some, IfSome, option_map, refl, cond, arith, length-append, ltb-true, length-drop, length-bits, All, All-nil, All-push, bits, Item, idle, frame, line_text, Config, Card, Port, given_in, is_due, item_of, meant, pull, with_item, with_octet, IsNotShort}
+use Rattle.model_card.proofs.OfPorts.Vocabulary.{NextFrame, Taken, next_of, taken_not_short}
 use Rattle.model_card.specs.Sound as cards
 use Rattle.model_card.proofs.Steps.{has_lines, line_sound}
 use Rattle.model_line.specs.Event as line

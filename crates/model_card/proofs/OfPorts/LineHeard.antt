@@ -1,5 +1,6 @@
 -- What is heard in a beginning of the bits of a line: the frames whose flags it has.
-use Rattle.model_card.proofs.OfPorts.Vocabulary.{◌≡◌, ℕ, ◌≤◌, inl, inr, Bool, List, [], ◌∷◌, ◌++◌, length, map, flat_map, refl, sym, ap, ◌∙◌, subst, arith, append_assoc, append-nil, append_cancel_left, bits, Item, idle, frame, item_text, line_text, line_text-push, room_for, after_flag, heard_until-onto, frames_among, AreHeardWhole, GoOut, frames_of, heard_in, hears, hears-append, hears_items, reverse_aux}
+use Rattle.model_card.proofs.OfPorts.Vocabulary.{◌≡◌, ℕ, ◌≤◌, inl, inr, Bool, List, [], ◌∷◌, ◌++◌, length, map, flat_map, refl, sym, ap, ◌∙◌, subst, arith, append_assoc, append-nil, append_cancel_left, bits, Item, idle, frame, item_text, line_text, line_text-push, room_for, after_flag, heard_until-onto, frames_among, AreHeardWhole, GoOut, frames_of, heard_in, hears, hears-append, hears_items}
+use Rattle.model_card.proofs.OfPorts.Vocabulary.{reverse_aux}
 use Rattle.model_bits.specs.Stream as stream
 use Rattle.model_card.proofs.OfPorts.LastItem.{HasLast, IsCut}
 

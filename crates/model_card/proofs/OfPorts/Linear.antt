@@ -1,5 +1,6 @@
 -- The frames sent are linear in the octets received.
-use Rattle.model_card.proofs.OfPorts.Vocabulary.{◌≡◌, ℕ, ◌+◌, ◌*◌, ◌≤◌, ◌<◌, Bool, List, [], ◌∷◌, refl, sym, subst, arith, length-replicate, All, count_by, sum_by, sum_by-cons, sum_by-replicate, mul-le-mul_left, IsInRange, Config, is_frame, is_long_frame, Event, FramesLinear, AreAtLines, Port, after_all, fresh, fresh_port, meant_all, HasSevenOctetsAReject, HasSixOctetsAFrame, IsLinear, accepted, expired, heard, hears_frame, hears_long_frame, may_send, moments_meant, rejected, sent, window}
+use Rattle.model_card.proofs.OfPorts.Vocabulary.{◌≡◌, ℕ, ◌+◌, ◌*◌, ◌≤◌, ◌<◌, Bool, List, [], ◌∷◌, refl, sym, subst, arith, length-replicate, All, count_by, sum_by, sum_by-cons, sum_by-replicate, mul-le-mul_left, IsInRange, Config, is_frame, is_long_frame, Event, FramesLinear, AreAtLines, Port, after_all, fresh, fresh_port, meant_all, HasSevenOctetsAReject, HasSixOctetsAFrame, IsLinear, accepted}
+use Rattle.model_card.proofs.OfPorts.Vocabulary.{expired, heard, hears_frame, hears_long_frame, may_send, moments_meant, rejected, sent, window}
 use Rattle.model_bits.specs.Stream as stream
 use Rattle.model_line.specs.Event as line
 use Rattle.model_card.specs.Run as runs

@@ -1,5 +1,6 @@
 -- Pulls of a line are calls for its next frame, and by them the bits that are left of it run out.
-use Rattle.model_card.proofs.OfPorts.Vocabulary.{◌≡◌, ◌==◌, ◌&&◌, ℕ, ◌+◌, ◌*◌, ◌/◌, ◌<◌, ◌≤◌, ◌⊎◌, Bool, true, List, [], ◌∷◌, ◌++◌, length, Option, None, Some, option_map, option_to_list, refl, sym, ap, subst, cond, arith, cases_lt, eqb-true, ltb-true, mul-le-mul_right, length-append, length-drop, length-bits, length-check, All, All-nil, All-cons, All-head, All-tail, All-append, bits, stuffed, Item, item_text, item_octets, Config, Event, IsSoundOctetCard, IsTextOf, IsAtLine, AreAtLines, OctetCard, Port, after, after_all, fresh, fresh_port, left_of, meant, meant_all, port_at, pull, said, with_item, with_octet, OfEachLine}
+use Rattle.model_card.proofs.OfPorts.Vocabulary.{◌≡◌, ◌==◌, ◌&&◌, ℕ, ◌+◌, ◌*◌, ◌/◌, ◌<◌, ◌≤◌, ◌⊎◌, Bool, true, List, [], ◌∷◌, ◌++◌, length, Option, None, Some, option_map, option_to_list, refl, sym, ap, subst, cond, arith, cases_lt, eqb-true, ltb-true, mul-le-mul_right, length-append, length-drop, length-bits, length-check, All, All-nil, All-cons, All-head, All-tail, All-append, bits, stuffed}
+use Rattle.model_card.proofs.OfPorts.Vocabulary.{Item, item_text, item_octets, Config, Event, IsSoundOctetCard, IsTextOf, IsAtLine, AreAtLines, OctetCard, Port, after, after_all, fresh, fresh_port, left_of, meant, meant_all, port_at, pull, said, with_item, with_octet, OfEachLine}
 use Rattle.model_line.specs.Event as line
 use Rattle.model_card.specs.Event as frames
 use Rattle.model_card.specs.ports.Port as port

@@ -1,5 +1,6 @@
 -- A card of octets is sound as it begins, and each event keeps it so.
-use Rattle.model_card.proofs.OfPorts.Vocabulary.{◌≡◌, ℕ, ◌+◌, ◌≤◌, ◌<◌, Bool, true, false, List, [], ◌∷◌, length, Option, None, Some, IfSome, option_map, option_map_or, refl, ap, sym, ◌∙◌, subst, cond, arith, length-replicate, All, All-get_or, All-head, All-nil, All-push, All-replicate, All-set, All-tail, Item, item_octets, IsInRange, Config, Card, CardsStaySound, Event, IsSoundOctetCard, IsSoundPort, IsAtLine, AreAtLines, OctetCard, Port, after, after_all, card_after, fresh, fresh_port, given_in, is_due, item_of, meant, port_at, pull, said, with_item, with_octet, Line, NextFrame, Taken, line_at, next_of, taken}
+use Rattle.model_card.proofs.OfPorts.Vocabulary.{◌≡◌, ℕ, ◌+◌, ◌≤◌, ◌<◌, Bool, true, false, List, [], ◌∷◌, length, Option, None, Some, IfSome, option_map, option_map_or, refl, ap, sym, ◌∙◌, subst, cond, arith, length-replicate, All, All-get_or, All-head, All-nil, All-push, All-replicate, All-set, All-tail, Item, item_octets, IsInRange, Config, Card, CardsStaySound, Event, IsSoundOctetCard}
+use Rattle.model_card.proofs.OfPorts.Vocabulary.{IsSoundPort, IsAtLine, AreAtLines, OctetCard, Port, after, after_all, card_after, fresh, fresh_port, given_in, is_due, item_of, meant, port_at, pull, said, with_item, with_octet, Line, NextFrame, Taken, line_at, next_of, taken}
 use Rattle.model_card.specs.Event as frames
 use Rattle.model_card.specs.Sound as cards
 use Rattle.model_card.proofs.CardSound.{after_is_sound, fresh_is_sound}

@@ -1,6 +1,7 @@
 -- `give_back` makes one room of the octets, and hands it back with the token.
 use Rattle.lapd_store.proofs.Vocabulary.{◌≡◌, ℕ, ◌*◌, ◌^◌, ◌<◌, List, [], ◌∷◌, ◌++◌, length, refl, sym, ap, subst, ◌∙◌, arith, lit<, w64, proved_at, leaves, Al, seen, Goes-blank, Gives, at_gives, Gives-goes, Gives-Gives, after, block_of, octets_own, ended, clauses, name}
-use Rattle.lapd_store.proofs.Pointers.{SProp, never, emp, id⊢, Lft, Share, ftrue, flft, froom, ◌⊑◌, ⊑_trans, fact, tables, bounded, owns, Ptr, block_ptr, in_a_block, types_at, nothing, heard, calls_at_last, alive, framed, Stays, stay_dropped, Goes-dropped, walk_of, inst_fn, Ty, Fn, Args, a_type, dcons, dnil, ty_unit, Val, vint, vptr, vunit, capped_is, Env, WpFn, alloc_all, pass_all, free_all, look_at, get, get_in, sets, lands_last, env, ‵, raw, ◌⊛◌, given, later, prop, at_ret, ◌$◌, ◌∵◌, !, qed, by, move, drop, use0, use1, split, join, group, learn, rewrite, regoal, fsplit, fsplit3, fjoin, feq_i, await, whole, sub, stop, fld, lit, unit_lit, of_opd, no_more, and_then, first, blocks, exec, returns, enter}
+use Rattle.lapd_store.proofs.Pointers.{SProp, never, emp, id⊢, Lft, Share, ftrue, flft, froom, ◌⊑◌, ⊑_trans, fact, tables, bounded, owns, Ptr, block_ptr, in_a_block, types_at, nothing, heard, calls_at_last, alive, framed, Stays, stay_dropped, Goes-dropped, walk_of, inst_fn, Ty, Fn, Args, a_type, dcons, dnil, ty_unit, Val, vint, vptr, vunit, capped_is, Env, WpFn, alloc_all, pass_all, free_all}
+use Rattle.lapd_store.proofs.Pointers.{look_at, get, get_in, sets, lands_last, env, ‵, raw, ◌⊛◌, given, later, prop, at_ret, ◌$◌, ◌∵◌, !, qed, by, move, drop, use0, use1, split, join, group, learn, rewrite, regoal, fsplit, fsplit3, fjoin, feq_i, await, whole, sub, stop, fld, lit, unit_lit, of_opd, no_more, and_then, first, blocks, exec, returns, enter}
 use Rattle.lapd_store.proofs.Memory.{to_room}
 use Rattle.lapd_store.proofs.Values.{Typed, slot_at, base_val, base_told, base_typed, octets_val, octets_told, deed_val, deed_told}
 use Rattle.lapd_store.proofs.octets.give_back.Statement.{statement}

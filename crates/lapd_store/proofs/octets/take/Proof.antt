@@ -1,7 +1,9 @@
 -- `take` is given a block and cuts it into octets that were not written.
 use Rattle.lapd_store.proofs.Vocabulary.{◌≡◌, ℕ, ◌*◌, ◌^◌, ◌<◌, List, [], ◌∷◌, ◌++◌, replicate, None, true, false, refl, ◌∙◌, arith, lit<, w64, Ok, Err, proved_at, leaves, Al, seen, Takes, at_takes, Answered, Answer-typed, Takes-goes, Takes-gives, answers, after, head, arm_body, first_Good, ok_of, err_of, block_of, octets}
 use Rattle.std.specs.contracts.alloc.AllocError as error
-use Rattle.lapd_store.proofs.Pointers.{SProp, emp, id⊢, Lft, Share, ftrue, flft, ◌⊑◌, ⊑_trans, fact, fact_i, tables, Is, param, bounded, layout, RattleType, owns, Ptr, block_ptr, types_at, type_at, nothing, heard, owned, Struct, Struct-Makes, Tuple, calls_at, alive, framed, Stays, stay_dropped, Goes-dropped, walk_of, inst_fn, Ty, Fn, Args, Body, a_type, dcons, dnil, Val, vint, vptr, vstruct, vcons, vnil, capped_is, Env, WpFn, Wp, after_seq, at_return, alloc_all, pass_all, free_all, look_at, get, get_in, get_tag, sets, sets_last, lands_as, env, Post as After, any_q, ‵, raw, ◌⊛◌, later, prop, at_ret, ◌$◌, ◌∵◌, !, qed, by, move, drop, use0, use1, use2, use3, split, join, regoal, fsplit, fjoin, await, live, vrt, in_variant, whole, agg, stop, fld, lit, of_opd, no_more, and_then, first, switches_on, exec, returns, enter}
+use Rattle.lapd_store.proofs.Pointers.{SProp, emp, id⊢, Lft, Share, ftrue, flft, ◌⊑◌, ⊑_trans, fact, fact_i, tables, Is, param, bounded, layout, RattleType, owns, Ptr, block_ptr, types_at, type_at, nothing, heard, owned, Struct, Struct-Makes, Tuple, calls_at, alive, framed, Stays, stay_dropped, Goes-dropped, walk_of, inst_fn, Ty, Fn, Args, Body, a_type, dcons, dnil, Val, vint, vptr, vstruct}
+use Rattle.lapd_store.proofs.Pointers.{vcons, vnil, capped_is, Env, WpFn, Wp, after_seq, at_return, alloc_all, pass_all, free_all, look_at, get, get_in, get_tag, sets, sets_last, lands_as, env, Post as After, any_q, ‵, raw, ◌⊛◌, later, prop, at_ret, ◌$◌, ◌∵◌, !, qed, by, move, drop, use0, use1, use2, use3, split, join, regoal, fsplit, fjoin, await, live, vrt, in_variant, whole, agg, stop, fld}
+use Rattle.lapd_store.proofs.Pointers.{lit, of_opd, no_more, and_then, first, switches_on, exec, returns, enter}
 use denote.Struct.Declared as Declared
 use Rattle.lapd_store.specs.contracts.octets.Base as begin
 use Rattle.lapd_store.specs.contracts.octets.Octets as octs

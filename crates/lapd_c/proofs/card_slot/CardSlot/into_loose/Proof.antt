@@ -1,6 +1,7 @@
 -- The word and the allocator stand side by side.
 use Rattle.lapd_c.proofs.Vocabulary.{◌≡◌, List, [], ◌∷◌, ◌++◌, IsSome, refl, sym, subst, one, ghosts, Some, proved_at, leaves, card_row}
-use Rattle.lapd_c.proofs.Machine.{ !, Goes-dropped, RattleType, SProp, Stays, Val, WpFn, agg, alive, alloc_all, and_then, block_ptr, by, emp, ent, enter, fact, fact_i, fjoin, fld, free_all, fsplit3, get, get_in, heard, id⊢, keep, layout, look_at, move, no_more, nothing, of_opd, owns, pass_all, plain, qed, raw, returns, rewrite, sets, split, stay_dropped, stop, sub, suffices, tables, types_at, use0, vptr, walk_of, whole, yes, ‵, ◌$◌, ◌∵◌, ◌⊛◌}
+use Rattle.lapd_c.proofs.Machine.{ !, Goes-dropped, RattleType, SProp, Stays, Val, WpFn, agg, alive, alloc_all, and_then, block_ptr, by, emp, ent, enter, fact, fact_i, fjoin, fld, free_all, fsplit3, get, get_in, heard, id⊢, keep, layout, look_at, move, no_more, nothing, of_opd, owns, pass_all, plain, qed, raw, returns, rewrite, sets, split, stay_dropped, stop, sub, suffices, tables, types_at}
+use Rattle.lapd_c.proofs.Machine.{use0, vptr, walk_of, whole, yes, ‵, ◌$◌, ◌∵◌, ◌⊛◌}
 use Rattle.std.specs.contracts.alloc.Global as heap
 use Rattle.std.proofs.alloc.Global.TheLaws as heap_laws
 use Rattle.lapd_c.specs.contracts.card_slot.CardSlot as slot

@@ -1,6 +1,7 @@
 -- The word of the two is kept, with what it owns.
 use Rattle.lapd_c.proofs.Vocabulary.{◌≡◌, List, [], ◌∷◌, ◌++◌, refl, sym, subst, ghosts, Some, proved_at, leaves, HeldClock}
-use Rattle.lapd_c.proofs.Machine.{ !, Goes-dropped, RattleType, SProp, Stays, Val, WpFn, agg, alive, alloc_all, and_then, block_ptr, by, emp, ent, enter, fact, fact_i, fjoin, fld, free_all, fsplit, get, get_in, id⊢, keep, look_at, move, no_more, nothing, of_opd, owns, pass_all, plain, qed, raw, returns, sets, split, stay_dropped, stop, sub, suffices, tables, types_at, use0, vptr, walk_of, whole, yes, ‵, ◌$◌, ◌∵◌, ◌⊛◌}
+use Rattle.lapd_c.proofs.Machine.{ !, Goes-dropped, RattleType, SProp, Stays, Val, WpFn, agg, alive, alloc_all, and_then, block_ptr, by, emp, ent, enter, fact, fact_i, fjoin, fld, free_all, fsplit, get, get_in, id⊢, keep, look_at, move, no_more, nothing, of_opd, owns, pass_all, plain, qed, raw, returns, sets, split, stay_dropped, stop, sub, suffices, tables, types_at, use0, vptr, walk_of, whole}
+use Rattle.lapd_c.proofs.Machine.{yes, ‵, ◌$◌, ◌∵◌, ◌⊛◌}
 use Rattle.std.specs.contracts.alloc.Global as heap
 use Rattle.std.proofs.alloc.Global.TheLaws as heap_laws
 use Rattle.lapd_clock.specs.contracts.clock.Clock as clock

@@ -1,6 +1,7 @@
 -- The clock is lent where it lies, and its place follows it.
 use Rattle.lapd_c.proofs.Vocabulary.{◌≡◌, ℕ, List, [], ◌∷◌, IsSome, refl, sym, after, ghosts, Some, Timers, heap}
-use Rattle.lapd_c.proofs.Machine.{ !, Stays, Val, alloc_all, at_ret, await, bare, block_ptr, enter, env, ent, exec, blocks, fact, first, fjoin, flft, fld, fpack, free_all, fsep, fsplit, fsplit3, ftrue, get, heard, join, keep, later, lone, look_at, move, no, nothing, of_opd, pass_all, pick, plain, qed, raw, returns, rewrite, sem, sets, some, split, split3, stay_dropped, stop, sub, suffices, tables, use1, vptr, walk_of, whole, ‵, ◌$◌, ◌∵◌, ◌⊛◌}
+use Rattle.lapd_c.proofs.Machine.{ !, Stays, Val, alloc_all, at_ret, await, bare, block_ptr, enter, env, ent, exec, blocks, fact, first, fjoin, flft, fld, fpack, free_all, fsep, fsplit, fsplit3, ftrue, get, heard, join, keep, later, lone, look_at, move, no, nothing, of_opd, pass_all, pick, plain, qed, raw, returns, rewrite, sem, sets, some, split, split3, stay_dropped, stop, sub, suffices, tables}
+use Rattle.lapd_c.proofs.Machine.{use1, vptr, walk_of, whole, ‵, ◌$◌, ◌∵◌, ◌⊛◌}
 use base.Fml.{GName, Fml}
 use base.Fraction.{full_share}
 use base.Logic.{sep}

@@ -1,6 +1,7 @@
 -- The call makes the box of the two parts.
 use Rattle.lapd_c.proofs.Vocabulary.{◌≡◌, List, [], ◌∷◌, ◌++◌, refl, sym, ap, subst, Goes-blank, fm, Good, box_out, box_in, proved_at, leaves, met, after}
-use Rattle.lapd_c.proofs.Machine.{ !, Lasts, RattleType, SProp, Stays, Val, WpFn, a_type, alloc_all, and_then, at_ret, await, block_ptr, blocks, bounded, by, calls_at_last, dcons, dnil, drop, ent, enter, env, exec, fact, feq_i, first, fjoin, fld, flft, free_all, fsplit, ftrue, get, get_in, id⊢, inst_fn, join, keep, lands_last, lasts, later, layout, look_at, move, no, no_more, nothing, of_opd, only, owns, param, param_laws, pass_all, pick, plain, qed, raw, returns, rewrite, sets, some, split, split3, stay_dropped, stop, sub, suffices, tables, triple_of, types_at, use1, vptr, walk_of, whole, ‵, ◌$◌, ◌∵◌, ◌⊑◌, ◌⊛◌}
+use Rattle.lapd_c.proofs.Machine.{ !, Lasts, RattleType, SProp, Stays, Val, WpFn, a_type, alloc_all, and_then, at_ret, await, block_ptr, blocks, bounded, by, calls_at_last, dcons, dnil, drop, ent, enter, env, exec, fact, feq_i, first, fjoin, fld, flft, free_all, fsplit, ftrue, get, get_in, id⊢, inst_fn, join, keep, lands_last, lasts, later, layout, look_at, move, no, no_more, nothing, of_opd}
+use Rattle.lapd_c.proofs.Machine.{only, owns, param, param_laws, pass_all, pick, plain, qed, raw, returns, rewrite, sets, some, split, split3, stay_dropped, stop, sub, suffices, tables, triple_of, types_at, use1, vptr, walk_of, whole, ‵, ◌$◌, ◌∵◌, ◌⊑◌, ◌⊛◌}
 use Rattle.std_alloc.proofs.BoxSteps.Form as box
 use Rattle.lapd_c.proofs.Places.{two, Place, two_good, place_opens}
 use Rattle.std_alloc.specs.contracts.boxed.Box.from_raw as callee

@@ -1,6 +1,7 @@
 -- The box is taken apart by the call, and its two parts stand side by side.
 use Rattle.lapd_c.proofs.Vocabulary.{◌≡◌, List, [], ◌∷◌, ◌++◌, refl, sym, ap, ◌∙◌, subst, Goes-blank, handle_tells, fm, box_owns, box_out, box_in, proved_at, leaves}
-use Rattle.lapd_c.proofs.Machine.{ !, Ptr, RattleType, RawPtr, SProp, Stays, Tuple, Val, WpFn, a_type, agg, alloc_all, and_then, await, bare, block_ptr, bounded, by, calls_at, dcons, dnil, drop, emp, ent, enter, fact, fact_i, feq_l, fjoin, fld, flft, fpick, free_all, fsep, fsplit, fst∗, ftrue, get, get_in, heard, id⊢, in_a_block, inst_fn, join, keep, lands_as, later, layout, look_at, move, never, no, no_more, nothing, null_ptr, of_list, of_opd, only, owns, param, param_laws, pass_all, pick, plain, ptr_val, qed, raw, returns, rewrite, sem, sets, some, split, split3, stay_dropped, stop, sub, suffices, tables, triple_of, types_at, use0, use1, vptr, vstruct, walk_of, whole, ‵, ◌$◌, ◌∵◌, ◌⊛◌}
+use Rattle.lapd_c.proofs.Machine.{ !, Ptr, RattleType, RawPtr, SProp, Stays, Tuple, Val, WpFn, a_type, agg, alloc_all, and_then, await, bare, block_ptr, bounded, by, calls_at, dcons, dnil, drop, emp, ent, enter, fact, fact_i, feq_l, fjoin, fld, flft, fpick, free_all, fsep, fsplit, fst∗, ftrue, get, get_in, heard, id⊢, in_a_block, inst_fn, join, keep, lands_as, later, layout, look_at, move, never}
+use Rattle.lapd_c.proofs.Machine.{no, no_more, nothing, null_ptr, of_list, of_opd, only, owns, param, param_laws, pass_all, pick, plain, ptr_val, qed, raw, returns, rewrite, sem, sets, some, split, split3, stay_dropped, stop, sub, suffices, tables, triple_of, types_at, use0, use1, vptr, vstruct, walk_of, whole, ‵, ◌$◌, ◌∵◌, ◌⊛◌}
 use Rattle.std_alloc.proofs.BoxSteps.Form as box
 use Rattle.lapd_c.proofs.Places.{two, two_good, place_made}
 use Rattle.std_alloc.specs.contracts.boxed.Box.into_raw_with_allocator as callee

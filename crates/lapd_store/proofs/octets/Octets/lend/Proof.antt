@@ -1,6 +1,7 @@
 -- `lend` shows a run of written octets as a slice.
 use Rattle.lapd_store.proofs.Vocabulary.{◌≡◌, ℕ, ◌+◌, ◌*◌, ◌^◌, ◌<◌, ◌≤◌, List, [], ◌∷◌, ◌++◌, map, length, take, drop, Some, refl, sym, ap, ◌∙◌, arith, w64, length-take, length-drop, length-map, full_share, u8, proved_at, leaves, after, octets_lent}
-use Rattle.lapd_store.proofs.Pointers.{SProp, never, emp, id⊢, Lft, Share, fat, fact, fact_i, tables, yes, layout, owns, Ptr, in_a_block, usize, RefOf, hide, unhide, plain, types_at, ShrSlice, slice_val, elements_shared, nothing, heard, alive, Stays, stay_dropped, Goes-dropped, walk_of, named, Val, vint, vptr, WpFn, Env, alloc_all, pass_all, free_all, look_at, get, get_in, sets, sets_last, take_at, give_at, env, ‵, raw, ◌⊛◌, prop, at_ret, ◌$◌, ◌∵◌, !, qed, by, move, keep, drop as skip, use0, use1, split, rewrite, regoal, fsplit, fjoin, feq_i, flt_i, whole, sub, agg, stop, fld, bin, of_opd, and_then, no_more, first, blocks, exec, returns, enter}
+use Rattle.lapd_store.proofs.Pointers.{SProp, never, emp, id⊢, Lft, Share, fat, fact, fact_i, tables, yes, layout, owns, Ptr, in_a_block, usize, RefOf, hide, unhide, plain, types_at, ShrSlice, slice_val, elements_shared, nothing, heard, alive, Stays, stay_dropped, Goes-dropped, walk_of, named, Val, vint, vptr, WpFn, Env, alloc_all, pass_all, free_all, look_at, get, get_in, sets, sets_last}
+use Rattle.lapd_store.proofs.Pointers.{take_at, give_at, env, ‵, raw, ◌⊛◌, prop, at_ret, ◌$◌, ◌∵◌, !, qed, by, move, keep, drop as skip, use0, use1, split, rewrite, regoal, fsplit, fjoin, feq_i, flt_i, whole, sub, agg, stop, fld, bin, of_opd, and_then, no_more, first, blocks, exec, returns, enter}
 use Rattle.lapd_store.specs.contracts.octets.Octets.{the_row as R}
 use Rattle.lapd_store.specs.contracts.octets.Base.{the_row as B}
 use Rattle.lapd_store.specs.contracts.octets.Octets.lend as f

@@ -1,6 +1,7 @@
 -- `write` takes one octet out of the row, writes it and puts it back.
 use Rattle.lapd_store.proofs.Vocabulary.{◌≡◌, ℕ, ◌+◌, ◌<◌, List, [], ◌∷◌, ◌++◌, length, set, Some, refl, sym, ◌∙◌, w8, w64, full_share, u8, proved_at, leaves, after, octet, octets, octets_own}
-use Rattle.lapd_store.proofs.Pointers.{SProp, wand, never, emp, id⊢, apply∗, Lft, Share, ftrue, fat, flft, froom, fact, fact_i, tables, yes, uint_in, layout, owns, Ptr, in_a_block, usize, plain, types_at, nothing, opens, closes, heard, alive, Stays, stay_dropped, stay_ref, Goes-dropped, Goes-ref, walk_of, ty_int, Val, vint, vptr, vunit, WpFn, Env, sem, alloc_all, pass_all, free_all, look_at, get, get_in, through, sets, take_at, give_at, env, ‵, raw, ◌⊛◌, prop, at_ret, ◌$◌, ◌∵◌, !, qed, by, move, keep, use0, use1, use2, split, join, rewrite, regoal, fsplit, fsplit3, fjoin, fjoin3, feq_i, feq_l, whole, sub, stop, fld, init, bin, of_opd, unit_lit, assigns_last, first, blocks, exec, returns, enter}
+use Rattle.lapd_store.proofs.Pointers.{SProp, wand, never, emp, id⊢, apply∗, Lft, Share, ftrue, fat, flft, froom, fact, fact_i, tables, yes, uint_in, layout, owns, Ptr, in_a_block, usize, plain, types_at, nothing, opens, closes, heard, alive, Stays, stay_dropped, stay_ref, Goes-dropped, Goes-ref, walk_of, ty_int, Val, vint, vptr, vunit, WpFn, Env, sem, alloc_all, pass_all, free_all, look_at, get}
+use Rattle.lapd_store.proofs.Pointers.{get_in, through, sets, take_at, give_at, env, ‵, raw, ◌⊛◌, prop, at_ret, ◌$◌, ◌∵◌, !, qed, by, move, keep, use0, use1, use2, split, join, rewrite, regoal, fsplit, fsplit3, fjoin, fjoin3, feq_i, feq_l, whole, sub, stop, fld, init, bin, of_opd, unit_lit, assigns_last, first, blocks, exec, returns, enter}
 use Rattle.lapd_store.specs.contracts.octets.Octets.{the_row as R}
 use Rattle.lapd_store.specs.contracts.octets.Base.{the_row as B}
 use Rattle.lapd_store.specs.contracts.octets.Octets.write as f

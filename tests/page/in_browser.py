@@ -13,7 +13,7 @@ from wanted import Played
 
 MANY = 40  # scripts that are shown in one go
 AWAY = 2.0  # seconds for which the page may be away at most
-TRIES = 3  # of which the best counts, since a busy machine also makes tasks longer
+TRIES = 8  # of which the best counts, since a busy machine also makes tasks longer; none comes after one that is short enough
 LOST = "conversation/frame-lost"  # the script of the menu in which a frame is lost
 
 

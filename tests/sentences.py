@@ -1,0 +1,73 @@
+"""Sentences: those of a page, of a manual, of a header's comments and of the doc comments of a crate; how long they are, and
+which have an idiom that a reader from elsewhere does not know."""
+import re
+
+MEAN, LONG, LONGEST, SHARE = 18, 30, 45, 8
+# For time "after", for a condition "if", for an exception "except", and "otherwise" are what a reader expects.
+IDIOMS = re.compile(
+    r'\bbehind\b|\bbut for\b|\bso (?:it is|is it|they are)\b|\bin vain\b|\bwhat becomes of\b|\b(?:or|and|, |; )else\b|^Else\b'
+    r'|^Where\b(?=.*[^?]$)|\b(?:only|also|even|except|but|as) where\b'
+    r'|\bwhere (?:no|not|nothing|nobody|neither|none|there (?:is|are)|it (?:is|was|has|does|can)|they (?:are|have|do)|all|both)\b',
+    re.IGNORECASE)
+
+
+def plain(text):
+    """A text whose names in backquotes and brackets are one word each, and whose links are their words."""
+    return re.sub(r'`[^`]*`', 'X', re.sub(r'\]\([^)]*\)', ']', ' '.join(text.split())))
+
+
+def sentences_of(parts):
+    """The sentences of paragraphs and items."""
+    for part in parts:
+        for sentence in re.split(r'(?<=[.!?])\s+(?=[A-Z*(\[])', plain(part)):
+            if re.search(r'\w', sentence):
+                yield sentence
+
+
+def of_page(text):
+    """The paragraphs and items of a page, without code, tables and headings."""
+    text = re.sub(r'^```.*?^```', '', text, flags=re.M | re.S)
+    text = re.sub(r'^(?:\||#|<!--|    ).*$', '', text, flags=re.M)
+    return re.split(r'\n\s*\n|\n(?= *- | *\d+\. )', text)
+
+
+def of_manual(text):
+    """The paragraphs of a manual in mdoc: its lines of text and the words of its macros, without examples and lists of
+    prototypes."""
+    text = re.sub(r'^\.Bd -literal.*?^\.Ed$', '\n\n', text, flags=re.M | re.S)
+    text = re.sub(r'^\.Sh SYNOPSIS\n.*?(?=^\.Sh )', '', text, flags=re.M | re.S)
+    text = re.sub(r'^\.(?:Sh|Ss|Pp|It|Bl|El|Dd|Dt|Os|Nd|TS|TE)\b.*$|^\.\\".*$', '\n', text, flags=re.M)
+    text = re.sub(r'^\.(?:Fn|Fa|Va|Vt|Dv|Ql|Nm|Ar|Cm|Fl|Pa|Xr|Em|Sy|Li|Bq|Pq)\b ?\S*(?: Ns)?', 'X', text, flags=re.M)
+    text = re.sub(r' ([.,;:)])', r'\1', re.sub(r'^\.\w+ ?', '', text, flags=re.M))
+    return re.split(r'\n\s*\n', re.sub(r'\n(?=\n)', '\n', text))
+
+
+def of_header(text):
+    """The comments of a header, by paragraphs and items."""
+    for comment in re.findall(r'/\*(.*?)\*/', text, re.S):
+        yield from re.split(r'\n\s*\n|\n(?= *- )', re.sub(r'^ ?\* ?', '', comment, flags=re.M))
+
+
+def of_docs(text):
+    """The doc comments of a file of Rattle: of its module, and of what is public, laws among them."""
+    for block in re.findall(r'^(?: *//[/!].*\n)+(?: *#\[.*\n)*(?= *pub |[^ \n]|\n)', text, re.M):
+        lines = [re.sub(r'^ *//[/!] ?', '', line) for line in block.splitlines() if not line.lstrip().startswith('#[')]
+        yield from of_page('\n'.join(lines))
+
+
+class Measure:
+    """How long the sentences of some paragraphs are, and which fall short by themselves."""
+
+    def __init__(self, parts):
+        self.sentences = list(sentences_of(parts))
+        lengths = [len(re.findall(r"[\w'-]+", it)) for it in self.sentences] or [0]
+        self.mean, self.longest = sum(lengths) / len(lengths), max(lengths)
+        self.share = 100 * sum(it > LONG for it in lengths) / len(lengths)
+        self.bad = [(length, it) for length, it in zip(lengths, self.sentences) if length > LONGEST or IDIOMS.search(it)]
+
+    def falls_short(self):
+        return bool(self.mean > MEAN or self.share > SHARE or self.bad)
+
+    def __str__(self):
+        return ('%d sentences, %.1f words, %.0f %% over %d, the longest %d, %d with an idiom or too long%s'
+                % (len(self.sentences), self.mean, self.share, LONG, self.longest, len(self.bad), ', falls short' * self.falls_short()))

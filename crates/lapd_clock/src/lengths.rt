@@ -36,7 +36,7 @@ impl Lengths {
 
     /// These lengths.
     ///
-    /// T200 has to be longer than an answer takes that waits for its turn on a slow line (`docs/PROGRESS.md`).
+    /// T200 has to be longer than an answer takes that waits for its turn on a slow line (`docs/EMBEDDING.md`).
     ///
     /// # Errors
     ///

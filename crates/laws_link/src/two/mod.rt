@@ -6,7 +6,7 @@
 //! lost (`CutOff`), an end that is busy itself (`OwnBusy`) and is no more (`BusyOver`), what keeps two links up
 //! (`Ahead`, `Timely`); and worked values that compute (`Worked*`, and `WorkedUntimely`, a run in which T200 is too
 //! short).
-//! `docs/PROGRESS.md` says it in words.
+//! `docs/TWO-CARDS.md` says it in words.
 //!
 //! - `laws`: two links that face each other;
 //! - `any_order`: two links whose turns come in any order;

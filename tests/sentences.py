@@ -1,14 +1,16 @@
-"""Sentences: those of a page, of a manual, of a header's comments and of the doc comments of a crate; how long they are, and
-which have an idiom that a reader from elsewhere does not know."""
+"""The sentences of a page, of a manual, of a header's comments and of a crate's doc comments: how long they are, and which have
+an idiom that a reader from elsewhere does not know."""
 import re
 
 MEAN, LONG, LONGEST, SHARE = 18, 30, 45, 8
-# For time "after", for a condition "if", for an exception "except", and "otherwise" are what a reader expects.
-IDIOMS = re.compile(
-    r'\bbehind\b|\bbut for\b|\bso (?:it is|is it|they are)\b|\bin vain\b|\bwhat becomes of\b|\b(?:or|and|, |; )else\b|^Else\b'
-    r'|^Where\b(?=.*[^?]$)|\b(?:only|also|even|except|but|as) where\b'
-    r'|\bwhere (?:no|not|nothing|nobody|neither|none|there (?:is|are)|it (?:is|was|has|does|can)|they (?:are|have|do)|all|both)\b',
-    re.IGNORECASE)
+# A reader expects "after" of time, "if" of a condition, "except" of an exception, and "otherwise".
+IDIOMS = re.compile('|'.join([
+    r'\bbehind\b', r'\bbut for\b', r'\bin vain\b', r'\bwhat becomes of\b',
+    r'\bso (?:it is|is it|they are)(?=[,.:;]| (?:with|where|in|of|at|also|while|as|there|here|if)\b)',
+    r'\b(?:or|and|,|;) else\b', r'^Else\b',
+    r'^Where\b(?=.*[^?]$)', r'\b(?:only|also|even|except|but|as) where\b',
+    r'\bwhere (?:no|not|nothing|nobody|neither|none|both|all)\b', r'\bwhere there (?:is|are)\b',
+    r'\bwhere (?:it (?:is|was|has|does|can)|they (?:are|have|do))\b']), re.IGNORECASE)
 
 
 def plain(text):
@@ -32,14 +34,11 @@ def of_page(text):
 
 
 def of_manual(text):
-    """The paragraphs of a manual in mdoc: its lines of text and the words of its macros, without examples and lists of
-    prototypes."""
-    text = re.sub(r'^\.Bd -literal.*?^\.Ed$', '\n\n', text, flags=re.M | re.S)
-    text = re.sub(r'^\.Sh SYNOPSIS\n.*?(?=^\.Sh )', '', text, flags=re.M | re.S)
-    text = re.sub(r'^\.(?:Sh|Ss|Pp|It|Bl|El|Dd|Dt|Os|Nd|TS|TE)\b.*$|^\.\\".*$', '\n', text, flags=re.M)
-    text = re.sub(r'^\.(?:Fn|Fa|Va|Vt|Dv|Ql|Nm|Ar|Cm|Fl|Pa|Xr|Em|Sy|Li|Bq|Pq)\b ?\S*(?: Ns)?', 'X', text, flags=re.M)
-    text = re.sub(r' ([.,;:)])', r'\1', re.sub(r'^\.\w+ ?', '', text, flags=re.M))
-    return re.split(r'\n\s*\n', re.sub(r'\n(?=\n)', '\n', text))
+    """The paragraphs and items of a manual in mdoc, without examples, tables and prototypes; what a macro marks is one word."""
+    text = re.sub(r'^\.Bd -literal.*?^\.Ed$|^\.TS$.*?^\.TE$|^\.Sh (?:SYNOPSIS|NAME)\n.*?(?=^\.Sh )', '\n', text, flags=re.M | re.S)
+    text = re.sub(r'^\.(?:Sh|Ss|Pp|It|Bl|El|Dd|Dt|Os|Nd|\\")(?: .*)?$', '\n', text, flags=re.M)
+    text = re.sub(r'^\.[A-Z][a-z] \S+', 'X', text, flags=re.M)
+    return re.split(r'\n\s*\n', re.sub(r' ([.,;:)])', r'\1', text))
 
 
 def of_header(text):
@@ -69,5 +68,5 @@ class Measure:
         return bool(self.mean > MEAN or self.share > SHARE or self.bad)
 
     def __str__(self):
-        return ('%d sentences, %.1f words, %.0f %% over %d, the longest %d, %d with an idiom or too long%s'
-                % (len(self.sentences), self.mean, self.share, LONG, self.longest, len(self.bad), ', falls short' * self.falls_short()))
+        return '%d sentences, %.1f words, %.0f %% over %d, the longest %d, %d with an idiom or too long%s' % (
+            len(self.sentences), self.mean, self.share, LONG, self.longest, len(self.bad), ', falls short' * self.falls_short())

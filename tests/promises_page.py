@@ -1,0 +1,222 @@
+"""The printed part of docs/PROMISES.md, for `tests/reading`.
+
+The number of lines is that of the definitions which a promise names, and of those that these name in turn, without comments,
+imports and blank lines. The first table is the machine, which all promises name, with the ports beside it. Promises of one
+card count what they need beside both; laws of two cards, and what stands beside the statement, what they need beside
+those of one card; the last table has what all of them do, each definition once. Who else says what stands beside the
+statement, SAID tells, of laws SAID_AGAIN. Premises that each card has, and keeps (PREMISES), are not counted, nor are what
+the prover's library defines and the types of the .rt files.
+
+The worked run of a promise is that of RUNS: a file of worked values that names a definition which the promise needs."""
+import re
+import sys
+
+from premises import ALWAYS, of_claim, of_definition
+from promised import DRIVE, OF_ONE_CARD, OF_TWO_CARDS, RECORDS, listed, rows_at
+from specs import CRATES, ROOT, count, needed, read_all
+from statement import promises
+
+TITLE = 16
+MACHINE = [('model_card', 'Run', 'moments'), ('model_card', 'Run', 'after_all'), ('model_card', 'Card', 'fresh')]
+PORTS = [('model_card', 'ports.Run', 'moments'), ('model_card', 'ports.Run', 'after_all'),
+         ('model_card', 'ports.Run', 'meant_all'), ('model_card', 'ports.Card', 'fresh'), ('lapd_card', 'Drive', 'events_of')]
+SAID = {'by_event': '`amortised`, of a list of one event; that a call takes away no more than it gives, `laws_trace`',
+        'amortised_from_zero': '`amortised`, as of a card that has just begun nothing could be sent before',
+        'six_octets_a_frame': '`linear`, in what follows from it',
+        'numbered': '`what_is_told_was_heard` of `laws_trace`, and `codec`',
+        'from_zero': '`what_is_told_was_heard` of `laws_trace`, and `codec`',
+        'textual': '`frames_are_heard` and `frames_go_at_once` of `model_card::ports`, from a card\'s start on'}
+SAID_AGAIN = {'run_is_moments': '`moments`', 'stored_within_limit': '`within_limit`',
+              'drops_are_without_effect': '`drops` and `without_effect`',
+              'frames_linear': '`linear`, `six_octets_a_frame` and `seven_octets_a_reject`', 'lines_isolated': '`isolated`',
+              'octets_are_a_codec': '`codec`, `frames_are_heard` and `frames_go_at_once`',
+              'units_are_heard': '`units_go_out` and `given_frames_are_heard`',
+              'frames_go_out': '`frames_are_read`, `heard_frames_are_octets` and `given_frames_are_heard`',
+              'all_frames_go_out': '`calls_come_to_an_end`, `what_is_given_is_due`, `frames_go_at_once` and '
+                                   '`given_frames_are_heard`',
+              'pulls_are_takes': '`frames_go_at_once`, of when a pull calls; `answers_are_heard`, of how many are enough',
+              'timers_run': '`timers_are_timely`, event by event',
+              'what_is_due_joins_the_queue': 'the words of `what_is_given_is_due`',
+              'frames_are_octets': '`units_go_out`, `what_is_given_is_due` and `teis_are_managed`'}
+# The worked runs of promises, by crate and file of its specs/.
+RUNS = {
+    'ok': 'laws_line card/WorkedCard', 'ran': 'laws_line card/WorkedCard', 'taken': 'laws_line card/WorkedCard',
+    'refused': 'laws_line card/WorkedClauses', 'counters': 'laws_trace WorkedCounters',
+    'counters_before': 'laws_trace WorkedCounters', 'counters_add_up': 'test_product WorkedCounters',
+    'within_limit': 'laws_line card/WorkedClauses', 'linear': 'laws_line card/WorkedClauses',
+    'isolated': 'laws_line card/WorkedClauses', 'never_full': 'laws_trace WorkedPremises',
+    'codec': 'model_card ports/Worked', 'others_stay': 'laws_line card/WorkedBroken',
+    'calls_come_to_an_end': 'laws_trace WorkedPremises', 'begun_is_told': 'model_card ports/WorkedText',
+    'ranges_are_served': 'laws_trace Configurations', 'the_other_side_is_heard': 'laws_trace WorkedOtherSide',
+    'units_go_out': 'laws_trace WorkedUnits', 'frames_are_read': 'laws_trace WorkedFrames',
+    'links_take_turns_meanwhile': 'laws_trace WorkedTurns', 'what_is_told_was_heard': 'laws_trace WorkedDeliveries',
+    'what_is_given_is_due': 'laws_trace WorkedDue', 'answers_suit_events': 'laws_line card/WorkedClauses',
+    'answers_are_given': 'laws_trace WorkedAnswers', 'nothing_is_lost_in_vain': 'laws_trace WorkedLoss',
+    'teis_are_managed': 'laws_trace WorkedManaging', 'timers_are_timely': 'laws_trace WorkedObserver',
+    'links_move': 'laws_trace WorkedObserver', 'news_is_told': 'laws_trace WorkedNews',
+    'granted_requests_take_effect': 'laws_trace WorkedRequests', 'rooms_are_told': 'laws_trace WorkedRooms',
+    'no_slot_is_lost': 'laws_trace WorkedRooms', 'counters_count': 'laws_trace WorkedCounters',
+    'causes_are_told': 'laws_trace WorkedCauses', 'a_dead_line_is_told': 'laws_time WorkedSilence',
+    'frames_are_heard': 'model_card ports/WorkedText', 'given_frames_are_heard': 'laws_trace octets/Worked',
+    'frames_go_at_once': 'model_card ports/WorkedText', 'answers_are_heard': 'laws_trace octets/WorkedAnswers',
+    'a_call_comes_through': 'laws_wire Worked', 'cards_deliver': 'laws_wire Worked',
+    'a_call_comes_through_in_octets': 'laws_order circuit/WorkedCall', 'calls_are_of_frames': 'laws_order circuit/WorkedMixed',
+    'all_is_told_in_beats': 'laws_order circuit/Worked', 'a_call_comes_to_rest': 'laws_order circuit/WorkedDamaged',
+    'told_in_order': 'laws_wire WorkedLosing', 'turns_come_to_an_end': 'laws_wire WorkedResting',
+    'rounds_come_to_rest': 'laws_wire WorkedResting', 'what_is_lost_arrives': 'laws_wire WorkedRecovering',
+    'what_is_lost_arrives_from_rest': 'laws_wire WorkedRecovering', 'expiries_are_counted': 'laws_wire WorkedCounted',
+    'it_arrives_under_traffic': 'laws_wire WorkedArriving', 'a_call_with_losses_comes_through': 'laws_wire WorkedAnswering',
+    'a_call_with_losses_comes_to_rest': 'laws_wire WorkedSettling', 'a_call_ends': 'laws_wire WorkedEnding',
+    'delivered_in_order': 'laws_order Worked', 'delivered_though_damaged': 'laws_order circuit/WorkedDamaged',
+    'delivered_between_kinds': 'laws_order circuit/WorkedMixed', 'releases_end': 'laws_order WorkedRelease',
+    'releases_are_told': 'laws_order WorkedInTheEnd'}
+MACHINE_ROW = re.compile(r'^machine: (\S+)$|^law: (\S+) (\S+)', re.MULTILINE)
+
+
+def sentence(said):
+    """The first sentence of what is said, and the second if the first is but a title; without links and clauses of Q.921."""
+    first, *others = re.split(r'\. (?=[A-Z`(])', re.sub(r'\[`(?:crate::)?([^`]*)`\]', r'`\1`', said))
+    said = '. '.join([first] + others[:1] * (len(first.split()) < TITLE))
+    said = re.sub(r' \((?:profile|(?:Q\.921 )?clauses? [^)]*)\)', '', said)
+    return said[0].upper() + said[1:].rstrip('.') + '.'
+
+
+def refuted():
+    """For each promise the rows of wrong machines that break it."""
+    rows, name = {}, ''
+    for path in sorted((ROOT / 'tests' / 'wrong-machines.d').glob('*.txt')):
+        for row, crate, law in MACHINE_ROW.findall(path.read_text(encoding='utf-8')):
+            name = row or name
+            if crate:
+                rows.setdefault((crate, law.split('::')[-1]), {})[name] = None
+    laws = {it: [(law.split()[0], law.split()[1].split('::')[-1]) for law in it.laws()] for it in promises()}
+    return {(it.place, it.name): sorted({name for key in keys for name in rows.get(key, {})}) for it, keys in laws.items()}
+
+
+class Statement:
+    """What tests/statement.txt lists, and what is proved beside it; how much each has to be read."""
+
+    def __init__(self):
+        self.names, self.files, self.refuted = listed(), read_all(), refuted()
+        self.machine, self.below = needed(self.files, MACHINE), needed(self.files, MACHINE + PORTS)
+        places = [DRIVE, *RECORDS, *dict.fromkeys([*OF_ONE_CARD, *self.names, *OF_TWO_CARDS])]
+        parts = {place: parted(rows_at(place), set(self.names.get(place, []))) for place in dict.fromkeys(places)}
+        self.rows_of = {place: sorted(rows, key=lambda it, them=self.names.get(place): them.index(it.names[0]))
+                        for place, (rows, _) in parts.items() if rows}
+        self.beside = {place: rows for place, (_, rows) in parts.items() if rows}
+        beside = {name for rows in self.beside.values() for it in rows for name in it.names}
+        for name in sorted({*SAID, *SAID_AGAIN} - beside):
+            sys.exit('reading: SAID or SAID_AGAIN has %s, which is no clause or law beside the statement' % name)
+        for name in sorted({*RUNS} - {name for them in self.names.values() for name in them}):
+            sys.exit('reading: RUNS has %s, which is no promise' % name)
+        self.of_one = sum((rows for place, rows in self.rows_of.items() if place not in OF_TWO_CARDS), [])
+        self.read = {**self.below, **self.needs(self.of_one)}
+
+    def needs(self, rows):
+        """The definitions that these rows need."""
+        return needed(self.files, [key for it in rows for key in it.roots])
+
+    def lines(self, rows, read=None):
+        """How many lines these need beside what is read: the machine and the ports, if nothing else is said."""
+        read = self.below if read is None else read
+        return count({key: text for key, text in self.needs(rows).items() if key not in read})
+
+    def run_of(self, row):
+        """The file of worked values of a promise. It has to name a definition that the promise needs."""
+        run = RUNS.get(row.names[0])
+        if run is None:
+            return None
+        crate, file = run.split()
+        key = crate, file.replace('/', '.')
+        if key not in self.files:
+            sys.exit('reading: RUNS: crates/%s/specs/%s.antt is not there' % (crate, file))
+        specs, needs = self.files[key], self.needs([row])
+        files, named = {it[:2] for it in needs}, set(specs.names.values())
+        if not (named & set(needs) or set(specs.aliases.values()) & files or key in files):
+            sys.exit('reading: RUNS: crates/%s/specs/%s.antt names nothing that %s needs' % (crate, file, row.names[0]))
+        return 'crates/%s/specs/%s.antt' % (crate, file)
+
+    def statements_of(self, row):
+        """The files of definitions that a promise names, in its own crate; or in any, if none is there."""
+        files = [it[:2] for it in dict.fromkeys(row.roots) if it[:2] in self.files and it[2] != ALWAYS]
+        crate = row.file.relative_to(CRATES).parts[0]
+        own = [it for it in dict.fromkeys(files) if it[0] == crate]
+        return ['crates/%s/specs/%s.antt' % (it[0], it[1].replace('.', '/')) for it in own or dict.fromkeys(files)]
+
+    def premises_of(self, row):
+        """The premises of a promise, claim by claim; what all of them share once."""
+        found = {}
+        for clause, text, specs in row.claims:
+            for field, them in of_claim(text, specs, self.files).items():
+                found['%s %s' % (clause, field) if field else clause] = them
+        several, of_one_field = list(found.values()), len(found) == 1 and any(' ' in it for it in found)
+        if all(it == several[0] for it in several) and not of_one_field:
+            return quoted(several[0])
+        return '. '.join('*%s*: %s' % (name.split()[-1], quoted(them)) for name, them in found.items())
+
+    def block(self, place, row, read=None):
+        """A promise on the page."""
+        broken = sorted({it for name in row.names for it in self.refuted[(place, name)]})
+        files = dict.fromkeys([row.file.relative_to(ROOT).as_posix(), *self.statements_of(row)])
+        run = self.run_of(row)
+        return ['', '### %s' % ', '.join('`%s`' % it for it in row.names), '',
+                '|%s||' % sentence(row.said), '|---|---|',
+                '|Premises|%s|' % self.premises_of(row),
+                '|Lines|%d: %s|' % (self.lines([row], read), ', '.join('`%s`' % it for it in files)),
+                '|Run|%s|' % ('`%s`' % run if run else 'none'),
+                '|Refutes|%s|' % (', '.join('`%s`' % it for it in broken) or 'no row')]
+
+
+def quoted(premises):
+    """Premises as a list of code."""
+    return '; '.join('`%s`' % it for it in premises) or 'none'
+
+
+def parted(rows, names):
+    """Those of which one has one of these names, and the others."""
+    return [it for it in rows if names & set(it.names)], [it for it in rows if not names & set(it.names)]
+
+
+def title(place):
+    """What the pages call a place."""
+    return '`Card::drive`' if place == DRIVE else '`%s`' % place if place in RECORDS else 'laws of `%s`' % place
+
+
+def page():
+    """The printed part of docs/PROMISES.md."""
+    it, lines = Statement(), []
+    always = of_definition(it.files[('laws_trace', 'Trace')].definitions[ALWAYS])['']
+    lines += ['', '`%s`: %s.' % (ALWAYS, quoted(always))]
+    for place, rows in it.rows_of.items():
+        lines += ['', '## %s' % (title(place)[0].upper() + title(place)[1:])]
+        for row in rows:
+            lines += it.block(place, row, it.read if place in OF_TWO_CARDS else None)
+    return lines[1:] + beside(it) + together(it)
+
+
+def beside(it):
+    """What is proved and not in the statement."""
+    lines = ['', '## Beside the statement', '', '|What|Of|Said by|Lines|', '|---|---|---|---|']
+    for place, rows in it.beside.items():
+        if place in OF_TWO_CARDS and place in it.names:
+            continue
+        for row in rows:
+            by = {**SAID, **SAID_AGAIN}.get(row.names[0], '')
+            lines.append('|%s|%s|%s|%d|' % (', '.join('`%s`' % name for name in row.names), title(place).replace('laws of ', ''), by,
+                                            it.lines([row], it.read)))
+    return lines
+
+
+def together(it):
+    """The last table: what all of the statement needs beside the machine and the ports, each definition counted once."""
+    ports = count(it.below) - count(it.machine)
+    rows, lines = [], ['', '## All together', '', '|All together|Lines|', '|---|---|', '|the machine: what a run of frames is|%d|' % count(it.machine),
+                       '|the ports: what a run of octets is, and which run of frames it means|%d|' % ports]
+    places = [place for place in it.rows_of if place not in OF_TWO_CARDS]
+    for place in places:
+        rows = rows + it.rows_of[place]
+        said = title(place) + ' as tests/statement.txt lists it' if place == DRIVE else 'and with the %s' % title(place)
+        said = said.replace('the `', '`') + ', of one card: the statement' * (place == places[-1])
+        lines.append('|%s|%d|' % (said, it.lines(rows)))
+    of_two = sum((rows for place, rows in it.rows_of.items() if place in OF_TWO_CARDS), [])
+    return lines + ['|beside it, the laws of two cards|%d|' % it.lines(of_two, it.read)]

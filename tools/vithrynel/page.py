@@ -128,7 +128,7 @@ def faults() -> str:
     found = FAULTS.search(text_of(f"{ROOT}/docs/FORMAT.md"))
     if not found:
         raise Fault("docs/FORMAT.md: there is no table of faults")
-    rows = re.findall(r"^\| (.+?) \| (.+) \|$", found[1], re.M)
+    rows = re.findall(r"^\|(.+?)\|(.+)\|$", found[1], re.M)
     return "".join(f"<tr>{cell(kind)}{cell(where)}</tr>\n" for kind, where in rows)
 
 

@@ -50,7 +50,7 @@ private:
 
 using octets = span<const uint8_t>;
 
-/// Where a span's octets lie; not null where it has none, as lapd.h asks.
+/// The place of a span's octets; not null if it has none, as lapd.h asks.
 template <class T> T *at(span<T> of) {
     static T none = 0;
     return of.empty() ? &none : of.data();
@@ -301,7 +301,7 @@ public:
     status deactivate(uint32_t line, service by, uint8_t tei, report &to) {
         return of(lapd_deactivate(&card_, line, number(by), tei, to.raw()));
     }
-    /// The line is down: gives up its next link from this place on, which begins as 0, and behind the last what waits and is of
+    /// The line is down: gives up its next link from this place on, which begins as 0, and after the last what waits and is of
     /// none; then status::no_more_links.
     status line_down(uint32_t line, uint8_t &place, report &to) { return of(lapd_line_down(&card_, line, &place, to.raw())); }
 
@@ -312,7 +312,7 @@ public:
             to = static_cast<state>(raw);
         return is;
     }
-    /// The link of a line from this place on, which is then behind it; it begins as 0.
+    /// The link of a line from this place on, which is then the one after it; it begins as 0.
     status next_link(uint32_t line, uint8_t &place, link &to) {
         lapd_link raw = {};
         const status is = of(lapd_next_link(&card_, line, &place, &raw));
@@ -363,7 +363,7 @@ public:
     status failed(uint32_t line, cause why, report &to) {
         return of(lapd_frame_failed(&card_, line, static_cast<uint8_t>(why), to.raw()));
     }
-    /// The next frame lies in front of the room; status::no_frame where none waits.
+    /// The next frame lies in front of the room; status::no_frame if none waits.
     status next_frame(uint32_t line, span<uint8_t> room, octets &goes, report &to) {
         size_t length = 0;
         const status is = of(lapd_next_frame(&card_, line, at(room), room.size(), &length, to.raw()));
@@ -371,7 +371,7 @@ public:
             goes = {room.data(), length};
         return is;
     }
-    /// The first line on which a frame waits, from one on; status::no_frame where there is none.
+    /// The first line on which a frame waits, from one on; status::no_frame if there is none.
     status next_waiting(uint32_t from, uint32_t &line) { return of(lapd_next_waiting(&card_, from, &line)); }
 };
 
@@ -403,7 +403,7 @@ public:
     status apply(uint32_t line, const report &all, uint64_t now) {
         return of(lapd_clock_apply_report(&clock_, line, all.raw(), now));
     }
-    /// status::no_timer where none is due.
+    /// status::no_timer if none is due.
     status take_due(uint64_t now, due &to) {
         lapd_due raw = {};
         const status is = of(lapd_clock_due(&clock_, now, &raw));

@@ -42,9 +42,11 @@ def of_manual(text):
 
 
 def of_header(text):
-    """The comments of a header, by paragraphs and items."""
-    for comment in re.findall(r'/\*(.*?)\*/', text, re.S):
-        yield from re.split(r'\n\s*\n|\n(?= *- )', re.sub(r'^ ?\* ?', '', comment, flags=re.M))
+    """The comments of a header, by paragraphs and items, without examples."""
+    slashes = ['\n'.join(re.findall(r'//+ ?(.*)', it)) for it in re.findall(r'(?:^ *//.*\n)+', text, re.M)]
+    for comment in re.findall(r'/\*(.*?)\*/', text, re.S) + slashes:
+        lines = re.sub(r'^    .*$', '', re.sub(r'^ *\* ?', '', comment, flags=re.M), flags=re.M)
+        yield from re.split(r'\n\s*\n|\n(?= *- )', lines)
 
 
 def of_docs(text):

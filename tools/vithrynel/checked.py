@@ -12,9 +12,9 @@ from .header import Function, Parameter, functions, structs
 PATH = "include/lapd_checked.h"
 HEAD = """\
 /*
- * lapd_checked.h: the calls of lapd.h by the same names, which look at their pointers first. Where one is null, the answer is
- * LAPD_WRONG_POINTER, and nothing has changed; a buffer of length 0 may be null. lapd.h includes it where LAPD_CHECKED is
- * defined. lapd.c looks at them by itself.
+ * lapd_checked.h: the calls of lapd.h by the same names, which look at their pointers first. If one is null, the answer is
+ * LAPD_WRONG_POINTER, and nothing has changed; a buffer of length 0 may be null. With LAPD_CHECKED defined, lapd.h includes
+ * it. The library of one file, lapd.c, looks at them by itself.
  *
  * Written by tools/checked; not to be edited.
  */

@@ -1,9 +1,9 @@
 """The printed part of docs/PROMISES.md, for `tests/reading`.
 
-The number of lines is that of the definitions which a promise names, and of those that these name in turn, without comments,
-imports and blank lines. The first table is the machine, which all promises name, with the ports beside it. Promises of one
-card count what they need beside both; laws of two cards, and what stands beside the statement, what they need beside
-those of one card; the last table has what all of them do, each definition once. Who else says what stands beside the
+The words of a promise are those of tests/statement.txt. The number of lines is that of the definitions which it names, and of
+those that these name in turn, without comments, imports and blank lines. Promises of one card count what they need beside
+the machine and the ports, which the last table has; laws of two cards, and what stands beside the statement, what they need
+beside those of one card. The last table counts each definition once. Who else says what stands beside the
 statement, SAID tells, of laws SAID_AGAIN. Premises that each card has, and keeps (PREMISES), are not counted, nor are what
 the prover's library defines and the types of the .rt files.
 
@@ -16,7 +16,6 @@ from promised import DRIVE, OF_ONE_CARD, OF_TWO_CARDS, RECORDS, listed, rows_at
 from specs import CRATES, ROOT, count, needed, read_all
 from statement import promises
 
-TITLE = 16
 MACHINE = [('model_card', 'Run', 'moments'), ('model_card', 'Run', 'after_all'), ('model_card', 'Card', 'fresh')]
 PORTS = [('model_card', 'ports.Run', 'moments'), ('model_card', 'ports.Run', 'after_all'),
          ('model_card', 'ports.Run', 'meant_all'), ('model_card', 'ports.Card', 'fresh'), ('lapd_card', 'Drive', 'events_of')]
@@ -71,14 +70,6 @@ RUNS = {
     'delivered_between_kinds': 'laws_order circuit/WorkedMixed', 'releases_end': 'laws_order WorkedRelease',
     'releases_are_told': 'laws_order WorkedInTheEnd'}
 MACHINE_ROW = re.compile(r'^machine: (\S+)$|^law: (\S+) (\S+)', re.MULTILINE)
-
-
-def sentence(said):
-    """The first sentence of what is said, and the second if the first is but a title; without links and clauses of Q.921."""
-    first, *others = re.split(r'\. (?=[A-Z`(])', re.sub(r'\[`(?:crate::)?([^`]*)`\]', r'`\1`', said))
-    said = '. '.join([first] + others[:1] * (len(first.split()) < TITLE))
-    said = re.sub(r' \((?:profile|(?:Q\.921 )?clauses? [^)]*)\)', '', said)
-    return said[0].upper() + said[1:].rstrip('.') + '.'
 
 
 def refuted():
@@ -154,13 +145,18 @@ class Statement:
             return quoted(several[0])
         return '. '.join('*%s*: %s' % (name.split()[-1], quoted(them)) for name, them in found.items())
 
+    def sentence_of(self, place, row):
+        """The words of a promise. Each must have some."""
+        said = ' '.join(it.said for it in promises() if it.place == place and it.name in row.names and it.said)
+        return said or sys.exit('reading: tests/statement.txt: %s %s has no words' % (place, row.names[-1]))
+
     def block(self, place, row, read=None):
         """A promise on the page."""
         broken = sorted({it for name in row.names for it in self.refuted[(place, name)]})
         files = dict.fromkeys([row.file.relative_to(ROOT).as_posix(), *self.statements_of(row)])
         run = self.run_of(row)
         return ['', '### %s' % ', '.join('`%s`' % it for it in row.names), '',
-                '|%s||' % sentence(row.said), '|---|---|',
+                '|%s||' % self.sentence_of(place, row), '|---|---|',
                 '|Premises|%s|' % self.premises_of(row),
                 '|Lines|%d: %s|' % (self.lines([row], read), ', '.join('`%s`' % it for it in files)),
                 '|Run|%s|' % ('`%s`' % run if run else 'none'),

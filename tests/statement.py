@@ -9,10 +9,11 @@ LINE = re.compile(r'(\S+) (\w+)(?: as (\w+) (\S+))?')
 
 
 class Promise(NamedTuple):
-    """A promise: where it stands, its name, and the law of another crate that is false where it is, or ''."""
+    """A promise: where it stands, its name, the law of another crate that is false if it is, or '', and its words, or ''."""
     place: str
     name: str
     law: str
+    said: str
 
     def laws(self) -> List[str]:
         """The laws as a row of wrong machines names them, `CRATE FUNCTION`, that break this promise."""
@@ -27,11 +28,14 @@ def promises() -> List[Promise]:
     for number, line in enumerate(PATH.read_text(encoding='utf-8').splitlines(), 1):
         if not line.strip() or line.startswith('#'):
             continue
+        if line.startswith('    ') and found:
+            found[-1] = found[-1]._replace(said=(found[-1].said + ' ' + line.strip()).strip())
+            continue
         words = LINE.fullmatch(line)
         if words is None:
             sys.exit("statement: tests/statement.txt, line %d: it is no 'PLACE NAME' and no 'PLACE NAME as CRATE LAW'" % number)
         place, name, crate, law = words.groups()
-        promise = Promise(place, name, '%s %s' % (crate, law) if crate else '')
+        promise = Promise(place, name, '%s %s' % (crate, law) if crate else '', '')
         if any(it[:2] == promise[:2] for it in found):
             sys.exit('statement: tests/statement.txt, line %d: %s %s stands there twice' % (number, place, name))
         found.append(promise)

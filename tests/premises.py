@@ -87,4 +87,4 @@ def of_claim(text, specs, files):
                 shared += [it for it in them[0] if it not in shared]
             else:
                 named.update({name: it for name, it in found.items() if it})
-    return {name: shared + them for name, them in named.items()} or {'': shared}
+    return {**({'': shared} if shared or not named else {}), **{name: shared + them for name, them in named.items()}}

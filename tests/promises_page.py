@@ -136,15 +136,16 @@ class Statement:
         return ['crates/%s/specs/%s.antt' % (it[0], it[1].replace('.', '/')) for it in own or dict.fromkeys(files)]
 
     def premises_of(self, row):
-        """The premises of a promise, claim by claim; what all of them share once."""
+        """The premises of a promise: what all of its claims share, and then what each has beside that."""
         found = {}
         for clause, text, specs in row.claims:
             for field, them in of_claim(text, specs, self.files).items():
                 found['%s %s' % (clause, field) if field else clause] = them
-        several, of_one_field = list(found.values()), len(found) == 1 and any(' ' in it for it in found)
-        if all(it == several[0] for it in several) and not of_one_field:
-            return quoted(several[0])
-        return '. '.join('*%s*: %s' % (name.split()[-1], quoted(them)) for name, them in found.items())
+        shared = [it for it in next(iter(found.values())) if all(it in them for them in found.values())]
+        shared = [] if len(found) == 1 and ' ' in next(iter(found)) else shared
+        own = {name.rpartition(' ')[2]: [it for it in them if it not in shared] for name, them in found.items()}
+        parts = [quoted(shared)] * bool(shared) + ['*%s*: %s' % (name, quoted(them)) for name, them in own.items() if them]
+        return '. '.join(parts) or 'none'
 
     def sentence_of(self, place, row):
         """The words of a promise. Each must have some."""

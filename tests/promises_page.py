@@ -7,6 +7,7 @@ beside those of one card. The last table counts each definition once. Who else s
 statement, SAID tells, of laws SAID_AGAIN. Premises that each card has, and keeps (PREMISES), are not counted, nor are what
 the prover's library defines and the types of the .rt files.
 
+The law that docs/PROOFS.md prints whole, HEADLINE, needs at most MOST_LINES.
 The worked run of a promise is that of RUNS: a file of worked values that names a definition which the promise needs."""
 import re
 import sys
@@ -70,6 +71,8 @@ RUNS = {
     'delivered_in_order': 'laws_order Worked', 'delivered_though_damaged': 'laws_order circuit/WorkedDamaged',
     'delivered_between_kinds': 'laws_order circuit/WorkedMixed', 'releases_end': 'laws_order WorkedRelease',
     'releases_are_told': 'laws_order WorkedInTheEnd'}
+# The law that the pages print whole, and the most lines that it may need.
+HEADLINE, MOST_LINES = 'a_call_comes_through', 200
 MACHINE_ROW = re.compile(r'^machine: (\S+)$|^law: (\S+) (\S+)', re.MULTILINE)
 
 
@@ -154,6 +157,8 @@ class Statement:
 
     def block(self, place, row, read=None):
         """A promise on the page."""
+        if HEADLINE in row.names and self.lines([row], read) > MOST_LINES:
+            sys.exit('reading: %s needs over %d lines' % (HEADLINE, MOST_LINES))
         broken = sorted({it for name in row.names for it in self.refuted[(place, name)]})
         files = dict.fromkeys([row.file.relative_to(ROOT).as_posix(), *self.statements_of(row)])
         run = self.run_of(row)

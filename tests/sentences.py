@@ -11,11 +11,13 @@ IDIOMS = re.compile('|'.join([
     r'^Where\b(?=.*[^?]$)', r'\b(?:only|also|even|except|but|as) where\b',
     r'\bwhere (?:no|not|nothing|nobody|neither|none|both|all)\b', r'\bwhere there (?:is|are)\b',
     r'\bwhere (?:it (?:is|was|has|does|can)|they (?:are|have|do))\b']), re.IGNORECASE)
+CLAUSES = re.compile(r'(?:Q\.921 )?\bclauses? \d+(?:\.\d+)*(?:(?:,| to|,? and)? \d+(?:\.\d+)*)*')
 
 
 def plain(text):
-    """A text whose names in backquotes and brackets are one word each, and whose links are their words."""
-    return re.sub(r'`[^`]*`', 'X', re.sub(r'\]\([^)]*\)', ']', ' '.join(text.split())))
+    """A text whose names in backquotes and lists of clauses are one word each, and whose links are their words."""
+    text = re.sub(r'\]\([^)]*\)', ']', ' '.join(text.split()))
+    return re.sub(r'`[^`]*`', 'X', CLAUSES.sub('X', text))
 
 
 def sentences_of(parts):

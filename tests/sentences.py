@@ -4,13 +4,14 @@ import re
 
 MEAN, LONG, LONGEST, SHARE = 18, 30, 45, 8
 # A reader expects "after" of time, "if" of a condition, "except" of an exception, and "otherwise".
-IDIOMS = re.compile('|'.join([
+IN_TABLES = [
     r'\bbehind\b', r'\bbut for\b', r'\bin vain\b', r'\bwhat becomes of\b',
     r'\bso (?:it is|is it|they are)(?=[,.:;]| (?:with|where|in|of|at|also|while|as|there|here|if)\b)',
-    r'\b(?:or|and|,|;) else\b', r'^Else\b',
-    r'^Where\b(?=.*[^?]$)', r'\b(?:only|also|even|except|but|as) where\b',
+    r'\b(?:only|also|even|except|but|as) where\b',
     r'\bwhere (?:no|not|nothing|nobody|neither|none|both|all)\b', r'\bwhere there (?:is|are)\b',
-    r'\bwhere (?:it (?:is|was|has|does|can)|they (?:are|have|do))\b']), re.IGNORECASE)
+    r'\bwhere (?:it (?:is|was|has|does|can)|they (?:are|have|do))\b']
+IN_SENTENCES = IN_TABLES + [r'\b(?:or|and|,|;) else\b', r'^Else\b', r'^Where\b(?=.*[^?]$)']
+IDIOMS, IDIOMS_OF_TABLES = (re.compile('|'.join(it), re.IGNORECASE) for it in (IN_SENTENCES, IN_TABLES))
 CLAUSES = re.compile(r'(?:Q\.921 )?\bclauses? \d+(?:\.\d+)*(?:(?:,| to|,? and)? \d+(?:\.\d+)*)*')
 
 
@@ -33,6 +34,12 @@ def of_page(text):
     text = re.sub(r'^```.*?^```', '', text, flags=re.M | re.S)
     text = re.sub(r'^(?:\||#|<!--|    ).*$', '', text, flags=re.M)
     return re.split(r'\n\s*\n|\n(?= *- | *\d+\. )', text)
+
+
+def cells_of(text):
+    """The cells of a page's tables, except those that are printed from the sources."""
+    text = re.sub(r'<!-- printed by.*?<!-- end -->', '', text, flags=re.S)
+    return [plain(it) for row in re.findall(r'^\|(.*)\|$', text, re.M) for it in row.split('|')]
 
 
 def of_manual(text):
@@ -59,14 +66,15 @@ def of_docs(text):
 
 
 class Measure:
-    """How long the sentences of some paragraphs are, and which fall short by themselves."""
+    """How long the sentences of some paragraphs are, and which of them, and of cells of tables, fall short by themselves."""
 
-    def __init__(self, parts):
+    def __init__(self, parts, cells=()):
         self.sentences = list(sentences_of(parts))
         lengths = [len(re.findall(r"[\w'-]+", it)) for it in self.sentences] or [0]
         self.mean, self.longest = sum(lengths) / len(lengths), max(lengths)
         self.share = 100 * sum(it > LONG for it in lengths) / len(lengths)
         self.bad = [(length, it) for length, it in zip(lengths, self.sentences) if length > LONGEST or IDIOMS.search(it)]
+        self.bad += [(len(it.split()), it) for it in cells if IDIOMS_OF_TABLES.search(it)]
 
     def falls_short(self):
         return bool(self.mean > MEAN or self.share > SHARE or self.bad)

@@ -1,11 +1,11 @@
 -- The set that the places stand for, when one of them changes.
 use Rattle.lapd_clock.proofs.Vocabulary.{◌≡◌, ℕ, zero, suc, ◌+◌, ◌<◌, ◌≤◌, true, false, cond, nat_lt, nat_le, List, [], ◌∷◌, ◌++◌, length, filter, get_or, set, None, Some, refl, sym, ap, ◌∙◌, subst, arith, nat_tests, AllByRecursion, recursion_from_All, IsStrictWeakOrder, IsFirstBest, IsFirstBest-takes, IsFirstBest-keeps, ranks_by, cases_lt, inl, inr}
-use Rattle.lapd_clock.proofs.Vocabulary.{◌*◌, ◌/◌, get_or_default, get_or-map, map-set, Timer, Expiry, is_before, first_due, after_first_due, never, put_in_order, in_order}
+use Rattle.lapd_clock.proofs.Vocabulary.{◌*◌, ◌/◌, get_or_default, get_or-map, map-set, Timer, Expiry, is_before, first_due, after_first_due, first_moment, never, put_in_order, in_order}
 use Rattle.std.proofs.lemmas.Nat.{div-mul-add}
 use Rattle.lapd_clock.proofs.Ordered.{put_in_order-swap, put_in_order-first, All-put_in_order, All-filter}
 use Rattle.lapd_clock.proofs.TimerOrder.{expiry_total, before_order, same_expiry}
-use Rattle.lapd_clock.proofs.First.{no_earlier}
-use Rattle.lapd_moments.specs.Places.{expiry_of, expiries_of, place_before, is_running, timers_in, AreNotBefore, nothing, at, with_timer, without_timer, IsFirst, IsTaken, AreOfLines}
+use Rattle.lapd_moments.specs.Places.{expiry_of, expiries_of, place_before, is_running, timers_in, AreNotBefore, nothing, at, with_timer, without_timer, IsFirst, IsFirstUntil, IsTaken, AreOfLines}
+use Rattle.lapd_moments.specs.Bounds.{IsFoundFirst}
 use Rattle.lapd_moments.specs.declared.place.Place.{Place}
 
 -- ---- the places themselves
@@ -128,42 +128,38 @@ none_runs : (es : List Expiry) → AllByRecursion (λ e. never ≤ e.moment) es 
 none_runs [] h = refl
 none_runs (e ∷ es) h = ap (λ b. cond b (e ∷ filter is_running es) (filter is_running es)) (rests e h.0) ∙ none_runs es h.1
 
--- no earlier than the first
-not_earlier : (e : Expiry) (es : List Expiry) → AllByRecursion (λ x. is_before x e ≡ false) es → AreNotBefore e.moment es
-not_earlier e [] h = tt
-not_earlier e (x ∷ xs) h = (no_earlier x e h.0, not_earlier e xs h.1)
-
 -- what rests does not go before what runs
-rest_behind : (e z : Expiry) → e.moment < z.moment → is_before z e ≡ false
+pub rest_behind : (e z : Expiry) → e.moment < z.moment → is_before z e ≡ false
 rest_behind e z h = grind (arith, nat_lt, nat_tests)
 
-module _ (ps : List Place) (b : ℕ) (so : IsFirstBest place_before ps (length ps) b) (u : Place) (at_it : u ≡ get_or ps b u) where
+module _ (ps : List Place) (b : ℕ) (so : IsFoundFirst b ps) (d : Place) where
+  abbrev u : Place
+  u = get_or ps b d
+
   it : at b (expiries_of ps) ≡ expiry_of u
-  it = get_or-map expiry_of ps b u nothing so.0 ∙ ap expiry_of (sym at_it)
+  it = get_or-map expiry_of ps b d nothing so.within
 
   none_before : AllByRecursion (λ e. is_before e (expiry_of u) ≡ false) (expiries_of ps)
   none_before =
       All-map (λ e. is_before e (expiry_of u) ≡ false) ps
       (recursion_from_All (λ p. place_before p u ≡ false) ps
-      (λ k d within. subst (λ p. place_before (get_or ps k d) p ≡ false) (get_or_default ps b d u so.0 ∙ sym at_it) (so.1 k d within)))
-
-  pub found_lower : AreNotBefore u.moment (expiries_of ps)
-  found_lower = not_earlier (expiry_of u) (expiries_of ps) none_before
-
-  pub found_none : u.moment ≡ never → timers_in (expiries_of ps) ≡ []
-  unfolding in_order
-  found_none rest = ap in_order (none_runs (expiries_of ps) (sooner never u.moment (expiries_of ps) (omega (arith, rest)) found_lower))
+      (λ k other within. subst (λ p. place_before (get_or ps k other) p ≡ false) (get_or_default ps b other d so.within) (so.none_before k other within)))
 
   pub found_first : u.moment < never → IsFirst b (expiries_of ps)
   found_first soon =
       let run : (at b (expiries_of ps)).moment < never = subst (λ (e : Expiry). e.moment < never) (sym it) soon in
       record {
-        within = omega (arith, so.0, same_count ps);
+        within = omega (arith, so.within, same_count ps);
         runs = run;
-        leads = leads (expiries_of ps) b _ (omega (arith, so.0, same_count ps)) (omega arith) run
+        leads = leads (expiries_of ps) b _ (omega (arith, so.within, same_count ps)) (omega arith) run
             (subst (λ (x : Expiry). AllByRecursion (λ e. is_before e x ≡ false) (expiries_of ps)) (sym it) none_before)
             (rest_behind (at b (expiries_of ps)) _ run);
       }
+
+-- where none falls due at all, none runs
+pub none_left : (end : ℕ) (es : List Expiry) → never ≤ end → AreNotBefore end es → timers_in es ≡ []
+unfolding in_order
+none_left end es late h = ap in_order (none_runs es (sooner never end es late h))
 
 -- the first is due, or is not
 pub record FirstDue (place now : ℕ) (es : List Expiry) : Type 0 where
@@ -193,24 +189,20 @@ due_later place now es first later =
 pub nothing_due : (es : List Expiry) (now : ℕ) → timers_in es ≡ [] → NoneDue (timers_in es) now
 nothing_due es now none = record { none = ap (λ xs. first_due xs now) none; same = ap (λ xs. after_first_due xs now) none ∙ sym none }
 
-pub no_places : (ps : List Place) → length ps ≡ 0 → timers_in (expiries_of ps) ≡ []
-unfolding in_order
-no_places [] h = refl
-no_places (p ∷ ps) h = absurd (omega (arith, h))
+-- what is answered, and left, where the first is taken out
+pub due_is : (ps : List Place) (es : List Expiry) (b now : ℕ) (u : Place) → expiries_of ps ≡ es → IsFirstUntil now b es → u ≡ get_or ps b u → Some (u.line, u.timer) ≡ first_due (timers_in es) now
+due_is ps es b now u is first at_it =
+    let it : at b es ≡ expiry_of u = ap (at b) (sym is) ∙ get_or-map expiry_of ps b u nothing (there b ps es is first.first.within) ∙ ap expiry_of (sym at_it) in
+    sym ((due_now b now es first.first first.soon).due ∙ ap (λ (e : Expiry). Some (e.line, e.timer)) it)
 
-pub below : (m : ℕ) → m ≤ never → (m ≡ never → ⊥) → m < never
-below m h ne = grind arith
+pub next_is : (ps : List Place) (es : List Expiry) (b end : ℕ) (u : Place) → expiries_of ps ≡ es → IsFirstUntil end b es → u ≡ get_or ps b u → Some u.moment ≡ first_moment (timers_in es)
+next_is ps es b end u is first at_it =
+    let it : at b es ≡ expiry_of u = ap (at b) (sym is) ∙ get_or-map expiry_of ps b u nothing (there b ps es is first.first.within) ∙ ap expiry_of (sym at_it) in
+    sym (ap first_moment first.first.leads ∙ ap (λ (e : Expiry). Some e.moment) it)
 
-pub first_of : (ps seen : List Place) (b : ℕ) → seen ≡ ps → IsFirstBest place_before seen (length seen) b → IsFirstBest place_before ps (length ps) b
-first_of ps seen b same so = subst (λ qs. IsFirstBest place_before qs (length qs) b) same so
-
--- what is left where the first is taken out
-pub taken : (ps : List Place) (es : List Expiry) (b now : ℕ) (u w : Place) → expiries_of ps ≡ es → IsFirst b es → u ≡ get_or ps b u → w ≡ get_or ps b w → u.moment ≤ now
-    → IsTaken now es (expiries_of (set ps b (record w { moment = never })))
-taken ps es b now u w is first u_at w_at due =
-    let within : b < length ps = there b ps es is first.within in
-    let moment : (at b es).moment ≡ u.moment = ap (λ xs. (at b xs).moment) (sym is) ∙ ap (λ (e : Expiry). e.moment) (get_or-map expiry_of ps b u nothing within ∙ ap expiry_of (sym u_at)) in
-    record { place = b; first = first; due = omega (arith, moment, due); is = stopped_is ps b w within w_at ∙ ap (without_timer b) is }
+pub taken : (ps : List Place) (es : List Expiry) (b now : ℕ) (w : Place) → expiries_of ps ≡ es → IsFirstUntil now b es → w ≡ get_or ps b w → IsTaken now es (expiries_of (set ps b (record w { moment = never })))
+taken ps es b now w is first w_at =
+    record { place = b; first = first.first; due = first.soon; is = stopped_is ps b w (there b ps es is first.first.within) w_at ∙ ap (without_timer b) is }
 
 pub resting_late : (ps : List Place) → AllByRecursion (λ p. p.moment ≡ never) ps → AreNotBefore never (expiries_of ps)
 resting_late [] h = tt

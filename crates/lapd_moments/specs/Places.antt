@@ -64,6 +64,11 @@ pub record IsFirst (place : ℕ) (es : List Expiry) : Type 0 where
   pub runs : (at place es).moment < never
   pub leads : timers_in es ≡ at place es ∷ timers_in (without_timer place es)
 
+-- It falls due first, and does so until a moment.
+pub record IsFirstUntil (end place : ℕ) (es : List Expiry) : Type 0 where
+  pub first : IsFirst place es
+  pub soon : (at place es).moment ≤ end
+
 -- What is taken out where it is due: the place that falls due first.
 pub record IsTaken (now : ℕ) (old new : List Expiry) : Type 0 where
   pub place : ℕ

@@ -4,9 +4,10 @@
 //! it there, and looks at no other.
 //!
 //! - `moments`: `Moments`, a place for each timer of each link of each line, and for each line's T201.
-//! - `place`: one place. `timers`: which timer goes first at one moment.
+//! - `look`: which place falls due first. `place`: one place. `timers`: which timer goes first at one moment.
 #![tactic(auto)]
 
+mod look;
 mod moments;
 mod place;
 mod timers;

@@ -1,11 +1,12 @@
 //! The moments of all timers of a card.
 
-ghost use Rattle.std.specs.Prelude.{◌≡◌, ◌+◌, ◌*◌, ◌<◌, ◌≤◌, [], length, IfSome, IfNone, IfOk};
+ghost use Rattle.std.specs.Prelude.{◌≡◌, ◌+◌, ◌*◌, ◌<◌, ◌≤◌, length, IfSome, IfNone, IfOk};
 ghost use Rattle.lapd_clock.specs.Timers.{first_due, first_moment};
 ghost use Rattle.lapd_clock.specs.Firsts.{never};
-ghost use Rattle.lapd_moments.specs.Places.{timers_in, with_timer, without_timer, IsFirst, IsTaken, RunsAt, is_nowhere};
+ghost use Rattle.lapd_moments.specs.Places.{timers_in, with_timer, without_timer, AreNotBefore, IsFirstUntil, IsTaken, RunsAt, is_nowhere};
 
-use crate::place::{NEVER, Place, first_place, running_place};
+use crate::look::look;
+use crate::place::{NEVER, Place, running_place};
 use lapd_frame::Timer;
 use std::alloc::{AllocError, Global};
 use std::marker::Model;
@@ -13,24 +14,30 @@ use std::marker::Model;
 /// A place for each timer that a card may run at a time, with the moment at which it falls due.
 ///
 /// A timer is started and stopped in its place, without a look at any other. No timer falls due before a moment that is kept
-/// beside them, so that mostly nothing has to be looked for.
+/// beside them, so that mostly nothing has to be looked for. Another such moment is kept of each line, so that a look goes
+/// through the places of one line, mostly.
 #[derive(Debug, Drop)]
 pub struct Moments {
     /// No timer falls due before it.
     not_before: u64,
+    /// No timer of a line falls due before its bound.
+    bounds: Vec<u64>,
+    /// How many places a line has.
+    each: usize,
     places: Vec<Place>,
 }
 
 impl Model for Moments {
     ghost use Rattle.std.specs.Prelude.{List};
     ghost use Rattle.lapd_clock.specs.Timers.{Expiry};
-    ghost use Rattle.lapd_moments.specs.Places.{expiries_of, AreNotBefore};
+    ghost use Rattle.lapd_moments.specs.Places.{expiries_of};
+    ghost use Rattle.lapd_moments.specs.Bounds.{AreKept};
 
     ghost Value = { List Expiry };
 
     ghost view = { λ m. expiries_of m.places.items };
 
-    ghost invariant = { λ m. AreNotBefore m.not_before (expiries_of m.places.items) };
+    ghost invariant = { λ m. AreKept m.not_before m.each m.bounds.items m.places.items };
 }
 
 impl Moments {
@@ -48,6 +55,7 @@ impl Moments {
         ensures { IfOk result (λ moments. AreIdle lines (4 * terminals + 1) moments) }
     {
         let each = 4 * terminals + 1;
+        let bounds = vec![in alloc; NEVER; lines]?;
         let mut places = Vec::with_capacity(alloc, lines * each)?;
         for line in 0..lines {
             for _ in 0..each {
@@ -60,6 +68,8 @@ impl Moments {
         }
         Ok(Moments {
             not_before: NEVER,
+            bounds,
+            each,
             places,
         })
     }
@@ -73,9 +83,9 @@ impl Moments {
         let its = &mut self.places[place];
         its.moment = moment;
         its.timer = timer;
-        if moment < self.not_before {
-            self.not_before = moment;
-        }
+        let line = its.line;
+        self.bounds[line] = self.bounds[line].min(moment);
+        self.not_before = self.not_before.min(moment);
     }
 
     /// Stops the timer of a place, where one runs there.
@@ -118,11 +128,8 @@ impl Moments {
         ensures taken { IfSome result (λ _. IsTaken now self.old self.new) }
         ensures unchanged { IfNone result (self.new ≡ self.old) }
     {
-        let place = self.first()?;
+        let place = self.first(now)?;
         let first = self.places[place];
-        if now < first.moment {
-            return None;
-        }
         self.places[place].moment = NEVER;
         Some((first.line, first.timer))
     }
@@ -132,26 +139,22 @@ impl Moments {
         ensures next { result ≡ first_moment (timers_in self.old) }
         ensures unchanged { self.new ≡ self.old }
     {
-        let place = self.first()?;
+        let place = self.first(NEVER - 1)?;
         Some(self.places[place].moment)
     }
 
-    /// Which place falls due first, of those whose timers run: it looks through all places, and no timer falls due before
-    /// what is kept then.
-    fn first(&mut self) -> Option<usize>
+    /// Which place falls due first, if one does so until `end`. No timer falls due before what is kept then.
+    fn first(&mut self, end: u64) -> Option<usize>
+        requires end { end < never }
         ensures unchanged { self.new ≡ self.old }
-        ensures none { IfNone result (timers_in self.old ≡ []) }
-        ensures first { IfSome result (λ place. IsFirst place self.old) }
+        ensures none { IfNone result (AreNotBefore (end + 1) self.old) }
+        ensures first { IfSome result (λ place. IsFirstUntil end place self.old) }
     {
-        if self.places.is_empty() {
+        if self.bounds.is_empty() {
             return None;
         }
-        let place = first_place(&self.places);
-        let moment = self.places[place].moment;
+        let (moment, place) = look(&mut self.bounds, &self.places, self.each, end);
         self.not_before = moment;
-        if moment == NEVER {
-            return None;
-        }
-        Some(place)
+        place
     }
 }

@@ -4,9 +4,6 @@ use Rattle.lapd_clock.specs.Timer.{Lengths}
 use Rattle.lapd_frame.specs.declared.notes.Note.{Note}
 use Rattle.lapd_frame.specs.declared.services.Service.{Service}
 use Rattle.model_line.specs.declared.config.Config.{Config}
-use Rattle.model_link.specs.declared.timers.LinkTimer.TheVariants.{T200, T203}
-use Rattle.model_card.specs.Card.{state}
-use Rattle.model_card.specs.Event.{at}
 use Rattle.laws_trace.specs.Trace.{IsFront}
 use Rattle.laws_time.specs.Silence.{told_in, first_in, all_in, IsToldInTime}
 use Rattle.laws_time.proofs.Phases.{Due200, Due203, owed, whole, one-more}

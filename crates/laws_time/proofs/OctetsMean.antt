@@ -88,7 +88,7 @@ module _ (e : Event) (m : OctetCard) where
   said-is None = refl
   said-is (Some what) = refl
 
-  orders-are : (o : Option line.Event) → meant_at e m ≡ o → orders_of (ports_answer e m) ≡ option_map_or (λ what. orders_in (said_to what)) o []
+  pub orders-are : (o : Option line.Event) → meant_at e m ≡ o → orders_of (ports_answer e m) ≡ option_map_or (λ what. orders_in (said_to what)) o []
   orders-are o is = says-orders e.what (ports_answer e m) (option_map (answer_to m.card) (option_map (at e.line) (meant_at e m))) says
       ∙ ap (λ o. option_map_or orders_in (option_map (answer_to m.card) (option_map (at e.line) o)) []) is ∙ by o
     where

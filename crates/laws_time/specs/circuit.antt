@@ -1,4 +1,6 @@
 -- Two cards of octets on one circuit, with their clocks.
 pub mod Clocked
 pub mod Ends
+pub mod LongEnough
 pub mod Worked
+pub mod WorkedLongEnough

@@ -3,15 +3,18 @@
 //! `specs/circuit` has that world (`Clocked`): both lines run at one rate, so many octets are in transit to each end, and
 //! nothing else is in it except requests and noise. Its worked runs (`Worked`) compute: a call from nothing, calls that
 //! cross, an I-frame that is lost and goes again, SABME that is heard just before N200 is used up, a dead line, and noise
-//! that makes a frame of another link.
+//! that makes a frame of another link. How long an answer takes at most is in `LongEnough`, and worked out in
+//! `WorkedLongEnough`.
 //!
 //! # Open
 //!
-//! That answers come in time, so that a given T200 is long enough; that what was granted arrives in time; and how long a
-//! call takes at most. Random and chosen runs broke none of these, if layer 3 asks for no unit data and is not busy, T200 is
-//! at least as long as an answer takes, and noise makes no frame.
+//! That each answer comes: an end that comes to state 8 once the line is clean and quiet leaves it within that time, if both
+//! ends were up as it became so (an end in state 5 does not answer an enquiry, and asks again only as T200 falls due there);
+//! that what was granted arrives in time; and how long a call takes at most. Random and chosen runs broke none of these, if
+//! layer 3 asks for no unit data and is not busy, T200 is at least as long as an answer takes, and noise makes no frame.
 
 ghost use Rattle.laws_time.specs.circuit.Ends.{EndsAreTimedCards};
+ghost use Rattle.laws_time.specs.circuit.LongEnough.{AnswersComeInTime};
 
 /// Each end of the clocked circuit is a timed card of octets, as `model_timed` has it. Whatever is asked for at either
 /// end, whatever noise there is, and however many beats passed, the card at an end and its clock came about by steps that
@@ -20,4 +23,16 @@ ghost use Rattle.laws_time.specs.circuit.Ends.{EndsAreTimedCards};
 /// timer runs for a millisecond at least.
 pub fn ends_are_timed_cards()
     ensures { EndsAreTimedCards }
+{}
+
+/// Answers come in time: as T200 falls due in a state that awaits an answer (5, 6 or 8), none is to come. No command with
+/// P=1 of that end waits or is in transit, and no response with F=1 of the other. So what was asked was lost, or is not
+/// answered, and it is right to ask again (Q.921 clauses 5.5.1.3, 5.5.3.3 and 5.6.7). It holds after any number of beats from the start, and at any time in the next one,
+/// whatever noise there is. T200 runs for at least 2 (L + D) + 9 (c + c') octet times, and a millisecond more, as moments
+/// are whole: L is the longest frame in octets, D octets are in transit, and c and c' control frames may wait at the two
+/// ends. Noise makes no frame: each frame that is heard stood at that place in what the other end gave. Layer 3 of each
+/// end asks for anything of the link except unit data and deactivation. (Unit data goes before all frames of a link. With
+/// a shorter T200 the law is false, `specs/circuit/WorkedLongEnough`.)
+pub fn answers_come_in_time()
+    ensures { AnswersComeInTime }
 {}

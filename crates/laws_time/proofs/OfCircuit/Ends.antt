@@ -1,28 +1,28 @@
 -- An end of the clocked circuit is a timed card of octets that is prompt.
-use Rattle.std.proofs.Common.{arith, ◌≡◌, ℕ, zero, suc, ◌+◌, ◌-◌, ◌/◌, ◌<◌, ◌≤◌, List, [], ◌∷◌, ◌++◌, Option, Some, None, refl, sym, ap, ◌∙◌, subst, length, drop, replicate, All, nat_le, Bool, cond}
+use Rattle.std.proofs.Common.{arith, ◌≡◌, ℕ, zero, suc, ◌+◌, ◌-◌, ◌/◌, ◌<◌, ◌≤◌, List, [], ◌∷◌, ◌++◌, Option, Some, None, refl, sym, ap, ◌∙◌, subst, length, drop, All, nat_le, Bool, cond}
 use Rattle.std.proofs.lemmas.List.Elements.{All-nil, All-cons}
 use Rattle.std.proofs.Math.Nat.{div-le_self}
 use Rattle.std.specs.List.{AllByRecursion}
 use Rattle.std.specs.Option.{option_map_or, unwrap_or}
 use Rattle.std.specs.Prelude.{fold}
 use Rattle.lapd_clock.specs.InOrder.{IsInOrder}
-use Rattle.lapd_clock.specs.Timer.{Lengths, Order, AreInRange}
+use Rattle.lapd_clock.specs.Timer.{Lengths, AreInRange}
 use Rattle.lapd_clock.specs.Timers.{Expiry, is_before}
 use Rattle.model_line.specs.Request.{Request, Assign}
 use Rattle.model_line.specs.declared.config.Config.{Config}
 use Rattle.model_card.proofs.OfPorts.Steps.{config_after}
 use Rattle.model_card.specs.ports.Event.{Event, at}
 use Rattle.model_card.specs.ports.Port as port
-use Rattle.model_timed.specs.Clock.{Clock, obeyed, due, first_due, without_first, at_moment}
+use Rattle.model_timed.specs.Clock.{obeyed, due, first_due, without_first, at_moment}
 use Rattle.model_timed.specs.Octets.{TimedOctetCard, octets, orders_in, IsNoExpiry, fresh}
 use Rattle.model_timed.specs.Timed.{Step, happens as step_happens, time, falls_due, after as next, with_expiry, IsInTime, IsPrompt}
 unfoldable use Rattle.model_timed.specs.Timed.{after_all, ArePrompt}
-use Rattle.laws_order.specs.circuit.Circuit.{Endpoint, answered}
+use Rattle.laws_order.specs.circuit.Circuit.{answered}
 use Rattle.laws_time.proofs.Moments.{now-stays, lengths-stay}
 use Rattle.laws_time.proofs.OfCircuit.Prompt.{long, all-obeyed, ordered-obeyed, due-obeyed, none-due, one-due, few-due, all-later, div-stays}
 unfoldable use Rattle.laws_time.proofs.OfCircuit.Prompt.{many_due}
 use Rattle.laws_time.specs.circuit.Ends.{card_of, IsTimedCard, EndsAreTimedCards}
-use Rattle.laws_time.specs.circuit.Clocked.{TimedEndpoint, first, happens, asks, falls, all_due, comes_to, hears, without_first_octet, Clocked, Beat, gone, heard, beat, after, endpoint}
+use Rattle.laws_time.specs.circuit.Clocked.{TimedEndpoint, first, happens, asks, falls, all_due, comes_to, hears, without_first_octet, Clocked, Beat, gone, beat, after, endpoint}
 unfoldable use Rattle.laws_time.specs.circuit.Clocked.{fall_due}
 
 -- Steps that are prompt lead from one timed card to another.
@@ -81,7 +81,7 @@ pub leads-on : (e : port.Event) (s : TimedEndpoint) → Stands s → IsNoExpiry 
 leads-on e s h none = leads-one (step_happens (at s.at.line e)) (card_of s) (h.within, none)
 
 -- What is due falls due.
-rest-of : (P : Expiry → Type 0) (xs : List Expiry) → AllByRecursion P xs → AllByRecursion P (drop 1 xs)
+pub rest-of : (P : Expiry → Type 0) (xs : List Expiry) → AllByRecursion P xs → AllByRecursion P (drop 1 xs)
 rest-of P [] all = all
 rest-of P (x ∷ xs) all = all.1
 
@@ -89,17 +89,17 @@ rest-in-order : (xs : List Expiry) → IsInOrder is_before xs → IsInOrder is_b
 rest-in-order [] h = h
 rest-in-order (x ∷ xs) h = h.1
 
-first-of : (P : Expiry → Type 0) (xs : List Expiry) (now : ℕ) (x : Expiry) → AllByRecursion P xs → first_due xs now ≡ Some x → P x
+pub first-of : (P : Expiry → Type 0) (xs : List Expiry) (now : ℕ) (x : Expiry) → AllByRecursion P xs → first_due xs now ≡ Some x → P x
 first-of P [] now x all is = cc is
 first-of P (e ∷ xs) now x all is = subst P (the-first e x (nat_le e.moment now) is) all.0
   where
     the-first : (e x : Expiry) (b : Bool) → cond b (Some e) None ≡ Some x → e ≡ x
     the-first e x b is = grind arith
 
-abbrev without : TimedEndpoint → TimedEndpoint
+abbrev pub without : TimedEndpoint → TimedEndpoint
 without s = record s { clock = without_first s.clock }
 
-stands-without : (s : TimedEndpoint) → Stands s → Stands (without s)
+pub stands-without : (s : TimedEndpoint) → Stands s → Stands (without s)
 stands-without s h = record {
   within = h.within;
   ranged = h.ranged;
@@ -189,10 +189,10 @@ weaker : (P Q : Expiry → Type 0) → ((x : Expiry) → P x → Q x) → (xs : 
 weaker P Q more [] all = tt
 weaker P Q more (x ∷ xs) all = (more x all.0, weaker P Q more xs all.1)
 
-abbrev at_time : ℕ → TimedEndpoint → TimedEndpoint
+abbrev pub at_time : ℕ → TimedEndpoint → TimedEndpoint
 at_time moment s = record s { clock = at_moment moment s.clock }
 
-time-comes : (moment : ℕ) (s : TimedEndpoint) → Rests s → s.clock.now ≤ moment → moment ≤ s.clock.now + 1 → Stands (at_time moment s) × Leads (card_of s) (card_of (at_time moment s))
+pub time-comes : (moment : ℕ) (s : TimedEndpoint) → Rests s → s.clock.now ≤ moment → moment ≤ s.clock.now + 1 → Stands (at_time moment s) × Leads (card_of s) (card_of (at_time moment s))
 time-comes moment s h low high =
     let timely = weaker (λ x. s.clock.now < x.moment) (λ x. moment ≤ x.moment) (λ x later. omega (arith, later, high)) s.clock.running h.later in (
       record { within = h.stands.within; ranged = h.stands.ranged; in_order = h.stands.in_order; here = h.stands.here; timely = timely },
@@ -222,7 +222,7 @@ comes moment rs s h low high =
     }
 
 -- Something happens at an end at which nothing is due.
-rests-on : (e : port.Event) (s : TimedEndpoint) → Rests s → Rests (happens e s)
+pub rests-on : (e : port.Event) (s : TimedEndpoint) → Rests s → Rests (happens e s)
 rests-on e s h =
     let orders = orders_in (answered e s.at) in
     record {
@@ -262,7 +262,7 @@ pub record Both (rate : ℕ) (t u : TimedOctetCard) (w : Clocked) : Type 0 where
   pub near_leads : Leads t (card_of w.near)
   pub far_leads : Leads u (card_of w.far)
 
-next-moment : (rate beats : ℕ) → 1 ≤ rate → ((beats - 1) / rate ≤ beats / rate) × (beats / rate ≤ (beats - 1) / rate + 1)
+pub next-moment : (rate beats : ℕ) → 1 ≤ rate → ((beats - 1) / rate ≤ beats / rate) × (beats / rate ≤ (beats - 1) / rate + 1)
 next-moment rate zero some = (omega arith, omega arith)
 next-moment rate (suc n) some =
     let same : suc n - 1 ≡ n = omega arith in let more : suc n ≡ n + 1 = omega arith in
@@ -271,7 +271,7 @@ next-moment rate (suc n) some =
       subst (λ k. suc n / rate ≤ k / rate + 1) (sym same) (subst (λ k. k / rate ≤ n / rate + 1) (sym more) x.1),
     )
 
-one-beat : (rate : ℕ) → 1 ≤ rate → (t u : TimedOctetCard) (b : Beat) (w : Clocked) → Both rate t u w → Both rate t u (beat rate w b)
+pub one-beat : (rate : ℕ) → 1 ≤ rate → (t u : TimedOctetCard) (b : Beat) (w : Clocked) → Both rate t u w → Both rate t u (beat rate w b)
 one-beat rate some t u b w h =
     let moment = w.beats / rate in
     let next = next-moment rate w.beats some in
@@ -310,16 +310,21 @@ none-yet rate = let less = div-le_self 0 rate in omega (arith, less)
 timed : (c : Config) (lengths : Lengths) (s : TimedEndpoint) → Leads (fresh c lengths) (card_of s) → IsTimedCard c lengths s
 timed c lengths s h = (h.steps, h.prompt, h.leads)
 
-pub ends-are-timed-cards : EndsAreTimedCards
-ends-are-timed-cards c d line other tei way rate lengths others bs within within_far ranged ranged_far some =
+pub both-begin : (c d : Config) (line other tei way rate : ℕ) (lengths others : Lengths) → line < c.lines → other < d.lines → AreInRange lengths → AreInRange others
+    → Both rate (fresh c lengths) (fresh d others) (record { near = endpoint c line lengths way tei; far = endpoint d other others way tei; beats = 0 })
+both-begin c d line other tei way rate lengths others within within_far ranged ranged_far =
     let near = begins c line tei way lengths within ranged in let far = begins d other tei way others within_far ranged_far in
-    let w : Clocked = record { near = endpoint c line lengths way tei; far = endpoint d other others way tei; beats = 0 } in
-    let all = all-beats rate some (fresh c lengths) (fresh d others) bs w (record {
+    record {
       near = near.rests;
       far = far.rests;
       near_now = near.now ∙ none-yet rate;
       far_now = far.now ∙ none-yet rate;
       near_leads = near.leads;
       far_leads = far.leads;
-    }) in
+    }
+
+pub ends-are-timed-cards : EndsAreTimedCards
+ends-are-timed-cards c d line other tei way rate lengths others bs within within_far ranged ranged_far some =
+    let w : Clocked = record { near = endpoint c line lengths way tei; far = endpoint d other others way tei; beats = 0 } in
+    let all = all-beats rate some (fresh c lengths) (fresh d others) bs w (both-begin c d line other tei way rate lengths others within within_far ranged ranged_far) in
     (timed c lengths (after rate bs w).near all.near_leads, timed d others (after rate bs w).far all.far_leads)

@@ -1,5 +1,5 @@
 -- A clock at which all that is due falls due before time goes on.
-use Rattle.std.proofs.Common.{arith, ◌≡◌, ℕ, zero, suc, ◌+◌, ◌-◌, ◌*◌, ◌/◌, ◌<◌, ◌≤◌, not, Bool, true, false, cond, List, [], ◌∷◌, Option, Some, None, refl, sym, ap, ◌∙◌, subst, nat_le, length, filter, drop}
+use Rattle.std.proofs.Common.{arith, ◌≡◌, ℕ, suc, ◌+◌, ◌/◌, ◌<◌, ◌≤◌, not, Bool, true, false, cond, List, [], ◌∷◌, Some, None, refl, ap, ◌∙◌, nat_le, length, filter, drop}
 use Rattle.std.specs.List.{AllByRecursion}
 use Rattle.std.proofs.lemmas.Bool.{le-ltb}
 use Rattle.std.proofs.Math.Nat.{div-le_of_le-mul, mul-div-le}
@@ -10,8 +10,7 @@ use Rattle.lapd_clock.specs.Timers.{Expiry, is_before, is_of, without}
 use Rattle.lapd_clock.proofs.First.{no_earlier}
 use Rattle.lapd_clock.proofs.Ordered.{All-filter, All-put_in_order, IsInOrder-put_in_order, IsInOrder-filter}
 use Rattle.lapd_clock.proofs.TimerOrder.{before_order}
-use Rattle.model_timed.specs.Clock.{Clock, obey, obeyed, first_due, due, without_first, expiry_of}
-use Rattle.laws_time.proofs.Moments.{now-stays, lengths-stay}
+use Rattle.model_timed.specs.Clock.{Clock, obey, obeyed, first_due, expiry_of}
 
 pub long : (ls : Lengths) → AreInRange ls → (timer : Timer) → 1 ≤ duration ls timer
 long ls r (T200 service tei) = r.t200

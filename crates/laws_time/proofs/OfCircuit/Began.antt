@@ -1,0 +1,134 @@
+-- Two ends of the clocked circuit as they begin: nothing is under way, and no timer runs.
+use Rattle.std.proofs.Common.{arith, ◌≡◌, ℕ, ◌+◌, ◌<◌, ◌≤◌, Bool, true, false, cond, List, [], ◌∷◌, ◌++◌, length, Some, refl, sym, ap, ◌∙◌, subst, All}
+use Rattle.std.proofs.lemmas.List.{length-replicate}
+use Rattle.std.proofs.lemmas.Bool.{true≢false}
+use Rattle.std.proofs.lemmas.List.Elements.{All-nil}
+use Rattle.lapd_clock.specs.Timer.{Lengths, AreInRange}
+use Rattle.lapd_frame.specs.declared.refusals.Refusal.TheVariants.{PoolFull}
+use Rattle.lapd_frame.specs.declared.services.Service.{Service}
+unfoldable use Rattle.lapd_tei.specs.Events.{course as tei_course, refusal as tei_refusal}
+use Rattle.model_bits.specs.StuffingLaws.{AreOctets}
+use Rattle.model_bits.specs.Sent.{Item}
+use Rattle.model_link.specs.Link.{fresh as fresh_link}
+use Rattle.model_line.specs.Event as line
+use Rattle.model_line.specs.Laws.{orders_in}
+use Rattle.model_line.specs.Line.{Line}
+unfoldable use Rattle.model_line.specs.Machine.{answer as line_answer, takes_slot}
+use Rattle.model_line.specs.Request.{Assign}
+use Rattle.model_line.specs.Sound.{IsInRange}
+use Rattle.model_line.specs.declared.config.Config.{Config}
+use Rattle.model_card.specs.Card.{Card, line_at}
+use Rattle.model_card.specs.Event.{at}
+use Rattle.model_card.specs.Machine as machine
+use Rattle.model_card.specs.Machine.{wants_room}
+unfoldable use Rattle.model_card.specs.Run.{moments as frame_moments}
+use Rattle.model_card.specs.ports.Card.{fresh}
+use Rattle.model_card.specs.ports.Codec.{frames_among}
+use Rattle.model_card.specs.ports.Event.{at as octet_at}
+use Rattle.model_card.specs.ports.Port as port
+use Rattle.model_card.specs.ports.Port.{Port, fresh_port}
+use Rattle.model_card.specs.ports.Run.{IsAtLine}
+unfoldable use Rattle.model_card.specs.ports.Run.{after_all, meant_all}
+use Rattle.model_card.proofs.OfPorts.GoingOut.{fresh_at}
+use Rattle.model_timed.specs.Clock.{stopped}
+use Rattle.model_timed.specs.Octets.{orders_in as octet_orders}
+use Rattle.laws_wire.specs.Timely.{is_final}
+use Rattle.laws_wire.proofs.Beginning.{answers}
+use Rattle.laws_wire.proofs.Standing.{StationStands}
+use Rattle.laws_order.specs.circuit.Circuit.{Endpoint as OctetEndpoint, port_of, answered}
+use Rattle.laws_order.specs.circuit.Circuit as circuit
+use Rattle.laws_order.specs.circuit.Through.{octet_endpoint}
+use Rattle.laws_order.proofs.Vocabulary.{GivesOctets}
+use Rattle.laws_order.proofs.OfCircuit.AsFrames.{asked-as}
+use Rattle.laws_order.proofs.OfCircuit.Projected.{port-after, asked-way}
+use Rattle.laws_order.proofs.OfCircuit.Ran.{Ran, goes-on, within-ports}
+use Rattle.laws_time.proofs.OctetsMean.{orders-are}
+use Rattle.laws_time.proofs.Moments.{lengths-stay}
+use Rattle.laws_time.proofs.OfCircuit.Beats.{Counts}
+use Rattle.laws_time.proofs.OfCircuit.Ends.{stands-on}
+use Rattle.laws_time.proofs.OfCircuit.Kinds.{asks}
+use Rattle.laws_time.proofs.OfCircuit.Open.{half}
+use Rattle.laws_time.proofs.OfCircuit.Orders.{AreOurs, ours-obeyed}
+use Rattle.laws_time.proofs.OfCircuit.Sender.{Sends, none-wait, text_length}
+use Rattle.laws_time.proofs.OfCircuit.Standing.{Ends, IsOwn, bare}
+use Rattle.laws_time.proofs.OfCircuit.Under.{EndOk}
+use Rattle.laws_time.specs.circuit.Clocked.{TimedEndpoint, first, flags, endpoint}
+use Rattle.laws_time.specs.circuit.LongEnough.{is_of}
+
+-- An assignment orders nothing.
+assigned-none : (c : Config) (tei : ℕ) (l : Line) → orders_in (line_answer c (line.request (Assign tei)) l) ≡ []
+unfolding line_answer tei_course tei_refusal
+assigned-none c tei l = grind arith
+
+assign-orders : (number tei : ℕ) (card : Card) → orders_in (machine.answer (at number (line.request (Assign tei))) card) ≡ []
+assign-orders number tei card = go (wants_room (at number (line.request (Assign tei))) card)
+  where
+    go : (b : Bool) → orders_in (cond b (line.refused PoolFull) (line_answer card.config (line.request (Assign tei)) (line_at number card))) ≡ []
+    go true = refl
+    go false = assigned-none card.config tei (line_at number card)
+
+none-given : (first : List ℕ) (value : ℕ) (more : List ℕ) → [] ≡ first ++ value ∷ more → ⊥
+none-given [] value more is = cc is
+none-given (x ∷ first) value more is = cc is
+
+none-put : (front : List Item) (i : Item) → [] ≡ front ++ i ∷ [] → ⊥
+none-put [] i is = cc is
+none-put (x ∷ front) i is = cc is
+
+-- A port that gave nothing, and has nothing to give.
+pub sends-none : (n201 : ℕ) (kind : List ℕ → Bool) (most : ℕ) (p : Port) → p ≡ fresh_port → Sends n201 kind most p []
+sends-none n201 kind most p is = subst (λ p. Sends n201 kind most p []) (sym is) (record {
+  done = λ first value more o given gains kind_is. absurd (none-given first value more given);
+  last = λ front o put kind_is. absurd (none-put front (Rattle.model_bits.specs.Sent.frame o) put);
+  wait = none-wait n201 kind most (text_length fresh_port.items);
+})
+
+module _ (c : Config) (service : Service) (tei number way : ℕ) (ranged : IsInRange c) (within : number < c.lines) (few : tei ≤ 126) (lengths : Lengths) (in_range : AreInRange lengths) (rate : ℕ) where
+  abbrev start : OctetEndpoint
+  start = record (octet_endpoint c number) { way = flags way }
+
+  abbrev begun : OctetEndpoint
+  begun = circuit.happens (port.request (Assign tei)) (record (octet_endpoint c number) { way = flags way })
+
+  abbrev end : TimedEndpoint
+  end = endpoint c number lengths way tei
+
+  ran-start : Ran c (record (octet_endpoint c number) { way = flags way })
+  unfolding after_all meant_all frame_moments
+  ran-start = record { within = within; events = []; at_lines = All-nil (IsAtLine (fresh c)); is = refl; exact = All-nil GivesOctets }
+
+  port-is : port_of (circuit.happens (port.request (Assign tei)) (record (octet_endpoint c number) { way = flags way })) ≡ fresh_port
+  port-is = port-after start (port.request (Assign tei)) (within-ports c ranged start ran-start) ∙ fresh_at c number within
+
+  none-ordered : octet_orders (answered (port.request (Assign tei)) start) ≡ []
+  none-ordered = orders-are (octet_at number (port.request (Assign tei))) start.card (Some (line.request (Assign tei))) refl ∙ assign-orders number tei start.card.card
+
+  abbrev ends : Ends c service tei 0 ranged (circuit.happens (port.request (Assign tei)) (record (octet_endpoint c number) { way = flags way }))
+  ends = record {
+    ran = goes-on c start (port.request (Assign tei)) (All-nil (λ octet. octet < 256)) ran-start;
+    its = fresh_link;
+    stands = subst (λ s. StationStands c service tei 0 s (bare c service tei 0 ranged fresh_link)) (sym (asked-as (Assign tei) start [])) (answers service tei c ranged few number within).stands;
+    frames = subst (λ (p : Port). All (IsOwn c service tei 0 ranged) (frames_among p.items)) (sym port-is) (All-nil (IsOwn c service tei 0 ranged));
+    octets = subst (λ (p : Port). All AreOctets (frames_among p.items)) (sym port-is) (All-nil AreOctets);
+  }
+
+  pub end-begins : (M : ℕ) → EndOk c service tei 0 ranged lengths rate 0 M (endpoint c number lengths way tei)
+  end-begins M = record {
+    but = record {
+      ends = ends;
+      clock = stands-on (port.request (Assign tei)) (first c number lengths way) (record { within = within; ranged = in_range; in_order = tt; here = tt; timely = tt });
+      ours = ours-obeyed service tei number (stopped lengths) (octet_orders (answered (port.request (Assign tei)) start)) (subst (AreOurs service tei) (sym none-ordered) tt) tt;
+      lengths_are = lengths-stay number (stopped lengths) (octet_orders (answered (port.request (Assign tei)) start));
+      early = omega arith;
+      polls = sends-none c.n201 (is_of asks c) (0 + half c service tei 0 ranged) (port_of begun) port-is;
+      finals = sends-none c.n201 (is_of is_final c) M (port_of begun) port-is;
+    };
+    timer = λ m waits at_m. absurd (true≢false (sym waits));
+  }
+
+  pub counts-begin : Counts service tei way lengths rate c ranged 0 (endpoint c number lengths way tei)
+  counts-begin = record {
+    given = ap (λ (p : Port). length p.given) port-is;
+    received = ap (λ (p : Port). length p.received) port-is;
+    way = ap length (asked-way (Assign tei) start) ∙ length-replicate way 0x7E;
+  }

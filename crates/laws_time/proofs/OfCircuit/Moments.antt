@@ -1,0 +1,100 @@
+-- When T200 falls due in a state that awaits an answer: as long after the command as it runs.
+use Rattle.std.proofs.Common.{arith, ◌≡◌, ℕ, ◌+◌, ◌<◌, ◌≤◌, ◌==◌, ◌&&◌, ◌||◌, not, Bool, true, false, cond, List, [], ◌∷◌, Some, None, refl, sym, ap, ◌∙◌, eqb-true, eq-eqb}
+use Rattle.std.specs.Prelude.{nat_lt, fold}
+use Rattle.std.proofs.lemmas.Bool.{le-ltb}
+use Rattle.lapd_clock.specs.Moments.{moment_of}
+use Rattle.lapd_frame.specs.declared.services.Service.{Service}
+use Rattle.lapd_frame.specs.declared.timers.Timer.{Timer}
+use Rattle.lapd_frame.specs.declared.timers.Timer.TheVariants as timers
+use Rattle.model_link.specs.declared.timers.LinkTimer.TheVariants.{T200}
+use Rattle.model_line.specs.Event as line
+use Rattle.model_line.specs.Event.{expiry, hears, request, next, Answer}
+use Rattle.model_line.specs.Laws.{orders_in}
+use Rattle.model_line.specs.Sound.{IsInRange}
+use Rattle.model_line.specs.declared.config.Config.{Config}
+use Rattle.model_card.specs.Card as cards
+use Rattle.model_card.specs.Card.{Card, line_at, state}
+use Rattle.model_card.specs.Event.{Event}
+use Rattle.model_card.specs.Run.{AreAtLines}
+use Rattle.model_timed.specs.Clock.{Clock, obeyed}
+use Rattle.laws_trace.specs.Observer.{Observed, view_of, view_behind, moment_of as moment_at, by_event, enters, awaits, by_frame_begun}
+use Rattle.laws_trace.specs.Trace.{is_own, frame_in}
+use Rattle.laws_trace.specs.TimersAreTimely.{is_anew, runs, renews}
+use Rattle.laws_trace.specs.News.{brings}
+use Rattle.laws_time.proofs.Ordered.{moment-left}
+
+abbrev pub is_waiting : ℕ → Bool
+is_waiting n = n == 5 || (n == 6 || n == 8)
+
+pub awaits-in : (o : Observed) → is_waiting o.state ≡ true → awaits o ≡ true
+awaits-in o is = grind arith
+
+not-7 : (n : ℕ) → is_waiting n ≡ true → (n == 7) ≡ false
+not-7 n is = grind (arith, eqb-true)
+
+abbrev is_own_t200 : Service → ℕ → line.Event → Bool
+is_own_t200 service tei (expiry (timers.T200 of by)) = is_own service tei of by
+is_own_t200 service tei other = false
+
+one-count : (c : Config) (service : Service) (tei : ℕ) (o : Observed) (f : List ℕ) → (by_frame_begun c service tei o f).expiries ≡ o.expiries
+one-count c service tei o f = grind arith
+
+begun-count : (c : Config) (service : Service) (tei : ℕ) (fs : List (List ℕ)) (o : Observed) → (fold (by_frame_begun c service tei) o fs).expiries ≤ o.expiries
+begun-count c service tei [] o = omega arith
+begun-count c service tei (f ∷ fs) o = omega (arith, begun-count c service tei fs (by_frame_begun c service tei o f), one-count c service tei o f)
+
+-- T200 alone counts expiries.
+pub counts-on : (c : Config) (service : Service) (tei : ℕ) (what : line.Event) (a : Answer) (o : Observed) → is_own_t200 service tei what ≡ false → (by_event c service tei what a o).expiries ≤ o.expiries
+counts-on c service tei (hears e) a o other = grind arith
+counts-on c service tei (request r) a o other = grind arith
+counts-on c service tei (expiry timer) a o other = grind arith
+counts-on c service tei next a o other = begun-count c service tei (frame_in a) o
+
+-- An event of the line, of a card that began, after these events.
+module _ (c : Config) (events : List Event) (number : ℕ) (ranged : IsInRange c) (all : AreAtLines (cards.fresh c) events) (within : number < c.lines) (service : Service) (tei : ℕ) (what : line.Event) (k : Clock) where
+  abbrev o : Observed
+  o = (view_of c service tei number events).link
+
+  abbrev q : Observed
+  q = (view_behind c service tei number events what).link
+
+  abbrev ordered : Clock
+  ordered = obeyed number (orders_in (moment_at c events number what).answer) k
+
+  abbrev its : Timer
+  its = timers.T200 service tei
+
+  abbrev is : Bool
+  is = runs T200 o && not (runs T200 q)
+
+  -- the link comes to await an answer, or awaits another one
+  pub starts-anew : is_waiting q.state ≡ true → is_anew c service tei T200 o q what ≡ true → moment_of number its ordered.running ≡ Some (k.now + k.lengths.t200)
+  starts-anew waits anew =
+      moment-left c events number ranged all within service tei what k T200
+      ∙ ap (λ b. cond (b && (not (runs T200 o) || is_anew c service tei T200 o q what)) (Some (k.now + k.lengths.t200)) (cond (runs T200 o && not b) None (moment_of number its k.running))) (awaits-in q waits)
+      ∙ ap (λ b. cond (not (runs T200 o) || b) (Some (k.now + k.lengths.t200)) (cond (runs T200 o && false) None (moment_of number its k.running))) anew
+      ∙ or-true (runs T200 o)
+    where
+      or-true : (r : Bool) → cond (not r || true) (Some (k.now + k.lengths.t200)) (cond (r && false) None (moment_of number its k.running)) ≡ Some (k.now + k.lengths.t200)
+      or-true true = refl
+      or-true false = refl
+
+  -- it goes on to await the answer
+  pub runs-on : is_waiting o.state ≡ true → q.state ≡ o.state → is_anew c service tei T200 o q what ≡ false → moment_of number its ordered.running ≡ moment_of number its k.running
+  runs-on waits same none =
+      moment-left c events number ranged all within service tei what k T200
+      ∙ ap (λ b. cond (runs T200 q && (not b || is_anew c service tei T200 o q what)) (Some (k.now + k.lengths.t200)) (cond (b && not (runs T200 q)) None (moment_of number its k.running))) (awaits-in o waits)
+      ∙ ap (λ b. cond (runs T200 q && b) (Some (k.now + k.lengths.t200)) (cond (not (runs T200 q)) None (moment_of number its k.running))) none
+      ∙ ap (λ b. cond (b && false) (Some (k.now + k.lengths.t200)) (cond (not b) None (moment_of number its k.running))) (awaits-in q (ap is_waiting same ∙ waits))
+
+  pub not-anew : is_waiting o.state ≡ true → q.state ≡ o.state → q.expiries ≤ o.expiries → is_anew c service tei T200 o q what ≡ false
+  not-anew waits same few = both-false (enters o q) (o.state == 7) (brings (renews T200 o.acknowledged o.busy) c service tei what) enters-not (not-7 o.state waits)
+    where
+      both-false : (a b d : Bool) → a ≡ false → b ≡ false → (a || (b && d)) ≡ false
+      both-false a b d x y = grind arith
+
+      none-less : (a : Bool) (m n : ℕ) → a ≡ true → n ≤ m → (not a || nat_lt m n) ≡ false
+      none-less a m n x less = grind (arith, le-ltb)
+
+      enters-not : enters o q ≡ false
+      enters-not = none-less (o.state == q.state) o.expiries q.expiries (eq-eqb o.state q.state (sym same)) few

@@ -1,0 +1,196 @@
+-- What is under way from an end, and until when T200 runs there: after each event.
+use Rattle.std.proofs.Common.{arith, ◌≡◌, ℕ, ◌+◌, ◌*◌, ◌/◌, ◌≤◌, ◌||◌, Bool, true, false, List, [], ◌∷◌, ◌++◌, length, map, take, Ok, refl, sym, ap, ◌∙◌, subst, All, inl, inr, length-append}
+use Rattle.std.proofs.lemmas.Bool.{true≢false}
+use Rattle.std.proofs.lemmas.List.{length-map, map-append}
+use Rattle.std.proofs.lemmas.List.Elements.{All-head, All-tail}
+use Rattle.std.specs.List.{AllByRecursion, list_any}
+use Rattle.lapd_frame.specs.declared.controls.Control.{Control}
+use Rattle.lapd_frame.specs.declared.services.Service.{Service}
+use Rattle.lapd_frame.specs.Grammar.{Parts, spelling}
+use Rattle.lapd_frame.specs.Reading.{reading}
+use Rattle.lapd_frame.proofs.Spelling.{reading-again}
+use Rattle.model_bits.proofs.BitLemmas.{length-bits}
+use Rattle.model_bits.proofs.Division.Unique.{length-check}
+use Rattle.model_bits.specs.Bits.{bits}
+use Rattle.model_bits.specs.Sent.{Item, frame, item_text}
+use Rattle.model_bits.specs.Stuffing.{stuffed}
+use Rattle.model_link.specs.declared.frames.ControlFrame.{ControlFrame}
+use Rattle.model_link.specs.declared.states.State.{State}
+use Rattle.model_link.specs.declared.states.State.TheVariants.{TeiAssigned, AwaitingEstablishment, AwaitingRelease, Established, TimerRecovery}
+use Rattle.model_link.specs.declared.terms.Terms.{Terms}
+use Rattle.model_link.specs.Events as link
+use Rattle.model_link.specs.Events.{Event as LinkEvent, received, requested, expired, offer, cleared}
+use Rattle.model_link.specs.Link.{Link, frame_of, state_number}
+use Rattle.model_link.specs.Machine as links
+use Rattle.model_link.specs.Sound.{IsSound as LinkIsSound, IsWaitingFrame}
+use Rattle.model_line.specs.Line.{terms}
+use Rattle.model_line.specs.Sound.{IsInRange}
+use Rattle.model_line.specs.declared.config.Config.{Config}
+use Rattle.model_card.specs.ports.Port.{Port, left_of}
+use Rattle.model_card.specs.ports.Pulls.{longest_text}
+use Rattle.laws_link.specs.States.{as_heard}
+use Rattle.laws_link.specs.Waiting.{commands, put, room, is_time, command_in, answers}
+use Rattle.laws_link.proofs.Follows.{event-follows}
+use Rattle.laws_wire.specs.Facing.{parts_of}
+use Rattle.laws_wire.specs.Timely.{is_final}
+use Rattle.laws_wire.proofs.Standing.{StationStands, link-sound}
+use Rattle.laws_order.specs.circuit.Circuit.{Endpoint as OctetEndpoint, port_of}
+use Rattle.laws_order.proofs.OfCircuit.AsFrames.{as_station}
+use Rattle.laws_order.proofs.OfCircuit.Ran.{few-left}
+use Rattle.laws_time.specs.circuit.LongEnough.{is_of, is_waiting}
+use Rattle.laws_time.proofs.OfCircuit.Kinds.{asks}
+use Rattle.laws_time.proofs.OfCircuit.Sender.{Sends, IsIn, text_length, wait-more, sends-with, sends-on, Takes}
+unfoldable use Rattle.laws_time.proofs.OfCircuit.Sender.{WaitIn}
+use Rattle.laws_time.proofs.OfCircuit.Standing.{Ends, Pulled, pulls, bare, fine}
+use Rattle.laws_time.proofs.OfCircuit.Taken.{text, Took}
+
+-- A control frame takes at most 72 bits.
+stuffed-longest : (b : List Bool) → 5 * length (stuffed b) ≤ 6 * length b
+stuffed-longest [] = omega arith
+stuffed-longest (true ∷ true ∷ true ∷ true ∷ true ∷ b) = let more = stuffed-longest b in omega (arith, more)
+stuffed-longest (x ∷ b) = let more = stuffed-longest b in omega (arith, more)
+
+short-text : (octets : List ℕ) → length octets ≤ 4 → length (item_text (frame octets)) ≤ 72
+short-text octets few = grind (arith, stuffed-longest, length-append, length-bits, length-check)
+
+-- A state that awaits nothing puts no command.
+pub no-command : (e : LinkEvent) (l : Link) (to : State) → is_waiting (state_number to) ≡ false → commands e l to ≡ []
+no-command e l TeiAssigned none = grind arith
+no-command e l Established none = grind arith
+no-command e l AwaitingEstablishment none = cc none
+no-command e l AwaitingRelease none = cc none
+no-command e l TimerRecovery none = cc none
+
+abbrev pub IsOrdinary : LinkEvent → Type 0
+IsOrdinary offer = ⊥
+IsOrdinary cleared = ⊥
+IsOrdinary other = Unit {0}
+
+module _ (c : Config) (service : Service) (tei place : ℕ) (ranged : IsInRange c) where
+  abbrev t : Terms
+  t = terms c service tei
+
+  abbrev pub ring : Link → List (List ℕ)
+  ring l = map (text c service tei) l.waiting
+
+  abbrev pub half : ℕ
+  half = longest_text c.n201 / 8 + 9 * c.control
+
+  -- What is put by an event comes at the end.
+  pub waiting-then : (e : LinkEvent) (l : Link) → IsOrdinary e
+      → (links.after (terms c service tei) e l).waiting ≡ l.waiting ++ take (room (terms c service tei) l) (put (as_heard (terms c service tei) e) l (links.after (terms c service tei) e l).state)
+  waiting-then (received r) l ordinary = (event-follows (terms c service tei) (received r) l).leaves.waiting ∙ by r
+    where
+      by : (r : link.Received) → Rattle.laws_link.specs.Waiting.waiting_left (terms c service tei) (as_heard (terms c service tei) (received r)) l (links.after (terms c service tei) (received r) l).state
+          ≡ l.waiting ++ take (room (terms c service tei) l) (put (as_heard (terms c service tei) (received r)) l (links.after (terms c service tei) (received r) l).state)
+      by (link.frame f) = refl
+      by link.undefined = refl
+      by link.wrong_size = refl
+      by link.overlong = refl
+  waiting-then (requested r full) l ordinary = (event-follows (terms c service tei) (requested r full) l).leaves.waiting
+  waiting-then (expired timer) l ordinary = (event-follows (terms c service tei) (expired timer) l).leaves.waiting
+  waiting-then offer l ordinary = absurd ordinary
+  waiting-then cleared l ordinary = absurd ordinary
+
+  -- A frame that waits is read as it is.
+  module _ (kind : Bool → Control → Bool) where
+    abbrev pub its_kind : List ℕ → Bool
+    its_kind = is_of kind c
+
+    pub text-kind : (f : ControlFrame) → IsWaitingFrame (terms c service tei) f → is_of kind c (text c service tei f) ≡ kind f.command f.control
+    text-kind f w =
+        ap (λ r. list_any (λ (f : Parts). kind f.address.command f.control) (parts_of r))
+        (reading-again c.side (frame_of (terms c service tei) f) (text c service tei f) (record { is_frame = w.is_frame; octets_are = refl }))
+        ∙ or-false (kind f.command f.control)
+      where
+        or-false : (b : Bool) → (b || false) ≡ b
+        or-false true = refl
+        or-false false = refl
+
+    abbrev IsNotOf : ControlFrame → Type 0
+    IsNotOf f = kind f.command f.control ≡ false
+
+    none-in : (fs : List ControlFrame) → All (IsWaitingFrame (terms c service tei)) fs → AllByRecursion IsNotOf fs → (o : List ℕ) → IsIn o (map (text c service tei) fs) → is_of kind c o ≡ true → ⊥
+    none-in [] all none o has is = absurd has
+    none-in (f ∷ fs) all none o (inl same) is =
+        true≢false (sym is ∙ ap (is_of kind c) (sym same) ∙ text-kind f (All-head (IsWaitingFrame (terms c service tei)) f fs all) ∙ none.0)
+    none-in (f ∷ fs) all none o (inr has) is = none-in fs (All-tail (IsWaitingFrame (terms c service tei)) f fs all) none.1 o has is
+
+    -- An end puts control frames: of the kind none, or it may do so by now.
+    module _ (s u : OctetEndpoint) (h : Ends c service tei place ranged s) (k : Ends c service tei place ranged u) (most : ℕ)
+        (items : (port_of u).items ≡ (port_of s).items) (given : (port_of u).given ≡ (port_of s).given) (puts : List ControlFrame) (more : k.its.waiting ≡ h.its.waiting ++ puts) where
+      sound : LinkIsSound (terms c service tei) k.its
+      sound = link-sound service tei place (as_station [] u) (bare c service tei place ranged k.its)
+          (subst (λ d. StationStands d service tei place (as_station [] u) (bare c service tei place ranged k.its)) (sym k.stands.config) k.stands)
+
+      all-puts : (xs ys : List ControlFrame) → All (IsWaitingFrame (terms c service tei)) (xs ++ ys) → All (IsWaitingFrame (terms c service tei)) ys
+      all-puts [] ys all = all
+      all-puts (x ∷ xs) ys all = all-puts xs ys (All-tail (IsWaitingFrame (terms c service tei)) x (xs ++ ys) all)
+
+      frames : All (IsWaitingFrame (terms c service tei)) puts
+      frames = all-puts h.its.waiting puts (subst (All (IsWaitingFrame (terms c service tei))) more sound.frames)
+
+      ring-is : ring k.its ≡ ring h.its ++ map (text c service tei) puts
+      ring-is = ap (map (text c service tei)) more ∙ map-append (text c service tei) h.its.waiting puts
+
+      fits : length h.its.waiting + length puts ≤ c.control
+      fits = let all = ap length more ∙ length-append h.its.waiting puts in let few = sound.ring in omega (arith, all, few)
+
+      lengths : (length (ring h.its) ≡ length h.its.waiting) × (length (map (text c service tei) puts) ≡ length puts)
+      lengths = (length-map h.its.waiting (text c service tei), length-map puts (text c service tei))
+
+      text-short : text_length (port_of s).items ≤ 8 * length (port_of s).given + longest_text c.n201
+      text-short =
+          let p = port_of s in let all = ap length (fine c service tei place ranged s h).sound.text.text ∙ length-append (bits p.given) (left_of p) in
+          let few = few-left c ranged s h.ran in omega (arith, all, length-bits p.given, few)
+
+      pub puts-none : AllByRecursion IsNotOf puts → Sends c.n201 (is_of kind c) most (port_of s) (ring h.its) → Sends c.n201 (is_of kind c) most (port_of u) (ring k.its)
+      puts-none none s_ok =
+          sends-with c.n201 (is_of kind c) most (port_of s) (port_of u) (ring h.its) (ring k.its) items given
+          (subst (WaitIn c.n201 (is_of kind c) most (text_length (port_of s).items)) (sym ring-is)
+          (wait-more c.n201 (is_of kind c) most (text_length (port_of s).items) (ring h.its) (map (text c service tei) puts) s_ok.wait
+          (λ o has is. absurd (none-in puts frames none o has is)))) s_ok
+
+      pub puts-by-now : length (port_of s).given + half ≤ most → Sends c.n201 (is_of kind c) most (port_of s) (ring h.its) → Sends c.n201 (is_of kind c) most (port_of u) (ring k.its)
+      puts-by-now soon s_ok =
+          let few = lengths in let room_left = fits in let short = text-short in
+          sends-with c.n201 (is_of kind c) most (port_of s) (port_of u) (ring h.its) (ring k.its) items given
+          (subst (WaitIn c.n201 (is_of kind c) most (text_length (port_of s).items)) (sym ring-is)
+          (wait-more c.n201 (is_of kind c) most (text_length (port_of s).items) (ring h.its) (map (text c service tei) puts) s_ok.wait
+          (λ o has is. omega (arith, few.0, few.1, room_left, short, soon)))) s_ok
+
+    -- A pull.
+    module _ (plain : (p : Parts) → (asks p.address.command p.control ≡ false) × (is_final p.address.command p.control ≡ false) → kind p.address.command p.control ≡ false)
+        (s : OctetEndpoint) (h : Ends c service tei place ranged s) (most : ℕ) where
+      abbrev x : Pulled c service tei place ranged s h
+      x = pulls c service tei place ranged s h
+
+      abbrev u : OctetEndpoint
+      u = Rattle.laws_order.specs.circuit.Circuit.happens Rattle.model_card.specs.ports.Port.pull s
+
+      waits : LinkIsSound (terms c service tei) h.its
+      waits = link-sound service tei place (as_station [] s) (bare c service tei place ranged h.its)
+          (subst (λ d. StationStands d service tei place (as_station [] s) (bare c service tei place ranged h.its)) (sym h.stands.config) h.stands)
+
+      takes : (new : List Item) (ws now : List ControlFrame) → All (IsWaitingFrame (terms c service tei)) ws → Took c service tei new ws now
+          → Takes c.n201 (is_of kind c) most new (map (text c service tei) ws) (map (text c service tei) now)
+      takes new ws now all (inl y) = inl (y.0, ap (map (text c service tei)) y.1)
+      takes new ws now all (inr (inl y)) =
+          let w = All-head (IsWaitingFrame (terms c service tei)) y.0 now (subst (All (IsWaitingFrame (terms c service tei))) y.2 all) in
+          inr (inl (text c service tei y.0, y.1, ap (map (text c service tei)) y.2, short-text (text c service tei y.0) w.octets))
+      takes new ws now all (inr (inr y)) =
+          inr (inr (ap (map (text c service tei)) y.0, λ o put. by-parts o (y.1 o put)))
+        where
+          or-false : (b : Bool) → (b || false) ≡ b
+          or-false true = refl
+          or-false false = refl
+
+          by-parts : (o : List ℕ) → (p : Parts) × (o ≡ spelling c.side p) × (reading c.side o ≡ Ok p) × ((asks p.address.command p.control ≡ false) × (is_final p.address.command p.control ≡ false)) → is_of kind c o ≡ false
+          by-parts o z =
+              ap (λ r. list_any (λ (f : Parts). kind f.address.command f.control) (parts_of r)) z.2
+              ∙ or-false (kind z.0.address.command z.0.control) ∙ plain z.0 z.3
+
+      pub pulled-on : Sends c.n201 (is_of kind c) most (port_of s) (ring h.its) → Sends c.n201 (is_of kind c) most (port_of u) (ring x.ends.its)
+      pulled-on ok =
+          sends-on c.n201 (is_of kind c) most (port_of s) (port_of u) x.new x.value (ring h.its) (ring x.ends.its) (fine c service tei place ranged s h)
+          (fine c service tei place ranged u x.ends) x.gave (takes x.new h.its.waiting x.ends.its.waiting waits.frames x.took) ok

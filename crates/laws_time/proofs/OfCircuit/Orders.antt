@@ -1,0 +1,153 @@
+-- All that is ordered at an end is of its link's timers.
+use Rattle.std.proofs.Common.{◌≡◌, ℕ, ◌&&◌, not, Bool, true, false, cond, List, [], ◌∷◌, ◌++◌, Option, Some, None, Ok, option_map, refl, sym, ap, ◌∙◌, subst}
+use Rattle.std.specs.List.{AllByRecursion}
+use Rattle.lapd_clock.specs.Timer.{Order, Start, Stop, duration}
+use Rattle.lapd_clock.specs.Timers.{Expiry, is_before, is_of, without}
+use Rattle.lapd_clock.proofs.Ordered.{All-filter, All-put_in_order}
+use Rattle.lapd_frame.specs.declared.refusals.Refusal.{Refusal}
+use Rattle.lapd_frame.specs.declared.refusals.Refusal.TheVariants.{PoolFull}
+use Rattle.lapd_frame.specs.declared.services.Service.{Service}
+use Rattle.lapd_frame.specs.declared.timers.Timer.{Timer}
+use Rattle.lapd_frame.specs.Grammar.{Parts}
+use Rattle.lapd_frame.specs.Reading.{reading}
+use Rattle.lapd_frame.specs.Services.{sapi_of}
+use Rattle.model_bits.specs.Stream as stream
+use Rattle.model_link.specs.declared.terms.Terms.{Terms}
+use Rattle.model_link.specs.declared.timers.LinkTimer.{LinkTimer}
+use Rattle.model_link.specs.declared.timers.LinkTimer.TheVariants.{T200, T203}
+use Rattle.model_link.specs.Events as link
+use Rattle.model_link.specs.Link.{Link}
+use Rattle.model_link.specs.Machine as links
+use Rattle.model_link.specs.Steps.{Course, Sent}
+use Rattle.model_link.specs.Told.{orders_for, order_for, runs}
+use Rattle.model_line.specs.Came.{came}
+use Rattle.model_line.specs.Effect.{told_of_link}
+use Rattle.model_line.specs.Event as line
+use Rattle.model_line.specs.Event.{Answer}
+use Rattle.model_line.specs.Expiry.{aim_of_expiry, at_timer}
+use Rattle.model_line.specs.Heard.{heard_side}
+use Rattle.model_line.specs.Laws.{orders_in}
+use Rattle.model_line.specs.Line.{Line, terms, place_in, link_number}
+unfoldable use Rattle.model_line.specs.Machine.{answer as line_answer, takes_slot}
+use Rattle.model_line.specs.Machine.{of_request, unless_refused_told}
+use Rattle.model_line.specs.Refusal.{refusal}
+use Rattle.model_line.specs.Request.{Request}
+use Rattle.model_line.specs.Requested.{aim_of_request, at_requested}
+use Rattle.model_line.specs.Sound.{IsSound}
+use Rattle.model_line.specs.Taken.{next_of, with_given_frame}
+use Rattle.model_line.specs.declared.config.Config.{Config}
+use Rattle.model_card.specs.Card.{Card, line_at}
+use Rattle.model_card.specs.Event.{at}
+use Rattle.model_card.specs.Machine as machine
+use Rattle.model_card.specs.Machine.{wants_room}
+use Rattle.model_timed.specs.Clock.{Clock, obey, obeyed, expiry_of}
+use Rattle.laws_trace.proofs.LinkLed.{own-is}
+use Rattle.laws_trace.specs.TimersAreTimely.{is_order_of, is_timer_of}
+use Rattle.laws_wire.proofs.LineSpeaks.{Speaks, comes-told, asks-told, expires-told, takes-own}
+
+module _ (service : Service) (tei : ℕ) where
+  abbrev pub IsOurs : Order → Type 0
+  IsOurs o = is_order_of service tei o ≡ true
+
+  abbrev pub AreOurs : List Order → Type 0
+  AreOurs os = AllByRecursion IsOurs os
+
+  abbrev pub RunsOurs : Expiry → Type 0
+  RunsOurs x = is_timer_of service tei x.timer ≡ true
+
+  -- So only these run.
+  pub ours-obeyed : (number : ℕ) (k : Clock) (orders : List Order) → AreOurs orders → AllByRecursion RunsOurs k.running → AllByRecursion RunsOurs (obeyed number orders k).running
+  ours-obeyed number k [] own all = all
+  ours-obeyed number k (Start timer ∷ orders) own all =
+      ours-obeyed number (obey number k (Start timer)) orders own.1
+      (All-put_in_order is_before RunsOurs (expiry_of number timer k) (without number timer k.running) own.0 (All-filter RunsOurs (λ e. not (is_of number timer e)) k.running all))
+  ours-obeyed number k (Stop timer ∷ orders) own all =
+      ours-obeyed number (obey number k (Stop timer)) orders own.1 (All-filter RunsOurs (λ e. not (is_of number timer e)) k.running all)
+
+  module _ (c : Config) where
+    abbrev t : Terms
+    t = terms c service tei
+
+    both : (xs ys : List Order) → AreOurs xs → AreOurs ys → AreOurs (xs ++ ys)
+    both [] ys h g = g
+    both (x ∷ xs) ys h g = (h.0, both xs ys h.1 g)
+
+    one-timer : (timer : LinkTimer) (a b d : Option LinkTimer) → AreOurs (order_for (terms c service tei) timer a b d)
+    one-timer T200 a b d = go (runs T200 b && runs T200 d) (runs T200 a && not (runs T200 d))
+      where
+        its : Timer
+        its = Rattle.lapd_clock.specs.Timer.T200 service tei
+
+        go : (s e : Bool) → AreOurs (cond s (Start (Rattle.lapd_clock.specs.Timer.T200 service tei) ∷ []) (cond e (Stop (Rattle.lapd_clock.specs.Timer.T200 service tei) ∷ []) []))
+        go true e = (own-is service tei, tt)
+        go false true = (own-is service tei, tt)
+        go false false = tt
+    one-timer T203 a b d = go (runs T203 b && runs T203 d) (runs T203 a && not (runs T203 d))
+      where
+        go : (s e : Bool) → AreOurs (cond s (Start (Rattle.lapd_clock.specs.Timer.T203 service tei) ∷ []) (cond e (Stop (Rattle.lapd_clock.specs.Timer.T203 service tei) ∷ []) []))
+        go true e = (own-is service tei, tt)
+        go false true = (own-is service tei, tt)
+        go false false = tt
+
+    its-orders : (a b d : Option LinkTimer) → AreOurs (orders_for (terms c service tei) a b d)
+    its-orders a b d = both (order_for (terms c service tei) T200 a b d) (order_for (terms c service tei) T203 a b d) (one-timer T200 a b d) (one-timer T203 a b d)
+
+    told-ours : (e : link.Event) (x : Link) → AreOurs (orders_in (line.told (told_of_link (links.told (terms c service tei) e x))))
+    told-ours e x = let y = links.course (terms c service tei) e x in its-orders x.running y.started y.link.running
+
+    -- What is ordered by each event of the line.
+    module _ (place number : ℕ) (card : Card) (config : card.config ≡ c) (x : Link) (sound : IsSound card.config (line_at number card)) (h : Speaks card.config service tei place x (line_at number card)) where
+      abbrev l : Line
+      l = line_at number card
+
+      abbrev Ordered : line.Event → Type 0
+      Ordered what = AreOurs (orders_in (machine.answer (at number what) card))
+
+      told-so : (e : link.Event) (a : Answer) → a ≡ line.told (told_of_link (links.told (terms card.config service tei) e x)) → AreOurs (orders_in a)
+      told-so e a is = subst (λ a. AreOurs (orders_in a)) (sym is) (subst (λ (k : Config). AreOurs (orders_in (line.told (told_of_link (links.told (terms k service tei) e x))))) (sym config) (told-ours e x))
+
+      pub expiry-ours : (timer : Timer) (its : LinkTimer) → ((l : Line) → aim_of_expiry timer l ≡ at_timer service tei its (place_in l tei)) → Ordered (line.expiry timer)
+      unfolding takes_slot
+      expiry-ours timer its aims =
+          told-so (link.expired its) (line_answer card.config (line.expiry timer) (line_at number card)) (expires-told card.config service tei place (line_at number card) sound x h timer its (aims (line_at number card)))
+
+      pub heard-ours : (f : Parts) (octets : List ℕ) → came card.config.n201 octets ≡ stream.frame octets → reading (heard_side card.config) octets ≡ Ok f → f.address.sapi ≡ sapi_of service → f.address.tei ≡ tei
+          → Ordered (line.hears (stream.frame octets))
+      unfolding takes_slot
+      heard-ours f octets whole read sapi by =
+          told-so (link.received (link.frame f)) (line_answer card.config (line.hears (stream.frame octets)) (line_at number card))
+          (ap (λ e. line_answer card.config (line.hears e) (line_at number card)) (sym whole) ∙ comes-told card.config service tei place (line_at number card) sound x h f octets whole read sapi by)
+
+      pub dropped-ours : (cause : _) → Ordered (line.hears (stream.dropped cause))
+      unfolding takes_slot line_answer
+      dropped-ours cause = tt
+
+      pub asked-ours : (r : Request) (asked : link.Request) → ((l : Line) → aim_of_request r l ≡ at_requested service tei asked (place_in l tei)) → Ordered (line.request r)
+      unfolding line_answer
+      asked-ours r asked aims = by-room (wants_room (at number (line.request r)) card) refl
+        where
+          in-line : (o : Option Refusal) → refusal card.config false r (line_at number card) ≡ o → AreOurs (orders_in (line_answer card.config (line.request r) (line_at number card)))
+          in-line (Some why) is = subst (λ o. AreOurs (orders_in (unless_refused_told o (of_request card.config r (line_at number card))))) (sym is) tt
+          in-line None is =
+              told-so (link.requested asked false) (line_answer card.config (line.request r) (line_at number card))
+              (asks-told card.config service tei place (line_at number card) sound x h r asked (aims (line_at number card)) is)
+
+          by-room : (b : Bool) → wants_room (at number (line.request r)) card ≡ b → AreOurs (orders_in (machine.answer (at number (line.request r)) card))
+          by-room true is = subst (λ b. AreOurs (orders_in (cond b (line.refused PoolFull) (line_answer card.config (line.request r) (line_at number card))))) (sym is) tt
+          by-room false is =
+              subst (λ b. AreOurs (orders_in (cond b (line.refused PoolFull) (line_answer card.config (line.request r) (line_at number card))))) (sym is)
+              (in-line (refusal card.config false r (line_at number card)) refl)
+
+      pub next-ours : Ordered line.next
+      unfolding takes_slot line_answer
+      next-ours =
+          subst (λ o. AreOurs (orders_in (line.gave (option_map next_of o)))) (sym (takes-own card.config service tei place (line_at number card) sound x h))
+          (subst (λ (k : Config). AreOurs (orders_in (line.gave (option_map next_of (option_map (with_given_frame card.config (line_at number card) (link_number place service) (terms card.config service tei)) (links.given (terms k service tei) x)))))) (sym config)
+          (go (links.course (terms c service tei) link.offer x)))
+        where
+          by : (y : Course) (o : Option Sent) → AreOurs (orders_in (line.gave (option_map next_of (option_map (with_given_frame card.config (line_at number card) (link_number place service) (terms card.config service tei)) (links.given_of (terms c service tei) x y o)))))
+          by y None = tt
+          by y (Some sent) = its-orders x.running y.started y.link.running
+
+          go : (y : Course) → AreOurs (orders_in (line.gave (option_map next_of (option_map (with_given_frame card.config (line_at number card) (link_number place service) (terms card.config service tei)) (links.given_of (terms c service tei) x y y.sent)))))
+          go y = by y y.sent

@@ -1,0 +1,313 @@
+-- Up to which octet a port gives frames of a kind, that are on its line, or wait to be put there.
+use Rattle.std.proofs.Common.{arith, ◌≡◌, ℕ, ◌+◌, ◌*◌, ◌≤◌, Bool, true, false, List, [], ◌∷◌, ◌++◌, map, length, Some, refl, sym, ap, ◌∙◌, subst, All, ◌⊎◌, inl, inr, append-nil, append_assoc, length-append}
+use Rattle.std.specs.Prelude.{flat_map, option_to_list}
+use Rattle.std.proofs.lemmas.List.{append_cancel_left, map-append}
+use Rattle.std.proofs.lemmas.Bool.{true≢false}
+use Rattle.model_bits.proofs.BitLemmas.{length-bits}
+use Rattle.model_bits.proofs.Items.{line_text-push}
+use Rattle.model_bits.specs.Bits.{bits}
+use Rattle.model_bits.specs.Sent.{Item, idle, frame, item_text, line_text}
+use Rattle.model_bits.specs.StuffingLaws.{AreOctets}
+use Rattle.model_bits.specs.Stream.{Event, frame as stream_frame, heard_in}
+use Rattle.model_card.proofs.OfPorts.PortGoesOn.{frames_among-append}
+use Rattle.model_card.proofs.OfPorts.LastItem.{IsCut}
+use Rattle.model_card.specs.ports.Codec.{frames_among}
+use Rattle.model_card.specs.ports.GoingOut.{GoOut}
+use Rattle.model_card.specs.ports.Port.{Port, gained, left_of}
+use Rattle.model_card.specs.ports.Sound.{IsSoundPort}
+use Rattle.laws_order.proofs.Vocabulary.{IsOnItsWay, go_out, all_out, sent, same_text, heard_whole, cut_sent, frames_sent, all_exact, heard_with}
+use Rattle.laws_order.proofs.OfCircuit.OneWay.{framed}
+
+one-is : (xs : List Event) (e : Event) → [] ≡ xs ++ e ∷ [] → ⊥
+one-is [] e is = cc is
+one-is (x ∷ xs) e is = cc is
+
+last-same : (xs ys : List Event) (a b : Event) → xs ++ a ∷ [] ≡ ys ++ b ∷ [] → a ≡ b
+last-same [] [] a b is = cc is
+last-same [] (y ∷ ys) a b is = absurd (one-is ys b (cc is))
+last-same (x ∷ xs) [] a b is = absurd (one-is xs a (sym (cc is)))
+last-same (x ∷ xs) (y ∷ ys) a b is = last-same xs ys a b (cc is)
+
+same-frame : (f g : List ℕ) → stream_frame f ≡ stream_frame g → f ≡ g
+same-frame f g is = cc is
+
+abbrev pub IsIn : List ℕ → List (List ℕ) → Type 0
+IsIn o [] = ⊥
+IsIn o (x ∷ xs) = (x ≡ o) ⊎ IsIn o xs
+
+abbrev pub text_length : List Item → ℕ
+text_length items = length (line_text items)
+
+module _ (n201 : ℕ) where
+  -- A port as it stands: what it gave is a beginning of its text.
+  pub record Fine (p : Port) : Type 0 where
+    pub sound : IsSoundPort n201 p
+    pub on : IsOnItsWay p
+    pub octets : All AreOctets (frames_among p.items)
+
+  module _ (p : Port) (h : Fine p) where
+    abbrev sent_items : List Item
+    sent_items = map sent p.items
+
+    exact : frames_among (map sent p.items) ≡ frames_among p.items
+    exact = frames_sent p.items ∙ all_exact (frames_among p.items) h.octets
+
+    pub out : GoOut n201 p.given (frames_among p.items)
+    out =
+        subst (GoOut n201 p.given) exact
+        (go_out n201 sent_items p.given (left_of p) (same_text p.items ∙ h.sound.text.text) (heard_whole n201 p.items h.on.long h.sound.sizes) (cut_sent p.items p.given h.on.cut))
+
+    all-given : (front : List Item) → p.items ≡ front ++ idle ∷ [] → framed (frames_among p.items) ≡ heard_in n201 p.given
+    all-given front is =
+        subst (λ frames. framed frames ≡ heard_in n201 p.given) exact
+        (all_out n201 sent_items p.given (left_of p) (same_text p.items ∙ h.sound.text.text) (heard_whole n201 p.items h.on.long h.sound.sizes)
+        (map sent front) (ap (map sent) is ∙ map-append sent front (idle ∷ [])) (cut_sent p.items p.given h.on.cut))
+
+    -- what was given is no longer than the text
+    given-short : 8 * length p.given ≤ text_length p.items
+    given-short = let all = ap length h.sound.text.text ∙ length-append (bits p.given) (left_of p) in omega (arith, all, length-bits p.given)
+
+  -- An octet more is given, before which an item may be put on the line.
+  pub record Gave (p q : Port) (new : List Item) (value : ℕ) : Type 0 where
+    pub few : length new ≤ 1
+    pub items : q.items ≡ p.items ++ new
+    pub given : q.given ≡ p.given ++ value ∷ []
+
+  -- A frame that is heard with it is the last that was on the line, or the one that is put.
+  abbrev pub Ends : Port → List Item → List ℕ → Type 0
+  Ends p new o = ((front : List Item) × (p.items ≡ front ++ frame o ∷ [])) ⊎ (new ≡ frame o ∷ [])
+
+  module _ (p q : Port) (new : List Item) (value : ℕ) (h : Fine p) (k : Fine q) (g : Gave p q new value) (o : List ℕ) (is : gained n201 p.given value ≡ Some (stream_frame o)) where
+    abbrev H : List Event
+    H = heard_in n201 p.given
+
+    abbrev on : List (List ℕ)
+    on = (out p h).on_its_way
+
+    abbrev later : List (List ℕ)
+    later = (out q k).on_its_way
+
+    all-now : framed (frames_among q.items) ≡ H ++ (framed (out p h).on_its_way ++ framed (frames_among new))
+    all-now =
+        ap (λ items. framed (frames_among items)) g.items ∙ ap framed (frames_among-append p.items new)
+        ∙ map-append (λ octets. stream_frame octets) (frames_among p.items) (frames_among new)
+        ∙ ap (λ xs. xs ++ framed (frames_among new)) (out p h).heard ∙ append_assoc H (framed on) (framed (frames_among new))
+
+    with-it : heard_in n201 q.given ≡ H ++ stream_frame o ∷ []
+    with-it = ap (heard_in n201) g.given ∙ heard_with n201 p.given value ∙ ap (λ e. H ++ option_to_list e) is
+
+    rest-is : framed (out p h).on_its_way ++ framed (frames_among new) ≡ stream_frame o ∷ framed (out q k).on_its_way
+    rest-is =
+        append_cancel_left H (framed on ++ framed (frames_among new)) (stream_frame o ∷ framed later)
+        (sym all-now ∙ (out q k).heard ∙ ap (λ xs. xs ++ framed later) with-it ∙ append_assoc H (stream_frame o ∷ []) (framed later))
+
+    put-now : (items : List Item) → length items ≤ 1 → framed (frames_among items) ≡ stream_frame o ∷ framed (out q k).on_its_way → items ≡ frame o ∷ []
+    put-now [] few e = absurd (cc e)
+    put-now (idle ∷ []) few e = absurd (cc e)
+    put-now (frame f ∷ []) few e = ap (λ octets. frame octets ∷ []) (same-frame f o (cc e))
+    put-now (a ∷ b ∷ items) few e = absurd (omega (arith, few))
+
+    its-last : (f : List ℕ) → (out p h).on_its_way ≡ f ∷ [] → f ≡ o → IsCut p.items p.given → (front : List Item) × (p.items ≡ front ++ frame o ∷ [])
+    its-last f one same (inl none) =
+        absurd (one-is H (stream_frame f) (ap (λ items. framed (frames_among items)) (sym none) ∙ (out p h).heard ∙ ap (λ fs. H ++ framed fs) one))
+    its-last f one same (inr x) = go x.last refl
+      where
+        none-more : (xs : List Event) (f : List ℕ) → xs ≡ xs ++ stream_frame f ∷ [] → ⊥
+        none-more xs f e = let more = ap length e ∙ length-append xs (stream_frame f ∷ []) in omega (arith, more)
+
+        go : (i : Item) → x.last ≡ i → (front : List Item) × (p.items ≡ front ++ frame o ∷ [])
+        go idle e =
+            let all = all-given p h x.front (x.items_are ∙ ap (λ i. x.front ++ i ∷ []) e) in
+            absurd (none-more H f (sym all ∙ (out p h).heard ∙ ap (λ fs. H ++ framed fs) one))
+        go (frame g) e =
+            let items = x.items_are ∙ ap (λ i. x.front ++ i ∷ []) e in
+            let all = ap (λ is. framed (frames_among is)) items ∙ ap framed (frames_among-append x.front (frame g ∷ []))
+            ∙ map-append (λ octets. stream_frame octets) (frames_among x.front) (g ∷ []) in
+            let same-event = last-same (framed (frames_among x.front)) H (stream_frame g) (stream_frame f) (sym all ∙ (out p h).heard ∙ ap (λ fs. H ++ framed fs) one) in
+            (x.front, items ∙ ap (λ octets. x.front ++ frame octets ∷ []) (same-frame g f same-event ∙ same))
+
+    pub ends : Ends p new o
+    ends = go (out p h).on_its_way refl (out p h).one rest-is
+      where
+        go : (fs : List (List ℕ)) → (out p h).on_its_way ≡ fs → length fs ≤ 1 → framed fs ++ framed (frames_among new) ≡ stream_frame o ∷ framed (out q k).on_its_way → Ends p new o
+        go [] e few all = inr (put-now new g.few all)
+        go (f ∷ []) e few all = inl (its-last f e (same-frame f o (cc all)) h.on.cut)
+        go (f ∷ f2 ∷ fs) e few all = absurd (omega (arith, few))
+
+  none-item : (xs : List Item) (i : Item) → [] ≡ xs ++ i ∷ [] → ⊥
+  none-item [] i is = cc is
+  none-item (x ∷ xs) i is = cc is
+
+  last-of : (xs ys : List Item) (a b : Item) → xs ++ a ∷ [] ≡ ys ++ b ∷ [] → a ≡ b
+  last-of [] [] a b is = cc is
+  last-of [] (y ∷ ys) a b is = absurd (none-item ys b (cc is))
+  last-of (x ∷ xs) [] a b is = absurd (none-item xs a (sym (cc is)))
+  last-of (x ∷ xs) (y ∷ ys) a b is = last-of xs ys a b (cc is)
+
+  last-item : (xs ys : List Item) (a b : List ℕ) → xs ++ frame a ∷ [] ≡ ys ++ frame b ∷ [] → a ≡ b
+  last-item xs ys a b is = cc (last-of xs ys (frame a) (frame b) is)
+
+  -- Frames of a kind are given by some octet, counted from 0: those of which octets were given, the last that is on the line, and those
+  -- that wait, in this order, which take at most 72 bits each.
+  module _ (kind : List ℕ → Bool) (most : ℕ) where
+    unfoldable pub WaitIn : ℕ → List (List ℕ) → Type 0
+    WaitIn length_before [] = Unit {0}
+    WaitIn length_before (o ∷ ring) = (kind o ≡ true → length_before + 73 ≤ 8 * (most + 1)) × WaitIn (length_before + 72) ring
+
+    pub record Sends (p : Port) (ring : List (List ℕ)) : Type 0 where
+      pub done : (first : List ℕ) (value : ℕ) (more : List ℕ) (o : List ℕ) → p.given ≡ first ++ value ∷ more → gained n201 first value ≡ Some (stream_frame o) → kind o ≡ true → length first ≤ most
+      pub last : (front : List Item) (o : List ℕ) → p.items ≡ front ++ frame o ∷ [] → kind o ≡ true → text_length p.items + 1 ≤ 8 * (most + 1)
+      pub wait : WaitIn (text_length p.items) ring
+
+    pub wait-less : (a b : ℕ) (ring : List (List ℕ)) → b ≤ a → WaitIn a ring → WaitIn b ring
+    unfolding WaitIn
+    wait-less a b [] less h = tt
+    wait-less a b (o ∷ ring) less h = ((λ is. let bound = h.0 is in omega (arith, bound, less)), wait-less (a + 72) (b + 72) ring (omega (arith, less)) h.1)
+
+    first-bound : (a : ℕ) (o : List ℕ) (rest : List (List ℕ)) → WaitIn a (o ∷ rest) → kind o ≡ true → a + 73 ≤ 8 * (most + 1)
+    unfolding WaitIn
+    first-bound a o rest w is = w.0 is
+
+    rest-wait : (a : ℕ) (o : List ℕ) (rest : List (List ℕ)) → WaitIn a (o ∷ rest) → WaitIn (a + 72) rest
+    unfolding WaitIn
+    rest-wait a o rest w = w.1
+
+    pub none-wait : (a : ℕ) → WaitIn a []
+    unfolding WaitIn
+    none-wait a = tt
+
+    none-one : (o : List ℕ) → [] ≡ frame o ∷ [] → ⊥
+    none-one o e = cc e
+
+    same-item : (a b : List ℕ) → frame a ∷ [] ≡ frame b ∷ [] → a ≡ b
+    same-item a b e = cc e
+
+    -- those that are put at the end of those that wait
+    pub wait-more : (a : ℕ) (ring puts : List (List ℕ)) → WaitIn a ring
+        → ((o : List ℕ) → IsIn o puts → kind o ≡ true → a + 72 * (length ring + length puts) + 1 ≤ 8 * (most + 1)) → WaitIn a (ring ++ puts)
+    unfolding WaitIn
+    wait-more a [] [] h bound = tt
+    wait-more a [] (o ∷ puts) h bound = (
+      (λ is. let b = bound o (inl refl) is in omega (arith, b)),
+      wait-more (a + 72) [] puts tt (λ x has is. let b = bound x (inr has) is in omega (arith, b)),
+    )
+    wait-more a (o ∷ ring) puts h bound = (h.0, wait-more (a + 72) ring puts h.1 (λ x has is. let b = bound x has is in omega (arith, b)))
+
+    -- What else happens leaves the line as it is.
+    pub sends-with : (p q : Port) (ring now : List (List ℕ)) → q.items ≡ p.items → q.given ≡ p.given → WaitIn (text_length p.items) now → Sends p ring → Sends q now
+    sends-with p q ring now items given wait h = record {
+      done = λ first value more o is. h.done first value more o (sym given ∙ is);
+      last = λ front o is kind_is. subst (λ items. text_length items + 1 ≤ 8 * (most + 1)) (sym items) (h.last front o (sym items ∙ is) kind_is);
+      wait = subst (λ items. WaitIn (text_length items) now) (sym items) wait;
+    }
+
+    -- What is put on the line with an octet: nothing, what has waited longest, or, if nothing waits, no frame of the kind.
+    abbrev pub Takes : List Item → List (List ℕ) → List (List ℕ) → Type 0
+    Takes new ring now =
+        ((new ≡ []) × (now ≡ ring)) ⊎ (((o : List ℕ) × (new ≡ frame o ∷ []) × (ring ≡ o ∷ now) × (length (item_text (frame o)) ≤ 72))
+        ⊎ ((now ≡ []) × ((o : List ℕ) → new ≡ frame o ∷ [] → kind o ≡ false)))
+
+    abbrev Same : List ℕ → ℕ → List ℕ → ℕ → List ℕ → Type 0
+    Same xs v first w more = ((first ≡ xs) × (w ≡ v)) ⊎ ((rest : List ℕ) × (xs ≡ first ++ w ∷ rest))
+
+    split : (xs : List ℕ) (v : ℕ) (first : List ℕ) (w : ℕ) (more : List ℕ) → xs ++ v ∷ [] ≡ first ++ w ∷ more → Same xs v first w more
+    split [] v [] w more e = inl (refl, sym (cc e))
+    split [] v (f ∷ first) w more e = absurd (none first w more (cc e))
+      where
+        none : (first : List ℕ) (w : ℕ) (more : List ℕ) → [] ≡ first ++ w ∷ more → ⊥
+        none [] w more e = cc e
+        none (f ∷ first) w more e = cc e
+    split (x ∷ xs) v [] w more e = inr (xs, ap (λ y. y ∷ xs) (cc e))
+    split (x ∷ xs) v (f ∷ first) w more e = go (split xs v first w more (cc e)) (cc e)
+      where
+        go : Same xs v first w more → x ≡ f → Same (x ∷ xs) v (f ∷ first) w more
+        go (inl s) same = inl ((λ i. sym same i ∷ s.0 i), s.1)
+        go (inr s) same = inr (s.0, (λ i. same i ∷ s.1 i))
+
+    module _ (p q : Port) (new : List Item) (value : ℕ) (ring now : List (List ℕ)) (h : Fine p) (k : Fine q) (g : Gave p q new value) (t : Takes new ring now) (s : Sends p ring) where
+      text-more : text_length q.items ≡ text_length p.items + length (flat_map item_text new)
+      text-more = go new g.few g.items
+        where
+          go : (new : List Item) → length new ≤ 1 → q.items ≡ p.items ++ new → text_length q.items ≡ text_length p.items + length (flat_map item_text new)
+          go [] few is = let same = ap text_length (is ∙ append-nil p.items) in omega (arith, same)
+          go (i ∷ []) few is =
+              let all = ap text_length is ∙ ap length (line_text-push p.items i) ∙ length-append (line_text p.items) (item_text i) in
+              let one = ap length (append-nil (item_text i)) in omega (arith, all, one)
+          go (i ∷ j ∷ more) few is = absurd (omega (arith, few))
+
+      -- the octet that is given
+      now-done : (o : List ℕ) → gained n201 p.given value ≡ Some (stream_frame o) → kind o ≡ true → length p.given ≤ most
+      now-done o is kind_is = go (ends p q new value h k g o is)
+        where
+          short : 8 * length p.given ≤ text_length p.items
+          short = given-short p h
+
+          taken : new ≡ frame o ∷ [] → Takes new ring now → length p.given ≤ most
+          taken put (inl x) = absurd (none-one o (sym x.0 ∙ put))
+          taken put (inr (inl x)) =
+              let same : o ≡ x.0 = same-item o x.0 (sym put ∙ x.1) in
+              let bound = first-bound (text_length p.items) x.0 now (subst (WaitIn (text_length p.items)) x.2 s.wait) (ap kind (sym same) ∙ kind_is) in omega (arith, short, bound)
+          taken put (inr (inr x)) = absurd (true≢false (sym kind_is ∙ x.1 o put))
+
+          go : Ends p new o → length p.given ≤ most
+          go (inl x) = let bound = s.last x.0 o x.1 kind_is in omega (arith, short, bound)
+          go (inr put) = taken put t
+
+      pub sends-on : Sends q now
+      sends-on = record {
+        done = λ first w more o is gains kind_is. by-split first w more o (split p.given value first w more (sym g.given ∙ is)) gains kind_is;
+        last = last-now;
+        wait = wait-now t;
+      }
+        where
+          by-split : (first : List ℕ) (w : ℕ) (more : List ℕ) (o : List ℕ) → Same p.given value first w more → gained n201 first w ≡ Some (stream_frame o) → kind o ≡ true → length first ≤ most
+          by-split first w more o (inl x) gains kind_is =
+              subst (λ xs. length xs ≤ most) (sym x.0)
+              (now-done o (ap (λ v. gained n201 p.given v) (sym x.1) ∙ ap (λ xs. gained n201 xs w) (sym x.0) ∙ gains) kind_is)
+          by-split first w more o (inr x) gains kind_is = s.done first w x.0 o x.1 gains kind_is
+
+          wait-now : Takes new ring now → WaitIn (text_length q.items) now
+          wait-now (inl x) =
+              let more = text-more in
+              wait-less (text_length p.items) (text_length q.items) now (let none = ap (λ is. length (flat_map item_text is)) x.0 in omega (arith, more, none))
+              (subst (WaitIn (text_length p.items)) (sym x.1) s.wait)
+          wait-now (inr (inl x)) =
+              let more = text-more in let bound = x.3 in let all = ap (λ is. length (flat_map item_text is)) x.1 in let one = ap length (append-nil (item_text (frame x.0))) in
+              wait-less (text_length p.items + 72) (text_length q.items) now (omega (arith, more, all, one, bound))
+              (rest-wait (text_length p.items) x.0 now (subst (WaitIn (text_length p.items)) x.2 s.wait))
+          wait-now (inr (inr x)) = subst (WaitIn (text_length q.items)) (sym x.0) (none-wait (text_length q.items))
+
+          last-now : (front : List Item) (o : List ℕ) → q.items ≡ front ++ frame o ∷ [] → kind o ≡ true → text_length q.items + 1 ≤ 8 * (most + 1)
+          last-now front o is kind_is = by-new t
+            where
+              by-new : Takes new ring now → text_length q.items + 1 ≤ 8 * (most + 1)
+              by-new (inl x) =
+                  let same : q.items ≡ p.items = g.items ∙ ap (λ more. p.items ++ more) x.0 ∙ append-nil p.items in
+                  subst (λ items. text_length items + 1 ≤ 8 * (most + 1)) (sym same) (s.last front o (sym same ∙ is) kind_is)
+              by-new (inr (inl x)) =
+                  let own : x.0 ≡ o = last-item p.items front x.0 o (ap (λ more. p.items ++ more) (sym x.1) ∙ sym g.items ∙ is) in
+                  let more = text-more in let bound = x.3 in let all = ap (λ is. length (flat_map item_text is)) x.1 in let one = ap length (append-nil (item_text (frame x.0))) in
+                  let first = first-bound (text_length p.items) x.0 now (subst (WaitIn (text_length p.items)) x.2 s.wait) (ap kind own ∙ kind_is) in
+                  omega (arith, more, all, one, bound, first)
+              by-new (inr (inr x)) = by-item new g.few g.items x.1
+                where
+                  by-item : (new : List Item) → length new ≤ 1 → q.items ≡ p.items ++ new → ((o : List ℕ) → new ≡ frame o ∷ [] → kind o ≡ false) → text_length q.items + 1 ≤ 8 * (most + 1)
+                  by-item [] few items none =
+                      let same : q.items ≡ p.items = items ∙ append-nil p.items in
+                      subst (λ items. text_length items + 1 ≤ 8 * (most + 1)) (sym same) (s.last front o (sym same ∙ is) kind_is)
+                  by-item (i ∷ []) few items none = absurd (true≢false (sym kind_is ∙ none o (ap (λ i. i ∷ []) (last-of p.items front i (frame o) (sym items ∙ is)))))
+                  by-item (i ∷ j ∷ more) few items none = absurd (omega (arith, few))
+
+  -- What is given by some octet is given by each later one.
+  module _ (kind : List ℕ → Bool) (most later : ℕ) (less : most ≤ later) where
+    wait-later : (a : ℕ) (ring : List (List ℕ)) → WaitIn kind most a ring → WaitIn kind later a ring
+    unfolding WaitIn
+    wait-later a [] h = tt
+    wait-later a (o ∷ ring) h = ((λ is. let bound = h.0 is in omega (arith, bound, less)), wait-later (a + 72) ring h.1)
+
+    pub sends-later : (p : Port) (ring : List (List ℕ)) → Sends kind most p ring → Sends kind later p ring
+    sends-later p ring h = record {
+      done = λ first value more o given is kind_is. let bound = h.done first value more o given is kind_is in omega (arith, bound, less);
+      last = λ front o is kind_is. let bound = h.last front o is kind_is in omega (arith, bound, less);
+      wait = wait-later (text_length p.items) ring h.wait;
+    }

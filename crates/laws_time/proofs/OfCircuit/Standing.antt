@@ -1,0 +1,367 @@
+-- An end of the circuit, on whose line one link alone speaks, after each event.
+use Rattle.std.proofs.Common.{arith, ◌≡◌, ℕ, ◌<◌, Bool, true, false, cond, List, [], ◌∷◌, ◌++◌, length, map, Option, Some, None, option_map, refl, sym, ap, ◌∙◌, subst, All, inl, inr, append-nil}
+use Rattle.std.proofs.lemmas.List.{set-get_or}
+use Rattle.std.proofs.lemmas.List.Elements.{All-nil, All-append, All-cons, All-head, All-tail}
+use Rattle.std.specs.Option.{option_map_or}
+use Rattle.lapd_frame.specs.declared.services.Service.{Service}
+use Rattle.lapd_frame.specs.declared.timers.Timer.{Timer}
+use Rattle.lapd_frame.specs.Grammar.{Parts, spelling}
+use Rattle.lapd_frame.specs.Reading.{reading}
+use Rattle.model_bits.specs.Sent.{Item}
+use Rattle.model_bits.specs.StuffingLaws.{AreOctets}
+use Rattle.model_bits.specs.Stream as stream
+use Rattle.model_bits.specs.Stream.{Event as StreamEvent}
+use Rattle.model_link.specs.declared.timers.LinkTimer.{LinkTimer}
+use Rattle.model_link.specs.Events as link
+use Rattle.model_link.specs.Link.{Link}
+use Rattle.model_link.specs.Machine as links
+use Rattle.model_link.specs.Machine.{given_of}
+use Rattle.model_link.specs.TwoEnds.{Endpoint as LinkEndpoint, frame_given, with_link, with_sent}
+use Rattle.model_line.specs.Came.{came}
+use Rattle.model_line.specs.Event as line
+use Rattle.model_line.specs.Event.{given_in, Answer, NextFrame}
+use Rattle.model_line.specs.Expiry.{aim_of_expiry, at_timer}
+use Rattle.model_line.specs.Heard.{heard_side}
+unfoldable use Rattle.model_line.specs.Machine.{answer as line_answer, after as line_after, takes_slot}
+use Rattle.model_line.specs.Line.{Line, terms, place_in, fresh_line}
+use Rattle.model_line.specs.Request.{Request}
+use Rattle.model_line.specs.Requested.{aim_of_request, at_requested}
+use Rattle.model_line.specs.Sound.{IsInRange}
+use Rattle.model_line.specs.declared.config.Config.{Config}
+use Rattle.model_card.specs.Card.{Card, line_at}
+use Rattle.model_card.specs.Sound.{IsSound as IsSoundCard}
+unfoldable use Rattle.model_card.specs.ports.Card.{after, answer, meant}
+use Rattle.model_card.specs.ports.Codec.{frames_among}
+use Rattle.model_card.specs.ports.Port as port
+use Rattle.model_card.specs.ports.Port.{Port, gained, is_due, item_of}
+use Rattle.model_card.proofs.OfPorts.PortGoesOn.{frames_among-append}
+use Rattle.laws_trace.specs.FramesAreRead.{contents_given}
+use Rattle.laws_wire.specs.Wire as wire
+use Rattle.laws_wire.specs.Wire.{Endpoint as FrameEndpoint, frames_by}
+use Rattle.laws_wire.proofs.LineSpeaks.{Speaks}
+use Rattle.laws_wire.proofs.Answered.{gives-taken}
+use Rattle.laws_wire.proofs.Standing.{IsCarried, StationStands, asks-stands, expires-stands, takes-stands, gives-stands, gives-frames}
+use Rattle.laws_order.specs.circuit.Circuit.{Endpoint as OctetEndpoint, port_of, happens}
+use Rattle.laws_order.proofs.OfCircuit.AsFrames.{as_station, if_meant, heard-as, asked-as, pulled-as}
+use Rattle.laws_order.proofs.OfCircuit.AtPort.{next_of_card, pull-between, pull-put, pull-given}
+use Rattle.laws_order.proofs.OfCircuit.Projected.{Fits, port-after}
+use Rattle.laws_order.proofs.OfCircuit.Ran.{Ran, goes-on, within-ports, sound-port, on-line, gives-octets}
+use Rattle.laws_time.proofs.OfCircuit.Sender.{Fine, Gave}
+use Rattle.laws_time.proofs.OfCircuit.Taken.{Took, takes-now}
+
+-- An expiry as the card of frames inside has it.
+expired-reply : (timer : Timer) (s : OctetEndpoint) (way : List (List ℕ))
+    → as_station way (happens (port.expiry timer) s) ≡ wire.happens (line.expiry timer) (as_station way s)
+unfolding after answer meant line_answer takes_slot
+expired-reply timer s way = grind (arith, append-nil)
+
+-- What is dropped leaves the card.
+dropped-same : (cause : _) (x : FrameEndpoint) → (wire.happens (line.hears (stream.dropped cause)) x).card ≡ x.card
+unfolding line_after takes_slot
+dropped-same cause x = ap (λ ls. record x.card { lines = ls }) (set-get_or x.card.lines x.line (fresh_line x.card.config))
+
+module _ (c : Config) (service : Service) (tei place : ℕ) (ranged : IsInRange c) where
+  abbrev pub bare : Link → LinkEndpoint
+  bare l = record { terms = terms c service tei; link = l; way = []; delivered = [] }
+
+  -- A frame of this end's.
+  abbrev pub IsOwn : List ℕ → Type 0
+  IsOwn octets = (f : Parts) × (octets ≡ spelling c.side f) × IsCarried c service tei f
+
+  pub record Ends (s : OctetEndpoint) : Type 0 where
+    pub ran : Ran c s
+    pub its : Link
+    pub stands : StationStands c service tei place (as_station [] s) (bare its)
+    pub frames : All IsOwn (frames_among (port_of s).items)
+    pub octets : All AreOctets (frames_among (port_of s).items)
+
+  pub fine : (s : OctetEndpoint) → Ends s → Fine c.n201 (port_of s)
+  fine s h = record { sound = sound-port c ranged s h.ran; on = on-line c ranged s h.ran; octets = h.octets }
+
+  -- without the frames on its way
+  as-bare : (x : FrameEndpoint) (n : LinkEndpoint) → StationStands c service tei place x n → StationStands c service tei place (record x { way = [] }) (bare n.link)
+  as-bare x n h = record {
+    config = h.config;
+    sound = h.sound;
+    within = h.within;
+    speaks = h.speaks;
+    terms = refl;
+    way = refl;
+    carried = All-nil (IsCarried c service tei);
+  }
+
+  own-config : (x : FrameEndpoint) (n : LinkEndpoint) → StationStands c service tei place x n → StationStands x.card.config service tei place x n
+  own-config x n h = subst (λ k. StationStands k service tei place x n) (sym h.config) h
+
+  finish : (k : Config) → k ≡ c → (u : OctetEndpoint) (y : FrameEndpoint) (n : LinkEndpoint) → record (as_station [] u) { way = [] } ≡ record y { way = [] } → StationStands k service tei place y n
+      → StationStands c service tei place (as_station [] u) (bare n.link)
+  finish k same u y n is h =
+      subst (λ z. StationStands c service tei place z (bare n.link)) (sym is) (as-bare y n (subst (λ k. StationStands k service tei place y n) same h))
+
+  -- what was granted and told does not matter
+  told-more : (x y : FrameEndpoint) → y.card ≡ x.card → y.line ≡ x.line → y.way ≡ x.way → (n : LinkEndpoint) → StationStands c service tei place x n → StationStands c service tei place y n
+  told-more x y card number way n h = record {
+    config = ap (λ (m : Card). m.config) card ∙ h.config;
+    sound = subst IsSoundCard (sym card) h.sound;
+    within = subst (λ k. k < c.lines) (sym number) h.within;
+    speaks = subst (λ k. Speaks c service tei place n.link (line_at k y.card)) (sym number) (subst (λ m. Speaks c service tei place n.link (line_at x.line m)) (sym card) h.speaks);
+    terms = h.terms;
+    way = way ∙ h.way;
+    carried = h.carried;
+  }
+
+  abbrev bared : FrameEndpoint → FrameEndpoint
+  bared x = record x { way = [] }
+
+  abbrev moved : Option link.Event → Link → Link
+  moved o l = option_map_or (λ e. links.after (terms c service tei) e l) o l
+
+  -- Something else than a pull: the link has an event, or none, and what is on the line stays.
+  pub record Moved (s u : OctetEndpoint) (h : Ends s) (may : link.Event → Type 0) : Type 0 where
+    pub ends : Ends u
+    pub event : Option link.Event
+    pub link_is : ends.its ≡ moved event h.its
+    pub by : (e : link.Event) → event ≡ Some e → may e
+    pub items : (port_of u).items ≡ (port_of s).items
+    pub given : (port_of u).given ≡ (port_of s).given
+
+  abbrev same-ends : (s u : OctetEndpoint) (h : Ends s) → Ran c u → (l : Link) → StationStands c service tei place (as_station [] u) (bare l) → (port_of u).items ≡ (port_of s).items → Ends u
+  same-ends s u h ran l stands items = record {
+    ran = ran;
+    its = l;
+    stands = stands;
+    frames = subst (λ is. All IsOwn (frames_among is)) (sym items) h.frames;
+    octets = subst (λ is. All AreOctets (frames_among is)) (sym items) h.octets;
+  }
+
+  module _ (s : OctetEndpoint) (h : Ends s) where
+    abbrev x : FrameEndpoint
+    x = as_station [] s
+
+    abbrev own : StationStands s.card.card.config service tei place (as_station [] s) (bare h.its)
+    own = own-config (as_station [] s) (bare h.its) h.stands
+
+    inside : s.line < length s.card.ports
+    inside = within-ports c ranged s h.ran
+
+    -- layer 3 asks
+    module _ (r : Request) (asked : link.Request) (aims : (l : Line) → aim_of_request r l ≡ at_requested service tei asked (place_in l tei)) (octets : AreOctets (contents_given r)) where
+      abbrev IsThat : link.Event → Type 0
+      IsThat e = e ≡ link.requested asked false
+
+      abbrev asked_then : OctetEndpoint
+      asked_then = happens (port.request r) s
+
+      same-port : port_of (happens (port.request r) s) ≡ port_of s
+      same-port = port-after s (port.request r) (within-ports c ranged s h.ran)
+
+      asked-is : bared (as_station [] (happens (port.request r) s)) ≡ bared (wire.happens (line.request r) (as_station [] s))
+      asked-is = ap bared (asked-as r s [])
+
+      refused-moved : StationStands c service tei place (as_station [] (happens (port.request r) s)) (bare h.its) → Moved s (happens (port.request r) s) h IsThat
+      refused-moved stands = record {
+        ends = same-ends s asked_then h (goes-on c s (port.request r) octets h.ran) h.its stands (ap (λ (p : Port). p.items) same-port);
+        event = None;
+        link_is = refl;
+        by = λ e is. cc is;
+        items = ap (λ (p : Port). p.items) same-port;
+        given = ap (λ (p : Port). p.given) same-port;
+      }
+
+      granted-moved : StationStands c service tei place (as_station [] (happens (port.request r) s)) (bare (links.after (terms c service tei) (link.requested asked false) h.its))
+          → Moved s (happens (port.request r) s) h IsThat
+      granted-moved stands = record {
+        ends = same-ends s asked_then h (goes-on c s (port.request r) octets h.ran) (links.after (terms c service tei) (link.requested asked false) h.its) stands (ap (λ (p : Port). p.items) same-port);
+        event = Some (link.requested asked false);
+        link_is = refl;
+        by = λ f is. sym (cc is);
+        items = ap (λ (p : Port). p.items) same-port;
+        given = ap (λ (p : Port). p.given) same-port;
+      }
+
+      pub ends-asked : Moved s (happens (port.request r) s) h IsThat
+      ends-asked =
+          elim (asks-stands service tei place (as_station [] s) (bare h.its) own r asked aims) [
+            | inl none ↦ refused-moved (subst (λ z. StationStands c service tei place z (bare h.its)) (sym (asked-is ∙ ap bared none)) h.stands)
+            | inr g ↦ granted-moved (finish s.card.card.config h.stands.config asked_then (wire.happens (line.request r) (as_station [] s))
+                (with_link (link.requested asked false) (bare h.its)) asked-is g.stands)
+          ]
+
+    -- a timer of the link expires
+    module _ (timer : Timer) (its : LinkTimer) (aims : (l : Line) → aim_of_expiry timer l ≡ at_timer service tei its (place_in l tei)) where
+      abbrev IsExpired : link.Event → Type 0
+      IsExpired e = e ≡ link.expired its
+
+      pub ends-expired : Moved s (happens (port.expiry timer) s) h IsExpired
+      ends-expired =
+          let u = happens (port.expiry timer) s in
+          let same : port_of u ≡ port_of s = port-after s (port.expiry timer) (within-ports c ranged s h.ran) in
+          let e = link.expired its in
+          record {
+            ends = same-ends s u h (goes-on c s (port.expiry timer) tt h.ran) (links.after (terms c service tei) e h.its)
+                (finish s.card.card.config h.stands.config u (wire.happens (line.expiry timer) (as_station [] s)) (with_link e (bare h.its)) (ap bared (expired-reply timer s []))
+                (expires-stands service tei place (as_station [] s) (bare h.its) own timer its aims)) (ap (λ (p : Port). p.items) same);
+            event = Some e;
+            link_is = refl;
+            by = λ f is. sym (cc is);
+            items = ap (λ (p : Port). p.items) same;
+            given = ap (λ (p : Port). p.given) same;
+          }
+
+    -- an octet comes
+    module _ (value : ℕ) where
+      abbrev heard : OctetEndpoint
+      heard = happens (port.octet value) s
+
+      port-now : port_of (happens (port.octet value) s) ≡ record (port_of s) { received = (port_of s).received ++ value ∷ [] }
+      port-now = port-after s (port.octet value) (within-ports c ranged s h.ran)
+
+      ran-now : Ran c (happens (port.octet value) s)
+      ran-now = goes-on c s (port.octet value) tt h.ran
+
+      now-is : (o : Option StreamEvent) → gained s.card.card.config.n201 (port_of s).received value ≡ o
+          → bared (as_station [] (happens (port.octet value) s)) ≡ bared (if_meant (option_map line.hears o) (as_station [] s))
+      now-is o is = ap bared (heard-as value s []) ∙ ap (λ o. bared (if_meant (option_map line.hears o) (as_station [] s))) is
+
+      -- that ends no frame
+      abbrev IsNone : link.Event → Type 0
+      IsNone e = ⊥
+
+      still : StationStands c service tei place (as_station [] (happens (port.octet value) s)) (bare h.its) → Moved s (happens (port.octet value) s) h IsNone
+      still stands = record {
+        ends = same-ends s heard h ran-now h.its stands (ap (λ (p : Port). p.items) port-now);
+        event = None;
+        link_is = refl;
+        by = λ e is. cc is;
+        items = ap (λ (p : Port). p.items) port-now;
+        given = ap (λ (p : Port). p.given) port-now;
+      }
+
+      pub heard-none : gained s.card.card.config.n201 (port_of s).received value ≡ None → Moved s (happens (port.octet value) s) h IsNone
+      heard-none is = still (subst (λ z. StationStands c service tei place z (bare h.its)) (sym (now-is None is)) h.stands)
+
+      pub heard-dropped : (cause : _) → gained s.card.card.config.n201 (port_of s).received value ≡ Some (stream.dropped cause) → Moved s (happens (port.octet value) s) h IsNone
+      heard-dropped cause is =
+          let y = wire.happens (line.hears (stream.dropped cause)) (as_station [] s) in
+          still (subst (λ z. StationStands c service tei place z (bare h.its)) (sym (now-is (Some (stream.dropped cause)) is))
+          (told-more (as_station [] s) (bared y) (dropped-same cause (as_station [] s)) refl refl (bare h.its) h.stands))
+
+      -- with a frame of the other end
+      module _ (d : Config) (octets : List ℕ) (f : Parts) (spelled : octets ≡ spelling d.side f) (from : IsCarried d service tei f) (side : heard_side c ≡ d.side) (size : d.n201 ≡ c.n201) where
+        abbrev IsHeard : link.Event → Type 0
+        IsHeard e = e ≡ link.received (link.frame f)
+
+        pub heard-frame : gained s.card.card.config.n201 (port_of s).received value ≡ Some (stream.frame octets) → Moved s (happens (port.octet value) s) h IsHeard
+        heard-frame is =
+            let e = link.received (link.frame f) in
+            let k = s.card.card.config in
+            let whole : came k.n201 octets ≡ stream.frame octets =
+            ap (λ (k : Config). came k.n201 octets) h.stands.config ∙ ap (λ n. came n octets) (sym size) ∙ ap (came d.n201) spelled ∙ from.carried.whole ∙ ap stream.frame (sym spelled) in
+            let read = ap (λ (k : Config). reading (heard_side k) octets) h.stands.config
+            ∙ ap (λ side. reading side octets) side ∙ ap (reading d.side) spelled ∙ from.carried.read in
+            let takes = takes-stands service tei place (as_station [] s) (bare h.its) own f octets whole read from.sapi from.by in
+            record {
+              ends = same-ends s heard h ran-now (links.after (terms c service tei) e h.its)
+                  (finish k h.stands.config heard (wire.frame_comes octets (as_station [] s)) (with_link e (bare h.its))
+                  (now-is (Some (stream.frame octets)) is ∙ ap (λ e. bared (wire.happens (line.hears e) (as_station [] s))) (sym whole)) takes)
+                  (ap (λ (p : Port). p.items) port-now);
+              event = Some e;
+              link_is = refl;
+              by = λ g is. sym (cc is);
+              items = ap (λ (p : Port). p.items) port-now;
+              given = ap (λ (p : Port). p.given) port-now;
+            }
+
+    -- ---- an octet is pulled
+
+    abbrev pulled : OctetEndpoint
+    pulled = happens port.pull s
+
+    fits : Fits c.n201 c
+    fits = record { ranged = ranged; size = refl }
+
+    pub record Pulled : Type 0 where
+      pub ends : Ends (happens port.pull s)
+      pub new : List Item
+      pub value : ℕ
+      pub gave : Gave c.n201 (port_of s) (port_of (happens port.pull s)) new value
+      pub took : Took c service tei new h.its.waiting ends.its.waiting
+
+    not-due : is_due (port_of s) ≡ false → Pulled
+    not-due none =
+        let between = pull-between c.n201 c fits s h.ran none in let given = pull-given c.n201 c fits s h.ran in
+        record {
+          ends = same-ends s pulled h (goes-on c s port.pull tt h.ran) h.its
+              (subst (λ z. StationStands c service tei place z (bare h.its)) (sym (ap bared (pulled-as s []) ∙ ap (λ due. bared (if_meant (cond due (Some line.next) None) (as_station [] s))) none)) h.stands) between.1;
+          new = [];
+          value = given.0;
+          gave = record { few = omega arith; items = between.1 ∙ sym (append-nil (port_of s).items); given = given.1 };
+          took = inl (refl, refl);
+        }
+
+    given-now : Option NextFrame
+    given-now = given_in (next_of_card s.line s.card.card)
+
+    gives-now : frames_by (wire.answered line.next (as_station [] s)) ≡ frames_among (item_of (given_in (next_of_card s.line s.card.card)) ∷ [])
+    gives-now = go _ (gives-taken (as_station [] s))
+      where
+        put : (o : Option NextFrame) → frames_by (line.gave o) ≡ frames_among (item_of o ∷ [])
+        put None = refl
+        put (Some f) = refl
+
+        go : (o : Option NextFrame) → wire.answered line.next (as_station [] s) ≡ line.gave o → frames_by (wire.answered line.next (as_station [] s)) ≡ frames_among (item_of (given_in (next_of_card s.line s.card.card)) ∷ [])
+        go o is = ap frames_by is ∙ put o ∙ ap (λ a. frames_among (item_of (given_in a) ∷ [])) (sym is)
+
+    its-frames : List Parts
+    its-frames = frame_given (terms c service tei) (links.given (terms c service tei) h.its)
+
+    frames-are : frames_among (item_of (given_in (next_of_card s.line s.card.card)) ∷ []) ≡ map (spelling c.side) (frame_given (terms c service tei) (links.given (terms c service tei) h.its))
+    frames-are = sym gives-now ∙ gives-frames service tei place (as_station [] s) (bare h.its) own
+        ∙ ap (λ (k : Config). map (spelling k.side) (frame_given (terms c service tei) (links.given (terms c service tei) h.its))) h.stands.config
+
+    all-own : (fs : List Parts) → All (IsCarried c service tei) fs → All IsOwn (map (spelling c.side) fs)
+    all-own [] all = All-nil IsOwn
+    all-own (f ∷ fs) all = All-cons IsOwn (spelling c.side f) (map (spelling c.side) fs) (f, refl, All-head (IsCarried c service tei) f fs all) (all-own fs (All-tail (IsCarried c service tei) f fs all))
+
+    octets-now : (o : Option NextFrame) → ((f : NextFrame) → o ≡ Some f → AreOctets f.octets) → All AreOctets (frames_among (item_of o ∷ []))
+    octets-now None all = All-nil AreOctets
+    octets-now (Some f) all = All-cons AreOctets f.octets [] (all f refl) (All-nil AreOctets)
+
+    due-now : is_due (port_of s) ≡ true → Pulled
+    due-now due =
+        let given = pull-given c.n201 c fits s h.ran in
+        let put = pull-put c.n201 c fits s h.ran due in
+        let i = item_of (given_in (next_of_card s.line s.card.card)) in
+        let gives = gives-stands service tei place (as_station [] s) (bare h.its) own in
+        let carried : All (IsCarried c service tei) (frame_given (terms c service tei) (links.given (terms c service tei) h.its)) =
+        subst (λ k. All (IsCarried k service tei) (frame_given (terms c service tei) (links.given (terms c service tei) h.its))) h.stands.config gives.carried in
+        let more = ap frames_among put ∙ frames_among-append (port_of s).items (i ∷ []) in
+        record {
+          ends = record {
+            ran = goes-on c s port.pull tt h.ran;
+            its = links.after (terms c service tei) link.offer h.its;
+            stands = finish s.card.card.config h.stands.config pulled (wire.happens line.next (as_station [] s)) (with_sent (bare h.its))
+                (ap bared (pulled-as s []) ∙ ap (λ due. bared (if_meant (cond due (Some line.next) None) (as_station [] s))) due) gives;
+            frames = subst (All IsOwn) (sym more) (All-append IsOwn (frames_among (port_of s).items) (frames_among (i ∷ [])) h.frames
+                (subst (All IsOwn) (sym frames-are) (all-own (frame_given (terms c service tei) (links.given (terms c service tei) h.its)) carried)));
+            octets = subst (All AreOctets) (sym more) (All-append AreOctets (frames_among (port_of s).items) (frames_among (i ∷ [])) h.octets
+                (octets-now (given_in (next_of_card s.line s.card.card)) (gives-so (next_of_card s.line s.card.card) refl)));
+          };
+          new = i ∷ [];
+          value = given.0;
+          gave = record { few = omega arith; items = put; given = given.1 };
+          took = inr (takes-now c service tei h.its (given_in (next_of_card s.line s.card.card)) frames-are carried);
+        }
+      where
+        gives-so : (a : Answer) → next_of_card s.line s.card.card ≡ a → (f : NextFrame) → given_in a ≡ Some f → AreOctets f.octets
+        gives-so (line.gave (Some g)) is f same = let own_f : g ≡ f = cc same in subst (λ (x : NextFrame). AreOctets x.octets) own_f (gives-octets c ranged s h.ran g is)
+        gives-so (line.gave None) is f same = cc same
+        gives-so (line.told t) is f same = cc same
+        gives-so (line.refused why) is f same = cc same
+
+    pub pulls : Pulled
+    pulls = go (is_due (port_of s)) refl
+      where
+        go : (b : Bool) → is_due (port_of s) ≡ b → Pulled
+        go true e = due-now e
+        go false e = not-due e

@@ -20,24 +20,20 @@ from statement import promises
 MACHINE = [('model_card', 'Run', 'moments'), ('model_card', 'Run', 'after_all'), ('model_card', 'Card', 'fresh')]
 PORTS = [('model_card', 'ports.Run', 'moments'), ('model_card', 'ports.Run', 'after_all'),
          ('model_card', 'ports.Run', 'meant_all'), ('model_card', 'ports.Card', 'fresh'), ('lapd_card', 'Drive', 'events_of')]
-SAID = {'by_event': '`amortised`, of a list of one event; that a call takes away no more than it gives, `laws_trace`',
-        'amortised_from_zero': '`amortised`, as of a card that has just begun nothing could be sent before',
-        'six_octets_a_frame': '`linear`, in what follows from it',
-        'numbered': '`what_is_told_was_heard` of `laws_trace`, and `codec`',
-        'from_zero': '`what_is_told_was_heard` of `laws_trace`, and `codec`',
-        'textual': '`frames_are_heard` and `frames_go_at_once` of `model_card::ports`, from a card\'s start on'}
+SAID = {'by_event': '`amortised`', 'amortised_from_zero': '`amortised`', 'six_octets_a_frame': '`linear`',
+        'numbered': '`what_is_told_was_heard`, `codec`', 'from_zero': '`what_is_told_was_heard`, `codec`',
+        'textual': '`frames_are_heard`, `frames_go_at_once`'}
 SAID_AGAIN = {'run_is_moments': '`moments`', 'stored_within_limit': '`within_limit`',
-              'drops_are_without_effect': '`drops` and `without_effect`',
-              'frames_linear': '`linear`, `six_octets_a_frame` and `seven_octets_a_reject`', 'lines_isolated': '`isolated`',
-              'octets_are_a_codec': '`codec`, `frames_are_heard` and `frames_go_at_once`',
-              'units_are_heard': '`units_go_out` and `given_frames_are_heard`',
-              'frames_go_out': '`frames_are_read`, `heard_frames_are_octets` and `given_frames_are_heard`',
-              'all_frames_go_out': '`calls_come_to_an_end`, `what_is_given_is_due`, `frames_go_at_once` and '
+              'drops_are_without_effect': '`drops`, `without_effect`',
+              'frames_linear': '`linear`, `six_octets_a_frame`, `seven_octets_a_reject`', 'lines_isolated': '`isolated`',
+              'octets_are_a_codec': '`codec`, `frames_are_heard`, `frames_go_at_once`',
+              'units_are_heard': '`units_go_out`, `given_frames_are_heard`',
+              'frames_go_out': '`frames_are_read`, `heard_frames_are_octets`, `given_frames_are_heard`',
+              'all_frames_go_out': '`calls_come_to_an_end`, `what_is_given_is_due`, `frames_go_at_once`, '
                                    '`given_frames_are_heard`',
-              'pulls_are_takes': '`frames_go_at_once`, of when a pull calls; `answers_are_heard`, of how many are enough',
-              'timers_run': '`timers_are_timely`, event by event',
-              'what_is_due_joins_the_queue': 'the words of `what_is_given_is_due`',
-              'frames_are_octets': '`units_go_out`, `what_is_given_is_due` and `teis_are_managed`'}
+              'pulls_are_takes': '`frames_go_at_once`, `answers_are_heard`', 'timers_run': '`timers_are_timely`',
+              'what_is_due_joins_the_queue': '`what_is_given_is_due`',
+              'frames_are_octets': '`units_go_out`, `what_is_given_is_due`, `teis_are_managed`'}
 # The worked runs of promises, by crate and file of its specs/.
 RUNS = {
     'ok': 'laws_line card/WorkedCard', 'ran': 'laws_line card/WorkedCard', 'taken': 'laws_line card/WorkedCard',

@@ -1,12 +1,12 @@
 -- Each row of the tables tells at most two notes.
-use Rattle.model_link.proofs.Vocabulary.{◌≡◌, ℕ, ◌+◌, ◌≤◌, zero-add, Bool, false, cond, ◌&&◌, List, [], ◌∷◌, ◌++◌, length, Option, None, is_some, ◌⊎◌, inr, refl, sym, ap, ◌∙◌, arith, length-append, Control, Ui, Note, ErrorCode, State, TeiAssigned, AwaitingEstablishment, AwaitingRelease, Established, TimerRecovery, LinkTimer, T200, T203, Terms, Link, Course, begun, by_bit, frame_in_4, frame_in_5}
-use Rattle.model_link.proofs.Vocabulary.{frame_in_6, list_any, Timer, Order, Start, Stop, is_data, is_unit, runs, orders_for, starts, granted, frame_in_7, frame_in_8, ClearBusy, Data, Establish, Event, Release, Request, SetBusy, cleared, frame, received, deliver_unit, leave_unserved}
+use Rattle.model_link.proofs.Vocabulary.{◌≡◌, ℕ, ◌+◌, ◌≤◌, zero-add, Bool, cond, ◌&&◌, List, [], ◌∷◌, ◌++◌, length, Option, None, is_some, ◌⊎◌, inr, refl, sym, ap, ◌∙◌, arith, length-append, Control, Ui, Note, State, TeiAssigned, LinkTimer, T200, T203, Terms, Link, Course, begun, by_bit}
+use Rattle.model_link.proofs.Vocabulary.{list_any, Timer, Order, Start, Stop, is_data, is_unit, runs, orders_for, starts, Event, cleared, frame, received, deliver_unit, leave_unserved}
 use Rattle.model_link.specs.Machine
-use Rattle.model_link.proofs.Leads.{Leads, from_more}
-use Rattle.model_link.proofs.Telling.{Purse, no_more, another, how_many, Telling, HasTold, ToldWithin, untold, note-told, enough, words}
+use Rattle.model_link.proofs.Leads.{Leads}
+use Rattle.model_link.proofs.Telling.{Purse, no_more, another, how_many, Telling, HasTold, ToldWithin, untold, note-told, words}
 use Rattle.model_link.proofs.Kept.{two, Fits, FitsEvent}
-use Rattle.model_link.proofs.Careful.{Careful, plainly, anything}
-use Rattle.model_link.proofs.Rows.{malformed_by, expired_by, release_by, set_busy_by, clear_busy_by, frame_row, event_row}
+use Rattle.model_link.proofs.Careful.{Careful, plainly}
+use Rattle.model_link.proofs.Rows.{frame_row, event_row}
 
 -- any frame but a UI
 abbrev IsNoUnit : Control → Type 0
@@ -23,34 +23,6 @@ module _ (t : Terms) where
 
   frames_in : (here : State) (b : Bool) (octets : List ℕ) (control : Control) → IsNoUnit control → Leads (Telling 2 two) (Machine.frame_in here t b octets control) (HasTold 2)
   frames_in here b octets control h = frame_row (words t) here b octets control (fits control h)
-
-  pub frames_in_4 : (octets : List ℕ) (control : Control) → IsNoUnit control → Leads (Telling 2 (another (another no_more))) (frame_in_4 t octets control) (HasTold 2)
-  frames_in_4 octets control h = frames_in TeiAssigned false octets control h
-
-  pub frames_in_5 : (octets : List ℕ) (control : Control) → IsNoUnit control → Leads (Telling 2 (another (another no_more))) (frame_in_5 t octets control) (HasTold 2)
-  frames_in_5 octets control h = frames_in AwaitingEstablishment false octets control h
-
-  pub frames_in_6 : (octets : List ℕ) (control : Control) → IsNoUnit control → Leads (Telling 2 (another (another no_more))) (frame_in_6 t octets control) (HasTold 2)
-  frames_in_6 octets control h = frames_in AwaitingRelease false octets control h
-
-  pub frames_in_7 : (b : Bool) (octets : List ℕ) (control : Control) → IsNoUnit control → Leads (Telling 2 (another (another no_more))) (frame_in_7 t b octets control) (HasTold 2)
-  frames_in_7 b octets control h = frames_in Established b octets control h
-
-  pub frames_in_8 : (b : Bool) (octets : List ℕ) (control : Control) → IsNoUnit control → Leads (Telling 2 (another (another no_more))) (frame_in_8 t b octets control) (HasTold 2)
-  frames_in_8 b octets control h = frames_in TimerRecovery b octets control h
-
-  pub expired_tells : (here : State) (timer : LinkTimer) → Leads (Telling 2 (another (another no_more))) (Machine.expired_in here timer t) (HasTold 2)
-  expired_tells here timer = from_more (λ c h. record { known = (tt, tt); holds = h }) (expired_by told here timer)
-
-  pub malformed_tells : (here : State) (e : ErrorCode) → Leads (Telling 2 (another (another no_more))) (Machine.malformed_in here t e) (HasTold 2)
-  malformed_tells here e = from_more (λ c h. record { known = tt; holds = h }) (malformed_by told {X = anything} here e)
-
-  pub granted_tells : (request : Request) → Leads (Telling 2 (another (another no_more))) (λ c. granted t request c) (HasTold 2)
-  granted_tells Establish = search (enough)
-  granted_tells Release = record { leads = λ c h. (release_by told c.link.state).leads c (record { known = tt; holds = h }) }
-  granted_tells (Data octets) = search (enough)
-  granted_tells SetBusy = set_busy_by told
-  granted_tells ClearBusy = clear_busy_by told
 
   pub cleared_tells : (here : State) → Leads (Telling 1 (another no_more)) (Machine.told_of_clearing here t) (Telling 1 no_more)
   cleared_tells TeiAssigned = search (untold)

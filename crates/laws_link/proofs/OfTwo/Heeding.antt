@@ -1,5 +1,5 @@
 -- Where T200 runs while the terminal is taken for busy: each word, and each row.
-use Rattle.laws_link.proofs.Vocabulary.{arith, ◌≡◌, ℕ, Bool, true, false, cond, IsTrue, List, Option, Some, refl, sym, subst, Seq, Control, Sabme, Disc, Ui, Ua, Dm, Frmr, Xid, Note, State, TeiAssigned, AwaitingEstablishment, AwaitingRelease, Established, TimerRecovery, LinkTimer, T200, T203, Terms, Course, Step, ◌then◌, frame_in_4, frame_in_5, frame_in_6, Leads, keeping_then, nothing_leads}
+use Rattle.laws_link.proofs.Vocabulary.{arith, ◌≡◌, ℕ, Bool, true, false, cond, IsTrue, List, Option, Some, refl, sym, subst, Seq, Control, Sabme, Disc, Ui, Ua, Dm, Frmr, Xid, Note, State, TeiAssigned, AwaitingEstablishment, AwaitingRelease, Established, TimerRecovery, LinkTimer, T200, T203, Terms, Course, Step, ◌then◌, frame_in_5, Leads, keeping_then, nothing_leads}
 use Rattle.laws_link.proofs.Vocabulary.{depending_leads, bit_leads, to_less, HeedsIn, leaves, number_leads, acknowledge, by_number, clear_flags, enter, no_timer, note, peer_busy_is, re_establish, start, acknowledged_by_information_in_7, acknowledged_by_rej_in_7, acknowledged_by_rnr_in_7, acknowledged_in_7, frame_in_7, acknowledged_in_8, frame_in_8}
 
 -- A claim on the state, on whether the terminal is taken for busy, and on the timer that runs.
@@ -18,9 +18,6 @@ pub ruleset words = (leaves, keeping_then, nothing_leads, depending_leads, bit_l
 -- state in which T200 runs; T200 runs; state 7 as it is between events.
 abbrev pub heeding : Claim
 heeding state busy running = HeedsIn state busy running
-
-abbrev pub at_state : State → Claim
-at_state here state busy running = state ≡ here
 
 abbrev pub calm_at : State → Claim
 calm_at here state busy running = (state ≡ here) × (busy ≡ false)
@@ -83,20 +80,10 @@ module _ {P : Claim} (t : Terms) where
 
 pub ruleset rows = (words, flags_then, enter_7_calm, enter_7_awake, enter_5_calm, enter_8_awake, re_establish_heeds, enter_4_heeds, enter_6_heeds, number_heeds, no_timer_then_4, start_then_6)
 
--- State 4.
-module _ (t : Terms) where
-  pub in_4 : (octets : List ℕ) (control : Control) → Leads (On (at_state TeiAssigned)) (frame_in_4 t octets control) (On heeding)
-  in_4 octets control = grind (arith, start_then, to_less, down_heeds)
-
 -- State 5.
 module _ (t : Terms) where
   pub in_5 : (octets : List ℕ) (control : Control) → Leads (On (calm_at AwaitingEstablishment)) (frame_in_5 t octets control) (On heeding)
   in_5 octets control = grind (arith, start_then, to_less, down_heeds)
-
--- State 6.
-module _ (t : Terms) where
-  pub in_6 : (octets : List ℕ) (control : Control) → Leads (On (at_state AwaitingRelease)) (frame_in_6 t octets control) (On heeding)
-  in_6 octets control = grind (arith, to_less, down_heeds)
 
 module _ (t : Terms) where
   pub in_7 : (b : Bool) (octets : List ℕ) (control : Control) → Leads (On heeding_in_7) (frame_in_7 t b octets control) (On heeding)

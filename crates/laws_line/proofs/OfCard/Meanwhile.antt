@@ -62,17 +62,6 @@ module _ (number : ℕ) where
   abbrev pub IsServed : Event → Type 0
   IsServed e = e.line ≡ number → e.what ≡ next
 
--- Where only the next frame is called for, all that happens at the line are calls.
-same-takes : (number : ℕ) (events : List Event) → AreTakesAt number events → takes_of number events ≡ takes_at number events
-same-takes number [] takes = refl
-same-takes number (e ∷ events) takes =
-    let one = go (e.line == number) refl (All-head (IsServed number) e events takes) in
-    let rest = same-takes number events (All-tail (IsServed number) e events takes) in
-    omega (arith, one, rest)
-  where
-    go : (b : Bool) → (e.line == number) ≡ b → IsServed number e → cond {A = ℕ} (b && is_take e.what) 1 0 ≡ cond b 1 0
-    go b is served = grind (arith, eqb-true)
-
 -- The call behind so many others of the line.
 pub record IsCallBehind (number count : ℕ) (es : List Event) : Type 0 where
   pub front : List Event

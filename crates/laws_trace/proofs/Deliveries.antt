@@ -1,6 +1,6 @@
 -- What is told is what was heard.
-use Rattle.laws_trace.proofs.Vocabulary.{◌≡◌, ℕ, ◌%◌, ◌≤◌, ◌==◌, ◌&&◌, Bool, true, false, cond, List, [], ◌∷◌, Option, Some, None, refl, sym, ap, ◌∙◌, arith, eq-eqb, inl, inr, true≢false, All, ◌||◌, count_by, list_any, All-head, All-tail, sum_by-cons, none-some, Seq, Note, Service, Parts, same_service, Terms, Arrived, restarts, eligible, Link, is_multiple_frame, notes-own, unit_heard, Config}
-use Rattle.laws_trace.proofs.Vocabulary.{hears, Answer, Line, link_in, terms, aim_of, group_tei, IsInRange, notes_of, contents_in, is_data_of, is_unit_of, tells_contents, IsBy, Brings, BringsMalformed, contents-heard, sapi-is, read-aim, read-event, told-once, group-read, Control, IsOwn, Event, answer, IsSound, result_ok, frame_of, is_for, is_ui, Information, Unit, IsHeard, IsHeardAtLink}
+use Rattle.laws_trace.proofs.Vocabulary.{◌≡◌, ℕ, ◌%◌, ◌≤◌, ◌==◌, ◌&&◌, Bool, true, false, cond, List, [], ◌∷◌, Option, Some, None, refl, sym, ap, ◌∙◌, arith, eq-eqb, inl, inr, true≢false, All, ◌||◌, count_by, list_any, All-head, All-tail, sum_by-cons, none-some, Note, Service, Parts, same_service, Terms, Arrived, restarts, eligible, Link, is_multiple_frame, notes-own, unit_heard, Config}
+use Rattle.laws_trace.proofs.Vocabulary.{hears, Answer, Line, link_in, terms, aim_of, group_tei, IsInRange, notes_of, contents_in, is_data_of, is_unit_of, tells_contents, IsBy, Brings, BringsMalformed, contents-heard, sapi-is, read-aim, read-event, told-once, group-read, IsOwn, Event, answer, IsSound, result_ok, frame_of, is_for, is_ui, Unit, IsHeard, IsHeardAtLink}
 use Rattle.laws_trace.proofs.Vocabulary.{IsHeardByGroup, stream_frame, StreamEvent, link_told}
 use Rattle.model_link.specs.Events as link
 use Rattle.laws_trace.proofs.Counting.{begins_by, begins}
@@ -104,16 +104,6 @@ module _ (c : Config) (e : Event) (a : Answer) (service : Service) (tei : ℕ) w
       → begins service tei (frame_by c e) (link_told (terms c service tei) le k).notes ≡ restarts (terms c service tei) le k
   one-begins (link.received (link.frame f)) by k = grind (arith, brings-frame, begins, begins_by, begins-is)
   one-begins le by k = grind (arith, brings-none)
-
-  -- an I-frame that is delivered
-  record Carried (t : Terms) (k : Link) (ct : Control) (octets : List ℕ) (i : Arrived) : Type 0 where
-    ns : Seq
-    nr : Seq
-    p : Bool
-    is : ct ≡ Information ns nr p
-    number : i.ns ≡ ns
-    contents : i.contents ≡ octets
-    up : is_multiple_frame k.state ≡ true
 
   pub data-of : (le : link.Event) → IsBy c e a service tei le → (k : Link) (n : ℕ) → (is_multiple_frame k.state ≡ true → k.r ≡ n) → (contents : List ℕ)
       → (i : Arrived) → eligible (terms c service tei) le k ≡ Some i → i.contents ≡ contents → i.ns.value ≡ k.r % 128

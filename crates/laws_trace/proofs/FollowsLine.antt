@@ -22,13 +22,6 @@ pub record Shows (c : Config) (l : Line) (e : Event) (d : Managed) (a : Answer) 
   pub lost : (lost_in a ≡ d.lost) ⊎ ((d.lost ≡ 0) × (is_management (aim_of c e l) ≡ false))
   pub follows : Follows d new
 
--- An event of TEI management: what it tells, and what its links tell behind.
-pub record Comes (d : Managed) (t : LineTold) (new : Management) : Type 0 where
-  pub notes : filter is_of_teis t.notes ≡ d.notes
-  pub orders : filter is_of_t201 t.orders ≡ d.orders
-  pub lost : t.lost ≡ d.lost
-  pub follows : Follows d new
-
 module _ (c : Config) (l : Line) where
   -- No event of it.
   pub record IsUnmanaged (aim : Aim) : Type 0 where

@@ -6,10 +6,6 @@ abbrev pub before : List (List ℕ) → List ℕ → List ℕ
 before [] text = text
 before (piece ∷ pieces) text = piece ++ before pieces text
 
-pub joined_before : (pieces : List (List ℕ)) (text : List ℕ) → flat_map (λ piece. piece) pieces ++ text ≡ before pieces text
-joined_before [] text = refl
-joined_before (piece ∷ pieces) text = append_assoc piece (flat_map (λ piece. piece) pieces) text ∙ ap (λ more. piece ++ more) (joined_before pieces text)
-
 -- one piece, and what follows it
 pub piece_is : (piece text more rest : List ℕ) → piece ≡ text → more ≡ rest → piece ++ more ≡ text ++ rest
 piece_is piece text more rest e f = ap (λ p. p ++ more) e ∙ ap (λ m. text ++ m) f

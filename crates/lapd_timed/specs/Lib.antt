@@ -1,6 +1,8 @@
 -- A card that keeps its own timers.
 --
--- Read after those of `model_timed` and `lapd_moments`: Places, Stands, TimedStands.
+-- Read after those of `model_timed` and `lapd_moments`: Places, Stands, Carried, Kinds, TimedStands.
 pub mod Places
 pub mod Stands
+pub mod Carried
+pub mod Kinds
 pub mod TimedStands

@@ -1,11 +1,31 @@
--- What a card of frames with its timers stands for: a timed card.
-use Rattle.lapd_card.specs.FrameCard.{Held}
-use Rattle.lapd_card.specs.FrameStands.{FrameStands}
-use Rattle.lapd_store.specs.Store.{Store}
-use Rattle.model_timed.specs.Frames.{TimedCard}
+-- What a card with its timers stands for: a timed card of its kind.
+use Rattle.lapd_card.specs.Kinds.{alone, with_ports, AnyStands}
+use Rattle.lapd_card.specs.declared.kinds.AnyCard.{AnyCard}
+use Rattle.model_card.specs.Event as frame
+use Rattle.model_card.specs.ports.Event as octet
+use Rattle.model_timed.specs.Frames as frames
+use Rattle.model_timed.specs.Octets as octets
+use Rattle.model_timed.specs.Timed.{Step}
 use Rattle.lapd_timed.specs.Stands.{TimersStand}
 use Rattle.lapd_timed.specs.declared.card_timers.CardTimers.{CardTimers}
+use Rattle.lapd_timed.specs.declared.timed_card.TimedCard.{TimedCard}
 
-pub record TimedStands {S : Type 0} (store : S → Store) (card : Held S) (timers : CardTimers) (t : TimedCard) : Type 0 where
-  pub card_stands : FrameStands store card t.card
+-- Its card is one of octets, or one of frames, and stands for that of the machine; its timers stand for the clock beside.
+pub record AreOctets (card : AnyCard) (timers : CardTimers) (t : octets.TimedOctetCard) : Type 0 where
+  pub card_stands : AnyStands card (with_ports t.card)
+  pub timers_stand : TimersStand timers t.card.card t.clock
+
+pub record AreFrames (card : AnyCard) (timers : CardTimers) (t : frames.TimedCard) : Type 0 where
+  pub card_stands : AnyStands card (alone t.card)
   pub timers_stand : TimersStand timers t.card t.clock
+
+abbrev pub OctetsStand : TimedCard → octets.TimedOctetCard → Type 0
+OctetsStand c t = AreOctets c.card c.timers t
+
+abbrev pub FramesStand : TimedCard → frames.TimedCard → Type 0
+FramesStand c t = AreFrames c.card c.timers t
+
+-- A step leads a card of either kind from one value to another.
+pub record Steps (of_octets : Step octet.Event) (of_frames : Step frame.Event) (old new : TimedCard) : Type 0 where
+  pub octets : (t : octets.TimedOctetCard) → OctetsStand old t → OctetsStand new (octets.after of_octets t)
+  pub frames : (t : frames.TimedCard) → FramesStand old t → FramesStand new (frames.after of_frames t)

@@ -1,31 +1,34 @@
-//! The timers of a card that keeps its own: what the card orders is carried out in places of their own, at the moment that it is
-//! told, and it is told what falls due.
+//! A card that keeps its own timers: what it orders is carried out in places of their own, at the moment that it is told, and
+//! what is due falls due.
 //!
-//! [`CardTimers`] stands beside a card of either kind, and uses its card of frames. Its owner tells it the moment, and hands
-//! what is due to the card. After each event it obeys what the answer orders:
+//! [`TimedCard`] is a card of either kind with its timers, call by call. Its owner tells it the moment, and asks what falls due:
 //!
 //! ```text
-//! let mut timers = CardTimers::start(alloc, card.lines(), terminals, Lengths::standard())?;
+//! let timers = CardTimers::start(alloc, card.lines(), terminals, Lengths::standard())?;
+//! let mut card = TimedCard::new(card, timers);
 //! loop {
-//!     timers.go_to(now);
-//!     while let Some((line, timer)) = timers.due() {
-//!         card.expire(line, timer, &mut report);
-//!         timers.obey(&card, line, report.orders());
+//!     card.go_to(now)?;
+//!     while card.fall_due(&mut report).is_some() {
+//!         layer_3(&report);
 //!     }
 //!     card.frame(line, frame_that_came, &mut report);
-//!     timers.obey(&card, line, report.orders());
 //! }
 //! ```
 //!
+//! [`CardTimers`] is the timers alone, for an owner that has the card: after each event they obey what the answer orders.
+//!
 //! Each timer that may run at a time has a place, which its line and the place of its TEI on the line tell, so none is ever
 //! missing. `model_timed` has the machine of such a card. That its timers are true, and are those that the lines run, are laws
-//! there. The contracts of each call say that the timers stand for its clock (`specs/Stands`).
+//! there. The contracts of each call say that the timers stand for its clock (`specs/Stands`), and a card with them for the
+//! timed card of its kind (`specs/TimedStands`).
 //!
-//! - `card_timers`: `CardTimers`. `timed_frame_card`: `TimedFrameCard`, a card of frames with them, call by call.
+//! - `card_timers`: `CardTimers`. `timed_card`: `TimedCard`. `wrong_time`: the time that is refused.
 #![tactic(auto)]
 
 mod card_timers;
-mod timed_frame_card;
+mod timed_card;
+mod wrong_time;
 
 pub use card_timers::CardTimers;
-pub use timed_frame_card::TimedFrameCard;
+pub use timed_card::TimedCard;
+pub use wrong_time::WrongTime;

@@ -1,0 +1,284 @@
+//! A card that keeps its own timers.
+
+ghost use Rattle.std.specs.Prelude.{◌≡◌, ◌⊎◌, ◌^◌, ◌<◌, ◌≤◌, ◌↔◌, [], true, None, Some, length, drop, IfOk, IfErr, IfSome, IfNone, IsErr, OnErr, OnOk, option_map};
+ghost use Rattle.lapd_card.specs.{answer_of_request, came, cause_of, gave_in, listed, octets_of, pulled_of, refusal, request_of, starts, told_beside, told_if_at, told_in, written, IsClear, IsQuiet};
+ghost use Rattle.lapd_clock.specs.Given.{lengths_of};
+ghost use Rattle.lapd_card.specs.Kinds.{alone, answer, card_in, config_of, frames_of, kind_of, line_count, with_ports, AnyLeads, AnyStands, Machine};
+ghost use Rattle.lapd_card.specs.declared.kinds.CardKind.TheVariants.{Frames, Octets};
+ghost use Rattle.model_bits.specs.Stream as stream;
+ghost use Rattle.model_card.specs.Card.{Card, is_full, line_at};
+ghost use Rattle.model_card.specs.Event.{at};
+ghost use Rattle.model_card.specs.Machine as machine;
+ghost use Rattle.model_card.specs.ports.Card as ports;
+ghost use Rattle.model_card.specs.ports.Card.{OctetCard};
+ghost use Rattle.model_card.specs.ports.Event as octet_event;
+ghost use Rattle.model_card.specs.ports.Port as port;
+ghost use Rattle.model_line.specs.Event as line_event;
+ghost use Rattle.model_line.specs.Event.{told, hears, expiry, next};
+ghost use Rattle.model_timed.specs.Clock.{Clock, due, next_moment, with_lengths};
+ghost use Rattle.model_timed.specs.Frames as of_frames;
+ghost use Rattle.model_timed.specs.Octets as of_octets;
+ghost use Rattle.model_timed.specs.Timed.{happens, time, falls_due};
+ghost use Rattle.lapd_timed.specs.Places.{named_by};
+ghost use Rattle.lapd_timed.specs.Stands.{TimersStand};
+ghost use Rattle.lapd_timed.specs.Kinds.{ports_of, room_of, LedByFrames, LedByOctets};
+
+use crate::card_timers::CardTimers;
+use crate::wrong_time::WrongTime;
+use lapd_card::{AnyCard, BareReport, Fault, NextFrame, Pulled, Request, RoomTooSmall};
+use lapd_clock::Lengths;
+use lapd_frame::{Order, Refusal, Timer};
+
+/// A card of either kind, and the timers of it. Whatever happens to it happens at the moment that it was told last, and what it
+/// orders of its timers is carried out then: of the orders in its answers nothing is left to do.
+///
+/// Its calls are those of [`AnyCard`] and of the card of its kind, except that for an expiry: what is due falls due by
+/// [`TimedCard::fall_due`].
+#[derive(Debug, Drop)]
+pub struct TimedCard {
+    card: AnyCard,
+    timers: CardTimers,
+    ghost same_lines: { timers.lines ≡ line_count card },
+}
+
+impl TimedCard {
+    ghost use Rattle.lapd_timed.specs.Carried.{AreCarriedOut};
+    ghost use Rattle.lapd_timed.specs.TimedStands.{FramesStand, OctetsStand, Steps};
+
+    /// A card that has just begun, and the timers of it, of which none runs.
+    pub fn new(card: AnyCard, timers: CardTimers) -> TimedCard
+        requires { timers.lines ≡ line_count card }
+        ensures card { result.card ≡ card }
+        ensures timers { result.timers ≡ timers }
+    {
+        TimedCard { card, timers }
+    }
+
+    /// The card, for what it tells of itself.
+    pub fn card(&self) -> &AnyCard
+        ensures { result.now ≡ self.now.card }
+    {
+        &self.card
+    }
+
+    /// The moment, in milliseconds.
+    pub fn now(&self) -> u64
+        ensures { (m : Card) (c : Clock) → TimersStand self.now.timers m c → result ≡ c.now }
+    {
+        self.timers.now()
+    }
+
+    /// Has timers that are started from now on run so long. Those that run keep their moments.
+    pub fn set_lengths(&mut self, lengths: Lengths)
+        ensures card { self.new.card ≡ self.old.card }
+        ensures after { (m : Card) (c : Clock) → TimersStand self.old.timers m c → TimersStand self.new.timers m (with_lengths (lengths_of lengths) c) }
+    {
+        self.timers.set_lengths(lengths);
+    }
+
+    /// The time is now this moment, in milliseconds.
+    ///
+    /// # Errors
+    ///
+    /// [`WrongTime`] where it is before the last moment, or from `2^63` on. Nothing has changed then.
+    pub fn go_to(&mut self, moment: u64) -> Result<(), WrongTime>
+        ensures refused { IsErr result ↔ ((moment < self.old.timers.moment) ⊎ (2 ^ 63 ≤ moment)) }
+        ensures unchanged { OnErr result (self.new ≡ self.old) }
+        ensures card { self.new.card ≡ self.old.card }
+        ensures after { OnOk result (Steps (time moment) (time moment) self.old self.new) }
+    {
+        if self.timers.go_to(moment) {
+            Ok(())
+        } else {
+            Err(WrongTime)
+        }
+    }
+
+    /// What is due first, if anything is: it expires, and the report tells what this led to. The answer is which timer of which
+    /// line it was; none where none is due, and then nothing changes.
+    pub fn fall_due(&mut self, report: &mut BareReport) -> Option<(usize, Timer)>
+        requires clear { IsClear report.old }
+        ensures due { (m : Card) (c : Clock) → TimersStand self.old.timers m c → result ≡ option_map named_by (due c) }
+        ensures line { IfSome result (λ d. d.0 < line_count self.old.card) }
+        ensures told { IfSome result (λ d. (m : Machine) → AnyStands self.old.card m
+            → told (told_beside None report.new) ≡ answer (at d.0 (expiry d.1)) m) }
+        ensures card { IfSome result (λ d. AnyLeads (at d.0 (expiry d.1)) self.old.card self.new.card) }
+        ensures after { Steps falls_due falls_due self.old self.new }
+        ensures unchanged { IfNone result (self.new ≡ self.old) }
+        ensures untold { IfNone result (report.new ≡ report.old) }
+        // It starts one timer at most, so that what falls due at a moment comes to an end.
+        ensures starts { IfSome result (λ _. starts (listed report.new.orders) ≤ 1) }
+    {
+        let Some((line, timer)) = self.timers.due() else {
+            return None;
+        };
+        self.card.expire(line, timer, report);
+        self.carry_out(line, report.orders());
+        Some((line, timer))
+    }
+
+    /// The moment, in milliseconds, of the timer that falls due first, due or not, and `None` where no timer runs.
+    pub fn next_moment(&mut self) -> Option<u64>
+        ensures next { (m : Card) (c : Clock) → TimersStand self.old.timers m c → result ≡ next_moment c }
+        ensures unchanged { self.new ≡ self.old }
+    {
+        self.timers.next_moment()
+    }
+
+    /// Serves a request of layer 3 or management at a line.
+    ///
+    /// # Errors
+    ///
+    /// Those of [`AnyCard::request`]. Nothing has changed then.
+    pub fn request(
+        &mut self,
+        line: usize,
+        request: Request<'_>,
+        report: &mut BareReport,
+    ) -> Result<(), Refusal>
+        requires within { line < line_count self.old.card }
+        requires clear { IsClear report.old }
+        ensures refused { IfErr result (λ why. (m : Machine) → AnyStands self.old.card m
+            → refusal (card_in m).config (is_full (card_in m)) (request_of request.entry) (line_at line (card_in m)) ≡ Some why) }
+        ensures unchanged { OnErr result (self.new ≡ self.old) }
+        ensures untold { OnErr result (report.new ≡ report.old) }
+        ensures accepted { OnOk result ((m : Machine) → AnyStands self.old.card m
+            → refusal (card_in m).config (is_full (card_in m)) (request_of request.entry) (line_at line (card_in m)) ≡ None) }
+        ensures told { (m : Machine) → AnyStands self.old.card m
+            → answer_of_request result report.new ≡ answer (at line (line_event.request (request_of request.entry))) m }
+        ensures card { AnyLeads (at line (line_event.request (request_of request.entry))) self.old.card self.new.card }
+        ensures after { Steps (happens (octet_event.at line (port.request (request_of request.entry))))
+            (happens (at line (line_event.request (request_of request.entry)))) self.old self.new }
+    {
+        self.card.request(line, request, report)?;
+        self.carry_out(line, report.orders());
+        Ok(())
+    }
+
+    /// Takes an octet that came from a line of a card of octets, as `Card::hear` does; none is answered where it ended nothing.
+    pub fn hear(&mut self, line: usize, octet: u8) -> Option<BareReport>
+        requires kind { kind_of self.old.card ≡ Octets }
+        requires within { line < line_count self.old.card }
+        ensures told { (m : OctetCard) → AnyStands self.old.card (with_ports m)
+            → port.told (told_if_at (ports_of self.new.card) line result) ≡ ports.answer (octet_event.at line (port.octet octet)) m }
+        ensures card { LedByOctets (octet_event.at line (port.octet octet)) self.old.card self.new.card }
+        ensures after { (t : of_octets.TimedOctetCard) → OctetsStand self.old t
+            → OctetsStand self.new (of_octets.after (happens (octet_event.at line (port.octet octet))) t) }
+    {
+        let AnyCard::Octets(card) = &mut self.card else {
+            unreachable!();
+        };
+        match card.hear(line, octet) {
+            Some(report) => {
+                self.carry_out(line, report.orders());
+                Some(report)
+            }
+            None => None,
+        }
+    }
+
+    /// Gives the next octet of a line of a card of octets, as `Card::pull` does.
+    pub fn pull(&mut self, line: usize) -> Pulled
+        requires kind { kind_of self.old.card ≡ Octets }
+        requires within { line < line_count self.old.card }
+        ensures told { (m : OctetCard) → AnyStands self.old.card (with_ports m) → pulled_of result ≡ ports.answer (octet_event.at line port.pull) m }
+        ensures card { LedByOctets (octet_event.at line port.pull) self.old.card self.new.card }
+        ensures after { (t : of_octets.TimedOctetCard) → OctetsStand self.old t
+            → OctetsStand self.new (of_octets.after (happens (octet_event.at line port.pull)) t) }
+    {
+        let AnyCard::Octets(card) = &mut self.card else {
+            unreachable!();
+        };
+        let pulled = card.pull(line);
+        self.carry_out(line, pulled.orders());
+        pulled
+    }
+
+    /// Takes a frame that came from a line of a card of frames, as [`FrameCard::frame`](lapd_card::FrameCard::frame) does. Where
+    /// the answer is true, the report tells nothing but orders for timers, which have been carried out.
+    pub fn frame(&mut self, line: usize, octets: &[u8], report: &mut BareReport) -> bool
+        requires kind { kind_of self.old.card ≡ Frames }
+        requires within { line < line_count self.old.card }
+        requires clear { IsClear report.old }
+        ensures told { (m : Card) → AnyStands self.old.card (alone m)
+            → told (told_in (octets_of (Some (came (config_of self.old.card).n201 octets.now))) report.new)
+            ≡ machine.answer (at line (hears (came (config_of self.old.card).n201 octets.now))) m }
+        ensures card { LedByFrames (at line (hears (came (config_of self.old.card).n201 octets.now))) self.old.card self.new.card }
+        ensures after { (t : of_frames.TimedCard) → FramesStand self.old t
+            → FramesStand self.new (of_frames.after (happens (at line (hears (came (config_of self.old.card).n201 octets.now)))) t) }
+        ensures quiet { result ≡ true → IsQuiet report.new }
+    {
+        let AnyCard::Frames(card) = &mut self.card else {
+            unreachable!();
+        };
+        let is_quiet = card.frame(line, octets, report);
+        self.carry_out(line, report.orders());
+        is_quiet
+    }
+
+    /// The controller of a line of a card of frames told a fault in place of a frame, as
+    /// [`FrameCard::failed`](lapd_card::FrameCard::failed) has it.
+    pub fn failed(&mut self, line: usize, fault: Fault, report: &mut BareReport)
+        requires kind { kind_of self.old.card ≡ Frames }
+        requires within { line < line_count self.old.card }
+        requires clear { IsClear report.old }
+        ensures told { (m : Card) → AnyStands self.old.card (alone m)
+            → told (told_beside None report.new) ≡ machine.answer (at line (hears (stream.dropped (cause_of fault)))) m }
+        ensures card { LedByFrames (at line (hears (stream.dropped (cause_of fault)))) self.old.card self.new.card }
+        ensures after { (t : of_frames.TimedCard) → FramesStand self.old t
+            → FramesStand self.new (of_frames.after (happens (at line (hears (stream.dropped (cause_of fault))))) t) }
+    {
+        let AnyCard::Frames(card) = &mut self.card else {
+            unreachable!();
+        };
+        card.failed(line, fault, report);
+        self.carry_out(line, report.orders());
+    }
+
+    /// Writes the next frame to be sent on a line of a card of frames in front of `out`, as
+    /// [`FrameCard::next_frame`](lapd_card::FrameCard::next_frame) does.
+    ///
+    /// # Errors
+    ///
+    /// [`RoomTooSmall`] where `out` is shorter than `FrameCard::frame_room` says. Nothing has changed then.
+    pub fn next_frame(
+        &mut self,
+        line: usize,
+        out: &mut [u8],
+    ) -> Result<Option<NextFrame>, RoomTooSmall>
+        requires kind { kind_of self.old.card ≡ Frames }
+        requires within { line < line_count self.old.card }
+        ensures refused { IsErr result ↔ (length out.old < room_of self.old.card) }
+        ensures unchanged { OnErr result (self.new ≡ self.old) }
+        ensures unwritten { OnErr result (out.new ≡ out.old) }
+        ensures gave { IfOk result (λ given. (m : Card) → AnyStands self.old.card (alone m)
+            → gave_in out.new given ≡ machine.answer (at line next) m) }
+        ensures fits { IfOk result (λ given. written given ≤ length out.new) }
+        ensures rest { IfOk result (λ given. drop (written given) out.new ≡ drop (written given) out.old) }
+        ensures length { length out.new ≡ length out.old }
+        ensures card { OnOk result (LedByFrames (at line next) self.old.card self.new.card) }
+        ensures after { OnOk result ((t : of_frames.TimedCard) → FramesStand self.old t
+            → FramesStand self.new (of_frames.after (happens (at line next)) t)) }
+    {
+        let AnyCard::Frames(card) = &mut self.card else {
+            unreachable!();
+        };
+        let given = card.next_frame(line, out)?;
+        if let Some(next) = &given {
+            self.carry_out(line, next.orders());
+        }
+        Ok(given)
+    }
+
+    /// Carries out what the card has ordered at a line. Mostly it orders nothing.
+    #[inline(always)]
+    fn carry_out(&mut self, line: usize, orders: &[Order])
+        requires { line < line_count self.old.card }
+        ensures card { self.new.card ≡ self.old.card }
+        ensures carried { AreCarriedOut (frames_of self.old.card) line orders.now self.old.timers self.new.timers }
+    {
+        if !orders.is_empty() {
+            self.timers.obey(self.card.frames(), line, orders);
+        }
+    }
+}

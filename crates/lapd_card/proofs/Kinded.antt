@@ -1,5 +1,5 @@
 -- A card of either kind.
-use Rattle.lapd_card.proofs.Vocabulary.{◌≡◌, ℕ, Result, Ok, Err, OnOk, OnErr, sym, ap, refl, subst, ◌∙◌, option_map, option_to_list, IsInRange, Card, Event, at, moment_counted, moment_of, all_counted, Store, counters_in, OctetCard}
+use Rattle.lapd_card.proofs.Vocabulary.{◌≡◌, ℕ, Result, Ok, Err, OnOk, OnErr, sym, ap, refl, subst, ◌∙◌, option_map, option_to_list, Card, Event, at, moment_counted, moment_of, all_counted, Store, counters_in, OctetCard}
 use Rattle.lapd_card.specs.declared.kinds.AnyCard.{AnyCard}
 use Rattle.lapd_card.specs.declared.kinds.AnyCard.TheVariants.{Octets, Frames}
 use Rattle.lapd_card.specs.Kinds.{Machine, with_ports, alone, card_in, AnyStands, AnyLeads, CardStands, FrameCardStands, shelf_of}
@@ -28,11 +28,6 @@ by_frames P {card} {c} is h m s = go m (subst (λ card. AnyStands card m) is s)
     go : (m : Machine) → AnyStands (Frames c) m → P m
     go (with_ports m) s = absurd s
     go (alone m) s = h m s
-
--- its configuration is in range
-pub ranges_in : (card : AnyCard) (m : Machine) → AnyStands card m → IsInRange (card_in m).config
-ranges_in (Octets c) m s = by_octets (λ m. IsInRange (card_in m).config) refl (λ m s. s.reached.config) m s
-ranges_in (Frames c) m s = by_frames (λ m. IsInRange (card_in m).config) refl (λ m s. s.reached.config) m s
 
 -- ---- an event at the card of frames
 

@@ -1,5 +1,5 @@
 -- An event at a card of octets: what it means to the card of frames, and what becomes of its port.
-use Rattle.lapd_card.proofs.Vocabulary.{arith, ◌≡◌, ◌⊎◌, ℕ, ◌<◌, Bool, true, false, List, [], ◌∷◌, ◌++◌, length, refl, sym, ap, subst, ◌∙◌, cond, false≢true, lt-ltb, set, set-get_or, Option, None, Some, IsSome, IfSome, is_some, option_map, option_map_or, option_to_list, Result, Ok, Err, OnErr, All-cons, All-nil, All-head, ShortList, Order, Store, Counters, all_counted, moment_counted, moment_of}
+use Rattle.lapd_card.proofs.Vocabulary.{arith, ◌≡◌, ◌⊎◌, ℕ, ◌<◌, Bool, true, false, List, [], ◌∷◌, ◌++◌, length, refl, sym, ap, subst, ◌∙◌, cond, false≢true, lt-ltb, set, set-get_or, Option, None, Some, IsSome, IfSome, is_some, option_map, option_map_or, option_to_list, Result, Ok, Err, All-cons, All-nil, All-head, ShortList, Order, Store, Counters, all_counted, moment_counted, moment_of}
 use Rattle.lapd_card.proofs.Vocabulary.{Card, line_at, may_send, frames_by_event, reached-sound, Timer, Request, BareReport, Port, PortStands, told_in, told_if, latest_in, latest_frame, with_frame, orders_taken, IsLoaded, IsSaid, Pulls, OctetCard, port_at, counters_in}
 use Rattle.std.specs.Result.{IsErr, IsErrAnd}
 use Rattle.lapd_bits.specs.Ended.{without_octets}
@@ -186,12 +186,6 @@ module _ {e : port.Event} {f : line.Event} (on : IsPassedOn e f) where
 pub err_is : {A E : Type 0} (r : Result A E) (e : E) → IsErr r × IsErrAnd r (λ x. x ≡ e) → r ≡ Err e
 err_is (Ok a) e h = absurd (false≢true h.0)
 err_is (Err x) e h = ap (λ y. Err y) h.1
-
--- where a request is refused, the card of octets is as it was, too
-pub same_card : {T E S : Type 0} (result : Result T E) {f : frame_card.Held S} (g : frame_card.Held S) {ports : List Port} {self : Held S} → record { frames = f; ports = ports } ≡ self → OnErr result (g ≡ f)
-    → OnErr result (record { frames = g; ports = ports } ≡ self)
-same_card (Ok x) g same unchanged = tt
-same_card (Err why) g {ports = ports} same unchanged = ap (λ h. record { frames = h; ports = ports }) unchanged ∙ same
 
 -- ---- a pull
 

@@ -38,8 +38,9 @@
  * pointer what owns memory, and nothing is proved of two questions at once.
  *
  * Everything else is tested: each function says by its status what was wrong, and then nothing has changed, neither
- * the card or clock nor what is behind the other pointers (except LAPD_NO_PLACE of lapd_clock_apply_report, and that a
- * link waits for room after LAPD_REFUSED_QUEUE_FULL of lapd_data). Where several things are wrong, the first is told:
+ * the card or clock nor what is behind the other pointers (except LAPD_NO_PLACE of lapd_clock_apply_report, that a link
+ * waits for room after LAPD_REFUSED_QUEUE_FULL of lapd_data, and that it is the moment of lapd_fall_due after its
+ * LAPD_NO_TIMER). Where several things are wrong, the first is told:
  * that a pointer is null, that there is no card or clock, that the card is of the other kind, the line, the other
  * arguments in their order; a refusal of a request is told last.
  */
@@ -140,7 +141,8 @@ enum {
     LAPD_WRONG_LENGTH = 19,  /* contents of a request that has none; an exchange of two lengths, or beyond them; or too
                                 little room for a frame */
     LAPD_WRONG_ORDER = 20,   /* an order is none, or a report's number of orders is over 4 */
-    LAPD_WRONG_TIME = 21,    /* a moment after LAPD_LATEST, or a timer's length out of range */
+    LAPD_WRONG_TIME = 21,    /* a moment after LAPD_LATEST, or of lapd_fall_due before its last one or from 2^63 on; or a
+                                timer's length out of range */
     LAPD_WRONG_POINTER = 30, /* a pointer is null: of lapd.c, and where LAPD_CHECKED is defined */
 
     /* What else can be. */
@@ -150,7 +152,8 @@ enum {
     LAPD_NO_MORE_LINKS = 25, /* the line has no link from that place on */
 
     /* Of cards of frames. Nothing has changed. */
-    LAPD_WRONG_CARD = 26,  /* a call for octets on a card of frames, or one for frames on a card of octets */
+    LAPD_WRONG_CARD = 26,  /* a call for octets on a card of frames, or one for frames on a card of octets; one of a card's
+                              own timers on a card without, or lapd_expire on one with them */
     LAPD_WRONG_CAUSE = 27, /* none of LAPD_ABORT, LAPD_RAGGED, LAPD_SHORT and LAPD_FCS */
     LAPD_NO_FRAME = 28,    /* no frame of the line waits to be sent */
 
@@ -309,6 +312,7 @@ typedef struct lapd_report {
     uint8_t reopened;    /* 1 where a link that waited for room has some again; else 0, and the next two tell nothing */
     uint8_t reopened_service; /* of that link: LAPD_CALL or LAPD_PACKET */
     uint8_t reopened_tei;     /* of that link: 0 to 126 */
+    uint16_t line;            /* the line at which the event happened */
 } lapd_report;
 
 /* ---- A card ----------------------------------------------------------------------------------------------------- */
@@ -329,6 +333,34 @@ LAPD_STATUS lapd_card_start(lapd_card *card, const lapd_config *config);
 /* Starts a card of frames in the same way. It takes less memory, as no line of it has room for a frame on its way. */
 LAPD_STATUS lapd_card_start_frames(lapd_card *card, const lapd_config *config);
 
+/* How long timers run, in milliseconds, 1 to 3,600,000 each: T200 and T203 of each link, and T201 of each line (clauses
+ * 5.9.1, 5.9.8 and 5.9.6; by default 1,000, 10,000 and 1,000). */
+typedef struct lapd_lengths {
+    uint32_t t200;
+    uint32_t t203;
+    uint32_t t201;
+} lapd_lengths;
+
+/*
+ * Starts a card of octets that keeps its own timers: no clock is needed, and no order is to be carried out. It is at moment 0,
+ * and its calls happen at the moment that lapd_fall_due named last. So call that first: a timer that another call starts
+ * before it runs from moment 0. Its reports have no orders, and lapd_expire answers LAPD_WRONG_CARD, as its expiries are its
+ * own; all other calls are the same. LAPD_WRONG_TIME: a length is out of range.
+ */
+LAPD_STATUS lapd_card_start_timed(lapd_card *card, const lapd_config *config, const lapd_lengths *lengths);
+
+/*
+ * Starts a card of frames that keeps its own timers in the same way.
+ *
+ *     while (lapd_fall_due(&card, now(), &report) == LAPD_OK)
+ *         ... what the report tells of report.line
+ *     if a frame came:  lapd_frame(&card, line, frame, length, &report);  ... what the report tells
+ *     for (uint32_t line = 0; lapd_next_waiting(&card, line, &line) == LAPD_OK; line++)
+ *         ... lapd_next_frame, where the controller of this line has room
+ *     ... and so on, when a frame has come, a controller has room again, or the moment of lapd_next_moment is there
+ */
+LAPD_STATUS lapd_card_start_frames_timed(lapd_card *card, const lapd_config *config, const lapd_lengths *lengths);
+
 /* Ends a card of either kind and gives back all memory that its start took. LAPD_NO_CARD: nothing happens. */
 LAPD_STATUS lapd_card_free(lapd_card *card);
 
@@ -345,11 +377,12 @@ LAPD_STATUS lapd_pull(lapd_card *card, uint32_t line, uint8_t *octet, lapd_repor
  * Takes and gives octets in turn: step 2i takes in[i], step 2i+1 gives out[i]. Goes on from step *steps, up to and with
  * the first step that has something to tell (a note, an order, a cause, a frame lost, contents, a frame begun), or to
  * the end. *steps is then the next step. The report is that of this step, or tells nothing if no step had
- * anything to tell. For room of a link it does not stop: the report has it as it is at the end of the call (lapd.c stops
- * after 256 octets where a link has room again then). LAPD_WRONG_LENGTH: the two lengths differ, or *steps is beyond
- * twice the length. For a step that has nothing to tell no report is written. `in` and `out` are two buffers: what is
- * proved of the octets that are taken holds while none of them is written over. With one buffer call lapd_octet and
- * lapd_pull in turn.
+ * anything to tell. At a card with its own timers it may stop at a step that has nothing but an order, and its report
+ * tells nothing then: so go on as long as there are steps. For room of a link it does not stop: the report has it as it is
+ * at the end of the call (lapd.c stops after 256 octets where a link has room again then). LAPD_WRONG_LENGTH: the two
+ * lengths differ, or *steps is beyond twice the length. For a step that has nothing to tell no report is written. `in` and
+ * `out` are two buffers: what is proved of the octets that are taken holds while none of them is written over. With one
+ * buffer call lapd_octet and lapd_pull in turn.
  *
  *     for (size_t steps = 0; steps < 2 * n && lapd_exchange(&card, line, in, n, out, n, &steps, &report) == LAPD_OK;)
  *         ... what the report tells ...
@@ -424,6 +457,22 @@ enum {
  * or lapd_unit. */
 LAPD_STATUS lapd_request(lapd_card *card, uint32_t line, uint8_t request, uint8_t service, uint8_t tei,
                          const uint8_t *contents, size_t length, lapd_report *report);
+
+/* ---- What happens in time, at a card that keeps its own timers. At another: LAPD_WRONG_CARD ----------------------- */
+
+/*
+ * The time is now a moment, in milliseconds from any origin; and the timer that is due first, if one is, expires: the report
+ * tells what that led to, at its line. So call it until it answers LAPD_NO_TIMER: then nothing is due, and calls happen at
+ * this moment. At one moment: by line, then T200 before T203 before T201, by TEI, and call control before packet.
+ * LAPD_WRONG_TIME: a moment before the last one, or 2^63 and later, and nothing has changed. Nothing falls due until the last
+ * moment has come again, so take a clock that is never set back, and look at the status that ends the loop.
+ */
+LAPD_STATUS lapd_fall_due(lapd_card *card, uint64_t now, lapd_report *report);
+
+/* When the timer falls due that falls due first: nothing falls due before, unless another call starts a timer. So ask once all
+ * other calls of a turn are made. If lapd_fall_due has answered LAPD_NO_TIMER, it is later than now. LAPD_NO_TIMER: none
+ * runs. */
+LAPD_STATUS lapd_next_moment(lapd_card *card, uint64_t *moment);
 
 /* ---- What a card says of itself --------------------------------------------------------------------------------- */
 
@@ -643,7 +692,7 @@ LAPD_INLINE uint64_t lapd_card_octets_frames(const lapd_config *config) {
     uint64_t link = lapd_block_octets(8u * config->control) + lapd_block_octets(8u * config->queue);
     uint64_t line = lapd_block_octets(128 * links) + links * link + lapd_block_octets(16u * config->unit_queue)
                     + lapd_block_octets(64);
-    return lapd_block_octets(288) + lapd_block_octets(944 * lines) + lines * line + lapd_block_octets(2 * slots)
+    return lapd_block_octets(368) + lapd_block_octets(944 * lines) + lines * line + lapd_block_octets(2 * slots)
            + lapd_block_octets(slots * config->n201) + lapd_block_octets(32 * lines);
 }
 
@@ -652,6 +701,16 @@ LAPD_INLINE uint64_t lapd_card_octets(const lapd_config *config) {
     uint64_t lines = config->lines, frame = config->n201 + 6u;
     uint64_t port = lapd_block_octets(frame) + lapd_block_octets(frame * 6 / 5 + 2);
     return lapd_card_octets_frames(config) + lapd_block_octets(176 * lines) + lines * port;
+}
+
+/* The same of a card that keeps its own timers: one of frames, one of octets. */
+LAPD_INLINE uint64_t lapd_card_octets_frames_timed(const lapd_config *config) {
+    uint64_t places = config->lines * (4u * config->terminals + 1u);
+    return lapd_card_octets_frames(config) + lapd_block_octets(24 * places) + lapd_block_octets(96);
+}
+
+LAPD_INLINE uint64_t lapd_card_octets_timed(const lapd_config *config) {
+    return lapd_card_octets(config) + lapd_card_octets_frames_timed(config) - lapd_card_octets_frames(config);
 }
 
 /* The same of a clock. */

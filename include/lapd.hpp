@@ -241,6 +241,8 @@ public:
     bool reopened() const { return raw_.reopened != 0; }
     service reopened_service() const { return static_cast<service>(raw_.reopened_service); }
     uint8_t reopened_tei() const { return raw_.reopened_tei; }
+    /// The line at which the event happened.
+    uint32_t line() const { return raw_.line; }
     bool tells() const { return lapd_tells(&raw_); }
     lapd_report *raw() { return &raw_; }
     const lapd_report *raw() const { return &raw_; }
@@ -275,6 +277,12 @@ public:
         const lapd_timer raw = expired.raw();
         return of(lapd_expire(&card_, line, &raw, to.raw()));
     }
+    // Of a card that keeps its own timers; at another status::wrong_card.
+    /// The time is now this moment, and what is due first falls due; status::no_timer where nothing is due.
+    status fall_due(uint64_t now, report &to) { return of(lapd_fall_due(&card_, now, to.raw())); }
+    /// When the first timer falls due; status::no_timer where none runs.
+    status next_moment(uint64_t &moment) { return of(lapd_next_moment(&card_, &moment)); }
+
     status establish(uint32_t line, service by, uint8_t tei, report &to) {
         return of(lapd_establish(&card_, line, number(by), tei, to.raw()));
     }
@@ -344,6 +352,10 @@ protected:
 class card : public any_card {
 public:
     status start(const lapd_config &config) { return of(lapd_card_start(&card_, &config)); }
+    /// With lengths of timers it keeps its own.
+    status start(const lapd_config &config, const lapd_lengths &lengths) {
+        return of(lapd_card_start_timed(&card_, &config, &lengths));
+    }
     status octet(uint32_t line, uint8_t came, report &to) { return of(lapd_octet(&card_, line, came, to.raw())); }
     status pull(uint32_t line, uint8_t &goes, report &to) { return of(lapd_pull(&card_, line, &goes, to.raw())); }
     status exchange(uint32_t line, octets in, span<uint8_t> out, size_t &steps, report &to) {
@@ -357,6 +369,10 @@ public:
 class frame_card : public any_card {
 public:
     status start(const lapd_config &config) { return of(lapd_card_start_frames(&card_, &config)); }
+    /// With lengths of timers it keeps its own.
+    status start(const lapd_config &config, const lapd_lengths &lengths) {
+        return of(lapd_card_start_frames_timed(&card_, &config, &lengths));
+    }
     status frame(uint32_t line, octets came, report &to) {
         return of(lapd_frame(&card_, line, at(came), came.size(), to.raw()));
     }

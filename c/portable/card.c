@@ -44,16 +44,39 @@ static const uint8_t no_octet = 0;
 
 typedef u32 starts(machine *instance, u64 handle, u64 config);
 
+/* What a start is, and how it is called in a machine, with lengths of timers or without. */
+typedef struct {
+    starts *plain;
+    u32 (*timed)(machine *instance, u64 handle, u64 config, u64 lengths);
+    const lapd_lengths *lengths;
+} start_call;
+
+static u32 called(machine *instance, const start_call *call) {
+    enum { LENGTHS = OTHER + 32 };
+    if (call->lengths == NULL)
+        return call->plain(instance, HANDLE, OTHER);
+    put_lapd_lengths(instance, LENGTHS, call->lengths);
+    return call->timed(instance, HANDLE, OTHER, LENGTHS);
+}
+
+/* Whether a length of a timer is out of range. */
+static bool is_out_of_range(const lapd_lengths *it) {
+    enum { HOUR = 3600000 };
+    return it != NULL && (it->t200 - 1 >= HOUR || it->t203 - 1 >= HOUR || it->t201 - 1 >= HOUR);
+}
+
 /* Starts a card or a clock in a machine of its own. */
-static uint32_t start(bool *started, void **at, const lapd_config *config, u64 heap, starts *call) {
+static uint32_t start(bool *started, void **at, const lapd_config *config, u64 heap, const start_call *call) {
     if (*started)
         return LAPD_SECOND_START;
     u32 fault = fault_of(config);
+    if (fault == LAPD_OK && is_out_of_range(call->lengths))
+        fault = LAPD_WRONG_TIME;
     machine *instance = new_machine(fault == LAPD_OK ? heap : 0);
     if (instance == NULL)
         return fault != LAPD_OK ? fault : LAPD_NO_MEMORY;
     put_lapd_config(instance, OTHER, config);
-    u32 status = call(instance, HANDLE, OTHER);
+    u32 status = called(instance, call);
     if (status == LAPD_OK) {
         *started = true;
         *at = instance;
@@ -70,19 +93,36 @@ uint32_t lapd_version(void) {
 uint32_t lapd_card_start(lapd_card *card, const lapd_config *config) {
     if (card == NULL || config == NULL)
         return LAPD_WRONG_POINTER;
-    return start(&card->started, &card->at, config, lapd_card_octets(config), w2c_lapd_card_start);
+    const start_call call = {w2c_lapd_card_start, NULL, NULL};
+    return start(&card->started, &card->at, config, lapd_card_octets(config), &call);
 }
 
 uint32_t lapd_card_start_frames(lapd_card *card, const lapd_config *config) {
     if (card == NULL || config == NULL)
         return LAPD_WRONG_POINTER;
-    return start(&card->started, &card->at, config, lapd_card_octets_frames(config), w2c_lapd_card_start_frames);
+    const start_call call = {w2c_lapd_card_start_frames, NULL, NULL};
+    return start(&card->started, &card->at, config, lapd_card_octets_frames(config), &call);
+}
+
+uint32_t lapd_card_start_timed(lapd_card *card, const lapd_config *config, const lapd_lengths *lengths) {
+    if (card == NULL || config == NULL || lengths == NULL)
+        return LAPD_WRONG_POINTER;
+    const start_call call = {NULL, w2c_lapd_card_start_timed, lengths};
+    return start(&card->started, &card->at, config, lapd_card_octets_timed(config), &call);
+}
+
+uint32_t lapd_card_start_frames_timed(lapd_card *card, const lapd_config *config, const lapd_lengths *lengths) {
+    if (card == NULL || config == NULL || lengths == NULL)
+        return LAPD_WRONG_POINTER;
+    const start_call call = {NULL, w2c_lapd_card_start_frames_timed, lengths};
+    return start(&card->started, &card->at, config, lapd_card_octets_frames_timed(config), &call);
 }
 
 uint32_t lapd_clock_start(lapd_clock *clock, const lapd_config *config) {
     if (clock == NULL || config == NULL)
         return LAPD_WRONG_POINTER;
-    return start(&clock->started, &clock->at, config, lapd_clock_octets(config), w2c_lapd_clock_start);
+    const start_call call = {w2c_lapd_clock_start, NULL, NULL};
+    return start(&clock->started, &clock->at, config, lapd_clock_octets(config), &call);
 }
 
 typedef u32 ends(machine *instance, u64 handle);

@@ -1,7 +1,8 @@
 /*
- * heap_holds.c: a card of either kind and its clock fit into the octets that lapd_card_octets, lapd_card_octets_frames and
- * lapd_clock_octets say, over c/heap.c; where there are fewer and fewer, a start is refused memory at last, and what it had taken is given back; and
- * what they give back can be taken again. The heap is compiled with room for the largest of these configurations.
+ * heap_holds.c: a card of each kind and a clock fit into the octets that lapd_card_octets, lapd_card_octets_frames,
+ * lapd_card_octets_timed, lapd_card_octets_frames_timed and lapd_clock_octets say, over c/heap.c; where there are fewer and
+ * fewer, a start is refused memory at last, and what it had taken is given back; and what they give back can be taken again.
+ * The heap is compiled with room for the largest of these configurations.
  */
 #include <stdbool.h>
 #include <stdint.h>
@@ -44,7 +45,21 @@ typedef struct {
     uint64_t (*octets)(const lapd_config *config);
 } kind;
 
-static const kind kinds[] = {{lapd_card_start, lapd_card_octets}, {lapd_card_start_frames, lapd_card_octets_frames}};
+static const lapd_lengths lengths = {.t200 = 1000, .t203 = 10000, .t201 = 1000};
+
+static uint32_t start_timed(lapd_card *card, const lapd_config *config) {
+    return lapd_card_start_timed(card, config, &lengths);
+}
+
+static uint32_t start_frames_timed(lapd_card *card, const lapd_config *config) {
+    return lapd_card_start_frames_timed(card, config, &lengths);
+}
+
+static const kind kinds[] = {{lapd_card_start, lapd_card_octets},
+                             {lapd_card_start_frames, lapd_card_octets_frames},
+                             {start_timed, lapd_card_octets_timed},
+                             {start_frames_timed, lapd_card_octets_frames_timed}};
+enum { KINDS = sizeof kinds / sizeof *kinds };
 
 static int holds(const lapd_config *config, const kind *of) {
     lapd_card card = LAPD_CARD_NONE;
@@ -91,7 +106,7 @@ static int refuses(const lapd_config *config, const kind *of) {
 int main(void) {
     int good = 1;
     for (int round = 0; round < 3; round++)
-        for (size_t i = 0; i < 2 * (sizeof configs / sizeof *configs); i++)
-            good &= holds(&configs[i / 2], &kinds[i % 2]) & refuses(&configs[i / 2], &kinds[i % 2]);
+        for (size_t i = 0; i < KINDS * (sizeof configs / sizeof *configs); i++)
+            good &= holds(&configs[i / KINDS], &kinds[i % KINDS]) & refuses(&configs[i / KINDS], &kinds[i % KINDS]);
     return !good;
 }

@@ -2,7 +2,8 @@
  * page.c: a loop of docs/EMBEDDING.md as a program. tests/c/run puts what the page shows into the file PAGE. Standard
  * input is the line. At a card of octets it is an octet every ten milliseconds: each note and each drop is printed at once,
  * and the octets that go out are printed at the end. At a card of frames (FRAMES) it is the octets of a frame behind their
- * number, or 0, ten milliseconds in which none comes: each frame that goes out is printed at once, too.
+ * number, or 0, ten milliseconds in which none comes: each frame that goes out is printed at once, too. With TIMED the loop
+ * needs no clock.
  */
 #include <stdio.h>
 #include <stdlib.h>
@@ -75,8 +76,10 @@ static void layer_3(uint32_t line, const lapd_report *told) {
 }
 
 static lapd_card card = LAPD_CARD_NONE;
-static lapd_clock timers = LAPD_CLOCK_NONE;
 static lapd_report report;
+
+#ifndef TIMED
+static lapd_clock timers = LAPD_CLOCK_NONE;
 
 static uint32_t carried_out(uint32_t line, uint32_t status) {
     if (status == LAPD_OK)
@@ -85,13 +88,14 @@ static uint32_t carried_out(uint32_t line, uint32_t status) {
         layer_3(line, &report);              /* notes, contents, room */
     return status;
 }
+#endif
 
 /* What the page says of its two configurations: that the other one starts, too, and how many octets each takes. */
 static bool is_as_said(void) {
     lapd_card other = LAPD_CARD_NONE;
     return lapd_card_start_frames(&other, &primary) == LAPD_OK && lapd_card_free(&other) == LAPD_OK
-           && lapd_card_octets(&basic) == 41040 && lapd_card_octets_frames(&basic) == 40208
-           && lapd_card_octets(&primary) == 8112 && lapd_card_octets_frames(&primary) == 7280;
+           && lapd_card_octets(&basic) == 41120 && lapd_card_octets_frames(&basic) == 40288
+           && lapd_card_octets(&primary) == 8192 && lapd_card_octets_frames(&primary) == 7360;
 }
 
 int main(void) {

@@ -101,7 +101,10 @@ static void saw(const char *name, uint32_t status) {
 static void starts_and_ends(void) {
     lapd_config of_card = config(), of_clock = config();
     refuses = below(4) == 0;
-    switch (below(5)) {
+    lapd_lengths of_timers = {below(8), 10, 10};
+    switch (below(7)) {
+    case 6: CALL(lapd_card_start_timed, &card, &of_card, &of_timers); break;
+    case 5: CALL(lapd_card_start_frames_timed, &card, &of_card, &of_timers); break;
     case 0: CALL(lapd_card_start, &card, &of_card); break;
     case 1: CALL(lapd_card_start_frames, &card, &of_card); break;
     case 2: CALL(lapd_card_free, &card); break;
@@ -166,7 +169,13 @@ static void questions(void) {
     struct lapd_counters counters;
     char text[LAPD_MOST_TEXT];
     static const uint8_t octets[1029] = {0};
-    switch (below(10)) {
+    static uint64_t at;
+    uint64_t moment;
+    if (below(40) == 0)
+        at = below(1000);
+    switch (below(12)) {
+    case 11: CALL(lapd_fall_due, &card, at += below(9), &report); break;
+    case 10: CALL(lapd_next_moment, &card, &moment); break;
     case 9: CALL(lapd_frame_text, octets, below(3) ? 3 : below(1030), (uint16_t)below(3), text, below(2) ? sizeof text : 10); break;
     case 0: CALL(lapd_state, &card, line(), service(), tei(), &state); break;
     case 1: CALL(lapd_next_link, &card, line(), &place, &link); break;

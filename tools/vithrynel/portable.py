@@ -17,7 +17,8 @@ from .wasm import need, put, wasm
 
 # Each function of these has its own text in c/portable/card.c; the others are written here.
 BY_HAND = ("lapd_version", "lapd_card_start", "lapd_card_start_frames", "lapd_clock_start", "lapd_card_free", "lapd_clock_free",
-           "lapd_exchange", "lapd_frame_text")
+           "lapd_exchange", "lapd_frame_text",
+           "lapd_card_start_timed", "lapd_card_start_frames_timed")
 # No function of the machine's is asked for it.
 NOT_EXPORTED = ("lapd_version",)
 # An array of a struct, by the field that says how much of it there is.

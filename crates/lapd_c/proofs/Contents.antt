@@ -1,6 +1,6 @@
 -- Contents that an answer delivers have at most N201 octets.
-use Rattle.lapd_c.proofs.Vocabulary.{◌≡◌, ℕ, ◌≤◌, Answer, Card, OctetCard, told, option_map, Bool, true, false, List, length, Option, None, nat_lt, refl, sym, subst, arith, leb-true, ltb-false, and_parts, option_or, option_map_or, Control, Ui, State, Terms, Refusal, Arrived, eligible_of, information_in, Link, Course, begun, by_bit, leave_unserved, deliver_unit, delivered-at_once, Fits, FitsEvent}
-use Rattle.lapd_c.proofs.Vocabulary.{Kept, frame_row, event_row, Change, Config, hears, expiry, request, next, refused, nothing, told_of_management, of_link, of_change, of_management, of_aim, without_units, event_aims, Effect, Line, unless_refused_told, refusal, Service, contents_or_none, contents_in, ContentsFit}
+use Rattle.lapd_c.proofs.Vocabulary.{◌≡◌, ℕ, ◌≤◌, Answer, Card, OctetCard, option_map, Bool, true, false, List, length, Option, None, nat_lt, refl, sym, subst, arith, leb-true, ltb-false, and_parts, option_or, option_map_or, Control, Ui, State, Terms, Refusal, Arrived, eligible_of, information_in, Link, Course, begun, by_bit, leave_unserved, deliver_unit, delivered-at_once, Fits, FitsEvent}
+use Rattle.lapd_c.proofs.Vocabulary.{Kept, frame_row, event_row, Change, Config, hears, expiry, request, next, nothing, told_of_management, of_link, of_change, of_management, of_aim, without_units, event_aims, Effect, Line, unless_refused_told, refusal, Service, contents_or_none, contents_in, ContentsFit}
 use Rattle.std.proofs.Common.{Some}
 use Rattle.model_link.specs.Events as link
 use Rattle.model_link.specs.Machine as links

@@ -3,6 +3,11 @@ use Rattle.lapd_c.proofs.Vocabulary.{◌≡◌, ℕ, suc, ◌+◌, ◌-◌, true
 use Rattle.model_card.specs.ports.Card.{after, answer}
 use Rattle.model_card.specs.ports.Run.{Run}
 use Rattle.lapd_card.specs.Card.{Held}
+use Rattle.lapd_c.specs.Exchange.{Exchanged, IsThrough, TellsAtLast}
+use Rattle.lapd_frame.specs.declared.timers.Order.{Order}
+use Rattle.model_timed.specs.Octets.{orders_in}
+use Rattle.std.specs.Prelude.{◌⊎◌}
+use Rattle.std.proofs.Common.{inl, inr}
 use Rattle.lapd_card.specs.Stands.{Leads, meaning_counted}
 
 module _ (line : ℕ) (taken : List ℕ) (from : ℕ) (m : OctetCard) where
@@ -20,7 +25,7 @@ module _ (line : ℕ) (taken : List ℕ) (from : ℕ) (m : OctetCard) where
   unfolding steps_made moments meant_all given_after
   made-none card given s = record { stands = s; counted = refl; octets = refl }
 
-  card-more : (n : ℕ) → after (step_event line taken (from + n)) (card_after line taken from n m) ≡ card_after line taken from (suc n) m
+  pub card-more : (n : ℕ) → after (step_event line taken (from + n)) (card_after line taken from n m) ≡ card_after line taken from (suc n) m
   unfolding steps_made
   card-more n = sym (ap (λ (r : Run). r.card) (octets-more m (steps_made line taken from n) (step_event line taken (from + n))))
 
@@ -56,3 +61,14 @@ module _ (line : ℕ) (taken : List ℕ) (from : ℕ) (m : OctetCard) where
   pub shown-made : (n step : ℕ) (r : PlainReport) → step ≡ from + n → ShowsReply r (answer (step_event line taken step) (card_after line taken from n m))
       → ShowsReply r (answer_after line taken from n m)
   shown-made n step r e h = subst (λ (s : ℕ). ShowsReply r (answer (step_event line taken s) (card_after line taken from n m))) e h
+
+  pub ordered-made : (n step : ℕ) (orders : List Order) → step ≡ from + n → orders ≡ orders_in (answer (step_event line taken step) (card_after line taken from n m)) → orders ≡ orders_in (answer_after line taken from n m)
+  ordered-made n step orders e h = h ∙ ap (λ (s : ℕ). orders_in (answer (step_event line taken s) (card_after line taken from n m))) e
+
+  -- the card stands for the machine after all steps
+  pub stands-to : (card : Held Store) (given given' : List ℕ) (to : ℕ) (r : PlainReport) → Exchanged false line taken from m card given given' to r → CardStands card (card_after line taken from (to - from) m)
+  stands-to card given given' to r x = subst (λ n. CardStands card (card_after line taken from n m)) (its-number x.ended) x.stands
+    where
+      its-number : IsThrough line taken from x.n m to r ⊎ TellsAtLast false line taken from x.n m to r → x.n ≡ to - from
+      its-number (inl t) = let made = t.made in omega arith
+      its-number (inr t) = let made = t.made in omega arith

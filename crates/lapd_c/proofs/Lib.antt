@@ -1,4 +1,5 @@
--- Lemmas: where cards and clocks lie; what is served at them; two cards that exchange frames; which links wait for room.
+-- Lemmas: where cards and clocks lie; what is served at them; two cards that exchange frames; which links wait for room; what becomes
+-- of a card's own timers.
 pub mod Vocabulary
 pub mod Machine
 pub mod Places
@@ -7,7 +8,9 @@ pub mod CardPlaces
 pub mod Contents
 pub mod WholeFrames
 pub mod Served
+pub mod Starting
 pub mod Exchanging
 pub mod Linking
 pub mod Reopening
+pub mod Timing
 pub mod Ordering

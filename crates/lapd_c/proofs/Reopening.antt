@@ -7,10 +7,19 @@ use Rattle.std.proofs.lemmas.List.{set_past, set-get_or}
 use Rattle.model_line.specs.Event as line_event
 use Rattle.model_card.specs.ports.Port as port
 use Rattle.lapd_c.specs.declared.link_marks.LinkMarks.{LinkMarks}
-use Rattle.lapd_c.specs.Exchange.{ExchangedBy}
+use Rattle.lapd_c.specs.Exchange.{Exchanged, answer_after}
+use Rattle.lapd_card.specs.Card as octets
+use Rattle.lapd_store.specs.Store.{Store}
+use Rattle.std.specs.Prelude.{is_some}
 use Rattle.lapd_c.specs.LinkMarks.{is_marked, marks_of, AreMarked, MarksBecome, SetsLink}
 use Rattle.lapd_c.specs.Reopened.{AreShutBelow, TellsReopened, is_open, is_there, is_told, with_reopened}
 use Rattle.lapd_c.specs.Reports.{ShowsPull}
+use Rattle.std.proofs.Common.{min}
+use Rattle.std.proofs.Math.Nat.{min-eq_left}
+use Rattle.lapd_c.proofs.Vocabulary.{Octets, Frames, with_ports, alone, card_in, ranges_of}
+use Rattle.lapd_frame.specs.declared.timers.Order.{Order}
+use Rattle.lapd_timed.specs.declared.card_timers.CardTimers.{CardTimers}
+use Rattle.lapd_c.specs.Kept.{orders_by, reply_seen_by, seen_by, settled}
 
 -- ---- which wait
 
@@ -52,8 +61,8 @@ pub others_wait_on : (waits : ℕ → Bool) (told : Option ℕ) (one : ℕ) (lin
 others_wait_on waits told one links after some are sets = grind (arith, eqb-true, and_right, eqb-false, and_true)
 
 -- where none is marked, none waits, and nothing is told
-pub none_reopened : (line : ℕ) (m : Card) (all : List LinkMarks) (r : PlainReport) → AreMarked (marks_of all line) (λ place. false) → r.reopened ≡ 0 → TellsReopened line m all all r
-none_reopened line m all r none shown = record {
+pub none_reopened : (line : ℕ) (m : Card) (all : List LinkMarks) (r : PlainReport) → AreMarked (marks_of all line) (λ place. false) → r.reopened ≡ 0 → r.line ≡ line → TellsReopened line m all all r
+none_reopened line m all r none shown of_line = record {
   told = None;
   first = λ place lt marked. absurd (false≢true (sym (none place lt) ∙ marked));
   shown = shown;
@@ -62,7 +71,21 @@ none_reopened line m all r none shown = record {
     all = sym (set-get_or all line (record { words = [] }));
     marks = λ within place lt. none place lt ∙ ap (λ b. (b && is_there line m place) && not (is_told None place)) (sym (none place lt));
   };
+  of_line = of_line;
 }
+
+-- no card has so many lines that its number has no room in a report
+few_lines : (card : AnyCard) (m : Machine) → AnyStands card m → (card_in m).config.lines ≤ 64
+few_lines (Octets c) (with_ports m) s = (ranges_of m.card.config s.frames.reached.config).lines.most
+few_lines (Octets c) (alone m) s = absurd s
+few_lines (Frames c) (with_ports m) s = absurd s
+few_lines (Frames c) (alone m) s = (ranges_of m.config s.reached.config).lines.most
+
+pub line_told : (card : AnyCard) (m : Machine) (line : ℕ) (r : PlainReport) → AnyStands card m → line < (card_in m).config.lines → r.line ≡ min line 65535 → r.line ≡ line
+line_told card m line r s within is =
+    let few : (card_in m).config.lines ≤ 64 = few_lines card m s in
+    let small : line ≤ 65535 = omega (arith, few, within) in
+    is ∙ min-eq_left small
 
 -- ---- what a report showed, it shows
 
@@ -78,10 +101,48 @@ still_answered new old a is s = grind (arith, still_told)
 pub still_replied : (new old : PlainReport) (a : port.Answer) → new ≡ with_reopened new old → ShowsReply old a → ShowsReply new a
 still_replied new old a is s = grind (arith, still_told, still_pulled)
 
--- also that of an exchange
-pub still_exchanged : (line from : ℕ) (taken : List ℕ) (m : OctetCard) (card : AnyCard) (given given' : List ℕ) (to : ℕ) (new old : PlainReport) → new ≡ with_reopened new old
-    → ExchangedBy line taken from m card given given' to old → ExchangedBy line taken from m card given given' to new
-still_exchanged line from taken m card given given' to new old is x = grind (arith, still_replied)
+-- and where the card keeps its own timers, all but the orders
+pub settled_answered : (timers : Option CardTimers) (new old : PlainReport) (a : line_event.Answer) → new ≡ settled timers new old → ShowsAnswer old a → ShowsAnswer new (seen_by (is_some timers) a)
+settled_answered None new old a is s = still_answered new old a is s
+settled_answered (Some timers) new old (line_event.told t) is s = grind arith
+settled_answered (Some timers) new old (line_event.refused why) is s = s
+settled_answered (Some timers) new old (line_event.gave next) is s = s
+
+pub settled_pulled : (timers : Option CardTimers) (new old : PlainReport) (begun more : Bool) (orders : List Order) → new ≡ settled timers new old → ShowsPull old begun more orders
+    → ShowsPull new begun more (orders_by (is_some timers) orders)
+settled_pulled None new old begun more orders is s = still_pulled new old begun more orders is s
+settled_pulled (Some timers) new old begun more orders is s = grind arith
+
+pub settled_replied : (timers : Option CardTimers) (new old : PlainReport) (a : port.Answer) → new ≡ settled timers new old → ShowsReply old a → ShowsReply new (reply_seen_by (is_some timers) a)
+settled_replied None new old a is s = still_replied new old a is s
+settled_replied (Some timers) new old (port.told t) is s = settled_answered (Some timers) new old (line_event.told t) is s
+settled_replied (Some timers) new old (port.refused why) is s = s
+settled_replied (Some timers) new old (port.pulled value begun orders) is s = settled_pulled (Some timers) new old begun false orders is s
+
+-- nothing has no orders
+settled_nothing : (timers : Option CardTimers) (new old : PlainReport) → new ≡ settled timers new old → ShowsReply old (port.told line_event.nothing) → ShowsReply new (port.told line_event.nothing)
+settled_nothing None new old is s = settled_replied None new old (port.told line_event.nothing) is s
+settled_nothing (Some timers) new old is s = settled_replied (Some timers) new old (port.told line_event.nothing) is s
+
+-- so also an exchange
+pub settled_exchanged : (timers : Option CardTimers) (line from : ℕ) (taken : List ℕ) (m : OctetCard) (card : octets.Held Store) (given given' : List ℕ) (to : ℕ) (new old : PlainReport)
+    → new ≡ settled timers new old → Exchanged false line taken from m card given given' to old → Exchanged (is_some timers) line taken from m card given given' to new
+settled_exchanged timers line from taken m card given given' to new old is x = record {
+  n = x.n;
+  stands = x.stands;
+  octets = x.octets;
+  ended = elim x.ended [
+    | inl t ↦ inl (record { end = t.end; made = t.made; quiet = t.quiet; report = settled_nothing timers new old is t.report })
+    | inr t ↦ inr (record {
+      before = t.before;
+      last = t.last;
+      made = t.made;
+      quiet = t.quiet;
+      tells = t.tells;
+      report = settled_replied timers new old (answer_after line taken from t.before m) is t.report;
+    })
+  ];
+}
 
 -- ---- the card that C holds
 

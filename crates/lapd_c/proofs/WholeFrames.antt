@@ -4,6 +4,7 @@ use Rattle.std.proofs.Common.{Some, IfSome, length, ◌≤◌}
 use Rattle.std.proofs.Math.Nat.{min-eq_left}
 use Rattle.std.proofs.lemmas.List.{length-take}
 use Rattle.lapd_frame.specs.ShortLists.{listed}
+use Rattle.lapd_frame.specs.declared.timers.Order.{Order}
 use Rattle.lapd_card.specs.Waiting.{has_next}
 use Rattle.lapd_c.specs.declared.plain.reports.PlainReport.{PlainReport}
 use Rattle.lapd_c.specs.Frames.{IsGiven}
@@ -11,6 +12,7 @@ use Rattle.lapd_c.specs.Reports.{ShowsPull}
 use Rattle.lapd_c.specs.Statuses.{ok}
 use Rattle.model_line.specs.Came.{came}
 use Rattle.model_line.specs.Event as line
+use Rattle.model_line.specs.Laws.{orders_in}
 use Rattle.model_card.specs.Machine as machine
 use Rattle.lapd_card.specs.FrameCard as frames
 use Rattle.lapd_card.proofs.OneOctet.{none_leaves, none_counts}
@@ -31,13 +33,17 @@ pub none_counted : (i : ℕ) (m : Card) (all : List Counters) → next_at i m �
 none_counted i m all none = none_counts m i all none
 
 -- what is written is given, where it fits, and shown with whether another waits
-pub given_shown : (i : ℕ) (m : Card) (new : AnyCard) (out out' : List ℕ) (count status : ℕ) (r : PlainReport) (next : NextFrame) (more : Bool)
+pub given_shown : (i : ℕ) (m : Card) (new : AnyCard) (out out' : List ℕ) (count status : ℕ) (r : PlainReport) (next : NextFrame) (more : Bool) (kept : List Order → List Order)
     → next_at i m ≡ Some (next_in out' next) → status ≡ ok → AnyStands new (alone (machine.after (goes i) m)) → more ≡ has_next i (machine.after (goes i) m)
-    → count ≡ next.length → next.length ≤ length out' → drop next.length out' ≡ drop next.length out → ShowsPull r true more (listed next.orders)
-    → IfSome (next_at i m) (λ n. (status ≡ ok) × AnyStands new (alone (machine.after (goes i) m)) × IsGiven n out out' count × ShowsPull r true (has_next i (machine.after (goes i) m)) n.orders)
-given_shown i m new out out' count status r next more is fine stands waits same o rest shows = grind (arith, IfSome, length-take, min-eq_left)
+    → count ≡ next.length → next.length ≤ length out' → drop next.length out' ≡ drop next.length out → ShowsPull r true more (kept (listed next.orders))
+    → IfSome (next_at i m) (λ n. (status ≡ ok) × AnyStands new (alone (machine.after (goes i) m)) × IsGiven n out out' count × ShowsPull r true (has_next i (machine.after (goes i) m)) (kept n.orders))
+given_shown i m new out out' count status r next more kept is fine stands waits same o rest shows = grind (arith, IfSome, length-take, min-eq_left)
 
 -- where there is none, nothing is said
 pub none_said : {X : Type 0} (P : X → Type 0) (o : Option X) → o ≡ None → IfSome o P
 none_said P None is = tt
 none_said P (Some x) is = absurd (cc)
+
+-- the orders of what is given are those of the answer
+pub orders_of_next : (i : ℕ) (m : Card) (out : List ℕ) (given : NextFrame) → gave_in out (Some given) ≡ machine.answer (goes i) m → listed given.orders ≡ orders_in (machine.answer (goes i) m)
+orders_of_next i m out given is = ap orders_in is

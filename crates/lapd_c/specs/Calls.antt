@@ -1,5 +1,6 @@
 -- What every call of a card comes to, served or not. Its tests come in the order of the fields.
-use Rattle.std.specs.Prelude.{◌≡◌, ◌≤◌, ◌<◌, ℕ, Option, Some, None, replicate}
+use Rattle.std.specs.Prelude.{◌≡◌, ◌⊎◌, ◌≤◌, ◌<◌, ℕ, true, false, Option, Some, None, IfSome, replicate}
+use Rattle.lapd_clock.specs.Timer.{first_out_of_range}
 use Rattle.lapd_count.specs.Counters.{none_counted}
 use Rattle.model_card.specs.Card.{Card}
 use Rattle.model_card.specs.Card as frames
@@ -16,13 +17,17 @@ use Rattle.lapd_c.specs.declared.card.CardHandle.{CardHandle}
 use Rattle.lapd_c.specs.declared.kept.KeptCard.{KeptCard}
 use Rattle.lapd_c.specs.declared.plain.config.PlainConfig.{PlainConfig}
 use Rattle.lapd_c.specs.declared.plain.reports.PlainReport.{PlainReport}
+use Rattle.lapd_c.specs.declared.plain.timers.PlainLengths.{PlainLengths}
 use Rattle.lapd_c.specs.CardSlots.{HeldCard}
 use Rattle.lapd_c.specs.Cards.{card_of, kind_in, marks_at, IsHandle, HandleStands, OctetsStand, FramesStand}
-use Rattle.lapd_c.specs.Config.{config_in}
+use Rattle.lapd_c.specs.Config.{config_fault, config_in}
+use Rattle.lapd_c.specs.Kept.{is_timed, timers_of, TimersStandIn}
 use Rattle.lapd_c.specs.LinkMarks.{AreUnmarked}
 use Rattle.lapd_c.specs.Reopened.{TellsReopened}
 use Rattle.lapd_c.specs.Starts.{IsStart}
 use Rattle.lapd_c.specs.Statuses as status
+use Rattle.lapd_c.specs.Timers.{lengths_in}
+use Rattle.model_timed.specs.Clock.{stopped}
 
 -- The machine of a card that begins, by its kind.
 abbrev pub fresh : CardKind → Config → Machine
@@ -39,22 +44,42 @@ abbrev pub HasBegun : Machine → HeldCard → Type 0
 HasBegun m None = ⊥
 HasBegun m (Some kept) = Begins m kept
 
--- What a start of a card of a kind comes to.
+-- What a start of a card of a kind comes to. The timers of such a card are the caller's.
 pub record IsCardStart (kind : CardKind) (config : PlainConfig) (old new : CardHandle) (result : ℕ) : Type 0 where
   pub handle : IsHandle new
   pub start : IsStart card_of config old new result
   pub begun : result ≡ status.ok → HasBegun (fresh kind (config_in config)) (card_of new)
+  pub timed : result ≡ status.ok → is_timed new ≡ false
+
+-- And of one that keeps its own: none of them runs, and the moment is 0. A length that is out of range is told after what is
+-- wrong with the configuration.
+pub record IsTimedStart (kind : CardKind) (config : PlainConfig) (lengths : PlainLengths) (old new : CardHandle) (result : ℕ) : Type 0 where
+  pub handle : IsHandle new
+  pub second : IfSome (card_of old) (λ _. (result ≡ status.second_start) × (new ≡ old))
+  pub fault : card_of old ≡ None → IfSome (config_fault config) (λ wrong. (result ≡ wrong) × (new ≡ old))
+  pub wrong_time : card_of old ≡ None → config_fault config ≡ None
+      → IfSome (first_out_of_range (lengths_in lengths)) (λ _. (result ≡ status.wrong_time) × (new ≡ old))
+  pub otherwise : card_of old ≡ None → config_fault config ≡ None → first_out_of_range (lengths_in lengths) ≡ None
+      → (result ≡ status.ok) ⊎ ((result ≡ status.no_memory) × (new ≡ old))
+  pub begun : result ≡ status.ok → HasBegun (fresh kind (config_in config)) (card_of new)
+  pub timed : result ≡ status.ok
+      → TimersStandIn (timers_of new) (card_in (fresh kind (config_in config))) (stopped (lengths_in lengths))
+
+-- What C holds stands for a machine, and its timers are the caller's.
+abbrev pub UntimedStands : CardHandle → Machine → Type 0
+UntimedStands h m = HandleStands h m × (is_timed h ≡ false)
 
 -- Where there is no card, this is told, and nothing changes.
 pub record IsCall (old new : CardHandle) (result : ℕ) : Type 0 where
   pub handle : IsHandle new
   pub no_card : card_of old ≡ None → (result ≡ status.no_card) × (new ≡ old)
 
--- The same of a line: where the card does not have it, this is told.
+-- The same of a line: where the card does not have it, this is told. A card keeps its own timers after it where it did before.
 pub record IsCallAt (line : ℕ) (old new : CardHandle) (result : ℕ) : Type 0 where
   pub handle : IsHandle new
   pub no_card : card_of old ≡ None → (result ≡ status.no_card) × (new ≡ old)
   pub wrong_line : (m : Machine) → HandleStands old m → (card_in m).config.lines ≤ line → result ≡ status.wrong_line
+  pub timed : is_timed new ≡ is_timed old
 
 -- The same of a line of a card of octets, and of one of frames: where it is one of the other kind, this is told.
 pub record IsOctetsCall (line : ℕ) (old new : CardHandle) (result : ℕ) : Type 0 where
@@ -62,16 +87,30 @@ pub record IsOctetsCall (line : ℕ) (old new : CardHandle) (result : ℕ) : Typ
   pub no_card : card_of old ≡ None → (result ≡ status.no_card) × (new ≡ old)
   pub wrong_card : kind_in old ≡ Some kinds.Frames → result ≡ status.wrong_card
   pub wrong_line : (m : OctetCard) → OctetsStand old m → m.card.config.lines ≤ line → result ≡ status.wrong_line
+  pub timed : is_timed new ≡ is_timed old
 
 pub record IsFramesCall (line : ℕ) (old new : CardHandle) (result : ℕ) : Type 0 where
   pub handle : IsHandle new
   pub no_card : card_of old ≡ None → (result ≡ status.no_card) × (new ≡ old)
   pub wrong_card : kind_in old ≡ Some kinds.Octets → result ≡ status.wrong_card
   pub wrong_line : (m : Card) → FramesStand old m → m.config.lines ≤ line → result ≡ status.wrong_line
+  pub timed : is_timed new ≡ is_timed old
 
--- What holds of each machine that stands for a card with this line: one of either kind, of octets, of frames.
+-- The same of a line of a card whose timers are the caller's: where it keeps its own, this is told.
+pub record IsUntimedCall (line : ℕ) (old new : CardHandle) (result : ℕ) : Type 0 where
+  pub handle : IsHandle new
+  pub no_card : card_of old ≡ None → (result ≡ status.no_card) × (new ≡ old)
+  pub wrong_card : is_timed old ≡ true → result ≡ status.wrong_card
+  pub wrong_line : (m : Machine) → UntimedStands old m → (card_in m).config.lines ≤ line → result ≡ status.wrong_line
+  pub timed : is_timed new ≡ is_timed old
+
+-- What holds of each machine that stands for a card with this line: one of either kind, one of either kind whose timers are the
+-- caller's, one of octets, one of frames.
 abbrev pub WithLine : ℕ → CardHandle → (Machine → Type 0) → Type 0
 WithLine line h holds = (m : Machine) → HandleStands h m → line < (card_in m).config.lines → holds m
+
+abbrev pub UntimedWithLine : ℕ → CardHandle → (Machine → Type 0) → Type 0
+UntimedWithLine line h holds = (m : Machine) → UntimedStands h m → line < (card_in m).config.lines → holds m
 
 abbrev pub OctetsWithLine : ℕ → CardHandle → (OctetCard → Type 0) → Type 0
 OctetsWithLine line h holds = (m : OctetCard) → OctetsStand h m → line < m.card.config.lines → holds m

@@ -5,6 +5,8 @@ use Rattle.model_card.specs.ports.Card.{OctetCard, answer}
 use Rattle.model_card.specs.ports.Event.{Event, at}
 use Rattle.model_card.specs.ports.Port.{Answer, octet, pull, told, refused, pulled}
 use Rattle.model_card.specs.ports.Run.{run}
+use Rattle.model_timed.specs.Octets.{orders_in}
+use Rattle.lapd_frame.specs.declared.timers.Order.{Order}
 use Rattle.lapd_store.specs.Store.{Store}
 use Rattle.lapd_card.specs.Card.{Held}
 use Rattle.lapd_c.specs.declared.plain.reports.PlainReport.{PlainReport}
@@ -12,6 +14,7 @@ use Rattle.lapd_card.specs.declared.kinds.AnyCard.{AnyCard}
 use Rattle.lapd_card.specs.declared.kinds.AnyCard.TheVariants.{Octets, Frames}
 use Rattle.lapd_c.specs.Answers.{ShowsReply, octet_of}
 use Rattle.lapd_c.specs.CardSlots.{HeldCard}
+use Rattle.lapd_c.specs.Kept.{reply_seen_by}
 use Rattle.lapd_card.specs.Kinds.{CardStands}
 
 -- An answer has nothing to tell.
@@ -61,26 +64,33 @@ pub record IsThrough (line : ℕ) (taken : List ℕ) (from n : ℕ) (m : OctetCa
   pub quiet : AllQuiet line taken from n m
   pub report : ShowsReply r (told nothing)
 
--- The last step was the first to have something to tell, and the report tells it.
-pub record TellsAtLast (line : ℕ) (taken : List ℕ) (from n : ℕ) (m : OctetCard) (to : ℕ) (r : PlainReport) : Type 0 where
+-- The last step was the first to have something to tell, orders among that, and the report tells it: without the orders where
+-- the card keeps its own timers.
+pub record TellsAtLast (timed : Bool) (line : ℕ) (taken : List ℕ) (from n : ℕ) (m : OctetCard) (to : ℕ) (r : PlainReport) : Type 0 where
   pub before : ℕ
   pub last : n ≡ before + 1
   pub made : to ≡ from + n
   pub quiet : AllQuiet line taken from before m
   pub tells : tells_nothing (answer_after line taken from before m) ≡ false
-  pub report : ShowsReply r (answer_after line taken from before m)
+  pub report : ShowsReply r (reply_seen_by timed (answer_after line taken from before m))
+
+-- The orders of the last step, which are the only ones: where none had anything to tell, there are none.
+pub record OrdersLast (line : ℕ) (taken : List ℕ) (from : ℕ) (m : OctetCard) (to : ℕ) (orders : List Order) : Type 0 where
+  pub before : ℕ
+  pub quiet : AllQuiet line taken from before m
+  pub ended : ((to ≡ from + before) × (orders ≡ [])) ⊎ ((to ≡ from + suc before) × (orders ≡ orders_in (answer_after line taken from before m)))
 
 -- So many steps were made of the machine, and the card stands for it after them.
-pub record Exchanged (line : ℕ) (taken : List ℕ) (from : ℕ) (m : OctetCard) (card : Held Store) (given given' : List ℕ) (to : ℕ) (r : PlainReport) : Type 0 where
+pub record Exchanged (timed : Bool) (line : ℕ) (taken : List ℕ) (from : ℕ) (m : OctetCard) (card : Held Store) (given given' : List ℕ) (to : ℕ) (r : PlainReport) : Type 0 where
   pub n : ℕ
   pub stands : CardStands card (card_after line taken from n m)
   pub octets : given' ≡ given_after line taken from n m given
-  pub ended : IsThrough line taken from n m to r ⊎ TellsAtLast line taken from n m to r
+  pub ended : IsThrough line taken from n m to r ⊎ TellsAtLast timed line taken from n m to r
 
-abbrev pub ExchangedBy : ℕ → List ℕ → ℕ → OctetCard → AnyCard → List ℕ → List ℕ → ℕ → PlainReport → Type 0
-ExchangedBy line taken from m (Octets card) given given' to r = Exchanged line taken from m card given given' to r
-ExchangedBy line taken from m (Frames card) given given' to r = ⊥
+abbrev pub ExchangedBy : Bool → ℕ → List ℕ → ℕ → OctetCard → AnyCard → List ℕ → List ℕ → ℕ → PlainReport → Type 0
+ExchangedBy timed line taken from m (Octets card) given given' to r = Exchanged timed line taken from m card given given' to r
+ExchangedBy timed line taken from m (Frames card) given given' to r = ⊥
 
-abbrev pub ExchangedIn : ℕ → List ℕ → ℕ → OctetCard → HeldCard → List ℕ → List ℕ → ℕ → PlainReport → Type 0
-ExchangedIn line taken from m None given given' to r = ⊥
-ExchangedIn line taken from m (Some kept) given given' to r = ExchangedBy line taken from m kept.card given given' to r
+abbrev pub ExchangedIn : Bool → ℕ → List ℕ → ℕ → OctetCard → HeldCard → List ℕ → List ℕ → ℕ → PlainReport → Type 0
+ExchangedIn timed line taken from m None given given' to r = ⊥
+ExchangedIn timed line taken from m (Some kept) given given' to r = ExchangedBy timed line taken from m kept.card given given' to r

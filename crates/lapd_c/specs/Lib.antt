@@ -23,6 +23,7 @@ pub mod WorkedReopened
 pub mod CardSlots
 pub mod Cards
 pub mod CardLends
+pub mod Kept
 pub mod Laws
 pub mod Links
 pub mod Orders
@@ -30,6 +31,7 @@ pub mod Frames
 pub mod Exchange
 pub mod Counted
 pub mod Calls
+pub mod AsBefore
 -- the words of the contracts, from where they are defined
 pub use Rattle.lapd_card.specs.Counted.{counters_in}
 pub use Rattle.lapd_card.specs.Kinds.{alone, card_in, CardStands, FrameCardStands, Machine, shelf_of, with_ports}
@@ -51,15 +53,16 @@ pub use Rattle.model_card.specs.ports.Stored.{limit}
 pub use Rattle.model_line.specs.Config.{first_fault}
 pub use Rattle.model_line.specs.Event.{nothing}
 pub use Rattle.lapd_c.specs.Answers.{octet_of, ShowsAnswer, ShowsReply}
-pub use Rattle.lapd_c.specs.Calls.{Begins, FramesWithLine, fresh, HasBegun, IsCall, IsCallAt, IsCardStart, IsFramesCall, IsOctetsCall, IsReopened, OctetsWithLine, refusal_at, WithLine}
+pub use Rattle.lapd_c.specs.Calls.{Begins, FramesWithLine, fresh, HasBegun, IsCall, IsCallAt, IsCardStart, IsFramesCall, IsOctetsCall, IsReopened, IsTimedStart, IsUntimedCall, OctetsWithLine, refusal_at, UntimedWithLine, WithLine}
 pub use Rattle.lapd_c.specs.Starts.{IsStart}
 pub use Rattle.lapd_c.specs.Cards.{card_of, FramesStand, IsHandle, kind_in, marks_at, OctetsStand, served_card, HandleStands}
 pub use Rattle.lapd_c.specs.Config.{config_fault, config_in, side_in}
 pub use Rattle.lapd_c.specs.Counted.{counters_at, Counts, CountsMeaning}
 pub use Rattle.lapd_c.specs.Counters.{plain_counters}
-pub use Rattle.lapd_c.specs.Exchange.{Exchanged, ExchangedIn, is_exchange, tells_nothing, step_event, steps_made, with_step}
+pub use Rattle.lapd_c.specs.Exchange.{Exchanged, ExchangedIn, is_exchange, OrdersLast, tells_nothing, step_event, steps_made, with_step}
 pub use Rattle.lapd_c.specs.Frames.{frame_comes, fails, goes, IsGiven, next_at}
 pub use Rattle.lapd_c.specs.Heads.{plain_head}
+pub use Rattle.lapd_c.specs.Kept.{is_timed, Obeys, ObeysAll, ObeysMeaning, orders_seen, reply_seen, seen, timers_of, TimersStandIn}
 pub use Rattle.lapd_c.specs.LinkMarks.{AreMarked, AreUnmarked, marks_of, MarksBecome}
 pub use Rattle.lapd_c.specs.Links.{FirstFrom, IsNext, NoneFrom}
 pub use Rattle.lapd_c.specs.Notes.{plain_note}

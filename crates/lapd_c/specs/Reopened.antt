@@ -57,9 +57,9 @@ abbrev pub ShowsReopened : PlainReport → Option ℕ → Type 0
 ShowsReopened r None = r.reopened ≡ 0
 ShowsReopened r (Some place) = (r.reopened ≡ 1) × (r.reopened_service ≡ sapi_of (service_at place)) × (r.reopened_tei ≡ tei_at place)
 
--- Nothing else of a report is another.
+-- Nothing else of a report is another, but its line.
 abbrev pub with_reopened : PlainReport → PlainReport → PlainReport
-with_reopened from r = record r { reopened = from.reopened; reopened_service = from.reopened_service; reopened_tei = from.reopened_tei }
+with_reopened from r = record r { reopened = from.reopened; reopened_service = from.reopened_service; reopened_tei = from.reopened_tei; line = from.line }
 
 -- Of those that waited, all wait on but the one that is told, and those that are no longer there.
 abbrev pub is_told : Option ℕ → ℕ → Bool
@@ -72,9 +72,10 @@ waits_there line m waits place = is_marked waits place && is_there line m place
 abbrev pub waits_on : Option ℕ → ℕ → Card → LinkMarks → ℕ → Bool
 waits_on told line m waits place = waits_there line m waits place && not (is_told told place)
 
--- So a call of a line, after which its card stands for this machine, tells in its report of one link at most.
+-- So a call of a line, after which its card stands for this machine, tells in its report of one link at most, and of its line.
 pub record TellsReopened (line : ℕ) (m : Card) (old new : List LinkMarks) (r : PlainReport) : Type 0 where
   pub told : Option ℕ
   pub first : IsFirstOpen told line m (marks_of old line)
   pub shown : ShowsReopened r told
   pub waits : MarksBecome line (waits_on told line m (marks_of old line)) old new
+  pub of_line : r.line ≡ line

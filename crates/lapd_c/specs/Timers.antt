@@ -1,5 +1,6 @@
 -- Timers and orders as numbers.
 use Rattle.std.specs.Prelude.{ℕ, nat_lt, ◌==◌, Result, Ok, Err, if◌then◌else◌}
+use Rattle.lapd_clock.specs.Timer.{Lengths}
 use Rattle.lapd_frame.specs.declared.services.Service.{Service}
 use Rattle.lapd_frame.specs.declared.timers.Order.{Order}
 use Rattle.lapd_frame.specs.declared.timers.Order.TheVariants.{Start, Stop}
@@ -7,6 +8,7 @@ use Rattle.lapd_frame.specs.declared.timers.Timer.{Timer}
 use Rattle.lapd_frame.specs.declared.timers.Timer.TheVariants.{T200, T203, T201}
 use Rattle.lapd_frame.specs.Services.{sapi_of}
 use Rattle.lapd_c.specs.declared.plain.timers.PlainOrder.{PlainOrder}
+use Rattle.lapd_c.specs.declared.plain.timers.PlainLengths.{PlainLengths}
 use Rattle.lapd_c.specs.declared.plain.timers.PlainTimer.{PlainTimer}
 use Rattle.lapd_c.specs.Services.{service_in}
 use Rattle.lapd_c.specs.Statuses.{wrong_tei, wrong_timer, wrong_order}
@@ -50,3 +52,7 @@ order_in p =
     if p.order == 1 then order_of_timer Start (timer_in p.timer)
     else if p.order == 2 then order_of_timer Stop (timer_in p.timer)
     else Err wrong_order
+
+-- How long timers run.
+abbrev pub lengths_in : PlainLengths → Lengths
+lengths_in p = record { t200 = p.t200; t203 = p.t203; t201 = p.t201 }

@@ -2,17 +2,26 @@
 
 ghost use Rattle.std.specs.Borrow.{sem};
 ghost use Rattle.std.specs.Option.{option_copied_mut};
-ghost use Rattle.std.specs.Prelude.{◌≡◌, Some, None, IfSome, IfNone, option_map};
-ghost use Rattle.lapd_c.specs.{first_fault, config_in, fresh, Begins, HasBegun, IsCall, IsStart, IsCardStart, card_of, IsHandle};
+ghost use Rattle.std.specs.Prelude.{◌≡◌, ◌⊎◌, false, Some, None, IfSome, IfNone, option_map};
+ghost use Rattle.lapd_c.specs.{first_fault, config_in, fresh, Begins, HasBegun, IsCall, IsStart, IsCardStart, IsTimedStart, card_of, is_timed, IsHandle};
+ghost use Rattle.lapd_card.specs.declared.kinds.CardKind.{CardKind as Kind};
 ghost use Rattle.lapd_card.specs.declared.kinds.CardKind.TheVariants as kinds;
 ghost use Rattle.lapd_c.specs.Statuses as status;
+ghost use Rattle.lapd_clock.specs.Given.{lengths_of};
+ghost use Rattle.lapd_clock.specs.Timer.{first_out_of_range};
+ghost use Rattle.model_timed.specs.Clock.{stopped};
+ghost use Rattle.lapd_card.specs.Kinds.{card_in};
+ghost use Rattle.lapd_c.specs.{config_fault, timers_of, TimersStandIn};
+ghost use Rattle.lapd_c.specs.Timers.{lengths_in};
 
 use crate::card_slot::CardSlot;
 use crate::kept::KeptCard;
 use crate::lend::or_answer;
-use crate::plain::{NO_CARD, NO_MEMORY, OK, PlainConfig, SECOND_START};
+use crate::plain::{NO_CARD, NO_MEMORY, OK, PlainConfig, PlainLengths, SECOND_START};
 use lapd_card::{AnyCard, Card, CardKind, FrameCard};
+use lapd_clock::Lengths;
 use lapd_store::RawShelf;
+use lapd_timed::CardTimers;
 use model_line::Config;
 use std::alloc::Global;
 use std::mem::replace;
@@ -100,32 +109,107 @@ fn start(alloc: Global, handle: &mut CardHandle, config: &PlainConfig, kind: Car
     ensures handle { IsHandle handle.new }
     ensures start { IsStart card_of config.now handle.old handle.new result }
     ensures begun { result ≡ status.ok → HasBegun (fresh kind (config_in config.now)) (card_of handle.new) }
+    ensures timed { result ≡ status.ok → is_timed handle.new ≡ false }
 {
     if handle.started {
         return SECOND_START;
     }
     let config = or_answer!(config.read());
-    let kept = or_answer!(started(alloc, config, kind), NO_MEMORY);
+    let kept = or_answer!(started(alloc, config, kind, None), NO_MEMORY);
     handle.put(kept);
     OK
 }
 
 // Such a card of a configuration that is in range, if there is memory for it.
-fn started(alloc: Global, config: Config, kind: CardKind) -> Option<Box<KeptCard>>
+fn started(
+    alloc: Global,
+    config: Config,
+    kind: CardKind,
+    timers: Option<CardTimers>,
+) -> Option<Box<KeptCard>>
     requires { first_fault config ≡ None }
-    ensures { IfSome result (λ kept. Begins (fresh kind config) kept.value) }
+    ensures begins { IfSome result (λ kept. Begins (fresh kind config) kept.value) }
+    ensures timers { IfSome result (λ kept. kept.value.timers ≡ timers) }
 {
     let shelf = RawShelf::start(alloc, u32::from(config.slots), config.n201).ok()?;
     match kind {
         CardKind::Octets => {
             let card = Card::start(alloc, config, shelf).ok()?;
-            KeptCard::begin(alloc, AnyCard::Octets(card), config)
+            KeptCard::begin(alloc, AnyCard::Octets(card), config, timers)
         }
         CardKind::Frames => {
             let card = FrameCard::start(alloc, config, shelf).ok()?;
-            KeptCard::begin(alloc, AnyCard::Frames(card), config)
+            KeptCard::begin(alloc, AnyCard::Frames(card), config, timers)
         }
     }
+}
+
+/// Starts a card of octets that keeps its own timers, of which none runs, on which no TEI is on any line. It is at moment 0.
+#[unsafe(no_mangle)]
+pub extern "C" fn lapd_card_start_timed(
+    alloc: Global,
+    handle: &mut CardHandle,
+    config: &PlainConfig,
+    lengths: &PlainLengths,
+) -> u32
+    requires { IsHandle handle.old }
+    ensures { IsTimedStart kinds.Octets config.now lengths.now handle.old handle.new result }
+{
+    start_timed(alloc, handle, config, lengths, CardKind::Octets)
+}
+
+/// Starts a card of frames that keeps its own timers, of which none runs, on which no TEI is on any line. It is at moment 0.
+#[unsafe(no_mangle)]
+pub extern "C" fn lapd_card_start_frames_timed(
+    alloc: Global,
+    handle: &mut CardHandle,
+    config: &PlainConfig,
+    lengths: &PlainLengths,
+) -> u32
+    requires { IsHandle handle.old }
+    ensures { IsTimedStart kinds.Frames config.now lengths.now handle.old handle.new result }
+{
+    start_timed(alloc, handle, config, lengths, CardKind::Frames)
+}
+
+// Starts a card of a kind that keeps its own timers.
+fn start_timed(
+    alloc: Global,
+    handle: &mut CardHandle,
+    config: &PlainConfig,
+    lengths: &PlainLengths,
+    kind: CardKind,
+) -> u32
+    requires { IsHandle handle.old }
+    ensures handle { IsHandle handle.new }
+    ensures second { IfSome (card_of handle.old) (λ _. (result ≡ status.second_start) × (handle.new ≡ handle.old)) }
+    ensures fault { card_of handle.old ≡ None → IfSome (config_fault config.now) (λ wrong. (result ≡ wrong) × (handle.new ≡ handle.old)) }
+    ensures wrong_time { card_of handle.old ≡ None → config_fault config.now ≡ None
+        → IfSome (first_out_of_range (lengths_in lengths.now)) (λ _. (result ≡ status.wrong_time) × (handle.new ≡ handle.old)) }
+    ensures otherwise { card_of handle.old ≡ None → config_fault config.now ≡ None → first_out_of_range (lengths_in lengths.now) ≡ None
+        → (result ≡ status.ok) ⊎ ((result ≡ status.no_memory) × (handle.new ≡ handle.old)) }
+    ensures begun { result ≡ status.ok → HasBegun (fresh kind (config_in config.now)) (card_of handle.new) }
+    ensures timed { result ≡ status.ok
+        → TimersStandIn (timers_of handle.new) (card_in (fresh kind (config_in config.now))) (stopped (lengths_in lengths.now)) }
+{
+    if handle.started {
+        return SECOND_START;
+    }
+    let config = or_answer!(config.read());
+    let lengths = or_answer!(lengths.read());
+    let timers = or_answer!(timers_started(alloc, config, lengths), NO_MEMORY);
+    let kept = or_answer!(started(alloc, config, kind, Some(timers)), NO_MEMORY);
+    handle.put(kept);
+    OK
+}
+
+// The timers of a card of a configuration that is in range, if there is memory for them.
+fn timers_started(alloc: Global, config: Config, lengths: Lengths) -> Option<CardTimers>
+    requires { first_fault config ≡ None }
+    ensures { IfSome result (λ timers. (kind : Kind) → TimersStandIn (Some timers) (card_in (fresh kind config)) (stopped (lengths_of lengths))) }
+{
+    let (lines, terminals) = (usize::from(config.lines), usize::from(config.terminals));
+    CardTimers::start(alloc, lines, terminals, lengths).ok()
 }
 
 /// Ends a card, and gives back its memory.

@@ -1,8 +1,9 @@
 //! Octets taken and given in turn.
 
-ghost use Rattle.std.specs.Prelude.{◌≡◌, ◌≢◌, ◌≤◌, ◌<◌, ◌*◌, ◌-◌, true, false, not, length};
+ghost use Rattle.std.specs.Prelude.{◌≡◌, ◌≢◌, ◌≤◌, ◌<◌, ◌*◌, ◌-◌, true, false, not, length, is_some, IfSome};
 ghost use Rattle.std.specs.Option.{option_copied};
-ghost use Rattle.lapd_c.specs.{OctetsWithLine, meant_all, told_at, Leads, told_beside, IsOctetsCall, IsReopened, ShowsReply, octet_of, Shows, contents_or_none, card_of, IsHandle, CardStands, shelf_of, counters_at, tells_nothing, is_exchange, step_event, steps_made, with_step, Exchanged, ExchangedIn, counters_in, all_counted, moments};
+ghost use Rattle.lapd_c.specs.{OctetsWithLine, meant_all, told_at, Leads, told_beside, IsOctetsCall, IsReopened, ShowsReply, octet_of, Shows, contents_or_none, card_of, IsHandle, CardStands, shelf_of, counters_at, tells_nothing, is_exchange, step_event, steps_made, with_step, Exchanged, ExchangedIn, counters_in, all_counted, moments, is_timed, listed, ObeysAll, OrdersLast};
+ghost use Rattle.model_timed.specs.Octets.{orders_in};
 ghost use Rattle.model_card.specs.ports.Card as machine;
 ghost use Rattle.model_card.specs.ports.Card.{answer};
 ghost use Rattle.model_card.specs.ports.Event.{at};
@@ -14,6 +15,7 @@ use crate::card::CardHandle;
 use crate::lend::lend;
 use crate::plain::{OK, PlainReport, WRONG_LENGTH};
 use lapd_card::{BareReport, Card};
+use lapd_frame::{Order, ShortList};
 use lapd_store::RawShelf;
 
 /// Takes and gives octets in turn: step 2i takes octet i of those taken, step 2i + 1 gives octet i of those given. Goes
@@ -35,7 +37,9 @@ pub extern "C" fn lapd_exchange(
         → result ≡ status.wrong_length) }
     ensures served { OctetsWithLine line handle.old (λ m. is_exchange taken.now given.old steps.old ≡ true
         → (result ≡ status.ok)
-        × ExchangedIn line taken.now steps.old m (card_of handle.new) given.old given.new steps.new report.new) }
+        × ExchangedIn (is_timed handle.old) line taken.now steps.old m (card_of handle.new) given.old given.new steps.new report.new) }
+    ensures timed { OctetsWithLine line handle.old (λ m. is_exchange taken.now given.old steps.old ≡ true
+        → ObeysAll (steps_made line taken.now steps.old (steps.new - steps.old)) m handle.old handle.new) }
     ensures counted { OctetsWithLine line handle.old (λ m. is_exchange taken.now given.old steps.old ≡ true
         → counters_at handle.new ≡ all_counted (counters_at handle.old) (moments m.card (meant_all m (steps_made line taken.now steps.old (steps.new - steps.old))))) }
     ensures reopened { IsReopened line handle.old handle.new result report.new }
@@ -44,11 +48,12 @@ pub extern "C" fn lapd_exchange(
     if taken.len() != given.len() || *steps > 2 * taken.len() {
         return WRONG_LENGTH;
     }
-    exchange(card, line, taken, given, steps, report);
-    kept.tell_reopened(line, report);
+    let orders = exchange(card, line, taken, given, steps, report);
+    kept.settle(line, orders.as_slice(), report);
     OK
 }
 
+// Makes steps, up to and with the first that has something to tell, and answers what the last has ordered.
 fn exchange(
     card: &mut Card<RawShelf>,
     line: usize,
@@ -56,26 +61,28 @@ fn exchange(
     given: &mut [u8],
     steps: &mut usize,
     report: &mut PlainReport,
-)
+) -> ShortList<Order>
     requires line { line < line_count card.old }
     requires lengths { is_exchange taken.now given.old steps.old ≡ true }
     ensures made { (m : machine.OctetCard) → CardStands card.old m
-        → Exchanged line taken.now steps.old m card.new given.old given.new steps.new report.new }
+        → Exchanged false line taken.now steps.old m card.new given.old given.new steps.new report.new }
+    ensures ordered { (m : machine.OctetCard) → CardStands card.old m → OrdersLast line taken.now steps.old m steps.new (listed result) }
     ensures counted { (m : machine.OctetCard) → CardStands card.old m
         → counters_in card.new.frames.lines ≡ all_counted (counters_in card.old.frames.lines) (moments m.card (meant_all m (steps_made line taken.now steps.old (steps.new - steps.old)))) }
 {
     let end = 2 * taken.len();
     for step in *steps..end {
-        if make_step(card, line, taken, given, step, report) {
+        if let Some(orders) = make_step(card, line, taken, given, step, report) {
             *steps = step + 1;
-            return;
+            return orders;
         }
     }
     *steps = end;
     report.show_nothing();
+    ShortList::none()
 }
 
-// Makes one step, and says whether there is anything to tell; else no report is written.
+// Makes one step, and answers what it has ordered if there is anything to tell; else no report is written.
 fn make_step(
     card: &mut Card<RawShelf>,
     line: usize,
@@ -83,7 +90,7 @@ fn make_step(
     given: &mut [u8],
     step: usize,
     report: &mut PlainReport,
-) -> bool
+) -> Option<ShortList<Order>>
     requires line { line < line_count card.old }
     requires within { step < 2 * length taken.now }
     requires lengths { length given.old ≡ length taken.now }
@@ -92,9 +99,11 @@ fn make_step(
         → given.new ≡ with_step step (answer (step_event line taken.now step) m) given.old }
     ensures length { length given.new ≡ length given.old }
     ensures tells { (m : machine.OctetCard) → CardStands card.old m
-        → result ≡ not (tells_nothing (answer (step_event line taken.now step) m)) }
-    ensures shown { (m : machine.OctetCard) → CardStands card.old m → result ≡ true
+        → is_some result ≡ not (tells_nothing (answer (step_event line taken.now step) m)) }
+    ensures shown { (m : machine.OctetCard) → CardStands card.old m → is_some result ≡ true
         → ShowsReply report.new (answer (step_event line taken.now step) m) }
+    ensures ordered { IfSome result (λ orders. (m : machine.OctetCard) → CardStands card.old m
+        → listed orders ≡ orders_in (answer (step_event line taken.now step) m)) }
 {
     if step % 2 == 0 {
         return tells_taken(card, line, taken[step / 2], report);
@@ -102,19 +111,27 @@ fn make_step(
     tells_given(card, line, &mut given[step / 2], report)
 }
 
-// Takes an octet, and says whether there is anything to tell; else nothing is written.
-fn tells_taken(card: &mut Card<RawShelf>, line: usize, octet: u8, report: &mut PlainReport) -> bool
+// Takes an octet, and answers what was ordered if there is anything to tell; else nothing is written.
+fn tells_taken(
+    card: &mut Card<RawShelf>,
+    line: usize,
+    octet: u8,
+    report: &mut PlainReport,
+) -> Option<ShortList<Order>>
     requires { line < line_count card.old }
     ensures leads { Leads shelf_of (at line (port.octet octet)) card.old card.new }
     ensures tells { (m : machine.OctetCard) → CardStands card.old m
-        → result ≡ not (tells_nothing (answer (at line (port.octet octet)) m)) }
-    ensures shown { (m : machine.OctetCard) → CardStands card.old m → result ≡ true
+        → is_some result ≡ not (tells_nothing (answer (at line (port.octet octet)) m)) }
+    ensures shown { (m : machine.OctetCard) → CardStands card.old m → is_some result ≡ true
         → ShowsReply report.new (answer (at line (port.octet octet)) m) }
-    ensures unchanged { result ≡ false → report.new ≡ report.old }
+    ensures ordered { IfSome result (λ orders. (m : machine.OctetCard) → CardStands card.old m → listed orders ≡ orders_in (answer (at line (port.octet octet)) m)) }
+    ensures unchanged { is_some result ≡ false → report.new ≡ report.old }
 {
-    match card.hear(line, octet) {
-        None => false,
-        Some(told) => tells_ended(card, line, &told, report),
+    let told = card.hear(line, octet)?;
+    if tells_ended(card, line, &told, report) {
+        Some(told.orders)
+    } else {
+        None
     }
 }
 
@@ -128,6 +145,7 @@ fn tells_ended(
 ) -> bool
     requires { line < line_count card.now }
     ensures tells { result ≡ not (tells_nothing (port.told (told_at card.now.ports line told.now))) }
+    ensures ordered { listed told.now.orders ≡ (told_at card.now.ports line told.now).orders }
     ensures shown { length (contents_or_none (told_at card.now.ports line told.now).contents) ≤ 260 → result ≡ true
         → Shows report.new (told_at card.now.ports line told.now) }
     ensures unchanged { result ≡ false → report.new ≡ report.old }
@@ -140,30 +158,43 @@ fn tells_ended(
     true
 }
 
-// Gives an octet, and says whether there is anything to tell; else no report is written.
+// Gives an octet, and answers what was ordered if there is anything to tell; else no report is written.
 fn tells_given(
     card: &mut Card<RawShelf>,
     line: usize,
     octet: &mut u8,
     report: &mut PlainReport,
-) -> bool
+) -> Option<ShortList<Order>>
     requires { line < line_count card.old }
     ensures leads { Leads shelf_of (at line port.pull) card.old card.new }
     ensures octet { (m : machine.OctetCard) → CardStands card.old m
         → octet.new ≡ octet_of (answer (at line port.pull) m) }
     ensures tells { (m : machine.OctetCard) → CardStands card.old m
-        → result ≡ not (tells_nothing (answer (at line port.pull) m)) }
-    ensures shown { (m : machine.OctetCard) → CardStands card.old m → result ≡ true
+        → is_some result ≡ not (tells_nothing (answer (at line port.pull) m)) }
+    ensures shown { (m : machine.OctetCard) → CardStands card.old m → is_some result ≡ true
         → ShowsReply report.new (answer (at line port.pull) m) }
-    ensures unchanged { result ≡ false → report.new ≡ report.old }
+    ensures ordered { IfSome result (λ orders. (m : machine.OctetCard) → CardStands card.old m → listed orders ≡ orders_in (answer (at line port.pull) m)) }
+    ensures unchanged { is_some result ≡ false → report.new ≡ report.old }
 {
     let pulled = card.pull(line);
     *octet = pulled.octet;
     if !pulled.begun && pulled.orders().is_empty() {
-        return false;
+        return None;
     }
     report.show_pull(pulled.begun, pulled.orders());
-    true
+    Some(order_list(pulled.orders()))
+}
+
+// The orders of a pull as a list.
+fn order_list(orders: &[Order]) -> ShortList<Order>
+    requires { length orders.now ≤ 4 }
+    ensures { listed result ≡ orders.now }
+{
+    let mut list = ShortList::none();
+    for i in 0..orders.len() {
+        list.push(orders[i]);
+    }
+    list
 }
 
 fn tells_nothing(told: &BareReport, delivered: Option<&[u8]>) -> bool

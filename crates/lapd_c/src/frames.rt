@@ -2,7 +2,7 @@
 //! lines one waits.
 
 ghost use Rattle.std.specs.Prelude.{◌≡◌, ◌≢◌, ◌==◌, if◌then◌else◌, ◌+◌, ◌≤◌, ◌<◌, true, length, Some, None, IfSome, IfOk, IfErr};
-ghost use Rattle.lapd_c.specs.{FramesWithLine, IsFirstWaiting, has_next, next_waiting, IsCall, IsFramesCall, IsReopened, ShowsAnswer, ShowsPull, card_of, kind_in, marks_at, IsHandle, FramesStand, Counts, counters_at, frame_comes, fails, goes, next_at, IsGiven};
+ghost use Rattle.lapd_c.specs.{FramesWithLine, IsFirstWaiting, has_next, next_waiting, IsCall, IsFramesCall, IsReopened, Obeys, ShowsAnswer, ShowsPull, card_of, kind_in, marks_at, orders_seen, seen, timers_of, IsHandle, FramesStand, Counts, counters_at, frame_comes, fails, goes, next_at, IsGiven};
 ghost use Rattle.model_card.specs.Card as machine;
 ghost use Rattle.model_card.specs.Machine.{after, answer};
 ghost use Rattle.lapd_c.specs.Faults.{fault_in};
@@ -27,7 +27,8 @@ pub extern "C" fn lapd_frame(
     ensures unchanged { result ≢ status.ok → (card_of handle.new ≡ card_of handle.old) × (report.new ≡ report.old) }
     ensures served { FramesWithLine line handle.old (λ m. (result ≡ status.ok)
         × FramesStand handle.new (after (frame_comes line octets.now m) m)
-        × ShowsAnswer report.new (answer (frame_comes line octets.now m) m)) }
+        × ShowsAnswer report.new (seen handle.old (answer (frame_comes line octets.now m) m))) }
+    ensures timed { FramesWithLine line handle.old (λ m. Obeys (frame_comes line octets.now m) m handle.old handle.new) }
     ensures counted { FramesWithLine line handle.old (λ m. Counts (frame_comes line octets.now m) m (counters_at handle.old) (counters_at handle.new)) }
     ensures reopened { IsReopened line handle.old handle.new result report.new }
 {
@@ -36,11 +37,11 @@ pub extern "C" fn lapd_frame(
     if card.frame(line, octets, &mut told) {
         // Mostly it leads to nothing but orders, and then nothing else is looked for.
         report.show_orders(&told.orders);
-        kept.tell_reopened(line, report);
+        kept.settle(line, told.orders(), report);
         return OK;
     }
     report.show(&told, card.contents(line, octets, &told));
-    kept.tell_reopened(line, report);
+    kept.settle(line, told.orders(), report);
     OK
 }
 
@@ -58,7 +59,9 @@ pub extern "C" fn lapd_frame_failed(
     ensures unchanged { result ≢ status.ok → (card_of handle.new ≡ card_of handle.old) × (report.new ≡ report.old) }
     ensures wrong_cause { FramesWithLine line handle.old (λ m. IfErr (fault_in cause) (λ wrong. result ≡ wrong)) }
     ensures served { FramesWithLine line handle.old (λ m. IfOk (fault_in cause) (λ fault. (result ≡ status.ok)
-        × FramesStand handle.new (after (fails line fault) m) × ShowsAnswer report.new (answer (fails line fault) m))) }
+        × FramesStand handle.new (after (fails line fault) m) × ShowsAnswer report.new (seen handle.old (answer (fails line fault) m)))) }
+    ensures timed { FramesWithLine line handle.old (λ m.
+        IfOk (fault_in cause) (λ fault. Obeys (fails line fault) m handle.old handle.new)) }
     ensures counted { FramesWithLine line handle.old (λ m.
         IfOk (fault_in cause) (λ fault. Counts (fails line fault) m (counters_at handle.old) (counters_at handle.new))) }
     ensures reopened { IsReopened line handle.old handle.new result report.new }
@@ -68,7 +71,7 @@ pub extern "C" fn lapd_frame_failed(
     let mut told = BareReport::nothing();
     card.failed(line, fault, &mut told);
     report.show(&told, None);
-    kept.tell_reopened(line, report);
+    kept.settle(line, told.orders(), report);
     OK
 }
 
@@ -96,18 +99,20 @@ pub extern "C" fn lapd_next_frame(
     ensures given { FramesWithLine line handle.old (λ m. m.config.n201 + 4 ≤ length out.old
         → IfSome (next_at line m) (λ next. (result ≡ status.ok) × FramesStand handle.new (after (goes line) m)
         × IsGiven next out.old out.new count.new
-        × ShowsPull report.new true (has_next line (after (goes line) m)) next.orders)) }
+        × ShowsPull report.new true (has_next line (after (goes line) m)) (orders_seen handle.old next.orders))) }
+    ensures timed { result ≡ status.ok → FramesWithLine line handle.old (λ m. Obeys (goes line) m handle.old handle.new) }
     ensures counted { FramesWithLine line handle.old (λ m. m.config.n201 + 4 ≤ length out.old
         → Counts (goes line) m (counters_at handle.old) (counters_at handle.new)) }
     ensures reopened { IsReopened line handle.old handle.new result report.new }
     ensures unmarked { result ≢ status.ok → marks_at handle.new ≡ marks_at handle.old }
+    ensures timers { result ≢ status.ok → timers_of handle.new ≡ timers_of handle.old }
 {
     lend!(kept of handle, Frames(card), line);
     match card.next_frame(line, out) {
         Ok(Some(next)) => {
             *count = next.length;
             report.show_given(&next.order_list(), card.has_next(line));
-            kept.tell_reopened(line, report);
+            kept.settle(line, next.orders(), report);
             OK
         }
         Ok(None) => NO_FRAME,

@@ -1,7 +1,13 @@
 //! A card as C holds it: with the links that were refused contents because their queues were full, each of which is told once
-//! when it has room again.
+//! when it has room again; and with its timers, where it keeps its own.
 
-ghost use Rattle.std.specs.Prelude.{◌≡◌, ◌<◌, None, IfSome};
+ghost use Rattle.std.specs.Prelude.{◌≡◌, ◌<◌, [], None, IfSome, is_some};
+ghost use Rattle.model_card.specs.Card.{Card};
+ghost use Rattle.model_card.specs.Event.{Event};
+ghost use Rattle.model_card.specs.Machine.{after};
+ghost use Rattle.model_timed.specs.Clock.{Clock, obeyed};
+ghost use Rattle.model_timed.specs.Frames.{orders_at};
+ghost use Rattle.lapd_c.specs.Kept.{LedTo, AreLeftIn, TimersStandIn, settled};
 ghost use Rattle.lapd_c.specs.{first_fault, AreMarked, AreUnmarked, MarksBecome, marks_of, IsFirstOpen, TellsReopened, WaitsFor, is_open, is_there, waits_on, waits_there, with_reopened};
 ghost use Rattle.model_card.specs.Card as machine;
 ghost use Rattle.lapd_card.specs.FrameCard.{line_count};
@@ -11,31 +17,86 @@ use crate::link_marks::LinkMarks;
 use crate::plain::{PlainReport, service_at};
 use crate::refused::Refused;
 use lapd_card::{AnyCard, FrameCard};
+use lapd_frame::Order;
 use lapd_store::RawShelf;
+use lapd_timed::CardTimers;
 use model_line::Config;
 use std::alloc::Global;
 
-/// A card, with the marks of its links that wait for room.
+/// A card, with the marks of its links that wait for room, and its timers, where it keeps its own.
 #[derive(Debug, Drop)]
 pub(crate) struct KeptCard {
     pub(crate) card: AnyCard,
     pub(crate) refused: Refused,
+    pub(crate) timers: Option<CardTimers>,
 }
 
 impl KeptCard {
-    /// A card as it begins, of which no link waits; none where there is no memory for it.
-    pub(crate) fn begin(alloc: Global, card: AnyCard, config: Config) -> Option<Box<KeptCard>>
+    /// A card as it begins, of which no link waits, with these timers; none where there is no memory for it.
+    pub(crate) fn begin(
+        alloc: Global,
+        card: AnyCard,
+        config: Config,
+        timers: Option<CardTimers>,
+    ) -> Option<Box<KeptCard>>
         requires { first_fault config ≡ None }
         ensures card { IfSome result (λ kept. kept.value.card ≡ card) }
         ensures marks { IfSome result (λ kept. AreUnmarked config.lines kept.value.refused) }
+        ensures timers { IfSome result (λ kept. kept.value.timers ≡ timers) }
     {
         let refused = Refused::start(alloc, usize::from(config.lines)).ok()?;
-        Box::new(alloc, KeptCard { card, refused }).ok()
+        let kept = KeptCard {
+            card,
+            refused,
+            timers,
+        };
+        Box::new(alloc, kept).ok()
+    }
+
+    /// Ends a call of a line, in whose report the answer to an event is shown. If the card keeps its own timers, the orders of
+    /// the answer are carried out, and the report has none. Then it tells as [`KeptCard::tell_reopened`].
+    #[inline(always)]
+    pub(crate) fn settle(&mut self, line: usize, orders: &[Order], report: &mut PlainReport)
+        ensures card { self.new.card ≡ self.old.card }
+        ensures rest { report.new ≡ settled self.old.timers report.new report.old }
+        ensures tells { (m : Machine) → AnyStands self.old.card m → line < (card_in m).config.lines
+            → TellsReopened line (card_in m) self.old.refused self.new.refused report.new }
+        ensures untimed { self.old.timers ≡ None → self.new.timers ≡ None }
+        ensures there { is_some self.new.timers ≡ is_some self.old.timers }
+        ensures none { orders.now ≡ [] → self.new.timers ≡ self.old.timers }
+        // So of each event at that line of which these are the orders, and that led the card to where it is.
+        ensures timed { (e : Event) (m : Card) (c : Clock) → LedTo self.old.card line e m → orders.now ≡ orders_at e m
+            → AreLeftIn e self.old.timers m c → TimersStandIn self.new.timers (after e m) (obeyed line (orders_at e m) c) }
+    {
+        if self.timers.is_some() {
+            self.carry_out(line, orders);
+            report.order_count = 0;
+        }
+        self.tell_reopened(line, report);
+    }
+
+    // Carries out the orders of an answer, if the card keeps its own timers. Mostly there is none.
+    fn carry_out(&mut self, line: usize, orders: &[Order])
+        ensures card { self.new.card ≡ self.old.card }
+        ensures refused { self.new.refused ≡ self.old.refused }
+        ensures there { is_some self.new.timers ≡ is_some self.old.timers }
+        ensures none { orders.now ≡ [] → self.new.timers ≡ self.old.timers }
+        ensures timed { (e : Event) (m : Card) (c : Clock) → LedTo self.old.card line e m → orders.now ≡ orders_at e m
+            → AreLeftIn e self.old.timers m c → TimersStandIn self.new.timers (after e m) (obeyed line (orders_at e m) c) }
+    {
+        if orders.is_empty() {
+            return;
+        }
+        let frames = self.card.frames();
+        if let Some(timers) = &mut self.timers {
+            timers.obey(frames, line, orders);
+        }
     }
 
     /// The link at a place of a line waits for room, if there is one.
     pub(crate) fn wait(&mut self, line: usize, place: Option<u8>)
         ensures card { self.new.card ≡ self.old.card }
+        ensures timers { self.new.timers ≡ self.old.timers }
         ensures marked { WaitsFor place line self.old.refused self.new.refused }
     {
         let Some(place) = place else {
@@ -52,20 +113,22 @@ impl KeptCard {
     pub(crate) fn tell_reopened(&mut self, line: usize, report: &mut PlainReport)
         ensures card { self.new.card ≡ self.old.card }
         ensures rest { report.new ≡ with_reopened report.new report.old }
+        ensures timers { self.new.timers ≡ self.old.timers }
         ensures tells { (m : Machine) → AnyStands self.old.card m → line < (card_in m).config.lines
             → TellsReopened line (card_in m) self.old.refused self.new.refused report.new }
     {
         if !self.refused.any() {
-            return report.show_reopened(None);
+            return report.show_reopened(line, None);
         }
         let told = self.take_first(line);
-        report.show_reopened(told);
+        report.show_reopened(line, told);
     }
 
     // It stands apart, since mostly no link waits.
     #[cold]
     fn take_first(&mut self, line: usize) -> Option<u8>
         ensures card { self.new.card ≡ self.old.card }
+        ensures timers { self.new.timers ≡ self.old.timers }
         ensures first { (m : Machine) → AnyStands self.old.card m → line < (card_in m).config.lines
             → IsFirstOpen result line (card_in m) (marks_of self.old.refused line) }
         ensures marks { (m : Machine) → AnyStands self.old.card m → line < (card_in m).config.lines

@@ -13,6 +13,7 @@
 //! - `clock`: a clock in C, and its exports; `clock_reports`, the orders of a report; `clock_slot`, where it lies.
 //! - `laws`: what holds of the machine's answers, so that a report has room for each.
 //! - `plain`: the structs and numbers of C, and what they mean.
+//! - `timed`: what falls due at a card that keeps its own timers, and when.
 //! - `text`: what octets say in words.
 //! - `loose`: a box as the address of its block; `version`: which version this is.
 //!
@@ -48,4 +49,5 @@ mod plain;
 mod questions;
 mod refused;
 mod text;
+mod timed;
 mod version;

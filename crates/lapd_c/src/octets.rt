@@ -1,7 +1,7 @@
 //! What happens at a card of octets: one that comes, and one that goes; which frame a pull began, and which was heard last.
 
 ghost use Rattle.std.specs.Prelude.{◌≡◌, ◌≢◌};
-ghost use Rattle.lapd_c.specs.{OctetsWithLine, head_begun_at, head_heard_at, plain_head, IsOctetsCall, IsReopened, ShowsReply, octet_of, card_of, IsHandle, OctetsStand, CountsMeaning, counters_at};
+ghost use Rattle.lapd_c.specs.{OctetsWithLine, head_begun_at, head_heard_at, plain_head, IsOctetsCall, IsReopened, ObeysMeaning, ShowsReply, octet_of, reply_seen, card_of, IsHandle, OctetsStand, CountsMeaning, counters_at};
 ghost use Rattle.model_card.specs.ports.Card as machine;
 ghost use Rattle.model_card.specs.ports.Card.{after, answer};
 ghost use Rattle.model_card.specs.ports.Event.{at};
@@ -25,7 +25,8 @@ pub extern "C" fn lapd_octet(
     ensures unchanged { result ≢ status.ok → (card_of handle.new ≡ card_of handle.old) × (report.new ≡ report.old) }
     ensures served { OctetsWithLine line handle.old (λ m. (result ≡ status.ok)
         × OctetsStand handle.new (after (at line (port.octet octet)) m)
-        × ShowsReply report.new (answer (at line (port.octet octet)) m)) }
+        × ShowsReply report.new (reply_seen handle.old (answer (at line (port.octet octet)) m))) }
+    ensures timed { OctetsWithLine line handle.old (λ m. ObeysMeaning (at line (port.octet octet)) m handle.old handle.new) }
     ensures counted { OctetsWithLine line handle.old (λ m. CountsMeaning (at line (port.octet octet)) m (counters_at handle.old) (counters_at handle.new)) }
     ensures reopened { IsReopened line handle.old handle.new result report.new }
 {
@@ -38,7 +39,7 @@ pub extern "C" fn lapd_octet(
         }
         Some(told) => {
             report.show(&told, card.contents(line, &told));
-            kept.tell_reopened(line, report);
+            kept.settle(line, told.orders(), report);
             OK
         }
     }
@@ -58,7 +59,8 @@ pub extern "C" fn lapd_pull(
         → (card_of handle.new ≡ card_of handle.old) × (octet.new ≡ octet.old) × (report.new ≡ report.old) }
     ensures served { OctetsWithLine line handle.old (λ m. (result ≡ status.ok)
         × OctetsStand handle.new (after (at line port.pull) m) × (octet.new ≡ octet_of (answer (at line port.pull) m))
-        × ShowsReply report.new (answer (at line port.pull) m)) }
+        × ShowsReply report.new (reply_seen handle.old (answer (at line port.pull) m))) }
+    ensures timed { OctetsWithLine line handle.old (λ m. ObeysMeaning (at line port.pull) m handle.old handle.new) }
     ensures counted { OctetsWithLine line handle.old (λ m. CountsMeaning (at line port.pull) m (counters_at handle.old) (counters_at handle.new)) }
     ensures reopened { IsReopened line handle.old handle.new result report.new }
 {
@@ -66,7 +68,7 @@ pub extern "C" fn lapd_pull(
     let pulled = card.pull(line);
     *octet = pulled.octet;
     report.show_pull(pulled.begun, pulled.orders());
-    kept.tell_reopened(line, report);
+    kept.settle(line, pulled.orders(), report);
     OK
 }
 

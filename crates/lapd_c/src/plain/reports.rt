@@ -1,6 +1,6 @@
 //! The report of an event.
 
-ghost use Rattle.std.specs.Prelude.{◌≡◌, ◌≤◌, [], false, true, length, take, map};
+ghost use Rattle.std.specs.Prelude.{◌≡◌, ◌≤◌, [], false, true, length, take, map, min};
 ghost use Rattle.std.specs.Option.{option_copied};
 ghost use Rattle.lapd_c.specs.{listed, told_beside, nothing, plain_note, plain_order, ShowsReopened, with_reopened, Shows, ShowsPull, SameButContents, contents_in, contents_or_none, mark_of, orders_of};
 
@@ -13,6 +13,9 @@ use model_line::MOST_N201;
 
 /// The most octets of contents that a configuration allows.
 const MOST_OCTETS: usize = MOST_N201 as usize;
+
+/// The greatest number of a line that a report has room for; no card has so many lines.
+const MOST_LINE: usize = 65535;
 
 /// What an event led to. Behind the numbers of notes and orders, and behind `length`, the arrays may hold anything.
 #[repr(C)]
@@ -46,6 +49,8 @@ pub struct PlainReport {
     pub reopened_service: u8,
     /// And its TEI, 0 to 126.
     pub reopened_tei: u8,
+    /// The line of the event.
+    pub line: u16,
 }
 
 impl PlainReport {
@@ -112,12 +117,14 @@ impl PlainReport {
         self.lost = told.lost;
     }
 
-    /// Shows which link of its line has room again, by its place, or that none has that waited for it.
+    /// Shows the line, and which link of it has room again, by its place, or that none has that waited for it.
     #[inline(always)]
-    pub fn show_reopened(&mut self, place: Option<u8>)
+    pub fn show_reopened(&mut self, line: usize, place: Option<u8>)
         ensures shown { ShowsReopened self.new place }
+        ensures line { self.new.line ≡ min line 65535 }
         ensures rest { self.new ≡ with_reopened self.new self.old }
     {
+        self.line = line.min(MOST_LINE) as u16;
         match place {
             None => self.reopened = 0,
             Some(place) => {

@@ -1,9 +1,12 @@
 //! Timers, and what is to be done with them.
 
-ghost use Rattle.std.specs.Prelude.{◌≡◌};
-ghost use Rattle.lapd_c.specs.Timers.{plain_timer, plain_order, timer_in, order_in, link_in};
+ghost use Rattle.std.specs.Prelude.{◌≡◌, None, Err, IfSome, IfErr, IsOkAnd};
+ghost use Rattle.lapd_clock.specs.Given.{lengths_of};
+ghost use Rattle.lapd_clock.specs.Timer.{first_out_of_range};
+ghost use Rattle.lapd_c.specs.Timers.{lengths_in, plain_timer, plain_order, timer_in, order_in, link_in};
 
-use crate::plain::statuses::{WRONG_ORDER, WRONG_TEI, WRONG_TIMER, service_in};
+use crate::plain::statuses::{WRONG_ORDER, WRONG_TEI, WRONG_TIME, WRONG_TIMER, service_in};
+use lapd_clock::Lengths;
 use lapd_frame::{LAST_TEI, Order, Service, Timer};
 
 /// A timer of a line. That of a link names its service by its SAPI, and its TEI; T201 has 0 in both.
@@ -26,6 +29,33 @@ pub struct PlainOrder {
     pub order: u8,
     /// Which timer.
     pub timer: PlainTimer,
+}
+
+/// How long timers run, in milliseconds.
+#[repr(C)]
+#[derive(Clone, Copy)]
+pub struct PlainLengths {
+    /// Of each link: 1 to 3,600,000.
+    pub t200: u32,
+    /// Of each link: 1 to 3,600,000.
+    pub t203: u32,
+    /// Of each line: 1 to 3,600,000.
+    pub t201: u32,
+}
+
+impl PlainLengths {
+    /// The same for the card's timers.
+    ///
+    /// # Errors
+    ///
+    /// `WRONG_TIME` where one is out of range.
+    pub fn read(&self) -> Result<Lengths, u32>
+        ensures out_of_range { IfSome (first_out_of_range (lengths_in self.now)) (λ _. result ≡ Err 21) }
+        ensures read { first_out_of_range (lengths_in self.now) ≡ None → IsOkAnd result (λ lengths. lengths_of lengths ≡ lengths_in self.now) }
+        ensures wrong { IfErr result (λ wrong. wrong ≡ 21) }
+    {
+        Lengths::new(self.t200, self.t203, self.t201).map_err(|_| WRONG_TIME)
+    }
 }
 
 /// A timer that fell due, with its line.

@@ -1,6 +1,6 @@
 -- Hand-written answers for `exchange`.
-use Rattle.lapd_c.proofs.Vocabulary.{suc, ◌+◌, ◌*◌, ◌<◌, ◌≤◌, length, sym, subst, ◌∙◌, arith, inl, inr, and_parts, eqb-true, leb-true, Config, card_after}
-use Rattle.lapd_c.proofs.Exchanging.{counted-to, made-none, made-more, quiet-none, quiet-made, tells-made, shown-made}
+use Rattle.lapd_c.proofs.Vocabulary.{refl, suc, ◌+◌, ◌*◌, ◌<◌, ◌≤◌, length, sym, subst, ◌∙◌, arith, inl, inr, and_parts, eqb-true, leb-true, Config, card_after}
+use Rattle.lapd_c.proofs.Exchanging.{counted-to, made-none, made-more, ordered-made, quiet-none, quiet-made, tells-made, shown-made}
 use Rattle.lapd_c.proofs.exchange.exchange.Goals as goal
 
 pub loop-step-init : goal.loop-step-init
@@ -17,7 +17,7 @@ loop-step-init c =
 pub loop-step-preserved : goal.loop-step-preserved
 loop-step-preserved c =
     let i = c.loop-step.invariant in let from = c.args.steps.now in let taken = c.args.taken.now in let line = c.args.line in
-    let n = i.made.0 in let at = i.made.1 in let e = c.make_step.ensures in let step = c.loop-step.step in
+    let n = i.made.0 in let at = i.made.1 in let e = c.in_default.ensures in let step = c.loop-step.step in
     record {
       line = subst (λ (config : Config). line < config.lines) (sym e.leads.config) i.line;
       lengths = e.length ∙ i.lengths;
@@ -28,15 +28,15 @@ loop-step-preserved c =
         λ m s.
             let t = i.made.2 m s in let there = card_after line taken from n m in (
               made-more line taken from m _ n step _ _ _ _ _ at t.0 e.leads (e.given there t.0.stands),
-              quiet-made line taken from m n step at t.1 (sym c.if-make_step.false ∙ e.tells there t.0.stands),
+              quiet-made line taken from m n step at t.1 (e.tells there t.0.stands),
             ),
       );
     }
 
-pub returns-then-make_step-clause-made : goal.returns-then-make_step-clause-made
-returns-then-make_step-clause-made c =
+pub returns-in-Some-clause-made : goal.returns-in-Some-clause-made
+returns-in-Some-clause-made c =
     let i = c.loop-step.invariant in let from = c.args.steps.now in let taken = c.args.taken.now in let line = c.args.line in
-    let n = i.made.0 in let at = i.made.1 in let e = c.make_step.ensures in let step = c.loop-step.step in
+    let n = i.made.0 in let at = i.made.1 in let e = c.in-Some.ensures in let step = c.loop-step.step in
     λ m s.
     let t = i.made.2 m s in let there = card_after line taken from n m in
     let made = made-more line taken from m _ n step _ _ _ _ _ at t.0 e.leads (e.given there t.0.stands) in
@@ -49,15 +49,15 @@ returns-then-make_step-clause-made c =
         last = omega arith;
         made = omega (arith, at);
         quiet = t.1;
-        tells = tells-made line taken from m n step at (sym c.if-make_step.true ∙ e.tells there t.0.stands);
-        report = shown-made line taken from m n step _ at (e.shown there t.0.stands c.if-make_step.true);
+        tells = tells-made line taken from m n step at (e.tells there t.0.stands);
+        report = shown-made line taken from m n step _ at (e.shown there t.0.stands refl);
       });
     }
 
-pub returns-then-make_step-clause-counted : goal.returns-then-make_step-clause-counted
-returns-then-make_step-clause-counted c =
+pub returns-in-Some-clause-counted : goal.returns-in-Some-clause-counted
+returns-in-Some-clause-counted c =
     let i = c.loop-step.invariant in let from = c.args.steps.now in let taken = c.args.taken.now in let line = c.args.line in
-    let n = i.made.0 in let at = i.made.1 in let e = c.make_step.ensures in let step = c.loop-step.step in
+    let n = i.made.0 in let at = i.made.1 in let e = c.in-Some.ensures in let step = c.loop-step.step in
     λ m s.
     let t = (i.made.2 m s).0 in
     counted-to line taken from m _ _ (suc n) (step + 1) (omega (arith, at))
@@ -79,3 +79,20 @@ returns-clause-made c =
       octets = t.0.octets;
       ended = inl (record { end = omega arith; made = omega (arith, at); quiet = t.1; report = c.show_nothing.ensures.told });
     }
+
+-- what the last step has ordered
+pub returns-in-Some-clause-ordered : goal.returns-in-Some-clause-ordered
+returns-in-Some-clause-ordered c =
+    let i = c.loop-step.invariant in let from = c.args.steps.now in let n = i.made.0 in let at = i.made.1 in let step = c.loop-step.step in
+    λ m s.
+    let t = i.made.2 m s in
+    record {
+      before = n;
+      quiet = t.1;
+      ended = inr (omega (arith, at), ordered-made c.args.line c.args.taken.now from m n step _ at (c.in-Some.ensures.ordered (card_after c.args.line c.args.taken.now from n m) t.0.stands));
+    }
+
+pub returns-clause-ordered : goal.returns-clause-ordered
+returns-clause-ordered c =
+    let i = c.loop-step.invariant in let at = i.made.1 in
+    λ m s. record { before = i.made.0; quiet = (i.made.2 m s).1; ended = inl (omega (arith, at), c.none.ensures) }

@@ -1,0 +1,116 @@
+-- A card in C that keeps its own timers.
+use Rattle.std.specs.Prelude.{◌≡◌, ℕ, List, [], map, Bool, true, false, is_some, Option, None, Some}
+use Rattle.lapd_frame.specs.declared.timers.Order.{Order}
+use Rattle.model_line.specs.Event as line
+use Rattle.model_card.specs.Card.{Card}
+use Rattle.model_card.specs.Event.{Event}
+use Rattle.model_card.specs.Machine.{after}
+use Rattle.model_card.specs.ports.Card as octets
+use Rattle.model_card.specs.ports.Card.{OctetCard}
+use Rattle.model_card.specs.ports.Event as octet_event
+use Rattle.model_card.specs.ports.Port as port
+use Rattle.model_timed.specs.Clock.{Clock, obeyed}
+use Rattle.model_timed.specs.Frames.{orders_at}
+use Rattle.model_timed.specs.Octets as timed_octets
+use Rattle.model_timed.specs.Octets.{TimedOctetCard}
+use Rattle.model_timed.specs.Timed.{Step, happens}
+use Rattle.lapd_card.specs.Kinds.{frames_of, shelf_of}
+use Rattle.lapd_card.specs.declared.kinds.AnyCard.{AnyCard}
+use Rattle.lapd_timed.specs.Stands.{AreLeft, HasLedTo, TimersStand}
+use Rattle.lapd_timed.specs.declared.card_timers.CardTimers.{CardTimers}
+use Rattle.lapd_c.specs.declared.card.CardHandle.{CardHandle}
+use Rattle.lapd_c.specs.declared.plain.reports.PlainReport.{PlainReport}
+use Rattle.lapd_c.specs.CardSlots.{HeldCard}
+use Rattle.lapd_c.specs.Cards.{card_of}
+use Rattle.lapd_c.specs.Reopened.{with_reopened}
+
+-- Its timers; none where it keeps none, or no card is there. And whether it keeps them.
+abbrev pub timers_held : HeldCard → Option CardTimers
+timers_held None = None
+timers_held (Some kept) = kept.timers
+
+abbrev pub timers_of : CardHandle → Option CardTimers
+timers_of h = timers_held (card_of h)
+
+abbrev pub is_timed : CardHandle → Bool
+is_timed h = is_some (timers_of h)
+
+-- They stand for a clock beside a card; so between events, and when an event is handed to the card.
+abbrev pub TimersStandIn : Option CardTimers → Card → Clock → Type 0
+TimersStandIn None m c = ⊥
+TimersStandIn (Some timers) m c = TimersStand timers m c
+
+abbrev pub AreLeftIn : Event → Option CardTimers → Card → Clock → Type 0
+AreLeftIn e None m c = ⊥
+AreLeftIn e (Some timers) m c = AreLeft e timers m c
+
+-- An event at a line of a card has led it to where it is.
+abbrev pub LedTo : AnyCard → ℕ → Event → Card → Type 0
+LedTo card line e m = HasLedTo shelf_of (frames_of card) line e m
+
+-- What an event at a line makes of them: of none, none. Those that stood for a clock beside the card stand for that which has
+-- carried out the orders of the answer, beside the card after the event.
+abbrev pub CarryOut : ℕ → List Order → Card → Card → Option CardTimers → Option CardTimers → Type 0
+CarryOut line orders m m' None new = new ≡ None
+CarryOut line orders m m' (Some timers) new = (c : Clock) → TimersStand timers m c → TimersStandIn new m' (obeyed line orders c)
+
+-- So a call that is an event of a card: of the card of frames, of one of octets; and a call that is several of the latter.
+abbrev pub Obeys : Event → Card → CardHandle → CardHandle → Type 0
+Obeys e m old new = CarryOut e.line (orders_at e m) m (after e m) (timers_of old) (timers_of new)
+
+abbrev pub ObeysMeaning : octet_event.Event → OctetCard → CardHandle → CardHandle → Type 0
+ObeysMeaning e m old new = CarryOut e.line (timed_octets.orders_at e m) m.card (octets.after e m).card (timers_of old) (timers_of new)
+
+abbrev pub happen : List octet_event.Event → List (Step octet_event.Event)
+happen events = map happens events
+
+abbrev pub timed_after : List octet_event.Event → OctetCard → Clock → TimedOctetCard
+timed_after events m c = timed_octets.after_all (happen events) (record { card = m; clock = c })
+
+abbrev pub CarryOutAll : List octet_event.Event → OctetCard → Option CardTimers → Option CardTimers → Type 0
+CarryOutAll events m None new = new ≡ None
+CarryOutAll events m (Some timers) new =
+    (c : Clock) → TimersStand timers m.card c → TimersStandIn new (timed_after events m c).card.card (timed_after events m c).clock
+
+abbrev pub ObeysAll : List octet_event.Event → OctetCard → CardHandle → CardHandle → Type 0
+ObeysAll events m old new = CarryOutAll events m (timers_of old) (timers_of new)
+
+-- What the reports of a card show: where it keeps its own timers, no orders.
+abbrev pub orders_by : Bool → List Order → List Order
+orders_by false orders = orders
+orders_by true orders = []
+
+abbrev pub without_orders : line.Answer → line.Answer
+without_orders (line.told t) = line.told (record t { orders = [] })
+without_orders (line.refused why) = line.refused why
+without_orders (line.gave next) = line.gave next
+
+abbrev pub seen_by : Bool → line.Answer → line.Answer
+seen_by false answer = answer
+seen_by true answer = without_orders answer
+
+abbrev pub reply_without_orders : port.Answer → port.Answer
+reply_without_orders (port.told t) = port.told (record t { orders = [] })
+reply_without_orders (port.refused why) = port.refused why
+reply_without_orders (port.pulled value begun orders) = port.pulled value begun []
+
+abbrev pub reply_seen_by : Bool → port.Answer → port.Answer
+reply_seen_by false answer = answer
+reply_seen_by true answer = reply_without_orders answer
+
+abbrev pub seen : CardHandle → line.Answer → line.Answer
+seen h answer = seen_by (is_timed h) answer
+
+abbrev pub reply_seen : CardHandle → port.Answer → port.Answer
+reply_seen h answer = reply_seen_by (is_timed h) answer
+
+abbrev pub orders_seen : CardHandle → List Order → List Order
+orders_seen h orders = orders_by (is_timed h) orders
+
+-- What is written to a report after it has shown an answer.
+abbrev pub count_by : Bool → ℕ → ℕ
+count_by false count = count
+count_by true count = 0
+
+abbrev pub settled : Option CardTimers → PlainReport → PlainReport → PlainReport
+settled timers from r = with_reopened from (record r { order_count = count_by (is_some timers) r.order_count })

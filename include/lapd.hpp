@@ -278,9 +278,9 @@ public:
         return of(lapd_expire(&card_, line, &raw, to.raw()));
     }
     // Of a card that keeps its own timers; at another status::wrong_card.
-    /// The time is now this moment, and what is due first falls due; status::no_timer where nothing is due.
+    /// The time is now this moment, and what is due first falls due; status::no_timer if nothing is due.
     status fall_due(uint64_t now, report &to) { return of(lapd_fall_due(&card_, now, to.raw())); }
-    /// When the first timer falls due; status::no_timer where none runs.
+    /// When the first timer falls due; status::no_timer if none runs.
     status next_moment(uint64_t &moment) { return of(lapd_next_moment(&card_, &moment)); }
 
     status establish(uint32_t line, service by, uint8_t tei, report &to) {

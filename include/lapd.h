@@ -286,13 +286,14 @@ enum {
  * another one. So nothing is copied:
  *
  *     lapd_report came, asked;
- *     if (lapd_frame(&card, line, frame, length, &came) == LAPD_OK) {
- *         ... the orders of `came`
+ *     if (lapd_frame(&card, line, frame, length, &came) == LAPD_OK)
  *         for (const lapd_note *note = came.notes; note < came.notes + came.note_count; note++)
  *             if (note->note == LAPD_DATA_INDICATION
  *                 && lapd_data(&card, line, note->service, note->tei, came.contents, came.length, &asked) == LAPD_OK)
- *                 ... the orders of `asked`, and its notes, which are of the request
- *     }
+ *                 ... the notes of `asked`, which are of the request
+ *
+ * Of a card that does not keep its own timers, the orders of `came` are carried out before the request, and those of `asked`
+ * right after it.
  *
  * With the same report for both, what was told is gone after the first request: read all of it before, or only answer with
  * its contents, which lapd_data and lapd_unit copy first.

@@ -1,14 +1,13 @@
 /*
  * exchange.c: a small line card in C. One D-channel over standard input and output: for each octet that comes, one
- * goes. Timers are the library's clock, by the system's monotonic time (linecard.c). Layer 3 answers each message of a
- * terminal with the same message.
+ * goes. The card keeps its timers, by the system's monotonic time (linecard.c). Layer 3 answers each message of a terminal
+ * with the same message.
  *
  *     exchange [--trace] [RECORD [CAPTURE]] < OCTETS > OCTETS
  *
- * Standard error tells what layer 3 is told. With --trace it has a log of how each frame begins, and of each note, order and
- * state as well (trace.c). With RECORD, all that happens is written there as a script of
- * docs/FORMAT.md: `lapdsim run < RECORD` then shows the same. With CAPTURE, how the frames of both ways begin is
- * written there for Wireshark (pcap.c).
+ * Standard error tells what layer 3 is told. With --trace it has a log of how each frame begins, and of each note and state
+ * as well (trace.c). With RECORD, all that happens is written there as a script of docs/FORMAT.md: `lapdsim run < RECORD`
+ * then shows the same. With CAPTURE, how the frames of both ways begin is written there for Wireshark (pcap.c).
  */
 #define _POSIX_C_SOURCE 200809L
 
@@ -28,7 +27,7 @@ static const char help[] =
     "A line card with one D-channel: for each octet that comes, one goes. Each message of a terminal goes back to it.\n"
     "Standard error tells what layer 3 is told.\n"
     "\n"
-    "  --trace  a log of how frames begin, and of notes, orders and states, on standard error\n"
+    "  --trace  a log of how frames begin, and of notes and states, on standard error\n"
     "  RECORD   a file for all that happens, as a script: lapdsim run < RECORD shows the same\n"
     "  CAPTURE  a file for how the frames of both ways begin, for Wireshark\n";
 
@@ -42,8 +41,7 @@ static bool message_came(linecard *own, const lapd_note *note, const uint8_t *co
     return linecard_send(own, note, octets, length);
 }
 
-static linecard own = {.program = "exchange", .message_came = message_came,
-                       .card = LAPD_CARD_NONE, .timers = LAPD_CLOCK_NONE};
+static linecard own = {.program = "exchange", .message_came = message_came, .card = LAPD_CARD_NONE};
 
 static bool write_all(const uint8_t *octets, size_t length) {
     while (length > 0) {
@@ -114,9 +112,8 @@ static bool run(void) {
         fprintf(own.record, "card " LINECARD_NUMBERS "\n");
     if (capture != NULL)
         pcap_begin(capture);
-    uint32_t status = lapd_card_start(&own.card, &linecard_config);
-    bool is_started = linecard_is_ok(&own, status, "card") && linecard_begin(&own);
-    bool is_good = is_started && pcap_begin_heads(&own.card, 0, &heard) && serve();
+    uint32_t status = lapd_card_start_timed(&own.card, &linecard_config, &linecard_lengths);
+    bool is_good = linecard_begin(&own, status) && pcap_begin_heads(&own.card, 0, &heard) && serve();
     bool is_captured = linecard_close(&own, capture, "capture");
     return linecard_end(&own) && is_captured && is_good;
 }

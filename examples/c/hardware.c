@@ -1,12 +1,12 @@
 /*
  * hardware.c: a small line card in C whose controller has flags, stuffed 0s and checks in hardware. One D-channel is
  * standard input, as the drivers of such controllers give and take frames: a socket with one frame a datagram, or a
- * device with one frame a read and a write. Timers are the library's clock, by the system's monotonic time
- * (linecard.c). Layer 3 answers every call (q931.h).
+ * device with one frame a read and a write. The card keeps its timers, by the system's monotonic time (linecard.c).
+ * Layer 3 answers every call (q931.h).
  *
  *     hardware [--trace] [--check] [RECORD [CAPTURE]] <> LINE
  *
- * With --trace standard error has a log of each frame, note, order and state as well (trace.c).
+ * With --trace standard error has a log of each frame, note and state as well (trace.c).
  * With --check two octets stand behind each frame, in place of its check, as DAHDI's D-channels have them; without it
  * the frame is all, as in Linux's LAPD devices. Standard error tells what layer 3 is told. With RECORD, all that
  * happens is written there as a script of docs/FORMAT.md: `lapdsim run < RECORD` then shows the same. With CAPTURE, the
@@ -33,7 +33,7 @@ static const char help[] =
     "A line card with one D-channel, whose line gives and takes one frame a read and a write. It answers every call.\n"
     "Standard error tells what layer 3 is told.\n"
     "\n"
-    "  --trace  a log of each frame, note, order and state on standard error\n"
+    "  --trace  a log of each frame, note and state on standard error\n"
     "  --check  two octets stand behind each frame, in place of its check\n"
     "  RECORD   a file for all that happens, as a script: lapdsim run < RECORD shows the same\n"
     "  CAPTURE  a file for the frames of both ways, for Wireshark\n";
@@ -48,8 +48,7 @@ static bool message_came(linecard *own, const lapd_note *note, const uint8_t *co
     return octets == 0 || linecard_send(own, note, answer, octets);
 }
 
-static linecard own = {.program = "hardware", .message_came = message_came,
-                       .card = LAPD_CARD_NONE, .timers = LAPD_CLOCK_NONE};
+static linecard own = {.program = "hardware", .message_came = message_came, .card = LAPD_CARD_NONE};
 
 /* A frame came. A driver that tells of aborts and bad checks hands them to lapd_frame_failed; this one has none. */
 static bool take(const uint8_t *datagram, size_t length) {
@@ -121,8 +120,8 @@ static bool run(void) {
         fprintf(own.record, "frames " LINECARD_NUMBERS "\n");
     if (capture != NULL)
         pcap_begin(capture);
-    uint32_t status = lapd_card_start_frames(&own.card, &linecard_config);
-    bool is_good = linecard_is_ok(&own, status, "card") && linecard_begin(&own) && serve();
+    uint32_t status = lapd_card_start_frames_timed(&own.card, &linecard_config, &linecard_lengths);
+    bool is_good = linecard_begin(&own, status) && serve();
     bool is_captured = linecard_close(&own, capture, "capture");
     return linecard_end(&own) && is_captured && is_good;
 }

@@ -10,6 +10,7 @@
 /* Basic access: windows of 1 for call control and 3 for packet mode (Q.921, 5.9.5). */
 const lapd_config linecard_config = {.lines = 1, .terminals = 8, .k = 1, .k16 = 3, .queue = 8, .unit_queue = 4,
                                      .control = 4, .slots = 64, .n201 = 260, .n200 = 3};
+const lapd_lengths linecard_lengths = {.t200 = 1000, .t203 = 10000, .t201 = 1000};
 
 bool linecard_is_ok(const linecard *own, uint32_t status, const char *call) {
     if (status != LAPD_OK)
@@ -64,9 +65,7 @@ bool linecard_traces(linecard *own, int *words, char ***word) {
 
 bool linecard_tell(linecard *own, const lapd_report *report) {
     if (own->log != NULL)
-        trace_report(own->log, own->now, 0, &own->card, report);
-    if (!linecard_is_ok(own, lapd_clock_apply_report(&own->timers, 0, report, own->now), "orders"))
-        return false;
+        trace_report(own->log, own->now, &own->card, report);
     const lapd_note *data = NULL;
     for (const lapd_note *note = report->notes; note < report->notes + report->note_count; note++)
         if (note->note == LAPD_DATA_INDICATION || note->note == LAPD_UNIT_INDICATION) {
@@ -92,35 +91,32 @@ static uint64_t monotonic(void) {
 
 bool linecard_pass(linecard *own) {
     static lapd_report report;
-    uint64_t moment = monotonic() - own->start;
+    uint64_t moment = monotonic() - own->start, next;
+    uint32_t status = LAPD_OK;
     if (own->record != NULL && moment > own->now)
         fprintf(own->record, "wait %llu\n", (unsigned long long)(moment - own->now));
-    for (uint64_t next; lapd_clock_next(&own->timers, &next) == LAPD_OK && next <= moment;) {
-        lapd_due due;
-        own->now = next;
-        if (!linecard_is_ok(own, lapd_clock_due(&own->timers, own->now, &due), "due")
-            || !linecard_is_ok(own, lapd_expire(&own->card, due.line, &due.timer, &report), "expire")
-            || !linecard_tell(own, &report))
+    while (status != LAPD_NO_TIMER || own->now < moment) {
+        own->now = lapd_next_moment(&own->card, &next) == LAPD_OK && next < moment ? next : moment;
+        status = lapd_fall_due(&own->card, own->now, &report);
+        if (status != LAPD_NO_TIMER && !(linecard_is_ok(own, status, "time") && linecard_tell(own, &report)))
             return false;
     }
-    own->now = moment;
     return true;
 }
 
 int linecard_patience(linecard *own) {
     uint64_t moment;
-    if (lapd_clock_next(&own->timers, &moment) != LAPD_OK)
+    if (lapd_next_moment(&own->card, &moment) != LAPD_OK)
         return -1;
     return moment <= own->now ? 0 : moment - own->now > 10000 ? 10000 : (int)(moment - own->now);
 }
 
-bool linecard_begin(linecard *own) {
+bool linecard_begin(linecard *own, uint32_t status) {
     own->start = monotonic();
-    return linecard_is_ok(own, lapd_clock_start(&own->timers, &linecard_config), "clock");
+    return linecard_is_ok(own, status, "card");
 }
 
 bool linecard_end(linecard *own) {
-    (void)!lapd_clock_free(&own->timers);
     (void)!lapd_card_free(&own->card);
     return linecard_close(own, own->record, "record");
 }

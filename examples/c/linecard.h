@@ -1,6 +1,6 @@
 /*
- * linecard.h: what exchange.c and hardware.c do alike. A card with one line and its clock: orders go to the clock,
- * notes to layer 3, and each timer expires at its moment. What layer 3 does with a message is each program's own.
+ * linecard.h: what exchange.c and hardware.c do alike. A card with one line, which keeps its own timers: notes go to layer 3,
+ * and each timer expires at its moment. What layer 3 does with a message is each program's own.
  */
 #ifndef LINECARD_H
 #define LINECARD_H
@@ -21,12 +21,12 @@ struct linecard {
     FILE *record; /* where all that happens is written as a script of docs/FORMAT.md, or NULL */
     trace *log;   /* or NULL */
     lapd_card card;
-    lapd_clock timers;
     uint64_t start, now; /* milliseconds of the system's monotonic time, and since the start */
 };
 
-/* The card, but for its kind, and the numbers that a script has for it. */
+/* The card, but for its kind, and the numbers that a script has for it; and how long its timers run. */
 extern const lapd_config linecard_config;
+extern const lapd_lengths linecard_lengths;
 #define LINECARD_NUMBERS "1 8 1 8 4 4 64 260 3 3"
 
 /* A call that can only fail by a fault of the program; says which, where it fails. */
@@ -35,7 +35,7 @@ bool linecard_is_ok(const linecard *own, uint32_t status, const char *call);
 /* Whether the first word is --trace: then a log of all goes to standard error, and the word is taken off. */
 bool linecard_traces(linecard *own, int *words, char ***word);
 
-/* Hands the orders of a report to the clock, and its notes to layer 3. */
+/* Hands the notes of a report to layer 3. */
 bool linecard_tell(linecard *own, const lapd_report *report);
 
 /* Layer 3 sends a message on the link of this note. */
@@ -47,10 +47,10 @@ bool linecard_pass(linecard *own);
 /* Milliseconds until a timer falls due, for poll. */
 int linecard_patience(linecard *own);
 
-/* Starts the clock, and time. */
-bool linecard_begin(linecard *own);
+/* Time starts, with the card: this is what its start answered. */
+bool linecard_begin(linecard *own, uint32_t status);
 
-/* Frees card and clock, and closes the record; whether it was written. */
+/* Frees the card, and closes the record; whether it was written. */
 bool linecard_end(linecard *own);
 
 /* Opens a file to write; says why not, and answers NULL, where that fails. */

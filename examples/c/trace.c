@@ -68,7 +68,8 @@ static void trace_states(trace *log, uint64_t milliseconds, uint32_t line, lapd_
         trace_state(log, milliseconds, line, i, states[i]);
 }
 
-void trace_report(trace *log, uint64_t milliseconds, uint32_t line, lapd_card *card, const lapd_report *report) {
+void trace_report(trace *log, uint64_t milliseconds, lapd_card *card, const lapd_report *report) {
+    uint32_t line = report->line;
     for (unsigned i = 0; i < report->note_count; i++) {
         begin(log, milliseconds, line, " ");
         trace_note(log, &report->notes[i], report);

@@ -1,10 +1,10 @@
 /*
  * trace.h: a log of what happens at a card, in words: each frame, `<` one that came and `>` one that goes, and below it what
- * it led to: notes, why it was dropped, what was lost, orders for timers, and states of links that are others than before.
+ * it led to: notes, why it was dropped, what was lost, orders for timers (`start t203 64`), of which a card that keeps its own
+ * tells none, and states of links that are others than before.
  *
  *     0.120 0 < sapi 0 tei 64 command sabme p 1 info -
  *     0.120 0   establish-indication 64
- *     0.120 0   start t203 64
  *     0.120 0   state 64: 4 (TEI assigned) to 7 (multiple frame established)
  *     0.120 0 > sapi 0 tei 64 response ua f 1 info -
  *
@@ -37,7 +37,7 @@ void trace_frame(trace *log, uint64_t milliseconds, uint32_t line, bool is_sent,
 /* The same of how a frame begins, as lapd_heard and lapd_begun tell it. */
 void trace_head(trace *log, uint64_t milliseconds, uint32_t line, bool is_sent, const lapd_head *head);
 
-/* What a report of a line tells, and which links of the line are in another state than before. */
-void trace_report(trace *log, uint64_t milliseconds, uint32_t line, lapd_card *card, const lapd_report *report);
+/* What a report tells, and which links of its line are in another state than before. */
+void trace_report(trace *log, uint64_t milliseconds, lapd_card *card, const lapd_report *report);
 
 #endif

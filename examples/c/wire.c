@@ -2,7 +2,7 @@
  * wire.c: two cards on one wire, in one process: the network's side and the user's, from point to point, with TEI 0.
  * Each card's frames go to the other at 64 kbit/s, one after the other, and some are lost on their way, by a seed. The
  * user's side establishes the link, contents go both ways as fast as they are accepted, and in the end the user's side
- * releases the link. Timers are the library's clocks, by a time of the wire's own.
+ * releases the link. Each card keeps its timers, by a time of the wire's own.
  *
  *     wire [SEED LOSS COUNT [RECORD]]
  *
@@ -30,6 +30,7 @@ static const char usage[] = "usage: wire [SEED LOSS COUNT [RECORD]]\n"
 
 static const lapd_config trunk = {.lines = 1, .terminals = 1, .k = 7, .k16 = 7, .queue = 8, .unit_queue = 1,
                                   .control = 4, .slots = 8, .n201 = 260, .n200 = 3};
+static const lapd_lengths lengths = {.t200 = 1000, .t203 = 10000, .t201 = 1000};
 #define TRUNK_NUMBERS "1 1 7 8 1 4 8 260 3"
 
 /* An end of the wire: a card with one line, its layer 3, and the way of its frames to the other end. */
@@ -37,7 +38,6 @@ typedef struct {
     const char *name; /* of its side */
     uint16_t side;
     lapd_card card;
-    lapd_clock timers;
     FILE *record;      /* or NULL */
     uint64_t recorded; /* the moment up to which it is written */
 
@@ -176,10 +176,9 @@ static uint8_t state_of(wire_end *end) {
     return state;
 }
 
-/* What an event of an end led to: orders for its timers, and notes. A frame is dropped only while the link is not up. */
+/* What an event of an end led to. A frame is dropped only while the link is not up. */
 static void tell(wire_end *end, const lapd_report *report) {
     struct lapd_room room;
-    want_ok(end, lapd_clock_apply_report(&end->timers, 0, report, now));
     if (report->cause != 0 && (report->cause != LAPD_UNSERVED || state_of(end) >= 7))
         fail(end, lapd_cause_text(report->cause));
     if (report->lost != 0)
@@ -232,20 +231,19 @@ static void start(wire_end *end) {
     static lapd_report report;
     lapd_config config = trunk;
     config.side = end->side;
-    want_ok(end, lapd_card_start_frames(&end->card, &config));
-    want_ok(end, lapd_clock_start(&end->timers, &config));
+    want_ok(end, lapd_card_start_frames_timed(&end->card, &config, &lengths));
     want_ok(end, lapd_assign(&end->card, 0, 0, &report)); /* the TEI of a line from point to point */
     record(end, "assign 0 0", NULL, 0);
     tell(end, &report);
 }
 
-/* Timers that are due expire. */
+/* It is now this moment: timers that are due expire. */
 static void expire(wire_end *end) {
     static lapd_report report;
-    for (lapd_due due; lapd_clock_due(&end->timers, now, &due) == LAPD_OK; end->expired++) {
-        want_ok(end, lapd_expire(&end->card, due.line, &due.timer, &report));
+    uint32_t status;
+    for (; (status = lapd_fall_due(&end->card, now, &report)) == LAPD_OK; end->expired++)
         tell(end, &report);
-    }
+    want_ok(end, status == LAPD_NO_TIMER ? LAPD_OK : status);
 }
 
 /* A frame of an end arrives at the other, or is lost. */
@@ -285,7 +283,7 @@ static uint64_t sooner(wire_end *end, uint64_t moment) {
     uint64_t due;
     if (end->is_on_its_way && end->arrives < moment)
         moment = end->arrives;
-    return lapd_clock_next(&end->timers, &due) == LAPD_OK && due < moment ? due : moment;
+    return lapd_next_moment(&end->card, &due) == LAPD_OK && due < moment ? due : moment;
 }
 
 /* All that happens at this moment. */
@@ -340,7 +338,6 @@ static void sum_up(wire_end *end) {
 static void finish(wire_end *end) {
     if (end->record != NULL && fclose(end->record) != 0)
         fail(end, "its record cannot be written");
-    (void)!lapd_clock_free(&end->timers);
     (void)!lapd_card_free(&end->card);
 }
 

@@ -248,23 +248,23 @@ static unsigned released, ended;
 static uint64_t now(void) { return 0; }
 
 /* Each link that was up tells its release; the line itself, if a check ran, that its timer stops. */
-static void layer_3(uint32_t line, const lapd_report *told) {
-    if (line != 0 || !lapd_tells(told))
+static void layer_3(const lapd_report *of) {
+    if (of->line != 0 || !lapd_tells(of))
         return;
-    if (told->note_count == 0) {
-        wants(told->order_count == 1 && told->orders[0].order == LAPD_STOP && told->orders[0].timer.timer == LAPD_T201, "a line that is down orders something else");
+    if (of->note_count == 0) {
+        wants(of->order_count == 1 && of->orders[0].order == LAPD_STOP && of->orders[0].timer.timer == LAPD_T201, "a line that is down orders something else");
         ended++;
         return;
     }
-    wants(told->note_count == 1 && told->notes[0].note == LAPD_RELEASE_INDICATION, "a link that is given up tells something else");
+    wants(of->note_count == 1 && of->notes[0].note == LAPD_RELEASE_INDICATION, "a link that is given up tells something else");
     released++;
 }
 
-static uint32_t carried_out(uint32_t line, uint32_t status) {
+static uint32_t told(uint32_t status) {
     if (status == LAPD_OK)
-        status = lapd_clock_apply_report(&timers, line, &report, now());
+        status = lapd_clock_apply_report(&timers, report.line, &report, now());
     if (status == LAPD_OK)
-        layer_3(line, &report);
+        layer_3(&report);
     return status;
 }
 
@@ -278,7 +278,7 @@ static int is_down(uint32_t line) {
     uint8_t place = 0;
     uint32_t status = LAPD_OK;
     while (status == LAPD_OK)
-        status = carried_out(line, lapd_line_down(&card, line, &place, &report));
+        status = told(lapd_line_down(&card, line, &place, &report));
     if (status != LAPD_NO_MORE_LINKS)
         return fail(lapd_status_text(status));
     return 0;
@@ -350,13 +350,13 @@ static uint32_t disowns_all(const lapd_config basic) {
     uint32_t status = LAPD_OK;
     for (uint32_t line = 0; line < basic.lines; line++)
         for (int times = 0; status == LAPD_OK && times < 2; times++)
-            status = carried_out(line, lapd_disown(&card, line, LAPD_GROUP_TEI, &report));
+            status = told(lapd_disown(&card, line, LAPD_GROUP_TEI, &report));
     return status;
 }
 
 static void disowns(uint32_t line, const uint8_t *frame) {
     if (report.cause == LAPD_TEI && frame[0] >> 2 != 63 && frame[1] >> 1 != LAPD_GROUP_TEI)
-        (void)!carried_out(line, lapd_disown(&card, line, frame[1] >> 1, &report));
+        (void)!told(lapd_disown(&card, line, frame[1] >> 1, &report));
 }
 
 /* A frame that is dropped, since its TEI is on no line; whether that is disowned. */

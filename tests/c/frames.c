@@ -414,10 +414,11 @@ static void first_trunk(void) {
     lapd_card card = LAPD_CARD_NONE;
     uint8_t frame[LAPD_MOST_FRAME + 1] = {0};
     lay_paint();
+    static const lapd_lengths lengths = {.t200 = 1000, .t203 = 10000, .t201 = 1000};
     lapd_config trunk = primary;
     trunk.side = LAPD_USER;
     static const uint8_t ua_of_network[] = {0x00, 0x01, 0x73};
-    uint32_t status = lapd_card_start_frames(&card, &trunk);
+    uint32_t status = lapd_card_start_frames_timed(&card, &trunk, &lengths);
     if (status == LAPD_OK)
         status = lapd_assign(&card, 0, 0, &report);                        /* TEI 0 is on the line, and stays there */
     if (status == LAPD_OK)

@@ -1,10 +1,11 @@
 /*
- * gateway_day.c: a day of simulated time of examples/c/gateway.c, with 64 basic access lines by frames and a clock. At
- * each line libpri, the ISDN stack of a widespread PBX, is the terminal: it asks for a TEI, comes up, calls and hangs
- * up, refuses a call, and answers polls. A frame takes its time on the line, at 16 kbit/s, and the driver takes the next
- * one then. Frames get spoilt both ways, and lines go down. All that passes is counted here again (counting.c), and
- * compared with the card's counters each hour; so is what is told of further frames with what waits. For tests alone;
- * libpri's time is this program's.
+ * gateway_day.c: a day of simulated time of examples/c/gateway.c, with 64 basic access lines by frames. At each line
+ * libpri, the ISDN stack of a widespread PBX, is the terminal: it asks for a TEI, comes up, calls and hangs up, refuses a
+ * call, and answers polls. A frame takes its time on the line, at 16 kbit/s, and the driver takes the next one then.
+ * Frames get spoilt both ways, and lines go down. All that passes is counted here again (counting.c), and compared with the
+ * card's counters each hour; so is what is told of further frames with what waits. The sums of all counters are printed,
+ * and each hour a number made of the counters of each line: compiled with clocked.h, where a clock is beside a card
+ * without timers, it prints the same. For tests alone; libpri's time is this program's.
  *
  *     gateway_day HOURS SEED
  *
@@ -30,6 +31,7 @@ enum { CALLS_EACH = 900000, TALKS = 180000, UP_FOR = 7200000, DOWN_FOR = 40000 }
 
 static const lapd_config config = {.lines = LINES, .terminals = 1, .k = 1, .k16 = 3, .queue = 8, .unit_queue = 4,
                                    .control = 4, .slots = 128, .n201 = 260, .n200 = 3, .side = LAPD_NETWORK};
+static const lapd_lengths lengths = {.t200 = 1000, .t203 = 10000, .t201 = 1000};
 
 /* A frame on a line, or none, of length 0. */
 typedef struct {
@@ -84,8 +86,9 @@ static void want_ok(uint32_t status, const char *call) {
 
 /* ---- The gateway's layer 3 ---------------------------------------------------------------------------------------- */
 
-static void on_report(gateway *gate, uint32_t line, const lapd_report *report) {
+static void on_report(gateway *gate, const lapd_report *report) {
     uint8_t answer[Q931_MOST_ANSWER];
+    uint32_t line = report->line;
     count_told(&counted[line], report);
     for (const lapd_note *note = report->notes; note < report->notes + report->note_count; note++) {
         if (note->note != LAPD_DATA_INDICATION)
@@ -93,7 +96,7 @@ static void on_report(gateway *gate, uint32_t line, const lapd_report *report) {
         size_t length = q931_answer(report->contents, report->length, answer);
         if (length == 0)
             continue;
-        uint32_t status = gateway_ask(gate, now, line, LAPD_DATA, note->service, note->tei, answer, length);
+        uint32_t status = gateway_ask(gate, line, LAPD_DATA, note->service, note->tei, answer, length);
         seen.refused += status != LAPD_OK;
     }
 }
@@ -187,22 +190,22 @@ static void receive(uint32_t line) {
     at->first = (at->first + 1) % MOST_WAITING;
     at->count--;
     if (arrived->is_spoilt) {
-        want_ok(gateway_frame_failed(&own, now, line, LAPD_FCS), "a fault");
+        want_ok(gateway_frame_failed(&own, line, LAPD_FCS), "a fault");
         return;
     }
     count_heard(&counted[line], arrived->octets, arrived->length);
-    want_ok(gateway_frame(&own, now, line, arrived->octets, arrived->length), "a frame");
+    want_ok(gateway_frame(&own, line, arrived->octets, arrived->length), "a frame");
 }
 
 static bool is_waiting(uint32_t line) {
     uint32_t first;
-    return gateway_waiting(&own, line, &first) == LAPD_OK && first == line;
+    return lapd_next_waiting(&own.card, line, &first) == LAPD_OK && first == line;
 }
 
 /* Takes the next frame of a line, if one waits. */
 static bool take(uint32_t line, uint8_t frame[LAPD_MOST_FRAME], size_t *length) {
     bool more;
-    uint32_t status = gateway_take(&own, now, line, frame, LAPD_MOST_FRAME, length, &more);
+    uint32_t status = gateway_take(&own, line, frame, LAPD_MOST_FRAME, length, &more);
     if (status == LAPD_NO_FRAME)
         return false;
     want_ok(status, "the next frame");
@@ -232,7 +235,7 @@ static void lose_line(uint32_t line) {
     seen.downs++;
     at->count = 0;
     at->to_terminal.length = 0;
-    want_ok(gateway_down(&own, now, line), "a line goes down");
+    want_ok(gateway_down(&own, line), "a line goes down");
     for (lapd_link link; lapd_next_link(&own.card, line, &place, &link) == LAPD_OK;)
         want(link.state == 4, "a link is up on a line that is down");
     want(!take(line, frame, &length), "a frame waits on a line that is down");
@@ -244,10 +247,10 @@ static void regain_line(uint32_t line) {
     static const uint8_t setup[] = {0x08, 1, 0x01, 0x05, 0x04, 3, 0x80, 0x90, 0xA3, 0x18, 1, 0x8A};
     lapd_link link;
     uint8_t place = 0;
-    want_ok(gateway_ask(&own, now, line, LAPD_UNIT, LAPD_CALL, LAPD_GROUP_TEI, setup, sizeof setup), "a call to all");
+    want_ok(gateway_ask(&own, line, LAPD_UNIT, LAPD_CALL, LAPD_GROUP_TEI, setup, sizeof setup), "a call to all");
     if (lapd_next_link(&own.card, line, &place, &link) != LAPD_OK)
         return;
-    uint32_t status = gateway_ask(&own, now, line, LAPD_CHECK, LAPD_CALL, link.tei, NULL, 0);
+    uint32_t status = gateway_ask(&own, line, LAPD_CHECK, LAPD_CALL, link.tei, NULL, 0);
     want(status == LAPD_OK || status == LAPD_REFUSED_CHECK_RUNNING, "a TEI is not checked");
 }
 
@@ -293,25 +296,25 @@ static void serve(uint32_t line) {
     at->due_at = first_of(at);
 }
 
-/* Everything that falls due at the next moment: frames first, then timers, and then there may be frames to send. */
+/* Everything that falls due at the next moment: timers first, then frames, and then there may be frames to send. */
 static void step(void) {
     uint64_t next;
-    if (gateway_next(&own, &next) != LAPD_OK)
+    if (lapd_next_moment(&own.card, &next) != LAPD_OK)
         next = UINT64_MAX;
     for (uint32_t line = 0; line < LINES; line++)
         next = earlier(next, lines[line].due_at);
     now = next > now ? next : now;
+    want_ok(gateway_advance(&own, now), "time");
     for (uint32_t line = 0; line < LINES; line++)
         if (lines[line].due_at <= now)
             serve(line);
-    want_ok(gateway_advance(&own, now), "time");
-    for (uint32_t line = 0; gateway_waiting(&own, line, &line) == LAPD_OK; line++)
+    for (uint32_t line = 0; lapd_next_waiting(&own.card, line, &line) == LAPD_OK; line++)
         send_next(line);
 }
 
 static void begin(void) {
     own.on_report = on_report;
-    want_ok(gateway_start(&own, &config), "the start");
+    want_ok(gateway_start(&own, &config, &lengths), "the start");
     for (uint32_t line = 0; line < LINES; line++) {
         counted[line].side = config.side;
         counted[line].n201 = config.n201;
@@ -336,12 +339,21 @@ static bool was_a_day(uint64_t hours) {
                                      LAPD_TOLD_DATA, LAPD_TOLD_ESTABLISH_INDICATION, LAPD_TOLD_RELEASE_INDICATION,
                                      LAPD_TOLD_REMOVED};
     bool is_each = true;
-    for (unsigned i = 0; i < sizeof places; i++) {
-        printf("gateway_day: %s %llu\n", lapd_counter_text(places[i]), (unsigned long long)sum(places[i]));
+    for (unsigned i = 0; i < sizeof places; i++)
         is_each = is_each && sum(places[i]) > 20 * hours;
-    }
     return is_each && seen.answered > 200 * hours && seen.cleared > 200 * hours && seen.spoilt > 50 * hours
            && seen.followed > 20 * hours && seen.downs > 20 * hours && seen.refused < hours;
+}
+
+/* The counters of each line are those that are counted here; a number that is made of all of them. */
+static uint64_t compare(void) {
+    uint64_t number = 14695981039346656037u; /* FNV-1a */
+    for (uint32_t line = 0; line < LINES; line++) {
+        want(counts_the_same(&counted[line], &own.card, line, "gateway_day"), "a counter is another");
+        for (unsigned place = 0; place < LAPD_COUNTERS; place++)
+            number = (number ^ counted[line].values[place]) * 1099511628211u;
+    }
+    return number;
 }
 
 /* A number of decimal digits, and nothing more. */
@@ -363,9 +375,10 @@ int main(int words, char **word) {
     for (uint64_t hour = 1; hour <= hours; hour++) {
         while (now < hour * HOUR)
             step();
-        for (uint32_t line = 0; line < LINES; line++)
-            want(counts_the_same(&counted[line], &own.card, line, "gateway_day"), "a counter is another");
+        printf("gateway_day: hour %llu: %016llX\n", (unsigned long long)hour, (unsigned long long)compare());
     }
+    for (unsigned place = 0; place < LAPD_COUNTERS; place++)
+        printf("gateway_day: %s %llu\n", lapd_counter_text(place), (unsigned long long)sum(place));
     printf("gateway_day: %llu frames, %llu with more behind them, %llu spoilt, %llu calls, %llu answered, %llu cleared, "
            "%llu refused, %llu downs\n", (unsigned long long)seen.frames, (unsigned long long)seen.followed,
            (unsigned long long)seen.spoilt, (unsigned long long)seen.calls, (unsigned long long)seen.answered,

@@ -2,8 +2,7 @@
  * page.c: a loop of docs/EMBEDDING.md as a program. tests/c/run puts what the page shows into the file PAGE. Standard
  * input is the line. At a card of octets it is an octet every ten milliseconds: each note and each drop is printed at once,
  * and the octets that go out are printed at the end. At a card of frames (FRAMES) it is the octets of a frame behind their
- * number, or 0, ten milliseconds in which none comes: each frame that goes out is printed at once, too. With TIMED the loop
- * needs no clock.
+ * number, or 0, ten milliseconds in which none comes: each frame that goes out is printed at once, too.
  */
 #include <stdio.h>
 #include <stdlib.h>
@@ -16,7 +15,7 @@ static const lapd_config basic = {.lines = 1, .terminals = 8, .k = 1, .k16 = 3, 
 /* primary rate: 64 kbit/s, one TEI */
 static const lapd_config primary = {.lines = 1, .terminals = 1, .k = 7, .k16 = 7, .queue = 8, .unit_queue = 4,
                                     .control = 4, .slots = 20, .n201 = 260, .n200 = 3};
-static uint64_t moment;
+static uint64_t time_now;
 
 static int fail(const char *text) {
     fprintf(stderr, "%s\n", text);
@@ -29,7 +28,7 @@ static size_t frame_that_came(uint8_t *frame, size_t room) {
     if (length == EOF)
         exit(0);
     if (length == 0)
-        moment += 10;
+        time_now += 10;
     return (size_t)length <= room ? fread(frame, 1, (size_t)length, stdin) : 0;
 }
 
@@ -55,40 +54,50 @@ static uint8_t octet_that_came(void) {
 static void octet_to_send(uint8_t octet) {
     if (sent_length + 3 <= sizeof sent)
         sent_length += (size_t)snprintf(sent + sent_length, 3, "%02X", octet);
-    moment += 10;
+    time_now += 10;
 }
 #endif
 
 static uint64_t now(void) {
-    return moment;
+    return time_now;
 }
 
-static void layer_3(uint32_t line, const lapd_report *told) {
-    for (int i = 0; i < told->note_count; i++) {
-        const lapd_note *note = &told->notes[i];
-        printf("%u %s %u", line, lapd_note_text(note), note->tei);
+static void layer_3(const lapd_report *of) {
+    for (int i = 0; i < of->note_count; i++) {
+        const lapd_note *note = &of->notes[i];
+        printf("%u %s %u", of->line, lapd_note_text(note), note->tei);
         if (note->note == LAPD_ERROR_INDICATION)
             printf(" %c", note->error);
         printf("\n");
     }
-    if (told->cause)
-        printf("%u dropped %s\n", line, lapd_cause_text(told->cause));
+    if (of->cause)
+        printf("%u dropped %s\n", of->line, lapd_cause_text(of->cause));
 }
 
+static const lapd_lengths lengths = {.t200 = 1000, .t203 = 10000, .t201 = 1000};   /* milliseconds */
 static lapd_card card = LAPD_CARD_NONE;
 static lapd_report report;
 
-#ifndef TIMED
+static uint32_t told(uint32_t status) {
+    if (status == LAPD_OK)
+        layer_3(&report);                    /* notes, contents, room, of report.line */
+    return status;
+}
+
+static uint32_t time_is(uint64_t moment) {   /* all that is due expires */
+    uint32_t status;
+    while ((status = told(lapd_fall_due(&card, moment, &report))) == LAPD_OK)
+        ;
+    return status == LAPD_NO_TIMER ? LAPD_OK : status;
+}
+
 static lapd_clock timers = LAPD_CLOCK_NONE;
 
 static uint32_t carried_out(uint32_t line, uint32_t status) {
     if (status == LAPD_OK)
         status = lapd_clock_apply_report(&timers, line, &report, now());
-    if (status == LAPD_OK)
-        layer_3(line, &report);              /* notes, contents, room */
-    return status;
+    return told(status);
 }
-#endif
 
 /* What the page says of its two configurations: that the other one starts, too, and how many octets each takes. */
 static bool is_as_said(void) {
@@ -99,6 +108,7 @@ static bool is_as_said(void) {
 }
 
 int main(void) {
+    (void)time_is, (void)carried_out, (void)lengths; /* a loop has the one or the other */
     if (!is_as_said())
         return fail("docs/EMBEDDING.md says otherwise of its configurations");
 #include PAGE

@@ -2,8 +2,9 @@
  * play.c: plays a script of docs/FORMAT.md through the C library, and writes its transcript, as `lapdsim run` does.
  * For tests alone.
  *
- *     play [--exchange] < SCRIPT
+ *     play [--timed] [--exchange] < SCRIPT
  *
+ * With --timed the card keeps its own timers, and there is no clock: a script that changes their lengths is none for it.
  * With --exchange every pull is one of lapd_exchange: lines `rx LINE OCTET` and `pull LINE 1` in turn are handed over as
  * one run, as turn.c makes them; other pulls are exchanges of one octet from their second step.
  * Status 0; 1 for a faulty line or refused memory, told on standard error; 2 for words.
@@ -25,12 +26,12 @@ typedef struct {
     size_t steps;
 } run;
 
-/* A card with its clock, and at each line a terminal that sends and a listener that hears. */
+/* A card with its clock, if it has one, and at each line a terminal that sends and a listener that hears. */
 typedef struct {
     lapd_card card;
     lapd_clock clock;
     uint64_t now;
-    bool by_exchange, for_frames;
+    bool is_timed, by_exchange, for_frames;
     run run; /* what is not handed over yet */
     hdlc_sender senders[LAPD_MOST_LINES];
     hdlc_listener listeners[LAPD_MOST_LINES];
@@ -54,21 +55,6 @@ static void put_note(uint32_t line, const lapd_note *note, const lapd_report *re
     }
 }
 
-/* Writes what an event told, and hands its orders to the clock. */
-static void tell(station *b, uint32_t line, const lapd_report *report) {
-    for (int i = 0; i < report->note_count; i++)
-        put_note(line, &report->notes[i], report);
-    if (report->cause != 0)
-        printf("%u dropped %s\n", line, lapd_cause_text(report->cause));
-    if (report->lost != 0)
-        printf("%u lost %u\n", line, report->lost);
-    uint32_t status = lapd_clock_apply_report(&b->clock, line, report, b->now);
-    if (status != LAPD_OK) {
-        fprintf(stderr, "play: orders of the card: %s\n", lapd_status_text(status));
-        exit(3);
-    }
-}
-
 /* A call that can't fail here did: the library is wrong, or this program. */
 static void want_ok(uint32_t status, const char *call) {
     if (status == LAPD_OK)
@@ -77,16 +63,37 @@ static void want_ok(uint32_t status, const char *call) {
     exit(3);
 }
 
+/* Writes what an event told, and hands its orders to the clock. */
+static void tell(station *b, uint32_t line, const lapd_report *report) {
+    for (int i = 0; i < report->note_count; i++)
+        put_note(line, &report->notes[i], report);
+    if (report->cause != 0)
+        printf("%u dropped %s\n", line, lapd_cause_text(report->cause));
+    if (report->lost != 0)
+        printf("%u lost %u\n", line, report->lost);
+    if (b->is_timed)
+        want_ok(report->order_count == 0 ? LAPD_OK : LAPD_WRONG_ORDER, "orders of a card with timers of its own");
+    else
+        want_ok(lapd_clock_apply_report(&b->clock, line, report, b->now), "orders of the card");
+}
+
+static uint32_t start_card(station *b, const lapd_config *config) {
+    static const lapd_lengths lengths = {.t200 = 1000, .t203 = 10000, .t201 = 1000};
+    if (b->is_timed)
+        return b->for_frames ? lapd_card_start_frames_timed(&b->card, config, &lengths)
+                             : lapd_card_start_timed(&b->card, config, &lengths);
+    uint32_t status = b->for_frames ? lapd_card_start_frames(&b->card, config) : lapd_card_start(&b->card, config);
+    return status == LAPD_OK ? lapd_clock_start(&b->clock, config) : status;
+}
+
 static fault start(station *b, const command *c) {
     const uint32_t *n = c->numbers;
     lapd_config config = {.lines = (uint16_t)n[0], .terminals = (uint16_t)n[1], .k = (uint16_t)n[2],
                           .k16 = (uint16_t)n[9], .queue = (uint16_t)n[3], .unit_queue = (uint16_t)n[4],
                           .control = (uint16_t)n[5], .slots = (uint16_t)n[6], .n201 = (uint16_t)n[7],
                           .n200 = (uint16_t)n[8], .side = c->user ? LAPD_USER : LAPD_NETWORK};
-    uint32_t status = c->for_frames ? lapd_card_start_frames(&b->card, &config) : lapd_card_start(&b->card, &config);
     b->for_frames = c->for_frames;
-    if (status == LAPD_OK)
-        status = lapd_clock_start(&b->clock, &config);
+    uint32_t status = start_card(b, &config);
     if (status >= LAPD_BAD_LINES)
         return BAD_CARD;
     if (status == LAPD_NO_MEMORY)
@@ -242,12 +249,29 @@ static void hand_over(station *b) {
     b->run.steps = 0;
 }
 
+/* The card's own timers fall due, each at its moment. */
+static void fall_due(station *b, uint64_t end) {
+    static lapd_report report;
+    uint32_t status = LAPD_OK;
+    while (status != LAPD_NO_TIMER || b->now < end) {
+        uint64_t moment;
+        b->now = lapd_next_moment(&b->card, &moment) == LAPD_OK && moment < end ? moment : end;
+        status = lapd_fall_due(&b->card, b->now, &report);
+        if (status == LAPD_NO_TIMER)
+            continue;
+        want_ok(status, "fall due");
+        tell(b, report.line, &report);
+    }
+}
+
 static fault wait(station *b, uint32_t ms) {
     static lapd_report report;
     if (b->now > INT64_MAX - (uint64_t)ms)
         return TIME_OVER;
     uint64_t end = b->now + ms, moment;
-    while (lapd_clock_next(&b->clock, &moment) == LAPD_OK && moment <= end) {
+    if (b->is_timed)
+        fall_due(b, end);
+    while (!b->is_timed && lapd_clock_next(&b->clock, &moment) == LAPD_OK && moment <= end) {
         lapd_due due;
         b->now = moment;
         want_ok(lapd_clock_due(&b->clock, moment, &due), "due");
@@ -346,6 +370,7 @@ static fault obey(station *b, const command *c) {
         return wait(b, c->numbers[0]);
     if (c->verb == TIMERS) {
         const uint32_t *lengths = c->numbers;
+        want_ok(b->is_timed ? LAPD_WRONG_CARD : LAPD_OK, "lengths after the start");
         return lapd_clock_set_lengths(&b->clock, lengths[0], lengths[1], lengths[2]) == LAPD_OK ? NO_FAULT : BAD_NUMBER;
     }
     if (c->verb == STORED) {
@@ -361,9 +386,13 @@ int main(int words, char **argv) {
     static station b; /* zeroed memory is no card and no clock */
     static char line[MOST_LINE];
     static command c;
-    b.by_exchange = words == 2 && strcmp(argv[1], "--exchange") == 0;
-    if (words != 1 && !b.by_exchange) {
-        fprintf(stderr, "usage: %s [--exchange] < SCRIPT\n", argv[0]);
+    int at = 1;
+    b.is_timed = at < words && strcmp(argv[at], "--timed") == 0;
+    at += b.is_timed;
+    b.by_exchange = at < words && strcmp(argv[at], "--exchange") == 0;
+    at += b.by_exchange;
+    if (at != words) {
+        fprintf(stderr, "usage: %s [--timed] [--exchange] < SCRIPT\n", argv[0]);
         return 2;
     }
     fault kind = NO_FAULT;

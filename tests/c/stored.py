@@ -9,6 +9,8 @@ sys.path.insert(0, f"{ROOT}/tests/scripts")
 from worked import worked
 
 PLAY = [f"{HERE}/{it}.c" for it in ("play", "words", "hdlc", "memory")]
+# It changes how long timers run; a card that keeps its own has their lengths from its start.
+CHANGES_LENGTHS = "clock/timers"
 
 
 def answer(words, script):
@@ -45,10 +47,14 @@ def play_all(build, turned):
     if not play:
         return
     own = {name: (it.text, it.wanted()) for name, it in worked().items()}
-    ways = [("", [play], own)]
+    kept = {name: it for name, it in own.items() if name != CHANGES_LENGTHS}
+    check(f"{build.name}: scripts at cards with their own timers", len(kept) == len(own) - 1 > 100, len(kept))
+    ways = [("", [play], own), (", at a card with its own timers", [play, "--timed"], kept)]
     if not build.is_brief:
+        of_kept = {name: it for name, it in turned.of.items() if name in kept}
         ways += [(", pulled by lapd_exchange", [play, "--exchange"], own),
-                 (", in turns by lapd_exchange", [play, "--exchange"], turned.of)]
+                 (", in turns by lapd_exchange", [play, "--exchange"], turned.of),
+                 (", in turns at a card with its own timers", [play, "--timed", "--exchange"], of_kept)]
     for way, words, plays in ways:
         good = in_parallel(lambda it: answer(words, plays[it][0]) == plays[it][1], plays)
         for name, is_good in zip(plays, good):

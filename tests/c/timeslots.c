@@ -13,26 +13,20 @@ enum { LENGTH = 40 };
 
 static const lapd_config config = {1, 8, 7, 7, 8, 4, 4, 64, 260, 3, LAPD_NETWORK};
 static lapd_card card = LAPD_CARD_NONE;
-static lapd_clock timers = LAPD_CLOCK_NONE;
+static const lapd_lengths lengths = {.t200 = 1000, .t203 = 10000, .t201 = 1000};
 static lapd_report report;
 static const uint32_t line = 0;
-static char told[400];
+static char notes[400];
 
-static uint64_t now(void) {
-    return 0;
-}
-
-static void layer_3(uint32_t at, const lapd_report *of) {
+static void layer_3(const lapd_report *of) {
     for (int i = 0; i < of->note_count; i++)
-        snprintf(told + strlen(told), sizeof told - strlen(told), "%u %s %u %u\n", at, lapd_note_text(&of->notes[i]),
+        snprintf(notes + strlen(notes), sizeof notes - strlen(notes), "%u %s %u %u\n", of->line, lapd_note_text(&of->notes[i]),
                  of->notes[i].tei, of->length);
 }
 
-static uint32_t carried_out(uint32_t at, uint32_t status) {
+static uint32_t told(uint32_t status) {
     if (status == LAPD_OK)
-        status = lapd_clock_apply_report(&timers, at, &report, now());
-    if (status == LAPD_OK)
-        layer_3(at, &report);
+        layer_3(&report);
     return status;
 }
 
@@ -43,7 +37,7 @@ static bool serve(uint8_t *timeslot, size_t length) {
     for (size_t i = 0; i < length; i++)
         in[i] = lapd_turned(timeslot[i]);
     for (size_t steps = 0; status == LAPD_OK && steps < 2 * length;)
-        status = carried_out(line, lapd_exchange(&card, line, in, length, out, length, &steps, &report));
+        status = told(lapd_exchange(&card, line, in, length, out, length, &steps, &report));
     for (size_t i = 0; status == LAPD_OK && i < length; i++)
         timeslot[i] = lapd_turned(out[i]);
     return status == LAPD_OK;
@@ -59,7 +53,7 @@ static bool serve_56(uint8_t *timeslot) {
     for (size_t i = 0; i < 7; i++)
         in[i] = (uint8_t)(bits >> 8 * i);
     for (size_t steps = 0; status == LAPD_OK && steps < 14;)
-        status = carried_out(line, lapd_exchange(&card, line, in, 7, out, 7, &steps, &report));
+        status = told(lapd_exchange(&card, line, in, 7, out, 7, &steps, &report));
     bits = 0;
     for (size_t i = 0; status == LAPD_OK && i < 7; i++)
         bits |= (uint64_t)out[i] << 8 * i;
@@ -110,25 +104,24 @@ static bool passes(uint8_t *timeslot, size_t length, int bits) {
 }
 
 static const uint8_t sabme[] = {0x00, 0x81, 0x7F}, data[] = {0x00, 0x81, 0x00, 0x00, 0xAB, 0xCD, 0xEF};
-static const char all_told[] = "0 establish-indication 64 0\n0 data 64 3\n", all_frames[] = "008173\n00810102\n";
+static const char all_notes[] = "0 establish-indication 64 0\n0 data 64 3\n", all_frames[] = "008173\n00810102\n";
 
 /* A terminal over so many bits of each octet, in blocks of so many. */
 static bool talks(int bits, size_t length) {
     uint8_t timeslot[LENGTH];
-    told[0] = frames[0] = '\0';
+    notes[0] = frames[0] = '\0';
     left = have = 0;
     hdlc_begin(&sender);
     hdlc_listen(&listener);
-    bool is_good = lapd_card_start(&card, &config) == LAPD_OK && lapd_clock_start(&timers, &config) == LAPD_OK
-                   && lapd_assign(&card, line, 64, &report) == LAPD_OK;
+    bool is_good = lapd_card_start_timed(&card, &config, &lengths) == LAPD_OK && lapd_assign(&card, line, 64, &report) == LAPD_OK;
     hdlc_load(&sender, sabme, sizeof sabme);
     hdlc_load(&sender, data, sizeof data);
     for (int i = 0; i < 60; i++)
         is_good = passes(timeslot, length, bits) && is_good;
-    is_good = lapd_card_free(&card) == LAPD_OK && lapd_clock_free(&timers) == LAPD_OK && is_good;
-    if (strcmp(told, all_told) != 0 || strcmp(frames, all_frames) != 0)
-        fprintf(stderr, "%d bits, blocks of %u:\n%s%s", bits, (unsigned)length, told, frames);
-    return is_good && strcmp(told, all_told) == 0 && strcmp(frames, all_frames) == 0;
+    is_good = lapd_card_free(&card) == LAPD_OK && is_good;
+    if (strcmp(notes, all_notes) != 0 || strcmp(frames, all_frames) != 0)
+        fprintf(stderr, "%d bits, blocks of %u:\n%s%s", bits, (unsigned)length, notes, frames);
+    return is_good && strcmp(notes, all_notes) == 0 && strcmp(frames, all_frames) == 0;
 }
 
 static bool turns(void) {

@@ -3,13 +3,17 @@
  * this header over lapd.h and no more: no exception, nothing of the standard library, no memory but what a start takes.
  *
  *     lapd::frame_card card;
- *     lapd::clock timers;
  *     lapd::report report;
- *     if (lapd::status is = card.start(config); is != lapd::status::ok)
- *         return fail(lapd::text(is));
- *     if (card.frame(0, octets, report) == lapd::status::ok)
+ *     auto layer_3 = [&report] {
  *         for (lapd::note note : report.notes())
- *             tell(note.text(), note.tei);
+ *             tell(report.line(), note.text(), note.tei);
+ *     };
+ *     if (lapd::status is = card.start(config, lengths); is != lapd::status::ok)
+ *         return fail(lapd::text(is));
+ *     while (card.fall_due(now(), report) == lapd::status::ok) // one timer after the other
+ *         layer_3();
+ *     if (card.frame(0, octets, report) == lapd::status::ok)
+ *         layer_3();
  *
  * lapd.h says of each call what it does, and what the caller promises. Here a status can't go unseen: the compiler warns.
  * A card and a clock are neither copied nor moved, since the handle inside mustn't be.

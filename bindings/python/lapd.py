@@ -4,14 +4,16 @@
 
     # Basic access: windows of 1 for call control and 3 for packet mode (Q.921, 5.9.5)
     config = lapd.Config(lines=1, terminals=8, k=1, k16=3, queue=8, unit_queue=4, control=4, slots=64, n201=260, n200=3)
-    with lapd.FrameCard(config) as card, lapd.Clock(config) as timers:
-        timers.apply(0, card.assign(0, 64), now=0)
+    with lapd.TimedFrameCard(config) as card:
+        card.assign(0, 64)
         report = card.frame(0, bytes.fromhex("00817F"))         # SABME of TEI 64
-        timers.apply(0, report, now=0)
         print([str(note) for note in report.notes])             # ['establish-indication']
         octets, report = card.next_frame(0)                     # UA: 008173
+        for report in card.fall_due(now=10000):                 # T203: the terminal is asked whether it is still there
+            octets, report = card.next_frame(report.line)       # RR, P=1: 02810101
 
-lapd.h says of each call what it does. Here a card is a `Card` (for octets) or a `FrameCard` (for frames), a wrong call or a
+lapd.h says of each call what it does. Here a card is a `TimedCard` (for octets) or a `TimedFrameCard` (for frames), which keep
+their own timers, or a `Card` or a `FrameCard`, whose orders go to a `Clock` or to timers of the program's. A wrong call or a
 refused request raises an `Error` with its `Status`, and what an event led to comes as a `Report` of its own; a number that
 the call can't be handed raises a ValueError. Cards and clocks end with their `with`, or by `close`. A card or a clock is used
 by one thread at a time.

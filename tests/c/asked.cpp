@@ -1,5 +1,6 @@
 // asked.cpp: what lapd.hpp can be asked for and no script asks: states, links, rooms, a line that goes down, frames in words,
-// begun frames, ends and second starts; and that one that fails leaves its answer as it was. Status 0 where all is as it should be. For tests alone.
+// begun frames, timers of a card's own, ends and second starts; and that one that fails leaves its answer as it was. Status 0
+// where all is as it should be. For tests alone.
 #include <cstdio>
 #include <cstring>
 #include <vector>
@@ -86,6 +87,34 @@ void asks_frames(lapd::frame_card &card, lapd::report &report) {
     wants(card.next_frame(1, room, goes, report) == status::no_frame && goes.size() == 3, "no frame");
 }
 
+// A card that keeps its own timers: a link is asked for at 5 s, so T200 falls due a second later, and a second after that.
+void asks_timers(lapd::any_card &card) {
+    lapd::report report;
+    uint64_t moment = 7;
+    wants(card.fall_due(0, report) == status::no_timer && card.next_moment(moment) == status::no_timer && moment == 7, "no timer of its own");
+    wants(card.assign(1, 64, report) == status::ok && card.fall_due(5000, report) == status::no_timer, "time");
+    wants(card.fall_due(4999, report) == status::wrong_time && card.fall_due(uint64_t{1} << 63, report) == status::wrong_time, "wrong times");
+    wants(card.establish(1, service::call, 64, report) == status::ok && report.orders().empty() && report.line() == 1, "a request without orders");
+    wants(card.next_moment(moment) == status::ok && moment == 6000, "T200 of its own");
+    wants(card.fall_due(5999, report) == status::no_timer && card.fall_due(6000, report) == status::ok && report.line() == 1, "it falls due");
+    wants(card.fall_due(6000, report) == status::no_timer && card.next_moment(moment) == status::ok && moment == 7000, "T200 again");
+    wants(card.expire(1, lapd::timer({LAPD_T200, LAPD_CALL, 64}), report) == status::wrong_card, "an expiry that is not its own");
+    wants(card.end() == status::ok && card.fall_due(7000, report) == status::no_card && card.next_moment(moment) == status::no_card, "its end");
+}
+
+void asks_timed(lapd::card &octets, lapd::frame_card &frames) {
+    const lapd_lengths lengths = {1000, 10000, 1000}, wrong = {1000, 10000, 0};
+    lapd::report report;
+    uint64_t moment = 7;
+    wants(octets.start(config, wrong) == status::wrong_time && frames.start(config, wrong) == status::wrong_time, "wrong lengths");
+    wants(octets.start(config, lengths) == status::ok && octets.start(config, lengths) == status::second_start, "a start with timers");
+    wants(frames.start(config, lengths) == status::ok && frames.start(config) == status::second_start, "a start for frames with timers");
+    asks_timers(octets);
+    asks_timers(frames);
+    wants(frames.start(config) == status::ok && frames.fall_due(0, report) == status::wrong_card && frames.next_moment(moment) == status::wrong_card, "no timers of its own");
+    wants(frames.end() == status::ok, "an end without timers");
+}
+
 } // namespace
 
 int main() {
@@ -104,6 +133,7 @@ int main() {
         wants(card->data(1, service::call, 64, sabme, report) == status::ok, "data");
         asks(*card);
     }
+    asks_timed(octets, frames);
     wants(octets.start(config) == status::ok, "a start after an end");
     wants(clock.next(moment) == status::no_clock && clock.start(config) == status::ok, "a clock");
     wants(clock.next(moment) == status::no_timer && moment == 7 && clock.end() == status::ok, "no timer");

@@ -1,12 +1,14 @@
 // play.cpp: plays a script of docs/FORMAT.md through lapd.hpp, and writes its transcript, as `lapdsim run` does. For tests
 // alone.
 //
-//     play_cpp < SCRIPT
+//     play_cpp [--timed] < SCRIPT
 //
+// With --timed the card keeps its own timers, and there is no clock: a script that changes their lengths is none for it.
 // Status 0; 1 for a faulty line or refused memory, told on standard error; 3 for what can't be.
 #include <array>
 #include <cstdio>
 #include <cstdlib>
+#include <cstring>
 #include <memory>
 #include <utility>
 #include <vector>
@@ -38,15 +40,17 @@ void want_ok(status is, const char *call) {
     std::exit(3);
 }
 
-// A card of either kind with its clock, and at each line a terminal that sends and a listener that hears.
+// A card of either kind with its clock, if it has one, and at each line a terminal that sends and a listener that hears.
 class station {
 public:
+    explicit station(bool is_timed) : is_timed_(is_timed) {}
     fault obey(const command &line);
 
 private:
     fault start(const command &line);
     fault obey_at(uint32_t line, const command &of);
     fault wait(uint32_t ms);
+    void fall_due(uint64_t end);
     void tell(uint32_t line);
     void receive(uint32_t line, uint8_t octet);
     void send(uint32_t line, lapd::octets frame);
@@ -62,6 +66,7 @@ private:
     bool is_of_other_card(const command &of) const;
     lapd::any_card *any();
 
+    bool is_timed_;
     std::unique_ptr<lapd::card> octets_;
     std::unique_ptr<lapd::frame_card> frames_;
     lapd::clock clock_;
@@ -82,8 +87,10 @@ fault station::start(const command &line) {
     const lapd_config config = {n[0], n[1], n[2], n[9], n[3], n[4], n[5], n[6], n[7], n[8], which};
     auto octets = std::make_unique<lapd::card>();
     auto frames = std::make_unique<lapd::frame_card>();
-    status is = line.for_frames ? frames->start(config) : octets->start(config);
-    if (is == status::ok)
+    const lapd_lengths lengths = {1000, 10000, 1000};
+    status is = is_timed_ ? (line.for_frames ? frames->start(config, lengths) : octets->start(config, lengths))
+                          : (line.for_frames ? frames->start(config) : octets->start(config));
+    if (is == status::ok && !is_timed_)
         is = clock_.start(config);
     if (is >= status::bad_lines)
         return BAD_CARD;
@@ -119,7 +126,9 @@ void station::tell(uint32_t line) {
         std::printf("%u dropped %s\n", line, lapd::text(report_.cause()));
     if (report_.lost() != 0)
         std::printf("%u lost %u\n", line, report_.lost());
-    if (report_.orders().size() == 1)
+    if (is_timed_)
+        want_ok(report_.orders().empty() && report_.line() == line ? status::ok : status::wrong_order, "no orders");
+    else if (report_.orders().size() == 1)
         want_ok(clock_.apply(line, report_.orders()[0], now_), "an order");
     else
         want_ok(clock_.apply(line, report_, now_), "orders");
@@ -202,11 +211,26 @@ bool station::is_of_other_card(const command &of) const {
 
 // ---- A card of either kind ------------------------------------------------------------------------------------------
 
+// The card's own timers fall due, each at its moment.
+void station::fall_due(uint64_t end) {
+    for (status is = status::ok; is != status::no_timer || now_ < end;) {
+        uint64_t moment;
+        now_ = any()->next_moment(moment) == status::ok && moment < end ? moment : end;
+        is = any()->fall_due(now_, report_);
+        if (is == status::no_timer)
+            continue;
+        want_ok(is, "fall due");
+        tell(report_.line());
+    }
+}
+
 fault station::wait(uint32_t ms) {
     if (now_ > static_cast<uint64_t>(INT64_MAX) - ms)
         return TIME_OVER;
     const uint64_t end = now_ + ms;
-    for (uint64_t moment; clock_.next(moment) == status::ok && moment <= end;) {
+    if (is_timed_)
+        fall_due(end);
+    for (uint64_t moment; !is_timed_ && clock_.next(moment) == status::ok && moment <= end;) {
         lapd::due due;
         now_ = moment;
         want_ok(clock_.take_due(moment, due), "due");
@@ -314,6 +338,7 @@ fault station::obey(const command &line) {
         return wait(line.numbers[0]);
     if (line.verb == TIMERS) {
         const uint32_t *lengths = line.numbers;
+        want_ok(is_timed_ ? status::wrong_card : status::ok, "lengths after the start");
         return clock_.set_lengths(lengths[0], lengths[1], lengths[2]) == status::ok ? NO_FAULT : BAD_NUMBER;
     }
     if (line.verb == STORED) {
@@ -328,10 +353,10 @@ fault station::obey(const command &line) {
 
 } // namespace
 
-int main() {
+int main(int words, char **word) {
     static char line[MOST_LINE];
     static command read;
-    station card;
+    station card(words > 1 && std::strcmp(word[1], "--timed") == 0);
     fault kind = NO_FAULT;
     size_t length, number = 0;
     while (kind == NO_FAULT && next_line(line, &length)) {

@@ -1,4 +1,5 @@
-"""Plays scripts of docs/FORMAT.md through bindings/python/lapd.py, as `lapdsim run` does: transcript, fault line and status."""
+"""Plays scripts of docs/FORMAT.md through bindings/python/lapd.py, as `lapdsim run` does: transcript, fault line and status; also
+at cards that keep their own timers."""
 import re
 import sys
 from typing import Any, Dict, Iterator, List, NamedTuple, Tuple
@@ -26,6 +27,11 @@ NUMBERS: Dict[bytes, Tuple[int, int, int]] = {
                                        b"ready", b"deactivate", b"data", b"unit", b"establish16", b"release16", b"busy16", b"ready16",
                                        b"deactivate16", b"data16", b"unit16")}}
 WITH_OCTETS = {b"rx", b"in", b"data", b"unit", b"data16", b"unit16"}
+
+
+# The card of a line's word, and whether it keeps its own timers.
+KINDS: Dict[Tuple[str, bool], Any] = {("card", False): lapd.Card, ("frames", False): lapd.FrameCard,
+                                      ("card", True): lapd.TimedCard, ("frames", True): lapd.TimedFrameCard}
 
 
 class Faulty(Exception):
@@ -81,9 +87,10 @@ def shown(octets: Any) -> str:
 
 
 class Station:
-    """A card with its clock, and at each line a terminal that sends and a listener that hears."""
+    """A card with its clock, if it has one, and at each line a terminal that sends and a listener that hears."""
 
-    def __init__(self) -> None:
+    def __init__(self, is_timed: bool) -> None:
+        self.is_timed = is_timed
         self.card: Any = None
         self.clock: Any = None
         self.now = 0
@@ -96,10 +103,10 @@ class Station:
         numbers = dict(zip(FIELDS, line.numbers))
         config = lapd.Config(**{"k16": numbers["k"], **numbers}, side=lapd.Side.USER if line.last else lapd.Side.NETWORK)
         try:
-            self.card = (lapd.FrameCard if line.word == "frames" else lapd.Card)(config)
+            self.card = KINDS[line.word, self.is_timed](config)
         except lapd.Error:
             raise Faulty("bad card") from None
-        self.clock = lapd.Clock(config)
+        self.clock = None if self.is_timed else lapd.Clock(config)
 
     def told(self, line: int, report: lapd.Report) -> Iterator[str]:
         for note in report.notes:
@@ -110,7 +117,10 @@ class Station:
             yield f"{line} dropped {report.cause}"
         if report.lost:
             yield f"{line} lost {report.lost}"
-        self.clock.apply(line, report, self.now)
+        if self.clock:
+            self.clock.apply(line, report, self.now)
+        elif report.orders or report.line != line:
+            raise AssertionError(f"{line} {report}")
 
     def received(self, line: int, octets: bytes) -> Iterator[str]:
         for octet in octets:
@@ -158,11 +168,24 @@ class Station:
         end = self.now + ms
         if end > LATEST:
             raise Faulty("time over")
-        while (moment := self.clock.next()) is not None and moment <= end:
+        while (moment := self.next()) is not None and moment <= end:
             self.now = moment
-            due = self.clock.due(moment)
-            yield from self.told(due.line, self.card.expire(due.line, due.timer))
+            yield from self.fell_due()
         self.now = end
+        if self.is_timed and list(self.card.fall_due(end)):
+            raise AssertionError(f"at {end} a timer was due before")
+
+    def next(self) -> Any:
+        return self.card.next_moment() if self.is_timed else self.clock.next()
+
+    def fell_due(self) -> Iterator[str]:
+        """What is due at this moment: all of it, or of a clock the first."""
+        if self.is_timed:
+            for report in self.card.fall_due(self.now):
+                yield from self.told(report.line, report)
+        else:
+            due = self.clock.due(self.now)
+            yield from self.told(due.line, self.card.expire(due.line, due.timer))
 
     def counted(self, line: int, is_shown: range) -> Iterator[str]:
         found = {name: value for place, (name, value) in enumerate(self.card.counters(line).items()) if value and place in is_shown}
@@ -215,9 +238,9 @@ class Station:
             yield from self.asked(line.word, at, line.numbers[1], line.octets)
 
 
-def play(script: bytes) -> Tuple[bytes, bytes, int]:
+def play(script: bytes, is_timed: bool = False) -> Tuple[bytes, bytes, int]:
     """Transcript, fault line and status of a script."""
-    station = Station()
+    station = Station(is_timed)
     out: List[str] = []
     lines = script.split(b"\n")
     for at, text in enumerate(lines[:-1] if not lines[-1] else lines, 1):

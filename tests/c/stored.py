@@ -59,20 +59,22 @@ def play_all(build, turned):
         good = in_parallel(lambda it: answer(words, plays[it][0]) == plays[it][1], plays)
         for name, is_good in zip(plays, good):
             check(f"{build.name}: tests/scripts/{name}{way}", is_good, "another transcript, fault line or status")
-    refuse_each(build, play)
+    refuse_each(build, [play], build.blocks)
+    refuse_each(build, [play, "--timed"], 1 if build.is_one_file else build.blocks)
 
 
-def refuse_each(build, play):
+def refuse_each(build, play, blocks):
+    """Each allocation of a conversation is refused in turn; there are more than so many."""
     script, counts = f"{ROOT}/tests/scripts/conversation/call.script", f"{build.folder}/counts"
     number = 0
     while True:
         number += 1
         with open(script, "rb") as source:
-            got = run([play], source, {"REFUSED_ALLOCATION": str(number), "ALLOCATIONS": counts})
+            got = run(play, source, {"REFUSED_ALLOCATION": str(number), "ALLOCATIONS": counts})
         taken, given = map(int, read(counts, b"0 1").split())
         check(f"{build.name}: allocation {number} refused", taken == given, f"{taken} blocks taken, {given} given back")
         if got.returncode == 0:
             break
         check(f"{build.name}: allocation {number} refused", (got.stdout, got.stderr) == (b"", b"out of memory\n"),
               got.stderr.decode())
-    check(f"{build.name}: allocations", number > build.blocks, f"only {number - 1} were refused")
+    check(f"{build.name}: allocations", number > blocks, f"only {number - 1} were refused")

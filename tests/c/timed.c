@@ -1,18 +1,22 @@
 /*
- * timed.c: a card of frames that keeps its own timers, beside one to which the same happens and whose timers are on a clock: both
- * tell the same, but for orders, and give the same frames; each timer falls due at the same moment, and in the same order; and
- * the next moment is the same. Time goes on at random, mostly to the next moment, and also far over it. For tests alone.
+ * timed.c: a card that keeps its own timers, of either kind, beside one to which the same happens and whose timers are on a
+ * clock: both tell the same, but for orders, and give the same; each timer falls due at the same moment, and in the same order;
+ * the next moment, states, rooms and counters are the same. Time goes on at random, mostly to the next moment, and also far over
+ * it. A moment before the last is refused, as is a second start, and nothing changes. After the start no memory is taken. For
+ * tests alone.
  *
- *     timed SEED
+ *     timed SEED [octets]
  */
 #include <inttypes.h>
 #include <stdio.h>
 #include <stdlib.h>
 #include <string.h>
 
+#include "hdlc.h"
 #include "lapd.h"
+#include "lapd_memory.h"
 
-enum { TURNS = 60000, LINES = 3 };
+enum { TURNS = 60000, LINES = 3, LOOKS_EACH = 500, MOST_RUN = 40 };
 
 static const lapd_config config = {LINES, 4, 3, 1, 4, 2, 4, 20, 16, 2, LAPD_NETWORK};
 static const lapd_lengths lengths = {100, 1000, 150};
@@ -20,7 +24,9 @@ static lapd_card timed = LAPD_CARD_NONE, plain = LAPD_CARD_NONE;
 static lapd_clock timers = LAPD_CLOCK_NONE;
 static uint64_t now;
 static uint32_t seed;
-static unsigned expired, frames;
+static unsigned expired, frames, exchanged;
+static bool for_octets, has_started;
+static hdlc_sender senders[LINES];
 
 static void fail(const char *what) {
     fprintf(stderr, "timed: at %" PRIu64 " ms: %s\n", now, what);
@@ -37,18 +43,49 @@ static unsigned below(unsigned most) {
     return (seed >> 8) % most;
 }
 
+/* ---- Memory, which a start alone takes ------------------------------------------------------------------------------ */
+
+static rattle_tried answer(void *at) {
+    static char nothing;
+    rattle_tried tried = {at != NULL, at != NULL ? at : &nothing};
+    wants(!has_started, "memory is taken after the start");
+    return tried;
+}
+
+rattle_tried rattle_alloc(size_t octets, size_t alignment) {
+    return answer(malloc(octets > 0 ? octets : alignment));
+}
+
+rattle_tried rattle_realloc(void *at, size_t old_octets, size_t octets, size_t alignment) {
+    (void)old_octets;
+    return answer(realloc(at, octets > 0 ? octets : alignment));
+}
+
+void rattle_dealloc(void *at) {
+    wants(!has_started, "memory is given back before the end");
+    free(at);
+}
+
+/* ---- The same at both cards ----------------------------------------------------------------------------------------- */
+
 /* What the one card tells is what the other does, but for orders, which go to the clock. */
+static void same_report(uint32_t line, const lapd_report *own, const lapd_report *told) {
+    wants(own->order_count == 0, "an order");
+    wants(own->note_count == told->note_count && own->cause == told->cause && own->lost == told->lost && own->begun == told->begun
+              && own->delivered == told->delivered && own->length == told->length && own->more == told->more
+              && own->reopened == told->reopened, "another report");
+    wants(!own->reopened || (own->reopened_service == told->reopened_service && own->reopened_tei == told->reopened_tei), "another link has room");
+    wants(memcmp(own->notes, told->notes, own->note_count * sizeof *own->notes) == 0
+              && memcmp(own->contents, told->contents, own->length) == 0, "other notes or contents");
+    wants(lapd_clock_apply_report(&timers, line, told, now) == LAPD_OK, "no orders");
+}
+
 static void same(uint32_t line, uint32_t status, const lapd_report *own, uint32_t other, const lapd_report *told) {
     wants(status == other, "another status");
     if (status != LAPD_OK)
         return;
-    wants(own->order_count == 0 && own->line == line && told->line == line, "an order, or another line");
-    wants(own->note_count == told->note_count && own->cause == told->cause && own->lost == told->lost && own->begun == told->begun
-              && own->delivered == told->delivered && own->length == told->length && own->more == told->more
-              && own->reopened == told->reopened, "another report");
-    wants(memcmp(own->notes, told->notes, own->note_count * sizeof *own->notes) == 0
-              && memcmp(own->contents, told->contents, own->length) == 0, "other notes or contents");
-    wants(lapd_clock_apply_report(&timers, line, told, now) == LAPD_OK, "no orders");
+    wants(own->line == line && told->line == line, "another line");
+    same_report(line, own, told);
 }
 
 /* What is due falls due, at both, in one order. */
@@ -72,20 +109,68 @@ static void moments(void) {
     wants(status != LAPD_OK || (own == other && own > now), "another moment");
 }
 
-/* Mostly to the next moment; or a little, or far. */
+static uint32_t start_timed(lapd_card *card, const lapd_lengths *of) {
+    return for_octets ? lapd_card_start_timed(card, &config, of) : lapd_card_start_frames_timed(card, &config, of);
+}
+
+/* Mostly to the next moment; or a little, or far. It does not go back, and no card starts twice. */
 static void time_goes_on(void) {
+    lapd_report told = {.line = 7};
     uint64_t next = now;
     if (below(3) == 0 || lapd_clock_next(&timers, &next) != LAPD_OK)
         next = now + below(below(10) == 0 ? 5000 : 60);
     now = next;
     falls_due();
-    lapd_report told = {.line = 7};
-    wants(now == 0 || (lapd_fall_due(&timed, now - 1, &told) == LAPD_WRONG_TIME && told.line == 7), "time goes back");
+    wants(now == 0 || lapd_fall_due(&timed, below(2) ? now - 1 : now / 2, &told) == LAPD_WRONG_TIME, "time goes back");
+    wants(lapd_fall_due(&timed, LAPD_LATEST + below(2), &told) == LAPD_WRONG_TIME, "a moment that is too late");
+    wants(start_timed(&timed, &lengths) == LAPD_SECOND_START && told.line == 7, "a second start, or a report of a wrong call");
 }
 
 static uint8_t tei(void) {
     static const uint8_t some[] = {64, 64, 64, 65, 66, 70, 127};
     return some[below(sizeof some)];
+}
+
+/* ---- What comes and goes -------------------------------------------------------------------------------------------- */
+
+static void octet_comes(uint32_t line, uint8_t octet) {
+    lapd_report own = {0}, told = {0};
+    uint32_t status = lapd_octet(&timed, line, octet, &own);
+    same(line, status, &own, lapd_octet(&plain, line, octet, &told), &told);
+}
+
+/* Octets come and go in turn. Where the one card stops, the other has told orders before, and no more than these. */
+static void exchange(uint32_t line, const uint8_t *in, size_t length) {
+    uint8_t out[MOST_RUN] = {0}, other[MOST_RUN] = {0};
+    for (size_t steps = 0, reached = 0; steps < 2 * length;) {
+        lapd_report own = {0}, told = {0}, nothing = {0};
+        wants(lapd_exchange(&timed, line, in, length, out, length, &steps, &own) == LAPD_OK, "no exchange");
+        wants(lapd_exchange(&plain, line, in, length, other, length, &reached, &told) == LAPD_OK, "no exchange of the other");
+        while (reached < steps) {
+            same_report(line, &nothing, &told);
+            told = nothing;
+            wants(lapd_exchange(&plain, line, in, length, other, length, &reached, &told) == LAPD_OK, "no exchange of the other");
+        }
+        wants(reached == steps, "another step tells something");
+        same_report(line, &own, &told);
+        wants(!lapd_tells(&own) || own.line == line, "another line of an exchange");
+        exchanged++;
+    }
+    wants(memcmp(out, other, length) == 0, "other octets");
+}
+
+/* A frame of a terminal, as octets. */
+static void octets_come(uint32_t line, const uint8_t *octets, size_t length) {
+    uint8_t run[MOST_RUN];
+    size_t count = 0;
+    hdlc_load(&senders[line], octets, length);
+    for (size_t left = hdlc_left(&senders[line]), given = 0; given < left && count < MOST_RUN; given += 8)
+        run[count++] = hdlc_octet(&senders[line]);
+    if (below(2) == 0)
+        exchange(line, run, count);
+    else
+        for (size_t i = 0; i < count; i++)
+            octet_comes(line, run[i]);
 }
 
 static void frame_comes(void) {
@@ -97,9 +182,25 @@ static void frame_comes(void) {
     static const size_t octets[] = {3, 3, 3, 3, 6, 4, 4, 4, 3, 8, 8};
     unsigned which = below(sizeof octets / sizeof *octets);
     uint32_t line = below(LINES);
+    if (for_octets) {
+        octets_come(line, from[which], octets[which]);
+        return;
+    }
     lapd_report own = {0}, told = {0};
     uint32_t status = lapd_frame(&timed, line, from[which], octets[which], &own);
     same(line, status, &own, lapd_frame(&plain, line, from[which], octets[which], &told), &told);
+}
+
+static void octets_go(void) {
+    uint32_t line = below(LINES);
+    for (unsigned left = 10 + below(60); left > 0; left--) {
+        uint8_t octet = 0, other = 1;
+        lapd_report own = {0}, told = {0};
+        uint32_t status = lapd_pull(&timed, line, &octet, &own);
+        same(line, status, &own, lapd_pull(&plain, line, &other, &told), &told);
+        wants(octet == other, "another octet");
+        frames += own.begun;
+    }
 }
 
 static void frames_go(void) {
@@ -118,63 +219,101 @@ static void frames_go(void) {
 
 static void is_asked(void) {
     static const uint8_t contents[17] = {1, 2, 3};
-    uint8_t request = (uint8_t)(1 + below(11)), of = tei(), service = below(4) ? LAPD_CALL : LAPD_PACKET;
+    uint8_t request = (uint8_t)(1 + below(12)), of = tei(), service = below(4) ? LAPD_CALL : LAPD_PACKET;
+    if (request >= LAPD_DEACTIVATE && below(8) != 0)
+        request = LAPD_DATA;
     size_t length = request == LAPD_DATA || request == LAPD_UNIT ? below(18) : 0;
     uint32_t line = below(LINES);
     lapd_report own = {0}, told = {0};
-    if (request >= LAPD_DEACTIVATE && below(8) != 0)
-        request = LAPD_DATA;
     uint32_t status = lapd_request_with(&timed, line, request, service, of, contents, length, &own);
     same(line, status, &own, lapd_request_with(&plain, line, request, service, of, contents, length, &told), &told);
 }
 
-static void counters(void) {
+/* ---- What the cards say of themselves ------------------------------------------------------------------------------- */
+
+static void same_links(uint32_t line) {
+    uint8_t place = 0, at = 0;
+    lapd_link link = {0}, other = {0};
+    uint32_t status;
+    while ((status = lapd_next_link(&timed, line, &place, &link)) == LAPD_OK) {
+        struct lapd_room room = {0}, same_room = {0};
+        wants(lapd_next_link(&plain, line, &at, &other) == LAPD_OK && at == place && memcmp(&link, &other, sizeof link) == 0, "another state");
+        wants(lapd_room(&timed, line, link.service, link.tei, &room) == LAPD_OK && lapd_room(&plain, line, link.service, link.tei, &same_room) == LAPD_OK
+                  && room.pool == same_room.pool && room.queue == same_room.queue && room.va == same_room.va, "another room");
+    }
+    wants(status == LAPD_NO_MORE_LINKS && lapd_next_link(&plain, line, &at, &other) == status, "other links");
+}
+
+static void look(void) {
+    uint32_t stored = 0, other_stored = 1;
     for (uint32_t line = 0; line < LINES; line++) {
         struct lapd_counters own, other;
         wants(lapd_counters(&timed, line, &own) == LAPD_OK && lapd_counters(&plain, line, &other) == LAPD_OK
                   && memcmp(&own, &other, sizeof own) == 0, "other counters");
-        for (uint8_t at = 60; at < 75; at++) {
-            uint8_t state = 1, same_state = 2;
-            wants(lapd_state(&timed, line, LAPD_CALL, at, &state) == LAPD_OK && lapd_state(&plain, line, LAPD_CALL, at, &same_state) == LAPD_OK
-                      && state == same_state, "another state");
-        }
+        same_links(line);
     }
+    wants(lapd_stored(&timed, &stored) == LAPD_OK && lapd_stored(&plain, &other_stored) == LAPD_OK && stored == other_stored, "other octets are stored");
 }
 
 /* Calls of a card that keeps its own timers, and of one that does not. */
 static void wrong_calls(void) {
     static const lapd_timer timer = {LAPD_T201, 0, 0};
+    static const lapd_lengths bad[] = {{0, 1, 1}, {1, 3600001, 1}, {1, 1, UINT32_MAX}};
     lapd_card none = LAPD_CARD_NONE;
+    lapd_config bad_config = config;
     lapd_report told = {.line = 9};
     uint64_t moment = 5;
     wants(lapd_fall_due(&none, 0, &told) == LAPD_NO_CARD && lapd_next_moment(&none, &moment) == LAPD_NO_CARD, "no card");
     wants(lapd_fall_due(&plain, 0, &told) == LAPD_WRONG_CARD && lapd_next_moment(&plain, &moment) == LAPD_WRONG_CARD, "a card without timers");
     wants(lapd_expire(&timed, 0, &timer, &told) == LAPD_WRONG_CARD, "an expiry that is not its own");
-    wants(lapd_fall_due(&timed, UINT64_C(1) << 63, &told) == LAPD_WRONG_TIME && lapd_fall_due(&timed, 0, &told) == LAPD_NO_TIMER, "the latest moment");
+    wants(lapd_fall_due(&timed, LAPD_LATEST, &told) == LAPD_WRONG_TIME && lapd_fall_due(&timed, 0, &told) == LAPD_NO_TIMER, "the latest moment");
     wants(lapd_next_moment(&timed, &moment) == LAPD_NO_TIMER && moment == 5 && told.line == 9, "a wrong call has told something");
-    static const lapd_lengths bad[] = {{0, 1, 1}, {1, 3600001, 1}, {1, 1, UINT32_MAX}};
     for (unsigned i = 0; i < sizeof bad / sizeof *bad; i++)
-        wants(lapd_card_start_frames_timed(&none, &config, &bad[i]) == LAPD_WRONG_TIME && !none.started, "lengths out of range");
-    wants(lapd_card_start_frames_timed(&timed, &config, &lengths) == LAPD_SECOND_START, "a second start");
+        wants(start_timed(&none, &bad[i]) == LAPD_WRONG_TIME && !none.started, "lengths out of range");
+    bad_config.lines = 0;
+    wants(lapd_card_start_timed(&none, &bad_config, &lengths) == LAPD_BAD_LINES && lapd_card_start_frames_timed(&none, &bad_config, &lengths) == LAPD_BAD_LINES,
+          "no lines");
+}
+
+static void starts(void) {
+    wants(start_timed(&timed, &lengths) == LAPD_OK, "no start");
+    wants((for_octets ? lapd_card_start(&plain, &config) : lapd_card_start_frames(&plain, &config)) == LAPD_OK, "no start of the other");
+    wants(lapd_clock_start(&timers, &config) == LAPD_OK
+              && lapd_clock_set_lengths(&timers, lengths.t200, lengths.t203, lengths.t201) == LAPD_OK, "no clock");
+    for (uint32_t line = 0; line < LINES; line++)
+        hdlc_begin(&senders[line]);
+    wrong_calls();
+    has_started = true;
+}
+
+/* A card that starts anew is at moment 0, and none of its timers runs. */
+static void ends(void) {
+    lapd_report told = {0};
+    uint64_t moment = 0;
+    has_started = false;
+    wants(lapd_card_free(&timed) == LAPD_OK && lapd_card_free(&plain) == LAPD_OK && lapd_clock_free(&timers) == LAPD_OK, "no end");
+    wants(lapd_fall_due(&timed, now, &told) == LAPD_NO_CARD && start_timed(&timed, &lengths) == LAPD_OK, "no start after the end");
+    wants(lapd_next_moment(&timed, &moment) == LAPD_NO_TIMER && lapd_fall_due(&timed, 0, &told) == LAPD_NO_TIMER, "a timer of the card before");
+    wants(lapd_card_free(&timed) == LAPD_OK, "no second end");
 }
 
 int main(int words, char **word) {
-    seed = words == 2 ? (uint32_t)strtoul(word[1], NULL, 10) : 1;
-    wants(lapd_card_start_frames_timed(&timed, &config, &lengths) == LAPD_OK && lapd_card_start_frames(&plain, &config) == LAPD_OK
-              && lapd_clock_start(&timers, &config) == LAPD_OK
-              && lapd_clock_set_lengths(&timers, lengths.t200, lengths.t203, lengths.t201) == LAPD_OK, "no start");
-    wrong_calls();
+    seed = words > 1 ? (uint32_t)strtoul(word[1], NULL, 10) : 1;
+    for_octets = words > 2 && strcmp(word[2], "octets") == 0;
+    starts();
     for (unsigned turn = 0; turn < TURNS; turn++) {
         switch (below(8)) {
         case 0: case 1: time_goes_on(); break;
         case 2: case 3: case 4: frame_comes(); break;
-        case 5: frames_go(); break;
+        case 5: for_octets ? octets_go() : frames_go(); break;
         default: is_asked();
         }
         moments();
+        if (turn % LOOKS_EACH == 0)
+            look();
     }
-    counters();
-    wants(expired > 500 && frames > 5000, "too little has happened");
-    wants(lapd_card_free(&timed) == LAPD_OK && lapd_card_free(&plain) == LAPD_OK && lapd_clock_free(&timers) == LAPD_OK, "no end");
+    look();
+    wants(expired > 500 && frames > 2000 && (!for_octets || exchanged > 2000), "too little has happened");
+    ends();
     return 0;
 }

@@ -1,12 +1,15 @@
 /*
- * polls.c: a terminal with TEI 64 polls (RR command, P=1) at a card of frames, and each is answered. For tests alone, which
- * count the instructions and the time.
+ * polls.c: terminals poll (RR command, P=1) at a card of frames, and each is answered. For tests alone, which count the
+ * instructions and the time.
  *
- *     polls TIMES [clock|came|gone]
+ *     polls TIMES [clock|own] [came|gone|due] [64]
  *
- * With a clock all orders for timers are carried out on it, and it is asked each time what is due, which is none. In place of
- * polls, with `came` an I-frame with 64 octets of information comes, and its RR goes; with `gone` layer 3 asks for 64 octets,
- * the I-frame goes, and its RR comes. Prints how often all was right; status 1 where it was not each time.
+ * With `clock` all orders for timers are carried out on one, and it is asked each time what is due, which is none; with `own`
+ * the card keeps its own timers, and lapd_fall_due is asked each time, at a moment that goes on. In place of polls, with `came`
+ * an I-frame with 64 octets of information comes, and its RR goes; with `gone` layer 3 asks for 64 octets, the I-frame goes,
+ * and its RR comes. With `due` T203 of each link in turn falls due, and the terminal is asked and answers. Without 64 a
+ * terminal of one line does so, else one of each of 64 lines in turn; for `due` each line has eight terminals with two links.
+ * Prints how often all was right; status 1 where it was not each time.
  */
 #include <stdio.h>
 #include <stdlib.h>
@@ -14,79 +17,166 @@
 
 #include "lapd.h"
 
-enum { HEAD = 4, INFORMATION = 64 };
+enum { HEAD = 4, INFORMATION = 64, FIRST_TEI = 64, T203 = 10240 };
+/* Who keeps the timers. It is a constant in each of the works, so that none pays for another. */
+typedef enum { NO_TIMERS, CLOCK, OWN } keeper;
 
+static const lapd_lengths lengths = {1000, T203, 1000};
 static lapd_card card = LAPD_CARD_NONE;
 static lapd_clock timers = LAPD_CLOCK_NONE;
 static lapd_report report;
 static uint8_t frame[LAPD_MOST_FRAME];
 static size_t length;
+static uint64_t now; /* in milliseconds; at a clock it stands, but with `due` */
+static uint32_t lines = 1, terminals = 1;
 
-static bool is_up(void) {
-    static const lapd_config config = {1, 8, 7, 7, 8, 4, 4, 8, 260, 3, LAPD_NETWORK};
-    static const uint8_t sabme[] = {0x00, 0x81, 0x7F};
-    return lapd_card_start_frames(&card, &config) == LAPD_OK && lapd_clock_start(&timers, &config) == LAPD_OK
-           && lapd_assign(&card, 0, 64, &report) == LAPD_OK
-           && lapd_frame(&card, 0, sabme, sizeof sabme, &report) == LAPD_OK
-           && lapd_next_frame(&card, 0, frame, sizeof frame, &length, &report) == LAPD_OK;
+/* ---- What each event costs besides, by who keeps the timers ---------------------------------------------------------- */
+
+/* After a call that tells a report. */
+static inline bool is_ordered(keeper by, uint32_t line, uint32_t status) {
+    return status == LAPD_OK && (by != CLOCK || lapd_clock_apply_report(&timers, line, &report, now) == LAPD_OK);
 }
 
-static const uint8_t poll[] = {0x00, 0x81, 0x01, 0x01}, answer[] = {0x00, 0x81, 0x01, 0x01};
-
-static bool is_right(void) { return length == sizeof answer && memcmp(frame, answer, length) == 0; }
-
-static bool is_answered(void) {
-    return lapd_frame(&card, 0, poll, sizeof poll, &report) == LAPD_OK
-           && lapd_next_frame(&card, 0, frame, sizeof frame, &length, &report) == LAPD_OK && is_right();
-}
-
-/* The same with the clock, at a moment. */
-static bool is_timed(uint64_t now) {
+/* Nothing is due. */
+static inline bool is_early(keeper by) {
     lapd_due due;
-    return lapd_frame(&card, 0, poll, sizeof poll, &report) == LAPD_OK
-           && lapd_clock_apply_report(&timers, 0, &report, now) == LAPD_OK
-           && lapd_clock_due(&timers, now, &due) == LAPD_NO_TIMER
-           && lapd_next_frame(&card, 0, frame, sizeof frame, &length, &report) == LAPD_OK
-           && lapd_clock_apply_report(&timers, 0, &report, now) == LAPD_OK && is_right();
+    return by == NO_TIMERS || (by == OWN ? lapd_fall_due(&card, ++now, &report) : lapd_clock_due(&timers, now, &due)) == LAPD_NO_TIMER;
+}
+
+static inline bool hears(keeper by, uint32_t line, const uint8_t *octets, size_t count) {
+    return is_ordered(by, line, lapd_frame(&card, line, octets, count, &report));
+}
+
+static inline bool gives(keeper by, uint32_t line, const uint8_t *wanted, size_t count) {
+    return is_ordered(by, line, lapd_next_frame(&card, line, frame, sizeof frame, &length, &report)) && length == count
+           && memcmp(frame, wanted, count) == 0;
+}
+
+/* ---- The works ------------------------------------------------------------------------------------------------------ */
+
+static inline bool is_answered(keeper by, uint32_t line, unsigned long at) {
+    static const uint8_t poll[] = {0x00, 0x81, 0x01, 0x01}, answer[] = {0x00, 0x81, 0x01, 0x01};
+    (void)at;
+    return hears(by, line, poll, sizeof poll) && is_early(by) && gives(by, line, answer, sizeof answer);
 }
 
 /* An I-frame with this N(S) comes, and its RR goes. */
-static bool has_come(uint8_t number) {
+static inline bool has_come(keeper by, uint32_t line, unsigned long number) {
     static uint8_t data[HEAD + INFORMATION] = {0x00, 0x81}, rr[] = {0x00, 0x81, 0x01, 0x00};
     data[2] = (uint8_t)(2 * number);
     rr[3] = (uint8_t)(2 * number + 2);
-    return lapd_frame(&card, 0, data, sizeof data, &report) == LAPD_OK && report.length == INFORMATION
-           && lapd_next_frame(&card, 0, frame, sizeof frame, &length, &report) == LAPD_OK
-           && length == sizeof rr && memcmp(frame, rr, sizeof rr) == 0;
+    return hears(by, line, data, sizeof data) && report.length == INFORMATION && is_early(by) && gives(by, line, rr, sizeof rr);
 }
 
 /* One with this N(S) is asked for and goes, and its RR comes. */
-static bool has_gone(uint8_t number) {
+static inline bool has_gone(keeper by, uint32_t line, unsigned long number) {
     static uint8_t data[HEAD + INFORMATION] = {0x02, 0x81}, rr[] = {0x02, 0x81, 0x01, 0x00};
     data[2] = (uint8_t)(2 * number);
     rr[3] = (uint8_t)(2 * number + 2);
-    return lapd_data(&card, 0, LAPD_CALL, 64, data + HEAD, INFORMATION, &report) == LAPD_OK
-           && lapd_next_frame(&card, 0, frame, sizeof frame, &length, &report) == LAPD_OK
-           && length == sizeof data && memcmp(frame, data, sizeof data) == 0
-           && lapd_frame(&card, 0, rr, sizeof rr, &report) == LAPD_OK;
+    return is_ordered(by, line, lapd_data(&card, line, LAPD_CALL, FIRST_TEI, data + HEAD, INFORMATION, &report))
+           && gives(by, line, data, sizeof data) && is_early(by) && hears(by, line, rr, sizeof rr);
+}
+
+/* The next timer expires, at its moment; it is one of this line. */
+static inline bool expires(keeper by, uint32_t line) {
+    lapd_due due;
+    if (by == OWN)
+        return lapd_next_moment(&card, &now) == LAPD_OK && lapd_fall_due(&card, now, &report) == LAPD_OK && report.line == line;
+    return lapd_clock_next(&timers, &now) == LAPD_OK && lapd_clock_due(&timers, now, &due) == LAPD_OK && due.line == line
+           && is_ordered(by, line, lapd_expire(&card, line, &due.timer, &report));
+}
+
+/* T203 of a link falls due; the terminal is asked, and answers. */
+static inline bool is_due(keeper by, uint32_t line, unsigned long at) {
+    const unsigned link = (unsigned)(at % (2 * terminals));
+    const uint8_t first = link % 2 == 0 ? 0x02 : 0x42, second = (uint8_t)(2 * (FIRST_TEI + link / 2) + 1);
+    const uint8_t asks[] = {first, second, 0x01, 0x01};
+    return expires(by, line) && gives(by, line, asks, sizeof asks) && hears(by, line, asks, sizeof asks);
+}
+
+/* How often a work was right: on one line, or on all in turn. */
+#define WORK(name, by, is_right)                                         \
+    static unsigned long name(unsigned long times) {                     \
+        unsigned long right = 0;                                         \
+        if (lines == 1)                                                  \
+            for (unsigned long i = 0; i < times; i++)                    \
+                right += is_right(by, 0, i);                             \
+        else                                                             \
+            for (unsigned long i = 0; i < times; i++)                    \
+                right += is_right(by, (uint32_t)(i % lines), i / lines); \
+        return right;                                                    \
+    }
+WORK(polls, NO_TIMERS, is_answered)
+WORK(polls_with_clock, CLOCK, is_answered)
+WORK(polls_with_own, OWN, is_answered)
+WORK(comes, NO_TIMERS, has_come)
+WORK(comes_with_clock, CLOCK, has_come)
+WORK(comes_with_own, OWN, has_come)
+WORK(goes, NO_TIMERS, has_gone)
+WORK(goes_with_clock, CLOCK, has_gone)
+WORK(goes_with_own, OWN, has_gone)
+WORK(expire_by_clock, CLOCK, is_due)
+WORK(fall_due, OWN, is_due)
+
+static const struct {
+    const char *name;
+    keeper by;
+    unsigned long (*count)(unsigned long times);
+} works[] = {{"polls", NO_TIMERS, polls}, {"polls", CLOCK, polls_with_clock}, {"polls", OWN, polls_with_own},
+             {"came", NO_TIMERS, comes}, {"came", CLOCK, comes_with_clock}, {"came", OWN, comes_with_own},
+             {"gone", NO_TIMERS, goes}, {"gone", CLOCK, goes_with_clock}, {"gone", OWN, goes_with_own},
+             {"due", CLOCK, expire_by_clock}, {"due", OWN, fall_due}};
+enum { WORKS = sizeof works / sizeof *works };
+
+/* ---- The card ------------------------------------------------------------------------------------------------------- */
+
+static bool is_up(keeper by, uint32_t line, unsigned link) {
+    const uint8_t first = link % 2 == 0 ? 0x00 : 0x40, tei = (uint8_t)(FIRST_TEI + link / 2), second = (uint8_t)(2 * tei + 1);
+    const uint8_t sabme[] = {first, second, 0x7F}, ua[] = {first, second, 0x73};
+    return (link % 2 == 1 || is_ordered(by, line, lapd_assign(&card, line, tei, &report))) && hears(by, line, sabme, sizeof sabme)
+           && gives(by, line, ua, sizeof ua);
+}
+
+/* All its links are up: one of each line, or sixteen, each since a moment of its own. */
+static bool start(keeper by) {
+    const lapd_config config = {(uint16_t)lines, 8, 7, 7, 8, 4, 4, 8, 260, 3, LAPD_NETWORK};
+    bool is_there = by == OWN ? lapd_card_start_frames_timed(&card, &config, &lengths) == LAPD_OK
+                              : lapd_card_start_frames(&card, &config) == LAPD_OK && lapd_clock_start(&timers, &config) == LAPD_OK
+                                    && lapd_clock_set_lengths(&timers, lengths.t200, lengths.t203, lengths.t201) == LAPD_OK;
+    for (unsigned link = 0; link < (terminals == 1 ? 1 : 2 * terminals); link++)
+        for (uint32_t line = 0; is_there && line < lines; line++, now += by == CLOCK && terminals > 1)
+            is_there = is_early(by) && is_up(by, line, link);
+    return is_there;
+}
+
+/* The work of these words, from the second on; WORKS where there is none. */
+static size_t work_of(int words, char **word) {
+    keeper by = NO_TIMERS;
+    const char *name = "polls";
+    for (int at = 2; at < words; at++)
+        if (strcmp(word[at], "clock") == 0 || strcmp(word[at], "own") == 0)
+            by = word[at][0] == 'c' ? CLOCK : OWN;
+        else if (strcmp(word[at], "64") == 0)
+            lines = LAPD_MOST_LINES;
+        else
+            name = word[at];
+    size_t work = 0;
+    while (work < WORKS && (works[work].by != by || strcmp(works[work].name, name) != 0))
+        work++;
+    return work;
 }
 
 int main(int words, char **word) {
-    const char *work = words == 3 ? word[2] : "";
-    bool has_clock = strcmp(work, "clock") == 0, comes = strcmp(work, "came") == 0, goes = strcmp(work, "gone") == 0;
-    unsigned long times = words == 2 || has_clock || comes || goes ? strtoul(word[1], NULL, 10) : 0, right = 0;
-    if (times == 0) {
-        fprintf(stderr, "usage: polls TIMES [clock|came|gone]\n");
+    unsigned long times = words > 1 ? strtoul(word[1], NULL, 10) : 0;
+    const size_t work = work_of(words, word);
+    if (times == 0 || work == WORKS) {
+        fprintf(stderr, "usage: polls TIMES [clock|own] [came|gone|due] [64]; due with one of these\n");
         return 2;
     }
-    if (!is_up())
+    terminals = strcmp(works[work].name, "due") == 0 ? 8 : 1;
+    if (!start(works[work].by))
         return 1;
-    if (comes || goes)
-        for (unsigned long i = 0; i < times; i++)
-            right += comes ? has_come((uint8_t)i) : has_gone((uint8_t)i);
-    else
-        for (unsigned long i = 0; i < times; i++)
-            right += has_clock ? is_timed(i) : is_answered();
+    unsigned long right = works[work].count(times);
     printf("%lu\n", right);
-    return lapd_card_free(&card) != LAPD_OK || lapd_clock_free(&timers) != LAPD_OK || right != times;
+    return lapd_card_free(&card) != LAPD_OK || (works[work].by != OWN && lapd_clock_free(&timers) != LAPD_OK) || right != times;
 }

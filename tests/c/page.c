@@ -102,13 +102,13 @@ static uint32_t carried_out(uint32_t line, uint32_t status) {
 /* What the page says of its two configurations: that the other one starts, too, and how many octets each takes. */
 static bool is_as_said(void) {
     lapd_card other = LAPD_CARD_NONE;
-    return lapd_card_start_frames(&other, &primary) == LAPD_OK && lapd_card_free(&other) == LAPD_OK
-           && lapd_card_octets(&basic) == 41120 && lapd_card_octets_frames(&basic) == 40288
-           && lapd_card_octets(&primary) == 8192 && lapd_card_octets_frames(&primary) == 7360;
+    return lapd_card_start_frames_timed(&other, &primary, &lengths) == LAPD_OK && lapd_card_free(&other) == LAPD_OK
+           && lapd_card_octets_timed(&basic) == 42048 && lapd_card_octets_frames_timed(&basic) == 41216
+           && lapd_card_octets_timed(&primary) == 8448 && lapd_card_octets_frames_timed(&primary) == 7616;
 }
 
 int main(void) {
-    (void)time_is, (void)carried_out, (void)lengths; /* a loop has the one or the other */
+    (void)time_is, (void)carried_out; /* a loop has the one or the other */
     if (!is_as_said())
         return fail("docs/EMBEDDING.md says otherwise of its configurations");
 #include PAGE

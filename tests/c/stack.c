@@ -28,6 +28,7 @@ static lapd_card card;
 static lapd_clock timers;
 static lapd_report report;
 static const lapd_config config = {1, 8, 7, 7, 8, 4, 4, 8, 260, 3, LAPD_NETWORK};
+static const lapd_lengths lengths = {1000, 10000, 1000};
 
 /* What is called, and what it is called with. */
 static void (*called)(void);
@@ -42,6 +43,7 @@ static lapd_head head;
 static struct lapd_counters counters;
 static char text[LAPD_MOST_TEXT];
 static uint32_t status, waiting;
+static uint64_t moment;
 
 static void run(void) {
     called();
@@ -76,6 +78,10 @@ static void expire(void) { status = lapd_expire(&card, due.line, &due.timer, &re
 static void apply(void) { status = lapd_clock_apply_report(&timers, 0, &report, 0); }
 static void find_due(void) { status = lapd_clock_due(&timers, LAPD_LATEST, &due); }
 static void frames_start(void) { status = lapd_card_start_frames(&card, &config); }
+static void timed_start(void) { status = lapd_card_start_timed(&card, &config, &lengths); }
+static void timed_frames_start(void) { status = lapd_card_start_frames_timed(&card, &config, &lengths); }
+static void fall_due(void) { status = lapd_fall_due(&card, LAPD_LATEST - 1, &report); }
+static void find_moment(void) { status = lapd_next_moment(&card, &moment); }
 static void take_frame(void) { status = lapd_frame(&card, 0, octets, length, &report); }
 static void fail_frame(void) { status = lapd_frame_failed(&card, 0, LAPD_FCS, &report); }
 static void give_frame(void) { status = lapd_next_frame(&card, 0, frame, sizeof frame, &length, &report); }
@@ -105,7 +111,7 @@ static size_t most(size_t before, void (*call)(void)) {
 }
 
 static void show(const char *name, size_t own) {
-    printf("%-24s %5zu\n", name, own);
+    printf("%-28s %5zu\n", name, own);
 }
 
 /* A frame that comes, with its octets and the pulls after them. */
@@ -120,22 +126,29 @@ static void hear(hdlc_sender *sender, const uint8_t *frame, size_t length, size_
     }
 }
 
-/* The same of a card of frames: what comes, and what is then sent. */
-static void frames(const uint8_t *const *come, const size_t *lengths, size_t count) {
+/* The same of a card of frames, and of one that keeps its own timers: what comes, what is then sent, and what falls due. */
+static void frames(bool is_timed, const uint8_t *const *come, const size_t *octets_of, size_t count) {
     size_t takes = 0, gives = 0;
-    show("lapd_card_start_frames", within(MOST_OF_START, frames_start));
+    if (is_timed)
+        show("lapd_card_start_frames_timed", within(MOST_OF_START, timed_frames_start));
+    else
+        show("lapd_card_start_frames", within(MOST_OF_START, frames_start));
     most(0, assign);
     for (size_t i = 0; i < count; i++) {
-        length = lengths[i];
+        length = octets_of[i];
         memcpy(octets, come[i], length);
         takes = most(takes, take_frame);
         gives = most(gives, give_frame);
     }
     most(0, ask_data);
     show("lapd_next_waiting", most(0, find_waiting));
-    show("lapd_frame", takes);
-    show("lapd_next_frame", most(gives, give_frame));
+    show(is_timed ? "lapd_frame, own timers" : "lapd_frame", takes);
+    show(is_timed ? "lapd_next_frame, own timers" : "lapd_next_frame", most(gives, give_frame));
     show("lapd_frame_failed", most(0, fail_frame));
+    if (is_timed) {
+        show("lapd_next_moment", most(0, find_moment));
+        show("lapd_fall_due", most(0, fall_due));
+    }
     most(0, card_free);
 }
 
@@ -173,6 +186,9 @@ int main(void) {
     show("lapd_frame_text", within(MOST_OF_TEXT, ask_text));
     show("lapd_card_free", most(0, card_free));
     show("lapd_clock_free", most(0, clock_free));
-    frames((const uint8_t *const[]){request, sabme, data}, (const size_t[]){sizeof request, sizeof sabme, sizeof data}, 3);
+    for (int is_timed = 0; is_timed < 2; is_timed++)
+        frames(is_timed, (const uint8_t *const[]){request, sabme, data}, (const size_t[]){sizeof request, sizeof sabme, sizeof data}, 3);
+    show("lapd_card_start_timed", within(MOST_OF_START, timed_start));
+    most(0, card_free);
     return failed;
 }

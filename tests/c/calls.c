@@ -14,6 +14,7 @@
 enum { PLACES = 254, LINES = 2 };
 
 static const lapd_config config = {LINES, 8, 7, 7, 8, 4, 4, 8, 260, 3, LAPD_NETWORK};
+static const lapd_lengths lengths_of = {.t200 = 1000, .t203 = 10000, .t201 = 1000};
 static lapd_card card;
 static lapd_report report;
 static int failed;
@@ -148,7 +149,7 @@ static void two_reports(void) {
     lapd_report came, asked, copy;
     uint8_t out[LAPD_MOST_FRAME];
     size_t length = 0;
-    wants(lapd_card_start_frames(&own, &config) == LAPD_OK && lapd_assign(&own, 0, 64, &asked) == LAPD_OK, "no card of frames");
+    wants(lapd_card_start_frames_timed(&own, &config, &lengths_of) == LAPD_OK && lapd_assign(&own, 0, 64, &asked) == LAPD_OK, "no card of frames");
     wants(lapd_frame(&own, 0, sabme, sizeof sabme, &came) == LAPD_OK && came.note_count == 1, "no link");
     wants(lapd_next_frame(&own, 0, out, sizeof out, &length, &asked) == LAPD_OK && length == 3, "no UA");
     memset(&came, 0, sizeof came);
@@ -158,7 +159,9 @@ static void two_reports(void) {
     wants(asked.note_count == 0 && !asked.delivered && memcmp(&copy, &came, sizeof copy) == 0, "a request writes to two reports");
     wants(lapd_next_frame(&own, 0, out, sizeof out, &length, &asked) == LAPD_OK && length == sizeof wanted
               && memcmp(out, wanted, sizeof wanted) == 0, "other contents are sent");
-    wants(memcmp(&copy, &came, sizeof copy) == 0 && lapd_card_free(&own) == LAPD_OK, "a frame that goes writes to another report");
+    wants(memcmp(&copy, &came, sizeof copy) == 0, "a frame that goes writes to another report");
+    wants(lapd_fall_due(&own, lengths_of.t200, &asked) == LAPD_OK && memcmp(&copy, &came, sizeof copy) == 0, "an expiry writes to another report");
+    wants(lapd_card_free(&own) == LAPD_OK, "the card of two reports stays");
 }
 
 /* The room of TEI 64 on line 0 is this. */

@@ -50,7 +50,8 @@ LAPD_STATUS gateway_start(gateway *own, const lapd_config *config, const lapd_le
 void gateway_end(gateway *own);
 
 /* It is now this moment: each timer that is due expires, once, and what it starts runs from now on, however late the call
- * is. LAPD_WRONG_TIME: the moment is before the last one, or 2^63 and later. */
+ * is. What has come meanwhile is handed over after it, so a link whose answer waits in a driver for so long asks again.
+ * LAPD_WRONG_TIME: the moment is before the last one, or 2^63 and later. */
 LAPD_STATUS gateway_advance(gateway *own, uint64_t now);
 
 /* A frame came, without its check, which was good. */

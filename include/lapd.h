@@ -37,12 +37,12 @@
  * No card and no clock is const, although some calls only ask. An export of the toolchain's cannot read through a const
  * pointer what owns memory, and nothing is proved of two questions at once.
  *
- * Everything else is tested: each function says by its status what was wrong, and then nothing has changed, neither
- * the card or clock nor what is behind the other pointers (except LAPD_NO_PLACE of lapd_clock_apply_report, that a link
- * waits for room after LAPD_REFUSED_QUEUE_FULL of lapd_data, and that it is the moment of lapd_fall_due after its
- * LAPD_NO_TIMER). Where several things are wrong, the first is told:
- * that a pointer is null, that there is no card or clock, that the card is of the other kind, the line, the other
- * arguments in their order; a refusal of a request is told last.
+ * Everything else is tested. Each function says by its status what was wrong, and then nothing has changed: neither
+ * the card or clock, nor what the other pointers point to. There are three exceptions: LAPD_NO_PLACE of
+ * lapd_clock_apply_report; a link waits for room after LAPD_REFUSED_QUEUE_FULL of lapd_data; and it is the moment of
+ * lapd_fall_due after its LAPD_NO_TIMER. If several things are wrong, the first is told: that a pointer is null, that
+ * there is no card or clock, that the card is of the other kind, the line, the other arguments in their order. A
+ * refusal of a request is told last.
  */
 #ifndef LAPD_H
 #define LAPD_H
@@ -310,7 +310,7 @@ typedef struct lapd_report {
     lapd_order orders[LAPD_MOST_ORDERS];
     uint8_t contents[LAPD_MOST_OCTETS];
     uint8_t more;        /* of the next frame: 1 if another waits on its line, so that the next call gives one; otherwise 0 */
-    uint8_t reopened;    /* 1 where a link that waited for room has some again; else 0, and the next two tell nothing */
+    uint8_t reopened;    /* 1 if a link that waited for room has some again; if it is 0, the next two tell nothing */
     uint8_t reopened_service; /* of that link: LAPD_CALL or LAPD_PACKET */
     uint8_t reopened_tei;     /* of that link: 0 to 126 */
     uint16_t line;            /* the line at which the event happened */

@@ -1,6 +1,6 @@
 /*
  * clocked.h: the calls of a card that keeps its own timers, over a card whose timers are on a clock beside it, as
- * docs/EMBEDDING.md shows that. A program that is compiled with `-include clocked.h`, and clocked.c, does so without a change:
+ * examples/c/clock.c shows that. A program that is compiled with `-include clocked.h`, and clocked.c, does so without a change:
  * what it prints has to be the same. For tests alone.
  */
 #ifndef CLOCKED_H

@@ -393,7 +393,7 @@ static void of_buffers(lapd_card *card) {
     }
 }
 
-/* What docs/EMBEDDING.md shows as a first try, to the letter. */
+/* A first try, without a terminal. */
 static void first_try(void) {
     lapd_card card = LAPD_CARD_NONE;
     uint8_t frame[LAPD_MOST_FRAME + 1] = {0};
@@ -409,7 +409,7 @@ static void first_try(void) {
     wants(lapd_card_free(&card) == LAPD_OK, "the card of a first try stays");
 }
 
-/* What docs/EMBEDDING.md shows of a trunk's other end, to the letter. */
+/* A trunk's other end, as docs/EMBEDDING.md has it. */
 static void first_trunk(void) {
     lapd_card card = LAPD_CARD_NONE;
     uint8_t frame[LAPD_MOST_FRAME + 1] = {0};

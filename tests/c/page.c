@@ -91,24 +91,20 @@ static uint32_t time_is(uint64_t moment) {   /* all that is due expires */
     return status == LAPD_NO_TIMER ? LAPD_OK : status;
 }
 
-static lapd_clock timers = LAPD_CLOCK_NONE;
-
-static uint32_t carried_out(uint32_t line, uint32_t status) {
-    if (status == LAPD_OK)
-        status = lapd_clock_apply_report(&timers, line, &report, now());
-    return told(status);
-}
-
-/* What the page says of its two configurations: that the other one starts, too, and how many octets each takes. */
+/* What the page says of its two configurations: that the other one starts, too, and how many octets each takes; and of four lines
+ * of basic access. */
 static bool is_as_said(void) {
     lapd_card other = LAPD_CARD_NONE;
+    lapd_config four = basic;
+    four.lines = 4;
+    four.slots = 4 * basic.slots;
     return lapd_card_start_frames_timed(&other, &primary, &lengths) == LAPD_OK && lapd_card_free(&other) == LAPD_OK
            && lapd_card_octets_timed(&basic) == 42048 && lapd_card_octets_frames_timed(&basic) == 41216
-           && lapd_card_octets_timed(&primary) == 8448 && lapd_card_octets_frames_timed(&primary) == 7616;
+           && lapd_card_octets_timed(&primary) == 8448 && lapd_card_octets_frames_timed(&primary) == 7616
+           && lapd_card_octets_timed(&four) == 166352 && lapd_card_octets_frames_timed(&four) == 163072;
 }
 
 int main(void) {
-    (void)time_is, (void)carried_out; /* a loop has the one or the other */
     if (!is_as_said())
         return fail("docs/EMBEDDING.md says otherwise of its configurations");
 #include PAGE

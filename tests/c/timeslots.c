@@ -1,5 +1,5 @@
 /*
- * timeslots.c: the loop of docs/EMBEDDING.md over the octets of a timeslot, whose first bit is bit 8, of 64 kbit/s; and one
+ * timeslots.c: a loop over the octets of a timeslot, whose first bit is bit 8, of 64 kbit/s, as docs/EMBEDDING.md says; and one
  * of 56 kbit/s, where the last bit of each octet is not the channel's. A terminal establishes its link and sends data over
  * each; what the card sends is heard. The turning is tested beside a loop over bits. For tests alone.
  */

@@ -1,5 +1,5 @@
 -- What happens on a card of either kind.
-use Rattle.lapd_sim.proofs.Vocabulary.{◌≡◌, ◌+◌, ◌<◌, ◌≤◌, ℕ, Some, refl, sym, ap, ◌∙◌, subst, arith, Store, Config, ranges_of, Reply, Event, What, at, of_octets, of_frames, reply, after, card_after, meant_by, reply_in, reply_of_octets, reply_of_frames, told, Setup, Scene, happened, ordered, fold, orders_in, reply_text, with_event, Output, IsPut, IsStuck, Puts, Octets, Frames, shelf_of, kind_of}
+use Rattle.lapd_sim.proofs.Vocabulary.{◌≡◌, ◌<◌, ◌≤◌, ℕ, None, Some, CardKind, refl, sym, ap, ◌∙◌, subst, arith, Store, Config, ranges_of, Reply, Event, What, at, of_octets, of_frames, reply, after, card_after, meant_by, reply_in, reply_of_octets, reply_of_frames, told, Setup, Scene, happened, orders_in, reply_text, with_event, Output, IsPut, IsStuck, Puts, Octets, Frames, shelf_of, kind_of}
 use Rattle.lapd_sim.proofs.Vocabulary.{config_of, counters_of, OnBoard, Leads, [], scene, Tells, SetupStands, Each, Sends, Hears, AnyCard, AnyLeads, AnyStands, CardStands, FrameCardStands, Machine, alone, with_ports, card_in, frames_of, expiry, request, List, Result, Ok, Err, Card, Request, Counters, frame_moment, option_map_or, option_map, option_to_list}
 use Rattle.lapd_sim.specs.declared.setup.Setup as rust
 use Rattle.lapd_card.specs.Card as octets_card
@@ -21,6 +21,17 @@ use Rattle.model_card.specs.ports.Port as port
 use Rattle.lapd_sim.specs.machine.Board as machine
 unfoldable use Rattle.lapd_sim.specs.machine.Board.{counted}
 use Rattle.lapd_sim.specs.machine.Steps.{held, held_in}
+use Rattle.lapd_clock.specs.Timers.{Expiry}
+use Rattle.lapd_timed.specs.Stands.{TimersStand}
+use Rattle.lapd_timed.specs.Kinds.{LedByFrames, LedByOctets, room_of}
+use Rattle.lapd_timed.specs.TimedStands.{FramesStand, OctetsStand, Steps}
+use Rattle.lapd_timed.specs.declared.card_timers.CardTimers.{CardTimers}
+use Rattle.lapd_timed.specs.declared.timed_card.TimedCard.{TimedCard}
+use Rattle.model_line.specs.Laws as lines
+use Rattle.model_timed.specs.Clock.{Clock, at_moment, due, obeyed, without_first}
+use Rattle.model_timed.specs.Frames as frames_timed
+use Rattle.model_timed.specs.Octets as octets_timed
+use Rattle.model_timed.specs.Timed.{falls_due, happens, time, with_expiry}
 
 -- ---- what is said on a card of its kind
 
@@ -136,6 +147,23 @@ module _ {w : What} {e : port.Event} {f : line_event.Event} (both : IsOfBoth w e
   says_on (Frames card) b on a same says =
       ap reply_of_frames (says (alone b.card.card) on.stands) ∙ sym (frames_say b on.kind line w f both.frames)
 
+-- it is one of its kind
+octets_on : (card : AnyCard) (b : machine.Board) → OnBoard card b → kind_of card ≡ kind.Octets → AnyStands card (with_ports b.card)
+octets_on (Octets card) b on is = on.stands
+octets_on (Frames card) b on is = absurd (cc)
+
+frames_on : (card : AnyCard) (b : machine.Board) → OnBoard card b → kind_of card ≡ kind.Frames → AnyStands card (alone b.card.card)
+frames_on (Frames card) b on is = on.stands
+frames_on (Octets card) b on is = absurd (cc)
+
+pub is_octets : (card : AnyCard) → kind_of card ≡ kind.Octets → kinds.kind_of card ≡ variants.Octets
+is_octets (Octets card) is = refl
+is_octets (Frames card) is = absurd (cc)
+
+pub is_frames : (card : AnyCard) → kind_of card ≡ kind.Frames → kinds.kind_of card ≡ variants.Frames
+is_frames (Frames card) is = refl
+is_frames (Octets card) is = absurd (cc)
+
 -- the card of frames stands for that of the board
 pub inside : (card : AnyCard) (b : machine.Board) → OnBoard card b → FrameCardStands (frames_of card) b.card.card
 inside (Octets card) b on = on.stands.frames
@@ -146,53 +174,149 @@ pub held_on : (card : AnyCard) (b : machine.Board) → OnBoard card b → (n : �
 held_on (Octets card) b on n is = is (with_ports b.card) on.stands ∙ ap (λ k. held_in k b.card) (sym on.kind)
 held_on (Frames card) b on n is = is (alone b.card.card) on.stands ∙ ap (λ k. held_in k b.card) (sym on.kind)
 
+-- ---- what a card of one kind says, and where it is led
+
+module _ (line : ℕ) (w : What) (e : port.Event) (means : of_octets w ≡ Some e) where
+  pub led_octets : (old new : AnyCard) → LedByOctets (octet_event.at line e) old new → Leads (at line w) old new
+  led_octets (Octets old) (Octets new) leads = octets_lead line w e means old new leads
+  led_octets (Octets old) (Frames new) leads = absurd leads
+  led_octets (Frames old) new leads = absurd leads
+
+  pub told_octets : (card : AnyCard) (b : machine.Board) → OnBoard card b → kind_of card ≡ kind.Octets → (a : port.Answer) → ((m : ports.OctetCard) → AnyStands card (with_ports m) → a ≡ ports.answer (octet_event.at line e) m)
+      → reply_of_octets a ≡ reply (at line w) b
+  told_octets (Octets card) b on is a says = ap reply_of_octets (says b.card on.stands) ∙ sym (octets_say b on.kind line w e means)
+  told_octets (Frames card) b on is a says = absurd (cc)
+
+  -- its timers, too
+  orders_said : (a : port.Answer) → orders_in (reply_of_octets a) ≡ octets_timed.orders_in a
+  orders_said (port.told t) = refl
+  orders_said (port.refused why) = refl
+  orders_said (port.pulled value begun orders) = refl
+
+  pub on_octets : (b : machine.Board) → b.kind ≡ kind.Octets → (timers : CardTimers) (c : Clock) → TimersStand timers (ports.after (octet_event.at line e) b.card).card (obeyed line (octets_timed.orders_at (octet_event.at line e) b.card) c)
+      → TimersStand timers (after (at line w) b).card.card (obeyed line (orders_in (reply (at line w) b)) c)
+  on_octets b is timers c k =
+      subst (λ os. TimersStand timers (after (at line w) b).card.card (obeyed line os c)) (sym (orders_said (ports.answer (octet_event.at line e) b.card)) ∙ ap orders_in (sym (octets_say b is line w e means)))
+      (subst (λ (m : ports.OctetCard). TimersStand timers m.card (obeyed line (octets_timed.orders_at (octet_event.at line e) b.card) c)) (octets_after line w e means b is) k)
+
+  pub timed_octets : (old new : TimedCard) → ((t : octets_timed.TimedOctetCard) → OctetsStand old t → OctetsStand new (octets_timed.after (happens (octet_event.at line e)) t)) → kind_of old.card ≡ kind.Octets
+      → (b : machine.Board) → OnBoard old.card b → (c : Clock) → TimersStand old.timers b.card.card c → TimersStand new.timers (after (at line w) b).card.card (obeyed line (orders_in (reply (at line w) b)) c)
+  timed_octets old new steps is b on c k =
+      on_octets b (on.kind ∙ is) new.timers c (steps (record { card = b.card; clock = c }) (record { card_stands = octets_on old.card b on is; timers_stand = k })).timers_stand
+
+module _ (line : ℕ) (w : What) (e : line_event.Event) (means : of_frames w ≡ Some e) where
+  pub led_frames : (old new : AnyCard) → LedByFrames (frame_event.at line e) old new → Leads (at line w) old new
+  led_frames (Frames old) (Frames new) leads = frames_lead line w e means old new leads
+  led_frames (Frames old) (Octets new) leads = absurd leads
+  led_frames (Octets old) new leads = absurd leads
+
+  pub told_frames : (card : AnyCard) (b : machine.Board) → OnBoard card b → kind_of card ≡ kind.Frames → (a : line_event.Answer) → ((m : Card) → AnyStands card (alone m) → a ≡ frame_machine.answer (frame_event.at line e) m)
+      → reply_of_frames a ≡ reply (at line w) b
+  told_frames (Frames card) b on is a says = ap reply_of_frames (says b.card.card on.stands) ∙ sym (frames_say b on.kind line w e means)
+  told_frames (Octets card) b on is a says = absurd (cc)
+
+  frame_orders_said : (a : line_event.Answer) → orders_in (reply_of_frames a) ≡ lines.orders_in a
+  frame_orders_said (line_event.told t) = refl
+  frame_orders_said (line_event.refused why) = refl
+  frame_orders_said (line_event.gave None) = refl
+  frame_orders_said (line_event.gave (Some given)) = refl
+
+  pub on_frames : (b : machine.Board) → b.kind ≡ kind.Frames → (timers : CardTimers) (c : Clock) → TimersStand timers (frame_machine.after (frame_event.at line e) b.card.card) (obeyed line (frames_timed.orders_at (frame_event.at line e) b.card.card) c)
+      → TimersStand timers (after (at line w) b).card.card (obeyed line (orders_in (reply (at line w) b)) c)
+  on_frames b is timers c k =
+      subst (λ os. TimersStand timers (after (at line w) b).card.card (obeyed line os c)) (sym (frame_orders_said (frame_machine.answer (frame_event.at line e) b.card.card)) ∙ ap orders_in (sym (frames_say b is line w e means)))
+      (subst (λ (m : ports.OctetCard). TimersStand timers m.card (obeyed line (frames_timed.orders_at (frame_event.at line e) b.card.card) c)) (frames_after line w e means b is) k)
+
+  pub timed_frames : (old new : TimedCard) → ((t : frames_timed.TimedCard) → FramesStand old t → FramesStand new (frames_timed.after (happens (frame_event.at line e)) t)) → kind_of old.card ≡ kind.Frames
+      → (b : machine.Board) → OnBoard old.card b → (c : Clock) → TimersStand old.timers b.card.card c → TimersStand new.timers (after (at line w) b).card.card (obeyed line (orders_in (reply (at line w) b)) c)
+  timed_frames old new steps is b on c k =
+      on_frames b (on.kind ∙ is) new.timers c (steps (record { card = b.card.card; clock = c }) (record { card_stands = frames_on old.card b on is; timers_stand = k })).timers_stand
+
+-- an event of both kinds
+module _ {w : What} {e : port.Event} {f : line_event.Event} (both : IsOfBoth w e f) (line : ℕ) where
+  pub timed_both : (old new : TimedCard) → Steps (happens (octet_event.at line e)) (happens (frame_event.at line f)) old new → (b : machine.Board) → OnBoard old.card b → (c : Clock) → TimersStand old.timers b.card.card c
+      → TimersStand new.timers (after (at line w) b).card.card (obeyed line (orders_in (reply (at line w) b)) c)
+  timed_both old new steps b on c k = go (kind_of old.card) refl
+    where
+      go : (k : CardKind) → kind_of old.card ≡ k → TimersStand new.timers (after (at line w) b).card.card (obeyed line (orders_in (reply (at line w) b)) c)
+      go kind.Octets is = timed_octets line w e both.octets old new steps.octets is b on c k
+      go kind.Frames is = timed_frames line w f both.frames old new steps.frames is b on c k
+
+-- and what is due
+pub timed_due : (old new : TimedCard) → Steps falls_due falls_due old new → (b : machine.Board) → OnBoard old.card b → (c : Clock) → TimersStand old.timers b.card.card c → (x : Expiry) → due c ≡ Some x
+    → TimersStand new.timers (after (at x.line (expiry x.timer)) b).card.card (obeyed x.line (orders_in (reply (at x.line (expiry x.timer)) b)) (without_first c))
+timed_due old new steps b on c k x is = go (kind_of old.card) refl
+  where
+    go : (k : CardKind) → kind_of old.card ≡ k → TimersStand new.timers (after (at x.line (expiry x.timer)) b).card.card (obeyed x.line (orders_in (reply (at x.line (expiry x.timer)) b)) (without_first c))
+    go kind.Octets o =
+        let t : octets_timed.TimedOctetCard = record { card = b.card; clock = c } in
+        let after_it = subst (λ d. OctetsStand new (option_map_or (with_expiry octets_timed.octets t) d t)) is (steps.octets t (record { card_stands = octets_on old.card b on o; timers_stand = k })) in
+        on_octets x.line (expiry x.timer) (port.expiry x.timer) refl b (on.kind ∙ o) new.timers (without_first c) after_it.timers_stand
+    go kind.Frames o =
+        let t : frames_timed.TimedCard = record { card = b.card.card; clock = c } in
+        let after_it = subst (λ d. FramesStand new (option_map_or (with_expiry frames_timed.frames t) d t)) is (steps.frames t (record { card_stands = frames_on old.card b on o; timers_stand = k })) in
+        on_frames x.line (expiry x.timer) (line_event.expiry x.timer) refl b (on.kind ∙ o) new.timers (without_first c) after_it.timers_stand
+
+-- the time
+pub timed_time : (old new : TimedCard) (moment : ℕ) → Steps (time moment) (time moment) old new → (b : machine.Board) → OnBoard old.card b → (c : Clock) → TimersStand old.timers b.card.card c
+    → TimersStand new.timers b.card.card (at_moment moment c)
+timed_time old new moment steps b on c k = go (kind_of old.card) refl
+  where
+    go : (k : CardKind) → kind_of old.card ≡ k → TimersStand new.timers b.card.card (at_moment moment c)
+    go kind.Octets o = (steps.octets (record { card = b.card; clock = c }) (record { card_stands = octets_on old.card b on o; timers_stand = k })).timers_stand
+    go kind.Frames o = (steps.frames (record { card = b.card.card; clock = c }) (record { card_stands = frames_on old.card b on o; timers_stand = k })).timers_stand
+
 -- ---- a setup goes on
 
--- its card of octets takes an event,
-module _ (board : AnyCard) (card new : octets_card.Held Store) (is : board ≡ Octets card) (line : ℕ) (w : What) (e : port.Event) (means : of_octets w ≡ Some e) where
-  pub octets_on : octets.Leads shelf_of (octet_event.at line e) card new → Leads (at line w) board (Octets new)
-  octets_on leads = subst (λ (b : AnyCard). Leads (at line w) b (Octets new)) (sym is) (octets_lead line w e means card new leads)
+-- its configuration stays with an event of a card of frames,
+pub frames_config : (line : ℕ) (e : line_event.Event) (old new : AnyCard) → LedByFrames (frame_event.at line e) old new → config_of new ≡ config_of old
+frames_config line e (Frames old) (Frames new) leads = leads.config
+frames_config line e (Frames old) (Octets new) leads = absurd leads
+frames_config line e (Octets old) new leads = absurd leads
 
-  pub octets_told : (b : machine.Board) → OnBoard board b → (a : port.Answer) → ((m : ports.OctetCard) → CardStands card m → a ≡ ports.answer (octet_event.at line e) m)
-      → reply_of_octets a ≡ reply (at line w) b
-  octets_told b on a says =
-      ap reply_of_octets (says b.card (subst (λ old. OnBoard old b) is on).stands) ∙ sym (octets_say b (on.kind ∙ ap kind_of is) line w e means)
+-- its card of frames has room for its frames,
+module _ (s : rust.Setup) where
+  pub room_is : (room : ℕ) → 264 ≤ room → room < room_of s.timed.card → ⊥
+  room_is room enough short = absurd (omega (arith, enough, short, (ranges_of s.config s.in_range).n201.most, ap (λ (c : Config). c.n201) s.same_config))
 
--- or its card of frames,
-module _ (board : AnyCard) (card new : frames_card.Held Store) (is : board ≡ Frames card) (line : ℕ) (w : What) (e : line_event.Event) (means : of_frames w ≡ Some e) where
-  pub frames_on : frames.Leads shelf_of (frame_event.at line e) card new → Leads (at line w) board (Frames new)
-  frames_on leads = subst (λ (b : AnyCard). Leads (at line w) b (Frames new)) (sym is) (frames_lead line w e means card new leads)
+-- and what stands beside the timers.
+pub record Else (s : rust.Setup) (m : Setup) : Type 0 where
+  pub config : m.board.config ≡ s.config
+  pub board : OnBoard s.timed.card m.board
+  pub counters : counters_of s.timed.card ≡ m.counters
+  pub terminals : Each Sends s.terminals.items m.terminals
+  pub listeners : Each Hears s.listeners.items m.taken
 
-  pub frames_told : (b : machine.Board) → OnBoard board b → (a : line_event.Answer) → ((m : Card) → FrameCardStands card m → a ≡ frame_machine.answer (frame_event.at line e) m)
-      → reply_of_frames a ≡ reply (at line w) b
-  frames_told b on a says =
-      ap reply_of_frames (says b.card.card (subst (λ old. OnBoard old b) is on).stands) ∙ sym (frames_say b (on.kind ∙ ap kind_of is) line w e means)
+pub else_of : (s : rust.Setup) (m : Setup) → SetupStands s m → Else s m
+else_of s m h = record { config = h.config; board = h.board; counters = h.counters; terminals = h.terminals; listeners = h.listeners }
 
--- which has room for its frames,
-module _ (s : rust.Setup) (card : frames_card.Held Store) (is : s.board ≡ Frames card) where
-  pub same_config : card.config ≡ s.config
-  same_config = sym (ap config_of is) ∙ s.same_config
-
-  pub room_is : (room : ℕ) → 264 ≤ room → room < card.config.n201 + 4 → ⊥
-  room_is room enough short = absurd (omega (arith, enough, short, (ranges_of s.config s.in_range).n201.most, ap (λ (c : Config). c.n201) same_config))
-
--- and all but board and clock stays.
-module _ (event : Event) (old new : rust.Setup) (leads : Leads event old.board new.board) (config : new.config ≡ old.config) (moment : new.moment ≡ old.moment)
-    (terminals : new.terminals ≡ old.terminals) (listeners : new.listeners ≡ old.listeners) (m : Setup) (stands : SetupStands old m) where
-  pub goes_on : (r : Reply) → r ≡ reply event m.board → new.clock ≡ fold (ordered event.line old.moment) old.clock (orders_in r) → SetupStands new (happened m event)
-  goes_on r is clock = record {
+-- All but the card, its counters and its timers stays.
+module _ (event : Event) (old new : rust.Setup) (leads : Leads event old.timed.card new.timed.card) (config : new.config ≡ old.config)
+    (terminals : new.terminals ≡ old.terminals) (listeners : new.listeners ≡ old.listeners) (m : Setup) (stands : Else old m) where
+  pub goes_on : TimersStand new.timed.timers (after event m.board).card.card (obeyed event.line (orders_in (reply event m.board)) m.clock) → SetupStands new (happened m event)
+  goes_on timers = record {
     config = stands.config ∙ sym config;
     board = leads.stands m.board stands.board;
     counters = leads.counted m.board stands.board ∙ ap (λ all. counted all event m.board) stands.counters;
-    clock = clock ∙ ap (λ now. fold (ordered event.line now) old.clock (orders_in r)) stands.now ∙ ap (λ c. fold (ordered event.line m.now) c (orders_in r)) stands.clock
-        ∙ ap (λ a. fold (ordered event.line m.now) m.clock (orders_in a)) is;
-    now = moment ∙ stands.now;
+    timers = timers;
     terminals = subst (λ ts. Each Sends ts.items m.terminals) (sym terminals) stands.terminals;
     listeners = subst (λ ls. Each Hears ls.items m.taken) (sym listeners) stands.listeners;
   }
 
   -- and it has been told
-  pub told_on : {E : Type 0} (result : Result Unit E) (a b : Output) (r : Reply) → r ≡ reply event m.board → new.clock ≡ fold (ordered event.line old.moment) old.clock (orders_in r)
+  pub told_on : {E : Type 0} (result : Result Unit E) (a b : Output) (r : Reply) → r ≡ reply event m.board
+      → TimersStand new.timed.timers (after event m.board).card.card (obeyed event.line (orders_in (reply event m.board)) m.clock)
       → Puts result a b (reply_text event.line r) → Tells result a b (SetupStands new) (with_event (scene m) event)
-  told_on (Ok x) a b r is clock put = (subst (λ z. IsPut a b (reply_text event.line z)) is put, goes_on r is clock)
-  told_on (Err x) a b r is clock put = subst (λ z. IsStuck a b (reply_text event.line z)) is put
+  told_on (Ok x) a b r is timers put = (subst (λ z. IsPut a b (reply_text event.line z)) is put, goes_on timers)
+  told_on (Err x) a b r is timers put = subst (λ z. IsStuck a b (reply_text event.line z)) is put
+
+-- where nothing of it changes, it stands as it did
+pub as_before : (s new : rust.Setup) → new.config ≡ s.config → new.timed ≡ s.timed → new.terminals ≡ s.terminals → new.listeners ≡ s.listeners → (m : Setup) → SetupStands s m → SetupStands new m
+as_before s new config timed terminals listeners m h = record {
+  config = h.config ∙ sym config;
+  board = subst (λ (t : TimedCard). OnBoard t.card m.board) (sym timed) h.board;
+  counters = subst (λ (t : TimedCard). counters_of t.card ≡ m.counters) (sym timed) h.counters;
+  timers = subst (λ (t : TimedCard). TimersStand t.timers m.board.card.card m.clock) (sym timed) h.timers;
+  terminals = subst (λ ts. Each Sends ts.items m.terminals) (sym terminals) h.terminals;
+  listeners = subst (λ ls. Each Hears ls.items m.taken) (sym listeners) h.listeners;
+}

@@ -10,6 +10,7 @@ pub mod Playing
 pub mod Paging
 pub mod Boards
 pub mod Waits
+pub mod Falling
 pub mod Octets
 pub mod Pulls
 pub mod OfMachine

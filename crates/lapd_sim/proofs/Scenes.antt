@@ -3,6 +3,14 @@ use Rattle.lapd_sim.proofs.Vocabulary.{◌≡◌, ℕ, ◌<◌, ◌≤◌, nat_l
 use Rattle.lapd_script.specs.Meaning as meaning
 use Rattle.lapd_script.specs.declared.command.CardKind.TheVariants.{Octets, Frames}
 use Rattle.lapd_sim.specs.declared.setup.Setup as rust
+use Rattle.lapd_sim.proofs.Vocabulary.{Has, IsErr, None, Option, Some, none-some}
+use Rattle.std.proofs.Common.{arith, false, nat_le}
+use Rattle.std.proofs.lemmas.Bool.Decides.{nat_tests}
+use Rattle.std.proofs.lemmas.Option.{same_Some}
+use Rattle.lapd_clock.specs.Timer.{Lengths, first_out_of_range}
+use Rattle.lapd_clock.specs.declared.fault.LengthFault.{LengthFault}
+use Rattle.lapd_script.specs.declared.kind.FaultKind.TheVariants.{BadNumber}
+use Rattle.lapd_sim.specs.machine.Steps.{after_timers, with_timers}
 use Rattle.lapd_script.specs.declared.faults.LineFault.TheVariants.{Write}
 
 -- at a line that is there, on a card of the right kind
@@ -13,14 +21,14 @@ module _ (s : rust.Setup) (m : Setup) (stands : SetupStands s m) {at_it line : �
   pub there : (word : ℕ → Scene → Scene) → at_line at_it (scene m) (word at_it (scene m)) ≡ Ok (word line (scene m))
   there word = subst (λ n. at_line n (scene m) (word n (scene m)) ≡ Ok (word line (scene m))) e (rw (lt-ltb line m.board.config.lines within) refl)
 
-  pub there_octets : (word : ℕ → Scene → Scene) → kind_of s.board ≡ Octets → for_octets m.board.kind (at_line at_it (scene m) (word at_it (scene m))) ≡ Ok (word line (scene m))
+  pub there_octets : (word : ℕ → Scene → Scene) → kind_of s.timed.card ≡ Octets → for_octets m.board.kind (at_line at_it (scene m) (word at_it (scene m))) ≡ Ok (word line (scene m))
   there_octets word kind = ap (λ k. for_octets k (at_line at_it (scene m) (word at_it (scene m)))) (stands.board.kind ∙ kind) ∙ there word
 
-  pub there_frames : (word : ℕ → Scene → Scene) → kind_of s.board ≡ Frames → for_frames m.board.kind (at_line at_it (scene m) (word at_it (scene m))) ≡ Ok (word line (scene m))
+  pub there_frames : (word : ℕ → Scene → Scene) → kind_of s.timed.card ≡ Frames → for_frames m.board.kind (at_line at_it (scene m) (word at_it (scene m))) ≡ Ok (word line (scene m))
   there_frames word kind = ap (λ k. for_frames k (at_line at_it (scene m) (word at_it (scene m)))) (stands.board.kind ∙ kind) ∙ there word
 
   -- a frame comes that can
-  pub into_is : (kind : CardKind) (frame : List ℕ) → kind_of s.board ≡ kind → can_come kind frame ≡ true → with_card (meaning.into at_it frame) (scene m) ≡ Ok (after_coming kind line frame (scene m))
+  pub into_is : (kind : CardKind) (frame : List ℕ) → kind_of s.timed.card ≡ kind → can_come kind frame ≡ true → with_card (meaning.into at_it frame) (scene m) ≡ Ok (after_coming kind line frame (scene m))
   into_is kind frame is can =
       subst (λ n. with_card (meaning.into n frame) (scene m) ≡ Ok (after_coming kind line frame (scene m))) e
       (subst (λ k. cond (nat_lt line m.board.config.lines) (cond (can_come k frame) (Ok (after_coming k line frame (scene m))) (Err BadFrame)) (Err BadLine) ≡ Ok (after_coming kind line frame (scene m))) (sym (stands.board.kind ∙ is))
@@ -47,3 +55,27 @@ on_ok (Err w) p = tt
 pub when_ok : {A B : Type 0} (r : Result Unit WriteFailed) → OnOk r A → (A → B) → OnOk r B
 when_ok (Ok u) one f = f one
 when_ok (Err w) one f = tt
+
+-- a time that is over, lengths that are in range, and a scene that is another's
+pub is_over : (a b : ℕ) → b < a → nat_le a b ≡ false
+is_over a b h = grind (arith, nat_tests)
+
+pub timers_set : (lengths : Lengths) (s : Scene) → first_out_of_range lengths ≡ None → with_timers lengths s ≡ Ok (after_timers lengths s)
+timers_set lengths s is = go (first_out_of_range lengths) is
+  where
+    go : (o : Option LengthFault) → o ≡ None → (elim o as (λ o. Result Scene FaultKind) [ None ↦ Ok (after_timers lengths s) | Some timer ↦ Err BadNumber ]) ≡ Ok (after_timers lengths s)
+    go None e = refl
+    go (Some timer) e = absurd (none-some timer (sym e))
+
+pub moved_to : (r : Result Scene FaultKind) (s t : Scene) → r ≡ Ok s → s ≡ t → r ≡ Ok t
+moved_to r s t is e = subst (λ x. r ≡ Ok x) e is
+
+pub if_ok : {A E P : Type 0} (r : Result A E) → (IsErr r → ⊥) → OnOk r P → P
+if_ok (Ok x) sound one = one
+if_ok (Err e) sound one = absurd (sound refl)
+
+-- where there is a setup, it stands for one
+pub has_some : (b : Option rust.Setup) (s : rust.Setup) → b ≡ Some s → (m : Option Setup) × Has b m → (m : Setup) × SetupStands s m
+has_some None s is h = absurd (none-some s is)
+has_some (Some b) s is (None, h) = absurd h
+has_some (Some b) s is (Some m, h) = (m, subst (λ (x : rust.Setup). SetupStands x m) (same_Some b s is) h)

@@ -11,9 +11,8 @@ pub use Rattle.std.specs.Io.KnownBytes.{Appends}
 pub use Rattle.std.specs.List.{flat_map, range_with_len}
 pub use Rattle.std.specs.Prelude.{All, IfErr, IfOk, IfSome, IsErr, IsTrue, filter, is_some, option_copied, option_map, option_to_list, ◌==◌, ◌||◌}
 pub use Rattle.lapd_clock.specs.Timer.{AreInRange, Timer}
-pub use Rattle.lapd_clock.specs.Timers.{Timers, due_at, time_until}
+pub use Rattle.lapd_clock.specs.Timers.{Expiry}
 pub use Rattle.lapd_count.specs.Counters.{none_counted}
-pub use Rattle.lapd_frame.specs.ShortLists.{listed}
 pub use Rattle.lapd_line.specs.Reports.{delivered_in, gave_in, octets_of, pulled_of, told_beside, told_in}
 pub use Rattle.lapd_script.specs.Faults.{fault_at, reads_failed, reads_failed_by, writes_failed, writes_failed_by}
 pub use Rattle.lapd_script.specs.Meaning.{Meaning, meant}
@@ -32,7 +31,7 @@ pub use Rattle.lapd_card.specs.Kinds.{AnyLeads, AnyStands, CardStands, FrameCard
 pub use Rattle.lapd_card.specs.declared.kinds.AnyCard.{AnyCard}
 pub use Rattle.lapd_card.specs.declared.kinds.AnyCard.TheVariants.{Frames, Octets}
 pub use Rattle.lapd_sim.specs.Boards.{Leads, OnBoard, kind_of}
-pub use Rattle.lapd_sim.specs.Obeyed.{Does, Obeys, Said, SetupSays, StartsBy, Tells, said, said_by, said_of, said_with, said_without, scene, written}
+pub use Rattle.lapd_sim.specs.Obeyed.{Does, HasExpired, Obeys, Said, SetupSays, StartsBy, Tells, said, said_by, said_of, said_with, said_without, scene, written}
 pub use Rattle.lapd_sim.specs.Pages.{PutsNone, PutsSome, Reaches, is_cut}
 pub use Rattle.lapd_sim.specs.Plays.{AreAnswered, Plays, PlaysOctets, PlaysOn, is_whole, whole_lines}
 pub use Rattle.lapd_sim.specs.Stands.{Each, Has, SetupStands}
@@ -49,12 +48,13 @@ pub use Rattle.model_line.proofs.Ranges.{ranges_of}
 pub use Rattle.model_line.specs.Came.{came, cause_of}
 pub use Rattle.model_line.specs.Request.{Deactivate, Down, Request, request_of}
 pub use Rattle.model_line.specs.declared.config.Config.{Config}
-pub use Rattle.lapd_sim.proofs.OfMachine.Expiries.{text_grows, until-expired, until-over}
+pub use Rattle.lapd_sim.proofs.OfMachine.Expiries.{expiry_lowers, text_grows, until-expired, until-over}
 pub use Rattle.lapd_sim.specs.machine.Board.{Event, Reply, What, after, at, card_after, expiry, hears, meant_by, next, octet, of_frames, of_octets, orders_in, pull, refused, reply_in, reply_of_frames, reply_of_octets, request, told}
 unfoldable pub use Rattle.lapd_sim.specs.machine.Board.{reply}
 pub use Rattle.lapd_sim.specs.machine.Script.{Fault, Played, after_bench, after_meaning, after_piece, after_reading, after_scene, counted, faulty, first_fault, is_too_long, not_begun, one_more, played, transcript, unless_faulty}
-pub use Rattle.lapd_sim.specs.machine.Setup.{Setup, happened, ordered, taken_at, terminal_at, with_terminal}
-pub use Rattle.lapd_sim.specs.machine.Steps.{Pulls, Scene, after_coming, after_counters, after_down, after_failed, after_next, after_pull, after_rx, after_wait, at_expiry, at_line, can_come, deactivations, downs, expired, for_frames, for_octets, is_on_line, last_moment, octet_in, octets_at, one_pull, pulls, reply_text, teis_on, until, with_card, with_event, with_events, without_card}
+pub use Rattle.lapd_sim.specs.machine.Setup.{Setup, happened, taken_at, terminal_at, with_terminal}
+pub use Rattle.lapd_sim.specs.machine.Steps.{Pulls, Scene, after_coming, after_counters, after_down, after_failed, after_next, after_pull, after_rx, after_wait, at_expiry, at_line, can_come, deactivations, downs, due_by, expired, for_frames, for_octets, is_on_line, last_moment, octet_in, octets_at, one_pull, pulls, reply_text, teis_on, time_until, until, with_card, with_event, with_events}
+pub use Rattle.lapd_sim.specs.machine.Steps.{without_card}
 pub use Rattle.lapd_card.specs.{told_if_at}
 pub use Rattle.lapd_card.specs.Counted.{counters_in}
 pub use Rattle.lapd_card.specs.FrameCard.{Held}

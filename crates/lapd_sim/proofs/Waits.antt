@@ -1,5 +1,15 @@
 -- What has been written, and what a setup stands for, while it waits.
-use Rattle.lapd_sim.proofs.Vocabulary.{◌≡◌, ℕ, List, ◌++◌, Option, Some, None, IfSome, Ok, Err, refl, sym, ap, ◌∙◌, subst, at, expiry, reply, AreInRange, Timer, Timers, due_at, time_until, Setup, Scene, reply_text, with_event, at_expiry, expired, until, scene, Tells, SetupStands, puts_nothing, puts_then, stuck_more, Output, IsPut, IsStuck, WriteFailed, until-expired, until-over, text_grows}
+use Rattle.lapd_sim.proofs.Vocabulary.{◌≡◌, ℕ, ◌+◌, ◌-◌, ◌<◌, ◌≤◌, arith, none-some, orders_in, List, [], ◌∷◌, ◌++◌, Option, Some, None, Ok, Err, refl, sym, ap, ◌∙◌, subst, at, expiry, reply, told, told_beside, AreInRange, Timer, Expiry, due_by, time_until, Setup, Scene, reply_text, at_expiry, happened, expired, until, scene, Tells, SetupStands, HasExpired, puts_nothing, puts_then, stuck_more}
+use Rattle.lapd_sim.proofs.Vocabulary.{Output, IsPut}
+use Rattle.lapd_sim.proofs.Vocabulary.{IsStuck, Puts, WriteFailed, expiry_lowers, until-expired, until-over, text_grows}
+use Rattle.std.specs.List.{sum_by}
+use Rattle.lapd_clock.specs.Given.{lengths_of}
+use Rattle.lapd_clock.specs.declared.lengths.Lengths as rust_lengths
+use Rattle.lapd_link_steps.specs.declared.report.BareReport.{BareReport}
+use Rattle.lapd_moments.specs.Places.{timers_in}
+use Rattle.model_timed.specs.Clock.{at_moment}
+use Rattle.model_timed.proofs.Orders.{now-stays}
+use Rattle.lapd_sim.proofs.OfMachine.Expiries.{first_is_due}
 use Rattle.lapd_sim.specs.declared.setup.Setup as rust
 
 -- From a setup, some timers have expired, and what they say has been written; what falls due until the end is the same.
@@ -17,40 +27,57 @@ waits_begins s t end m h = record {
   same = refl;
 }
 
-module _ (s new : rust.Setup) (before after last : Output) (end : ℕ) (m : Setup) (due : ℕ × Timer) (is : Some due ≡ due_at s.clock end) (w : Waits s before after end m) where
-  due_by_now : due_at w.by_now.setup.clock end ≡ Some due
-  due_by_now = ap (λ c. due_at c end) (sym w.stands.clock) ∙ sym is
+-- its timers run a millisecond at least
+sound : (l : rust_lengths.Lengths) → AreInRange (lengths_of l)
+sound l = record { t200 = l.least.0; t203 = l.least.1; t201 = l.least.2; t200_most = l.most.0; t203_most = l.most.1; t201_most = l.most.2 }
 
-  in_range : AreInRange w.by_now.setup.clock.lengths
-  in_range = subst (λ (c : Timers). AreInRange c.lengths) w.stands.clock s.lengths
+in_range : (s : rust.Setup) (m : Setup) → SetupStands s m → AreInRange m.clock.lengths
+in_range s m h = subst AreInRange (sym h.timers.clock_is.lengths) (sound s.timed.timers.lengths)
 
+module _ (s new : rust.Setup) (before after last : Output) (end line : ℕ) (report : BareReport) (m : Setup) (w : Waits s before after end m) (x : HasExpired end line report new w.by_now.setup) where
   abbrev said_then : List ℕ
-  said_then = reply_text due.0 (reply (at due.0 (expiry due.1)) w.by_now.setup.board)
+  said_then = reply_text line (reply (at line (expiry x.timer)) w.by_now.setup.board)
 
-  pub waits_on : (u : Unit {0}) → Tells {E = WriteFailed} (Ok u) after last (SetupStands new) (with_event (scene (at_expiry end w.by_now.setup)) (at due.0 (expiry due.1))) → Waits new before last end m
-  waits_on u told = record {
-    by_now = expired end due.0 due.1 w.by_now;
-    written = puts_then (Ok u) before after last w.by_now.text said_then w.written told.0;
-    stands = told.1;
-    same = w.same ∙ until-expired end w.by_now due in_range due_by_now;
+  range : AreInRange w.by_now.setup.clock.lengths
+  range = in_range s w.by_now.setup w.stands
+
+  pub waits_on : (u : Unit {0}) → Puts {E = WriteFailed} (Ok u) after last (reply_text line (told (told_beside None report))) → Waits new before last end m
+  waits_on u put = record {
+    by_now = expired line x.timer w.by_now;
+    written = puts_then (Ok u) before after last w.by_now.text said_then w.written (subst (λ r. IsPut after last (reply_text line r)) x.says put);
+    stands = x.stands;
+    same = w.same ∙ until-expired end w.by_now (line, x.timer) range x.due;
   }
 
-  pub waits_in_vain : (why : WriteFailed) → Tells (Err why) after last (SetupStands new) (with_event (scene (at_expiry end w.by_now.setup)) (at due.0 (expiry due.1))) → IsStuck before last (until end (scene m)).text
-  waits_in_vain why told =
-      let next = expired end due.0 due.1 w.by_now in
-      let later = text_grows (time_until end next.setup.clock) end next (due_at next.setup.clock end) refl in
-      let whole : (until end (scene m)).text ≡ next.text ++ later.0 = ap (λ (x : Scene). x.text) (w.same ∙ until-expired end w.by_now due in_range due_by_now) ∙ later.1 in
-      subst (IsStuck before last) (sym whole) (stuck_more before last next.text later.0 (puts_then (Err why) before after last w.by_now.text said_then w.written told))
+  pub waits_in_vain : (why : WriteFailed) → Puts {A = Unit {0}} (Err why) after last (reply_text line (told (told_beside None report))) → IsStuck before last (until end (scene m)).text
+  waits_in_vain why stuck =
+      let next = expired line x.timer w.by_now in
+      let later = text_grows (time_until end next.setup.clock) end next (due_by end next.setup.clock) refl in
+      let whole : (until end (scene m)).text ≡ next.text ++ later.0 = ap (λ (x : Scene). x.text) (w.same ∙ until-expired end w.by_now (line, x.timer) range x.due) ∙ later.1 in
+      subst (IsStuck before last) (sym whole)
+      (stuck_more before last next.text later.0 (puts_then (Err why) before after last w.by_now.text said_then w.written (subst (λ r. IsStuck after last (reply_text line r)) x.says stuck)))
 
 -- at the end, the moment is the end
-pub waits_over : (s new : rust.Setup) (before after : Output) (end : ℕ) (m : Setup) → None ≡ due_at s.clock end → Waits s before after end m
-    → ((n : Setup) → SetupStands s n → SetupStands new (record n { now = end })) → Tells {E = WriteFailed} (Ok tt) before after (SetupStands new) (until end (scene m))
-waits_over s new before after end m is w moves =
-    let over : until end (scene m) ≡ record w.by_now { setup = record w.by_now.setup { now = end } } =
-    w.same ∙ until-over end w.by_now (ap (λ c. due_at c end) (sym w.stands.clock) ∙ sym is) in
-    subst (Tells {E = WriteFailed} (Ok tt) before after (SetupStands new)) (sym over) (w.written, moves w.by_now.setup w.stands)
+pub waits_over : (s new : rust.Setup) (before after : Output) (end : ℕ) (m : Setup) (w : Waits s before after end m) → due_by end w.by_now.setup.clock ≡ None
+    → SetupStands new (record w.by_now.setup { clock = at_moment end w.by_now.setup.clock }) → Tells {E = WriteFailed} (Ok tt) before after (SetupStands new) (until end (scene m))
+waits_over s new before after end m w none stands =
+    subst (Tells {E = WriteFailed} (Ok tt) before after (SetupStands new)) (sym (w.same ∙ until-over end w.by_now none)) (w.written, stands)
 
--- what holds of any timer that is due
-pub some_has : {A P : Type 0} (o : Option A) → P → IfSome o (λ _. P)
-some_has None p = tt
-some_has (Some x) p = p
+-- with each expiry, the time that is left falls
+abbrev pub time_left : ℕ → List Expiry → ℕ
+time_left end moments = sum_by (λ e. end + 1 - e.moment) (timers_in moments)
+
+pub falls : (s new : rust.Setup) (end line : ℕ) (report : BareReport) (m : Setup) → SetupStands s m → HasExpired end line report new m → time_left end new.timed.timers.moments < time_left end s.timed.timers.moments
+falls s new end line report m h x =
+    subst (λ es. sum_by (λ (e : Expiry). end + 1 - e.moment) es < time_left end s.timed.timers.moments) x.stands.timers.clock_is.running
+    (subst (λ es. time_until end (happened (at_expiry m) (at line (expiry x.timer))).clock < sum_by (λ (e : Expiry). end + 1 - e.moment) es) h.timers.clock_is.running
+    (expiry_lowers end line x.timer (line, x.timer) m (in_range s m h) x.due))
+
+-- and the moment is no later than the end
+pub still_before : (s new : rust.Setup) (end line : ℕ) (report : BareReport) (m : Setup) → m.clock.now ≤ end → (x : HasExpired end line report new m) → (happened (at_expiry m) (at line (expiry x.timer))).clock.now ≤ end
+still_before s new end line report m before x =
+    subst (λ n. n ≤ end) (sym (now-stays line (at_expiry m).clock (orders_in (reply (at line (expiry x.timer)) m.board)))) (go m.clock.running (x.due))
+  where
+    go : (running : List Expiry) → due_by end (record m.clock { running = running }) ≡ Some (line, x.timer) → (at_expiry (record m { clock = record m.clock { running = running } })).clock.now ≤ end
+    go [] is = absurd (none-some (line, x.timer) is)
+    go (e ∷ es) is = omega (arith, before, first_is_due e es end (line, x.timer) is)

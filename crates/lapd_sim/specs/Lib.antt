@@ -11,8 +11,7 @@ pub mod Serves
 pub mod machine
 -- the words of the contracts, from where they are defined
 pub use Rattle.lapd_card.specs.Kinds.{config_of, counters_of}
-pub use Rattle.lapd_frame.specs.ShortLists.{listed}
-pub use Rattle.lapd_line.specs.Reports.{told_beside}
+pub use Rattle.lapd_line.specs.Reports.{told_beside, IsClear}
 pub use Rattle.lapd_script.specs.Bound.{bound}
 pub use Rattle.lapd_script.specs.FaultLines.{IsWrittenOrFails, play_line}
 pub use Rattle.lapd_script.specs.Faults.{reads_failed_by, writes_failed_by}
@@ -32,8 +31,9 @@ pub use Rattle.lapd_transcript.specs.Terminal.{Sends}
 pub use Rattle.model_bits.specs.Stream.{dropped}
 pub use Rattle.model_line.specs.Came.{came, cause_of}
 pub use Rattle.model_line.specs.Request.{request_of}
+pub use Rattle.model_timed.specs.Clock.{at_moment}
 pub use Rattle.lapd_sim.specs.Boards.{kind_of, OnBoard}
-pub use Rattle.lapd_sim.specs.Obeyed.{Answers, Begins, Does, said, SetupSays, StartsBy, written}
+pub use Rattle.lapd_sim.specs.Obeyed.{Answers, Begins, Does, HasExpired, said, SetupSays, StartsBy, written}
 pub use Rattle.lapd_sim.specs.Pages.{is_cut, PutsNone, PutsSome, Reaches}
 pub use Rattle.lapd_sim.specs.Plays.{Shows}
 pub use Rattle.lapd_sim.specs.Serves.{Frames, Runs}
@@ -43,6 +43,6 @@ pub use Rattle.lapd_sim.specs.machine.Board.{at, expiry, hears, next, pull, repl
 pub use Rattle.lapd_sim.specs.machine.Events.{RunsOnBoards, ScriptsAreRuns}
 pub use Rattle.lapd_sim.specs.machine.Heard.{FramesAreHeard}
 pub use Rattle.lapd_sim.specs.machine.Replies.{TranscriptsAreReplies}
-pub use Rattle.lapd_sim.specs.machine.Steps.{after_counters, after_rx, after_stored, at_expiry, deactivations, downs, in_time, is_on_line, octet_in, pulls, reply_text, request_for, teis_on, until, with_card, with_event, with_events, with_timers, without_card}
+pub use Rattle.lapd_sim.specs.machine.Steps.{after_counters, after_rx, after_stored, deactivations, downs, due_by, in_time, is_on_line, octet_in, pulls, reply_text, request_for, teis_on, until, with_card, with_event, with_events, with_timers, without_card}
 pub use Rattle.lapd_sim.specs.machine.Waits.{WaitsLeaveNothingDue}
 pub use Rattle.lapd_sim.specs.machine.Within.{ScriptsStayWithin}

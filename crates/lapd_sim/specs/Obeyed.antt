@@ -8,8 +8,12 @@ use Rattle.model_line.specs.declared.config.Config.{Config}
 use Rattle.model_line.specs.Config.{first_fault}
 use Rattle.lapd_transcript.specs.declared.streams.WriteFailed.{WriteFailed}
 use Rattle.lapd_transcript.specs.Streams.{Output, IsPut, IsStuck}
-use Rattle.lapd_sim.specs.machine.Setup.{Setup, begun}
-use Rattle.lapd_sim.specs.machine.Steps.{Scene, begun_with, with_card, without_card}
+use Rattle.lapd_sim.specs.machine.Setup.{Setup, begun, happened}
+use Rattle.lapd_sim.specs.machine.Steps.{Scene, at_expiry, begun_with, due_by, with_card, without_card}
+use Rattle.lapd_sim.specs.machine.Board.{at, expiry, reply, told}
+use Rattle.lapd_clock.specs.Timer.{Timer}
+use Rattle.lapd_line.specs.Reports.{told_beside}
+use Rattle.lapd_link_steps.specs.declared.report.BareReport.{BareReport}
 use Rattle.lapd_sim.specs.declared.setup.Setup as rust
 use Rattle.lapd_script.specs.declared.faults.LineFault.{LineFault}
 use Rattle.lapd_script.specs.declared.faults.LineFault.TheVariants.{Faulty, Write, OutOfMemory}
@@ -42,6 +46,13 @@ SetupSays result old new before after happens = (m : Setup) → SetupStands old 
 
 abbrev pub Answers : Result Unit LineFault → (old new : rust.Setup) → (before after : Output) → Meaning → Type 0
 Answers result old new before after meaning = (m : Setup) → SetupStands old m → Obeys result before after (SetupStands new) (with_card meaning (scene m))
+
+-- What fell due first, by a moment, has expired at a line: the time is its moment, and the report tells what this led to.
+pub record HasExpired (end line : ℕ) (report : BareReport) (new : rust.Setup) (m : Setup) : Type 0 where
+  pub timer : Timer
+  pub due : due_by end m.clock ≡ Some (line, timer)
+  pub says : told (told_beside None report) ≡ reply (at line (expiry timer)) m.board
+  pub stands : SetupStands new (happened (at_expiry m) (at line (expiry timer)))
 
 -- What a line comes to at which only a write can fail.
 abbrev pub written : Result Unit WriteFailed → Result Unit LineFault

@@ -4,6 +4,7 @@ use Rattle.lapd_transcript.specs.Listened.{Hears}
 use Rattle.lapd_transcript.specs.Terminal.{Sends}
 use Rattle.lapd_sim.specs.machine.Setup as machine
 use Rattle.lapd_card.specs.Kinds.{counters_of}
+use Rattle.lapd_timed.specs.Stands.{TimersStand}
 use Rattle.lapd_sim.specs.Boards.{OnBoard}
 use Rattle.lapd_sim.specs.declared.setup.Setup.{Setup}
 
@@ -13,13 +14,12 @@ Each R [] [] = Unit {0}
 Each R (x ∷ xs) (y ∷ ys) = R x y × Each R xs ys
 Each R _ _ = ⊥
 
--- The card, its counters, its clock and the moment; each terminal, and what each listener has heard.
+-- The card, its counters, its timers; each terminal, and what each listener has heard.
 pub record SetupStands (b : Setup) (m : machine.Setup) : Type 0 where
   pub config : m.board.config ≡ b.config
-  pub board : OnBoard b.board m.board
-  pub counters : counters_of b.board ≡ m.counters
-  pub clock : b.clock ≡ m.clock
-  pub now : b.moment ≡ m.now
+  pub board : OnBoard b.timed.card m.board
+  pub counters : counters_of b.timed.card ≡ m.counters
+  pub timers : TimersStand b.timed.timers m.board.card.card m.clock
   pub terminals : Each Sends b.terminals.items m.terminals
   pub listeners : Each Hears b.listeners.items m.taken
 

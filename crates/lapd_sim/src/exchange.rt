@@ -1,8 +1,7 @@
 //! What happens at the card that a script is played on: octets that come and go, requests, and timers that expire.
 
-ghost use Rattle.std.specs.Prelude.{◌≡◌, ◌<◌, ◌≤◌, ◌+◌, ◌-◌, ◌^◌, [], ℕ, length, fold, take, option_copied, IfSome, IfNone};
-ghost use Rattle.lapd_clock.specs.Timers as clocks;
-ghost use Rattle.lapd_sim.specs.{kind_of, listed, on, told_beside, written, Puts};
+ghost use Rattle.std.specs.Prelude.{◌≡◌, ◌<◌, ◌≤◌, ◌^◌, [], ℕ, length, take, None, option_copied, IfSome, IfNone};
+ghost use Rattle.lapd_sim.specs.{kind_of, on, told_beside, written, IsClear, Puts};
 ghost use Rattle.lapd_script.specs.declared.command.CardKind.TheVariants.{Octets};
 ghost use Rattle.lapd_script.specs.Meaning as meaning;
 ghost use Rattle.lapd_sim.specs.machine.Board as event;
@@ -12,8 +11,7 @@ ghost use Rattle.lapd_sim.specs.machine.Steps.{reply_text};
 
 use crate::setup::{Obeyed, Setup};
 use lapd_card::{AnyCard, BareReport, Request};
-use lapd_clock::Clock;
-use lapd_frame::{GROUP, Order, Service, Timer};
+use lapd_frame::{GROUP, Service};
 use lapd_script::{FaultKind, LineFault};
 use lapd_transcript::{Page, Put, Target};
 
@@ -21,12 +19,12 @@ use lapd_transcript::{Page, Put, Target};
 const LAST_MOMENT: u64 = (1 << 63) - 1;
 
 impl Setup {
-    ghost use Rattle.lapd_sim.specs.{Answers, SetupSays, after_rx, at, at_expiry, downs, expiry, octet_in, pull, pulls, reply, request_of, teis_on, until, with_event, with_events};
+    ghost use Rattle.lapd_sim.specs.{Answers, SetupSays, after_rx, at, at_moment, downs, due_by, octet_in, pull, pulls, reply, request_of, teis_on, until, with_event, with_events, HasExpired};
     ghost use Rattle.lapd_sim.specs.Stands.{SetupStands};
 
     /// Octets come from a line of a card of octets.
     pub(crate) fn hear<T: Target>(&mut self, line: usize, octets: &[u8], page: &mut Page<T>) -> Put
-        requires kind { kind_of self.old.board ≡ Octets }
+        requires kind { kind_of self.old.timed.card ≡ Octets }
         requires line { line < self.old.config.lines }
         ensures { SetupSays result self.old self.new (on T.taken page.old) (on T.taken page.new) (after_rx line octets.now) }
     {
@@ -38,30 +36,27 @@ impl Setup {
 
     /// An octet comes from a line of a card of octets.
     fn octet<T: Target>(&mut self, line: usize, octet: u8, page: &mut Page<T>) -> Put
-        requires kind { kind_of self.old.board ≡ Octets }
+        requires kind { kind_of self.old.timed.card ≡ Octets }
         requires line { line < self.old.config.lines }
         ensures config { self.new.config ≡ self.old.config }
-        ensures kind { kind_of self.new.board ≡ kind_of self.old.board }
+        ensures kind { kind_of self.new.timed.card ≡ kind_of self.old.timed.card }
         ensures told { SetupSays result self.old self.new (on T.taken page.old) (on T.taken page.new) (λ s. with_event s (at line (event.octet octet))) }
     {
-        let AnyCard::Octets(card) = &mut self.board else {
+        let Some(report) = self.timed.hear(line, octet) else {
+            return Ok(());
+        };
+        let AnyCard::Octets(card) = self.timed.card() else {
             unreachable!();
         };
-        match card.hear(line, octet) {
-            Some(report) => {
-                let contents = card.contents(line, &report);
-                carry_out(&mut self.clock, line, &report, contents, self.moment, page)
-            }
-            None => Ok(()),
-        }
+        tell(line, &report, card.contents(line, &report), page)
     }
 
     /// A line of a card of octets takes as many octets as there is room for.
     pub(crate) fn pull_all(&mut self, line: usize, room: &mut [u8])
-        requires kind { kind_of self.old.board ≡ Octets }
+        requires kind { kind_of self.old.timed.card ≡ Octets }
         requires line { line < self.old.config.lines }
         ensures config { self.new.config ≡ self.old.config }
-        ensures kind { kind_of self.new.board ≡ kind_of self.old.board }
+        ensures kind { kind_of self.new.timed.card ≡ kind_of self.old.timed.card }
         ensures pulled { (m : machine.Setup) → SetupStands self.old m
             → room.new ≡ (pulls (length room.old) line (record { setup = m; octets = [] })).octets }
         ensures after { (m : machine.Setup) → SetupStands self.old m
@@ -74,19 +69,14 @@ impl Setup {
 
     /// A line of a card of octets takes one.
     fn next_octet(&mut self, line: usize) -> u8
-        requires kind { kind_of self.old.board ≡ Octets }
+        requires kind { kind_of self.old.timed.card ≡ Octets }
         requires line { line < self.old.config.lines }
         ensures config { self.new.config ≡ self.old.config }
-        ensures kind { kind_of self.new.board ≡ kind_of self.old.board }
+        ensures kind { kind_of self.new.timed.card ≡ kind_of self.old.timed.card }
         ensures pulled { (m : machine.Setup) → SetupStands self.old m → result ≡ octet_in (reply (at line pull) m.board) }
         ensures after { (m : machine.Setup) → SetupStands self.old m → SetupStands self.new (machine.happened m (at line pull)) }
     {
-        let AnyCard::Octets(card) = &mut self.board else {
-            unreachable!();
-        };
-        let pulled = card.pull(line);
-        order(&mut self.clock, line, pulled.orders(), self.moment);
-        pulled.octet
+        self.timed.pull(line).octet
     }
 
     /// Layer 3 asks for something.
@@ -102,8 +92,8 @@ impl Setup {
             (λ s. with_event s (at line (event.request (request_of request.entry)))) }
     {
         let mut report = BareReport::nothing();
-        match self.board.request(line, request, &mut report) {
-            Ok(()) => carry_out(&mut self.clock, line, &report, None, self.moment, page),
+        match self.timed.request(line, request, &mut report) {
+            Ok(()) => tell(line, &report, None, page),
             Err(refusal) => page.put_refused(line as u16, refusal),
         }
     }
@@ -116,7 +106,7 @@ impl Setup {
         ensures teis { (m : machine.Setup) → SetupStands self.now m → take result room.new ≡ teis_on line m.board }
     {
         let mut count = 0;
-        let frames = self.board.frames();
+        let frames = self.timed.card().frames();
         for tei in 0..GROUP {
             if frames.state(line, Service::Call, tei).is_some() {
                 room[count] = tei;
@@ -138,79 +128,77 @@ impl Setup {
         self.ask(line, Request::Down, page)
     }
 
-    /// So many milliseconds pass: what falls due is applied, each at its moment.
+    /// So many milliseconds pass: what falls due does so, each at its moment.
     pub(crate) fn wait<T: Target>(&mut self, milliseconds: u32, page: &mut Page<T>) -> Obeyed
+        requires stands { (m : machine.Setup) × SetupStands self.old m }
         ensures { Answers result self.old self.new (on T.taken page.old) (on T.taken page.new) (meaning.wait milliseconds) }
     {
-        let end = self.moment + u64::from(milliseconds);
+        let end = self.timed.now() + u64::from(milliseconds);
         if end > LAST_MOMENT {
             return Err(LineFault::Faulty(FaultKind::TimeOver));
         }
         written(self.until(end, page))
     }
 
-    /// All that falls due until a moment is applied, each at its moment.
+    /// All that falls due until a moment does so, each at its moment.
+    // It comes to an end as an expiry starts one timer at most, by the machine for which the setup stands.
     fn until<T: Target>(&mut self, end: u64, page: &mut Page<T>) -> Put
-        requires { end < 2 ^ 63 }
+        requires end { end < 2 ^ 63 }
+        requires stands { (m : machine.Setup) × SetupStands self.old m × (m.clock.now ≤ end) }
         ensures { SetupSays result self.old self.new (on T.taken page.old) (on T.taken page.new) (until end) }
     {
-        while let Some((line, timer)) = self.due(end) {
-            self.expire(line, timer, page)?;
+        let mut report = BareReport::nothing();
+        while let Some(line) = self.fall_due(end, &mut report) {
+            tell(line, &report, None, page)?;
+            report = BareReport::nothing();
         }
-        self.moment = end;
+        self.go_to(end);
         Ok(())
     }
 
-    /// Takes out the timer that falls due first, if it does until `end`, at its moment.
-    fn due(&mut self, end: u64) -> Option<(usize, Timer)>
-        requires { end < 2 ^ 63 }
-        ensures line { IfSome result (λ due. due.0 < self.new.config.lines) }
-        ensures due { result ≡ clocks.due_at self.old.clock end }
-        ensures after { IfSome result (λ due. (m : machine.Setup) → SetupStands self.old m → SetupStands self.new (at_expiry end m)) }
-        // The time that running timers still run until the end has fallen by more than what a timer could run that is started
-        // now.
-        ensures nearer { IfSome result (λ due.
-            clocks.time_until end self.new.clock + (end - self.new.moment) < clocks.time_until end self.old.clock) }
-        ensures unchanged { IfNone result (self.new ≡ self.old) }
+    /// What falls due first does so, if it does until `end`: the line at which it was, and what it led to in the report.
+    fn fall_due(&mut self, end: u64, report: &mut BareReport) -> Option<usize>
+        requires end { end < 2 ^ 63 }
+        requires stands { (m : machine.Setup) × SetupStands self.old m × (m.clock.now ≤ end) }
+        requires clear { IsClear report.old }
+        ensures config { self.new.config ≡ self.old.config }
+        ensures line { IfSome result (λ line. line < self.new.config.lines) }
+        ensures due { IfSome result (λ line. (m : machine.Setup) → SetupStands self.old m → HasExpired end line report.new self.new m) }
+        ensures none { IfNone result ((m : machine.Setup) → SetupStands self.old m → (due_by end m.clock ≡ None) × SetupStands self.new m) }
     {
-        let moment = self.clock.next()?;
+        let moment = self.timed.next_moment()?;
         if moment > end {
             return None;
         }
-        self.moment = moment;
-        self.clock.due(moment)
+        let now = self.timed.now();
+        self.go_to(now.max(moment));
+        let (line, _) = self.timed.fall_due(report)?;
+        Some(line)
     }
 
-    /// A timer of a line expires. One timer is started at most.
-    fn expire<T: Target>(&mut self, line: usize, timer: Timer, page: &mut Page<T>) -> Put
-        requires { line < self.old.config.lines }
-        ensures told { SetupSays result self.old self.new (on T.taken page.old) (on T.taken page.new) (λ s. with_event s (at line (expiry timer))) }
-        ensures one { (end : ℕ) → clocks.time_until end self.new.clock ≤ clocks.time_until end self.old.clock + (end - self.old.moment) }
+    /// The time is now a moment that is not before the last.
+    fn go_to(&mut self, moment: u64)
+        requires end { moment < 2 ^ 63 }
+        requires stands { (m : machine.Setup) × SetupStands self.old m × (m.clock.now ≤ moment) }
+        ensures config { self.new.config ≡ self.old.config }
+        ensures after { (m : machine.Setup) → SetupStands self.old m → SetupStands self.new (record m { clock = at_moment moment m.clock }) }
     {
-        let mut report = BareReport::nothing();
-        self.board.expire(line, timer, &mut report);
-        carry_out(&mut self.clock, line, &report, None, self.moment, page)
+        if self.timed.go_to(moment).is_err() {
+            unreachable!();
+        }
     }
 }
 
-/// Carries out what a report on a line orders of its timers, and writes what it tells.
-pub(crate) fn carry_out<T: Target>(
-    clock: &mut Clock,
+/// Writes what a report on a line tells.
+pub(crate) fn tell<T: Target>(
     line: usize,
     report: &BareReport,
     contents: Option<&[u8]>,
-    now: u64,
     page: &mut Page<T>,
 ) -> Put
-    requires line { line < clock.old.lines }
     requires number { line < 2 ^ 16 }
-    requires now { now < 2 ^ 63 }
-    ensures lines { clock.new.lines ≡ clock.old.lines }
-    ensures lengths { clock.new.lengths ≡ clock.old.lengths }
-    ensures ordered { clock.new ≡ fold (machine.ordered line now) clock.old (listed report.now.orders) }
-    ensures written { Puts result (on T.taken page.old) (on T.taken page.new) (reply_text line (told (told_beside (option_copied contents.entry) report.now))) }
+    ensures { Puts result (on T.taken page.old) (on T.taken page.new) (reply_text line (told (told_beside (option_copied contents.entry) report.now))) }
 {
-    order(clock, line, report.orders(), now);
     page.put_report(
         line as u16,
         report.notes(),
@@ -218,19 +206,6 @@ pub(crate) fn carry_out<T: Target>(
         report.cause(),
         report.lost,
     )
-}
-
-/// Carries out what a line of the card orders of its timers.
-pub(crate) fn order(clock: &mut Clock, line: usize, orders: &[Order], now: u64)
-    requires line { line < clock.old.lines }
-    requires now { now < 2 ^ 63 }
-    ensures lines { clock.new.lines ≡ clock.old.lines }
-    ensures lengths { clock.new.lengths ≡ clock.old.lengths }
-    ensures ordered { clock.new ≡ fold (machine.ordered line now) clock.old orders.now }
-{
-    for order in orders {
-        clock.apply(line, *order, now);
-    }
 }
 
 /// What a line comes to at which only a write can fail.

@@ -1,7 +1,7 @@
 //! Plays scripts on a line card: what its lines bring is put on the card, and the transcript of the answers is written.
 //! `docs/FORMAT.md` describes both texts.
 //!
-//! - `setup`: what a script is played on, a card with its clock, and the terminals and listeners of its lines, which obeys
+//! - `setup`: what a script is played on, a card with its timers, and the terminals and listeners of its lines, which obeys
 //!   the lines of a script; `parts`, what it begins with; `exchange`, what happens at the card.
 //! - `player`: plays a script; `memory`, one that lies in memory.
 //! - `program`: the program's words and exit status.

@@ -1,5 +1,5 @@
-//! The machine of a simulation, as definitions: a script is played on the machine of a card, with a clock for its
-//! timers, a terminal at each line that sends the frames it is told, and a listener at each line that finds frames in
+//! The machine of a simulation, as definitions: a script is played on the machine of a card that keeps its own
+//! timers, as `model_timed` has it, with a terminal at each line that sends the frames it is told, and a listener at each line that finds frames in
 //! what the line takes.
 //!
 //! `specs/machine` has what stands on the setup (`Setup`), what each line of a script makes of it and says (`Steps`), whole

@@ -140,7 +140,8 @@ impl Player {
 
     /// Obeys one line.
     fn obey<T: Target>(&mut self, line: &[u8], page: &mut Page<T>) -> Obeyed
-        requires { length line.now ≤ 4096 }
+        requires short { length line.now ≤ 4096 }
+        requires stands { (m : Option machine.Setup) × Has self.old.setup m }
         ensures { (m : Option machine.Setup) → Has self.old.setup m
             → Does result (on T.taken page.old) (on T.taken page.new)
             m (Has self.new.setup) (said line.now m) }

@@ -2,39 +2,34 @@
 
 ghost use Rattle.std.specs.Prelude.{◌≡◌, ◌≢◌, ◌<◌, ◌≤◌, ◌^◌, length, vec_len, MatchResult};
 ghost use Rattle.lapd_card.specs.Kinds.{config_of};
-ghost use Rattle.lapd_clock.specs.Timer.{AreInRange};
 ghost use Rattle.lapd_script.specs.Meaning as meaning;
-ghost use Rattle.lapd_script.specs.declared.command.CardKind.TheVariants.{Octets};
+ghost use Rattle.lapd_script.specs.declared.command.CardKind.TheVariants.{Frames, Octets};
 ghost use Rattle.lapd_sim.specs.Boards.{kind_of};
+ghost use Rattle.lapd_sim.specs.machine.Setup as machine;
 ghost use Rattle.model_line.specs.Sound.{IsInRange};
 
-use crate::exchange::{carry_out, order, written};
+use crate::exchange::{tell, written};
 use crate::parts::{Plan, begin, listeners, request_for, terminals};
 use lapd_bits::Deframer;
 use lapd_card::{AnyCard, BareReport, Config, Fault, limit};
-use lapd_clock::{Clock, Lengths};
+use lapd_clock::Lengths;
 use lapd_script::{Asked, Command, FaultKind, LineFault};
+use lapd_timed::{CardTimers, TimedCard};
 use lapd_transcript::{CounterGroup, LONGEST_FRAME, Page, SHORTEST_FRAME, Target, Terminal};
 use std::alloc::Global;
 
 /// A line of a script was obeyed, or why it was not.
 pub(crate) type Obeyed = Result<(), LineFault>;
 
-/// A card, the clock of its lines, and the moment on it in milliseconds; and for each line the terminal that sends, and what
-/// listens to the octets that are pulled.
+/// A card that keeps its own timers; and for each line the terminal that sends, and what listens to the octets that are pulled.
 #[derive(Drop)]
 pub(crate) struct Setup {
     pub(crate) config: Config,
-    pub(crate) board: AnyCard,
-    pub(crate) clock: Clock,
-    pub(crate) moment: u64,
+    pub(crate) timed: TimedCard,
     terminals: Vec<Terminal>,
     listeners: Vec<Deframer>,
     ghost in_range: { IsInRange config },
-    ghost same_config: { config_of board ≡ config },
-    ghost clock_lines: { clock.lines ≡ config.lines },
-    ghost lengths: { AreInRange clock.lengths },
-    ghost in_time: { moment < 2 ^ 63 },
+    ghost same_config: { config_of timed.card ≡ config },
     ghost each_sends: { vec_len terminals ≡ config.lines },
     ghost each_listens: { vec_len listeners ≡ config.lines },
 }
@@ -49,16 +44,17 @@ impl Setup {
     {
         let board = begin(alloc, plan)?;
         let lines = usize::from(plan.config.lines);
-        let Ok(clock) = Clock::start(alloc, lines, plan.config.terminals.into()) else {
-            return Err(LineFault::OutOfMemory);
-        };
+        let timers = CardTimers::start(
+            alloc,
+            lines,
+            plan.config.terminals.into(),
+            Lengths::standard(),
+        )?;
         let terminals = terminals(alloc, lines)?;
         let listeners = listeners(alloc, lines)?;
         Ok(Setup {
             config: plan.config,
-            board,
-            clock,
-            moment: 0,
+            timed: TimedCard::new(board, timers),
             terminals,
             listeners,
         })
@@ -73,6 +69,7 @@ impl Setup {
     ) -> Obeyed
         requires counted { meaning.IsCounted (length room.old) command }
         requires room { 4096 ≤ length room.old }
+        requires stands { (m : machine.Setup) × SetupStands self.old m }
         ensures { Answers result self.old self.new (on T.taken page.old) (on T.taken page.new) (meaning.meant room.old command) }
     {
         match command {
@@ -87,7 +84,7 @@ impl Setup {
             Command::Wait(milliseconds) => self.wait(milliseconds, page),
             Command::Timers { t200, t203, t201 } => self.set_timers(t200, t203, t201),
             Command::Stored => {
-                written(page.put_stored(self.board.stored(), limit(&self.config)))
+                written(page.put_stored(self.timed.card().stored(), limit(&self.config)))
             }
             Command::Counters { line, group } => self.show_counters(line, group, page),
             Command::Ask {
@@ -101,12 +98,23 @@ impl Setup {
 
     /// Tests that the card is one for octets.
     fn for_octets(&self) -> Result<(), FaultKind>
-        ensures { MatchResult result (λ _. kind_of self.now.board ≡ Octets)
-            (λ fault. (fault ≡ WrongCard) × (kind_of self.now.board ≢ Octets)) }
+        ensures { MatchResult result (λ _. kind_of self.now.timed.card ≡ Octets)
+            (λ fault. (fault ≡ WrongCard) × (kind_of self.now.timed.card ≢ Octets)) }
     {
-        match self.board {
+        match self.timed.card() {
             AnyCard::Octets(_) => Ok(()),
             AnyCard::Frames(_) => Err(FaultKind::WrongCard),
+        }
+    }
+
+    /// Tests that the card is one for frames.
+    fn for_frames(&self) -> Result<(), FaultKind>
+        ensures { MatchResult result (λ _. kind_of self.now.timed.card ≡ Frames)
+            (λ fault. (fault ≡ WrongCard) × (kind_of self.now.timed.card ≢ Frames)) }
+    {
+        match self.timed.card() {
+            AnyCard::Frames(_) => Ok(()),
+            AnyCard::Octets(_) => Err(FaultKind::WrongCard),
         }
     }
 
@@ -137,12 +145,12 @@ impl Setup {
         ensures { Answers result self.old self.new (on T.taken page.old) (on T.taken page.new) (meaning.into line frame.now) }
     {
         let line = self.line(line)?;
-        match &mut self.board {
-            AnyCard::Frames(card) => {
+        match self.timed.card() {
+            AnyCard::Frames(_) => {
                 let mut report = BareReport::nothing();
-                card.frame(line, frame, &mut report);
-                let contents = card.contents(line, frame, &report);
-                written(carry_out(&mut self.clock, line, &report, contents, self.moment, page))
+                self.timed.frame(line, frame, &mut report);
+                let contents = self.timed.card().frames().contents(line, frame, &report);
+                written(tell(line, &report, contents, page))
             }
             AnyCard::Octets(_) => {
                 if frame.len() < SHORTEST_FRAME || frame.len() > LONGEST_FRAME {
@@ -158,14 +166,11 @@ impl Setup {
     fn fail<T: Target>(&mut self, line: u16, fault: Fault, page: &mut Page<T>) -> Obeyed
         ensures { Answers result self.old self.new (on T.taken page.old) (on T.taken page.new) (meaning.failed line fault) }
     {
-        let line = self.line(line);
-        let AnyCard::Frames(card) = &mut self.board else {
-            return Err(LineFault::Faulty(FaultKind::WrongCard));
-        };
-        let line = line?;
+        self.for_frames()?;
+        let line = self.line(line)?;
         let mut report = BareReport::nothing();
-        card.failed(line, fault, &mut report);
-        written(carry_out(&mut self.clock, line, &report, None, self.moment, page))
+        self.timed.failed(line, fault, &mut report);
+        written(tell(line, &report, None, page))
     }
 
     /// A line takes the next frame, which is put into the beginning of `room`: there is room for each frame that a card has.
@@ -173,16 +178,10 @@ impl Setup {
         requires { 264 ≤ length room.old }
         ensures { Answers result self.old self.new (on T.taken page.old) (on T.taken page.new) (meaning.next line) }
     {
-        let number = self.line(line);
-        let AnyCard::Frames(card) = &mut self.board else {
-            return Err(LineFault::Faulty(FaultKind::WrongCard));
-        };
-        let number = number?;
-        match card.next_frame(number, room) {
-            Ok(Some(next)) => {
-                order(&mut self.clock, number, next.orders(), self.moment);
-                written(page.put_frame(line, &room[..next.length]))
-            }
+        self.for_frames()?;
+        let number = self.line(line)?;
+        match self.timed.next_frame(number, room) {
+            Ok(Some(next)) => written(page.put_frame(line, &room[..next.length])),
             Ok(None) => written(page.put_nothing(line)),
             Err(_) => unreachable!(),
         }
@@ -224,7 +223,7 @@ impl Setup {
         let Ok(lengths) = Lengths::new(t200, t203, t201) else {
             return Err(LineFault::Faulty(FaultKind::BadNumber));
         };
-        self.clock.set_lengths(lengths);
+        self.timed.set_lengths(lengths);
         Ok(())
     }
 
@@ -232,7 +231,7 @@ impl Setup {
     fn show_counters<T: Target>(&self, line: u16, group: CounterGroup, page: &mut Page<T>) -> Obeyed
         ensures { Answers result self.now self.now (on T.taken page.old) (on T.taken page.new) (meaning.counters line group) }
     {
-        let counters = self.board.frames().counters(self.line(line)?);
+        let counters = self.timed.card().frames().counters(self.line(line)?);
         written(page.put_counters(line, group, counters))
     }
 

@@ -1,10 +1,10 @@
 -- What each line of a script brings: its events lead the card as the line does, and what it says is what the answers to them say.
 use Rattle.lapd_sim.proofs.OfMachine.Vocabulary.{[], ◌≡◌, ℕ, zero, suc, ◌+◌, ◌<◌, Bool, true, false, cond, List, ◌∷◌, ◌++◌, replicate, Option, Some, None, Result, Ok, Err, refl, sym, ap, ◌∙◌, nat_lt, nat_le, arith, ltb-true, nat_tests, All-nil, All-cons, recursion_from_All, none-some, LengthFault, Lengths, AreInRange, is_length, first_out_of_range, pull, expiry, request, hears, next, Event, at}
 use Rattle.lapd_sim.proofs.OfMachine.Vocabulary.{Board, after_all, IsAtLine, AreAtLines, CardKind, Octets, Frames, FaultKind, BadNumber, BadLine, BadFrame, TimeOver, Setup, terminal_at, octets_sent, after_sending, with_terminal, Scene, with_event, with_events, octets_at, Pulls, one_pull, pulls, is_heard_as, expiries, after_rx, after_in, after_pull, after_coming, can_come, for_octets, for_frames}
-use Rattle.lapd_sim.proofs.OfMachine.Vocabulary.{after_wait, after_timers, with_timers, with_card, last_moment, request_for, faulty, expiry_events, events_until, coming_events, meant_events, downs, teis_on, get_or, append_assoc, append-nil, after, reply, moments, reply_text, octet_in, pulled_text, replies_text, octet_given, meant_moments, at_line, taken_at, dropped, came, cause_of, said}
+use Rattle.lapd_sim.proofs.OfMachine.Vocabulary.{due_by, time_until, after_wait, after_timers, with_timers, with_card, last_moment, request_for, faulty, expiry_events, events_until, coming_events, meant_events, downs, teis_on, get_or, append_assoc, append-nil, after, reply, moments, reply_text, octet_in, pulled_text, replies_text, octet_given, meant_moments, at_line, taken_at, dropped, came}
+use Rattle.lapd_sim.proofs.OfMachine.Vocabulary.{cause_of, said}
 use Rattle.std.specs.Prelude.{map}
 use Rattle.lapd_clock.specs.declared.fault.LengthFault.TheVariants as fault
-use Rattle.lapd_clock.specs.Timers as clocks
 use Rattle.lapd_script.specs.Meaning as line
 use Rattle.lapd_sim.proofs.OfMachine.Expiries.{drained}
 use Rattle.lapd_sim.proofs.OfMachine.Kinds.{IsEventOf, EachIsOf, none_of_kind, one_of_kind, request_is, downs_are, expiries_are, octets_are, pulls_are, heard_is, next_is}
@@ -69,19 +69,19 @@ pulls_led number count s is within =
       kept = λ k. (pulls_kept count number start within k, pulls_within s.setup.board number count within);
     }
 
-wait_led : (milliseconds : ℕ) (s : Scene) → Led s.setup (events_until (s.setup.now + milliseconds) s) (after_wait milliseconds s).setup
+wait_led : (milliseconds : ℕ) (s : Scene) → Led s.setup (events_until (s.setup.clock.now + milliseconds) s) (after_wait milliseconds s).setup
 wait_led milliseconds s =
-    let end = s.setup.now + milliseconds in
-    let most = clocks.time_until end s.setup.clock in
+    let end = s.setup.clock.now + milliseconds in
+    let most = time_until end s.setup.clock in
     let last = expiries most end s in
     record {
       board = expiries_lead most end s;
       of_kind = expiries_are most end s;
       kept = λ k.
           let waited = wait_ticks most end s k.ticks in
-          let none = drained most end s (clocks.due_at s.setup.clock end) k.ticks.lengths refl (omega arith) in
+          let none = drained most end s (due_by end s.setup.clock) k.ticks.lengths refl (omega arith) in
           let later = recursion_from_All (λ x. end < x.moment) last.setup.clock.running (none_later last.setup.clock.running end waited.ticks.in_order none) in
-          (record { ticks = waited.ticks; later = later }, waited.within);
+          (record { ticks = record { in_order = waited.ticks.in_order; on_lines = waited.ticks.on_lines; lengths = waited.ticks.lengths }; later = later }, waited.within);
     }
 
 -- timers run a millisecond at least
@@ -214,8 +214,8 @@ meaning_brings (line.down number) b =
     at_it number b _ (λ within. record { led = events_led events (scene_of b) (downs_are b.board.kind number (teis_on number b.board)) (downs_within b.board number (teis_on number b.board) within); says = events_say events (scene_of b) })
 meaning_brings (line.pull number count) b = octets_only _ _ _ b.board.kind _ (λ is. at_it number b _ (pulls_brought number count b is))
 meaning_brings (line.wait milliseconds) b =
-    let end = b.now + milliseconds in
-    if_good _ _ _ (nat_le end last_moment) _ TimeOver (λ _. record { led = wait_led milliseconds (scene_of b); says = expiries_say (clocks.time_until end b.clock) end (scene_of b) })
+    let end = b.clock.now + milliseconds in
+    if_good _ _ _ (nat_le end last_moment) _ TimeOver (λ _. record { led = wait_led milliseconds (scene_of b); says = expiries_say (time_until end b.clock) end (scene_of b) })
 meaning_brings (line.timers t200 t203 t201) b = timers_brought (record { t200 = t200; t203 = t203; t201 = t201 }) b
 meaning_brings line.stored b = record { led = nothing_led b; says = refl }
 meaning_brings (line.counters number group) b = at_it number b _ (λ within. record { led = nothing_led b; says = refl })

@@ -14,12 +14,11 @@ pub use Rattle.std.specs.Prelude.{All, bytes_eq, codes, decimal, fold}
 pub use Rattle.std.specs.Str.{all_ascii_digits}
 pub use Rattle.std.specs.Str.Parse.{digits_value}
 pub use Rattle.lapd_clock.proofs.Calls.{all_later}
-pub use Rattle.lapd_clock.proofs.Ordered.{All-filter, All-put_in_order, IsInOrder-filter, IsInOrder-put_in_order}
-pub use Rattle.lapd_clock.proofs.TimeUntil.{time_until-due, time_until-start, time_until-stop}
-pub use Rattle.lapd_clock.proofs.TimerOrder.{before_order}
-pub use Rattle.lapd_clock.specs.InOrder.{IsInOrder, put_in_order}
+pub use Rattle.lapd_clock.proofs.Ordered.{sum_by-put_in_order}
+pub use Rattle.lapd_clock.proofs.TimeUntil.{time_until-stop}
+pub use Rattle.lapd_clock.specs.InOrder.{IsInOrder}
 pub use Rattle.lapd_clock.specs.Timer.{AreInRange, Lengths, Order, Start, Stop, T200, T201, T203, duration, first_out_of_range, is_length, standard}
-pub use Rattle.lapd_clock.specs.Timers.{Expiry, Timers, after_due, after_first_due, due_at, finds_place, first_due, is_before, next_moment, time_until, without}
+pub use Rattle.lapd_clock.specs.Timers.{Expiry, Timers, first_due, is_before, without}
 unfoldable pub use Rattle.lapd_clock.specs.Timers.{with_order}
 pub use Rattle.lapd_clock.specs.declared.fault.LengthFault.{LengthFault}
 pub use Rattle.lapd_frame.specs.declared.addresses.Side.TheVariants.{Network, User}
@@ -55,11 +54,14 @@ pub use Rattle.lapd_sim.specs.machine.Events.{AreEventsOf, HasRun, RunsOnBoards,
 pub use Rattle.lapd_sim.specs.machine.Heard.{FramesAreHeard, all_sent}
 pub use Rattle.lapd_sim.specs.machine.Replies.{TranscriptsAreReplies, line_moments, meant_moments, moments_from, octet_given, read_moments, read_text, replies_text, said, text_from}
 pub use Rattle.lapd_sim.specs.machine.Script.{Fault, Played, after_bench, after_reading, after_scene, faulty, is_too_long, not_begun, one_more, played, unless_faulty}
-pub use Rattle.lapd_sim.specs.machine.Setup.{Setup, begun, happened, ordered, taken_at, terminal_at, with_terminal}
-pub use Rattle.lapd_sim.specs.machine.Steps.{Pulls, Scene, after_coming, after_in, after_pull, after_rx, after_timers, after_wait, at_expiry, at_line, can_come, downs, expired, expiries, for_frames, for_octets, held, last_moment, moment_of, octet_in, octets_at, is_heard_as, one_pull, pulls, reply_text, request_for, teis_on, until, with_card, with_event, with_events, with_timers, without_card}
+pub use Rattle.lapd_sim.specs.machine.Setup.{Setup, begun, happened, taken_at, terminal_at, with_terminal}
+pub use Rattle.lapd_sim.specs.machine.Steps.{Pulls, Scene, after_coming, after_in, after_pull, after_rx, after_timers, after_wait, at_expiry, at_line, can_come, downs, due_by, expired, expiries, for_frames, for_octets, held, last_moment, moment_from, octet_in, octets_at, is_heard_as, one_pull, pulls, reply_text, request_for, teis_on, time_until, until, with_card, with_event, with_events}
+pub use Rattle.lapd_sim.specs.machine.Steps.{with_timers, without_card}
 pub use Rattle.lapd_sim.specs.machine.Waits.{AllLater, WaitsLeaveNothingDue}
 pub use Rattle.lapd_sim.specs.machine.Within.{ScriptsStayWithin, bound_of}
 pub use Rattle.lapd_frame.specs.declared.services.Service.TheVariants.{Call, Packet}
+pub use Rattle.model_timed.proofs.Orders.{all-run, in-order, lengths-stay}
+pub use Rattle.model_timed.specs.Clock.{Clock, at_moment, next_moment, obey, obeyed, without_first}
 pub use Rattle.model_card.proofs.CardSound.{after_is_sound}
 pub use Rattle.model_card.proofs.OfPorts.Steps.{config_after}
 pub use Rattle.model_card.specs.Card.{Card}

@@ -22,6 +22,7 @@ use Rattle.model_card.specs.ports.Card.{OctetCard}
 use Rattle.model_card.specs.ports.Codec.{meant_in}
 use Rattle.model_card.specs.ports.Event as octets
 use Rattle.model_card.specs.ports.Port as port
+use Rattle.model_timed.specs.Timed.{Kind}
 
 pub record Board : Type 0 where
   pub kind : CardKind
@@ -172,3 +173,24 @@ octet_event e = record { line = e.line; what = what_of_octets e.what }
 
 abbrev pub frame_event : frames.Event → Event
 frame_event e = record { line = e.line; what = what_of_frames e.what }
+
+-- A board that keeps its own timers: at which line an event happens, what the expiry of a timer is, what is ordered of the timers,
+-- and what may happen.
+abbrev pub line_of : Event → ℕ
+line_of e = e.line
+
+abbrev pub expiry_at : ℕ → Timer → Event
+expiry_at number timer = at number (expiry timer)
+
+abbrev pub orders_at : Event → Board → List Order
+orders_at e b = orders_in (reply e b)
+
+abbrev pub IsNoExpiry : What → Type 0
+IsNoExpiry (expiry timer) = ⊥
+IsNoExpiry other = Unit {0}
+
+abbrev pub MayHappen : Event → Board → Type 0
+MayHappen e b = IsAtLine b e × IsNoExpiry e.what
+
+abbrev pub boards : Kind Board Event
+boards = record { line = line_of; expiry = expiry_at; after = after; orders = orders_at; MayHappen = MayHappen }

@@ -1,6 +1,5 @@
 -- The events at the card that a script brings, and what its setup has to do with them.
 use Rattle.std.specs.Prelude.{◌≡◌, ℕ, zero, suc, ◌+◌, List, [], ◌∷◌, ◌++◌, map, replicate, Option, None, Some, Result, Ok, Err}
-use Rattle.lapd_clock.specs.Timers as clocks
 use Rattle.model_line.specs.declared.config.Config.{Config}
 use Rattle.model_bits.specs.Stream.{dropped}
 use Rattle.model_line.specs.Came.{cause_of}
@@ -19,16 +18,16 @@ use Rattle.lapd_script.specs.Read.{read}
 use Rattle.lapd_script.specs.Pieces.{pieces_of, line_in}
 use Rattle.lapd_sim.specs.machine.Setup.{Setup, terminal_at}
 use Rattle.lapd_transcript.specs.Terminal.{octets_sent}
-use Rattle.lapd_sim.specs.machine.Steps.{Scene, octets_at, expired, is_heard_as, request_for, teis_on, downs}
+use Rattle.lapd_sim.specs.machine.Steps.{Scene, octets_at, due_by, time_until, expired, is_heard_as, request_for, teis_on, downs}
 use Rattle.lapd_sim.specs.machine.Script.{Fault, Played, not_begun, one_more, played}
 
 -- `wait`: the expiries that fall due up to its end, one after the other.
 abbrev pub expiry_events : ℕ → ℕ → Scene → List Event
 expiry_events zero end s = []
-expiry_events (suc more) end s = elim (clocks.due_at s.setup.clock end) [ None ↦ [] | Some due ↦ at due.0 (expiry due.1) ∷ expiry_events more end (expired end due.0 due.1 s) ]
+expiry_events (suc more) end s = elim (due_by end s.setup.clock) [ None ↦ [] | Some due ↦ at due.0 (expiry due.1) ∷ expiry_events more end (expired due.0 due.1 s) ]
 
 abbrev pub events_until : ℕ → Scene → List Event
-events_until end s = expiry_events (clocks.time_until end s.setup.clock) end s
+events_until end s = expiry_events (time_until end s.setup.clock) end s
 
 -- `in`: the octets of the terminal, or what a frame that comes is heard as.
 abbrev pub coming_events : CardKind → ℕ → List ℕ → Scene → List Event
@@ -43,7 +42,7 @@ meant_events (line.failed number fault) s = at number (hears (dropped (cause_of 
 meant_events (line.next number) s = at number next ∷ []
 meant_events (line.down number) s = downs number (teis_on number s.setup.board)
 meant_events (line.pull number count) s = replicate count (at number pull)
-meant_events (line.wait milliseconds) s = events_until (s.setup.now + milliseconds) s
+meant_events (line.wait milliseconds) s = events_until (s.setup.clock.now + milliseconds) s
 meant_events (line.ask number tei what octets) s = at number (request (request_for what tei octets)) ∷ []
 meant_events _ s = []
 

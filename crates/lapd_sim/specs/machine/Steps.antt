@@ -1,5 +1,5 @@
 -- What each line of a script makes of the setup, and what it says in the transcript.
-use Rattle.std.specs.Prelude.{ℕ, zero, suc, ◌+◌, ◌-◌, ◌^◌, nat_lt, nat_le, Bool, true, ◌&&◌, if◌then◌else◌, List, [], ◌∷◌, ◌++◌, length, map, fold, flat_map, Option, None, Some, Result, Ok, Err}
+use Rattle.std.specs.Prelude.{ℕ, zero, suc, ◌+◌, ◌-◌, ◌^◌, max, nat_lt, nat_le, Bool, true, ◌&&◌, if◌then◌else◌, List, [], ◌∷◌, ◌++◌, length, map, fold, flat_map, sum_by, Option, None, Some, Result, Ok, Err}
 use Rattle.std.specs.List.{filter, range_with_len}
 use Rattle.std.specs.Option.{is_some}
 use Rattle.lapd_frame.specs.declared.services.Service.TheVariants.{Call, Packet}
@@ -12,6 +12,7 @@ use Rattle.model_bits.specs.Stream.{dropped}
 use Rattle.model_line.specs.Came.{came, cause_of}
 use Rattle.model_line.specs.declared.faults.Fault.{Fault}
 use Rattle.model_line.specs.Request as asking
+use Rattle.model_timed.specs.Clock.{Clock, at_moment, next_moment, with_lengths, without_first}
 use Rattle.model_card.specs.Card as lines
 use Rattle.model_card.specs.Stored as cards
 use Rattle.model_card.specs.ports.Card.{OctetCard}
@@ -101,34 +102,41 @@ after_failed line fault s = with_event s (at line (hears (dropped (cause_of faul
 abbrev pub after_next : ℕ → Scene → Scene
 after_next line s = with_event s (at line next)
 
--- `wait`: what falls due at or before the end, one after the other, each at its moment. A timer that expires is taken
--- from the clock, and the orders of its event are applied at that moment. It ends: with each expiry, the time that the
--- running timers still run until the end falls, and that is how often it is tried.
-abbrev pub moment_of : Option ℕ → ℕ
-moment_of None = 0
-moment_of (Some moment) = moment
+-- `wait`: what falls due at or before the end, one after the other, each at its moment: the time is that moment, the timer is
+-- taken from the clock, and its expiry happens. It ends: with each expiry, the time that the running timers still run until the
+-- end falls, and that is how often it is tried.
+abbrev pub due_by : ℕ → Clock → Option (ℕ × Timer)
+due_by end c = clocks.first_due c.running end
 
-abbrev pub at_expiry : ℕ → Setup → Setup
-at_expiry end b = record b { now = moment_of (clocks.next_moment b.clock); clock = clocks.after_due b.clock end }
+abbrev pub time_until : ℕ → Clock → ℕ
+time_until end c = sum_by (λ e. end + 1 - e.moment) c.running
 
-abbrev pub expired : ℕ → ℕ → Timer → Scene → Scene
-expired end line timer s = with_event (record s { setup = at_expiry end s.setup }) (at line (expiry timer))
+-- The moment of the first, if it is not past.
+abbrev pub moment_from : ℕ → Option ℕ → ℕ
+moment_from now None = now
+moment_from now (Some moment) = max now moment
+
+abbrev pub at_expiry : Setup → Setup
+at_expiry b = record b { clock = without_first (at_moment (moment_from b.clock.now (next_moment b.clock)) b.clock) }
+
+abbrev pub expired : ℕ → Timer → Scene → Scene
+expired line timer s = with_event (record s { setup = at_expiry s.setup }) (at line (expiry timer))
 
 abbrev pub expiries : ℕ → ℕ → Scene → Scene
 expiries zero end s = s
-expiries (suc more) end s = elim (clocks.due_at s.setup.clock end) [ None ↦ s | Some due ↦ expiries more end (expired end due.0 due.1 s) ]
+expiries (suc more) end s = elim (due_by end s.setup.clock) [ None ↦ s | Some due ↦ expiries more end (expired due.0 due.1 s) ]
 
 abbrev pub until : ℕ → Scene → Scene
 until end s =
-    let after = expiries (clocks.time_until end s.setup.clock) end s in
-    record after { setup = record after.setup { now = end } }
+    let after = expiries (time_until end s.setup.clock) end s in
+    record after { setup = record after.setup { clock = at_moment end after.setup.clock } }
 
 abbrev pub after_wait : ℕ → Scene → Scene
-after_wait milliseconds s = until (s.setup.now + milliseconds) s
+after_wait milliseconds s = until (s.setup.clock.now + milliseconds) s
 
 -- `timers`: timers that are started from now on run so long; those that run keep their moments.
 abbrev pub after_timers : Lengths → Scene → Scene
-after_timers lengths s = record s { setup = record s.setup { clock = clocks.with_lengths lengths s.setup.clock } }
+after_timers lengths s = record s { setup = record s.setup { clock = with_lengths lengths s.setup.clock } }
 
 -- The requests.
 abbrev pub request_for : Asked → ℕ → List ℕ → asking.Request
@@ -206,7 +214,7 @@ abbrev pub last_moment : ℕ
 last_moment = 2 ^ 63 - 1
 
 abbrev pub in_time : ℕ → Scene → Result Scene FaultKind
-in_time milliseconds s = if nat_le (s.setup.now + milliseconds) last_moment then Ok (after_wait milliseconds s) else Err TimeOver
+in_time milliseconds s = if nat_le (s.setup.clock.now + milliseconds) last_moment then Ok (after_wait milliseconds s) else Err TimeOver
 
 -- The lengths of `timers` have to be in range.
 abbrev pub with_timers : Lengths → Scene → Result Scene FaultKind

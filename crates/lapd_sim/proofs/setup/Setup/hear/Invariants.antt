@@ -6,5 +6,5 @@ use Rattle.lapd_sim.proofs.setup.Setup.hear.Given as goal
 abbrev pub invariant-loop-octet : goal.invariant-loop-octet
 invariant-loop-octet g l =
     (l.self.config ≡ l.fn.self.config)
-    × (kind_of l.self.board ≡ kind_of l.fn.self.board)
+    × (kind_of l.self.timed.card ≡ kind_of l.fn.self.timed.card)
     × SetupSays {E = WriteFailed} (Ok tt) l.fn.self l.self (on g.T.Target.taken l.fn.page) (on g.T.Target.taken l.page) (after_rx l.line (take l.octet-index l.octets))

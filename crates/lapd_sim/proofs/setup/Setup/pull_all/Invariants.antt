@@ -8,6 +8,6 @@ use Rattle.lapd_sim.proofs.setup.Setup.pull_all.Given as goal
 abbrev pub invariant-loop-place : goal.invariant-loop-place
 invariant-loop-place l = record {
   config : l.self.config ≡ l.fn.self.config;
-  kind : kind_of l.self.board ≡ kind_of l.fn.self.board;
+  kind : kind_of l.self.timed.card ≡ kind_of l.fn.self.timed.card;
   pulled : (m : machine.Setup) → SetupStands l.fn.self m → Pulled l.self l.line l.place-index (take l.place-index l.room) m;
 }

@@ -1,5 +1,5 @@
 -- Hand-written answers for `Setup::teis_on`.
-use Rattle.lapd_sim.proofs.Vocabulary.{◌≡◌, ◌+◌, length, take, filter, ap, sym, subst, ◌∙◌, arith, is_on_line, FrameCardStands, SetupStands, range_with_len, is_some, length-set}
+use Rattle.lapd_sim.proofs.Vocabulary.{◌≡◌, ◌+◌, length, take, filter, ap, sym, subst, ◌∙◌, arith, is_on_line, frames_of, FrameCardStands, SetupStands, range_with_len, is_some, length-set}
 use Rattle.lapd_sim.specs.machine.Setup as machine
 use Rattle.lapd_sim.specs.machine.Steps.{teis_on}
 use Rattle.lapd_sim.proofs.Boards.{inside}
@@ -13,7 +13,7 @@ loop-tei-preserved c =
     let count = c.loop-tei.count in
     let tei = c.loop-tei.tei in
     let state = λ (m : machine.Setup) (h : SetupStands c.args.self.now m).
-    ap is_some (c.state.ensures m.board.card.card (subst (λ f. FrameCardStands f m.board.card.card) (sym c.frames-frames.ensures.card) (inside c.args.self.now.board m.board h.board))) in
+    ap is_some (c.state.ensures m.board.card.card (subst (λ f. FrameCardStands f m.board.card.card) (sym (c.frames-frames.ensures.card ∙ ap frames_of c.card.ensures)) (inside c.args.self.now.timed.card m.board h.board))) in
     elim c.if-is_some.branch [
       | then-is_some w ↦ record {
         size = ap (λ xs. length xs) w.room-is ∙ length-set c.loop-tei.room count tei ∙ before.size;

@@ -1,0 +1,26 @@
+-- Hand-written answers for `Setup::go_to`.
+use Rattle.lapd_sim.proofs.Vocabulary.{◌≡◌, ◌∙◌, false≢true, sym, subst, arith, inr, OnBoard, counters_of}
+use Rattle.std.proofs.Common.{inl}
+use Rattle.lapd_sim.proofs.Boards.{timed_time}
+use Rattle.lapd_sim.proofs.Scenes.{if_ok}
+use Rattle.lapd_sim.proofs.setup.Setup.go_to.Goals as goal
+
+pub unreachable-requires : goal.unreachable-requires
+unreachable-requires c =
+    let m = c.requires.stands in
+    elim (c.go_to.ensures.refused.0 (sym c.if-is_err.ensures.value)) [
+      | inl early ↦ omega (arith, early, m.1.timers.clock_is.now, m.2)
+      | inr late ↦ omega (arith, late, c.requires.end)
+    ]
+
+pub returns-clause-after : goal.returns-clause-after
+returns-clause-after c = λ m h.
+    let steps = if_ok c.go_to.result (λ e. false≢true (c.if-is_err.ensures.value ∙ e)) c.go_to.ensures.after in
+    record {
+      config = h.config;
+      board = subst (λ k. OnBoard k m.board) (sym c.go_to.ensures.card) h.board;
+      counters = subst (λ k. counters_of k ≡ m.counters) (sym c.go_to.ensures.card) h.counters;
+      timers = timed_time c.args.self.now.timed c.go_to.new.self c.args.moment steps m.board h.board m.clock h.timers;
+      terminals = h.terminals;
+      listeners = h.listeners;
+    }

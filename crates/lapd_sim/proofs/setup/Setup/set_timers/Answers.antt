@@ -1,0 +1,23 @@
+-- Hand-written answers for `Setup::set_timers`.
+use Rattle.lapd_sim.proofs.Vocabulary.{◌≡◌, Ok, refl, sym, subst, counters_of, scene, OnBoard, SetupStands, puts_nothing}
+use Rattle.lapd_clock.specs.Timer.{Lengths}
+use Rattle.lapd_timed.specs.Stands.{TimersStand}
+use Rattle.model_timed.specs.Clock.{with_lengths}
+use Rattle.lapd_sim.specs.machine.Steps.{after_timers}
+use Rattle.lapd_sim.proofs.Scenes.{obeyed, timers_set}
+use Rattle.lapd_sim.proofs.setup.Setup.set_timers.Goals as goal
+
+pub returns : goal.returns
+returns c = λ before m h.
+    let lengths : Lengths = record { t200 = c.args.t200; t203 = c.args.t203; t201 = c.args.t201 } in
+    obeyed (Ok tt) (Ok tt) refl before before (SetupStands _) _ (after_timers lengths (scene m)) (timers_set lengths (scene m) c.in-Ok.ensures.in_range) (
+      puts_nothing before,
+      record {
+        config = h.config;
+        board = subst (λ k. OnBoard k m.board) (sym c.set_lengths.ensures.card) h.board;
+        counters = subst (λ k. counters_of k ≡ m.counters) (sym c.set_lengths.ensures.card) h.counters;
+        timers = subst (λ l. TimersStand c.set_lengths.new.self.timers m.board.card.card (with_lengths l m.clock)) c.in-Ok.ensures.given (c.set_lengths.ensures.after m.board.card.card m.clock h.timers);
+        terminals = h.terminals;
+        listeners = h.listeners;
+      },
+    )
